@@ -1,0 +1,11 @@
+//! The names of WGSL: its enumerations, operators, texel formats, textures and samplers.
+#![tactic(auto)]
+
+pub mod address;
+pub mod attribute;
+pub mod enumerant;
+pub mod operator;
+pub mod result_struct;
+pub mod scalar;
+pub mod texel;
+pub mod texture;
