@@ -1,0 +1,5 @@
+pub mod Discrete
+pub mod Equality
+pub mod Steps
+pub mod Order
+pub mod Equations

@@ -1,1 +1,4 @@
 pub mod Types
+pub mod ResultStructs
+pub mod Conversion
+pub mod Common
