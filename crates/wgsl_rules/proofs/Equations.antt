@@ -27,6 +27,20 @@ rank_converts t u w =
       | no n ↦ (λ e. absurd (cc e), λ c. absurd (n (w, c)))
     ]
 
+-- to the type itself, and by a load
+
+pub converts_same : (t : WgslType) → Converts t t 0
+converts_same t = inl (above_along here (omega arith))
+
+pub same_rank : (t : WgslType) (w : ℕ) → Converts t t w → w ≡ 0
+same_rank t w h = converts_once h (converts_same t)
+
+pub load_converts : {t u : WgslType} → Load t u → Converts t u 0
+load_converts l = inr (l, refl)
+
+pub load_rank : {t u : WgslType} {w : ℕ} → Load t u → Converts t u w → w ≡ 0
+load_rank l h = converts_once h (load_converts l)
+
 -- inside layers
 
 load_from_within : {l : Layer} {t v : WgslType} → Load (within l t) v → (u : WgslType) × (v ≡ within l u) × Load t u
@@ -79,9 +93,6 @@ above_root : {t u : WgslType} → Above t u → IsRoot t → t ≡ u
 above_root here h = refl
 above_root (further a s) h = absurd (step_no_root s (subst IsRoot (above_root a h) h))
 
-pub self_along : (t : WgslType) → Converts t t 0
-self_along t = inl (above_along here (omega arith))
-
 pub converts_reference : (s : AddressSpace) (t : WgslType) (m : AccessMode) (u : WgslType) (w : ℕ) →
     Converts (reference s t m) u w ↔ (w ≡ 0) × ((reference s t m ≡ u) ⊎ IsReadable m × (t ≡ u))
 converts_reference s t m u w = (to, back)
@@ -95,7 +106,7 @@ converts_reference s t m u w = (to, back)
 
     back : (w ≡ 0) × ((reference s t m ≡ u) ⊎ IsReadable m × (t ≡ u)) → Converts (reference s t m) u w
     back h = elim h.1 [
-      | inl e ↦ subst (λ w. Converts (reference s t m) u w) (sym h.0) (subst (λ u. Converts (reference s t m) u 0) e (self_along (reference s t m)))
+      | inl e ↦ subst (λ w. Converts (reference s t m) u w) (sym h.0) (subst (λ u. Converts (reference s t m) u 0) e (converts_same (reference s t m)))
       | inr r ↦ inr (subst (λ u. Load (reference s t m) u) r.1 (load s t m r.0), h.0)
     ]
 
@@ -118,7 +129,7 @@ load_not_alone (load s t m h) k = k
 load_not_alone (load_inside l h) k = k
 
 pub converts_alone : (t u : WgslType) (w : ℕ) → StandsAlone t → Converts t u w ↔ (w ≡ 0) × (t ≡ u)
-converts_alone t u w r = (to, λ h. subst (λ w. Converts t u w) (sym h.0) (subst (λ u. Converts t u 0) h.1 (self_along t)))
+converts_alone t u w r = (to, λ h. subst (λ w. Converts t u w) (sym h.0) (subst (λ u. Converts t u 0) h.1 (converts_same t)))
   where
     to : Converts t u w → (w ≡ 0) × (t ≡ u)
     to (inl a) = let k = along_above a in let e = above_root k.0 (alone_is_root t r) in (omega (arith, k.1, ap depth e), e)
@@ -329,5 +340,5 @@ converts_struct n ms u w = (to, back)
         ]
 
     back : ((w ≡ 0) × (struct n ms ≡ u)) ⊎ IsResultStep (struct n ms) u w → Converts (struct n ms) u w
-    back (inl h) = subst (λ w. Converts (struct n ms) u w) (sym h.0) (subst (λ u. Converts (struct n ms) u 0) h.1 (self_along (struct n ms)))
+    back (inl h) = subst (λ w. Converts (struct n ms) u w) (sym h.0) (subst (λ u. Converts (struct n ms) u 0) h.1 (converts_same (struct n ms)))
     back (inr h) = inl (above_along (result_step h) (result_depth h))

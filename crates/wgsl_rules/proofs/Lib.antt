@@ -3,3 +3,5 @@ pub mod Equality
 pub mod Steps
 pub mod Order
 pub mod Equations
+pub mod Counts
+pub mod Walks

@@ -88,7 +88,7 @@ above_along {t} {u} {w} a e =
     let k = above_path a in
     record { legs = k.0; leads = k.1; weighs = omega (arith, (path_above t u k.0 k.1).1, e) }
 
-path_height : (t u : WgslType) (legs : List Leg) → IsPath t legs u → height u ≡ height t + length legs
+pub path_height : (t u : WgslType) (legs : List Leg) → IsPath t legs u → height u ≡ height t + length legs
 path_height t u [] p = omega (arith, ap height p)
 path_height t u (leg ∷ legs) p =
     let s : Step t leg.to leg.weight = subst (λ t. Step t leg.to leg.weight) p.0 p.1 in
@@ -185,10 +185,10 @@ dec_readable ReadWrite = yes tt
 dec_readable Write = no (λ h. h)
 dec_readable Atomic = no (λ h. h)
 
-load_readable : {s : AddressSpace} {t u : WgslType} {m : AccessMode} → Load (reference s t m) u → IsReadable m × (t ≡ u)
+pub load_readable : {s : AddressSpace} {t u : WgslType} {m : AccessMode} → Load (reference s t m) u → IsReadable m × (t ≡ u)
 load_readable (load s t m h) = (h, refl)
 
-load_within : {l k : Layer} {t u : WgslType} → Load (within l t) (within k u) → (l ≡ k) × Load t u
+pub load_within : {l k : Layer} {t u : WgslType} → Load (within l t) (within k u) → (l ≡ k) × Load t u
 load_within (load_inside l a) = (refl, a)
 
 abbrev LoadsBy : WgslType → WgslType → Type 0
@@ -200,7 +200,7 @@ load_ends : {t u : WgslType} → Load t u → LoadsBy t u
 load_ends (load s t m h) = tt
 load_ends (load_inside l a) = tt
 
-dec_load : (t u : WgslType) → Dec (Load t u)
+pub dec_load : (t u : WgslType) → Dec (Load t u)
 dec_load (reference s t m) u =
     elim (dec_readable m) [
       | no n ↦ no (λ h. n (load_readable h).0)

@@ -200,9 +200,9 @@ parent (scalar s) = scalar (parent_scalar s)
 parent (within l t) = within l (parent t)
 parent t = variant_of t precision.Abstract
 
-maker_in-text : (m : ResultFunction) (x : List ℕ) → function_in (function_text m ++ x) ≡ m
-maker_in-text Frexp x = refl
-maker_in-text Modf x = refl
+function_in-text : (m : ResultFunction) (x : List ℕ) → function_in (function_text m ++ x) ≡ m
+function_in-text Frexp x = refl
+function_in-text Modf x = refl
 
 shape_in-shaped : (s : ResultShape) (x : Scalar) → shape_in (shaped s (scalar x)) ≡ s
 shape_in-shaped shape.Scalar x = refl
@@ -210,16 +210,16 @@ shape_in-shaped shape.Vec2 x = refl
 shape_in-shaped shape.Vec3 x = refl
 shape_in-shaped shape.Vec4 x = refl
 
-maker_of-result_struct : (m : ResultFunction) (s : ResultShape) (p : ResultPrecision) → function_of (result_struct m s p) ≡ m
+pub function_of-result_struct : (m : ResultFunction) (s : ResultShape) (p : ResultPrecision) → function_of (result_struct m s p) ≡ m
 unfolding result_struct
-maker_of-result_struct m s p = maker_in-text m (shape_text s ++ precision_text p)
+function_of-result_struct m s p = function_in-text m (shape_text s ++ precision_text p)
 
-shape_of-result_struct : (m : ResultFunction) (s : ResultShape) (p : ResultPrecision) → shape_of (result_struct m s p) ≡ s
+pub shape_of-result_struct : (m : ResultFunction) (s : ResultShape) (p : ResultPrecision) → shape_of (result_struct m s p) ≡ s
 unfolding result_struct
 shape_of-result_struct m s p = ap shape_in (first-result m s p) ∙ shape_in-shaped s (float_of p)
 
 variant_of-result_struct : (m : ResultFunction) (s : ResultShape) (p q : ResultPrecision) → variant_of (result_struct m s p) q ≡ result_struct m s q
-variant_of-result_struct m s p q = ap₂ (λ m s. result_struct m s q) (maker_of-result_struct m s p) (shape_of-result_struct m s p)
+variant_of-result_struct m s p q = ap₂ (λ m s. result_struct m s q) (function_of-result_struct m s p) (shape_of-result_struct m s p)
 
 parent-result_struct : (m : ResultFunction) (s : ResultShape) (p : ResultPrecision) → parent (result_struct m s p) ≡ result_struct m s precision.Abstract
 unfolding result_struct
@@ -286,12 +286,12 @@ step_family (inside l s) d = ap (λ t. within l t) (step_family s d)
 
 -- What a step begins at and leads to
 
-abbrev IsLeaf : WgslType → Type 0
+abbrev pub IsLeaf : WgslType → Type 0
 IsLeaf (within l t) = ⊥
 IsLeaf (reference s t m) = ⊥
 IsLeaf t = Unit {0}
 
-result_leaf : (m : ResultFunction) (s : ResultShape) (p : ResultPrecision) → IsLeaf (result_struct m s p)
+pub result_leaf : (m : ResultFunction) (s : ResultShape) (p : ResultPrecision) → IsLeaf (result_struct m s p)
 unfolding result_struct
 result_leaf m s p = tt
 

@@ -76,5 +76,9 @@ pub data Load : WgslType → WgslType → Type 0 where
 abbrev pub Converts : WgslType → WgslType → ℕ → Type 0
 Converts t u w = Path t u w ⊎ Load t u × (w ≡ 0)
 
+-- The same in n steps: a load takes none.
+abbrev pub ConvertsIn : WgslType → WgslType → ℕ → ℕ → Type 0
+ConvertsIn t u w n = PathOf t u w n ⊎ Load t u × (w ≡ 0) × (n ≡ 0)
+
 abbrev pub ConvertsTo : WgslType → WgslType → Type 0
 ConvertsTo t u = (w : ℕ) × Converts t u w

@@ -2,3 +2,4 @@ pub mod Types
 pub mod ResultStructs
 pub mod Conversion
 pub mod Common
+pub mod Places
