@@ -1,1 +1,5 @@
 pub mod Types
+pub mod ResultStructs
+pub mod Conversion
+pub mod Common
+pub mod Places
