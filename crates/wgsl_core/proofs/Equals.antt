@@ -1,0 +1,20 @@
+-- Equality of types, part by part.
+use Rattle.std.proofs.Common.{◌≡◌, ◌↔◌, ℕ, suc, ◌+◌, ◌<◌, List, [], ◌∷◌, drop, length, get_or, IsTrue, false, refl, sym, ap, ◌∙◌, subst, arith, drop-cons, add-one}
+use Rattle.wgsl_rules.specs.Types.{WgslType, Members, no_members, member}
+use Rattle.wgsl_core.specs.View.{member_view, members_view}
+use Rattle.wgsl_core.specs.declared.ty.StructMemberType.{StructMemberType}
+
+pub never : {P : Type 0} → (P → ⊥) → IsTrue false ↔ P
+never refuted = (λ h. absurd (cc h), λ p. absurd (refuted p))
+
+count : Members → ℕ
+count no_members = 0
+count (member name t size align ms) = suc (count ms)
+
+count_of : (ms : List StructMemberType) → count (members_view ms) ≡ length ms
+unfolding count
+count_of [] = refl
+count_of (m ∷ ms) = ap suc (count_of ms)
+
+pub as_many : (ms ns : List StructMemberType) → members_view ms ≡ members_view ns → length ms ≡ length ns
+as_many ms ns e = sym (count_of ms) ∙ (ap count e ∙ count_of ns)

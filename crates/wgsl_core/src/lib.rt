@@ -1,0 +1,9 @@
+//! The types of WGSL, and what needs only types.
+#![tactic(auto)]
+
+pub mod copy;
+pub mod equal;
+pub mod error;
+pub mod parts;
+pub mod show;
+pub mod ty;

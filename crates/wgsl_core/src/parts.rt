@@ -1,0 +1,80 @@
+// The parts of types, borrowed.
+ghost use Rattle.std.specs.Prelude.{◌≡◌, option_map};
+ghost use Rattle.wgsl_core.specs.View.{view};
+ghost use Rattle.wgsl_core.specs.Parts.{layer_view, scalar_of, layer_of};
+
+use crate::ty::Type;
+use wgsl_syntax::scalar::Scalar;
+
+/// What an array, a vector or a matrix is, apart from its element.
+#[derive(Clone, Copy, PartialEq, Eq, Debug)]
+pub enum Layer {
+    /// The number of elements, where it is known.
+    Array(Option<usize>),
+    /// The number of components.
+    Vec(u8),
+    /// The number of columns, and the number of rows.
+    Mat(u8, u8),
+}
+
+impl Type {
+    /// The scalar that the type is.
+    pub fn scalar(&self) -> Option<Scalar>
+        ensures { result ≡ scalar_of (view self.now) }
+    {
+        match self {
+            Type::Bool => Some(Scalar::Bool),
+            Type::AbstractInt => Some(Scalar::AbstractInt),
+            Type::AbstractFloat => Some(Scalar::AbstractFloat),
+            Type::I32 => Some(Scalar::I32),
+            Type::U32 => Some(Scalar::U32),
+            Type::F32 => Some(Scalar::F32),
+            Type::F16 => Some(Scalar::F16),
+            Type::I64 => Some(Scalar::I64),
+            Type::U64 => Some(Scalar::U64),
+            Type::F64 => Some(Scalar::F64),
+            Type::Struct(_)
+            | Type::Array(_, _)
+            | Type::Vec(_, _)
+            | Type::Mat(_, _, _)
+            | Type::Atomic(_)
+            | Type::Ptr(_, _, _)
+            | Type::Ref(_, _, _)
+            | Type::Texture(_)
+            | Type::Sampler(_)
+            | Type::BindingArray(_, _)
+            | Type::RayQuery(_)
+            | Type::AccelerationStructure(_) => None,
+        }
+    }
+
+    /// The layer of an array, a vector or a matrix, and its element.
+    pub fn layer(&self) -> Option<(Layer, &Type)>
+        ensures { option_map (λ p. (layer_view p.0, view p.1.now)) result ≡ layer_of (view self.now) }
+    {
+        match self {
+            Type::Array(t, n) => Some((Layer::Array(*n), t)),
+            Type::Vec(n, t) => Some((Layer::Vec(*n), t)),
+            Type::Mat(c, r, t) => Some((Layer::Mat(*c, *r), t)),
+            Type::Bool
+            | Type::AbstractInt
+            | Type::AbstractFloat
+            | Type::I32
+            | Type::U32
+            | Type::F32
+            | Type::F16
+            | Type::I64
+            | Type::U64
+            | Type::F64
+            | Type::Struct(_)
+            | Type::Atomic(_)
+            | Type::Ptr(_, _, _)
+            | Type::Ref(_, _, _)
+            | Type::Texture(_)
+            | Type::Sampler(_)
+            | Type::BindingArray(_, _)
+            | Type::RayQuery(_)
+            | Type::AccelerationStructure(_) => None,
+        }
+    }
+}
