@@ -1,3 +1,4 @@
 pub mod View
 pub mod Outcome
 pub mod Parts
+pub mod Equality

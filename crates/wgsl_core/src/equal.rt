@@ -5,6 +5,78 @@ ghost use Rattle.wgsl_core.specs.View.{view, struct_view, member_view, members_v
 use crate::ty::{StructMemberType, StructType, Type};
 use wgsl_syntax::texture::TextureType;
 
+impl PartialEq for Type {
+    ghost use Rattle.std.specs.Ordering.{on};
+    ghost use Rattle.wgsl_core.specs.View.{view};
+    ghost use Rattle.wgsl_core.specs.Equality.{type_eq, type_partial_equivalence};
+
+    ghost eq = { on view type_eq };
+
+    ghost laws = { type_partial_equivalence };
+
+    #[tactic(auto, using(crate::specs::Equality::type_eq_decides))]
+    fn eq(&self, other: &Type) -> bool
+        ensures value { result ≡ on view type_eq self.now other.now }
+        ensures same { IsTrue result ↔ (view self.now ≡ view other.now) }
+    {
+        same(self, other)
+    }
+}
+
+impl Eq for Type {
+    ghost use Rattle.wgsl_core.specs.Equality.{type_equivalence};
+
+    ghost laws = { type_equivalence };
+}
+
+impl PartialEq for StructType {
+    ghost use Rattle.std.specs.Ordering.{on};
+    ghost use Rattle.wgsl_core.specs.View.{struct_view};
+    ghost use Rattle.wgsl_core.specs.Equality.{struct_eq, struct_partial_equivalence};
+
+    ghost eq = { on struct_view struct_eq };
+
+    ghost laws = { struct_partial_equivalence };
+
+    #[tactic(auto, using(crate::specs::Equality::struct_eq_decides))]
+    fn eq(&self, other: &StructType) -> bool
+        ensures value { result ≡ on struct_view struct_eq self.now other.now }
+        ensures same { IsTrue result ↔ (struct_view self.now ≡ struct_view other.now) }
+    {
+        same_struct(self, other)
+    }
+}
+
+impl Eq for StructType {
+    ghost use Rattle.wgsl_core.specs.Equality.{struct_equivalence};
+
+    ghost laws = { struct_equivalence };
+}
+
+impl PartialEq for StructMemberType {
+    ghost use Rattle.std.specs.Ordering.{on};
+    ghost use Rattle.wgsl_core.specs.View.{member_view};
+    ghost use Rattle.wgsl_core.specs.Equality.{member_eq, member_partial_equivalence};
+
+    ghost eq = { on member_view member_eq };
+
+    ghost laws = { member_partial_equivalence };
+
+    #[tactic(auto, using(crate::specs::Equality::member_eq_decides))]
+    fn eq(&self, other: &StructMemberType) -> bool
+        ensures value { result ≡ on member_view member_eq self.now other.now }
+        ensures same { IsTrue result ↔ (member_view self.now ≡ member_view other.now) }
+    {
+        same_member(self, other)
+    }
+}
+
+impl Eq for StructMemberType {
+    ghost use Rattle.wgsl_core.specs.Equality.{member_equivalence};
+
+    ghost laws = { member_equivalence };
+}
+
 #[cycle(same)]
 fn same(a: &Type, b: &Type) -> bool
     ensures { IsTrue result ↔ (view a.now ≡ view b.now) }
@@ -69,6 +141,12 @@ fn same(a: &Type, b: &Type) -> bool
             _ => false,
         },
     }
+}
+
+fn same_struct(a: &StructType, b: &StructType) -> bool
+    ensures { IsTrue result ↔ (struct_view a.now ≡ struct_view b.now) }
+{
+    a.name == b.name && same_members(&a.members, &b.members)
 }
 
 #[tactic(auto, using(wgsl_syntax::proofs::Same::texture_same))]
