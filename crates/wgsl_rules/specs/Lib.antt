@@ -1,5 +1,9 @@
 pub mod Types
 pub mod ResultStructs
 pub mod Conversion
-pub mod Common
 pub mod Places
+pub mod Common
+pub mod Concrete
+pub mod Candidates
+pub mod Operators
+pub mod Laws
