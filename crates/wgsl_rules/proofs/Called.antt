@@ -11,7 +11,9 @@ use Rattle.wgsl_rules.specs.Types.{Layer, vec_of, WgslType, scalar, within, vec}
 use Rattle.wgsl_rules.specs.ResultStructs.{result_struct}
 use Rattle.wgsl_rules.specs.Conversion.{BaseStep, int_to_float, int_to_i32, int_to_u32, float_to_f32, float_to_f16, result_to_f32, result_to_f16, Step, base, inside, IsValueType, ConvertsTo}
 use Rattle.wgsl_rules.specs.Common.{IsCommon, IsLeftCommon, Receives, IsLeastCommon}
-use Rattle.wgsl_rules.specs.Candidates.{Name, min, max, clamp, dot, select, IsMinMax, IsNumeric, IsNumericOrVector, IsScalarOrVector, IsCandidate, of_two, of_three, products, either, each_either, HasRanks, Takes, IsChoice}
+use Rattle.wgsl_rules.specs.Candidates.{Name, min, max, clamp, dot, select, IsMinMax, IsCandidate, of_two, of_three, products, either, each_either}
+use Rattle.wgsl_rules.specs.Kinds.{IsNumeric, IsNumericOrVector, IsScalarOrVector}
+use Rattle.wgsl_rules.specs.Choice.{HasRanks, Takes, IsChoice}
 use Rattle.wgsl_rules.specs.Operators.{IsCallRow, two_row, clamp_row, dot_row, select_row, select_each_row}
 use Rattle.wgsl_rules.specs.Laws.{IsCallName}
 use Rattle.wgsl_rules.proofs.Order.{Above, here, further, above_inside, above_to_within, above_from_within, above_converts, above_values, value_converts}

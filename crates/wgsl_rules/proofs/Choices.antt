@@ -7,7 +7,9 @@ use Rattle.wgsl_rules.specs.Conversion.{IsValueType}
 use Rattle.wgsl_rules.specs.Common.{IsLeftCommon}
 use Rattle.wgsl_syntax.specs.declared.operator.BinaryOperator.{BinaryOperator}
 use Rattle.wgsl_syntax.specs.declared.operator.BinaryOperator.TheVariants.{ShortCircuitOr, ShortCircuitAnd, Addition, Subtraction, Multiplication, Division, Remainder, Equality, Inequality, LessThan, LessThanEqual, GreaterThan, GreaterThanEqual, BitwiseOr, BitwiseAnd, BitwiseXor, ShiftLeft, ShiftRight}
-use Rattle.wgsl_rules.specs.Candidates.{Name, operator, min, max, clamp, select, IsArithmetic, IsSum, IsComparison, IsLogical, IsBitwise, IsOrAnd, IsShift, IsMinMax, IsInteger, IsNumericOrVector, IsScalarOrVector, IsCandidate, scalars, vectors, scalar_vector, vector_scalar, matrices, scalar_matrix, matrix_scalar, vector_matrix, matrix_vector, matrix_matrix, compared, compared_vectors, logical, bits, bits_vectors, bools_vectors, shifted, shifted_vectors, of_two, of_three, products, either, each_either, HasRanks, Takes, IsNowhereMore, IsSomewhereLess, IsChoice}
+use Rattle.wgsl_rules.specs.Candidates.{Name, operator, min, max, clamp, select, IsArithmetic, IsSum, IsComparison, IsLogical, IsBitwise, IsOrAnd, IsShift, IsMinMax, IsCandidate, scalars, vectors, scalar_vector, vector_scalar, matrices, scalar_matrix, matrix_scalar, vector_matrix, matrix_vector, matrix_matrix, compared, compared_vectors, logical, bits, bits_vectors, bools_vectors, shifted, shifted_vectors, of_two, of_three, products, either, each_either}
+use Rattle.wgsl_rules.specs.Kinds.{IsInteger, IsNumericOrVector, IsScalarOrVector}
+use Rattle.wgsl_rules.specs.Choice.{HasRanks, Takes, IsNowhereMore, IsSomewhereLess, IsChoice}
 use Rattle.wgsl_rules.proofs.Families.{fill, fill_all, IsPut, IsLeastOf, least_of, none_of, least_of_taken, taken_puts}
 use Rattle.wgsl_rules.proofs.Forms.{Admits, above_admits, Outer, plain, layer, outers, ranked_outers, Form, arithmetic, sums, matrix_products, comparisons, shifts, or_else, form_of}
 

@@ -10,7 +10,8 @@ use Rattle.wgsl_rules.specs.Types.{array_of, vec_of, WgslType, scalar, reference
 use Rattle.wgsl_rules.specs.ResultStructs.{plain_member, result_struct}
 use Rattle.wgsl_rules.specs.Conversion.{Converts, load, load_inside, result_to_f32, base}
 use Rattle.wgsl_syntax.specs.declared.operator.BinaryOperator.TheVariants.{Addition, ShiftLeft, Multiplication}
-use Rattle.wgsl_rules.specs.Candidates.{operator, IsChoice}
+use Rattle.wgsl_rules.specs.Candidates.{operator}
+use Rattle.wgsl_rules.specs.Choice.{IsChoice}
 use Rattle.wgsl_rules.specs.Operators.{scalar_row, scalar_vector_row, matrix_vector_row, shift_row}
 use Rattle.wgsl_rules.specs.Concrete.{concretized}
 use Rattle.wgsl_rules.proofs.Order.{Above, here, further}

@@ -6,7 +6,7 @@ use native.Mathlib.Decide.{ℕ_discrete}
 use Rattle.wgsl_rules.specs.Types.{Layer, WgslType, within}
 use Rattle.wgsl_rules.specs.Conversion.{IsValueType, ConvertsTo}
 use Rattle.wgsl_rules.specs.Common.{IsLeftCommon, Receives}
-use Rattle.wgsl_rules.specs.Candidates.{HasRanks, Takes, IsNowhereMore, IsSomewhereLess}
+use Rattle.wgsl_rules.specs.Choice.{HasRanks, Takes, IsNowhereMore, IsSomewhereLess}
 use Rattle.wgsl_rules.proofs.Steps.{depth}
 use Rattle.wgsl_rules.proofs.Order.{Above, above_depth, above_level, above_converts, above_values, above_inside, above_to_within, value_converts}
 use Rattle.wgsl_rules.proofs.Commons.{value_above, receives_nil, receives_cons, receives_head, receives_tail, values_head, values_tail, some_left_common, left_common_least, left_common_none}

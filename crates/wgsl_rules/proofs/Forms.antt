@@ -11,7 +11,9 @@ use Rattle.wgsl_rules.specs.ResultStructs.{result_struct}
 use Rattle.wgsl_rules.specs.Conversion.{BaseStep, int_to_float, int_to_i32, int_to_u32, float_to_f32, float_to_f16, result_to_f32, result_to_f16, Step, base, inside, IsValueType}
 use Rattle.wgsl_syntax.specs.declared.operator.BinaryOperator.{BinaryOperator}
 use Rattle.wgsl_syntax.specs.declared.operator.BinaryOperator.TheVariants.{ShortCircuitOr, ShortCircuitAnd, Addition, Subtraction, Multiplication, Division, Remainder, Equality, Inequality, LessThan, LessThanEqual, GreaterThan, GreaterThanEqual, BitwiseOr, BitwiseAnd, BitwiseXor, ShiftLeft, ShiftRight}
-use Rattle.wgsl_rules.specs.Candidates.{Name, operator, min, max, clamp, dot, select, IsArithmetic, IsSum, IsComparison, IsLogical, IsBitwise, IsOrAnd, IsShift, IsMinMax, IsInteger, IsNumeric, IsCandidate, scalars, vectors, scalar_vector, vector_scalar, matrices, scalar_matrix, matrix_scalar, vector_matrix, matrix_vector, matrix_matrix, compared, compared_vectors, logical, bits, bits_vectors, bools_vectors, shifted, shifted_vectors, of_two, of_three, products, either, each_either, HasRanks}
+use Rattle.wgsl_rules.specs.Candidates.{Name, operator, min, max, clamp, dot, select, IsArithmetic, IsSum, IsComparison, IsLogical, IsBitwise, IsOrAnd, IsShift, IsMinMax, IsCandidate, scalars, vectors, scalar_vector, vector_scalar, matrices, scalar_matrix, matrix_scalar, vector_matrix, matrix_vector, matrix_matrix, compared, compared_vectors, logical, bits, bits_vectors, bools_vectors, shifted, shifted_vectors, of_two, of_three, products, either, each_either}
+use Rattle.wgsl_rules.specs.Kinds.{IsInteger, IsNumeric}
+use Rattle.wgsl_rules.specs.Choice.{HasRanks}
 use Rattle.wgsl_rules.proofs.Order.{Above, here, further, value_converts}
 use Rattle.wgsl_rules.proofs.Commons.{values_head, values_tail}
 use Rattle.wgsl_rules.proofs.Families.{Slot, whole, inner, fixed, fill, fill_all, HasOpen}

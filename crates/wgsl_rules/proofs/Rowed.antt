@@ -9,8 +9,10 @@ use Rattle.wgsl_rules.specs.Conversion.{IsValueType, ConvertsTo}
 use Rattle.wgsl_rules.specs.Common.{IsCommon, IsLeftCommon}
 use Rattle.wgsl_syntax.specs.declared.operator.BinaryOperator.{BinaryOperator}
 use Rattle.wgsl_syntax.specs.declared.operator.BinaryOperator.TheVariants.{ShortCircuitOr, ShortCircuitAnd, Addition, Subtraction, Multiplication, BitwiseOr, BitwiseAnd, BitwiseXor}
-use Rattle.wgsl_rules.specs.Candidates.{Name, operator, IsArithmetic, IsSum, IsComparison, IsLogical, IsBitwise, IsOrAnd, IsShift, IsInteger, IsCandidate, scalars, vectors, scalar_vector, vector_scalar, matrices, scalar_matrix, matrix_scalar, vector_matrix, matrix_vector, matrix_matrix, compared, compared_vectors, logical, bits, bits_vectors, bools_vectors, shifted, shifted_vectors, of_two, HasRanks, Takes, IsChoice}
-use Rattle.wgsl_rules.specs.Operators.{IsIntegerOrVector, IsRow, scalar_row, vector_row, scalar_vector_row, vector_scalar_row, matrix_row, scalar_matrix_row, matrix_scalar_row, vector_matrix_row, matrix_vector_row, matrix_matrix_row, comparison_row, comparison_vector_row, logical_row, bools_row, bit_row, shift_row, shift_vector_row}
+use Rattle.wgsl_rules.specs.Candidates.{Name, operator, IsArithmetic, IsSum, IsComparison, IsLogical, IsBitwise, IsOrAnd, IsShift, IsCandidate, scalars, vectors, scalar_vector, vector_scalar, matrices, scalar_matrix, matrix_scalar, vector_matrix, matrix_vector, matrix_matrix, compared, compared_vectors, logical, bits, bits_vectors, bools_vectors, shifted, shifted_vectors, of_two}
+use Rattle.wgsl_rules.specs.Kinds.{IsInteger, IsIntegerOrVector}
+use Rattle.wgsl_rules.specs.Choice.{HasRanks, Takes, IsChoice}
+use Rattle.wgsl_rules.specs.Operators.{IsRow, scalar_row, vector_row, scalar_vector_row, vector_scalar_row, matrix_row, scalar_matrix_row, matrix_scalar_row, vector_matrix_row, matrix_vector_row, matrix_matrix_row, comparison_row, comparison_vector_row, logical_row, bools_row, bit_row, shift_row, shift_vector_row}
 use Rattle.wgsl_rules.proofs.Order.{Above, here, above_inside, above_to_within, above_from_within, above_converts, value_converts}
 use Rattle.wgsl_rules.proofs.Commons.{value_above, common_join, no_common, some_common, common_symmetric}
 use Rattle.wgsl_rules.proofs.Families.{whole, inner, fill, fill_all, IsPut}

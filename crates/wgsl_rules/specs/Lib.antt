@@ -1,9 +1,11 @@
 pub mod Types
+pub mod Kinds
 pub mod ResultStructs
 pub mod Conversion
 pub mod Places
 pub mod Common
 pub mod Concrete
 pub mod Candidates
+pub mod Choice
 pub mod Operators
 pub mod Laws
