@@ -1,0 +1,2 @@
+pub mod Discrete
+pub mod Same

@@ -1,4 +1,6 @@
 // Scalar types, by name.
+use std::fmt;
+use std::fmt::Write;
 
 /// A scalar type (WGSL, "Scalar Types"), with the abstract numbers and naga's 64-bit scalars.
 #[derive(Clone, Copy, PartialEq, Eq, Hash, Debug)]
@@ -13,4 +15,26 @@ pub enum Scalar {
     I64,
     U64,
     F64,
+}
+
+impl fmt::Display for Scalar {
+    ghost use Rattle.std.specs.Prelude.{Some};
+    ghost use Rattle.wgsl_syntax.specs.Scalar.{scalar_text};
+
+    ghost output = { λ x. Some (scalar_text x) };
+
+    fn fmt<W: Write>(&self, f: &mut fmt::Formatter<W>) -> fmt::Result {
+        match self {
+            Scalar::Bool => f.write_str("bool"),
+            Scalar::AbstractInt => f.write_str("AbstractInt"),
+            Scalar::AbstractFloat => f.write_str("AbstractFloat"),
+            Scalar::I32 => f.write_str("i32"),
+            Scalar::U32 => f.write_str("u32"),
+            Scalar::F32 => f.write_str("f32"),
+            Scalar::F16 => f.write_str("f16"),
+            Scalar::I64 => f.write_str("i64"),
+            Scalar::U64 => f.write_str("u64"),
+            Scalar::F64 => f.write_str("f64"),
+        }
+    }
 }

@@ -1,4 +1,6 @@
 // Texel formats.
+use std::fmt;
+use std::fmt::Write;
 
 /// A texel format (WGSL, "Texel Formats"), with those of naga.
 #[derive(Clone, Copy, PartialEq, Eq, Hash, Debug)]
@@ -44,4 +46,57 @@ pub enum TexelFormat {
     Rgb10a2Unorm,
     Rg11b10Float,
     R64Uint,
+}
+
+impl fmt::Display for TexelFormat {
+    ghost use Rattle.std.specs.Prelude.{Some};
+    ghost use Rattle.wgsl_syntax.specs.Texel.{texel_text};
+
+    ghost output = { λ x. Some (texel_text x) };
+
+    fn fmt<W: Write>(&self, f: &mut fmt::Formatter<W>) -> fmt::Result {
+        match self {
+            TexelFormat::Rgba8Unorm => f.write_str("rgba8unorm"),
+            TexelFormat::Rgba8Snorm => f.write_str("rgba8snorm"),
+            TexelFormat::Rgba8Uint => f.write_str("rgba8uint"),
+            TexelFormat::Rgba8Sint => f.write_str("rgba8sint"),
+            TexelFormat::R8Unorm => f.write_str("r8unorm"),
+            TexelFormat::R8Snorm => f.write_str("r8snorm"),
+            TexelFormat::R8Uint => f.write_str("r8uint"),
+            TexelFormat::R8Sint => f.write_str("r8sint"),
+            TexelFormat::Rg8Unorm => f.write_str("rg8unorm"),
+            TexelFormat::Rg8Snorm => f.write_str("rg8snorm"),
+            TexelFormat::Rg8Uint => f.write_str("rg8uint"),
+            TexelFormat::Rg8Sint => f.write_str("rg8sint"),
+            TexelFormat::Rgba16Unorm => f.write_str("rgba16unorm"),
+            TexelFormat::Rgba16Snorm => f.write_str("rgba16snorm"),
+            TexelFormat::Rgba16Uint => f.write_str("rgba16uint"),
+            TexelFormat::Rgba16Sint => f.write_str("rgba16sint"),
+            TexelFormat::Rgba16Float => f.write_str("rgba16float"),
+            TexelFormat::R16Unorm => f.write_str("r16unorm"),
+            TexelFormat::R16Snorm => f.write_str("r16snorm"),
+            TexelFormat::R16Uint => f.write_str("r16uint"),
+            TexelFormat::R16Sint => f.write_str("r16sint"),
+            TexelFormat::R16Float => f.write_str("r16float"),
+            TexelFormat::Rg16Unorm => f.write_str("rg16unorm"),
+            TexelFormat::Rg16Snorm => f.write_str("rg16snorm"),
+            TexelFormat::Rg16Uint => f.write_str("rg16uint"),
+            TexelFormat::Rg16Sint => f.write_str("rg16sint"),
+            TexelFormat::Rg16Float => f.write_str("rg16float"),
+            TexelFormat::R32Uint => f.write_str("r32uint"),
+            TexelFormat::R32Sint => f.write_str("r32sint"),
+            TexelFormat::R32Float => f.write_str("r32float"),
+            TexelFormat::Rg32Uint => f.write_str("rg32uint"),
+            TexelFormat::Rg32Sint => f.write_str("rg32sint"),
+            TexelFormat::Rg32Float => f.write_str("rg32float"),
+            TexelFormat::Rgba32Uint => f.write_str("rgba32uint"),
+            TexelFormat::Rgba32Sint => f.write_str("rgba32sint"),
+            TexelFormat::Rgba32Float => f.write_str("rgba32float"),
+            TexelFormat::Bgra8Unorm => f.write_str("bgra8unorm"),
+            TexelFormat::Rgb10a2Uint => f.write_str("rgb10a2uint"),
+            TexelFormat::Rgb10a2Unorm => f.write_str("rgb10a2unorm"),
+            TexelFormat::Rg11b10Float => f.write_str("rg11b10float"),
+            TexelFormat::R64Uint => f.write_str("r64uint"),
+        }
+    }
 }

@@ -1,6 +1,8 @@
 // Textures and samplers.
 use crate::address::AccessMode;
 use crate::texel::TexelFormat;
+use std::fmt;
+use std::fmt::Write;
 
 /// What a texture is sampled as (WGSL, "Sampled Texture Types").
 #[derive(Clone, Copy, PartialEq, Eq, Hash, Debug)]
@@ -8,6 +10,21 @@ pub enum SampledType {
     I32,
     U32,
     F32,
+}
+
+impl fmt::Display for SampledType {
+    ghost use Rattle.std.specs.Prelude.{Some};
+    ghost use Rattle.wgsl_syntax.specs.Texture.{sampled_text};
+
+    ghost output = { λ x. Some (sampled_text x) };
+
+    fn fmt<W: Write>(&self, f: &mut fmt::Formatter<W>) -> fmt::Result {
+        match self {
+            SampledType::I32 => f.write_str("i32"),
+            SampledType::U32 => f.write_str("u32"),
+            SampledType::F32 => f.write_str("f32"),
+        }
+    }
 }
 
 /// A sampler (WGSL, "Sampler Types").

@@ -1,0 +1,21 @@
+-- The words for address spaces and access modes (WGSL, "Address Spaces" and "Memory Access Mode").
+use Rattle.std.specs.Prelude.{ℕ, List, codes}
+use Rattle.wgsl_syntax.specs.declared.address.AddressSpace.{AddressSpace}
+use Rattle.wgsl_syntax.specs.declared.address.AddressSpace.TheVariants.{Function, Private, Workgroup, Uniform, Storage, Handle, PushConstant}
+use Rattle.wgsl_syntax.specs.declared.address.AccessMode.{AccessMode}
+use Rattle.wgsl_syntax.specs.declared.address.AccessMode.TheVariants.{Read, Write, ReadWrite, Atomic}
+
+abbrev pub space_text : AddressSpace → List ℕ
+space_text Function = codes "function"
+space_text Private = codes "private"
+space_text Workgroup = codes "workgroup"
+space_text Uniform = codes "uniform"
+space_text Storage = codes "storage"
+space_text Handle = codes "handle"
+space_text PushConstant = codes "push_constant"
+
+abbrev pub access_text : AccessMode → List ℕ
+access_text Read = codes "read"
+access_text Write = codes "write"
+access_text ReadWrite = codes "read_write"
+access_text Atomic = codes "atomic"

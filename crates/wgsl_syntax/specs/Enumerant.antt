@@ -1,0 +1,13 @@
+-- The words for predeclared enumerants: those of the value inside (WGSL, "Predeclared Enumerants").
+use Rattle.std.specs.Prelude.{ℕ, List}
+use Rattle.wgsl_syntax.specs.Address.{access_text, space_text}
+use Rattle.wgsl_syntax.specs.Attribute.{flag_text}
+use Rattle.wgsl_syntax.specs.Texel.{texel_text}
+use Rattle.wgsl_syntax.specs.declared.enumerant.Enumerant.{Enumerant}
+use Rattle.wgsl_syntax.specs.declared.enumerant.Enumerant.TheVariants.{AccessMode, AddressSpace, TexelFormat, AccelerationStructureFlags}
+
+abbrev pub enumerant_text : Enumerant → List ℕ
+enumerant_text (AccessMode access) = access_text access
+enumerant_text (AddressSpace space) = space_text space
+enumerant_text (TexelFormat format) = texel_text format
+enumerant_text (AccelerationStructureFlags flag) = flag_text flag
