@@ -5,3 +5,12 @@ pub mod Order
 pub mod Equations
 pub mod Counts
 pub mod Walks
+pub mod Commons
+pub mod Concretes
+pub mod Families
+pub mod Forms
+pub mod Choices
+pub mod Rowed
+pub mod Called
+pub mod Lawful
+pub mod Examples

@@ -1,14 +1,16 @@
 -- Between places a conversion is a walk from the target to its parents, until it meets the source.
-use Rattle.std.proofs.Common.{◌≡◌, ◌≢◌, ℕ, ◌+◌, ◌-◌, ◌<◌, ◌≤◌, ◌↔◌, Some, None, cond, eqb, refl, sym, ◌∙◌, ap, subst, inl, inr, arith}
+use Rattle.std.proofs.Common.{◌≡◌, ◌≢◌, ℕ, ◌+◌, ◌-◌, ◌<◌, ◌≤◌, ◌⊎◌, ◌↔◌, Some, None, cond, eqb, refl, sym, ◌∙◌, ap, subst, subst₂, inl, inr, arith}
 use Rattle.wgsl_syntax.specs.declared.scalar.Scalar.{Scalar}
 use Rattle.wgsl_syntax.specs.declared.scalar.Scalar.TheVariants.{Bool, AbstractInt, AbstractFloat, I32, U32, F32, F16, I64, U64, F64}
+use Rattle.wgsl_syntax.specs.declared.address.AddressSpace.{AddressSpace}
+use Rattle.wgsl_syntax.specs.declared.address.AccessMode.{AccessMode}
 use Rattle.wgsl_syntax.specs.declared.result_struct.ResultFunction.{ResultFunction}
 use Rattle.wgsl_syntax.specs.declared.result_struct.ResultShape.{ResultShape}
 use Rattle.wgsl_syntax.specs.declared.result_struct.ResultPrecision.{ResultPrecision}
 use Rattle.wgsl_syntax.specs.declared.result_struct.ResultPrecision.TheVariants as precision
-use Rattle.wgsl_rules.specs.Types.{WgslType, scalar, within}
+use Rattle.wgsl_rules.specs.Types.{WgslType, scalar, within, reference}
 use Rattle.wgsl_rules.specs.ResultStructs.{float_of, result_struct}
-use Rattle.wgsl_rules.specs.Conversion.{BaseStep, int_to_float, int_to_i32, int_to_u32, float_to_f32, float_to_f16, result_to_f32, result_to_f16, Step, base, inside, Path, PathOf, Load, load, load_inside, Converts, ConvertsIn}
+use Rattle.wgsl_rules.specs.Conversion.{BaseStep, int_to_float, int_to_i32, int_to_u32, float_to_f32, float_to_f16, result_to_f32, result_to_f16, Step, base, inside, Path, PathOf, IsReadable, Load, load, load_inside, Converts, ConvertsIn}
 use Rattle.wgsl_rules.specs.Places.{Place, at_scalar, at_result, type_at, parent_of, depth_of}
 use Rattle.wgsl_rules.proofs.Steps.{float_depth, depth, depth-result_struct, height, height_small, step_height, function_of, function_of-result_struct, shape_of, shape_of-result_struct, precision_at, IsLeaf, result_leaf}
 use Rattle.wgsl_rules.proofs.Order.{Above, here, further, above_to_within, along_above}
@@ -268,3 +270,24 @@ converts_places t u w n d m (inr h) = absurd (m h.0)
 pub converts_in_places : (t u : WgslType) (w n : ℕ) → ¬ HaveEqualLayers t u → t ≢ u → ¬ Load t u → ConvertsIn t u w n →
     (p : Place) × (q : Place) × (t ≡ type_at p) × (u ≡ type_at q)
 converts_in_places t u w n e d m h = converts_places t u w e d m (counted_converts h)
+
+-- where there is no equal layer left, a load is one of a reference
+pub load_bare : {t u : WgslType} → ¬ HaveEqualLayers t u → Load t u → (s : AddressSpace) × (m : AccessMode) × (t ≡ reference s u m) × IsReadable m
+load_bare n (load s t m h) = (s, m, refl, h)
+load_bare n (load_inside l h) = absurd (n refl)
+
+-- without equal layers two types are one, or a load leads from the one to the other, or the walk between their places
+pub converts_in_bare : (t u : WgslType) (w n : ℕ) → ¬ HaveEqualLayers t u → t ≢ u → ConvertsIn t u w n ↔
+    (Load t u × (w ≡ 0) × (n ≡ 0) ⊎ ((p : Place) × (q : Place) × (t ≡ type_at p) × (u ≡ type_at q) × Ancestor p q n × (w ≡ depth_of q - depth_of p)))
+converts_in_bare t u w n e d = (to, back)
+  where
+    to : ConvertsIn t u w n → Load t u × (w ≡ 0) × (n ≡ 0) ⊎ ((p : Place) × (q : Place) × (t ≡ type_at p) × (u ≡ type_at q) × Ancestor p q n × (w ≡ depth_of q - depth_of p))
+    to (inl a) =
+        let k = above_places (counted_above a).0 e d in
+        let m = (converts_in_ancestor k.0 k.1 w n).0 (inl (subst₂ (λ t u. PathOf t u w n) k.2 k.3 a)) in
+        inr (k.0, k.1, k.2, k.3, m.0, m.1)
+    to (inr h) = inl h
+
+    back : (Load t u × (w ≡ 0) × (n ≡ 0) ⊎ ((p : Place) × (q : Place) × (t ≡ type_at p) × (u ≡ type_at q) × Ancestor p q n × (w ≡ depth_of q - depth_of p))) → ConvertsIn t u w n
+    back (inl h) = inr h
+    back (inr h) = subst₂ (λ t u. ConvertsIn t u w n) (sym h.2) (sym h.3) ((converts_in_ancestor h.0 h.1 w n).1 (h.4, h.5))

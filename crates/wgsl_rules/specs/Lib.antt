@@ -1,7 +1,13 @@
 pub mod Types
+pub mod Kinds
+pub mod Spelling
 pub mod ResultStructs
 pub mod Conversion
-pub mod Common
 pub mod Places
-pub mod Spelling
+pub mod Common
+pub mod Concrete
+pub mod Candidates
+pub mod Choice
+pub mod Operators
+pub mod Laws
 pub mod Refusals

@@ -1,0 +1,35 @@
+-- Which scalars are integers or numbers, and which types are made of them (WGSL, "Scalar Types" and "Vector Types").
+use Rattle.wgsl_syntax.specs.declared.scalar.Scalar.{Scalar}
+use Rattle.wgsl_syntax.specs.declared.scalar.Scalar.TheVariants.{Bool, AbstractInt, I32, U32, I64, U64}
+use Rattle.wgsl_rules.specs.Types.{vec_of, WgslType, scalar, within}
+
+abbrev pub IsInteger : Scalar → Type 0
+IsInteger AbstractInt = Unit {0}
+IsInteger I32 = Unit {0}
+IsInteger U32 = Unit {0}
+IsInteger I64 = Unit {0}
+IsInteger U64 = Unit {0}
+IsInteger s = ⊥
+
+-- An integer or a float.
+abbrev pub IsNumeric : Scalar → Type 0
+IsNumeric Bool = ⊥
+IsNumeric s = Unit {0}
+
+-- An integer, or a vector of integers.
+abbrev pub IsIntegerOrVector : WgslType → Type 0
+IsIntegerOrVector (scalar s) = IsInteger s
+IsIntegerOrVector (within (vec_of n) (scalar s)) = IsInteger s
+IsIntegerOrVector t = ⊥
+
+-- A number, or a vector of numbers.
+abbrev pub IsNumericOrVector : WgslType → Type 0
+IsNumericOrVector (scalar s) = IsNumeric s
+IsNumericOrVector (within (vec_of n) (scalar s)) = IsNumeric s
+IsNumericOrVector t = ⊥
+
+-- A scalar, or a vector of whatever type.
+abbrev pub IsScalarOrVector : WgslType → Type 0
+IsScalarOrVector (scalar s) = Unit {0}
+IsScalarOrVector (within (vec_of n) t) = Unit {0}
+IsScalarOrVector t = ⊥

@@ -1,0 +1,63 @@
+-- The laws that follow from the definitions: of conversion, of common types and of the choice.
+use Rattle.std.specs.Prelude.{ℕ, List, [], ◌∷◌, ◌≡◌, ◌≢◌, ◌+◌, ◌≤◌, ◌⊎◌, ◌↔◌, Option, Some, None}
+use Rattle.wgsl_rules.specs.Types.{WgslType}
+use Rattle.wgsl_rules.specs.Conversion.{Converts, ConvertsTo}
+use Rattle.wgsl_syntax.specs.declared.operator.BinaryOperator.{BinaryOperator}
+use Rattle.wgsl_rules.specs.Candidates.{Name, operator, IsCandidate}
+use Rattle.wgsl_rules.specs.Choice.{Takes, IsChoice}
+use Rattle.wgsl_rules.specs.Operators.{IsRow, IsCallRow}
+use Rattle.wgsl_rules.specs.Common.{IsCommon, IsLeftCommon, Receives, IsLeastCommon}
+
+-- On value types conversion is a partial order.
+pub record ConversionOrder (a b c : WgslType) : Type 0 where
+  pub reflexive : ConvertsTo a a
+  pub antisymmetric : ConvertsTo a b → ConvertsTo b a → a ≡ b
+  pub transitive : ConvertsTo a b → ConvertsTo b c → ConvertsTo a c
+
+-- Ranks add, and only equal types have rank 0.
+pub record RanksAdd (a b c : WgslType) : Type 0 where
+  pub sum : (v w : ℕ) → Converts a b v → Converts b c w → Converts a c (v + w)
+  pub one_rank : (v w : ℕ) → Converts a b v → Converts a b w → v ≡ w
+  pub zero : Converts a b 0 ↔ a ≡ b
+
+-- Types that convert to one type are comparable.
+abbrev pub TargetsComparable : WgslType → WgslType → WgslType → Type 0
+TargetsComparable a b c = ConvertsTo a c → ConvertsTo b c → ConvertsTo a b ⊎ ConvertsTo b a
+
+-- The rank of a type to another, at most 7, says which other.
+pub record RankNamesTarget (a b c : WgslType) : Type 0 where
+  pub same : (w : ℕ) → Converts a b w → Converts a c w → b ≡ c
+  pub small : (w : ℕ) → Converts a b w → w ≤ 7
+
+-- The left commons of a list and of its permutation are equal.
+abbrev pub CommonAnyOrder : List WgslType → List WgslType → Type 0
+CommonAnyOrder ts us = (r : Option WgslType) → IsLeftCommon ts r ↔ IsLeftCommon us r
+
+-- The left common is the least common type; without one nothing receives the list.
+pub record LeftCommonIsLeast (ts : List WgslType) : Type 0 where
+  pub one : (r s : Option WgslType) → IsLeftCommon ts r → IsLeftCommon ts s → r ≡ s
+  pub some : (u : WgslType) → IsLeftCommon ts (Some u) → IsLeastCommon u ts
+  pub none : ts ≢ [] → IsLeftCommon ts None → (v : WgslType) → ¬ Receives v ts
+  pub least_is_left : ts ≢ [] → (u : WgslType) → IsLeastCommon u ts → IsLeftCommon ts (Some u)
+
+abbrev pub CommonSymmetric : WgslType → WgslType → Type 0
+CommonSymmetric a b = (r : Option WgslType) → IsCommon a b r ↔ IsCommon b a r
+
+-- Where a candidate takes the operands there is one choice.
+pub record OneChoice (n : Name) (ts : List WgslType) : Type 0 where
+  pub exists : (us : List WgslType) (r : WgslType) → IsCandidate n us r → Takes us ts → (vs : List WgslType) × (s : WgslType) × IsChoice n ts vs s
+  pub one : (us vs : List WgslType) (r s : WgslType) → IsChoice n ts us r → IsChoice n ts vs s → (us ≡ vs) × (r ≡ s)
+
+-- A row is the choice, and without a row no candidate takes the operands.
+pub record RowIsChoice (o : BinaryOperator) (a b : WgslType) : Type 0 where
+  pub chosen : (l r s : WgslType) → IsRow o a b l r s → IsChoice (operator o) (a ∷ b ∷ []) (l ∷ r ∷ []) s
+  pub refused : ((l r s : WgslType) → ¬ IsRow o a b l r s) → (us : List WgslType) (r : WgslType) → IsCandidate (operator o) us r → ¬ Takes us (a ∷ b ∷ [])
+
+-- The five calls.
+abbrev pub IsCallName : Name → Type 0
+IsCallName (operator o) = ⊥
+IsCallName n = Unit {0}
+
+pub record CallRowIsChoice (n : Name) (ts : List WgslType) : Type 0 where
+  pub chosen : (r : WgslType) → IsCallRow n ts r → (us : List WgslType) × IsChoice n ts us r
+  pub refused : ((r : WgslType) → ¬ IsCallRow n ts r) → (us : List WgslType) (r : WgslType) → IsCandidate n us r → ¬ Takes us ts
