@@ -2,3 +2,4 @@ pub mod View
 pub mod Outcome
 pub mod Parts
 pub mod Equality
+pub mod Results

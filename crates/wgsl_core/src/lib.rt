@@ -5,5 +5,6 @@ pub mod copy;
 pub mod equal;
 pub mod error;
 pub mod parts;
+pub mod results;
 pub mod show;
 pub mod ty;

@@ -1,0 +1,12 @@
+-- Parts of types.
+use Rattle.std.proofs.Common.{◌≡◌, ◌↔◌, Option, Some, None, refl, ap}
+use Rattle.wgsl_syntax.specs.declared.scalar.Scalar.{Scalar}
+use Rattle.wgsl_rules.specs.Types.{WgslType, scalar}
+use Rattle.wgsl_core.specs.Parts.{scalar_of}
+
+pub scalar_is : (t : WgslType) (s : Scalar) → (scalar_of t ≡ Some s) ↔ (t ≡ scalar s)
+scalar_is t s = (to t, λ e. ap scalar_of e)
+  where
+    to : (t : WgslType) → scalar_of t ≡ Some s → t ≡ scalar s
+    to (scalar r) e = ap scalar (cc e)
+    to t e = absurd (cc e)
