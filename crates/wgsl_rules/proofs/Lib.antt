@@ -1,4 +1,3 @@
-pub mod Discrete
 pub mod Equality
 pub mod Steps
 pub mod Order
