@@ -1,9 +1,16 @@
 -- The words for address spaces and access modes (WGSL, "Address Spaces" and "Memory Access Mode").
-use Rattle.std.specs.Prelude.{ℕ, List, codes}
+use Rattle.std.specs.Prelude.{ℕ, List, [], ◌∷◌, codes}
 use Rattle.wgsl_syntax.specs.declared.address.AddressSpace.{AddressSpace}
 use Rattle.wgsl_syntax.specs.declared.address.AddressSpace.TheVariants.{Function, Private, Workgroup, Uniform, Storage, Handle, PushConstant}
 use Rattle.wgsl_syntax.specs.declared.address.AccessMode.{AccessMode}
 use Rattle.wgsl_syntax.specs.declared.address.AccessMode.TheVariants.{Read, Write, ReadWrite, Atomic}
+
+abbrev pub spaces : List AddressSpace
+spaces = Function ∷ Private ∷ Workgroup ∷ Uniform ∷ Storage ∷ Handle ∷ PushConstant ∷ []
+
+-- those that a program can write
+abbrev pub written_spaces : List AddressSpace
+written_spaces = Function ∷ Private ∷ Workgroup ∷ Uniform ∷ Storage ∷ PushConstant ∷ []
 
 abbrev pub space_text : AddressSpace → List ℕ
 space_text Function = codes "function"
@@ -13,6 +20,9 @@ space_text Uniform = codes "uniform"
 space_text Storage = codes "storage"
 space_text Handle = codes "handle"
 space_text PushConstant = codes "push_constant"
+
+abbrev pub access_modes : List AccessMode
+access_modes = Read ∷ Write ∷ ReadWrite ∷ Atomic ∷ []
 
 abbrev pub access_text : AccessMode → List ℕ
 access_text Read = codes "read"

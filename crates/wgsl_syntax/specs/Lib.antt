@@ -1,6 +1,7 @@
 pub mod Address
 pub mod Attribute
 pub mod Enumerant
+pub mod Names
 pub mod Operator
 pub mod ResultStruct
 pub mod Scalar

@@ -1,7 +1,10 @@
 -- The names of texel formats (WGSL, "Texel Formats").
-use Rattle.std.specs.Prelude.{ℕ, List, codes}
+use Rattle.std.specs.Prelude.{ℕ, List, [], ◌∷◌, codes}
 use Rattle.wgsl_syntax.specs.declared.texel.TexelFormat.{TexelFormat}
 use Rattle.wgsl_syntax.specs.declared.texel.TexelFormat.TheVariants.{Rgba8Unorm, Rgba8Snorm, Rgba8Uint, Rgba8Sint, R8Unorm, R8Snorm, R8Uint, R8Sint, Rg8Unorm, Rg8Snorm, Rg8Uint, Rg8Sint, Rgba16Unorm, Rgba16Snorm, Rgba16Uint, Rgba16Sint, Rgba16Float, R16Unorm, R16Snorm, R16Uint, R16Sint, R16Float, Rg16Unorm, Rg16Snorm, Rg16Uint, Rg16Sint, Rg16Float, R32Uint, R32Sint, R32Float, Rg32Uint, Rg32Sint, Rg32Float, Rgba32Uint, Rgba32Sint, Rgba32Float, Bgra8Unorm, Rgb10a2Uint, Rgb10a2Unorm, Rg11b10Float, R64Uint}
+
+abbrev pub texel_formats : List TexelFormat
+texel_formats = Rgba8Unorm ∷ Rgba8Snorm ∷ Rgba8Uint ∷ Rgba8Sint ∷ R8Unorm ∷ R8Snorm ∷ R8Uint ∷ R8Sint ∷ Rg8Unorm ∷ Rg8Snorm ∷ Rg8Uint ∷ Rg8Sint ∷ Rgba16Unorm ∷ Rgba16Snorm ∷ Rgba16Uint ∷ Rgba16Sint ∷ Rgba16Float ∷ R16Unorm ∷ R16Snorm ∷ R16Uint ∷ R16Sint ∷ R16Float ∷ Rg16Unorm ∷ Rg16Snorm ∷ Rg16Uint ∷ Rg16Sint ∷ Rg16Float ∷ R32Uint ∷ R32Sint ∷ R32Float ∷ Rg32Uint ∷ Rg32Sint ∷ Rg32Float ∷ Rgba32Uint ∷ Rgba32Sint ∷ Rgba32Float ∷ Bgra8Unorm ∷ Rgb10a2Uint ∷ Rgb10a2Unorm ∷ Rg11b10Float ∷ R64Uint ∷ []
 
 abbrev pub texel_text : TexelFormat → List ℕ
 texel_text Rgba8Unorm = codes "rgba8unorm"

@@ -1,6 +1,12 @@
 // Address spaces and access modes.
+ghost use Rattle.std.specs.Prelude.{◌≡◌};
+ghost use Rattle.wgsl_syntax.specs.Names.{named, table, Reads, ReadsBut};
+ghost use Rattle.wgsl_syntax.specs.Address.{access_modes, access_text, space_text, written_spaces};
+ghost use Rattle.wgsl_syntax.specs.declared.address.AddressSpace.TheVariants.{Handle};
+
 use std::fmt;
 use std::fmt::Write;
+use std::str::FromStr;
 
 /// An address space (WGSL, "Address Spaces"), with `handle` and naga's `push_constant`.
 #[derive(Clone, Copy, PartialEq, Eq, Hash, Debug)]
@@ -16,7 +22,6 @@ pub enum AddressSpace {
 
 impl fmt::Display for AddressSpace {
     ghost use Rattle.std.specs.Prelude.{Some};
-    ghost use Rattle.wgsl_syntax.specs.Address.{space_text};
 
     ghost output = { λ x. Some (space_text x) };
 
@@ -33,6 +38,31 @@ impl fmt::Display for AddressSpace {
     }
 }
 
+fn space_named(s: &str) -> Option<AddressSpace>
+    ensures { result ≡ named (table space_text written_spaces) s.now }
+{
+    match s {
+        "function" => Some(AddressSpace::Function),
+        "private" => Some(AddressSpace::Private),
+        "workgroup" => Some(AddressSpace::Workgroup),
+        "uniform" => Some(AddressSpace::Uniform),
+        "storage" => Some(AddressSpace::Storage),
+        "push_constant" => Some(AddressSpace::PushConstant),
+        _ => None,
+    }
+}
+
+impl FromStr for AddressSpace {
+    type Err = ();
+
+    ghost from_str_gives = { ReadsBut Handle space_text };
+
+    #[tactic(auto, using(crate::proofs::Naming::space_reads))]
+    fn from_str(s: &str) -> Result<AddressSpace, ()> {
+        space_named(s).ok_or(())
+    }
+}
+
 /// An access mode (WGSL, "Memory Access Mode"), with naga's `atomic` for storage textures.
 #[derive(Clone, Copy, PartialEq, Eq, Hash, Debug)]
 pub enum AccessMode {
@@ -44,7 +74,6 @@ pub enum AccessMode {
 
 impl fmt::Display for AccessMode {
     ghost use Rattle.std.specs.Prelude.{Some};
-    ghost use Rattle.wgsl_syntax.specs.Address.{access_text};
 
     ghost output = { λ x. Some (access_text x) };
 
@@ -55,5 +84,28 @@ impl fmt::Display for AccessMode {
             AccessMode::ReadWrite => f.write_str("read_write"),
             AccessMode::Atomic => f.write_str("atomic"),
         }
+    }
+}
+
+fn access_named(s: &str) -> Option<AccessMode>
+    ensures { result ≡ named (table access_text access_modes) s.now }
+{
+    match s {
+        "read" => Some(AccessMode::Read),
+        "write" => Some(AccessMode::Write),
+        "read_write" => Some(AccessMode::ReadWrite),
+        "atomic" => Some(AccessMode::Atomic),
+        _ => None,
+    }
+}
+
+impl FromStr for AccessMode {
+    type Err = ();
+
+    ghost from_str_gives = { Reads access_text };
+
+    #[tactic(auto, using(crate::proofs::Naming::access_reads))]
+    fn from_str(s: &str) -> Result<AccessMode, ()> {
+        access_named(s).ok_or(())
     }
 }
