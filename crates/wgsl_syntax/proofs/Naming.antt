@@ -5,12 +5,14 @@ use Rattle.std.specs.Str.{bytes_eq}
 use Rattle.std.proofs.lemmas.List.Elements.{All-cons, All-nil, Contains-append_right}
 use Rattle.std.proofs.lemmas.Slice.Eq.{bytes_eq-Decides}
 use Rattle.wgsl_syntax.specs.Names.{table, named, IsNaming, Reads, ReadsBut}
-use Rattle.wgsl_syntax.specs.Address.{access_modes, access_text, space_text, spaces, written_spaces}
+use Rattle.wgsl_syntax.specs.Address.{access_modes, access_text, space_text, spaces}
 use Rattle.wgsl_syntax.specs.Attribute.{builtin_text, builtin_values, depth_text, depths, flag_text, flags, interpolation_text, interpolations, sampling_text, samplings, severities, severity_text}
 use Rattle.wgsl_syntax.specs.Operator.{assignment_operators, assignment_text, binary_operators, binary_text, unary_operators, unary_text}
 use Rattle.wgsl_syntax.specs.Scalar.{scalar_text, scalars}
 use Rattle.wgsl_syntax.specs.Texel.{texel_formats, texel_text}
 use Rattle.wgsl_syntax.specs.Texture.{sampled_text, sampled_types, sampler_text, samplers}
+use Rattle.wgsl_syntax.specs.Enumerant.{enumerant_text, enumerants}
+use Rattle.wgsl_syntax.specs.declared.enumerant.Enumerant.{Enumerant}
 use Rattle.wgsl_syntax.specs.declared.address.AddressSpace.{AddressSpace}
 use Rattle.wgsl_syntax.specs.declared.address.AccessMode.{AccessMode}
 use Rattle.wgsl_syntax.specs.declared.attribute.BuiltinValue.{BuiltinValue}
@@ -26,6 +28,7 @@ use Rattle.wgsl_syntax.specs.declared.scalar.Scalar.{Scalar}
 use Rattle.wgsl_syntax.specs.declared.texel.TexelFormat.{TexelFormat}
 use Rattle.wgsl_syntax.specs.declared.texture.SampledType.{SampledType}
 use Rattle.wgsl_syntax.specs.declared.texture.SamplerType.{SamplerType}
+use Rattle.wgsl_syntax.specs.declared.enumerant.Enumerant.TheVariants as enumerant
 use Rattle.wgsl_syntax.specs.declared.address.AddressSpace.TheVariants as space
 use Rattle.wgsl_syntax.specs.declared.address.AccessMode.TheVariants as access
 use Rattle.wgsl_syntax.specs.declared.attribute.BuiltinValue.TheVariants as builtin
@@ -86,30 +89,12 @@ reading text values back s x =
     (λ e. named_text text values s x (ok_some (named (table text values) s) x e)
     , λ e. ap (λ o. ok_or o (tt {0})) (ap (named (table text values)) e ∙ back x))
 
--- the same of a table that leaves one value out
-reading_but : {A : Type 0} (never : A) (text : A → List ℕ) (values : List A) → ((x : A) → x ≢ never → named (table text values) (text x) ≡ Some x)
-    → named (table text values) (text never) ≡ None → (s : List ℕ) → ReadsBut never text s (ok_or (named (table text values) s) (tt {0}))
-reading_but never text values back gone s x =
-    (λ e.
-      let found = ok_some (named (table text values) s) x e in
-      let at = named_text text values s x found in
-      (at, λ same. let none : named (table text values) s ≡ None = ap (named (table text values)) (at ∙ ap text same) ∙ gone in cc)
-    , λ p. ap (λ o. ok_or o (tt {0})) (ap (named (table text values)) p.0 ∙ back x p.1))
-
 space_back : (x : AddressSpace) → named (table space_text spaces) (space_text x) ≡ Some x
 space_back space.Function = refl
 space_back _ = refl
 
 pub space_naming : IsNaming space_text (table space_text spaces)
 space_naming = naming space_text spaces space_back
-
-written_back : (x : AddressSpace) → x ≢ space.Handle → named (table space_text written_spaces) (space_text x) ≡ Some x
-written_back space.Handle n = absurd (n refl)
-written_back space.Function n = refl
-written_back _ n = refl
-
-pub space_reads : (s : List ℕ) → ReadsBut space.Handle space_text s (ok_or (named (table space_text written_spaces) s) (tt {0}))
-space_reads = reading_but space.Handle space_text written_spaces written_back refl
 
 access_back : (x : AccessMode) → named (table access_text access_modes) (access_text x) ≡ Some x
 access_back access.Read = refl
@@ -118,18 +103,12 @@ access_back _ = refl
 pub access_naming : IsNaming access_text (table access_text access_modes)
 access_naming = naming access_text access_modes access_back
 
-pub access_reads : (s : List ℕ) → Reads access_text s (ok_or (named (table access_text access_modes) s) (tt {0}))
-access_reads = reading access_text access_modes access_back
-
 builtin_back : (x : BuiltinValue) → named (table builtin_text builtin_values) (builtin_text x) ≡ Some x
 builtin_back builtin.VertexIndex = refl
 builtin_back _ = refl
 
 pub builtin_naming : IsNaming builtin_text (table builtin_text builtin_values)
 builtin_naming = naming builtin_text builtin_values builtin_back
-
-pub builtin_reads : (s : List ℕ) → Reads builtin_text s (ok_or (named (table builtin_text builtin_values) s) (tt {0}))
-builtin_reads = reading builtin_text builtin_values builtin_back
 
 severity_back : (x : DiagnosticSeverity) → named (table severity_text severities) (severity_text x) ≡ Some x
 severity_back severity.Error = refl
@@ -138,18 +117,12 @@ severity_back _ = refl
 pub severity_naming : IsNaming severity_text (table severity_text severities)
 severity_naming = naming severity_text severities severity_back
 
-pub severity_reads : (s : List ℕ) → Reads severity_text s (ok_or (named (table severity_text severities) s) (tt {0}))
-severity_reads = reading severity_text severities severity_back
-
 interpolation_back : (x : InterpolationType) → named (table interpolation_text interpolations) (interpolation_text x) ≡ Some x
 interpolation_back interpolation.Perspective = refl
 interpolation_back _ = refl
 
 pub interpolation_naming : IsNaming interpolation_text (table interpolation_text interpolations)
 interpolation_naming = naming interpolation_text interpolations interpolation_back
-
-pub interpolation_reads : (s : List ℕ) → Reads interpolation_text s (ok_or (named (table interpolation_text interpolations) s) (tt {0}))
-interpolation_reads = reading interpolation_text interpolations interpolation_back
 
 sampling_back : (x : InterpolationSampling) → named (table sampling_text samplings) (sampling_text x) ≡ Some x
 sampling_back sampling.Center = refl
@@ -158,9 +131,6 @@ sampling_back _ = refl
 pub sampling_naming : IsNaming sampling_text (table sampling_text samplings)
 sampling_naming = naming sampling_text samplings sampling_back
 
-pub sampling_reads : (s : List ℕ) → Reads sampling_text s (ok_or (named (table sampling_text samplings) s) (tt {0}))
-sampling_reads = reading sampling_text samplings sampling_back
-
 depth_back : (x : ConservativeDepth) → named (table depth_text depths) (depth_text x) ≡ Some x
 depth_back depth.GreaterEqual = refl
 depth_back _ = refl
@@ -168,17 +138,11 @@ depth_back _ = refl
 pub depth_naming : IsNaming depth_text (table depth_text depths)
 depth_naming = naming depth_text depths depth_back
 
-pub depth_reads : (s : List ℕ) → Reads depth_text s (ok_or (named (table depth_text depths) s) (tt {0}))
-depth_reads = reading depth_text depths depth_back
-
 flag_back : (x : AccelerationStructureFlags) → named (table flag_text flags) (flag_text x) ≡ Some x
 flag_back flag.VertexReturn = refl
 
 pub flag_naming : IsNaming flag_text (table flag_text flags)
 flag_naming = naming flag_text flags flag_back
-
-pub flag_reads : (s : List ℕ) → Reads flag_text s (ok_or (named (table flag_text flags) s) (tt {0}))
-flag_reads = reading flag_text flags flag_back
 
 unary_back : (x : UnaryOperator) → named (table unary_text unary_operators) (unary_text x) ≡ Some x
 unary_back unary.LogicalNegation = refl
@@ -208,9 +172,6 @@ scalar_back _ = refl
 pub scalar_naming : IsNaming scalar_text (table scalar_text scalars)
 scalar_naming = naming scalar_text scalars scalar_back
 
-pub scalar_reads : (s : List ℕ) → Reads scalar_text s (ok_or (named (table scalar_text scalars) s) (tt {0}))
-scalar_reads = reading scalar_text scalars scalar_back
-
 texel_back : (x : TexelFormat) → named (table texel_text texel_formats) (texel_text x) ≡ Some x
 texel_back texel.Rgba8Unorm = refl
 texel_back _ = refl
@@ -228,9 +189,6 @@ sampled_back _ = refl
 pub sampled_naming : IsNaming sampled_text (table sampled_text sampled_types)
 sampled_naming = naming sampled_text sampled_types sampled_back
 
-pub sampled_reads : (s : List ℕ) → Reads sampled_text s (ok_or (named (table sampled_text sampled_types) s) (tt {0}))
-sampled_reads = reading sampled_text sampled_types sampled_back
-
 sampler_back : (x : SamplerType) → named (table sampler_text samplers) (sampler_text x) ≡ Some x
 sampler_back sampler.Sampler = refl
 sampler_back _ = refl
@@ -238,6 +196,16 @@ sampler_back _ = refl
 pub sampler_naming : IsNaming sampler_text (table sampler_text samplers)
 sampler_naming = naming sampler_text samplers sampler_back
 
-pub sampler_reads : (s : List ℕ) → Reads sampler_text s (ok_or (named (table sampler_text samplers) s) (tt {0}))
-sampler_reads = reading sampler_text samplers sampler_back
+enumerant_back : (x : Enumerant) → named (table enumerant_text enumerants) (enumerant_text x) ≡ Some x
+enumerant_back (enumerant.AccessMode access.Read) = refl
+enumerant_back (enumerant.AccessMode _) = refl
+enumerant_back (enumerant.AddressSpace space.Function) = refl
+enumerant_back (enumerant.AddressSpace _) = refl
+enumerant_back (enumerant.TexelFormat texel.Rgba8Unorm) = refl
+enumerant_back (enumerant.TexelFormat _) = refl
+enumerant_back (enumerant.AccelerationStructureFlags flag.VertexReturn) = refl
 
+pub enumerant_naming : IsNaming enumerant_text (table enumerant_text enumerants)
+enumerant_naming = naming enumerant_text enumerants enumerant_back
+
+pub ruleset namings = (space_naming, access_naming, builtin_naming, severity_naming, interpolation_naming, sampling_naming, depth_naming, flag_naming, unary_naming, binary_naming, assignment_naming, scalar_naming, texel_naming, sampled_naming, sampler_naming, enumerant_naming)

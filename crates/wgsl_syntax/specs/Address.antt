@@ -1,5 +1,5 @@
--- The words for address spaces and access modes (WGSL, "Address Spaces" and "Memory Access Mode").
-use Rattle.std.specs.Prelude.{ℕ, List, [], ◌∷◌, codes}
+-- Address spaces and access modes: their words, and how memory may be accessed (WGSL, "Address Spaces" and "Memory Access Mode").
+use Rattle.std.specs.Prelude.{◌≡◌, ◌⊎◌, ℕ, List, [], ◌∷◌, codes}
 use Rattle.wgsl_syntax.specs.declared.address.AddressSpace.{AddressSpace}
 use Rattle.wgsl_syntax.specs.declared.address.AddressSpace.TheVariants.{Function, Private, Workgroup, Uniform, Storage, Handle, PushConstant}
 use Rattle.wgsl_syntax.specs.declared.address.AccessMode.{AccessMode}
@@ -29,3 +29,16 @@ access_text Read = codes "read"
 access_text Write = codes "write"
 access_text ReadWrite = codes "read_write"
 access_text Atomic = codes "atomic"
+
+-- how a variable is accessed that names no access mode
+abbrev pub default_access : AddressSpace → AccessMode
+default_access Function = ReadWrite
+default_access Private = ReadWrite
+default_access Workgroup = ReadWrite
+default_access _ = Read
+
+abbrev pub MayRead : AccessMode → Type 0
+MayRead access = (access ≡ Read) ⊎ (access ≡ ReadWrite)
+
+abbrev pub MayWrite : AccessMode → Type 0
+MayWrite access = (access ≡ Write) ⊎ (access ≡ ReadWrite)

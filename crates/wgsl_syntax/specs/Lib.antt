@@ -7,3 +7,4 @@ pub mod ResultStruct
 pub mod Scalar
 pub mod Texel
 pub mod Texture
+pub mod TextureKind

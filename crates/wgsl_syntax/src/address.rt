@@ -1,7 +1,7 @@
 // Address spaces and access modes.
-ghost use Rattle.std.specs.Prelude.{◌≡◌};
+ghost use Rattle.std.specs.Prelude.{◌≡◌, ◌↔◌, IsTrue};
 ghost use Rattle.wgsl_syntax.specs.Names.{named, table, Reads, ReadsBut};
-ghost use Rattle.wgsl_syntax.specs.Address.{access_modes, access_text, space_text, written_spaces};
+ghost use Rattle.wgsl_syntax.specs.Address.{access_modes, access_text, default_access, space_text, written_spaces, MayRead, MayWrite};
 ghost use Rattle.wgsl_syntax.specs.declared.address.AddressSpace.TheVariants.{Handle};
 
 use std::fmt;
@@ -18,6 +18,23 @@ pub enum AddressSpace {
     Storage,
     Handle,
     PushConstant,
+}
+
+impl AddressSpace {
+    /// How a variable is accessed whose declaration names no access mode (WGSL, "Address Spaces").
+    pub fn default_access_mode(self) -> AccessMode
+        ensures { result ≡ default_access self }
+    {
+        match self {
+            AddressSpace::Function => AccessMode::ReadWrite,
+            AddressSpace::Private => AccessMode::ReadWrite,
+            AddressSpace::Workgroup => AccessMode::ReadWrite,
+            AddressSpace::Uniform => AccessMode::Read,
+            AddressSpace::Storage => AccessMode::Read,
+            AddressSpace::Handle => AccessMode::Read,
+            AddressSpace::PushConstant => AccessMode::Read,
+        }
+    }
 }
 
 impl fmt::Display for AddressSpace {
@@ -57,7 +74,6 @@ impl FromStr for AddressSpace {
 
     ghost from_str_gives = { ReadsBut Handle space_text };
 
-    #[tactic(auto, using(crate::proofs::Naming::space_reads))]
     fn from_str(s: &str) -> Result<AddressSpace, ()> {
         space_named(s).ok_or(())
     }
@@ -70,6 +86,22 @@ pub enum AccessMode {
     Write,
     ReadWrite,
     Atomic,
+}
+
+impl AccessMode {
+    /// Whether memory of this mode can be read; `atomic` is neither read nor written.
+    pub fn is_read(self) -> bool
+        ensures { IsTrue result ↔ MayRead self }
+    {
+        matches!(self, AccessMode::Read | AccessMode::ReadWrite)
+    }
+
+    /// Whether memory of this mode can be written.
+    pub fn is_write(self) -> bool
+        ensures { IsTrue result ↔ MayWrite self }
+    {
+        matches!(self, AccessMode::Write | AccessMode::ReadWrite)
+    }
 }
 
 impl fmt::Display for AccessMode {
@@ -104,7 +136,6 @@ impl FromStr for AccessMode {
 
     ghost from_str_gives = { Reads access_text };
 
-    #[tactic(auto, using(crate::proofs::Naming::access_reads))]
     fn from_str(s: &str) -> Result<AccessMode, ()> {
         access_named(s).ok_or(())
     }

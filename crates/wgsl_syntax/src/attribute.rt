@@ -93,7 +93,6 @@ impl FromStr for BuiltinValue {
 
     ghost from_str_gives = { Reads builtin_text };
 
-    #[tactic(auto, using(crate::proofs::Naming::builtin_reads))]
     fn from_str(s: &str) -> Result<BuiltinValue, ()> {
         builtin_named(s).ok_or(())
     }
@@ -140,7 +139,6 @@ impl FromStr for DiagnosticSeverity {
 
     ghost from_str_gives = { Reads severity_text };
 
-    #[tactic(auto, using(crate::proofs::Naming::severity_reads))]
     fn from_str(s: &str) -> Result<DiagnosticSeverity, ()> {
         severity_named(s).ok_or(())
     }
@@ -184,7 +182,6 @@ impl FromStr for InterpolationType {
 
     ghost from_str_gives = { Reads interpolation_text };
 
-    #[tactic(auto, using(crate::proofs::Naming::interpolation_reads))]
     fn from_str(s: &str) -> Result<InterpolationType, ()> {
         interpolation_named(s).ok_or(())
     }
@@ -234,7 +231,6 @@ impl FromStr for InterpolationSampling {
 
     ghost from_str_gives = { Reads sampling_text };
 
-    #[tactic(auto, using(crate::proofs::Naming::sampling_reads))]
     fn from_str(s: &str) -> Result<InterpolationSampling, ()> {
         sampling_named(s).ok_or(())
     }
@@ -278,7 +274,6 @@ impl FromStr for ConservativeDepth {
 
     ghost from_str_gives = { Reads depth_text };
 
-    #[tactic(auto, using(crate::proofs::Naming::depth_reads))]
     fn from_str(s: &str) -> Result<ConservativeDepth, ()> {
         depth_named(s).ok_or(())
     }
@@ -316,7 +311,6 @@ impl FromStr for AccelerationStructureFlags {
 
     ghost from_str_gives = { Reads flag_text };
 
-    #[tactic(auto, using(crate::proofs::Naming::flag_reads))]
     fn from_str(s: &str) -> Result<AccelerationStructureFlags, ()> {
         flag_named(s).ok_or(())
     }

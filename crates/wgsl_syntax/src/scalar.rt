@@ -66,7 +66,6 @@ impl FromStr for Scalar {
 
     ghost from_str_gives = { Reads scalar_text };
 
-    #[tactic(auto, using(crate::proofs::Naming::scalar_reads))]
     fn from_str(s: &str) -> Result<Scalar, ()> {
         scalar_named(s).ok_or(())
     }

@@ -1,8 +1,9 @@
 // Texel formats.
 ghost use Rattle.std.specs.Prelude.{◌≡◌};
 ghost use Rattle.wgsl_syntax.specs.Names.{named, table, Reads};
-ghost use Rattle.wgsl_syntax.specs.Texel.{texel_formats, texel_text};
+ghost use Rattle.wgsl_syntax.specs.Texel.{channel_count, channel_type, texel_formats, texel_text};
 
+use crate::texture::SampledType;
 use std::fmt;
 use std::fmt::Write;
 use std::str::FromStr;
@@ -51,6 +52,106 @@ pub enum TexelFormat {
     Rgb10a2Unorm,
     Rg11b10Float,
     R64Uint,
+}
+
+impl TexelFormat {
+    /// What the channels of a texel are read as (WGSL, "Texel Formats").
+    pub fn channel_type(self) -> SampledType
+        ensures { result ≡ channel_type self }
+    {
+        match self {
+            TexelFormat::Rgba8Unorm
+            | TexelFormat::Rgba8Snorm
+            | TexelFormat::R8Unorm
+            | TexelFormat::R8Snorm
+            | TexelFormat::Rg8Unorm
+            | TexelFormat::Rg8Snorm
+            | TexelFormat::Rgba16Unorm
+            | TexelFormat::Rgba16Snorm
+            | TexelFormat::Rgba16Float
+            | TexelFormat::R16Unorm
+            | TexelFormat::R16Snorm
+            | TexelFormat::R16Float
+            | TexelFormat::Rg16Unorm
+            | TexelFormat::Rg16Snorm
+            | TexelFormat::Rg16Float
+            | TexelFormat::R32Float
+            | TexelFormat::Rg32Float
+            | TexelFormat::Rgba32Float
+            | TexelFormat::Bgra8Unorm
+            | TexelFormat::Rgb10a2Unorm
+            | TexelFormat::Rg11b10Float => SampledType::F32,
+            TexelFormat::Rgba8Uint
+            | TexelFormat::R8Uint
+            | TexelFormat::Rg8Uint
+            | TexelFormat::Rgba16Uint
+            | TexelFormat::R16Uint
+            | TexelFormat::Rg16Uint
+            | TexelFormat::R32Uint
+            | TexelFormat::Rg32Uint
+            | TexelFormat::Rgba32Uint
+            | TexelFormat::Rgb10a2Uint
+            | TexelFormat::R64Uint => SampledType::U32,
+            TexelFormat::Rgba8Sint
+            | TexelFormat::R8Sint
+            | TexelFormat::Rg8Sint
+            | TexelFormat::Rgba16Sint
+            | TexelFormat::R16Sint
+            | TexelFormat::Rg16Sint
+            | TexelFormat::R32Sint
+            | TexelFormat::Rg32Sint
+            | TexelFormat::Rgba32Sint => SampledType::I32,
+        }
+    }
+
+    /// How many channels a texel has (WGSL, "Texel Formats").
+    pub fn num_channels(self) -> u32
+        ensures { result ≡ channel_count self }
+    {
+        match self {
+            TexelFormat::Rgba8Unorm
+            | TexelFormat::Rgba8Snorm
+            | TexelFormat::Rgba8Uint
+            | TexelFormat::Rgba8Sint
+            | TexelFormat::Rgba16Unorm
+            | TexelFormat::Rgba16Snorm
+            | TexelFormat::Rgba16Uint
+            | TexelFormat::Rgba16Sint
+            | TexelFormat::Rgba16Float
+            | TexelFormat::Rgba32Uint
+            | TexelFormat::Rgba32Sint
+            | TexelFormat::Rgba32Float
+            | TexelFormat::Bgra8Unorm
+            | TexelFormat::Rgb10a2Uint
+            | TexelFormat::Rgb10a2Unorm => 4,
+            TexelFormat::R8Unorm
+            | TexelFormat::R8Snorm
+            | TexelFormat::R8Uint
+            | TexelFormat::R8Sint
+            | TexelFormat::R16Unorm
+            | TexelFormat::R16Snorm
+            | TexelFormat::R16Uint
+            | TexelFormat::R16Sint
+            | TexelFormat::R16Float
+            | TexelFormat::R32Uint
+            | TexelFormat::R32Sint
+            | TexelFormat::R32Float
+            | TexelFormat::R64Uint => 1,
+            TexelFormat::Rg8Unorm
+            | TexelFormat::Rg8Snorm
+            | TexelFormat::Rg8Uint
+            | TexelFormat::Rg8Sint
+            | TexelFormat::Rg16Unorm
+            | TexelFormat::Rg16Snorm
+            | TexelFormat::Rg16Uint
+            | TexelFormat::Rg16Sint
+            | TexelFormat::Rg16Float
+            | TexelFormat::Rg32Uint
+            | TexelFormat::Rg32Sint
+            | TexelFormat::Rg32Float => 2,
+            TexelFormat::Rg11b10Float => 3,
+        }
+    }
 }
 
 impl fmt::Display for TexelFormat {

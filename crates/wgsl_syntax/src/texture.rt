@@ -1,5 +1,6 @@
 // Textures and samplers.
-ghost use Rattle.std.specs.Prelude.{◌≡◌};
+ghost use Rattle.std.specs.Prelude.{◌≡◌, ◌↔◌, IsTrue};
+ghost use Rattle.wgsl_syntax.specs.TextureKind.{dimensions, sampled_type, texture_channel, IsArrayed, IsDepth, IsMultisampled, IsSampled, IsStorage};
 ghost use Rattle.wgsl_syntax.specs.Names.{named, table, Reads};
 ghost use Rattle.wgsl_syntax.specs.Texture.{sampled_text, sampled_types, sampler_text, samplers};
 
@@ -47,7 +48,6 @@ impl FromStr for SampledType {
 
     ghost from_str_gives = { Reads sampled_text };
 
-    #[tactic(auto, using(crate::proofs::Naming::sampled_reads))]
     fn from_str(s: &str) -> Result<SampledType, ()> {
         sampled_named(s).ok_or(())
     }
@@ -75,7 +75,6 @@ impl FromStr for SamplerType {
 
     ghost from_str_gives = { Reads sampler_text };
 
-    #[tactic(auto, using(crate::proofs::Naming::sampler_reads))]
     fn from_str(s: &str) -> Result<SamplerType, ()> {
         sampler_named(s).ok_or(())
     }
@@ -104,6 +103,135 @@ pub enum TextureType {
     Depth2DArray,
     DepthCube,
     DepthCubeArray,
+}
+
+impl TextureType {
+    /// How many dimensions the texture has; a cube has the two of its faces.
+    pub fn dimensions(self) -> TextureDimensions
+        ensures { result ≡ dimensions self }
+    {
+        match self {
+            TextureType::Sampled1D(_)
+            | TextureType::Sampled1DArray(_)
+            | TextureType::Storage1D(_, _)
+            | TextureType::Storage1DArray(_, _) => TextureDimensions::D1,
+            TextureType::Sampled3D(_)
+            | TextureType::Storage3D(_, _) => TextureDimensions::D3,
+            _ => TextureDimensions::D2,
+        }
+    }
+
+    /// What the texture is sampled as, where its type says so (WGSL, "Sampled Texture Types").
+    pub fn sampled_type(self) -> Option<SampledType>
+        ensures { result ≡ sampled_type self }
+    {
+        match self {
+            TextureType::Sampled1D(sampled)
+            | TextureType::Sampled2D(sampled)
+            | TextureType::Sampled2DArray(sampled)
+            | TextureType::Sampled3D(sampled)
+            | TextureType::SampledCube(sampled)
+            | TextureType::SampledCubeArray(sampled)
+            | TextureType::Sampled1DArray(sampled)
+            | TextureType::Multisampled2DArray(sampled) => Some(sampled),
+            _ => None,
+        }
+    }
+
+    /// What the texture's channels are read as.
+    pub fn channel_type(self) -> SampledType
+        ensures { result ≡ texture_channel self }
+    {
+        match self {
+            TextureType::Sampled1D(sampled)
+            | TextureType::Sampled2D(sampled)
+            | TextureType::Sampled2DArray(sampled)
+            | TextureType::Sampled3D(sampled)
+            | TextureType::SampledCube(sampled)
+            | TextureType::SampledCubeArray(sampled)
+            | TextureType::Sampled1DArray(sampled)
+            | TextureType::Multisampled2D(sampled)
+            | TextureType::Multisampled2DArray(sampled) => sampled,
+            TextureType::Storage1D(format, _)
+            | TextureType::Storage1DArray(format, _)
+            | TextureType::Storage2D(format, _)
+            | TextureType::Storage2DArray(format, _)
+            | TextureType::Storage3D(format, _) => format.channel_type(),
+            _ => SampledType::F32,
+        }
+    }
+
+    /// Whether it holds depths of one sample (WGSL, "Depth Texture Types").
+    pub fn is_depth(self) -> bool
+        ensures { IsTrue result ↔ IsDepth self }
+    {
+        matches!(
+            self,
+            TextureType::Depth2D
+                | TextureType::Depth2DArray
+                | TextureType::DepthCube
+                | TextureType::DepthCubeArray
+        )
+    }
+
+    /// Whether it is a storage texture (WGSL, "Storage Texture Types").
+    pub fn is_storage(self) -> bool
+        ensures { IsTrue result ↔ IsStorage self }
+    {
+        matches!(
+            self,
+            TextureType::Storage1D(_, _)
+                | TextureType::Storage1DArray(_, _)
+                | TextureType::Storage2D(_, _)
+                | TextureType::Storage2DArray(_, _)
+                | TextureType::Storage3D(_, _)
+        )
+    }
+
+    /// Whether it is a sampled texture (WGSL, "Sampled Texture Types").
+    pub fn is_sampled(self) -> bool
+        ensures { IsTrue result ↔ IsSampled self }
+    {
+        matches!(
+            self,
+            TextureType::Sampled1D(_)
+                | TextureType::Sampled2D(_)
+                | TextureType::Sampled2DArray(_)
+                | TextureType::Sampled3D(_)
+                | TextureType::SampledCube(_)
+                | TextureType::SampledCubeArray(_)
+                | TextureType::Sampled1DArray(_)
+        )
+    }
+
+    /// Whether it has layers.
+    pub fn is_arrayed(self) -> bool
+        ensures { IsTrue result ↔ IsArrayed self }
+    {
+        matches!(
+            self,
+            TextureType::Sampled2DArray(_)
+                | TextureType::SampledCubeArray(_)
+                | TextureType::Sampled1DArray(_)
+                | TextureType::Multisampled2DArray(_)
+                | TextureType::Storage1DArray(_, _)
+                | TextureType::Storage2DArray(_, _)
+                | TextureType::Depth2DArray
+                | TextureType::DepthCubeArray
+        )
+    }
+
+    /// Whether it has several samples a texel (WGSL, "Multisampled Texture Types").
+    pub fn is_multisampled(self) -> bool
+        ensures { IsTrue result ↔ IsMultisampled self }
+    {
+        matches!(
+            self,
+            TextureType::Multisampled2D(_)
+                | TextureType::Multisampled2DArray(_)
+                | TextureType::DepthMultisampled2D
+        )
+    }
 }
 
 /// How many dimensions a texture has.
