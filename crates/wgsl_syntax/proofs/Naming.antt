@@ -208,4 +208,11 @@ enumerant_back (enumerant.AccelerationStructureFlags flag.VertexReturn) = refl
 pub enumerant_naming : IsNaming enumerant_text (table enumerant_text enumerants)
 enumerant_naming = naming enumerant_text enumerants enumerant_back
 
+-- a text that is read as one enumerant is no other's
+pub enumerant_reads : (s : List ℕ) (x : Enumerant) → s ≡ enumerant_text x → x ≢ enumerant.AddressSpace space.Handle
+    → ReadsBut (enumerant.AddressSpace space.Handle) enumerant_text s (Ok x)
+enumerant_reads s x at not_handle y =
+    (λ e. let same : x ≡ y = cc in (at ∙ ap enumerant_text same, λ h. not_handle (same ∙ h))
+    , λ p. ap Ok (enumerant_naming.distinct x y (sym at ∙ p.0)))
+
 pub ruleset namings = (space_naming, access_naming, builtin_naming, severity_naming, interpolation_naming, sampling_naming, depth_naming, flag_naming, unary_naming, binary_naming, assignment_naming, scalar_naming, texel_naming, sampled_naming, sampler_naming, enumerant_naming)
