@@ -2,3 +2,4 @@ pub mod Views
 pub mod Equals
 pub mod Scalars
 pub mod Recognition
+pub mod Ranks

@@ -115,7 +115,7 @@ one_result q r e =
 
 -- Structs in code
 
-view-struct : (s : StructType) → struct_type (struct_view s) ≡ struct (string_bytes (out-StructType s).name) (members_view ((out-StructType s).members).items)
+pub view-struct : (s : StructType) → struct_type (struct_view s) ≡ struct (string_bytes (out-StructType s).name) (members_view ((out-StructType s).members).items)
 view-struct s = search (rules, the_lemmas)
 
 count_of : (ms : List StructMemberType) → count (members_view ms) ≡ length ms

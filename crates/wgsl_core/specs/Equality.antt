@@ -7,8 +7,7 @@ use Rattle.std.proofs.Common.{refl, ap, ◌∙◌}
 use mathlib.Core.List.{List-discrete}
 use native.Mathlib.Decide.{ℕ_discrete}
 use Rattle.wgsl_rules.specs.Types.{WgslType, Members}
-use Rattle.wgsl_rules.proofs.Discrete.{both, by}
-use Rattle.wgsl_rules.proofs.Equality.{same_type, same_members, same_option}
+use Rattle.wgsl_rules.proofs.Equality.{both, by, same_type, same_members, same_option}
 use Rattle.wgsl_core.specs.View.{Member, Struct, view, member_view, struct_view}
 
 same_struct : (a b : Struct) → Dec (a ≡ b)

@@ -21,7 +21,7 @@ pub fn conversion_rank(a: &Type, b: &Type) -> Option<u32>
 
 /// The rank of the conversion from `a` to `b`, and the number of single conversions back from `b` that were taken to
 /// find it.
-#[tactic(auto, using(crate::proofs::Ranks::layered))]
+#[tactic(auto)]
 pub fn rank_steps(a: &Type, b: &Type) -> (Option<u32>, u32)
     ensures rank { (w : ℕ) → (result.0 ≡ Some w) ↔ Converts (view a.now) (view b.now) w }
     ensures few { result.1 ≤ 2 }
@@ -30,7 +30,7 @@ pub fn rank_steps(a: &Type, b: &Type) -> (Option<u32>, u32)
     match a.layer() {
         Some((source, element)) => match b.layer() {
             Some((target, target_element)) => {
-                if source == target {
+                if source.is(target) {
                     rank_steps(element, target_element)
                 } else {
                     (None, 0)
@@ -51,8 +51,8 @@ fn rank_below_layers(a: &Type, b: &Type) -> (Option<u32>, u32)
     if a == b || loads(a, b) {
         return (Some(0), 0);
     }
-    match place(a) {
-        Some(source) => match place(b) {
+    match place_of(a) {
+        Some(source) => match place_of(b) {
             Some(target) => walk(source, target),
             None => (None, 0),
         },
@@ -60,6 +60,7 @@ fn rank_below_layers(a: &Type, b: &Type) -> (Option<u32>, u32)
     }
 }
 
+#[tactic(auto, using(crate::specs::Equality::type_eq_decides))]
 fn loads(a: &Type, b: &Type) -> bool
     requires { layer_of (view a.now) ≡ None }
     ensures { IsTrue result ↔ Load (view a.now) (view b.now) }
@@ -77,7 +78,7 @@ enum Place {
     Result(ResultStruct),
 }
 
-fn place(ty: &Type) -> Option<Place>
+fn place_of(ty: &Type) -> Option<Place>
     ensures { (p : RulePlace) → (option_map place_view result ≡ Some p) ↔ (view ty.now ≡ type_at p) }
 {
     match ty {
@@ -128,6 +129,12 @@ fn depth(place: Place) -> u32
     }
 }
 
+fn is_same(a: Place, b: Place) -> bool
+    ensures { IsTrue result ↔ (place_view a ≡ place_view b) }
+{
+    a == b
+}
+
 /// Walks from the target to its parents until it meets the source.
 fn walk(source: Place, target: Place) -> (Option<u32>, u32)
     ensures rank { (w : ℕ) → (result.0 ≡ Some w) ↔ Converts (type_at (place_view source)) (type_at (place_view target)) w }
@@ -136,7 +143,7 @@ fn walk(source: Place, target: Place) -> (Option<u32>, u32)
 {
     let mut met = target;
     let mut steps = 0;
-    while met != source {
+    while !is_same(met, source) {
         match parent(met) {
             Some(above) => {
                 met = above;

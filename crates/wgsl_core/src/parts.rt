@@ -1,5 +1,5 @@
 // The parts of types, borrowed.
-ghost use Rattle.std.specs.Prelude.{◌≡◌, option_map};
+ghost use Rattle.std.specs.Prelude.{◌≡◌, ◌↔◌, IsTrue, option_map};
 ghost use Rattle.wgsl_core.specs.View.{view};
 ghost use Rattle.wgsl_core.specs.Parts.{layer_view, scalar_of, layer_of};
 
@@ -15,6 +15,15 @@ pub enum Layer {
     Vec(u8),
     /// The number of columns, and the number of rows.
     Mat(u8, u8),
+}
+
+impl Layer {
+    /// Whether it is the same layer, with the same counts.
+    pub fn is(self, other: Layer) -> bool
+        ensures { IsTrue result ↔ (layer_view self ≡ layer_view other) }
+    {
+        self == other
+    }
 }
 
 impl Type {
