@@ -1,5 +1,5 @@
 -- Each enumeration's texts name its values, and reading a text gives the value back.
-use Rattle.std.proofs.Common.{◌≡◌, ◌≢◌, ◌↔◌, ℕ, Bool, true, false, cond, List, [], ◌∷◌, All, Contains, Option, Some, None, Result, Ok, Err, refl, sym, ap, ◌∙◌, arith}
+use Rattle.std.proofs.Common.{◌≡◌, ◌≢◌, ℕ, Bool, true, false, cond, List, [], ◌∷◌, All, Contains, Option, Some, None, Ok, refl, sym, ap, ◌∙◌, arith}
 use Rattle.std.specs.Option.{ok_or}
 use Rattle.std.specs.Str.{bytes_eq}
 use Rattle.std.proofs.lemmas.List.Elements.{All-cons, All-nil, Contains-append_right}
@@ -76,7 +76,7 @@ naming : {A : Type 0} (text : A → List ℕ) (values : List A) → ((x : A) →
 naming text values back = record {
   every = λ x. named_row text values (text x) x (back x);
   nothing_else = only_rows text values;
-  distinct = λ x y e. let again : Some x ≡ Some y = sym (back x) ∙ (ap (named (table text values)) e ∙ back y) in cc
+  distinct = λ x y e. let again : Some x ≡ Some y = sym (back x) ∙ (ap (named (table text values)) e ∙ back y) in cc;
 }
 
 ok_some : {A : Type 0} (o : Option A) (x : A) → ok_or o (tt {0}) ≡ Ok x → o ≡ Some x
@@ -85,9 +85,10 @@ ok_some None x e = cc
 
 reading : {A : Type 0} (text : A → List ℕ) (values : List A) → ((x : A) → named (table text values) (text x) ≡ Some x)
     → (s : List ℕ) → Reads text s (ok_or (named (table text values) s) (tt {0}))
-reading text values back s x =
-    (λ e. named_text text values s x (ok_some (named (table text values) s) x e)
-    , λ e. ap (λ o. ok_or o (tt {0})) (ap (named (table text values)) e ∙ back x))
+reading text values back s x = (
+  λ e. named_text text values s x (ok_some (named (table text values) s) x e),
+  λ e. ap (λ o. ok_or o (tt {0})) (ap (named (table text values)) e ∙ back x),
+)
 
 space_back : (x : AddressSpace) → named (table space_text spaces) (space_text x) ≡ Some x
 space_back space.Function = refl
@@ -211,8 +212,9 @@ enumerant_naming = naming enumerant_text enumerants enumerant_back
 -- a text that is read as one enumerant is no other's
 pub enumerant_reads : (s : List ℕ) (x : Enumerant) → s ≡ enumerant_text x → x ≢ enumerant.AddressSpace space.Handle
     → ReadsBut (enumerant.AddressSpace space.Handle) enumerant_text s (Ok x)
-enumerant_reads s x at not_handle y =
-    (λ e. let same : x ≡ y = cc in (at ∙ ap enumerant_text same, λ h. not_handle (same ∙ h))
-    , λ p. ap Ok (enumerant_naming.distinct x y (sym at ∙ p.0)))
+enumerant_reads s x at not_handle y = (
+  λ e. let same : x ≡ y = cc in (at ∙ ap enumerant_text same, λ h. not_handle (same ∙ h)),
+  λ p. ap Ok (enumerant_naming.distinct x y (sym at ∙ p.0)),
+)
 
 pub ruleset namings = (space_naming, access_naming, builtin_naming, severity_naming, interpolation_naming, sampling_naming, depth_naming, flag_naming, unary_naming, binary_naming, assignment_naming, scalar_naming, texel_naming, sampled_naming, sampler_naming, enumerant_naming)

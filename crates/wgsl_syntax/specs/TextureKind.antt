@@ -6,7 +6,7 @@ use Rattle.wgsl_syntax.specs.declared.texture.SampledType.TheVariants.{F32}
 use Rattle.wgsl_syntax.specs.declared.texture.TextureDimensions.{TextureDimensions}
 use Rattle.wgsl_syntax.specs.declared.texture.TextureDimensions.TheVariants.{D1, D2, D3}
 use Rattle.wgsl_syntax.specs.declared.texture.TextureType.{TextureType}
-use Rattle.wgsl_syntax.specs.declared.texture.TextureType.TheVariants.{Sampled1D, Sampled2D, Sampled2DArray, Sampled3D, SampledCube, SampledCubeArray, Sampled1DArray, Multisampled2D, Multisampled2DArray, DepthMultisampled2D, Storage1D, Storage1DArray, Storage2D, Storage2DArray, Storage3D, External, Depth2D, Depth2DArray, DepthCube, DepthCubeArray}
+use Rattle.wgsl_syntax.specs.declared.texture.TextureType.TheVariants.{Sampled1D, Sampled2D, Sampled2DArray, Sampled3D, SampledCube, SampledCubeArray, Sampled1DArray, Multisampled2D, Multisampled2DArray, DepthMultisampled2D, Storage1D, Storage1DArray, Storage2D, Storage2DArray, Storage3D, Depth2D, Depth2DArray, DepthCube, DepthCubeArray}
 
 abbrev pub dimensions : TextureType → TextureDimensions
 dimensions (Sampled1D _) = D1

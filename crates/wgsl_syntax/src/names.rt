@@ -27,5 +27,4 @@ pub fn texts_name_values()
     ensures texel_formats { IsNaming texel_text (table texel_text texel_formats) }
     ensures sampled_types { IsNaming sampled_text (table sampled_text sampled_types) }
     ensures samplers { IsNaming sampler_text (table sampler_text samplers) }
-{
-}
+{}

@@ -115,8 +115,7 @@ impl TextureType {
             | TextureType::Sampled1DArray(_)
             | TextureType::Storage1D(_, _)
             | TextureType::Storage1DArray(_, _) => TextureDimensions::D1,
-            TextureType::Sampled3D(_)
-            | TextureType::Storage3D(_, _) => TextureDimensions::D3,
+            TextureType::Sampled3D(_) | TextureType::Storage3D(_, _) => TextureDimensions::D3,
             _ => TextureDimensions::D2,
         }
     }
