@@ -1,5 +1,5 @@
 -- Conversion of the types of code.
-use Rattle.std.proofs.Common.{◌≡◌, ◌≢◌, ◌↔◌, ℕ, Bool, List, Option, Some, None, Box, Global, IsTrue, IfSome, option_map, refl, sym, ap, ◌∙◌, subst, inl, inr, arith}
+use Rattle.std.proofs.Common.{◌≡◌, ◌≢◌, ◌↔◌, ℕ, is_some, Bool, List, Option, Some, None, Box, Global, IsTrue, IfSome, option_map, refl, sym, ap, ◌∙◌, subst, inl, inr, arith}
 use Rattle.wgsl_syntax.specs.declared.scalar.Scalar.{Scalar}
 use Rattle.wgsl_syntax.specs.declared.address.AddressSpace.{AddressSpace}
 use Rattle.wgsl_syntax.specs.declared.address.AccessMode.{AccessMode}
@@ -9,7 +9,7 @@ use Rattle.wgsl_syntax.specs.declared.result_struct.ResultPrecision.{ResultPreci
 use Rattle.wgsl_syntax.specs.declared.result_struct.ResultStruct.{ResultStruct}
 use Rattle.wgsl_rules.specs.Types.{Layer, WgslType, scalar, struct, within, reference, Members}
 use Rattle.wgsl_rules.specs.ResultStructs.{result_struct}
-use Rattle.wgsl_rules.specs.Conversion.{Converts, ConvertsIn, Load, load}
+use Rattle.wgsl_rules.specs.Conversion.{Converts, ConvertsIn, ConvertsTo, Load, load}
 use Rattle.wgsl_rules.specs.Places.{Place, at_scalar, at_result, type_at}
 use Rattle.wgsl_rules.proofs.Walks.{type_at_once, HaveEqualLayers, converts_places, load_bare}
 use Rattle.wgsl_rules.proofs.Order.{load_readable}
@@ -142,3 +142,7 @@ load_reference r a s ty m t u e f may h =
 
 pub no_load : (t u : WgslType) → layer_of t ≡ None → ((s : AddressSpace) (e : WgslType) (m : AccessMode) → t ≡ reference s e m → ⊥) → ¬ Load t u
 no_load t u e n l = let k = load_bare (unlayered t u e) l in n k.0 u k.1 k.2
+
+pub ranked : (o : Option ℕ) (t u : WgslType) → IsRank o t u → IsTrue (is_some o) ↔ ConvertsTo t u
+ranked None t u h = (λ k. absurd (cc k), λ k. absurd (cc ((h k.0).1 k.1)))
+ranked (Some w) t u h = (λ k. (w, (h w).0 refl), λ k. refl)

@@ -4,3 +4,4 @@ pub mod Parts
 pub mod Equality
 pub mod Results
 pub mod Places
+pub mod Planned

@@ -1,7 +1,10 @@
 -- The parts of a type.
-use Rattle.std.specs.Prelude.{ℕ, suc, Option, Some, None}
+use Rattle.std.specs.Prelude.{◌≡◌, ℕ, suc, Option, Some, None}
 use Rattle.wgsl_syntax.specs.declared.scalar.Scalar.{Scalar}
-use Rattle.wgsl_rules.specs.Types.{Layer, array_of, vec_of, mat_of, WgslType, scalar, within}
+use Rattle.wgsl_rules.specs.Types.{Layer, array_of, vec_of, mat_of, WgslType, scalar, within, vec, mat}
+use Rattle.wgsl_core.specs.View.{view}
+use Rattle.wgsl_core.specs.declared.parts.Operand.{Operand}
+use Rattle.wgsl_core.specs.declared.parts.Operand.TheVariants as operands
 use Rattle.wgsl_core.specs.declared.parts.Layer.{Layer as PartsLayer}
 use Rattle.wgsl_core.specs.declared.parts.Layer.TheVariants as kinds
 
@@ -22,3 +25,16 @@ layer_of t = None
 abbrev pub layers : WgslType → ℕ
 layers (within l t) = suc (layers t)
 layers t = 0
+
+-- neither a scalar nor a vector nor a matrix
+abbrev pub IsNoOperand : WgslType → Type 0
+IsNoOperand (scalar s) = ⊥
+IsNoOperand (vec n t) = ⊥
+IsNoOperand (mat c r t) = ⊥
+IsNoOperand t = Unit {0}
+
+abbrev pub IsSeenAs : WgslType → Operand → Type 0
+IsSeenAs t (operands.Scalar s) = t ≡ scalar s
+IsSeenAs t (operands.Vector n e) = t ≡ vec n (view e.now)
+IsSeenAs t (operands.Matrix c r e) = t ≡ mat c r (view e.now)
+IsSeenAs t operands.Other = IsNoOperand t

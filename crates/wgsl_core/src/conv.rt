@@ -19,6 +19,29 @@ pub fn conversion_rank(a: &Type, b: &Type) -> Option<u32>
     rank_steps(a, b).0
 }
 
+/// The common type of two types (WGSL, "Overload Resolution"): `b` where `a` converts to it, else `a` where `b` converts
+/// to it, else None.
+pub fn convert_ty<'a>(a: &'a Type, b: &'a Type) -> Option<&'a Type>
+    ensures { IsCommon (view a.now) (view b.now) (option_map (λ t. view t.now) result) }
+{
+    if a.is_convertible_to(b) {
+        Some(b)
+    } else if b.is_convertible_to(a) {
+        Some(a)
+    } else {
+        None
+    }
+}
+
+impl Type {
+    /// Whether the type converts to `ty`.
+    pub fn is_convertible_to(&self, ty: &Type) -> bool
+        ensures { IsTrue result ↔ ConvertsTo (view self.now) (view ty.now) }
+    {
+        conversion_rank(self, ty).is_some()
+    }
+}
+
 /// The rank of the conversion from `a` to `b`, and the number of single conversions back from `b` that were taken to
 /// find it.
 #[tactic(auto)]

@@ -1,6 +1,7 @@
 //! The types of WGSL, and what needs only types.
 #![tactic(auto)]
 
+pub mod builtin;
 pub mod conv;
 pub mod copy;
 pub mod equal;

@@ -12,4 +12,5 @@ pub mod Choices
 pub mod Rowed
 pub mod Called
 pub mod Lawful
+pub mod SumRows
 pub mod Examples
