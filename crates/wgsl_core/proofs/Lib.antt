@@ -3,3 +3,4 @@ pub mod Equals
 pub mod Scalars
 pub mod Recognition
 pub mod Ranks
+pub mod Sums

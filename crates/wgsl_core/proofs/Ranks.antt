@@ -1,13 +1,12 @@
 -- Conversion of the types of code.
-use Rattle.std.proofs.Common.{◌≡◌, ◌≢◌, ◌↔◌, ℕ, is_some, Bool, List, Option, Some, None, Box, Global, IsTrue, IfSome, option_map, refl, sym, ap, ◌∙◌, subst, inl, inr, arith}
-use Rattle.wgsl_syntax.specs.declared.scalar.Scalar.{Scalar}
+use Rattle.std.proofs.Common.{◌≡◌, ◌≢◌, ◌↔◌, ℕ, is_some, Bool, List, Option, Some, None, Box, Global, IsTrue, IfSome, refl, sym, ap, ◌∙◌, subst}
 use Rattle.wgsl_syntax.specs.declared.address.AddressSpace.{AddressSpace}
 use Rattle.wgsl_syntax.specs.declared.address.AccessMode.{AccessMode}
 use Rattle.wgsl_syntax.specs.declared.result_struct.ResultFunction.{ResultFunction}
 use Rattle.wgsl_syntax.specs.declared.result_struct.ResultShape.{ResultShape}
 use Rattle.wgsl_syntax.specs.declared.result_struct.ResultPrecision.{ResultPrecision}
 use Rattle.wgsl_syntax.specs.declared.result_struct.ResultStruct.{ResultStruct}
-use Rattle.wgsl_rules.specs.Types.{Layer, WgslType, scalar, struct, within, reference, Members}
+use Rattle.wgsl_rules.specs.Types.{Layer, WgslType, struct, within, reference, Members}
 use Rattle.wgsl_rules.specs.ResultStructs.{result_struct}
 use Rattle.wgsl_rules.specs.Conversion.{Converts, ConvertsIn, ConvertsTo, Load, load}
 use Rattle.wgsl_rules.specs.Places.{Place, at_scalar, at_result, type_at}
@@ -23,7 +22,6 @@ use Rattle.wgsl_core.specs.declared.ty.Type.{«Type»}
 use Rattle.wgsl_core.specs.declared.ty.Type.TheVariants as v
 use Rattle.wgsl_core.specs.declared.ty.StructType.{StructType}
 use Rattle.wgsl_core.proofs.Recognition.{view-struct}
-use Rattle.wgsl_core.proofs.Scalars.{scalar_is}
 use Rattle.wgsl_core.proofs.Views.{view-Struct, view-Ref}
 
 -- The place of a type

@@ -1,6 +1,5 @@
 -- Structs of two members as what `frexp` and `modf` give.
-use Rattle.std.proofs.Common.{◌≡◌, ◌↔◌, ℕ, suc, ◌<◌, List, [], ◌∷◌, ◌++◌, length, get_or, Option, Some, None, refl, sym, ap, ◌∙◌, subst, append_assoc, arith, codes, string_bytes, rules}
-use Rattle.wgsl_syntax.specs.declared.scalar.Scalar.{Scalar}
+use Rattle.std.proofs.Common.{◌≡◌, ◌↔◌, ℕ, suc, List, [], ◌∷◌, length, get_or, Option, Some, None, refl, sym, ap, ◌∙◌, subst, append_assoc, arith, codes, string_bytes, rules}
 use Rattle.wgsl_syntax.specs.declared.result_struct.ResultFunction.{ResultFunction}
 use Rattle.wgsl_syntax.specs.declared.result_struct.ResultFunction.TheVariants.{Frexp, Modf}
 use Rattle.wgsl_syntax.specs.declared.result_struct.ResultShape.{ResultShape}
@@ -13,9 +12,9 @@ use Rattle.wgsl_rules.specs.Types.{WgslType, scalar, struct, vec, Members, no_me
 use Rattle.wgsl_rules.specs.ResultStructs.{shaped, float_of, result_struct, result_members}
 use Rattle.wgsl_rules.specs.Places.{Place, at_scalar, at_result}
 use Rattle.wgsl_rules.proofs.Walks.{type_at_once}
-use Rattle.wgsl_core.specs.View.{Member, Struct, view, struct_view, member_view, members_view}
+use Rattle.wgsl_core.specs.View.{Member, view, struct_view, member_view, members_view}
 use Rattle.wgsl_core.specs.Parts.{scalar_of}
-use Rattle.wgsl_core.specs.Results.{struct_type, result_type, plain, second_member, IsResult, precision_at, shape_in, function_at}
+use Rattle.wgsl_core.specs.Results.{struct_type, result_type, plain, second_member, IsResult, shape_in, function_at}
 use Rattle.wgsl_core.specs.declared.ty.Type.{the_lemmas}
 use Rattle.wgsl_core.specs.declared.ty.StructType.{StructType, out-StructType}
 use Rattle.wgsl_core.specs.declared.ty.StructMemberType.{StructMemberType, out-StructMemberType}

@@ -1,5 +1,5 @@
 -- What a call answers that can refuse, or want memory.
-use Rattle.std.specs.Prelude.{◌≡◌, ℕ, List, Result, Ok, Err, codes}
+use Rattle.std.specs.Prelude.{ℕ, List, Result, Ok, Err, codes}
 use Rattle.wgsl_rules.specs.Types.{WgslType}
 use Rattle.wgsl_rules.specs.Refusals.{Refusal, binary, message}
 use Rattle.wgsl_core.specs.View.{view}

@@ -1,5 +1,4 @@
-use Rattle.std.proofs.Common.{◌≡◌, ◌∙◌, sym, ap, Some, None, option_map}
-use Rattle.wgsl_core.specs.View.{view}
+use Rattle.std.proofs.Common.{◌∙◌, sym, ap, option_map}
 use Rattle.wgsl_core.proofs.Ranks.{same_layer_rank, same_layer_steps, other_layer_rank, no_layer_rank}
 use Rattle.wgsl_core.proofs.conv.+rank_steps.Goals as goal
 

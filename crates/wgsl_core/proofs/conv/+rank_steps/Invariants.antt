@@ -1,4 +1,3 @@
-use Rattle.std.proofs.Common.{ℕ}
 use Rattle.wgsl_core.specs.View.{view}
 use Rattle.wgsl_core.specs.Parts.{layers}
 use Rattle.wgsl_core.proofs.conv.+rank_steps.Given as goal

@@ -1,5 +1,4 @@
-use Rattle.std.proofs.Common.{◌≡◌, ◌∙◌, sym, subst, None}
-use Rattle.wgsl_rules.specs.Places.{at_scalar, at_result}
+use Rattle.std.proofs.Common.{◌∙◌, sym}
 use Rattle.wgsl_core.proofs.Ranks.{placed, struct_seen, no_place, no_result}
 use Rattle.wgsl_core.proofs.Scalars.{scalar_is}
 use Rattle.wgsl_core.proofs.Views.{not_struct}

@@ -1,4 +1,4 @@
-use Rattle.std.proofs.Common.{◌≡◌, ◌≢◌, ◌∙◌, sym, ap, true, option_map}
+use Rattle.std.proofs.Common.{◌≢◌, ◌∙◌, sym, ap, option_map}
 use Rattle.wgsl_rules.specs.Conversion.{Load}
 use Rattle.wgsl_core.specs.View.{view}
 use Rattle.wgsl_core.specs.Equality.{type_eq_decides}

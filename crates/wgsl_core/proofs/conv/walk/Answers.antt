@@ -1,5 +1,5 @@
-use Rattle.std.proofs.Common.{◌≡◌, ◌≢◌, ◌∙◌, ℕ, Some, None, sym, ap, subst, refl, option_map, arith}
-use Rattle.wgsl_rules.specs.Places.{Place, parent_of}
+use Rattle.std.proofs.Common.{◌≡◌, ◌≢◌, ◌∙◌, Some, None, sym, ap, subst, refl, option_map, arith}
+use Rattle.wgsl_rules.specs.Places.{parent_of}
 use Rattle.wgsl_rules.proofs.Walks.{Ancestor, itself, ancestor_up, ancestor_parent, ancestor_root, ancestor_short, ancestor_depth, converts_ancestor, converts_in_ancestor}
 use Rattle.wgsl_core.specs.Places.{place_view}
 use Rattle.wgsl_core.proofs.Ranks.{no_rank}

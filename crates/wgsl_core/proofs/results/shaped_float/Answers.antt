@@ -1,4 +1,4 @@
-use Rattle.std.proofs.Common.{◌≡◌, ◌∙◌, sym}
+use Rattle.std.proofs.Common.{◌∙◌, sym}
 use Rattle.wgsl_core.proofs.Recognition.{no_shape}
 use Rattle.wgsl_core.proofs.Views.{not_vec}
 use Rattle.wgsl_core.proofs.results.shaped_float.Goals as goal
