@@ -203,7 +203,7 @@ impl TextureType {
         )
     }
 
-    /// Whether it has layers.
+    /// Whether it has layers (WGSL, "Texture Types").
     pub fn is_arrayed(self) -> bool
         ensures { IsTrue result ↔ IsArrayed self }
     {
