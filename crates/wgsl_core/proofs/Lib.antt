@@ -1,4 +1,5 @@
 pub mod Views
+pub mod Listed
 pub mod Equals
 pub mod Scalars
 pub mod Recognition

@@ -1,4 +1,5 @@
 pub mod View
+pub mod Instances
 pub mod Outcome
 pub mod Parts
 pub mod Equality

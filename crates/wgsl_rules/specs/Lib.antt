@@ -1,6 +1,8 @@
 pub mod Types
 pub mod Kinds
 pub mod Spelling
+pub mod Literals
+pub mod Signatures
 pub mod ResultStructs
 pub mod Conversion
 pub mod Places
