@@ -18,3 +18,10 @@ without_template name arguments o e = rw e (simp (append-nil, append_assoc))
 
 pub with_template : (name arguments : List ℕ) (o : Option (List Parameter)) (ps : List Parameter) → o ≡ Some ps → name ++ (codes "<" ++ (listed parameter_text ps ++ (codes ">" ++ (codes "(" ++ (arguments ++ codes ")"))))) ≡ name ++ template_text o ++ codes "(" ++ arguments ++ codes ")"
 with_template name arguments o ps e = rw e (simp append_assoc)
+
+-- what is written piece by piece, with two or three values in it
+pub two_placed : (a x b y c : List ℕ) → a ++ (x ++ (b ++ (y ++ c))) ≡ a ++ x ++ b ++ y ++ c
+two_placed a x b y c = simp append_assoc
+
+pub three_placed : (a x b y c z d : List ℕ) → a ++ (x ++ (b ++ (y ++ (c ++ (z ++ d))))) ≡ a ++ x ++ b ++ y ++ c ++ z ++ d
+three_placed a x b y c z d = simp append_assoc

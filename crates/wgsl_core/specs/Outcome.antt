@@ -1,5 +1,5 @@
 -- What a call answers that can refuse, or want memory.
-use Rattle.std.specs.Prelude.{ℕ, List, Result, Ok, Err, codes, string_bytes}
+use Rattle.std.specs.Prelude.{◌≡◌, ℕ, List, Result, Ok, Err, codes, string_bytes}
 use Rattle.wgsl_rules.specs.Types.{WgslType}
 use Rattle.wgsl_rules.specs.Refusals.{Refusal, message, todo, not_scalar, not_constructible, sampled_type, unknown_type, unexpected_template, missing_template, write_ref_type, not_write, not_read, not_read_write, ptr_handle, ptr_vec_comp, conversion, conv_overflow, component, not_indexable, out_of_bounds, unary, binary, compwise_binary, add_overflow, sub_overflow, mul_overflow, div_by_zero, rem_zero_div, shl_overflow, shr_overflow, signature, builtin, template_args, param_count, param_type}
 use Rattle.wgsl_core.specs.View.{view}
@@ -55,6 +55,12 @@ abbrev pub AnswersBy : (Result WgslType Refusal → Type 0) → Result «Type» 
 AnswersBy P (Ok t) = P (Ok (view t))
 AnswersBy P (Err (fails.Error e)) = P (Err (refusal e))
 AnswersBy P (Err (fails.Memory e)) = Unit {0}
+
+-- A call gives what this answer gives, or refuses as it does. Want of memory stands for any answer.
+abbrev pub Gives : {A : Type 0} → Result A Refusal → Result A Fail → Type 0
+Gives answer (Ok a) = answer ≡ Ok a
+Gives answer (Err (fails.Error e)) = answer ≡ Err (refusal e)
+Gives answer (Err (fails.Memory e)) = Unit {0}
 
 -- memory isn't wanted
 abbrev pub IsAnswered : {A : Type 0} → Result A Fail → Type 0

@@ -1,4 +1,12 @@
 // Literals.
+ghost use Rattle.std.specs.Prelude.{◌≡◌, ◌↔◌, IsTrue};
+ghost use Rattle.wgsl_rules.specs.Types.{scalar};
+ghost use Rattle.wgsl_rules.specs.Literals.{literal_scalar};
+ghost use Rattle.wgsl_rules.specs.Conversion.{ConvertsTo};
+ghost use Rattle.wgsl_core.specs.View.{view};
+ghost use Rattle.wgsl_core.specs.Instances.{instance_view, literal_view};
+
+use crate::ty::Type;
 use std::fmt;
 use std::fmt::Write;
 
@@ -17,6 +25,33 @@ pub enum LiteralInstance {
     U32(u32),
     I64(i64),
     U64(u64),
+}
+
+impl LiteralInstance {
+    /// The scalar type of the literal.
+    pub fn scalar_type(&self) -> Type
+        ensures { view result ≡ scalar (literal_scalar (literal_view self.now)) }
+    {
+        match self {
+            LiteralInstance::Bool(_) => Type::Bool,
+            LiteralInstance::AbstractInt(_) => Type::AbstractInt,
+            LiteralInstance::I32(_) => Type::I32,
+            LiteralInstance::U32(_) => Type::U32,
+            LiteralInstance::I64(_) => Type::I64,
+            LiteralInstance::U64(_) => Type::U64,
+        }
+    }
+}
+
+impl Instance {
+    /// Whether the type of the value converts to `ty`.
+    pub fn is_convertible_to(&self, ty: &Type) -> bool
+        ensures { IsTrue result ↔ ConvertsTo (scalar (literal_scalar (instance_view self.now))) (view ty.now) }
+    {
+        match self {
+            Instance::Literal(literal) => literal.scalar_type().is_convertible_to(ty),
+        }
+    }
 }
 
 impl fmt::Display for Instance {

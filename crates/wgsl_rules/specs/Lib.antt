@@ -1,5 +1,6 @@
 pub mod Types
 pub mod Kinds
+pub mod Parts
 pub mod Spelling
 pub mod Literals
 pub mod Signatures
