@@ -1,5 +1,5 @@
 -- Types by what kind they are.
-use Rattle.std.proofs.Common.{◌≡◌, ◌↔◌, ℕ, Bool, false, IsTrue, Option, Some, None, IsSome, List, is_some, refl, sym, ap, subst, ◌∙◌}
+use Rattle.std.proofs.Common.{◌≡◌, ◌↔◌, ℕ, Bool, false, IsTrue, Option, Some, None, List, is_some, refl, sym, subst}
 use Rattle.wgsl_syntax.specs.declared.scalar.Scalar.{Scalar}
 use Rattle.wgsl_rules.specs.Types.{WgslType, scalar, struct, atomic, Members, array, vec, mat}
 use Rattle.wgsl_rules.specs.Kinds.{IsScalar, IsIntegerScalar, IsNumericScalar, IsArray, IsVector, IsMatrix, IsStruct, IsAtomic}
@@ -8,9 +8,9 @@ use Rattle.wgsl_core.specs.Parts.{scalar_of}
 use Rattle.wgsl_core.proofs.Equals.{never}
 use Rattle.wgsl_core.proofs.Scalars.{scalar_is}
 
-pub has_scalar : (t : WgslType) (b : Bool) → (IsTrue b ↔ IsSome (scalar_of t)) → IsTrue b ↔ IsScalar t
-has_scalar (scalar s) b h = h
-has_scalar t b h = h
+pub has_scalar : (t : WgslType) (b : Bool) → b ≡ is_some (scalar_of t) → IsTrue b ↔ IsScalar t
+has_scalar (scalar s) b e = (λ _. tt, λ _. e)
+has_scalar t b e = rw e (never (λ h. h))
 
 -- a test of the scalar that the type is
 pub by_scalar : (P : WgslType → Type 0) (t : WgslType) (s : Scalar) (b : Bool) → scalar_of t ≡ Some s → (IsTrue b ↔ P (scalar s)) → IsTrue b ↔ P t
