@@ -3,6 +3,8 @@ pub mod Listed
 pub mod Equals
 pub mod Scalars
 pub mod Forms
+pub mod Sames
+pub mod Refused
 pub mod Recognition
 pub mod Ranks
 pub mod Sums

@@ -4,7 +4,11 @@
 pub mod builtin;
 pub mod conv;
 pub mod copy;
+pub mod copy_error;
+pub mod copy_signature;
 pub mod equal;
+pub mod equal_error;
+pub mod equal_signature;
 pub mod error;
 pub mod inst;
 pub mod kinds;
