@@ -1,0 +1,4 @@
+pub mod Output
+pub mod Session
+pub mod Status
+pub mod Words

@@ -1,0 +1,84 @@
+// The words of a command, taken one after another.
+ghost use Rattle.std.specs.Prelude.{◌≡◌, ◌<◌, ◌≤◌, OnOk, length};
+
+use std::alloc::AllocError;
+
+/// Why words were not read.
+#[derive(Drop)]
+pub enum Unread {
+    /// A word is missing, left over or not one that may stand there.
+    Word,
+    Memory(AllocError),
+}
+
+impl From<AllocError> for Unread {
+    fn from(e: AllocError) -> Unread {
+        Unread::Memory(e)
+    }
+}
+
+/// The words of a command, and how many of them were taken.
+#[derive(Drop)]
+pub struct Words<'w, 't> {
+    all: &'w [&'t str],
+    taken: usize,
+    ghost within: { taken ≤ length all.now },
+}
+
+impl<'w, 't> Words<'w, 't> {
+    pub fn new(all: &'w [&'t str]) -> Words<'w, 't> {
+        Words { all, taken: 0 }
+    }
+
+    /// The next word.
+    pub fn next(&mut self) -> Result<&'t str, Unread>
+        ensures same { self.new.all.now ≡ self.old.all.now }
+        ensures forwards { self.old.taken ≤ self.new.taken }
+        ensures one { OnOk result (self.old.taken < self.new.taken) }
+    {
+        if self.taken == self.all.len() {
+            return Err(Unread::Word);
+        }
+        let word = self.all[self.taken];
+        self.taken += 1;
+        Ok(word)
+    }
+
+    /// A number of components, columns or rows.
+    pub fn next_small(&mut self) -> Result<u8, Unread>
+        ensures same { self.new.all.now ≡ self.old.all.now }
+        ensures forwards { self.old.taken ≤ self.new.taken }
+    {
+        u8::try_from(number(self.next()?)?).map_err(|_e| Unread::Word)
+    }
+
+    /// A number of elements, or `*` where it is not known.
+    pub fn next_count(&mut self) -> Result<Option<usize>, Unread>
+        ensures same { self.new.all.now ≡ self.old.all.now }
+        ensures forwards { self.old.taken ≤ self.new.taken }
+    {
+        let word = self.next()?;
+        if word == "*" {
+            return Ok(None);
+        }
+        let count = usize::try_from(number(word)?).map_err(|_e| Unread::Word)?;
+        Ok(Some(count))
+    }
+
+    /// Whether every word is taken.
+    pub fn end(&self) -> Result<(), Unread> {
+        if self.taken == self.all.len() {
+            Ok(())
+        } else {
+            Err(Unread::Word)
+        }
+    }
+}
+
+/// A number: decimal digits alone, with leading zeros or without.
+fn number(word: &str) -> Result<u64, Unread> {
+    if !word.bytes().all(|byte| byte.is_ascii_digit()) {
+        return Err(Unread::Word);
+    }
+    word.parse::<u64>().map_err(|_e| Unread::Word)
+}
