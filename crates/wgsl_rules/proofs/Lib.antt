@@ -13,3 +13,10 @@ pub mod Rowed
 pub mod Called
 pub mod Lawful
 pub mod Examples
+pub mod Placing
+pub mod OneSize
+pub mod LayoutSteps
+pub mod StructSizes
+pub mod StructAligns
+pub mod Offsets
+pub mod MatrixColumns
