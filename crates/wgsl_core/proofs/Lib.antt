@@ -1,3 +1,4 @@
 pub mod Views
 pub mod Equals
 pub mod Scalars
+pub mod Layouts

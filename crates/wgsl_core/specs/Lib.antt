@@ -3,3 +3,4 @@ pub mod Outcome
 pub mod Parts
 pub mod Equality
 pub mod Results
+pub mod Memory

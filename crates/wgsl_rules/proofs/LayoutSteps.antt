@@ -1,6 +1,8 @@
 -- One step of a layout: an option that is exactly what a relation says.
-use Rattle.std.proofs.Common.{◌≡◌, ◌↔◌, ℕ, ◌<◌, ◌≤◌, inl, inr, Option, Some, None, refl, arith}
+use Rattle.std.proofs.Common.{◌≡◌, ◌≢◌, ◌↔◌, ℕ, ◌<◌, ◌≤◌, ◌^◌, inl, inr, Option, Some, None, refl, sym, ap, subst, ◌∙◌, arith}
 use Rattle.std.specs.Int.{next_multiple_of}
+use Rattle.std.specs.Option.{SomeIff}
+use Rattle.std.proofs.lemmas.Option.{same_Some}
 use Rattle.wgsl_rules.specs.Types.{WgslType, struct, array}
 use Rattle.wgsl_rules.specs.Layout.{IsTimes, IsRoundedUp, IsStride, IsArraySize, IsVectorAlign, HasSize, HasLeastSize, IsExactly, LacksSize}
 use Rattle.wgsl_rules.proofs.Placing.{next_ge, next_dvd, next_least}
@@ -10,6 +12,45 @@ rounded_up s a pos = (pos, next_dvd s a pos, next_ge s a, λ m d le. next_least 
 
 pub one_rounded : (s a m n : ℕ) → IsRoundedUp s a m → IsRoundedUp s a n → m ≡ n
 one_rounded s a m n x y = let up : m ≤ n = x.3 n y.1 y.2 in let down : n ≤ m = y.3 m x.1 x.2 in omega arith
+
+-- The single operations
+
+pub next_stride : (s a : ℕ) (o p r : Option ℕ) → o ≡ Some s → p ≡ Some a → SomeIff r ((0 < a) × (next_multiple_of s a < 2 ^ 32)) (next_multiple_of s a)
+    → IsExactly r (IsStride (λ n. o ≡ Some n) (λ n. p ≡ Some n))
+next_stride s a o p None is_s is_a h n = (
+  λ e. absurd (cc),
+  λ x.
+      let size : s ≡ x.0 = same_Some s x.0 (sym is_s ∙ x.2) in
+      let align : a ≡ x.1 = same_Some a x.1 (sym is_a ∙ x.3) in
+      let up : IsRoundedUp s a n = subst (λ (d : ℕ). IsRoundedUp s d n) (sym align) (subst (λ (d : ℕ). IsRoundedUp d x.1 n) (sym size) x.4) in
+      let is : n ≡ next_multiple_of s a = one_rounded s a n (next_multiple_of s a) up (rounded_up s a up.0) in
+      absurd (h (up.0, subst (λ (y : ℕ). y < 2 ^ 32) is x.5)),
+)
+next_stride s a o p (Some m) is_s is_a h n = (
+  λ e. let same : next_multiple_of s a ≡ n = sym h.1 ∙ same_Some m n e in
+      (s, a, is_s, is_a, subst (λ (y : ℕ). IsRoundedUp s a y) same (rounded_up s a h.0.0), subst (λ (y : ℕ). y < 2 ^ 32) same h.0.1),
+  λ x.
+      let size : s ≡ x.0 = same_Some s x.0 (sym is_s ∙ x.2) in
+      let align : a ≡ x.1 = same_Some a x.1 (sym is_a ∙ x.3) in
+      let up : IsRoundedUp s a n = subst (λ (d : ℕ). IsRoundedUp s d n) (sym align) (subst (λ (d : ℕ). IsRoundedUp d x.1 n) (sym size) x.4) in
+      ap Some (h.1 ∙ sym (one_rounded s a n (next_multiple_of s a) up (rounded_up s a up.0))),
+)
+
+pub counted_size : (k c : ℕ) (o r : Option ℕ) (S : ℕ → Type 0) → o ≡ Some k → k < 2 ^ 32 → c ≡ k → IsExactly r (IsTimes c S) → IsExactly r (IsArraySize o S)
+counted_size k c None r S e fits same is n = absurd (cc)
+counted_size k c (Some j) r S e fits same is n =
+    let j_is : c ≡ j = same ∙ sym (same_Some j k e) in
+    let here = subst (λ (x : ℕ). IsExactly r (IsTimes x S)) j_is is in
+    (λ e'. (omega (arith, same_Some j k e), (here n).0 e'), λ h. (here n).1 h.1)
+
+pub other_align : (k c : ℕ) (t : WgslType) (r : Option ℕ) (S : ℕ → Type 0) → k ≢ 3 → c ≡ k → IsExactly r (IsTimes c S) → IsExactly r (IsVectorAlign k t S)
+other_align k c t r S not same is n =
+    let here = subst (λ (x : ℕ). IsExactly r (IsTimes x S)) same is in
+    (λ e. inr (not, (here n).0 e), λ h. (here n).1 (others h))
+  where
+    others : IsVectorAlign k t S n → IsTimes k S n
+    others (inl h) = absurd (not h.0)
+    others (inr h) = h.1
 
 -- What is said of an option's value holds of the number that the option is
 
