@@ -1,7 +1,7 @@
 -- Equality of types, part by part.
-use Rattle.std.proofs.Common.{◌≡◌, ◌↔◌, ℕ, suc, ◌+◌, ◌<◌, List, [], ◌∷◌, drop, length, get_or, IsTrue, false, refl, sym, ap, ◌∙◌, subst, arith, drop-cons, add-one}
-use Rattle.wgsl_rules.specs.Types.{WgslType, Members, no_members, member}
-use Rattle.wgsl_core.specs.View.{member_view, members_view}
+use Rattle.std.proofs.Common.{◌≡◌, ◌↔◌, ℕ, suc, List, [], ◌∷◌, length, IsTrue, false, refl, sym, ap, ◌∙◌}
+use Rattle.wgsl_rules.specs.Types.{Members, no_members, member}
+use Rattle.wgsl_core.specs.View.{members_view}
 use Rattle.wgsl_core.specs.declared.ty.StructMemberType.{StructMemberType}
 
 pub never : {P : Type 0} → (P → ⊥) → IsTrue false ↔ P

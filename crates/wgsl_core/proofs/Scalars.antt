@@ -1,5 +1,5 @@
 -- Parts of types.
-use Rattle.std.proofs.Common.{◌≡◌, ◌↔◌, Option, Some, None, refl, ap}
+use Rattle.std.proofs.Common.{◌≡◌, ◌↔◌, Some, ap}
 use Rattle.wgsl_syntax.specs.declared.scalar.Scalar.{Scalar}
 use Rattle.wgsl_rules.specs.Types.{WgslType, scalar}
 use Rattle.wgsl_core.specs.Parts.{scalar_of}

@@ -1,14 +1,13 @@
 -- Whether two types are equal, as a test; it is true exactly of equal types.
-use Rattle.std.specs.Prelude.{◌≡◌, ℕ, List, Bool, true, false}
+use Rattle.std.specs.Prelude.{◌≡◌, Bool, true, false}
 use Rattle.std.specs.Bool.{Decides}
 use Rattle.std.specs.Cmp.{decided, partial_equiv_from_equiv, on_equiv, IsEquivalence, IsPartialEquivalence}
 use Rattle.std.specs.Ordering.{on}
-use Rattle.std.proofs.Common.{refl, ap, ◌∙◌}
+use Rattle.std.proofs.Common.{refl, ap}
 use mathlib.Core.List.{List-discrete}
 use native.Mathlib.Decide.{ℕ_discrete}
-use Rattle.wgsl_rules.specs.Types.{WgslType, Members}
-use Rattle.wgsl_rules.proofs.Discrete.{both, by}
-use Rattle.wgsl_rules.proofs.Equality.{same_type, same_members, same_option}
+use Rattle.wgsl_rules.specs.Types.{WgslType}
+use Rattle.wgsl_rules.proofs.Equality.{both, by, same_type, same_members, same_option}
 use Rattle.wgsl_core.specs.View.{Member, Struct, view, member_view, struct_view}
 
 same_struct : (a b : Struct) → Dec (a ≡ b)

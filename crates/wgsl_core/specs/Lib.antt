@@ -4,3 +4,5 @@ pub mod Parts
 pub mod Equality
 pub mod Results
 pub mod Memory
+pub mod Places
+pub mod Planned

@@ -1,7 +1,6 @@
 -- What a call answers that can refuse, or want memory.
-use Rattle.std.specs.Prelude.{◌≡◌, ℕ, List, Result, Ok, Err, codes}
-use Rattle.std.specs.declared.alloc.AllocError.{AllocError}
-use Rattle.wgsl_rules.specs.Types.{WgslType, scalar}
+use Rattle.std.specs.Prelude.{ℕ, List, Result, Ok, Err, codes}
+use Rattle.wgsl_rules.specs.Types.{WgslType}
 use Rattle.wgsl_rules.specs.Refusals.{Refusal, binary, message}
 use Rattle.wgsl_core.specs.View.{view}
 use Rattle.wgsl_core.specs.declared.ty.Type.{«Type»}
@@ -18,8 +17,14 @@ abbrev pub fail_text : Fail → List ℕ
 fail_text (fails.Error e) = message (refusal e)
 fail_text (fails.Memory e) = codes "out of memory"
 
--- The type t, or want of memory: never the latter where t is a scalar, which takes none.
-abbrev pub GivesType : WgslType → Result «Type» AllocError → Type 0
-GivesType t (Ok u) = view u ≡ t
-GivesType (scalar s) (Err e) = ⊥
-GivesType t (Err e) = Unit {0}
+-- A call answers by P: the type that it gives or the refusal is such an answer. Want of memory stands for any.
+abbrev pub AnswersBy : (Result WgslType Refusal → Type 0) → Result «Type» Fail → Type 0
+AnswersBy P (Ok t) = P (Ok (view t))
+AnswersBy P (Err (fails.Error e)) = P (Err (refusal e))
+AnswersBy P (Err (fails.Memory e)) = Unit {0}
+
+-- memory isn't wanted
+abbrev pub IsAnswered : {A : Type 0} → Result A Fail → Type 0
+IsAnswered (Ok a) = Unit {0}
+IsAnswered (Err (fails.Error e)) = Unit {0}
+IsAnswered (Err (fails.Memory e)) = ⊥

@@ -1,5 +1,5 @@
 -- Structs as what `frexp` and `modf` give.
-use Rattle.std.specs.Prelude.{ℕ, List, ◌==◌, Option, Some, None, codes, if◌then◌else◌, option_and_then, option_map}
+use Rattle.std.specs.Prelude.{◌≡◌, ℕ, List, ◌==◌, Option, Some, None, codes, if◌then◌else◌, option_and_then, option_map}
 use Rattle.std.specs.Str.{bytes_eq}
 use Rattle.wgsl_syntax.specs.declared.scalar.Scalar.{Scalar}
 use Rattle.wgsl_syntax.specs.declared.scalar.Scalar.TheVariants.{AbstractFloat, F32, F16}
@@ -10,9 +10,10 @@ use Rattle.wgsl_syntax.specs.declared.result_struct.ResultShape.TheVariants as s
 use Rattle.wgsl_syntax.specs.declared.result_struct.ResultPrecision.{ResultPrecision}
 use Rattle.wgsl_syntax.specs.declared.result_struct.ResultPrecision.TheVariants as precision
 use Rattle.wgsl_syntax.specs.declared.result_struct.ResultStruct.{ResultStruct}
-use Rattle.wgsl_rules.specs.Types.{WgslType, scalar, struct, vec, Members, no_members, member}
+use Rattle.wgsl_syntax.specs.ResultStruct.{result_name}
+use Rattle.wgsl_rules.specs.Types.{WgslType, scalar, struct, vec}
 use Rattle.wgsl_rules.specs.ResultStructs.{shaped, float_of, exponent_of, result_struct}
-use Rattle.wgsl_core.specs.View.{Member, Struct, members_of}
+use Rattle.wgsl_core.specs.View.{Member, Struct}
 
 abbrev pub struct_type : Struct → WgslType
 struct_type s = struct s.name s.members
@@ -24,13 +25,15 @@ result_type r = result_struct r.function r.shape r.precision
 abbrev pub plain : List ℕ → WgslType → Member
 plain name t = record { name = name; ty = t; size = None; align = None }
 
-abbrev pub two_members : Member → Member → Members
-two_members a b = member a.name a.ty a.size a.align (member b.name b.ty b.size b.align no_members)
-
 -- the second member of a result struct
 abbrev pub second_member : ResultFunction → ResultShape → ResultPrecision → Member
 second_member Frexp s p = plain (codes "exp") (shaped s (scalar (exponent_of p)))
 second_member Modf s p = plain (codes "whole") (shaped s (scalar (float_of p)))
+
+-- the name and the two members are those of the result struct
+abbrev pub IsResult : List ℕ → Member → Member → ResultStruct → Type 0
+IsResult name first second r =
+    (name ≡ result_name r) × (first ≡ plain (codes "fract") (shaped r.shape (scalar (float_of r.precision)))) × (second ≡ second_member r.function r.shape r.precision)
 
 -- what the first member's type and the second member's name tell
 

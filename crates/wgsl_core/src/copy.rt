@@ -1,5 +1,6 @@
 // Copies of types.
 ghost use Rattle.std.specs.Prelude.{◌≡◌, IfOk, IsOk};
+ghost use Rattle.wgsl_rules.specs.Kinds.{IsFlat};
 ghost use Rattle.wgsl_core.specs.View.{view, struct_view, member_view, members_view};
 
 use crate::ty::{StructMemberType, StructType, Type};
@@ -10,6 +11,7 @@ impl Type {
     #[cycle(copy)]
     pub fn clone(&self, alloc: Global) -> Result<Type, AllocError>
         ensures same { IfOk result (λ t. view t ≡ view self.now) }
+        ensures takes_no_memory { IsFlat (view self.now) → IsOk result }
     {
         match self {
             Type::Bool => Ok(Type::Bool),

@@ -1,6 +1,8 @@
 //! The types of WGSL, and what needs only types.
 #![tactic(auto)]
 
+pub mod builtin;
+pub mod conv;
 pub mod copy;
 pub mod equal;
 pub mod error;

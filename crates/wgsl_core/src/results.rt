@@ -1,10 +1,10 @@
 // The structs that `frexp` and `modf` give, recognised field by field.
 ghost use Rattle.std.specs.Prelude.{◌≡◌, ◌↔◌, IsTrue, Option, Some};
 ghost use Rattle.wgsl_syntax.specs.declared.result_struct.ResultStruct.{ResultStruct as ResultName};
-ghost use Rattle.wgsl_rules.specs.Types.{scalar, struct, vec};
+ghost use Rattle.wgsl_rules.specs.Types.{scalar, vec};
 ghost use Rattle.wgsl_rules.specs.ResultStructs.{shaped, float_of, exponent_of};
 ghost use Rattle.wgsl_core.specs.View.{view, struct_view, member_view};
-ghost use Rattle.wgsl_core.specs.Results.{plain, two_members, struct_type, result_type, precision_at, shape_at, shape_in, function_at, second_member};
+ghost use Rattle.wgsl_core.specs.Results.{plain, IsResult, struct_type, result_type, precision_at, shape_at, shape_in, function_at, second_member};
 
 use crate::ty::{StructMemberType, StructType, Type};
 use wgsl_syntax::result_struct::{ResultFunction, ResultPrecision, ResultShape, ResultStruct};
@@ -29,9 +29,12 @@ impl StructType {
 fn shaped_float(ty: &Type) -> Option<(ResultShape, ResultPrecision)>
     ensures { result ≡ shape_in (view ty.now) }
 {
-    match ty {
-        Type::Vec(n, element) => Some((shape_of(*n)?, precision_of(element.scalar()?)?)),
-        _ => Some((ResultShape::Scalar, precision_of(ty.scalar()?)?)),
+    match ty.scalar() {
+        Some(scalar) => Some((ResultShape::Scalar, precision_of(scalar)?)),
+        None => match ty {
+            Type::Vec(n, element) => Some((shape_of(*n)?, precision_of(element.scalar()?)?)),
+            _ => None,
+        },
     }
 }
 
@@ -74,7 +77,7 @@ fn function_named(second: &str) -> Option<ResultFunction>
 }
 
 fn is_result(name: &str, first: &StructMemberType, second: &StructMemberType, result_struct: ResultStruct) -> bool
-    ensures { IsTrue result ↔ (struct name.now (two_members (member_view first.now) (member_view second.now)) ≡ result_type result_struct) }
+    ensures { IsTrue result ↔ IsResult name.now (member_view first.now) (member_view second.now) result_struct }
 {
     name == result_struct.name()
         && is_plain(first, "fract", result_struct.shape, float_in(result_struct.precision))

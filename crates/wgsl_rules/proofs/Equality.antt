@@ -6,13 +6,13 @@ use Rattle.wgsl_rules.specs.Types.{Layer, array_of, vec_of, mat_of, WgslType, sc
 use Rattle.wgsl_syntax.proofs.Discrete.{same_scalar, same_space, same_access, same_flag, same_sampler, same_texture}
 
 -- of two facts both hold, or they don't
-both : {A B : Type 0} → Dec A → Dec B → Dec (A × B)
+pub both : {A B : Type 0} → Dec A → Dec B → Dec (A × B)
 both (yes a) (yes b) = yes (a, b)
 both (no n) b = no (λ p. n p.0)
 both (yes a) (no n) = no (λ p. n p.1)
 
 -- what decides a fact decides one that says the same
-by : {A B : Type 0} → (A → B) → (B → A) → Dec A → Dec B
+pub by : {A B : Type 0} → (A → B) → (B → A) → Dec A → Dec B
 by f g (yes a) = yes (f a)
 by f g (no n) = no (λ b. n (g b))
 

@@ -10,7 +10,8 @@ use Rattle.wgsl_syntax.specs.declared.result_struct.ResultPrecision.{ResultPreci
 use Rattle.wgsl_syntax.specs.declared.result_struct.ResultPrecision.TheVariants as precision
 use Rattle.wgsl_rules.specs.Types.{Layer, WgslType, scalar, within, reference, struct, Members}
 use Rattle.wgsl_rules.specs.ResultStructs.{result_struct}
-use Rattle.wgsl_rules.specs.Conversion.{BaseStep, int_to_float, int_to_i32, int_to_u32, float_to_f32, float_to_f16, result_to_f32, result_to_f16, Step, base, inside, IsReadable, Load, load, load_inside, Converts}
+use Rattle.wgsl_syntax.specs.Address.{MayRead}
+use Rattle.wgsl_rules.specs.Conversion.{BaseStep, int_to_float, int_to_i32, int_to_u32, float_to_f32, float_to_f16, result_to_f32, result_to_f16, Step, base, inside, Load, load, load_inside, Converts}
 use Rattle.wgsl_rules.proofs.Steps.{depth, depth-result_struct, parent, scalar_at, step_parent}
 use Rattle.wgsl_rules.proofs.Order.{Above, here, further, above_inside, above_from_within, above_along, along_above, value_converts, above_target, converts_once, dec_converts}
 
@@ -94,17 +95,17 @@ above_root here h = refl
 above_root (further a s) h = absurd (step_no_root s (subst IsRoot (above_root a h) h))
 
 pub converts_reference : (s : AddressSpace) (t : WgslType) (m : AccessMode) (u : WgslType) (w : ℕ) →
-    Converts (reference s t m) u w ↔ (w ≡ 0) × ((reference s t m ≡ u) ⊎ IsReadable m × (t ≡ u))
+    Converts (reference s t m) u w ↔ (w ≡ 0) × ((reference s t m ≡ u) ⊎ MayRead m × (t ≡ u))
 converts_reference s t m u w = (to, back)
   where
-    loaded : {u : WgslType} → Load (reference s t m) u → IsReadable m × (t ≡ u)
+    loaded : {u : WgslType} → Load (reference s t m) u → MayRead m × (t ≡ u)
     loaded (load s t m h) = (h, refl)
 
-    to : Converts (reference s t m) u w → (w ≡ 0) × ((reference s t m ≡ u) ⊎ IsReadable m × (t ≡ u))
+    to : Converts (reference s t m) u w → (w ≡ 0) × ((reference s t m ≡ u) ⊎ MayRead m × (t ≡ u))
     to (inl a) = let k = along_above a in let e = above_root k.0 tt in (omega (arith, k.1, ap depth e), inl e)
     to (inr h) = (h.1, inr (loaded h.0))
 
-    back : (w ≡ 0) × ((reference s t m ≡ u) ⊎ IsReadable m × (t ≡ u)) → Converts (reference s t m) u w
+    back : (w ≡ 0) × ((reference s t m ≡ u) ⊎ MayRead m × (t ≡ u)) → Converts (reference s t m) u w
     back h = elim h.1 [
       | inl e ↦ subst (λ w. Converts (reference s t m) u w) (sym h.0) (subst (λ u. Converts (reference s t m) u 0) e (converts_same (reference s t m)))
       | inr r ↦ inr (subst (λ u. Load (reference s t m) u) r.1 (load s t m r.0), h.0)

@@ -39,10 +39,10 @@ counts_differ t u w h =
     omega (arith, n)
 
 loaded : Converts (reference Private (scalar I32) ReadWrite) (scalar I32) 0
-loaded = inr (load Private (scalar I32) ReadWrite tt, refl)
+loaded = inr (load Private (scalar I32) ReadWrite (inr refl), refl)
 
 written : (w : ℕ) → ¬ Converts (reference Private (scalar I32) Write) (scalar I32) w
-written w h = elim ((converts_reference Private (scalar I32) Write (scalar I32) w).0 h).1 [ inl e ↦ cc e | inr p ↦ p.0 ]
+written w h = elim ((converts_reference Private (scalar I32) Write (scalar I32) w).0 h).1 [ inl e ↦ cc e | inr p ↦ elim p.0 [ inl q ↦ absurd (cc q) | inr q ↦ absurd (cc q) ] ]
 
 load_no_step : (w : ℕ) → ¬ Converts (reference Private (scalar AbstractInt) Read) (scalar I32) w
 load_no_step w h = elim ((converts_reference Private (scalar AbstractInt) Read (scalar I32) w).0 h).1 [
@@ -51,7 +51,7 @@ load_no_step w h = elim ((converts_reference Private (scalar AbstractInt) Read (
 ]
 
 array_loaded : Converts (array (Some 2) (reference Private (scalar I32) Read)) (array (Some 2) (scalar I32)) 0
-array_loaded = inr (load_inside (array_of (Some 2)) (load Private (scalar I32) Read tt), refl)
+array_loaded = inr (load_inside (array_of (Some 2)) (load Private (scalar I32) Read (inl refl)), refl)
 
 frexp_single : Converts (result_struct Frexp shape.Scalar precision.Abstract) (result_struct Frexp shape.Scalar precision.F32) 1
 frexp_single = (above_converts_at (further here (base (result_to_f32 Frexp shape.Scalar))))

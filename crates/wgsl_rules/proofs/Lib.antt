@@ -12,6 +12,7 @@ pub mod Choices
 pub mod Rowed
 pub mod Called
 pub mod Lawful
+pub mod SumRows
 pub mod Examples
 pub mod Placing
 pub mod OneSize

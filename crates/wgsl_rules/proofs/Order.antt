@@ -4,7 +4,8 @@ use Rattle.wgsl_syntax.specs.declared.address.AddressSpace.{AddressSpace}
 use Rattle.wgsl_syntax.specs.declared.address.AccessMode.{AccessMode}
 use Rattle.wgsl_syntax.specs.declared.address.AccessMode.TheVariants.{Read, Write, ReadWrite, Atomic}
 use Rattle.wgsl_rules.specs.Types.{Layer, WgslType, within, reference}
-use Rattle.wgsl_rules.specs.Conversion.{Step, inside, IsValueType, Leg, IsPath, path_weight, IsReadable, Load, load, load_inside, Path, Converts, ConvertsTo}
+use Rattle.wgsl_syntax.specs.Address.{MayRead}
+use Rattle.wgsl_rules.specs.Conversion.{Step, inside, IsValueType, Leg, IsPath, path_weight, Load, load, load_inside, Path, Converts, ConvertsTo}
 use Rattle.wgsl_rules.proofs.Equality.{same_type, same_layer}
 use Rattle.wgsl_rules.proofs.Steps.{depth, height, height_small, step_height, target, step_depth, step_positive, step_parent, step_target, step_family, step_values, step_to_within, step_from_within, IsChild, child}
 
@@ -179,13 +180,13 @@ pub load_above : {t u v : WgslType} → Load t v → Above t u → t ≡ u
 load_above l here = refl
 load_above l (further a s) = absurd (load_no_value l ((above_values a).1 (step_values s).0))
 
-dec_readable : (m : AccessMode) → Dec (IsReadable m)
-dec_readable Read = yes tt
-dec_readable ReadWrite = yes tt
-dec_readable Write = no (λ h. h)
-dec_readable Atomic = no (λ h. h)
+dec_readable : (m : AccessMode) → Dec (MayRead m)
+dec_readable Read = yes (inl refl)
+dec_readable ReadWrite = yes (inr refl)
+dec_readable Write = no (λ h. elim h [ inl e ↦ absurd (cc e) | inr e ↦ absurd (cc e) ])
+dec_readable Atomic = no (λ h. elim h [ inl e ↦ absurd (cc e) | inr e ↦ absurd (cc e) ])
 
-pub load_readable : {s : AddressSpace} {t u : WgslType} {m : AccessMode} → Load (reference s t m) u → IsReadable m × (t ≡ u)
+pub load_readable : {s : AddressSpace} {t u : WgslType} {m : AccessMode} → Load (reference s t m) u → MayRead m × (t ≡ u)
 load_readable (load s t m h) = (h, refl)
 
 pub load_within : {l k : Layer} {t u : WgslType} → Load (within l t) (within k u) → (l ≡ k) × Load t u

@@ -9,7 +9,8 @@ use Rattle.wgsl_syntax.specs.declared.result_struct.ResultShape.TheVariants as s
 use Rattle.wgsl_syntax.specs.declared.result_struct.ResultPrecision.{ResultPrecision}
 use Rattle.wgsl_syntax.specs.declared.result_struct.ResultPrecision.TheVariants as precision
 use Rattle.wgsl_rules.specs.Types.{Layer, vec_of, WgslType, scalar, within, reference, struct, Members, no_members, member}
-use Rattle.wgsl_rules.specs.ResultStructs.{float_of, shaped, function_text, shape_text, precision_text, result_members, result_struct}
+use Rattle.wgsl_rules.specs.ResultStructs.{float_of, shaped, result_members, result_struct}
+use Rattle.wgsl_syntax.specs.ResultStruct.{function_text, shape_text, precision_text}
 use Rattle.wgsl_rules.specs.Conversion.{BaseStep, int_to_float, int_to_i32, int_to_u32, float_to_f32, float_to_f16, result_to_f32, result_to_f16, Step, base, inside, IsValueType}
 use Rattle.wgsl_rules.proofs.Equality.{same_type}
 

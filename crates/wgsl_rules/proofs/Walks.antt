@@ -10,7 +10,8 @@ use Rattle.wgsl_syntax.specs.declared.result_struct.ResultPrecision.{ResultPreci
 use Rattle.wgsl_syntax.specs.declared.result_struct.ResultPrecision.TheVariants as precision
 use Rattle.wgsl_rules.specs.Types.{WgslType, scalar, within, reference}
 use Rattle.wgsl_rules.specs.ResultStructs.{float_of, result_struct}
-use Rattle.wgsl_rules.specs.Conversion.{BaseStep, int_to_float, int_to_i32, int_to_u32, float_to_f32, float_to_f16, result_to_f32, result_to_f16, Step, base, inside, Path, PathOf, IsReadable, Load, load, load_inside, Converts, ConvertsIn}
+use Rattle.wgsl_syntax.specs.Address.{MayRead}
+use Rattle.wgsl_rules.specs.Conversion.{BaseStep, int_to_float, int_to_i32, int_to_u32, float_to_f32, float_to_f16, result_to_f32, result_to_f16, Step, base, inside, Path, PathOf, Load, load, load_inside, Converts, ConvertsIn}
 use Rattle.wgsl_rules.specs.Places.{Place, at_scalar, at_result, type_at, parent_of, depth_of}
 use Rattle.wgsl_rules.proofs.Steps.{float_depth, depth, depth-result_struct, height, height_small, step_height, function_of, function_of-result_struct, shape_of, shape_of-result_struct, precision_at, IsLeaf, result_leaf}
 use Rattle.wgsl_rules.proofs.Order.{Above, here, further, above_to_within, along_above}
@@ -272,7 +273,7 @@ pub converts_in_places : (t u : WgslType) (w n : ℕ) → ¬ HaveEqualLayers t u
 converts_in_places t u w n e d m h = converts_places t u w e d m (counted_converts h)
 
 -- where there is no equal layer left, a load is one of a reference
-pub load_bare : {t u : WgslType} → ¬ HaveEqualLayers t u → Load t u → (s : AddressSpace) × (m : AccessMode) × (t ≡ reference s u m) × IsReadable m
+pub load_bare : {t u : WgslType} → ¬ HaveEqualLayers t u → Load t u → (s : AddressSpace) × (m : AccessMode) × (t ≡ reference s u m) × MayRead m
 load_bare n (load s t m h) = (s, m, refl, h)
 load_bare n (load_inside l h) = absurd (n refl)
 

@@ -3,7 +3,7 @@ use Rattle.std.specs.Prelude.{ℕ, List, [], ◌∷◌, ◌≡◌, ◌+◌, ◌�
 use Rattle.wgsl_syntax.specs.declared.scalar.Scalar.TheVariants.{AbstractInt, AbstractFloat, I32, U32, F32, F16}
 use Rattle.wgsl_syntax.specs.declared.address.AddressSpace.{AddressSpace}
 use Rattle.wgsl_syntax.specs.declared.address.AccessMode.{AccessMode}
-use Rattle.wgsl_syntax.specs.declared.address.AccessMode.TheVariants.{Read, Write, ReadWrite, Atomic}
+use Rattle.wgsl_syntax.specs.Address.{MayRead}
 use Rattle.wgsl_syntax.specs.declared.result_struct.ResultFunction.{ResultFunction}
 use Rattle.wgsl_syntax.specs.declared.result_struct.ResultShape.{ResultShape}
 use Rattle.wgsl_syntax.specs.declared.result_struct.ResultPrecision.TheVariants as precision
@@ -60,16 +60,9 @@ pub record PathOf (t u : WgslType) (w n : ℕ) : Type 0 where
   pub path : Path t u w
   pub steps : length path.legs ≡ n
 
--- What can be read by a load: no write-only memory, and no atomic.
-abbrev pub IsReadable : AccessMode → Type 0
-IsReadable Read = Unit {0}
-IsReadable ReadWrite = Unit {0}
-IsReadable Write = ⊥
-IsReadable Atomic = ⊥
-
 -- A readable reference loads as what it refers to, also inside equal arrays, vectors and matrices.
 pub data Load : WgslType → WgslType → Type 0 where
-  load : (s : AddressSpace) (t : WgslType) (m : AccessMode) → IsReadable m → Load (reference s t m) t
+  load : (s : AddressSpace) (t : WgslType) (m : AccessMode) → MayRead m → Load (reference s t m) t
   load_inside : {t u : WgslType} (l : Layer) → Load t u → Load (within l t) (within l u)
 
 -- t converts to u with rank w: along a path of that weight, or by a load, which joins no step.

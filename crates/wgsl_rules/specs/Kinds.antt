@@ -1,7 +1,7 @@
 -- Which scalars are integers or numbers, and which types are made of them (WGSL, "Scalar Types" and "Vector Types").
 use Rattle.wgsl_syntax.specs.declared.scalar.Scalar.{Scalar}
 use Rattle.wgsl_syntax.specs.declared.scalar.Scalar.TheVariants.{Bool, AbstractInt, I32, U32, I64, U64}
-use Rattle.wgsl_rules.specs.Types.{vec_of, WgslType, scalar, within}
+use Rattle.wgsl_rules.specs.Types.{vec_of, WgslType, scalar, within, texture, sampler, ray_query, acceleration_structure}
 
 abbrev pub IsInteger : Scalar → Type 0
 IsInteger AbstractInt = Unit {0}
@@ -33,3 +33,18 @@ abbrev pub IsScalarOrVector : WgslType → Type 0
 IsScalarOrVector (scalar s) = Unit {0}
 IsScalarOrVector (within (vec_of n) t) = Unit {0}
 IsScalarOrVector t = ⊥
+
+-- One of the scalars.
+abbrev pub IsScalar : WgslType → Type 0
+IsScalar (scalar s) = Unit {0}
+IsScalar t = ⊥
+
+-- A type that no other type is part of, and that has no name: a scalar, a texture, a sampler, a ray query or an
+-- acceleration structure.
+abbrev pub IsFlat : WgslType → Type 0
+IsFlat (scalar s) = Unit {0}
+IsFlat (texture t) = Unit {0}
+IsFlat (sampler s) = Unit {0}
+IsFlat (ray_query f) = Unit {0}
+IsFlat (acceleration_structure f) = Unit {0}
+IsFlat t = ⊥

@@ -1,5 +1,5 @@
 -- The structs that `frexp` and `modf` give (WGSL, "frexp" and "modf").
-use Rattle.std.specs.Prelude.{ℕ, List, [], ◌++◌, None, codes}
+use Rattle.std.specs.Prelude.{ℕ, List, ◌++◌, None, codes}
 use Rattle.wgsl_syntax.specs.declared.scalar.Scalar.{Scalar}
 use Rattle.wgsl_syntax.specs.declared.scalar.Scalar.TheVariants.{AbstractInt, AbstractFloat, I32, F32, F16}
 use Rattle.wgsl_syntax.specs.declared.result_struct.ResultFunction.{ResultFunction}
@@ -8,24 +8,8 @@ use Rattle.wgsl_syntax.specs.declared.result_struct.ResultShape.{ResultShape}
 use Rattle.wgsl_syntax.specs.declared.result_struct.ResultShape.TheVariants as shape
 use Rattle.wgsl_syntax.specs.declared.result_struct.ResultPrecision.{ResultPrecision}
 use Rattle.wgsl_syntax.specs.declared.result_struct.ResultPrecision.TheVariants as precision
+use Rattle.wgsl_syntax.specs.ResultStruct.{function_text, shape_text, precision_text}
 use Rattle.wgsl_rules.specs.Types.{WgslType, scalar, struct, vec, Members, no_members, member}
-
--- The text of each part of a result struct's name.
-
-abbrev pub function_text : ResultFunction → List ℕ
-function_text Frexp = codes "__frexp_result_"
-function_text Modf = codes "__modf_result_"
-
-abbrev pub shape_text : ResultShape → List ℕ
-shape_text shape.Scalar = []
-shape_text shape.Vec2 = codes "vec2_"
-shape_text shape.Vec3 = codes "vec3_"
-shape_text shape.Vec4 = codes "vec4_"
-
-abbrev pub precision_text : ResultPrecision → List ℕ
-precision_text precision.Abstract = codes "abstract"
-precision_text precision.F32 = codes "f32"
-precision_text precision.F16 = codes "f16"
 
 -- A shape of a type: the type itself, or a vector of it.
 abbrev pub shaped : ResultShape → WgslType → WgslType

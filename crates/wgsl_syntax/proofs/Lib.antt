@@ -1,2 +1,3 @@
 pub mod Discrete
+pub mod Naming
 pub mod Same

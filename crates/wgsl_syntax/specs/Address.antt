@@ -1,9 +1,16 @@
--- The words for address spaces and access modes (WGSL, "Address Spaces" and "Memory Access Mode").
-use Rattle.std.specs.Prelude.{ℕ, List, codes}
+-- Address spaces and access modes: their words, and how memory may be accessed (WGSL, "Address Spaces" and "Memory Access Mode").
+use Rattle.std.specs.Prelude.{◌≡◌, ◌⊎◌, ℕ, List, [], ◌∷◌, codes}
 use Rattle.wgsl_syntax.specs.declared.address.AddressSpace.{AddressSpace}
 use Rattle.wgsl_syntax.specs.declared.address.AddressSpace.TheVariants.{Function, Private, Workgroup, Uniform, Storage, Handle, PushConstant}
 use Rattle.wgsl_syntax.specs.declared.address.AccessMode.{AccessMode}
 use Rattle.wgsl_syntax.specs.declared.address.AccessMode.TheVariants.{Read, Write, ReadWrite, Atomic}
+
+abbrev pub spaces : List AddressSpace
+spaces = Function ∷ Private ∷ Workgroup ∷ Uniform ∷ Storage ∷ Handle ∷ PushConstant ∷ []
+
+-- those that a program can write
+abbrev pub written_spaces : List AddressSpace
+written_spaces = Function ∷ Private ∷ Workgroup ∷ Uniform ∷ Storage ∷ PushConstant ∷ []
 
 abbrev pub space_text : AddressSpace → List ℕ
 space_text Function = codes "function"
@@ -14,8 +21,24 @@ space_text Storage = codes "storage"
 space_text Handle = codes "handle"
 space_text PushConstant = codes "push_constant"
 
+abbrev pub access_modes : List AccessMode
+access_modes = Read ∷ Write ∷ ReadWrite ∷ Atomic ∷ []
+
 abbrev pub access_text : AccessMode → List ℕ
 access_text Read = codes "read"
 access_text Write = codes "write"
 access_text ReadWrite = codes "read_write"
 access_text Atomic = codes "atomic"
+
+-- how a variable is accessed that names no access mode
+abbrev pub default_access : AddressSpace → AccessMode
+default_access Function = ReadWrite
+default_access Private = ReadWrite
+default_access Workgroup = ReadWrite
+default_access _ = Read
+
+abbrev pub MayRead : AccessMode → Type 0
+MayRead access = (access ≡ Read) ⊎ (access ≡ ReadWrite)
+
+abbrev pub MayWrite : AccessMode → Type 0
+MayWrite access = (access ≡ Write) ⊎ (access ≡ ReadWrite)

@@ -1,5 +1,5 @@
 -- The words that attributes and directives take (WGSL, "Attributes", "Built-in Values", "Diagnostics").
-use Rattle.std.specs.Prelude.{ℕ, List, codes}
+use Rattle.std.specs.Prelude.{ℕ, List, [], ◌∷◌, codes}
 use Rattle.wgsl_syntax.specs.declared.attribute.BuiltinValue.{BuiltinValue}
 use Rattle.wgsl_syntax.specs.declared.attribute.BuiltinValue.TheVariants.{VertexIndex, InstanceIndex, ClipDistances, Position, FrontFacing, FragDepth, SampleIndex, SampleMask, LocalInvocationId, LocalInvocationIndex, GlobalInvocationId, WorkgroupId, NumWorkgroups, SubgroupInvocationId, SubgroupSize, SubgroupId, NumSubgroups, PrimitiveIndex, ViewIndex}
 use Rattle.wgsl_syntax.specs.declared.attribute.DiagnosticSeverity.{DiagnosticSeverity}
@@ -12,6 +12,9 @@ use Rattle.wgsl_syntax.specs.declared.attribute.ConservativeDepth.{ConservativeD
 use Rattle.wgsl_syntax.specs.declared.attribute.ConservativeDepth.TheVariants.{GreaterEqual, LessEqual, Unchanged}
 use Rattle.wgsl_syntax.specs.declared.attribute.AccelerationStructureFlags.{AccelerationStructureFlags}
 use Rattle.wgsl_syntax.specs.declared.attribute.AccelerationStructureFlags.TheVariants.{VertexReturn}
+
+abbrev pub builtin_values : List BuiltinValue
+builtin_values = VertexIndex ∷ InstanceIndex ∷ ClipDistances ∷ Position ∷ FrontFacing ∷ FragDepth ∷ SampleIndex ∷ SampleMask ∷ LocalInvocationId ∷ LocalInvocationIndex ∷ GlobalInvocationId ∷ WorkgroupId ∷ NumWorkgroups ∷ SubgroupInvocationId ∷ SubgroupSize ∷ SubgroupId ∷ NumSubgroups ∷ PrimitiveIndex ∷ ViewIndex ∷ []
 
 abbrev pub builtin_text : BuiltinValue → List ℕ
 builtin_text VertexIndex = codes "vertex_index"
@@ -34,16 +37,25 @@ builtin_text NumSubgroups = codes "num_subgroups"
 builtin_text PrimitiveIndex = codes "primitive_index"
 builtin_text ViewIndex = codes "view_index"
 
+abbrev pub severities : List DiagnosticSeverity
+severities = Error ∷ Warning ∷ Info ∷ Off ∷ []
+
 abbrev pub severity_text : DiagnosticSeverity → List ℕ
 severity_text Error = codes "error"
 severity_text Warning = codes "warning"
 severity_text Info = codes "info"
 severity_text Off = codes "off"
 
+abbrev pub interpolations : List InterpolationType
+interpolations = Perspective ∷ Linear ∷ Flat ∷ []
+
 abbrev pub interpolation_text : InterpolationType → List ℕ
 interpolation_text Perspective = codes "perspective"
 interpolation_text Linear = codes "linear"
 interpolation_text Flat = codes "flat"
+
+abbrev pub samplings : List InterpolationSampling
+samplings = Center ∷ Centroid ∷ Sample ∷ First ∷ Either ∷ []
 
 abbrev pub sampling_text : InterpolationSampling → List ℕ
 sampling_text Center = codes "center"
@@ -52,10 +64,16 @@ sampling_text Sample = codes "sample"
 sampling_text First = codes "first"
 sampling_text Either = codes "either"
 
+abbrev pub depths : List ConservativeDepth
+depths = GreaterEqual ∷ LessEqual ∷ Unchanged ∷ []
+
 abbrev pub depth_text : ConservativeDepth → List ℕ
 depth_text GreaterEqual = codes "greater_equal"
 depth_text LessEqual = codes "less_equal"
 depth_text Unchanged = codes "unchanged"
+
+abbrev pub flags : List AccelerationStructureFlags
+flags = VertexReturn ∷ []
 
 abbrev pub flag_text : AccelerationStructureFlags → List ℕ
 flag_text VertexReturn = codes "vertex_return"

@@ -1,10 +1,13 @@
 -- The words for predeclared enumerants: those of the value inside (WGSL, "Predeclared Enumerants").
-use Rattle.std.specs.Prelude.{ℕ, List}
-use Rattle.wgsl_syntax.specs.Address.{access_text, space_text}
-use Rattle.wgsl_syntax.specs.Attribute.{flag_text}
-use Rattle.wgsl_syntax.specs.Texel.{texel_text}
+use Rattle.std.specs.Prelude.{ℕ, List, ◌++◌, map}
+use Rattle.wgsl_syntax.specs.Address.{access_modes, access_text, space_text, spaces}
+use Rattle.wgsl_syntax.specs.Attribute.{flag_text, flags}
+use Rattle.wgsl_syntax.specs.Texel.{texel_formats, texel_text}
 use Rattle.wgsl_syntax.specs.declared.enumerant.Enumerant.{Enumerant}
 use Rattle.wgsl_syntax.specs.declared.enumerant.Enumerant.TheVariants.{AccessMode, AddressSpace, TexelFormat, AccelerationStructureFlags}
+
+abbrev pub enumerants : List Enumerant
+enumerants = map AccessMode access_modes ++ map AddressSpace spaces ++ map TexelFormat texel_formats ++ map AccelerationStructureFlags flags
 
 abbrev pub enumerant_text : Enumerant → List ℕ
 enumerant_text (AccessMode access) = access_text access

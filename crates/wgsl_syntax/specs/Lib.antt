@@ -1,8 +1,10 @@
 pub mod Address
 pub mod Attribute
 pub mod Enumerant
+pub mod Names
 pub mod Operator
 pub mod ResultStruct
 pub mod Scalar
 pub mod Texel
 pub mod Texture
+pub mod TextureKind

@@ -1,5 +1,5 @@
 -- How operators are written (WGSL, "Expressions" and "Assignment Statement").
-use Rattle.std.specs.Prelude.{ℕ, List, codes}
+use Rattle.std.specs.Prelude.{ℕ, List, [], ◌∷◌, codes}
 use Rattle.wgsl_syntax.specs.declared.operator.UnaryOperator.{UnaryOperator}
 use Rattle.wgsl_syntax.specs.declared.operator.UnaryOperator.TheVariants.{LogicalNegation, Negation, BitwiseComplement, AddressOf, Indirection}
 use Rattle.wgsl_syntax.specs.declared.operator.BinaryOperator.{BinaryOperator}
@@ -7,12 +7,18 @@ use Rattle.wgsl_syntax.specs.declared.operator.BinaryOperator.TheVariants.{Short
 use Rattle.wgsl_syntax.specs.declared.operator.AssignmentOperator.{AssignmentOperator}
 use Rattle.wgsl_syntax.specs.declared.operator.AssignmentOperator.TheVariants.{Equal, PlusEqual, MinusEqual, TimesEqual, DivisionEqual, ModuloEqual, AndEqual, OrEqual, XorEqual, ShiftRightAssign, ShiftLeftAssign}
 
+abbrev pub unary_operators : List UnaryOperator
+unary_operators = LogicalNegation ∷ Negation ∷ BitwiseComplement ∷ AddressOf ∷ Indirection ∷ []
+
 abbrev pub unary_text : UnaryOperator → List ℕ
 unary_text LogicalNegation = codes "!"
 unary_text Negation = codes "-"
 unary_text BitwiseComplement = codes "~"
 unary_text AddressOf = codes "&"
 unary_text Indirection = codes "*"
+
+abbrev pub binary_operators : List BinaryOperator
+binary_operators = ShortCircuitOr ∷ ShortCircuitAnd ∷ Addition ∷ Subtraction ∷ Multiplication ∷ Division ∷ Remainder ∷ Equality ∷ Inequality ∷ LessThan ∷ LessThanEqual ∷ GreaterThan ∷ GreaterThanEqual ∷ BitwiseOr ∷ BitwiseAnd ∷ BitwiseXor ∷ ShiftLeft ∷ ShiftRight ∷ []
 
 abbrev pub binary_text : BinaryOperator → List ℕ
 binary_text ShortCircuitOr = codes "||"
@@ -33,6 +39,9 @@ binary_text BitwiseAnd = codes "&"
 binary_text BitwiseXor = codes "^"
 binary_text ShiftLeft = codes "<<"
 binary_text ShiftRight = codes ">>"
+
+abbrev pub assignment_operators : List AssignmentOperator
+assignment_operators = Equal ∷ PlusEqual ∷ MinusEqual ∷ TimesEqual ∷ DivisionEqual ∷ ModuloEqual ∷ AndEqual ∷ OrEqual ∷ XorEqual ∷ ShiftRightAssign ∷ ShiftLeftAssign ∷ []
 
 abbrev pub assignment_text : AssignmentOperator → List ℕ
 assignment_text Equal = codes "="

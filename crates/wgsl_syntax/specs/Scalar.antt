@@ -1,7 +1,10 @@
 -- How scalar types are written (WGSL, "Scalar Types").
-use Rattle.std.specs.Prelude.{ℕ, List, codes}
+use Rattle.std.specs.Prelude.{ℕ, List, [], ◌∷◌, codes}
 use Rattle.wgsl_syntax.specs.declared.scalar.Scalar.{Scalar}
 use Rattle.wgsl_syntax.specs.declared.scalar.Scalar.TheVariants.{Bool, AbstractInt, AbstractFloat, I32, U32, F32, F16, I64, U64, F64}
+
+abbrev pub scalars : List Scalar
+scalars = Bool ∷ AbstractInt ∷ AbstractFloat ∷ I32 ∷ U32 ∷ F32 ∷ F16 ∷ I64 ∷ U64 ∷ F64 ∷ []
 
 abbrev pub scalar_text : Scalar → List ℕ
 scalar_text Bool = codes "bool"

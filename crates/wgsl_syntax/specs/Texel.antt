@@ -1,7 +1,13 @@
--- The names of texel formats (WGSL, "Texel Formats").
-use Rattle.std.specs.Prelude.{ℕ, List, codes}
+-- Texel formats: their names, and what the names say of their channels (WGSL, "Texel Formats").
+use Rattle.std.specs.Prelude.{ℕ, List, [], ◌∷◌, Bool, codes, if◌then◌else◌, nat_eq}
+use Rattle.std.specs.List.{ends_with, starts_with}
+use Rattle.wgsl_syntax.specs.declared.texture.SampledType.{SampledType}
+use Rattle.wgsl_syntax.specs.declared.texture.SampledType.TheVariants.{I32, U32, F32}
 use Rattle.wgsl_syntax.specs.declared.texel.TexelFormat.{TexelFormat}
 use Rattle.wgsl_syntax.specs.declared.texel.TexelFormat.TheVariants.{Rgba8Unorm, Rgba8Snorm, Rgba8Uint, Rgba8Sint, R8Unorm, R8Snorm, R8Uint, R8Sint, Rg8Unorm, Rg8Snorm, Rg8Uint, Rg8Sint, Rgba16Unorm, Rgba16Snorm, Rgba16Uint, Rgba16Sint, Rgba16Float, R16Unorm, R16Snorm, R16Uint, R16Sint, R16Float, Rg16Unorm, Rg16Snorm, Rg16Uint, Rg16Sint, Rg16Float, R32Uint, R32Sint, R32Float, Rg32Uint, Rg32Sint, Rg32Float, Rgba32Uint, Rgba32Sint, Rgba32Float, Bgra8Unorm, Rgb10a2Uint, Rgb10a2Unorm, Rg11b10Float, R64Uint}
+
+abbrev pub texel_formats : List TexelFormat
+texel_formats = Rgba8Unorm ∷ Rgba8Snorm ∷ Rgba8Uint ∷ Rgba8Sint ∷ R8Unorm ∷ R8Snorm ∷ R8Uint ∷ R8Sint ∷ Rg8Unorm ∷ Rg8Snorm ∷ Rg8Uint ∷ Rg8Sint ∷ Rgba16Unorm ∷ Rgba16Snorm ∷ Rgba16Uint ∷ Rgba16Sint ∷ Rgba16Float ∷ R16Unorm ∷ R16Snorm ∷ R16Uint ∷ R16Sint ∷ R16Float ∷ Rg16Unorm ∷ Rg16Snorm ∷ Rg16Uint ∷ Rg16Sint ∷ Rg16Float ∷ R32Uint ∷ R32Sint ∷ R32Float ∷ Rg32Uint ∷ Rg32Sint ∷ Rg32Float ∷ Rgba32Uint ∷ Rgba32Sint ∷ Rgba32Float ∷ Bgra8Unorm ∷ Rgb10a2Uint ∷ Rgb10a2Unorm ∷ Rg11b10Float ∷ R64Uint ∷ []
 
 abbrev pub texel_text : TexelFormat → List ℕ
 texel_text Rgba8Unorm = codes "rgba8unorm"
@@ -45,3 +51,20 @@ texel_text Rgb10a2Uint = codes "rgb10a2uint"
 texel_text Rgb10a2Unorm = codes "rgb10a2unorm"
 texel_text Rg11b10Float = codes "rg11b10float"
 texel_text R64Uint = codes "r64uint"
+
+-- a format of unsigned or signed integers ends in `uint` or `sint`; all others are read as floats
+abbrev pub channel_type : TexelFormat → SampledType
+channel_type format =
+    if ends_with nat_eq (texel_text format) (codes "uint") then U32 else
+    (if ends_with nat_eq (texel_text format) (codes "sint") then I32 else F32)
+
+abbrev begins : TexelFormat → List ℕ → Bool
+begins format channels = starts_with nat_eq (texel_text format) channels
+
+-- a format's name begins with its channels, and `rg11b10` holds its blue one apart
+abbrev pub channel_count : TexelFormat → ℕ
+channel_count format =
+    if begins format (codes "rgb") then 4 else
+    (if begins format (codes "bgra") then 4 else
+    (if begins format (codes "rg11b10") then 3 else
+    (if begins format (codes "rg") then 2 else 1)))

@@ -1,5 +1,5 @@
 -- How textures and samplers are written (WGSL, "Texture and Sampler Types").
-use Rattle.std.specs.Prelude.{ℕ, List, ◌++◌, codes}
+use Rattle.std.specs.Prelude.{ℕ, List, [], ◌∷◌, ◌++◌, codes}
 use Rattle.wgsl_syntax.specs.Address.{access_text}
 use Rattle.wgsl_syntax.specs.Texel.{texel_text}
 use Rattle.wgsl_syntax.specs.declared.address.AccessMode.{AccessMode}
@@ -11,10 +11,16 @@ use Rattle.wgsl_syntax.specs.declared.texture.SamplerType.TheVariants.{Sampler, 
 use Rattle.wgsl_syntax.specs.declared.texture.TextureType.{TextureType}
 use Rattle.wgsl_syntax.specs.declared.texture.TextureType.TheVariants.{Sampled1D, Sampled2D, Sampled2DArray, Sampled3D, SampledCube, SampledCubeArray, Sampled1DArray, Multisampled2D, Multisampled2DArray, DepthMultisampled2D, Storage1D, Storage1DArray, Storage2D, Storage2DArray, Storage3D, External, Depth2D, Depth2DArray, DepthCube, DepthCubeArray}
 
+abbrev pub sampled_types : List SampledType
+sampled_types = I32 ∷ U32 ∷ F32 ∷ []
+
 abbrev pub sampled_text : SampledType → List ℕ
 sampled_text I32 = codes "i32"
 sampled_text U32 = codes "u32"
 sampled_text F32 = codes "f32"
+
+abbrev pub samplers : List SamplerType
+samplers = Sampler ∷ SamplerComparison ∷ []
 
 abbrev pub sampler_text : SamplerType → List ℕ
 sampler_text Sampler = codes "sampler"

@@ -1,6 +1,12 @@
 // Address spaces and access modes.
+ghost use Rattle.std.specs.Prelude.{◌≡◌, ◌↔◌, IsTrue};
+ghost use Rattle.wgsl_syntax.specs.Names.{named, table, Reads, ReadsBut};
+ghost use Rattle.wgsl_syntax.specs.Address.{access_modes, access_text, default_access, space_text, written_spaces, MayRead, MayWrite};
+ghost use Rattle.wgsl_syntax.specs.declared.address.AddressSpace.TheVariants.{Handle};
+
 use std::fmt;
 use std::fmt::Write;
+use std::str::FromStr;
 
 /// An address space (WGSL, "Address Spaces"), with `handle` and naga's `push_constant`.
 #[derive(Clone, Copy, PartialEq, Eq, Hash, Debug)]
@@ -14,9 +20,25 @@ pub enum AddressSpace {
     PushConstant,
 }
 
+impl AddressSpace {
+    /// How a variable is accessed whose declaration names no access mode (WGSL, "Address Spaces").
+    pub fn default_access_mode(self) -> AccessMode
+        ensures { result ≡ default_access self }
+    {
+        match self {
+            AddressSpace::Function => AccessMode::ReadWrite,
+            AddressSpace::Private => AccessMode::ReadWrite,
+            AddressSpace::Workgroup => AccessMode::ReadWrite,
+            AddressSpace::Uniform => AccessMode::Read,
+            AddressSpace::Storage => AccessMode::Read,
+            AddressSpace::Handle => AccessMode::Read,
+            AddressSpace::PushConstant => AccessMode::Read,
+        }
+    }
+}
+
 impl fmt::Display for AddressSpace {
     ghost use Rattle.std.specs.Prelude.{Some};
-    ghost use Rattle.wgsl_syntax.specs.Address.{space_text};
 
     ghost output = { λ x. Some (space_text x) };
 
@@ -33,6 +55,30 @@ impl fmt::Display for AddressSpace {
     }
 }
 
+fn space_named(s: &str) -> Option<AddressSpace>
+    ensures { result ≡ named (table space_text written_spaces) s.now }
+{
+    match s {
+        "function" => Some(AddressSpace::Function),
+        "private" => Some(AddressSpace::Private),
+        "workgroup" => Some(AddressSpace::Workgroup),
+        "uniform" => Some(AddressSpace::Uniform),
+        "storage" => Some(AddressSpace::Storage),
+        "push_constant" => Some(AddressSpace::PushConstant),
+        _ => None,
+    }
+}
+
+impl FromStr for AddressSpace {
+    type Err = ();
+
+    ghost from_str_gives = { ReadsBut Handle space_text };
+
+    fn from_str(s: &str) -> Result<AddressSpace, ()> {
+        space_named(s).ok_or(())
+    }
+}
+
 /// An access mode (WGSL, "Memory Access Mode"), with naga's `atomic` for storage textures.
 #[derive(Clone, Copy, PartialEq, Eq, Hash, Debug)]
 pub enum AccessMode {
@@ -42,9 +88,24 @@ pub enum AccessMode {
     Atomic,
 }
 
+impl AccessMode {
+    /// Whether memory of this mode can be read; `atomic` is neither read nor written.
+    pub fn is_read(self) -> bool
+        ensures { IsTrue result ↔ MayRead self }
+    {
+        matches!(self, AccessMode::Read | AccessMode::ReadWrite)
+    }
+
+    /// Whether memory of this mode can be written.
+    pub fn is_write(self) -> bool
+        ensures { IsTrue result ↔ MayWrite self }
+    {
+        matches!(self, AccessMode::Write | AccessMode::ReadWrite)
+    }
+}
+
 impl fmt::Display for AccessMode {
     ghost use Rattle.std.specs.Prelude.{Some};
-    ghost use Rattle.wgsl_syntax.specs.Address.{access_text};
 
     ghost output = { λ x. Some (access_text x) };
 
@@ -55,5 +116,27 @@ impl fmt::Display for AccessMode {
             AccessMode::ReadWrite => f.write_str("read_write"),
             AccessMode::Atomic => f.write_str("atomic"),
         }
+    }
+}
+
+fn access_named(s: &str) -> Option<AccessMode>
+    ensures { result ≡ named (table access_text access_modes) s.now }
+{
+    match s {
+        "read" => Some(AccessMode::Read),
+        "write" => Some(AccessMode::Write),
+        "read_write" => Some(AccessMode::ReadWrite),
+        "atomic" => Some(AccessMode::Atomic),
+        _ => None,
+    }
+}
+
+impl FromStr for AccessMode {
+    type Err = ();
+
+    ghost from_str_gives = { Reads access_text };
+
+    fn from_str(s: &str) -> Result<AccessMode, ()> {
+        access_named(s).ok_or(())
     }
 }

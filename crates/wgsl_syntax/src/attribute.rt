@@ -1,6 +1,11 @@
 // The names that attributes and directives take.
+ghost use Rattle.std.specs.Prelude.{◌≡◌};
+ghost use Rattle.wgsl_syntax.specs.Names.{named, table, Reads};
+ghost use Rattle.wgsl_syntax.specs.Attribute.{builtin_text, builtin_values, depth_text, depths, flag_text, flags, interpolation_text, interpolations, sampling_text, samplings, severities, severity_text};
+
 use std::fmt;
 use std::fmt::Write;
+use std::str::FromStr;
 
 /// A built-in value (WGSL, "Built-in Inputs and Outputs"), with those of naga.
 #[derive(Clone, Copy, PartialEq, Eq, Hash, Debug)]
@@ -28,7 +33,6 @@ pub enum BuiltinValue {
 
 impl fmt::Display for BuiltinValue {
     ghost use Rattle.std.specs.Prelude.{Some};
-    ghost use Rattle.wgsl_syntax.specs.Attribute.{builtin_text};
 
     ghost output = { λ x. Some (builtin_text x) };
 
@@ -57,6 +61,43 @@ impl fmt::Display for BuiltinValue {
     }
 }
 
+fn builtin_named(s: &str) -> Option<BuiltinValue>
+    ensures { result ≡ named (table builtin_text builtin_values) s.now }
+{
+    match s {
+        "vertex_index" => Some(BuiltinValue::VertexIndex),
+        "instance_index" => Some(BuiltinValue::InstanceIndex),
+        "clip_distances" => Some(BuiltinValue::ClipDistances),
+        "position" => Some(BuiltinValue::Position),
+        "front_facing" => Some(BuiltinValue::FrontFacing),
+        "frag_depth" => Some(BuiltinValue::FragDepth),
+        "sample_index" => Some(BuiltinValue::SampleIndex),
+        "sample_mask" => Some(BuiltinValue::SampleMask),
+        "local_invocation_id" => Some(BuiltinValue::LocalInvocationId),
+        "local_invocation_index" => Some(BuiltinValue::LocalInvocationIndex),
+        "global_invocation_id" => Some(BuiltinValue::GlobalInvocationId),
+        "workgroup_id" => Some(BuiltinValue::WorkgroupId),
+        "num_workgroups" => Some(BuiltinValue::NumWorkgroups),
+        "subgroup_invocation_id" => Some(BuiltinValue::SubgroupInvocationId),
+        "subgroup_size" => Some(BuiltinValue::SubgroupSize),
+        "subgroup_id" => Some(BuiltinValue::SubgroupId),
+        "num_subgroups" => Some(BuiltinValue::NumSubgroups),
+        "primitive_index" => Some(BuiltinValue::PrimitiveIndex),
+        "view_index" => Some(BuiltinValue::ViewIndex),
+        _ => None,
+    }
+}
+
+impl FromStr for BuiltinValue {
+    type Err = ();
+
+    ghost from_str_gives = { Reads builtin_text };
+
+    fn from_str(s: &str) -> Result<BuiltinValue, ()> {
+        builtin_named(s).ok_or(())
+    }
+}
+
 /// How severe a diagnostic is (WGSL, "Diagnostics").
 #[derive(Clone, Copy, PartialEq, Eq, Hash, Debug)]
 pub enum DiagnosticSeverity {
@@ -68,7 +109,6 @@ pub enum DiagnosticSeverity {
 
 impl fmt::Display for DiagnosticSeverity {
     ghost use Rattle.std.specs.Prelude.{Some};
-    ghost use Rattle.wgsl_syntax.specs.Attribute.{severity_text};
 
     ghost output = { λ x. Some (severity_text x) };
 
@@ -82,6 +122,28 @@ impl fmt::Display for DiagnosticSeverity {
     }
 }
 
+fn severity_named(s: &str) -> Option<DiagnosticSeverity>
+    ensures { result ≡ named (table severity_text severities) s.now }
+{
+    match s {
+        "error" => Some(DiagnosticSeverity::Error),
+        "warning" => Some(DiagnosticSeverity::Warning),
+        "info" => Some(DiagnosticSeverity::Info),
+        "off" => Some(DiagnosticSeverity::Off),
+        _ => None,
+    }
+}
+
+impl FromStr for DiagnosticSeverity {
+    type Err = ();
+
+    ghost from_str_gives = { Reads severity_text };
+
+    fn from_str(s: &str) -> Result<DiagnosticSeverity, ()> {
+        severity_named(s).ok_or(())
+    }
+}
+
 /// How a user-defined value is interpolated (WGSL, "Interpolation").
 #[derive(Clone, Copy, PartialEq, Eq, Hash, Debug)]
 pub enum InterpolationType {
@@ -92,7 +154,6 @@ pub enum InterpolationType {
 
 impl fmt::Display for InterpolationType {
     ghost use Rattle.std.specs.Prelude.{Some};
-    ghost use Rattle.wgsl_syntax.specs.Attribute.{interpolation_text};
 
     ghost output = { λ x. Some (interpolation_text x) };
 
@@ -102,6 +163,27 @@ impl fmt::Display for InterpolationType {
             InterpolationType::Linear => f.write_str("linear"),
             InterpolationType::Flat => f.write_str("flat"),
         }
+    }
+}
+
+fn interpolation_named(s: &str) -> Option<InterpolationType>
+    ensures { result ≡ named (table interpolation_text interpolations) s.now }
+{
+    match s {
+        "perspective" => Some(InterpolationType::Perspective),
+        "linear" => Some(InterpolationType::Linear),
+        "flat" => Some(InterpolationType::Flat),
+        _ => None,
+    }
+}
+
+impl FromStr for InterpolationType {
+    type Err = ();
+
+    ghost from_str_gives = { Reads interpolation_text };
+
+    fn from_str(s: &str) -> Result<InterpolationType, ()> {
+        interpolation_named(s).ok_or(())
     }
 }
 
@@ -117,7 +199,6 @@ pub enum InterpolationSampling {
 
 impl fmt::Display for InterpolationSampling {
     ghost use Rattle.std.specs.Prelude.{Some};
-    ghost use Rattle.wgsl_syntax.specs.Attribute.{sampling_text};
 
     ghost output = { λ x. Some (sampling_text x) };
 
@@ -132,6 +213,29 @@ impl fmt::Display for InterpolationSampling {
     }
 }
 
+fn sampling_named(s: &str) -> Option<InterpolationSampling>
+    ensures { result ≡ named (table sampling_text samplings) s.now }
+{
+    match s {
+        "center" => Some(InterpolationSampling::Center),
+        "centroid" => Some(InterpolationSampling::Centroid),
+        "sample" => Some(InterpolationSampling::Sample),
+        "first" => Some(InterpolationSampling::First),
+        "either" => Some(InterpolationSampling::Either),
+        _ => None,
+    }
+}
+
+impl FromStr for InterpolationSampling {
+    type Err = ();
+
+    ghost from_str_gives = { Reads sampling_text };
+
+    fn from_str(s: &str) -> Result<InterpolationSampling, ()> {
+        sampling_named(s).ok_or(())
+    }
+}
+
 /// How a fragment shader may change the depth: naga's early depth test.
 #[derive(Clone, Copy, PartialEq, Eq, Hash, Debug)]
 pub enum ConservativeDepth {
@@ -142,7 +246,6 @@ pub enum ConservativeDepth {
 
 impl fmt::Display for ConservativeDepth {
     ghost use Rattle.std.specs.Prelude.{Some};
-    ghost use Rattle.wgsl_syntax.specs.Attribute.{depth_text};
 
     ghost output = { λ x. Some (depth_text x) };
 
@@ -155,6 +258,27 @@ impl fmt::Display for ConservativeDepth {
     }
 }
 
+fn depth_named(s: &str) -> Option<ConservativeDepth>
+    ensures { result ≡ named (table depth_text depths) s.now }
+{
+    match s {
+        "greater_equal" => Some(ConservativeDepth::GreaterEqual),
+        "less_equal" => Some(ConservativeDepth::LessEqual),
+        "unchanged" => Some(ConservativeDepth::Unchanged),
+        _ => None,
+    }
+}
+
+impl FromStr for ConservativeDepth {
+    type Err = ();
+
+    ghost from_str_gives = { Reads depth_text };
+
+    fn from_str(s: &str) -> Result<ConservativeDepth, ()> {
+        depth_named(s).ok_or(())
+    }
+}
+
 /// A flag of naga's acceleration structures and ray queries.
 #[derive(Clone, Copy, PartialEq, Eq, Hash, Debug)]
 pub enum AccelerationStructureFlags {
@@ -163,7 +287,6 @@ pub enum AccelerationStructureFlags {
 
 impl fmt::Display for AccelerationStructureFlags {
     ghost use Rattle.std.specs.Prelude.{Some};
-    ghost use Rattle.wgsl_syntax.specs.Attribute.{flag_text};
 
     ghost output = { λ x. Some (flag_text x) };
 
@@ -171,5 +294,24 @@ impl fmt::Display for AccelerationStructureFlags {
         match self {
             AccelerationStructureFlags::VertexReturn => f.write_str("vertex_return"),
         }
+    }
+}
+
+fn flag_named(s: &str) -> Option<AccelerationStructureFlags>
+    ensures { result ≡ named (table flag_text flags) s.now }
+{
+    match s {
+        "vertex_return" => Some(AccelerationStructureFlags::VertexReturn),
+        _ => None,
+    }
+}
+
+impl FromStr for AccelerationStructureFlags {
+    type Err = ();
+
+    ghost from_str_gives = { Reads flag_text };
+
+    fn from_str(s: &str) -> Result<AccelerationStructureFlags, ()> {
+        flag_named(s).ok_or(())
     }
 }

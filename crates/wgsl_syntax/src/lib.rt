@@ -4,6 +4,7 @@
 pub mod address;
 pub mod attribute;
 pub mod enumerant;
+pub mod names;
 pub mod operator;
 pub mod result_struct;
 pub mod scalar;

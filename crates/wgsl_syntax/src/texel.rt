@@ -1,6 +1,12 @@
 // Texel formats.
+ghost use Rattle.std.specs.Prelude.{◌≡◌};
+ghost use Rattle.wgsl_syntax.specs.Names.{named, table, Reads};
+ghost use Rattle.wgsl_syntax.specs.Texel.{channel_count, channel_type, texel_formats, texel_text};
+
+use crate::texture::SampledType;
 use std::fmt;
 use std::fmt::Write;
+use std::str::FromStr;
 
 /// A texel format (WGSL, "Texel Formats"), with those of naga.
 #[derive(Clone, Copy, PartialEq, Eq, Hash, Debug)]
@@ -48,9 +54,108 @@ pub enum TexelFormat {
     R64Uint,
 }
 
+impl TexelFormat {
+    /// What the channels of a texel are read as (WGSL, "Texel Formats").
+    pub fn channel_type(self) -> SampledType
+        ensures { result ≡ channel_type self }
+    {
+        match self {
+            TexelFormat::Rgba8Unorm
+            | TexelFormat::Rgba8Snorm
+            | TexelFormat::R8Unorm
+            | TexelFormat::R8Snorm
+            | TexelFormat::Rg8Unorm
+            | TexelFormat::Rg8Snorm
+            | TexelFormat::Rgba16Unorm
+            | TexelFormat::Rgba16Snorm
+            | TexelFormat::Rgba16Float
+            | TexelFormat::R16Unorm
+            | TexelFormat::R16Snorm
+            | TexelFormat::R16Float
+            | TexelFormat::Rg16Unorm
+            | TexelFormat::Rg16Snorm
+            | TexelFormat::Rg16Float
+            | TexelFormat::R32Float
+            | TexelFormat::Rg32Float
+            | TexelFormat::Rgba32Float
+            | TexelFormat::Bgra8Unorm
+            | TexelFormat::Rgb10a2Unorm
+            | TexelFormat::Rg11b10Float => SampledType::F32,
+            TexelFormat::Rgba8Uint
+            | TexelFormat::R8Uint
+            | TexelFormat::Rg8Uint
+            | TexelFormat::Rgba16Uint
+            | TexelFormat::R16Uint
+            | TexelFormat::Rg16Uint
+            | TexelFormat::R32Uint
+            | TexelFormat::Rg32Uint
+            | TexelFormat::Rgba32Uint
+            | TexelFormat::Rgb10a2Uint
+            | TexelFormat::R64Uint => SampledType::U32,
+            TexelFormat::Rgba8Sint
+            | TexelFormat::R8Sint
+            | TexelFormat::Rg8Sint
+            | TexelFormat::Rgba16Sint
+            | TexelFormat::R16Sint
+            | TexelFormat::Rg16Sint
+            | TexelFormat::R32Sint
+            | TexelFormat::Rg32Sint
+            | TexelFormat::Rgba32Sint => SampledType::I32,
+        }
+    }
+
+    /// How many channels a texel has (WGSL, "Texel Formats").
+    pub fn num_channels(self) -> u32
+        ensures { result ≡ channel_count self }
+    {
+        match self {
+            TexelFormat::Rgba8Unorm
+            | TexelFormat::Rgba8Snorm
+            | TexelFormat::Rgba8Uint
+            | TexelFormat::Rgba8Sint
+            | TexelFormat::Rgba16Unorm
+            | TexelFormat::Rgba16Snorm
+            | TexelFormat::Rgba16Uint
+            | TexelFormat::Rgba16Sint
+            | TexelFormat::Rgba16Float
+            | TexelFormat::Rgba32Uint
+            | TexelFormat::Rgba32Sint
+            | TexelFormat::Rgba32Float
+            | TexelFormat::Bgra8Unorm
+            | TexelFormat::Rgb10a2Uint
+            | TexelFormat::Rgb10a2Unorm => 4,
+            TexelFormat::R8Unorm
+            | TexelFormat::R8Snorm
+            | TexelFormat::R8Uint
+            | TexelFormat::R8Sint
+            | TexelFormat::R16Unorm
+            | TexelFormat::R16Snorm
+            | TexelFormat::R16Uint
+            | TexelFormat::R16Sint
+            | TexelFormat::R16Float
+            | TexelFormat::R32Uint
+            | TexelFormat::R32Sint
+            | TexelFormat::R32Float
+            | TexelFormat::R64Uint => 1,
+            TexelFormat::Rg8Unorm
+            | TexelFormat::Rg8Snorm
+            | TexelFormat::Rg8Uint
+            | TexelFormat::Rg8Sint
+            | TexelFormat::Rg16Unorm
+            | TexelFormat::Rg16Snorm
+            | TexelFormat::Rg16Uint
+            | TexelFormat::Rg16Sint
+            | TexelFormat::Rg16Float
+            | TexelFormat::Rg32Uint
+            | TexelFormat::Rg32Sint
+            | TexelFormat::Rg32Float => 2,
+            TexelFormat::Rg11b10Float => 3,
+        }
+    }
+}
+
 impl fmt::Display for TexelFormat {
     ghost use Rattle.std.specs.Prelude.{Some};
-    ghost use Rattle.wgsl_syntax.specs.Texel.{texel_text};
 
     ghost output = { λ x. Some (texel_text x) };
 
@@ -98,5 +203,64 @@ impl fmt::Display for TexelFormat {
             TexelFormat::Rg11b10Float => f.write_str("rg11b10float"),
             TexelFormat::R64Uint => f.write_str("r64uint"),
         }
+    }
+}
+
+fn texel_named(s: &str) -> Option<TexelFormat>
+    ensures { result ≡ named (table texel_text texel_formats) s.now }
+{
+    match s {
+        "rgba8unorm" => Some(TexelFormat::Rgba8Unorm),
+        "rgba8snorm" => Some(TexelFormat::Rgba8Snorm),
+        "rgba8uint" => Some(TexelFormat::Rgba8Uint),
+        "rgba8sint" => Some(TexelFormat::Rgba8Sint),
+        "r8unorm" => Some(TexelFormat::R8Unorm),
+        "r8snorm" => Some(TexelFormat::R8Snorm),
+        "r8uint" => Some(TexelFormat::R8Uint),
+        "r8sint" => Some(TexelFormat::R8Sint),
+        "rg8unorm" => Some(TexelFormat::Rg8Unorm),
+        "rg8snorm" => Some(TexelFormat::Rg8Snorm),
+        "rg8uint" => Some(TexelFormat::Rg8Uint),
+        "rg8sint" => Some(TexelFormat::Rg8Sint),
+        "rgba16unorm" => Some(TexelFormat::Rgba16Unorm),
+        "rgba16snorm" => Some(TexelFormat::Rgba16Snorm),
+        "rgba16uint" => Some(TexelFormat::Rgba16Uint),
+        "rgba16sint" => Some(TexelFormat::Rgba16Sint),
+        "rgba16float" => Some(TexelFormat::Rgba16Float),
+        "r16unorm" => Some(TexelFormat::R16Unorm),
+        "r16snorm" => Some(TexelFormat::R16Snorm),
+        "r16uint" => Some(TexelFormat::R16Uint),
+        "r16sint" => Some(TexelFormat::R16Sint),
+        "r16float" => Some(TexelFormat::R16Float),
+        "rg16unorm" => Some(TexelFormat::Rg16Unorm),
+        "rg16snorm" => Some(TexelFormat::Rg16Snorm),
+        "rg16uint" => Some(TexelFormat::Rg16Uint),
+        "rg16sint" => Some(TexelFormat::Rg16Sint),
+        "rg16float" => Some(TexelFormat::Rg16Float),
+        "r32uint" => Some(TexelFormat::R32Uint),
+        "r32sint" => Some(TexelFormat::R32Sint),
+        "r32float" => Some(TexelFormat::R32Float),
+        "rg32uint" => Some(TexelFormat::Rg32Uint),
+        "rg32sint" => Some(TexelFormat::Rg32Sint),
+        "rg32float" => Some(TexelFormat::Rg32Float),
+        "rgba32uint" => Some(TexelFormat::Rgba32Uint),
+        "rgba32sint" => Some(TexelFormat::Rgba32Sint),
+        "rgba32float" => Some(TexelFormat::Rgba32Float),
+        "bgra8unorm" => Some(TexelFormat::Bgra8Unorm),
+        "rgb10a2uint" => Some(TexelFormat::Rgb10a2Uint),
+        "rgb10a2unorm" => Some(TexelFormat::Rgb10a2Unorm),
+        "rg11b10float" => Some(TexelFormat::Rg11b10Float),
+        "r64uint" => Some(TexelFormat::R64Uint),
+        _ => None,
+    }
+}
+
+impl FromStr for TexelFormat {
+    type Err = ();
+
+    ghost from_str_gives = { Reads texel_text };
+
+    fn from_str(s: &str) -> Result<TexelFormat, ()> {
+        texel_named(s).ok_or(())
     }
 }

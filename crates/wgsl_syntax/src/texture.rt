@@ -1,8 +1,14 @@
 // Textures and samplers.
+ghost use Rattle.std.specs.Prelude.{◌≡◌, ◌↔◌, IsTrue};
+ghost use Rattle.wgsl_syntax.specs.TextureKind.{dimensions, sampled_type, texture_channel, IsArrayed, IsDepth, IsMultisampled, IsSampled, IsStorage};
+ghost use Rattle.wgsl_syntax.specs.Names.{named, table, Reads};
+ghost use Rattle.wgsl_syntax.specs.Texture.{sampled_text, sampled_types, sampler_text, samplers};
+
 use crate::address::AccessMode;
 use crate::texel::TexelFormat;
 use std::fmt;
 use std::fmt::Write;
+use std::str::FromStr;
 
 /// What a texture is sampled as (WGSL, "Sampled Texture Types").
 #[derive(Clone, Copy, PartialEq, Eq, Hash, Debug)]
@@ -14,7 +20,6 @@ pub enum SampledType {
 
 impl fmt::Display for SampledType {
     ghost use Rattle.std.specs.Prelude.{Some};
-    ghost use Rattle.wgsl_syntax.specs.Texture.{sampled_text};
 
     ghost output = { λ x. Some (sampled_text x) };
 
@@ -27,11 +32,52 @@ impl fmt::Display for SampledType {
     }
 }
 
+fn sampled_named(s: &str) -> Option<SampledType>
+    ensures { result ≡ named (table sampled_text sampled_types) s.now }
+{
+    match s {
+        "i32" => Some(SampledType::I32),
+        "u32" => Some(SampledType::U32),
+        "f32" => Some(SampledType::F32),
+        _ => None,
+    }
+}
+
+impl FromStr for SampledType {
+    type Err = ();
+
+    ghost from_str_gives = { Reads sampled_text };
+
+    fn from_str(s: &str) -> Result<SampledType, ()> {
+        sampled_named(s).ok_or(())
+    }
+}
+
 /// A sampler (WGSL, "Sampler Types").
 #[derive(Clone, Copy, PartialEq, Eq, Hash, Debug)]
 pub enum SamplerType {
     Sampler,
     SamplerComparison,
+}
+
+fn sampler_named(s: &str) -> Option<SamplerType>
+    ensures { result ≡ named (table sampler_text samplers) s.now }
+{
+    match s {
+        "sampler" => Some(SamplerType::Sampler),
+        "sampler_comparison" => Some(SamplerType::SamplerComparison),
+        _ => None,
+    }
+}
+
+impl FromStr for SamplerType {
+    type Err = ();
+
+    ghost from_str_gives = { Reads sampler_text };
+
+    fn from_str(s: &str) -> Result<SamplerType, ()> {
+        sampler_named(s).ok_or(())
+    }
 }
 
 /// A texture (WGSL, "Texture Types"), with naga's one-dimensional and multisampled arrays.
@@ -57,6 +103,134 @@ pub enum TextureType {
     Depth2DArray,
     DepthCube,
     DepthCubeArray,
+}
+
+impl TextureType {
+    /// How many dimensions the texture has; a cube has the two of its faces.
+    pub fn dimensions(self) -> TextureDimensions
+        ensures { result ≡ dimensions self }
+    {
+        match self {
+            TextureType::Sampled1D(_)
+            | TextureType::Sampled1DArray(_)
+            | TextureType::Storage1D(_, _)
+            | TextureType::Storage1DArray(_, _) => TextureDimensions::D1,
+            TextureType::Sampled3D(_) | TextureType::Storage3D(_, _) => TextureDimensions::D3,
+            _ => TextureDimensions::D2,
+        }
+    }
+
+    /// What the texture is sampled as, where its type says so (WGSL, "Sampled Texture Types").
+    pub fn sampled_type(self) -> Option<SampledType>
+        ensures { result ≡ sampled_type self }
+    {
+        match self {
+            TextureType::Sampled1D(sampled)
+            | TextureType::Sampled2D(sampled)
+            | TextureType::Sampled2DArray(sampled)
+            | TextureType::Sampled3D(sampled)
+            | TextureType::SampledCube(sampled)
+            | TextureType::SampledCubeArray(sampled)
+            | TextureType::Sampled1DArray(sampled)
+            | TextureType::Multisampled2DArray(sampled) => Some(sampled),
+            _ => None,
+        }
+    }
+
+    /// What the texture's channels are read as.
+    pub fn channel_type(self) -> SampledType
+        ensures { result ≡ texture_channel self }
+    {
+        match self {
+            TextureType::Sampled1D(sampled)
+            | TextureType::Sampled2D(sampled)
+            | TextureType::Sampled2DArray(sampled)
+            | TextureType::Sampled3D(sampled)
+            | TextureType::SampledCube(sampled)
+            | TextureType::SampledCubeArray(sampled)
+            | TextureType::Sampled1DArray(sampled)
+            | TextureType::Multisampled2D(sampled)
+            | TextureType::Multisampled2DArray(sampled) => sampled,
+            TextureType::Storage1D(format, _)
+            | TextureType::Storage1DArray(format, _)
+            | TextureType::Storage2D(format, _)
+            | TextureType::Storage2DArray(format, _)
+            | TextureType::Storage3D(format, _) => format.channel_type(),
+            _ => SampledType::F32,
+        }
+    }
+
+    /// Whether it holds depths of one sample (WGSL, "Depth Texture Types").
+    pub fn is_depth(self) -> bool
+        ensures { IsTrue result ↔ IsDepth self }
+    {
+        matches!(
+            self,
+            TextureType::Depth2D
+                | TextureType::Depth2DArray
+                | TextureType::DepthCube
+                | TextureType::DepthCubeArray
+        )
+    }
+
+    /// Whether it is a storage texture (WGSL, "Storage Texture Types").
+    pub fn is_storage(self) -> bool
+        ensures { IsTrue result ↔ IsStorage self }
+    {
+        matches!(
+            self,
+            TextureType::Storage1D(_, _)
+                | TextureType::Storage1DArray(_, _)
+                | TextureType::Storage2D(_, _)
+                | TextureType::Storage2DArray(_, _)
+                | TextureType::Storage3D(_, _)
+        )
+    }
+
+    /// Whether it is a sampled texture (WGSL, "Sampled Texture Types").
+    pub fn is_sampled(self) -> bool
+        ensures { IsTrue result ↔ IsSampled self }
+    {
+        matches!(
+            self,
+            TextureType::Sampled1D(_)
+                | TextureType::Sampled2D(_)
+                | TextureType::Sampled2DArray(_)
+                | TextureType::Sampled3D(_)
+                | TextureType::SampledCube(_)
+                | TextureType::SampledCubeArray(_)
+                | TextureType::Sampled1DArray(_)
+        )
+    }
+
+    /// Whether it has layers (WGSL, "Texture Types").
+    pub fn is_arrayed(self) -> bool
+        ensures { IsTrue result ↔ IsArrayed self }
+    {
+        matches!(
+            self,
+            TextureType::Sampled2DArray(_)
+                | TextureType::SampledCubeArray(_)
+                | TextureType::Sampled1DArray(_)
+                | TextureType::Multisampled2DArray(_)
+                | TextureType::Storage1DArray(_, _)
+                | TextureType::Storage2DArray(_, _)
+                | TextureType::Depth2DArray
+                | TextureType::DepthCubeArray
+        )
+    }
+
+    /// Whether it has several samples a texel (WGSL, "Multisampled Texture Types").
+    pub fn is_multisampled(self) -> bool
+        ensures { IsTrue result ↔ IsMultisampled self }
+    {
+        matches!(
+            self,
+            TextureType::Multisampled2D(_)
+                | TextureType::Multisampled2DArray(_)
+                | TextureType::DepthMultisampled2D
+        )
+    }
 }
 
 /// How many dimensions a texture has.

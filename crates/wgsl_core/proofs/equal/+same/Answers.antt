@@ -1,5 +1,5 @@
-use Rattle.std.proofs.Common.{◌≡◌, ◌∙◌, sym, ap, arith}
-use Rattle.wgsl_core.specs.View.{view, members_view}
+use Rattle.std.proofs.Common.{◌∙◌, sym, ap, arith}
+use Rattle.wgsl_core.specs.View.{view}
 use Rattle.wgsl_core.proofs.Equals.{never, as_many}
 use Rattle.wgsl_core.proofs.Views.{not_struct, not_array, not_vec, not_mat, not_atomic, not_pointer, not_reference, not_texture, not_sampler, not_binding_array, not_ray_query, not_acceleration_structure, view-Struct, view-Array, view-Vec, view-Mat, view-Atomic, view-Ptr, view-Ref, view-Texture, view-Sampler, view-BindingArray, view-RayQuery, view-AccelerationStructure}
 use Rattle.wgsl_core.proofs.equal.+same.Goals as goal

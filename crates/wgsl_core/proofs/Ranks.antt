@@ -1,0 +1,146 @@
+-- Conversion of the types of code.
+use Rattle.std.proofs.Common.{◌≡◌, ◌≢◌, ◌↔◌, ℕ, is_some, Bool, List, Option, Some, None, Box, Global, IsTrue, IfSome, refl, sym, ap, ◌∙◌, subst}
+use Rattle.wgsl_syntax.specs.declared.address.AddressSpace.{AddressSpace}
+use Rattle.wgsl_syntax.specs.declared.address.AccessMode.{AccessMode}
+use Rattle.wgsl_syntax.specs.declared.result_struct.ResultFunction.{ResultFunction}
+use Rattle.wgsl_syntax.specs.declared.result_struct.ResultShape.{ResultShape}
+use Rattle.wgsl_syntax.specs.declared.result_struct.ResultPrecision.{ResultPrecision}
+use Rattle.wgsl_syntax.specs.declared.result_struct.ResultStruct.{ResultStruct}
+use Rattle.wgsl_rules.specs.Types.{Layer, WgslType, struct, within, reference, Members}
+use Rattle.wgsl_rules.specs.ResultStructs.{result_struct}
+use Rattle.wgsl_rules.specs.Conversion.{Converts, ConvertsIn, ConvertsTo, Load, load}
+use Rattle.wgsl_rules.specs.Places.{Place, at_scalar, at_result, type_at}
+use Rattle.wgsl_rules.proofs.Walks.{type_at_once, HaveEqualLayers, converts_places, load_bare}
+use Rattle.wgsl_rules.proofs.Order.{load_readable}
+use Rattle.wgsl_syntax.specs.Address.{MayRead}
+use Rattle.wgsl_rules.proofs.Equations.{converts_same, same_rank, load_converts, load_rank, converts_within, converts_from_within}
+use Rattle.wgsl_rules.proofs.Counts.{converts_in_same, converts_in_load, converts_in_within}
+use Rattle.wgsl_core.specs.View.{view, struct_view}
+use Rattle.wgsl_core.specs.Parts.{scalar_of, layer_of}
+use Rattle.wgsl_core.specs.Results.{struct_type, result_type}
+use Rattle.wgsl_core.specs.declared.ty.Type.{«Type»}
+use Rattle.wgsl_core.specs.declared.ty.Type.TheVariants as v
+use Rattle.wgsl_core.specs.declared.ty.StructType.{StructType}
+use Rattle.wgsl_core.proofs.Recognition.{view-struct}
+use Rattle.wgsl_core.proofs.Views.{view-Struct, view-Ref}
+
+-- The place of a type
+
+abbrev IsPlace : Option Place → WgslType → Type 0
+IsPlace o t = (p : Place) → (o ≡ Some p) ↔ (t ≡ type_at p)
+
+pub placed : (t : WgslType) (q : Place) → t ≡ type_at q → IsPlace (Some q) t
+placed t q e p = (λ k. let f : q ≡ p = cc k in subst (λ p. t ≡ type_at p) f e, λ k. ap Some (type_at_once q p (sym e ∙ k)))
+
+pub struct_seen : (t : «Type») (s : Box StructType Global) (u : StructType) → t ≡ v.Struct s → u ≡ s.value → view t ≡ struct_type (struct_view u)
+struct_seen t s u e f = ap view e ∙ (view-Struct s ∙ (sym (view-struct s.value) ∙ ap (λ x. struct_type (struct_view x)) (sym f)))
+
+result_is_struct : (f : ResultFunction) (s : ResultShape) (p : ResultPrecision) → (name : List ℕ) × (ms : Members) × (result_struct f s p ≡ struct name ms)
+unfolding result_struct
+result_is_struct f s p = (_, _, refl)
+
+pub no_place : (t : WgslType) → scalar_of t ≡ None → ((name : List ℕ) (ms : Members) → t ≡ struct name ms → ⊥) → IsPlace None t
+no_place t e n p = (λ k. absurd (cc k), λ k. absurd (at p k))
+  where
+    at : (p : Place) → t ≡ type_at p → ⊥
+    at (at_scalar s) k = let m : scalar_of t ≡ Some s = ap scalar_of k in absurd (cc (sym e ∙ m))
+    at (at_result f s q) k = let m = result_is_struct f s q in n m.0 m.1 (k ∙ m.2)
+
+pub no_result : (t : WgslType) (s : StructType) → t ≡ struct_type (struct_view s) →
+    ((r : ResultStruct) → (None ≡ Some r) ↔ (struct_type (struct_view s) ≡ result_type r)) → IsPlace None t
+no_result t s e h p = (λ k. absurd (cc k), λ k. absurd (at p k))
+  where
+    at : (p : Place) → t ≡ type_at p → ⊥
+    at (at_scalar x) k = absurd (cc (sym k ∙ e))
+    at (at_result f x q) k = absurd (cc ((h record { function = f; shape = x; precision = q }).1 (sym e ∙ k)))
+
+-- The rank
+
+abbrev pub IsRank : Option ℕ → WgslType → WgslType → Type 0
+IsRank o t u = (w : ℕ) → (o ≡ Some w) ↔ Converts t u w
+
+pub equal_rank : (t u : WgslType) → t ≡ u → IsRank (Some 0) t u
+equal_rank t u e w = (
+  λ k. let z : 0 ≡ w = cc k in subst (λ u. Converts t u w) e (subst (λ w. Converts t t w) z (converts_same t)),
+  λ k. ap Some (sym (same_rank t w (subst (λ u. Converts t u w) (sym e) k))),
+)
+
+pub equal_steps : (t u : WgslType) → t ≡ u → ConvertsIn t u 0 0
+equal_steps t u e = subst (λ u. ConvertsIn t u 0 0) e ((converts_in_same t 0 0).1 (refl, refl))
+
+pub loaded_rank : (t u : WgslType) → Load t u → IsRank (Some 0) t u
+loaded_rank t u l w = (λ k. let z : 0 ≡ w = cc k in subst (λ w. Converts t u w) z (load_converts l), λ k. ap Some (sym (load_rank l k)))
+
+pub loaded_steps : (t u : WgslType) → Load t u → ConvertsIn t u 0 0
+loaded_steps t u l = (converts_in_load t u 0 0 l).1 (refl, refl)
+
+pub no_rank : (t u : WgslType) → ((w : ℕ) → ¬ Converts t u w) → IsRank None t u
+no_rank t u n w = (λ k. absurd (cc k), λ k. absurd (n w k))
+
+unlayered : (t u : WgslType) → layer_of t ≡ None → ¬ HaveEqualLayers t u
+unlayered (within l t) u e h = absurd (cc e)
+unlayered t u e h = h
+
+pub no_walk : (t u : WgslType) → layer_of t ≡ None → t ≢ u → ¬ Load t u →
+    ((p q : Place) → t ≡ type_at p → u ≡ type_at q → ⊥) → IsRank None t u
+no_walk t u e d l n = no_rank t u (λ w k. let m = converts_places t u w (unlayered t u e) d l k in n m.0 m.1 m.2 m.3)
+
+pub walked_rank : (t u : WgslType) (p q : Place) (o : Option ℕ) → t ≡ type_at p → u ≡ type_at q → IsRank o (type_at p) (type_at q) → IsRank o t u
+walked_rank t u p q o e f h = subst (λ t. IsRank o t u) (sym e) (subst (λ u. IsRank o (type_at p) u) (sym f) h)
+
+abbrev Steps : Option ℕ → WgslType → WgslType → ℕ → Type 0
+Steps o t u n = IfSome o (λ w. ConvertsIn t u w n)
+
+pub walked_steps : (t u : WgslType) (p q : Place) (o : Option ℕ) (n : ℕ) → t ≡ type_at p → u ≡ type_at q →
+    Steps o (type_at p) (type_at q) n → Steps o t u n
+walked_steps t u p q o n e f h = subst (λ t. Steps o t u n) (sym e) (subst (λ u. Steps o (type_at p) u n) (sym f) h)
+
+-- Layers
+
+layered_at : (t : WgslType) (l : Layer) (e : WgslType) → layer_of t ≡ Some (l, e) → t ≡ within l e
+layered_at (within k u) l e h =
+    let p : ◌≡◌ {A = Layer × WgslType} (k, u) (l, e) = cc h in
+    λ i. within (p i).0 (p i).1
+layered_at t l e h = absurd (cc h)
+
+pub same_layer_rank : (t u : WgslType) (l k : Layer) (e f : WgslType) (o : Option ℕ) → layer_of t ≡ Some (l, e) → layer_of u ≡ Some (k, f) → l ≡ k →
+    IsRank o e f → IsRank o t u
+same_layer_rank t u l k e f o p q s h =
+    subst (λ t. IsRank o t u) (sym (layered_at t l e p)) (subst (λ u. IsRank o (within l e) u) (sym (layered_at u k f q))
+    (λ w. (λ m. (converts_within l k e f w).1 (sym s, (h w).0 m), λ m. (h w).1 ((converts_within l k e f w).0 m).1)))
+
+pub same_layer_steps : (t u : WgslType) (l k : Layer) (e f : WgslType) (o : Option ℕ) (n : ℕ) → layer_of t ≡ Some (l, e) → layer_of u ≡ Some (k, f) → l ≡ k →
+    Steps o e f n → Steps o t u n
+same_layer_steps t u l k e f None n p q s h = h
+same_layer_steps t u l k e f (Some w) n p q s h =
+    subst (λ t. ConvertsIn t u w n) (sym (layered_at t l e p)) (subst (λ u. ConvertsIn (within l e) u w n) (sym (layered_at u k f q))
+    ((converts_in_within l k e f w n).1 (sym s, h)))
+
+pub other_layer_rank : (t u : WgslType) (l k : Layer) (e f : WgslType) → layer_of t ≡ Some (l, e) → layer_of u ≡ Some (k, f) → (l ≡ k → ⊥) → IsRank None t u
+other_layer_rank t u l k e f p q d =
+    subst (λ t. IsRank None t u) (sym (layered_at t l e p)) (subst (λ u. IsRank None (within l e) u) (sym (layered_at u k f q))
+    (no_rank (within l e) (within k f) (λ w m. d (sym ((converts_within l k e f w).0 m).0))))
+
+pub no_layer_rank : (t u : WgslType) (l : Layer) (e : WgslType) → layer_of t ≡ Some (l, e) → layer_of u ≡ None → IsRank None t u
+no_layer_rank t u l e p q =
+    subst (λ t. IsRank None t u) (sym (layered_at t l e p))
+    (no_rank (within l e) u (λ w m.
+      let k = converts_from_within l e u w m in
+      let z : layer_of u ≡ Some (l, k.0) = ap layer_of k.1 in
+      absurd (cc (sym q ∙ z))))
+
+-- Loads
+
+pub load_reference : (r : Bool) (a : «Type») (s : AddressSpace) (ty : Box «Type» Global) (m : AccessMode) (t u : WgslType) → a ≡ v.Ref s ty m → view ty.value ≡ t → MayRead m →
+    IsTrue r ↔ (t ≡ u) → IsTrue r ↔ Load (view a) u
+load_reference r a s ty m t u e f may h =
+    let seen : view a ≡ reference s t m = ap view e ∙ (view-Ref s ty m ∙ ap (λ t. reference s t m) f) in
+    subst (λ a. IsTrue r ↔ Load a u) (sym seen)
+    (λ k. subst (λ u. Load (reference s t m) u) (h.0 k) (load s t m may), λ l. h.1 (load_readable l).1)
+
+pub no_load : (t u : WgslType) → layer_of t ≡ None → ((s : AddressSpace) (e : WgslType) (m : AccessMode) → t ≡ reference s e m → ⊥) → ¬ Load t u
+no_load t u e n l = let k = load_bare (unlayered t u e) l in n k.0 u k.1 k.2
+
+pub ranked : (o : Option ℕ) (t u : WgslType) → IsRank o t u → IsTrue (is_some o) ↔ ConvertsTo t u
+ranked None t u h = (λ k. absurd (cc k), λ k. absurd (cc ((h k.0).1 k.1)))
+ranked (Some w) t u h = (λ k. (w, (h w).0 refl), λ k. refl)
