@@ -3,5 +3,6 @@ pub mod Outcome
 pub mod Parts
 pub mod Equality
 pub mod Results
+pub mod Memory
 pub mod Places
 pub mod Planned

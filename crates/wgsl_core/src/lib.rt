@@ -6,6 +6,8 @@ pub mod conv;
 pub mod copy;
 pub mod equal;
 pub mod error;
+pub mod laws;
+pub mod mem;
 pub mod parts;
 pub mod results;
 pub mod show;
