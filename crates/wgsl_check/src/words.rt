@@ -44,12 +44,20 @@ impl<'w, 't> Words<'w, 't> {
         Ok(word)
     }
 
+    /// A number: decimal digits alone, with leading zeros or without.
+    pub fn next_number(&mut self) -> Result<u64, Unread>
+        ensures same { self.new.all.now ≡ self.old.all.now }
+        ensures forwards { self.old.taken ≤ self.new.taken }
+    {
+        number(self.next()?)
+    }
+
     /// A number of components, columns or rows.
     pub fn next_small(&mut self) -> Result<u8, Unread>
         ensures same { self.new.all.now ≡ self.old.all.now }
         ensures forwards { self.old.taken ≤ self.new.taken }
     {
-        u8::try_from(number(self.next()?)?).map_err(|_e| Unread::Word)
+        u8::try_from(self.next_number()?).map_err(|_e| Unread::Word)
     }
 
     /// A number of elements, or `*` where it is not known.
@@ -65,6 +73,19 @@ impl<'w, 't> Words<'w, 't> {
         Ok(Some(count))
     }
 
+    /// An attribute of a member in bytes, or `-` where it has none.
+    pub fn next_attribute(&mut self) -> Result<Option<u32>, Unread>
+        ensures same { self.new.all.now ≡ self.old.all.now }
+        ensures forwards { self.old.taken ≤ self.new.taken }
+    {
+        let word = self.next()?;
+        if word == "-" {
+            return Ok(None);
+        }
+        let bytes = u32::try_from(number(word)?).map_err(|_e| Unread::Word)?;
+        Ok(Some(bytes))
+    }
+
     /// Whether every word is taken.
     pub fn end(&self) -> Result<(), Unread> {
         if self.taken == self.all.len() {
@@ -75,7 +96,6 @@ impl<'w, 't> Words<'w, 't> {
     }
 }
 
-/// A number: decimal digits alone, with leading zeros or without.
 fn number(word: &str) -> Result<u64, Unread> {
     if !word.bytes().all(|byte| byte.is_ascii_digit()) {
         return Err(Unread::Word);
