@@ -1,5 +1,5 @@
 // The types that words stand for.
-ghost use Rattle.std.specs.Prelude.{◌≡◌, ◌≤◌};
+ghost use Rattle.wgsl_check.specs.Taken.{GoesOn};
 
 use crate::words::{Unread, Words};
 use std::alloc::{AllocError, Global};
@@ -10,8 +10,7 @@ use wgsl_types::ty::{SamplerType, StructMemberType, StructType, TextureType, Typ
 /// The type that the next words stand for.
 #[cycle(reading)]
 pub fn read_type(alloc: Global, words: &mut Words) -> Result<Type, Unread>
-    ensures same { words.new.all.now ≡ words.old.all.now }
-    ensures forwards { words.old.taken ≤ words.new.taken }
+    ensures { GoesOn words.old words.new }
 {
     match words.next()? {
         "bool" => Ok(Type::Bool),
@@ -59,8 +58,7 @@ pub fn read_type(alloc: Global, words: &mut Words) -> Result<Type, Unread>
 
 #[cycle(reading)]
 fn read_boxed(alloc: Global, words: &mut Words) -> Result<Box<Type>, Unread>
-    ensures same { words.new.all.now ≡ words.old.all.now }
-    ensures forwards { words.old.taken ≤ words.new.taken }
+    ensures { GoesOn words.old words.new }
 {
     let ty = read_type(alloc, words)?;
     Ok(Box::new(alloc, ty).map_err(|_e| AllocError)?)
@@ -69,14 +67,14 @@ fn read_boxed(alloc: Global, words: &mut Words) -> Result<Box<Type>, Unread>
 /// A struct: its name, the number of its members, and the members.
 #[cycle(reading)]
 fn read_struct(alloc: Global, words: &mut Words) -> Result<Type, Unread>
-    ensures same { words.new.all.now ≡ words.old.all.now }
-    ensures forwards { words.old.taken ≤ words.new.taken }
+    ensures { GoesOn words.old words.new }
 {
     let name = String::from_str(alloc, words.next()?)?;
     let count = words.next_number()?;
     let mut members = Vec::new(alloc);
     for _ in 0..count {
-        members.push(read_member(alloc, words)?)?;
+        let member = read_member(alloc, words)?;
+        members.push(member).map_err(|_e| AllocError)?;
     }
     let read = StructType { name, members };
     Ok(Type::Struct(Box::new(alloc, read).map_err(|_e| AllocError)?))
@@ -85,8 +83,7 @@ fn read_struct(alloc: Global, words: &mut Words) -> Result<Type, Unread>
 /// A member: its name, its attributes size and align, and its type.
 #[cycle(reading)]
 fn read_member(alloc: Global, words: &mut Words) -> Result<StructMemberType, Unread>
-    ensures same { words.new.all.now ≡ words.old.all.now }
-    ensures forwards { words.old.taken ≤ words.new.taken }
+    ensures { GoesOn words.old words.new }
 {
     let name = String::from_str(alloc, words.next()?)?;
     let size = words.next_attribute()?;
@@ -96,7 +93,9 @@ fn read_member(alloc: Global, words: &mut Words) -> Result<StructMemberType, Unr
 }
 
 /// An address space, which may be `handle`, and an access mode.
-fn read_memory(words: &mut Words) -> Result<(AddressSpace, AccessMode), Unread> {
+fn read_memory(words: &mut Words) -> Result<(AddressSpace, AccessMode), Unread>
+    ensures { GoesOn words.old words.new }
+{
     let space = match words.next()? {
         "handle" => AddressSpace::Handle,
         word => parsed(word)?,
@@ -104,7 +103,9 @@ fn read_memory(words: &mut Words) -> Result<(AddressSpace, AccessMode), Unread> 
     Ok((space, parsed(words.next()?)?))
 }
 
-fn read_flag(words: &mut Words) -> Result<Option<AccelerationStructureFlags>, Unread> {
+fn read_flag(words: &mut Words) -> Result<Option<AccelerationStructureFlags>, Unread>
+    ensures { GoesOn words.old words.new }
+{
     match words.next()? {
         "-" => Ok(None),
         word => Ok(Some(parsed(word)?)),
@@ -112,7 +113,9 @@ fn read_flag(words: &mut Words) -> Result<Option<AccelerationStructureFlags>, Un
 }
 
 /// A sampler or a texture.
-fn read_opaque(word: &str, words: &mut Words) -> Result<Type, Unread> {
+fn read_opaque(word: &str, words: &mut Words) -> Result<Type, Unread>
+    ensures { GoesOn words.old words.new }
+{
     if let Ok(sampler) = SamplerType::from_str(word) {
         return Ok(Type::Sampler(sampler));
     }
@@ -137,7 +140,9 @@ fn read_opaque(word: &str, words: &mut Words) -> Result<Type, Unread> {
     Ok(Type::Texture(texture))
 }
 
-fn read_storage(word: &str, words: &mut Words) -> Result<TextureType, Unread> {
+fn read_storage(word: &str, words: &mut Words) -> Result<TextureType, Unread>
+    ensures { GoesOn words.old words.new }
+{
     let format: TexelFormat = parsed(words.next()?)?;
     let access: AccessMode = parsed(words.next()?)?;
     match word {

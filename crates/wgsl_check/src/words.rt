@@ -1,5 +1,5 @@
 // The words of a command, taken one after another.
-ghost use Rattle.std.specs.Prelude.{◌≡◌, ◌<◌, ◌≤◌, OnOk, length};
+ghost use Rattle.std.specs.Prelude.{◌<◌, ◌≤◌, OnOk, length};
 
 use std::alloc::AllocError;
 
@@ -26,14 +26,15 @@ pub struct Words<'w, 't> {
 }
 
 impl<'w, 't> Words<'w, 't> {
+    ghost use Rattle.wgsl_check.specs.Taken.{GoesOn};
+
     pub fn new(all: &'w [&'t str]) -> Words<'w, 't> {
         Words { all, taken: 0 }
     }
 
     /// The next word.
     pub fn next(&mut self) -> Result<&'t str, Unread>
-        ensures same { self.new.all.now ≡ self.old.all.now }
-        ensures forwards { self.old.taken ≤ self.new.taken }
+        ensures goes_on { GoesOn self.old self.new }
         ensures one { OnOk result (self.old.taken < self.new.taken) }
     {
         if self.taken == self.all.len() {
@@ -46,24 +47,21 @@ impl<'w, 't> Words<'w, 't> {
 
     /// A number: decimal digits alone, with leading zeros or without.
     pub fn next_number(&mut self) -> Result<u64, Unread>
-        ensures same { self.new.all.now ≡ self.old.all.now }
-        ensures forwards { self.old.taken ≤ self.new.taken }
+        ensures { GoesOn self.old self.new }
     {
         number(self.next()?)
     }
 
     /// A number of components, columns or rows.
     pub fn next_small(&mut self) -> Result<u8, Unread>
-        ensures same { self.new.all.now ≡ self.old.all.now }
-        ensures forwards { self.old.taken ≤ self.new.taken }
+        ensures { GoesOn self.old self.new }
     {
         u8::try_from(self.next_number()?).map_err(|_e| Unread::Word)
     }
 
     /// A number of elements, or `*` where it is not known.
     pub fn next_count(&mut self) -> Result<Option<usize>, Unread>
-        ensures same { self.new.all.now ≡ self.old.all.now }
-        ensures forwards { self.old.taken ≤ self.new.taken }
+        ensures { GoesOn self.old self.new }
     {
         let word = self.next()?;
         if word == "*" {
@@ -75,8 +73,7 @@ impl<'w, 't> Words<'w, 't> {
 
     /// An attribute of a member in bytes, or `-` where it has none.
     pub fn next_attribute(&mut self) -> Result<Option<u32>, Unread>
-        ensures same { self.new.all.now ≡ self.old.all.now }
-        ensures forwards { self.old.taken ≤ self.new.taken }
+        ensures { GoesOn self.old self.new }
     {
         let word = self.next()?;
         if word == "-" {
