@@ -89,7 +89,12 @@ fn read_member(alloc: Global, words: &mut Words) -> Result<StructMemberType, Unr
     let size = words.next_attribute()?;
     let align = words.next_attribute()?;
     let ty = read_type(alloc, words)?;
-    Ok(StructMemberType { name, ty, size, align })
+    Ok(StructMemberType {
+        name,
+        ty,
+        size,
+        align,
+    })
 }
 
 /// An address space, which may be `handle`, and an access mode.

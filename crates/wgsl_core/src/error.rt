@@ -51,7 +51,10 @@ impl fmt::Display for Error {
     fn fmt<W: Write>(&self, f: &mut fmt::Formatter<W>) -> fmt::Result {
         match self {
             Error::Binary(o, a, b) => {
-                write!(f, "cannot use binary operator `{o}` with operands `{a}` and `{b}`")
+                write!(
+                    f,
+                    "cannot use binary operator `{o}` with operands `{a}` and `{b}`"
+                )
             }
         }
     }

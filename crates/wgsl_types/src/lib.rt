@@ -6,6 +6,6 @@ pub mod error;
 pub mod syntax;
 pub mod ty;
 
-pub use wgsl_core::builtin;
 pub use wgsl_core::error::{Error, Fail};
 pub use wgsl_core::ty::Type;
+pub use wgsl_core::{builtin, laws, mem};
