@@ -1,5 +1,6 @@
 // What no clause says: which lines are answered how, and what a read or a write that fails comes to.
 mod layout;
+mod names;
 mod streams;
 mod types;
 
