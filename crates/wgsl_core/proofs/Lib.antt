@@ -5,6 +5,7 @@ pub mod Scalars
 pub mod Forms
 pub mod Sames
 pub mod Refused
+pub mod Layouts
 pub mod Recognition
 pub mod Ranks
 pub mod Sums

@@ -125,9 +125,9 @@ pub no_layer_rank : (t u : WgslType) (l : Layer) (e : WgslType) → layer_of t �
 no_layer_rank t u l e p q =
     subst (λ t. IsRank None t u) (sym (layered_at t l e p))
     (no_rank (within l e) u (λ w m.
-      let k = converts_from_within l e u w m in
-      let z : layer_of u ≡ Some (l, k.0) = ap layer_of k.1 in
-      absurd (cc (sym q ∙ z))))
+    let k = converts_from_within l e u w m in
+    let z : layer_of u ≡ Some (l, k.0) = ap layer_of k.1 in
+    absurd (cc (sym q ∙ z))))
 
 -- Loads
 

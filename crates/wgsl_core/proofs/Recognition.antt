@@ -131,7 +131,7 @@ pub not_two : (s : StructType) (xs : List StructMemberType) → xs ≡ ((out-Str
 not_two s xs e h = refuted _ (λ r k.
     let c : count (members_in (struct_type (struct_view s))) ≡ 2 = ap (λ t. count (members_in t)) (k ∙ result_is r) in
     let d : count (members_in (struct_type (struct_view s))) ≡ length xs =
-        ap (λ t. count (members_in t)) (view-struct s) ∙ (count_of _ ∙ ap length (sym e)) in
+    ap (λ t. count (members_in t)) (view-struct s) ∙ (count_of _ ∙ ap length (sym e)) in
     h (sym d ∙ c))
 
 two : (xs : List StructMemberType) (x y : StructMemberType) → length xs ≡ 2 → x ≡ get_or xs 0 x → y ≡ get_or xs 1 y → xs ≡ x ∷ y ∷ []
@@ -147,7 +147,7 @@ parts : (s : StructType) (xs : List StructMemberType) (x y : StructMemberType) �
     IsResult (string_bytes (out-StructType s).name) (member_view x) (member_view y) r ↔ (struct_type (struct_view s) ≡ result_type r)
 parts s xs x y h r =
     let seen : struct_type (struct_view s) ≡ struct (string_bytes (out-StructType s).name) (two_members (member_view x) (member_view y)) =
-        view-struct s ∙ ap (λ ms. struct (string_bytes (out-StructType s).name) (members_view ms)) (sym h.0 ∙ two xs x y h.1 h.2 h.3) in
+    view-struct s ∙ ap (λ ms. struct (string_bytes (out-StructType s).name) (members_view ms)) (sym h.0 ∙ two xs x y h.1 h.2 h.3) in
     let w = whole (string_bytes (out-StructType s).name) (member_view x) (member_view y) r in
     (λ k. seen ∙ w.0 k, λ e. w.1 (sym seen ∙ e))
 
@@ -196,4 +196,4 @@ another s xs x y name h q shape function is other = refuted _ (λ r e.
     let p : r.precision ≡ q.precision = ap (λ (z : ResultShape × ResultPrecision). z.1) d in
     let z : r ≡ q = λ i. record { function = f i; shape = g i; precision = p i } in
     other (subst (λ n. IsResult n (member_view x) (member_view y) q) (sym is)
-      (subst (λ r. IsResult (string_bytes (out-StructType s).name) (member_view x) (member_view y) r) z k)))
+    (subst (λ r. IsResult (string_bytes (out-StructType s).name) (member_view x) (member_view y) r) z k)))

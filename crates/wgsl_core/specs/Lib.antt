@@ -5,5 +5,6 @@ pub mod Parts
 pub mod Equality
 pub mod RefusalEquality
 pub mod Results
+pub mod Memory
 pub mod Places
 pub mod Planned

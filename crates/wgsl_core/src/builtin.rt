@@ -30,7 +30,12 @@ impl Type {
     }
 }
 
-fn refuse_binary(alloc: Global, operator: BinaryOperator, lhs: &Type, rhs: &Type) -> Result<Error, AllocError>
+fn refuse_binary(
+    alloc: Global,
+    operator: BinaryOperator,
+    lhs: &Type,
+    rhs: &Type,
+) -> Result<Error, AllocError>
     ensures names { IfOk result (λ e. refusal e ≡ binary operator (view lhs.now) (view rhs.now)) }
     ensures takes_no_memory { IsFlat (view lhs.now) → IsFlat (view rhs.now) → IsOk result }
 {
@@ -101,5 +106,8 @@ fn common_inside<'a>(layer: Layer, a: &'a Type, b: &'a Type) -> Option<Planned<'
     ensures { IsInside (layer_view layer) (view a.now) (view b.now) (option_map planned_view result) }
 {
     let ty = convert_ty(a, b)?;
-    Some(Planned { layer: Some(layer), ty })
+    Some(Planned {
+        layer: Some(layer),
+        ty,
+    })
 }

@@ -116,7 +116,9 @@ fn parent(place: Place) -> Option<Place>
 {
     match place {
         Place::Scalar(scalar) => match scalar {
-            Scalar::I32 | Scalar::U32 | Scalar::AbstractFloat => Some(Place::Scalar(Scalar::AbstractInt)),
+            Scalar::I32 | Scalar::U32 | Scalar::AbstractFloat => Some(Place::Scalar(
+                Scalar::AbstractInt,
+            )),
             Scalar::F32 | Scalar::F16 => Some(Place::Scalar(Scalar::AbstractFloat)),
             Scalar::Bool | Scalar::AbstractInt | Scalar::I64 | Scalar::U64 | Scalar::F64 => None,
         },

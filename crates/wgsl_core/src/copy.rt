@@ -67,12 +67,20 @@ impl StructMemberType {
     {
         let name = String::from_str(alloc, self.name.as_str())?;
         let ty = self.ty.clone(alloc)?;
-        Ok(StructMemberType { name, ty, size: self.size, align: self.align })
+        Ok(StructMemberType {
+            name,
+            ty,
+            size: self.size,
+            align: self.align,
+        })
     }
 }
 
 #[cycle(copy)]
-fn copy_members(alloc: Global, members: &Vec<StructMemberType>) -> Result<Vec<StructMemberType>, AllocError>
+fn copy_members(
+    alloc: Global,
+    members: &Vec<StructMemberType>,
+) -> Result<Vec<StructMemberType>, AllocError>
     ensures { IfOk result (λ v. members_view v.items ≡ members_view members.now.items) }
 {
     let mut copies = Vec::with_capacity(alloc, members.len())?;

@@ -12,6 +12,8 @@ pub mod equal_signature;
 pub mod error;
 pub mod inst;
 pub mod kinds;
+pub mod laws;
+pub mod mem;
 pub mod parts;
 pub mod results;
 pub mod show;

@@ -20,8 +20,16 @@ impl StructType {
         };
         let (shape, precision) = shaped_float(&first.ty)?;
         let function = function_named(second.name.as_str())?;
-        let found = ResultStruct { function, shape, precision };
-        if is_result(self.name.as_str(), first, second, found) { Some(found) } else { None }
+        let found = ResultStruct {
+            function,
+            shape,
+            precision,
+        };
+        if is_result(self.name.as_str(), first, second, found) {
+            Some(found)
+        } else {
+            None
+        }
     }
 }
 
@@ -76,11 +84,21 @@ fn function_named(second: &str) -> Option<ResultFunction>
     }
 }
 
-fn is_result(name: &str, first: &StructMemberType, second: &StructMemberType, result_struct: ResultStruct) -> bool
+fn is_result(
+    name: &str,
+    first: &StructMemberType,
+    second: &StructMemberType,
+    result_struct: ResultStruct,
+) -> bool
     ensures { IsTrue result ↔ IsResult name.now (member_view first.now) (member_view second.now) result_struct }
 {
     name == result_struct.name()
-        && is_plain(first, "fract", result_struct.shape, float_in(result_struct.precision))
+        && is_plain(
+            first,
+            "fract",
+            result_struct.shape,
+            float_in(result_struct.precision),
+        )
         && is_second(second, result_struct)
 }
 
@@ -88,8 +106,18 @@ fn is_second(member: &StructMemberType, result_struct: ResultStruct) -> bool
     ensures { IsTrue result ↔ (member_view member.now ≡ second_member result_struct.function result_struct.shape result_struct.precision) }
 {
     match result_struct.function {
-        ResultFunction::Frexp => is_plain(member, "exp", result_struct.shape, exponent_in(result_struct.precision)),
-        ResultFunction::Modf => is_plain(member, "whole", result_struct.shape, float_in(result_struct.precision)),
+        ResultFunction::Frexp => is_plain(
+            member,
+            "exp",
+            result_struct.shape,
+            exponent_in(result_struct.precision),
+        ),
+        ResultFunction::Modf => is_plain(
+            member,
+            "whole",
+            result_struct.shape,
+            float_in(result_struct.precision),
+        ),
     }
 }
 
@@ -116,7 +144,10 @@ fn exponent_in(precision: ResultPrecision) -> Scalar
 fn is_plain(member: &StructMemberType, name: &str, shape: ResultShape, of: Scalar) -> bool
     ensures { IsTrue result ↔ (member_view member.now ≡ plain name.now (shaped shape (scalar of))) }
 {
-    member.name.as_str() == name && member.size.is_none() && member.align.is_none() && has_shape(&member.ty, shape, of)
+    member.name.as_str() == name
+        && member.size.is_none()
+        && member.align.is_none()
+        && has_shape(&member.ty, shape, of)
 }
 
 fn has_shape(ty: &Type, shape: ResultShape, of: Scalar) -> bool

@@ -14,3 +14,10 @@ pub mod Called
 pub mod Lawful
 pub mod SumRows
 pub mod Examples
+pub mod Placing
+pub mod OneSize
+pub mod LayoutSteps
+pub mod StructSizes
+pub mod StructAligns
+pub mod Offsets
+pub mod MatrixColumns

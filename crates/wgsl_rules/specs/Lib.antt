@@ -14,3 +14,5 @@ pub mod Choice
 pub mod Operators
 pub mod Laws
 pub mod Refusals
+pub mod Placement
+pub mod Layout

@@ -17,7 +17,7 @@ loop-met-preserved c =
     let d : place_view c.args.source ≢ place_view c.loop-met.met = λ p. absurd (cc (sym (c.is_same.ensures.1 (sym p)) ∙ c.loop-met-test.true)) in
     record {
       climbed = ancestor_up e c.loop-met.invariant.climbed;
-      kept = λ n a. let k = c.loop-met.invariant.kept n a in let m = ancestor_parent d e k.1 in (m.0, m.2)
+      kept = λ n a. let k = c.loop-met.invariant.kept n a in let m = ancestor_parent d e k.1 in (m.0, m.2);
     }
 
 pub returns-in-None-clause-rank : goal.returns-in-None-clause-rank

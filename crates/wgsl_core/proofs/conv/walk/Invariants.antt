@@ -8,7 +8,7 @@ use Rattle.wgsl_core.proofs.conv.walk.Given as goal
 abbrev pub invariant-loop-met : goal.invariant-loop-met
 invariant-loop-met l = record {
   climbed : Ancestor (place_view l.met) (place_view l.target) l.steps;
-  kept : (n : ℕ) → Ancestor (place_view l.source) (place_view l.target) n → (m : ℕ) × Ancestor (place_view l.source) (place_view l.met) m
+  kept : (n : ℕ) → Ancestor (place_view l.source) (place_view l.target) n → (m : ℕ) × Ancestor (place_view l.source) (place_view l.met) m;
 }
 
 abbrev pub decreases-loop-met : goal.decreases-loop-met

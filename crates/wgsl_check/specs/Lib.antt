@@ -1,0 +1,5 @@
+pub mod Output
+pub mod Session
+pub mod Status
+pub mod Words
+pub mod Taken

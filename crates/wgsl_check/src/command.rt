@@ -1,0 +1,96 @@
+// What the program answers to a command.
+use crate::read::read_type;
+use crate::words::{Unread, Words};
+use std::alloc::{AllocError, Global};
+use wgsl_types::conv::conversion_rank;
+use wgsl_types::error::Fail;
+use wgsl_types::ty::Type;
+
+/// The answer to a line's words, or `None` where they are no command.
+pub fn answer(alloc: Global, words: &[&str]) -> Result<Option<String>, AllocError> {
+    match command(alloc, Words::new(words)) {
+        Ok(text) => Ok(Some(text)),
+        Err(Unread::Word) => Ok(None),
+        Err(Unread::Memory(e)) => Err(e),
+    }
+}
+
+fn command(alloc: Global, mut words: Words) -> Result<String, Unread> {
+    match words.next()? {
+        "rank" => rank(alloc, words),
+        "binary" => binary(alloc, words),
+        "size" => size(alloc, words),
+        "offsets" => offsets(alloc, words),
+        _ => Err(Unread::Word),
+    }
+}
+
+/// `rank T U`: the rank of the conversion.
+fn rank(alloc: Global, mut words: Words) -> Result<String, Unread> {
+    let from = read_type(alloc, &mut words)?;
+    let to = read_type(alloc, &mut words)?;
+    words.end()?;
+    Ok(number_or_none(alloc, conversion_rank(&from, &to))?)
+}
+
+/// `binary OP T U`: the type of the expression, or why it has none.
+fn binary(alloc: Global, mut words: Words) -> Result<String, Unread> {
+    let operator = words.next()?;
+    let lhs = read_type(alloc, &mut words)?;
+    let rhs = read_type(alloc, &mut words)?;
+    words.end()?;
+    match operator {
+        "+" => Ok(type_or_refusal(alloc, lhs.op_add(alloc, &rhs))?),
+        _ => Err(Unread::Word),
+    }
+}
+
+/// `size T`: the size and the alignment.
+fn size(alloc: Global, mut words: Words) -> Result<String, Unread> {
+    let ty = read_type(alloc, &mut words)?;
+    words.end()?;
+    let mut text = number_or_none(alloc, ty.size_of())?;
+    text.push(' ')?;
+    text.push_str(&number_or_none(alloc, ty.align_of())?)?;
+    Ok(text)
+}
+
+/// `offsets T`, where T is a struct: the offset of each member.
+fn offsets(alloc: Global, mut words: Words) -> Result<String, Unread> {
+    let Type::Struct(read) = read_type(alloc, &mut words)? else {
+        return Err(Unread::Word);
+    };
+    words.end()?;
+    match read.offsets(alloc)? {
+        Some(offsets) => Ok(spaced(alloc, &offsets)?),
+        None => Ok(String::from_str(alloc, "none")?),
+    }
+}
+
+/// The spelling of a type, or the message of a refusal.
+fn type_or_refusal(alloc: Global, answer: Result<Type, Fail>) -> Result<String, AllocError> {
+    match answer {
+        Ok(ty) => ty.to_string(alloc),
+        Err(Fail::Error(e)) => e.to_string(alloc),
+        Err(Fail::Memory(e)) => Err(e),
+    }
+}
+
+fn number_or_none(alloc: Global, number: Option<u32>) -> Result<String, AllocError> {
+    match number {
+        Some(number) => number.to_string(alloc),
+        None => String::from_str(alloc, "none"),
+    }
+}
+
+/// The numbers with one space between.
+fn spaced(alloc: Global, numbers: &[u32]) -> Result<String, AllocError> {
+    let mut text = String::new(alloc);
+    for number in numbers {
+        if !text.is_empty() {
+            text.push(' ')?;
+        }
+        text.push_str(&number.to_string(alloc)?)?;
+    }
+    Ok(text)
+}

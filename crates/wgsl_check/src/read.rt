@@ -1,0 +1,168 @@
+// The types that words stand for.
+ghost use Rattle.wgsl_check.specs.Taken.{GoesOn};
+
+use crate::words::{Unread, Words};
+use std::alloc::{AllocError, Global};
+use std::str::FromStr;
+use wgsl_types::syntax::{AccelerationStructureFlags, AccessMode, AddressSpace, TexelFormat};
+use wgsl_types::ty::{SamplerType, StructMemberType, StructType, TextureType, Type};
+
+/// The type that the next words stand for.
+#[cycle(reading)]
+pub fn read_type(alloc: Global, words: &mut Words) -> Result<Type, Unread>
+    ensures { GoesOn words.old words.new }
+{
+    match words.next()? {
+        "bool" => Ok(Type::Bool),
+        "AbstractInt" => Ok(Type::AbstractInt),
+        "AbstractFloat" => Ok(Type::AbstractFloat),
+        "i32" => Ok(Type::I32),
+        "u32" => Ok(Type::U32),
+        "f32" => Ok(Type::F32),
+        "f16" => Ok(Type::F16),
+        "i64" => Ok(Type::I64),
+        "u64" => Ok(Type::U64),
+        "f64" => Ok(Type::F64),
+        "vec" => {
+            let components = words.next_small()?;
+            Ok(Type::Vec(components, read_boxed(alloc, words)?))
+        }
+        "mat" => {
+            let columns = words.next_small()?;
+            let rows = words.next_small()?;
+            Ok(Type::Mat(columns, rows, read_boxed(alloc, words)?))
+        }
+        "array" => {
+            let count = words.next_count()?;
+            Ok(Type::Array(read_boxed(alloc, words)?, count))
+        }
+        "binding_array" => {
+            let count = words.next_count()?;
+            Ok(Type::BindingArray(read_boxed(alloc, words)?, count))
+        }
+        "atomic" => Ok(Type::Atomic(read_boxed(alloc, words)?)),
+        "ptr" => {
+            let (space, access) = read_memory(words)?;
+            Ok(Type::Ptr(space, read_boxed(alloc, words)?, access))
+        }
+        "ref" => {
+            let (space, access) = read_memory(words)?;
+            Ok(Type::Ref(space, read_boxed(alloc, words)?, access))
+        }
+        "struct" => read_struct(alloc, words),
+        "ray_query" => Ok(Type::RayQuery(read_flag(words)?)),
+        "acceleration_structure" => Ok(Type::AccelerationStructure(read_flag(words)?)),
+        word => read_opaque(word, words),
+    }
+}
+
+#[cycle(reading)]
+fn read_boxed(alloc: Global, words: &mut Words) -> Result<Box<Type>, Unread>
+    ensures { GoesOn words.old words.new }
+{
+    let ty = read_type(alloc, words)?;
+    Ok(Box::new(alloc, ty).map_err(|_e| AllocError)?)
+}
+
+/// A struct: its name, the number of its members, and the members.
+#[cycle(reading)]
+fn read_struct(alloc: Global, words: &mut Words) -> Result<Type, Unread>
+    ensures { GoesOn words.old words.new }
+{
+    let name = String::from_str(alloc, words.next()?)?;
+    let count = words.next_number()?;
+    let mut members = Vec::new(alloc);
+    for _ in 0..count {
+        let member = read_member(alloc, words)?;
+        members.push(member).map_err(|_e| AllocError)?;
+    }
+    let read = StructType { name, members };
+    Ok(Type::Struct(Box::new(alloc, read).map_err(|_e| AllocError)?))
+}
+
+/// A member: its name, its attributes size and align, and its type.
+#[cycle(reading)]
+fn read_member(alloc: Global, words: &mut Words) -> Result<StructMemberType, Unread>
+    ensures { GoesOn words.old words.new }
+{
+    let name = String::from_str(alloc, words.next()?)?;
+    let size = words.next_attribute()?;
+    let align = words.next_attribute()?;
+    let ty = read_type(alloc, words)?;
+    Ok(StructMemberType {
+        name,
+        ty,
+        size,
+        align,
+    })
+}
+
+/// An address space, which may be `handle`, and an access mode.
+fn read_memory(words: &mut Words) -> Result<(AddressSpace, AccessMode), Unread>
+    ensures { GoesOn words.old words.new }
+{
+    let space = match words.next()? {
+        "handle" => AddressSpace::Handle,
+        word => parsed(word)?,
+    };
+    Ok((space, parsed(words.next()?)?))
+}
+
+fn read_flag(words: &mut Words) -> Result<Option<AccelerationStructureFlags>, Unread>
+    ensures { GoesOn words.old words.new }
+{
+    match words.next()? {
+        "-" => Ok(None),
+        word => Ok(Some(parsed(word)?)),
+    }
+}
+
+/// A sampler or a texture.
+fn read_opaque(word: &str, words: &mut Words) -> Result<Type, Unread>
+    ensures { GoesOn words.old words.new }
+{
+    if let Ok(sampler) = SamplerType::from_str(word) {
+        return Ok(Type::Sampler(sampler));
+    }
+    let texture = match word {
+        "texture_1d" => TextureType::Sampled1D(parsed(words.next()?)?),
+        "texture_1d_array" => TextureType::Sampled1DArray(parsed(words.next()?)?),
+        "texture_2d" => TextureType::Sampled2D(parsed(words.next()?)?),
+        "texture_2d_array" => TextureType::Sampled2DArray(parsed(words.next()?)?),
+        "texture_3d" => TextureType::Sampled3D(parsed(words.next()?)?),
+        "texture_cube" => TextureType::SampledCube(parsed(words.next()?)?),
+        "texture_cube_array" => TextureType::SampledCubeArray(parsed(words.next()?)?),
+        "texture_multisampled_2d" => TextureType::Multisampled2D(parsed(words.next()?)?),
+        "texture_multisampled_2d_array" => TextureType::Multisampled2DArray(parsed(words.next()?)?),
+        "texture_depth_multisampled_2d" => TextureType::DepthMultisampled2D,
+        "texture_external" => TextureType::External,
+        "texture_depth_2d" => TextureType::Depth2D,
+        "texture_depth_2d_array" => TextureType::Depth2DArray,
+        "texture_depth_cube" => TextureType::DepthCube,
+        "texture_depth_cube_array" => TextureType::DepthCubeArray,
+        _ => read_storage(word, words)?,
+    };
+    Ok(Type::Texture(texture))
+}
+
+fn read_storage(word: &str, words: &mut Words) -> Result<TextureType, Unread>
+    ensures { GoesOn words.old words.new }
+{
+    let format: TexelFormat = parsed(words.next()?)?;
+    let access: AccessMode = parsed(words.next()?)?;
+    match word {
+        "texture_storage_1d" => Ok(TextureType::Storage1D(format, access)),
+        "texture_storage_1d_array" => Ok(TextureType::Storage1DArray(format, access)),
+        "texture_storage_2d" => Ok(TextureType::Storage2D(format, access)),
+        "texture_storage_2d_array" => Ok(TextureType::Storage2DArray(format, access)),
+        "texture_storage_3d" => Ok(TextureType::Storage3D(format, access)),
+        _ => Err(Unread::Word),
+    }
+}
+
+fn parsed<T: FromStr>(word: &str) -> Result<T, Unread>
+where
+    T::Err: Drop,
+{
+    T::from_str(word).map_err(|_e| Unread::Word)
+}

@@ -1,0 +1,157 @@
+// Sizes, alignments and offsets.
+use super::expect_answers;
+use std::alloc::{AllocError, Global};
+use std::test::Fail;
+use wgsl_types::ty::{StructMemberType, StructType, Type};
+
+#[test]
+fn sizes_and_alignments_are_printed(rt: HostRuntime) -> Result<(), Fail> {
+    expect_answers(
+        &rt,
+        &[
+            ("size bool", "4 4"),
+            ("size f16", "2 2"),
+            ("size f64", "8 8"),
+            ("size AbstractInt", "none none"),
+            ("size vec 3 f16", "6 8"),
+            ("size vec 3 f32", "12 16"),
+            ("size vec 3 bool", "12 none"),
+            ("size vec 0 f32", "0 0"),
+            ("size vec 255 f32", "1020 1020"),
+            ("size mat 4 3 f32", "64 16"),
+            ("size mat 2 3 bool", "none none"),
+            ("size array 4 vec 3 f32", "64 16"),
+            ("size array 2 vec 0 f32", "none 0"),
+            ("size array * f32", "none 4"),
+            ("size atomic u64", "8 8"),
+            ("size atomic i64", "8 8"),
+            ("size atomic i32", "4 4"),
+            ("size ptr function read_write i32", "none none"),
+            ("size binding_array 2 f32", "none none"),
+        ],
+    )?;
+    Ok(())
+}
+
+#[test]
+fn counts_and_sizes_past_32_bits_have_no_size(rt: HostRuntime) -> Result<(), Fail> {
+    expect_answers(
+        &rt,
+        &[
+            ("size array 1073741823 f32", "4294967292 4"),
+            ("size array 1073741824 f32", "none 4"),
+            ("size array 4294967296 f32", "none 4"),
+            ("size array 18446744073709551615 f32", "none 4"),
+            ("size struct S 1 a 4294967295 1 f32", "4294967295 1"),
+            ("size struct S 1 a 4294967295 4 f32", "none 4"),
+            (
+                "size struct S 1 a 1 2147483648 u32",
+                "2147483648 2147483648",
+            ),
+            (
+                "size struct S 2 a 1 1 u32 b 1 2147483648 u32",
+                "none 2147483648",
+            ),
+        ],
+    )?;
+    Ok(())
+}
+
+#[test]
+fn sizes_of_structs_are_those_of_their_least_placements(rt: HostRuntime) -> Result<(), Fail> {
+    expect_answers(
+        &rt,
+        &[
+            (
+                "size struct S 3 a - - f32 b - - vec 3 f32 c - - f32",
+                "32 16",
+            ),
+            ("size struct S 2 a 10 - f32 b - 2 f16", "12 4"),
+            ("size struct S 2 a 1 3 u32 b 1 2 u32", "3 3"),
+            (
+                "size struct O 2 a - - f32 i - - struct S 2 a 1 3 u32 b 1 2 u32",
+                "12 4",
+            ),
+            ("size struct S 1 a - - array * f32", "none 4"),
+            ("size struct S 1 a - 0 f32", "none 0"),
+            ("size struct S 0", "none 0"),
+        ],
+    )?;
+    Ok(())
+}
+
+#[test]
+fn offsets_are_the_least(rt: HostRuntime) -> Result<(), Fail> {
+    expect_answers(
+        &rt,
+        &[
+            (
+                "offsets struct S 3 a - - f32 b - - vec 3 f32 c - - f32",
+                "0 16 28",
+            ),
+            ("offsets struct S 2 a 1 3 u32 b 1 2 u32", "0 2"),
+            (
+                "offsets struct O 2 a - - f32 i - - struct S 2 a 1 3 u32 b 1 2 u32",
+                "0 6",
+            ),
+            (
+                "offsets struct S 2 a 4294967295 1 u32 b 0 1 u32",
+                "0 4294967295",
+            ),
+            ("offsets struct S 2 a 4294967295 1 u32 b 0 2 u32", "none"),
+            ("offsets struct S 1 a - - f32", "0"),
+            ("offsets struct S 0", "none"),
+            ("offsets struct S 1 a - 0 f32", "none"),
+            ("offsets f32", "bad line 9"),
+            ("offsets struct S 0 f32", "bad line 10"),
+            ("size", "bad line 11"),
+            ("size f32 f32", "bad line 12"),
+        ],
+    )?;
+    Ok(())
+}
+
+#[test]
+fn the_least_size_of_an_open_array_is_its_stride(rt: HostRuntime) -> Result<(), Fail> {
+    let element = Box::new(rt.alloc(), Type::F32)?;
+    let vector = Box::new(rt.alloc(), Type::Vec(3, element))?;
+    let open = Type::Array(vector, None);
+    assert_eq!(rt; open.min_size_of(), Some(16));
+    assert_eq!(rt; open.size_of(), None);
+    assert_eq!(rt; Type::F16.min_size_of(), Some(2));
+    Ok(())
+}
+
+/// A struct whose only member is of the type.
+fn wrapped(alloc: Global, ty: Type) -> Result<Type, AllocError> {
+    let name = String::from_str(alloc, "inner")?;
+    let mut members = Vec::new(alloc);
+    let member = StructMemberType {
+        name,
+        ty,
+        size: None,
+        align: None,
+    };
+    members.push(member).map_err(|_e| AllocError)?;
+    let name = String::from_str(alloc, "Outer")?;
+    let outer = Box::new(alloc, StructType { name, members }).map_err(|_e| AllocError)?;
+    Ok(Type::Struct(outer))
+}
+
+#[test]
+fn structs_and_layers_may_be_nested_300_deep(rt: HostRuntime) -> Result<(), Fail> {
+    let mut ty = Type::F32;
+    for _ in 0..300 {
+        ty = wrapped(rt.alloc(), ty)?;
+    }
+    assert_eq!(rt; ty.size_of(), Some(4));
+    assert_eq!(rt; ty.align_of(), Some(4));
+    let mut line = String::new(rt.alloc());
+    line.push_str("size ")?;
+    for _ in 0..290 {
+        line.push_str("array 1 vec 1 ")?;
+    }
+    line.push_str("f32")?;
+    expect_answers(&rt, &[(line.as_str(), "4 4")])?;
+    Ok(())
+}

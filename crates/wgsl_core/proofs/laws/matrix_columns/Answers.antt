@@ -1,0 +1,11 @@
+use Rattle.std.proofs.Common.{◌↔◌, Some, sym, subst, arith}
+use Rattle.wgsl_rules.specs.Types.{WgslType, array, vec, mat}
+use Rattle.wgsl_rules.specs.Layout.{HasSize}
+use Rattle.wgsl_rules.proofs.MatrixColumns.{columns_law}
+use Rattle.wgsl_core.proofs.laws.matrix_columns.Goals as goal
+
+pub returns : goal.returns
+returns c = λ s e pos n.
+    let small = c.ranges.columns.fits in
+    subst (λ (t : WgslType). HasSize (mat c.args.columns c.args.rows t) n ↔ HasSize (array (Some c.args.columns) (vec c.args.rows t)) n) (sym e)
+    (columns_law s c.args.columns c.args.rows pos (omega (arith, small)) n)

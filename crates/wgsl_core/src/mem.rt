@@ -1,0 +1,254 @@
+// Sizes, alignments and offsets in memory.
+ghost use Rattle.std.specs.Prelude.{◌≡◌, ◌↔◌, IfOk, IfSome};
+ghost use Rattle.wgsl_rules.specs.Types.{struct, array, vec, mat};
+ghost use Rattle.wgsl_rules.specs.Layout.{IsAtomicSize, IsTimes, IsStride, IsArraySize, IsAlignOfThree, IsVectorAlign, IsGiven, HasSize, HasAlignment, HasLeastSize, IsExactly, HasNoSize, LacksSize, AreOffsets};
+ghost use Rattle.wgsl_core.specs.View.{view, struct_view, member_view};
+ghost use Rattle.wgsl_core.specs.Memory.{IsValue, IsSoonestEnd, IsLayout};
+
+use crate::ty::{StructMemberType, StructType, Type};
+use std::alloc::{AllocError, Global};
+
+/// The size and the alignment of a type, where it has them. They come from one walk over the type.
+#[derive(Clone, Copy)]
+struct Layout {
+    size: Option<u32>,
+    align: Option<u32>,
+}
+
+impl Type {
+    /// The size in bytes (WGSL, "Alignment and Size").
+    ///
+    /// None where a part has no size, as an abstract number, a pointer, a reference, a texture, a sampler, a binding
+    /// array, a ray query or an acceleration structure; where an alignment that is rounded up to is missing or 0; for
+    /// an array whose number of elements isn't known, or passes 4294967295; for a struct without members; and where
+    /// the size passes 4294967295.
+    pub fn size_of(&self) -> Option<u32>
+        ensures exact { IsExactly result (HasSize (view self.now)) }
+        ensures none { (result ≡ None) ↔ LacksSize (view self.now) }
+    {
+        self.layout().size
+    }
+
+    /// The least size in bytes: the stride of an array whose number of elements isn't known, and the size of every
+    /// other type (WGSL, "Alignment and Size").
+    ///
+    /// None where that stride or size is.
+    pub fn min_size_of(&self) -> Option<u32>
+        ensures { IsExactly result (HasLeastSize (view self.now)) }
+    {
+        match self {
+            Type::Array(ty, count) => least_array_size(ty, *count),
+            _ => self.size_of(),
+        }
+    }
+
+    /// The alignment in bytes, `Some(0)` for a struct without members (WGSL, "Alignment and Size").
+    ///
+    /// None where a part has none, as an abstract number, a pointer, a reference, a texture, a sampler, a binding
+    /// array, a ray query or an acceleration structure; for a vector of three, or a matrix of three rows, whose
+    /// components are not I32, U32, F32 or F16; and where it passes 4294967295.
+    pub fn align_of(&self) -> Option<u32>
+        ensures { IsExactly result (HasAlignment (view self.now)) }
+    {
+        self.layout().align
+    }
+
+    #[cycle(layout)]
+    fn layout(&self) -> Layout
+        ensures { IsLayout (view self.now) result }
+    {
+        match self {
+            Type::Bool | Type::I32 | Type::U32 | Type::F32 => aligned_to_size(4),
+            Type::F16 => aligned_to_size(2),
+            Type::I64 | Type::U64 | Type::F64 => aligned_to_size(8),
+            Type::Vec(n, ty) => vector_layout(*n, ty),
+            Type::Mat(c, r, ty) => matrix_layout(*c, *r, ty),
+            Type::Array(ty, count) => array_layout(ty, *count),
+            Type::Atomic(ty) => aligned_to_size(atomic_size(ty)),
+            Type::Struct(s) => s.layout(),
+            Type::AbstractInt
+            | Type::AbstractFloat
+            | Type::Ptr(_, _, _)
+            | Type::Ref(_, _, _)
+            | Type::Texture(_)
+            | Type::Sampler(_)
+            | Type::BindingArray(_, _)
+            | Type::RayQuery(_)
+            | Type::AccelerationStructure(_) => Layout {
+                size: None,
+                align: None,
+            },
+        }
+    }
+}
+
+fn aligned_to_size(size: u32) -> Layout
+    ensures { result ≡ record { size = Some size; align = Some size } }
+{
+    Layout {
+        size: Some(size),
+        align: Some(size),
+    }
+}
+
+fn atomic_size(ty: &Type) -> u32
+    ensures { IsAtomicSize (view ty.now) result }
+{
+    match ty {
+        Type::I64 | Type::U64 => 8,
+        _ => 4,
+    }
+}
+
+#[cycle(layout)]
+fn vector_layout(n: u8, ty: &Type) -> Layout
+    ensures { IsLayout (vec n (view ty.now)) result }
+{
+    let component = ty.layout();
+    Layout {
+        size: times(u32::from(n), component.size),
+        align: vector_align(n, ty, component.size),
+    }
+}
+
+#[cycle(layout)]
+fn matrix_layout(columns: u8, rows: u8, ty: &Type) -> Layout
+    ensures { IsLayout (mat columns rows (view ty.now)) result }
+{
+    let component = ty.layout();
+    let align = vector_align(rows, ty, component.size);
+    Layout {
+        size: times(u32::from(columns), align),
+        align,
+    }
+}
+
+#[cycle(layout)]
+fn array_layout(ty: &Type, count: Option<usize>) -> Layout
+    ensures { IsLayout (array count (view ty.now)) result }
+{
+    let element = ty.layout();
+    Layout {
+        size: array_size(count, rounded_up(element.size, element.align)),
+        align: element.align,
+    }
+}
+
+fn least_array_size(ty: &Type, count: Option<usize>) -> Option<u32>
+    ensures { IsExactly result (HasLeastSize (array count (view ty.now))) }
+{
+    let element = ty.layout();
+    let stride = rounded_up(element.size, element.align);
+    match count {
+        None => stride,
+        Some(_) => array_size(count, stride),
+    }
+}
+
+fn array_size(count: Option<usize>, stride: Option<u32>) -> Option<u32>
+    ensures { IsExactly result (IsArraySize count (IsValue stride)) }
+{
+    let count = u32::try_from(count?).ok()?;
+    times(count, stride)
+}
+
+fn vector_align(n: u8, ty: &Type, size: Option<u32>) -> Option<u32>
+    ensures { IsExactly result (IsVectorAlign n (view ty.now) (IsValue size)) }
+{
+    if n == 3 {
+        align_of_three(ty)
+    } else {
+        times(u32::from(n), size)
+    }
+}
+
+fn align_of_three(ty: &Type) -> Option<u32>
+    ensures { IsExactly result (IsAlignOfThree (view ty.now)) }
+{
+    match ty {
+        Type::I32 | Type::U32 | Type::F32 => Some(16),
+        Type::F16 => Some(8),
+        _ => None,
+    }
+}
+
+fn times(count: u32, size: Option<u32>) -> Option<u32>
+    ensures { IsExactly result (IsTimes count (IsValue size)) }
+{
+    count.checked_mul(size?)
+}
+
+fn rounded_up(size: Option<u32>, align: Option<u32>) -> Option<u32>
+    ensures { IsExactly result (IsStride (IsValue size) (IsValue align)) }
+{
+    size?.checked_next_multiple_of(align?)
+}
+
+impl StructType {
+    /// The offset of each member in bytes: no placement has a smaller one (WGSL, "Structure Member Layout").
+    ///
+    /// None exactly where the struct has no size: where a member has no size or no alignment, or the alignment 0;
+    /// where there is no member; and where the size passes 4294967295.
+    pub fn offsets(&self, alloc: Global) -> Result<Option<Vec<u32>>, AllocError>
+        ensures none { HasNoSize (struct_view self.now).members ↔ (result ≡ Ok None) }
+        ensures offsets { IfOk result (λ answer. IfSome answer (λ offsets. AreOffsets (struct_view self.now).members offsets.items)) }
+    {
+        if self.layout().size.is_none() {
+            return Ok(None);
+        }
+        let mut offsets = Vec::with_capacity(alloc, self.members.len())?;
+        let mut end: u32 = 0;
+        for member in &self.members {
+            let layout = member.layout();
+            let size = layout.size.unwrap();
+            let align = layout.align.unwrap();
+            let offset = end.next_multiple_of(align);
+            offsets.push(offset)?;
+            end = offset + size;
+        }
+        Ok(Some(offsets))
+    }
+
+    #[cycle(layout)]
+    fn layout(&self) -> Layout
+        ensures { IsLayout (struct (struct_view self.now).name (struct_view self.now).members) result }
+    {
+        let mut end = Some(0);
+        let mut greatest: u32 = 0;
+        for member in &self.members {
+            let layout = member.layout();
+            let Some(align) = layout.align else {
+                return Layout {
+                    size: None,
+                    align: None,
+                };
+            };
+            end = end_of_member(end, layout.size, align);
+            greatest = greatest.max(align);
+        }
+        Layout {
+            size: rounded_up(end, Some(greatest)),
+            align: Some(greatest),
+        }
+    }
+}
+
+fn end_of_member(end: Option<u32>, size: Option<u32>, align: u32) -> Option<u32>
+    ensures { IsExactly result (IsSoonestEnd end size align) }
+{
+    end?.checked_next_multiple_of(align)?.checked_add(size?)
+}
+
+impl StructMemberType {
+    #[cycle(layout)]
+    fn layout(&self) -> Layout
+        ensures size { let m = member_view self.now in IsExactly result.size (IsGiven m.size (HasSize m.ty)) }
+        ensures align { let m = member_view self.now in IsExactly result.align (IsGiven m.align (HasAlignment m.ty)) }
+    {
+        let ty = self.ty.layout();
+        Layout {
+            size: self.size.or(ty.size),
+            align: self.align.or(ty.align),
+        }
+    }
+}

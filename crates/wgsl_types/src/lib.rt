@@ -1,0 +1,11 @@
+//! WGSL's types and the rules on them, for users: every public item under the module that it belongs to.
+#![tactic(auto)]
+
+pub mod conv;
+pub mod error;
+pub mod syntax;
+pub mod ty;
+
+pub use wgsl_core::error::{Error, Fail};
+pub use wgsl_core::ty::Type;
+pub use wgsl_core::{builtin, laws, mem};

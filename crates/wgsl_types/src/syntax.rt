@@ -1,0 +1,10 @@
+//! The enumerations of WGSL, with their names.
+pub use wgsl_syntax::address::{AccessMode, AddressSpace};
+pub use wgsl_syntax::attribute::{
+    AccelerationStructureFlags, BuiltinValue, ConservativeDepth, DiagnosticSeverity,
+    InterpolationSampling, InterpolationType,
+};
+pub use wgsl_syntax::enumerant::Enumerant;
+pub use wgsl_syntax::operator::{AssignmentOperator, BinaryOperator, UnaryOperator};
+pub use wgsl_syntax::texel::TexelFormat;
+pub use wgsl_syntax::texture::SampledType;
