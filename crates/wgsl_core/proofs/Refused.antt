@@ -1,5 +1,5 @@
 -- Errors of one variant alone stand for its refusal.
-use Rattle.std.proofs.Common.{◌≡◌, ℕ, List, Bor, Global, refl, string_bytes}
+use Rattle.std.proofs.Common.{◌≡◌, ℕ, List, Bor, Global, refl}
 use Rattle.std.specs.Prelude.{String}
 use Rattle.wgsl_syntax.specs.declared.operator.BinaryOperator.{BinaryOperator}
 use Rattle.wgsl_syntax.specs.declared.operator.UnaryOperator.{UnaryOperator}

@@ -31,5 +31,5 @@ abbrev pub signature_view : CallSignature → Signature
 signature_view c = record {
   name = string_bytes c.name;
   template = option_map (λ ps. map parameter_view ps.items) c.tplt;
-  arguments = map view (c.args).items
+  arguments = map view (c.args).items;
 }

@@ -18,7 +18,10 @@ impl Error {
             Error::NotConstructible(t) => Ok(Error::NotConstructible(t.clone(alloc)?)),
             Error::SampledType(t) => Ok(Error::SampledType(t.clone(alloc)?)),
             Error::UnknownType(s) => Ok(Error::UnknownType(String::from_str(alloc, s.as_str())?)),
-            Error::UnexpectedTemplate(s) => Ok(Error::UnexpectedTemplate(String::from_str(alloc, s.as_str())?)),
+            Error::UnexpectedTemplate(s) => Ok(Error::UnexpectedTemplate(String::from_str(
+                alloc,
+                s.as_str(),
+            )?)),
             Error::MissingTemplate(s) => Ok(Error::MissingTemplate(*s)),
             Error::WriteRefType(n, t) => Ok(Error::WriteRefType(n.clone(alloc)?, t.clone(alloc)?)),
             Error::NotWrite => Ok(Error::NotWrite),
@@ -28,12 +31,18 @@ impl Error {
             Error::PtrVecComp => Ok(Error::PtrVecComp),
             Error::Conversion(a, b) => Ok(Error::Conversion(a.clone(alloc)?, b.clone(alloc)?)),
             Error::ConvOverflow(l, t) => Ok(Error::ConvOverflow(*l, t.clone(alloc)?)),
-            Error::Component(t, s) => Ok(Error::Component(t.clone(alloc)?, String::from_str(alloc, s.as_str())?)),
+            Error::Component(t, s) => Ok(Error::Component(
+                t.clone(alloc)?,
+                String::from_str(alloc, s.as_str())?,
+            )),
             Error::NotIndexable(t) => Ok(Error::NotIndexable(t.clone(alloc)?)),
             Error::OutOfBounds(i, t, n) => Ok(Error::OutOfBounds(*i, t.clone(alloc)?, *n)),
             Error::Unary(o, t) => Ok(Error::Unary(*o, t.clone(alloc)?)),
             Error::Binary(o, a, b) => Ok(Error::Binary(*o, a.clone(alloc)?, b.clone(alloc)?)),
-            Error::CompwiseBinary(a, b) => Ok(Error::CompwiseBinary(a.clone(alloc)?, b.clone(alloc)?)),
+            Error::CompwiseBinary(a, b) => Ok(Error::CompwiseBinary(
+                a.clone(alloc)?,
+                b.clone(alloc)?,
+            )),
             Error::AddOverflow => Ok(Error::AddOverflow),
             Error::SubOverflow => Ok(Error::SubOverflow),
             Error::MulOverflow => Ok(Error::MulOverflow),
@@ -44,7 +53,11 @@ impl Error {
             Error::Signature(c) => Ok(Error::Signature(c.clone(alloc)?)),
             Error::Builtin(s) => Ok(Error::Builtin(*s)),
             Error::TemplateArgs(s) => Ok(Error::TemplateArgs(*s)),
-            Error::ParamCount(s, e, n) => Ok(Error::ParamCount(String::from_str(alloc, s.as_str())?, *e, *n)),
+            Error::ParamCount(s, e, n) => Ok(Error::ParamCount(
+                String::from_str(alloc, s.as_str())?,
+                *e,
+                *n,
+            )),
             Error::ParamType(e, t) => Ok(Error::ParamType(e.clone(alloc)?, t.clone(alloc)?)),
         }
     }

@@ -34,7 +34,10 @@ impl CallSignature {
     }
 }
 
-fn copy_template(alloc: Global, template: &Option<Vec<TpltParam>>) -> Result<Option<Vec<TpltParam>>, AllocError>
+fn copy_template(
+    alloc: Global,
+    template: &Option<Vec<TpltParam>>,
+) -> Result<Option<Vec<TpltParam>>, AllocError>
     ensures { IfOk result (λ t. option_map (λ ps. map parameter_view ps.items) t ≡ option_map (λ ps. map parameter_view ps.items) template.now) }
 {
     match template {

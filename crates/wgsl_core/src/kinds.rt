@@ -202,11 +202,17 @@ fn is_numeric_scalar(scalar: Scalar) -> bool
 fn is_integer_scalar(scalar: Scalar) -> bool
     ensures { IsTrue result ↔ IsInteger scalar }
 {
-    matches!(scalar, Scalar::AbstractInt | Scalar::I32 | Scalar::U32 | Scalar::I64 | Scalar::U64)
+    matches!(
+        scalar,
+        Scalar::AbstractInt | Scalar::I32 | Scalar::U32 | Scalar::I64 | Scalar::U64
+    )
 }
 
 fn is_float_scalar(of: Scalar) -> bool
     ensures { IsTrue result ↔ IsFloat (scalar of) }
 {
-    matches!(of, Scalar::AbstractFloat | Scalar::F32 | Scalar::F16 | Scalar::F64)
+    matches!(
+        of,
+        Scalar::AbstractFloat | Scalar::F32 | Scalar::F16 | Scalar::F64
+    )
 }

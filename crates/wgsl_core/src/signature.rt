@@ -45,7 +45,10 @@ impl fmt::Display for TpltParam {
             TpltParam::Enumerant(Enumerant::AccessMode(access)) => write!(f, "{access}"),
             TpltParam::Enumerant(Enumerant::AddressSpace(space)) => write!(f, "{space}"),
             TpltParam::Enumerant(Enumerant::TexelFormat(format)) => write!(f, "{format}"),
-            TpltParam::Enumerant(Enumerant::AccelerationStructureFlags(flag)) => write!(f, "{flag}"),
+            TpltParam::Enumerant(Enumerant::AccelerationStructureFlags(flag)) => write!(
+                f,
+                "{flag}"
+            ),
         }
     }
 }
@@ -60,7 +63,13 @@ impl fmt::Display for CallSignature {
     fn fmt<W: Write>(&self, f: &mut fmt::Formatter<W>) -> fmt::Result {
         match &self.tplt {
             None => write!(f, "{}({})", self.name, Arguments(&self.args)),
-            Some(parameters) => write!(f, "{}<{}>({})", self.name, Parameters(parameters), Arguments(&self.args)),
+            Some(parameters) => write!(
+                f,
+                "{}<{}>({})",
+                self.name,
+                Parameters(parameters),
+                Arguments(&self.args)
+            ),
         }
     }
 }

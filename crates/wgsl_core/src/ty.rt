@@ -68,7 +68,12 @@ impl StructMemberType {
     pub fn new(name: String, ty: Type) -> StructMemberType
         ensures { member_view result ≡ plain (string_bytes name) (view ty) }
     {
-        StructMemberType { name, ty, size: None, align: None }
+        StructMemberType {
+            name,
+            ty,
+            size: None,
+            align: None,
+        }
     }
 }
 

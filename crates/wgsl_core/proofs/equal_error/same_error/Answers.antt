@@ -1,7 +1,7 @@
 use Rattle.std.proofs.Common.{◌∙◌, sym, ap}
 use Rattle.wgsl_core.specs.Outcome.{refusal}
 use Rattle.wgsl_core.proofs.Equals.{never}
-use Rattle.wgsl_core.proofs.Refused.{not_todo, not_not_scalar, not_not_constructible, not_sampled_type, not_unknown_type, not_unexpected_template, not_missing_template, not_write_ref_type, not_conversion, not_conv_overflow, not_component, not_not_indexable, not_out_of_bounds, not_unary, not_binary, not_compwise_binary, not_shl_overflow, not_shr_overflow, not_signature, not_builtin, not_template_args, not_param_count, not_param_type}
+use Rattle.wgsl_core.proofs.Refused.{not_not_scalar, not_not_constructible, not_sampled_type, not_unknown_type, not_unexpected_template, not_missing_template, not_write_ref_type, not_conversion, not_conv_overflow, not_component, not_not_indexable, not_out_of_bounds, not_unary, not_binary, not_compwise_binary, not_shl_overflow, not_shr_overflow, not_signature, not_builtin, not_template_args, not_param_count, not_param_type}
 use Rattle.wgsl_core.proofs.equal_error.same_error.Goals as goal
 
 pub returns-in_default-other : goal.returns-in_default-other
