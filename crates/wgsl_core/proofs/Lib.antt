@@ -4,3 +4,4 @@ pub mod Scalars
 pub mod Recognition
 pub mod Ranks
 pub mod Sums
+pub mod Lists

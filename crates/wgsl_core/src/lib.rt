@@ -2,10 +2,13 @@
 #![tactic(auto)]
 
 pub mod builtin;
+pub mod common;
+pub mod concrete;
 pub mod conv;
 pub mod copy;
 pub mod equal;
 pub mod error;
+pub mod laws;
 pub mod parts;
 pub mod results;
 pub mod show;

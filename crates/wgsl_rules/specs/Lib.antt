@@ -3,8 +3,10 @@ pub mod Kinds
 pub mod Spelling
 pub mod ResultStructs
 pub mod Conversion
+pub mod Loading
 pub mod Places
 pub mod Common
+pub mod Lists
 pub mod Concrete
 pub mod Candidates
 pub mod Choice
