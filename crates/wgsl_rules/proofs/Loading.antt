@@ -1,5 +1,7 @@
 -- Loaded types.
 use Rattle.std.proofs.Common.{◌≡◌, refl, subst}
+use Rattle.wgsl_syntax.specs.declared.address.AddressSpace.{AddressSpace}
+use Rattle.wgsl_syntax.specs.declared.address.AccessMode.{AccessMode}
 use Rattle.wgsl_rules.specs.Types.{WgslType, reference}
 use Rattle.wgsl_rules.specs.Loading.{IsReference, loaded_of}
 
