@@ -1,5 +1,6 @@
 -- Equality of types, part by part.
-use Rattle.std.proofs.Common.{◌≡◌, ◌↔◌, ℕ, suc, List, [], ◌∷◌, length, IsTrue, false, refl, sym, ap, ◌∙◌}
+use Rattle.std.proofs.Common.{◌≡◌, ◌↔◌, ℕ, suc, List, [], ◌∷◌, length, map, IsTrue, false, refl, sym, ap, ◌∙◌}
+use Rattle.std.proofs.lemmas.List.{length-map}
 use Rattle.wgsl_rules.specs.Types.{Members, no_members, member}
 use Rattle.wgsl_core.specs.View.{members_view}
 use Rattle.wgsl_core.specs.declared.ty.StructMemberType.{StructMemberType}
@@ -18,3 +19,6 @@ count_of (m ∷ ms) = ap suc (count_of ms)
 
 pub as_many : (ms ns : List StructMemberType) → members_view ms ≡ members_view ns → length ms ≡ length ns
 as_many ms ns e = sym (count_of ms) ∙ (ap count e ∙ count_of ns)
+
+pub same_length : {A B : Type 0} (f : A → B) (xs ys : List A) → map f xs ≡ map f ys → length xs ≡ length ys
+same_length f xs ys e = sym (length-map xs f) ∙ (ap length e ∙ length-map ys f)

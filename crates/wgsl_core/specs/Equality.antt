@@ -22,11 +22,11 @@ same_member a b =
     (both (List-discrete ℕ_discrete a.name b.name)
     (both (same_type a.ty b.ty) (both (same_option ℕ_discrete a.size b.size) (same_option ℕ_discrete a.align b.align))))
 
-abbrev is_yes : {A : Type 0} → Dec A → Bool
+abbrev pub is_yes : {A : Type 0} → Dec A → Bool
 is_yes (yes a) = true
 is_yes (no n) = false
 
-yes_decides : {A : Type 0} (d : Dec A) → Decides (is_yes d) A
+pub yes_decides : {A : Type 0} (d : Dec A) → Decides (is_yes d) A
 yes_decides (yes a) = (λ _. a, λ _. refl)
 yes_decides (no n) = (λ e. absurd (cc e), λ a. absurd (n a))
 

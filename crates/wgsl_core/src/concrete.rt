@@ -3,7 +3,7 @@ ghost use Rattle.std.specs.Prelude.{◌≡◌, ◌≢◌, ◌↔◌, IfOk, IsOk}
 ghost use Rattle.wgsl_rules.specs.Kinds.{IsFlat};
 ghost use Rattle.wgsl_rules.specs.Conversion.{IsValueType};
 ghost use Rattle.wgsl_rules.specs.Loading.{IsReference, loaded_of};
-ghost use Rattle.wgsl_rules.specs.Concrete.{is_abstract, IsAbstract, HasFloatMatrices, IsLeastConcrete, concretized};
+ghost use Rattle.wgsl_rules.specs.Concrete.{IsAbstract, HasFloatMatrices, IsLeastConcrete, concretized};
 ghost use Rattle.wgsl_core.specs.View.{view};
 
 use crate::ty::Type;
@@ -45,34 +45,6 @@ fn behind_references(ty: Type) -> Type
     }
 }
 
-fn is_abstract(ty: &Type) -> bool
-    ensures { result ≡ is_abstract (view ty.now) }
-{
-    match ty {
-        Type::AbstractInt | Type::AbstractFloat => true,
-        Type::Array(t, _) => is_abstract(t),
-        Type::Vec(_, t) => is_abstract(t),
-        Type::Mat(_, _, t) => is_abstract(t),
-        Type::Bool
-        | Type::I32
-        | Type::U32
-        | Type::F32
-        | Type::F16
-        | Type::I64
-        | Type::U64
-        | Type::F64
-        | Type::Struct(_)
-        | Type::Atomic(_)
-        | Type::Ptr(_, _, _)
-        | Type::Ref(_, _, _)
-        | Type::Texture(_)
-        | Type::Sampler(_)
-        | Type::BindingArray(_, _)
-        | Type::RayQuery(_)
-        | Type::AccelerationStructure(_) => false,
-    }
-}
-
 fn concrete(alloc: Global, ty: &Type) -> Result<Type, AllocError>
     ensures row { IfOk result (λ t. view t ≡ concretized (view ty.now)) }
     ensures takes_no_memory { IsFlat (view ty.now) → IsOk result }
@@ -83,7 +55,7 @@ fn concrete(alloc: Global, ty: &Type) -> Result<Type, AllocError>
         Type::Array(t, n) => Ok(Type::Array(Box::new(alloc, concrete(alloc, t)?)?, *n)),
         Type::Vec(n, t) => Ok(Type::Vec(*n, Box::new(alloc, concrete(alloc, t)?)?)),
         Type::Mat(c, r, t) => {
-            if is_abstract(t) {
+            if t.is_abstract() {
                 Ok(Type::Mat(*c, *r, Box::new(alloc, Type::F32)?))
             } else {
                 Ok(Type::Mat(*c, *r, Box::new(alloc, Type::clone(t, alloc)?)?))

@@ -1,15 +1,71 @@
 // Refusals, and want of memory.
+use crate::inst::LiteralInstance;
+use crate::signature::CallSignature;
 use crate::ty::Type;
 use std::alloc::AllocError;
 use std::fmt;
 use std::fmt::Write;
-use wgsl_syntax::operator::BinaryOperator;
+use wgsl_syntax::operator::{BinaryOperator, UnaryOperator};
 
-/// Why an expression has no type.
+/// Why an expression has no type, or no value (WGSL, "Errors").
 #[derive(Debug, Drop)]
 pub enum Error {
+    /// What isn't done yet.
+    Todo(String),
+    /// A type where a scalar is wanted.
+    NotScalar(Type),
+    /// A type that no value is constructed of.
+    NotConstructible(Type),
+    /// A type that no texture is sampled as.
+    SampledType(Type),
+    /// A name that no type has.
+    UnknownType(String),
+    /// A template after the name of a type that takes none.
+    UnexpectedTemplate(String),
+    /// The name of a type that takes a template, without one.
+    MissingTemplate(&'static str),
+    /// The type that is written, and the one that the reference is to.
+    WriteRefType(Type, Type),
+    NotWrite,
+    NotRead,
+    NotReadWrite,
+    PtrHandle,
+    PtrVecComp,
+    /// A type, and one that it doesn't convert to.
+    Conversion(Type, Type),
+    /// A literal, and a type that it doesn't fit.
+    ConvOverflow(LiteralInstance, Type),
+    /// A type, and the name of a component that it lacks.
+    Component(Type, String),
+    /// A type that isn't indexed.
+    NotIndexable(Type),
+    /// An index, the type that is indexed, and the number of its components.
+    OutOfBounds(usize, Type, usize),
+    /// An operator that its operand has no candidate for.
+    Unary(UnaryOperator, Type),
     /// An operator that its two operands have no candidate for.
     Binary(BinaryOperator, Type, Type),
+    /// Two operands that aren't taken component by component.
+    CompwiseBinary(Type, Type),
+    AddOverflow,
+    SubOverflow,
+    MulOverflow,
+    DivByZero,
+    RemZeroDiv,
+    /// How far is shifted, and what.
+    ShlOverflow(u32, LiteralInstance),
+    /// How far is shifted, and what.
+    ShrOverflow(u32, LiteralInstance),
+    /// A call that no overload takes.
+    Signature(CallSignature),
+    /// What is wrong with a call, in words.
+    Builtin(&'static str),
+    /// What is called with a template that it doesn't take.
+    TemplateArgs(&'static str),
+    /// What is called, and the number of arguments that it takes and that it was given.
+    ParamCount(String, usize, usize),
+    /// The type that is wanted, and the one of the argument.
+    ParamType(Type, Type),
 }
 
 /// A refusal, or want of memory.
@@ -50,9 +106,43 @@ impl fmt::Display for Error {
 
     fn fmt<W: Write>(&self, f: &mut fmt::Formatter<W>) -> fmt::Result {
         match self {
-            Error::Binary(o, a, b) => {
-                write!(f, "cannot use binary operator `{o}` with operands `{a}` and `{b}`")
+            Error::Todo(v) => write!(f, "not implemented: `{v}`"),
+            Error::NotScalar(t) => write!(f, "expected a scalar type, got `{t}`"),
+            Error::NotConstructible(t) => write!(f, "`{t}` is not constructible"),
+            Error::SampledType(t) => write!(f, "invalid sampled type, expected `i32`, `u32` or `f32`, got `{t}`"),
+            Error::UnknownType(s) => write!(f, "unknown type `{s}`"),
+            Error::UnexpectedTemplate(s) => write!(f, "type `{s}` does not take any template arguments"),
+            Error::MissingTemplate(s) => write!(f, "missing template arguments for type `{s}`"),
+            Error::WriteRefType(n, t) => write!(f, "cannot write a `{n}` to a reference to `{t}`"),
+            Error::NotWrite => f.write_str("attempt to write to a read-only reference"),
+            Error::NotRead => f.write_str("attempt to read a write-only reference"),
+            Error::NotReadWrite => f.write_str("reference is not read-write"),
+            Error::PtrHandle => f.write_str("cannot create a pointer in `handle` address space"),
+            Error::PtrVecComp => f.write_str("cannot create a pointer to a vector component"),
+            Error::Conversion(a, b) => write!(f, "cannot convert from `{a}` to `{b}`"),
+            Error::ConvOverflow(l, t) => write!(f, "overflow while converting `{l}` to `{t}`"),
+            Error::Component(t, s) => write!(f, "`{t}` has no component `{s}`"),
+            Error::NotIndexable(t) => write!(f, "`{t}` cannot be indexed"),
+            Error::OutOfBounds(i, t, n) => write!(f, "index `{i}` is out-of-bounds for `{t}` of `{n}` components"),
+            Error::Unary(o, t) => write!(f, "cannot use unary operator `{o}` on type `{t}`"),
+            Error::Binary(o, a, b) => write!(f, "cannot use binary operator `{o}` with operands `{a}` and `{b}`"),
+            Error::CompwiseBinary(a, b) => {
+                write!(f, "cannot apply component-wise binary operation on operands `{a}` and `{b}`")
             }
+            Error::AddOverflow => f.write_str("attempt to add with overflow"),
+            Error::SubOverflow => f.write_str("attempt to subtract with overflow"),
+            Error::MulOverflow => f.write_str("attempt to multiply with overflow"),
+            Error::DivByZero => f.write_str("attempt to divide by zero"),
+            Error::RemZeroDiv => f.write_str("attempt to calculate the remainder with a divisor of zero"),
+            Error::ShlOverflow(n, l) => write!(f, "attempt to shift left by `{n}`, which would overflow `{l}`"),
+            Error::ShrOverflow(n, l) => write!(f, "attempt to shift right by `{n}`, which would overflow `{l}`"),
+            Error::Signature(c) => write!(f, "invalid function call signature: `{c}`"),
+            Error::Builtin(s) => f.write_str(s),
+            Error::TemplateArgs(s) => write!(f, "invalid template arguments to `{s}`"),
+            Error::ParamCount(s, e, n) => {
+                write!(f, "incorrect number of arguments to `{s}`, expected `{e}`, got `{n}`")
+            }
+            Error::ParamType(e, t) => write!(f, "invalid parameter type, expected `{e}`, got `{t}`"),
         }
     }
 }

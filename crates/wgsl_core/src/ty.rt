@@ -1,7 +1,18 @@
 // Types.
+ghost use Rattle.std.specs.Prelude.{◌≡◌, IfOk, ok_or, string_bytes};
+ghost use Rattle.wgsl_rules.specs.Types.{atomic, vec};
+ghost use Rattle.wgsl_rules.specs.Kinds.{IsAtomic, IsFlat, IsStruct, IsVector};
+ghost use Rattle.wgsl_rules.specs.Parts.{sampled_of};
+ghost use Rattle.wgsl_rules.specs.Refusals.{sampled_type};
+ghost use Rattle.wgsl_core.specs.View.{view, struct_view, member_view};
+ghost use Rattle.wgsl_core.specs.Results.{plain, struct_type};
+ghost use Rattle.wgsl_core.specs.Outcome.{Gives, IsAnswered};
+
+use crate::error::{Error, Fail};
+use std::alloc::{AllocError, Global};
 use wgsl_syntax::address::{AccessMode, AddressSpace};
 use wgsl_syntax::attribute::AccelerationStructureFlags;
-use wgsl_syntax::texture::{SamplerType, TextureType};
+use wgsl_syntax::texture::{SampledType, SamplerType, TextureType};
 
 /// A type (WGSL, "Types"), with the abstract numbers and naga's additions.
 #[cycle(types)]
@@ -50,4 +61,112 @@ pub struct StructMemberType {
     pub ty: Type,
     pub size: Option<u32>,
     pub align: Option<u32>,
+}
+
+impl StructMemberType {
+    /// A member without attributes.
+    pub fn new(name: String, ty: Type) -> StructMemberType
+        ensures { member_view result ≡ plain (string_bytes name) (view ty) }
+    {
+        StructMemberType { name, ty, size: None, align: None }
+    }
+}
+
+impl Type {
+    /// What an atomic (WGSL, "Atomic Types") is of.
+    pub fn unwrap_atomic(self) -> Box<Type>
+        requires { IsAtomic (view self) }
+        ensures { view self ≡ atomic (view result.value) }
+    {
+        match self {
+            Type::Atomic(ty) => ty,
+            _ => unreachable!(),
+        }
+    }
+
+    /// The struct that a type is.
+    pub fn unwrap_struct(self) -> Box<StructType>
+        requires { IsStruct (view self) }
+        ensures { view self ≡ struct_type (struct_view result.value) }
+    {
+        match self {
+            Type::Struct(s) => s,
+            _ => unreachable!(),
+        }
+    }
+
+    /// The number of components of a vector, and their type.
+    pub fn unwrap_vec(self) -> (u8, Box<Type>)
+        requires { IsVector (view self) }
+        ensures { view self ≡ vec result.0 (view result.1.value) }
+    {
+        match self {
+            Type::Vec(n, ty) => (n, ty),
+            _ => unreachable!(),
+        }
+    }
+
+    /// The type that a struct is.
+    pub fn from_struct(alloc: Global, s: StructType) -> Result<Type, AllocError>
+        ensures { IfOk result (λ t. view t ≡ struct_type (struct_view s)) }
+    {
+        Ok(Type::Struct(Box::new(alloc, s)?))
+    }
+}
+
+impl From<SampledType> for Type {
+    ghost use Rattle.std.specs.Prelude.{◌≡◌};
+    ghost use Rattle.wgsl_rules.specs.Types.{scalar};
+    ghost use Rattle.wgsl_rules.specs.Parts.{sampled_scalar};
+    ghost use Rattle.wgsl_core.specs.View.{view};
+
+    ghost from_gives = { λ s t. view t ≡ scalar (sampled_scalar s) };
+
+    fn from(sampled: SampledType) -> Type {
+        match sampled {
+            SampledType::I32 => Type::I32,
+            SampledType::U32 => Type::U32,
+            SampledType::F32 => Type::F32,
+        }
+    }
+}
+
+/// What a texture of such texels is sampled as (WGSL, "Sampled Texture Types"), or `SampledType` with the type.
+pub fn try_from_type(alloc: Global, ty: &Type) -> Result<SampledType, Fail>
+    ensures row { Gives (ok_or (sampled_of (view ty.now)) (sampled_type (view ty.now))) result }
+    ensures takes_no_memory { IsFlat (view ty.now) → IsAnswered result }
+{
+    match sampled(ty) {
+        Some(sampled) => Ok(sampled),
+        None => Err(Fail::Error(Error::SampledType(ty.clone(alloc)?))),
+    }
+}
+
+fn sampled(ty: &Type) -> Option<SampledType>
+    ensures { result ≡ sampled_of (view ty.now) }
+{
+    match ty {
+        Type::I32 => Some(SampledType::I32),
+        Type::U32 => Some(SampledType::U32),
+        Type::F32 => Some(SampledType::F32),
+        Type::Bool
+        | Type::AbstractInt
+        | Type::AbstractFloat
+        | Type::F16
+        | Type::Struct(_)
+        | Type::Array(_, _)
+        | Type::Vec(_, _)
+        | Type::Mat(_, _, _)
+        | Type::Atomic(_)
+        | Type::Ptr(_, _, _)
+        | Type::Ref(_, _, _)
+        | Type::Texture(_)
+        | Type::Sampler(_)
+        | Type::I64
+        | Type::U64
+        | Type::F64
+        | Type::BindingArray(_, _)
+        | Type::RayQuery(_)
+        | Type::AccelerationStructure(_) => None,
+    }
 }

@@ -2,6 +2,7 @@
 use Rattle.std.specs.Prelude.{ℕ, Bool, true, false, cond, ◌≡◌, ◌<◌, ◌⊎◌, IsTrue}
 use Rattle.wgsl_syntax.specs.declared.scalar.Scalar.TheVariants.{AbstractInt, AbstractFloat, I32, F32, F16, F64}
 use Rattle.wgsl_rules.specs.Types.{mat_of, WgslType, scalar, within}
+use Rattle.wgsl_rules.specs.Kinds.{IsPlain}
 use Rattle.wgsl_rules.specs.Conversion.{Converts}
 
 -- An abstract number, or an array, a vector or a matrix of an abstract type.
@@ -13,6 +14,10 @@ is_abstract t = false
 
 abbrev pub IsAbstract : WgslType → Type 0
 IsAbstract t = IsTrue (is_abstract t)
+
+-- A concrete plain type (WGSL, "Storable Types", of which the handles are left out).
+abbrev pub IsStorable : WgslType → Type 0
+IsStorable t = (¬ IsAbstract t) × IsPlain t
 
 abbrev pub IsFloat : WgslType → Type 0
 IsFloat (scalar AbstractFloat) = Unit {0}

@@ -1,7 +1,7 @@
--- Which scalars are integers or numbers, and which types are made of them (WGSL, "Scalar Types" and "Vector Types").
+-- Which scalars are integers or numbers, and which types are made of them (WGSL, "Plain Types").
 use Rattle.wgsl_syntax.specs.declared.scalar.Scalar.{Scalar}
 use Rattle.wgsl_syntax.specs.declared.scalar.Scalar.TheVariants.{Bool, AbstractInt, I32, U32, I64, U64}
-use Rattle.wgsl_rules.specs.Types.{vec_of, WgslType, scalar, within, texture, sampler, ray_query, acceleration_structure}
+use Rattle.wgsl_rules.specs.Types.{array_of, vec_of, mat_of, WgslType, scalar, within, struct, atomic, texture, sampler, ray_query, acceleration_structure}
 
 abbrev pub IsInteger : Scalar → Type 0
 IsInteger AbstractInt = Unit {0}
@@ -38,6 +38,44 @@ IsScalarOrVector t = ⊥
 abbrev pub IsScalar : WgslType → Type 0
 IsScalar (scalar s) = Unit {0}
 IsScalar t = ⊥
+
+-- A scalar that is an integer.
+abbrev pub IsIntegerScalar : WgslType → Type 0
+IsIntegerScalar (scalar s) = IsInteger s
+IsIntegerScalar t = ⊥
+
+-- A scalar that is a number.
+abbrev pub IsNumericScalar : WgslType → Type 0
+IsNumericScalar (scalar s) = IsNumeric s
+IsNumericScalar t = ⊥
+
+abbrev pub IsArray : WgslType → Type 0
+IsArray (within (array_of n) t) = Unit {0}
+IsArray t = ⊥
+
+abbrev pub IsVector : WgslType → Type 0
+IsVector (within (vec_of n) t) = Unit {0}
+IsVector t = ⊥
+
+abbrev pub IsMatrix : WgslType → Type 0
+IsMatrix (within (mat_of c r) t) = Unit {0}
+IsMatrix t = ⊥
+
+abbrev pub IsStruct : WgslType → Type 0
+IsStruct (struct name ms) = Unit {0}
+IsStruct t = ⊥
+
+abbrev pub IsAtomic : WgslType → Type 0
+IsAtomic (atomic t) = Unit {0}
+IsAtomic t = ⊥
+
+-- A scalar, an atomic, or a composite type (WGSL, "Plain Types").
+abbrev pub IsPlain : WgslType → Type 0
+IsPlain (scalar s) = Unit {0}
+IsPlain (within l t) = Unit {0}
+IsPlain (struct name ms) = Unit {0}
+IsPlain (atomic t) = Unit {0}
+IsPlain t = ⊥
 
 -- A type that no other type is part of, and that has no name: a scalar, a texture, a sampler, a ray query or an
 -- acceleration structure.

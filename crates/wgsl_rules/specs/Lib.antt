@@ -1,6 +1,9 @@
 pub mod Types
 pub mod Kinds
+pub mod Parts
 pub mod Spelling
+pub mod Literals
+pub mod Signatures
 pub mod ResultStructs
 pub mod Conversion
 pub mod Loading

@@ -1,0 +1,35 @@
+-- The literals, template parameters and signatures of the rules that those of the code stand for.
+use Rattle.std.specs.Prelude.{map, option_map, string_bytes}
+use Rattle.wgsl_rules.specs.Literals.{Literal, bool, abstract_int, i32, u32, i64, u64}
+use Rattle.wgsl_rules.specs.Signatures.{Parameter, of_type, of_literal, of_enumerant, Signature}
+use Rattle.wgsl_core.specs.View.{view}
+use Rattle.wgsl_core.specs.declared.inst.Instance.{Instance}
+use Rattle.wgsl_core.specs.declared.inst.Instance.TheVariants as instances
+use Rattle.wgsl_core.specs.declared.inst.LiteralInstance.{LiteralInstance}
+use Rattle.wgsl_core.specs.declared.inst.LiteralInstance.TheVariants as literals
+use Rattle.wgsl_core.specs.declared.signature.TpltParam.{TpltParam}
+use Rattle.wgsl_core.specs.declared.signature.TpltParam.TheVariants as parameters
+use Rattle.wgsl_core.specs.declared.signature.CallSignature.{CallSignature}
+
+abbrev pub literal_view : LiteralInstance → Literal
+literal_view (literals.Bool b) = bool b
+literal_view (literals.AbstractInt n) = abstract_int n
+literal_view (literals.I32 n) = i32 n
+literal_view (literals.U32 n) = u32 n
+literal_view (literals.I64 n) = i64 n
+literal_view (literals.U64 n) = u64 n
+
+abbrev pub instance_view : Instance → Literal
+instance_view (instances.Literal l) = literal_view l
+
+abbrev pub parameter_view : TpltParam → Parameter
+parameter_view (parameters.Ty t) = of_type (view t)
+parameter_view (parameters.Instance i) = of_literal (instance_view i)
+parameter_view (parameters.Enumerant e) = of_enumerant e
+
+abbrev pub signature_view : CallSignature → Signature
+signature_view c = record {
+  name = string_bytes c.name;
+  template = option_map (λ ps. map parameter_view ps.items) c.tplt;
+  arguments = map view (c.args).items
+}

@@ -1,0 +1,105 @@
+// What has a type.
+ghost use Rattle.std.specs.Prelude.{◌≡◌, IfOk};
+ghost use Rattle.wgsl_rules.specs.Types.{WgslType};
+ghost use Rattle.wgsl_core.specs.View.{view};
+
+use crate::inst::{Instance, LiteralInstance};
+use crate::ty::Type;
+use std::alloc::{AllocError, Global};
+
+/// What has a type, and a type inside that.
+pub trait Ty {
+    ghost type_of: { Self → WgslType };
+
+    ghost inner_type_of: { Self → WgslType };
+
+    /// Its type.
+    fn ty(&self, alloc: Global) -> Result<Type, AllocError>
+        ensures { IfOk result (λ t. view t ≡ type_of self.now) };
+
+    /// The type inside its type, or its type where nothing is inside.
+    fn inner_ty(&self, alloc: Global) -> Result<Type, AllocError>
+        ensures { IfOk result (λ t. view t ≡ inner_type_of self.now) };
+}
+
+/// A type has itself as its type. Inside it is what an array, a vector, a matrix, an atomic, a pointer, a reference or a
+/// binding array is of.
+impl Ty for Type {
+    ghost use Rattle.wgsl_rules.specs.Parts.{inner_of};
+    ghost use Rattle.wgsl_core.specs.View.{view};
+
+    ghost type_of = { view };
+
+    ghost inner_type_of = { λ t. inner_of (view t) };
+
+    fn ty(&self, alloc: Global) -> Result<Type, AllocError> {
+        self.clone(alloc)
+    }
+
+    fn inner_ty(&self, alloc: Global) -> Result<Type, AllocError> {
+        match self {
+            Type::Array(t, _) => Type::clone(t, alloc),
+            Type::Vec(_, t) => Type::clone(t, alloc),
+            Type::Mat(_, _, t) => Type::clone(t, alloc),
+            Type::Atomic(t) => Type::clone(t, alloc),
+            Type::Ptr(_, t, _) => Type::clone(t, alloc),
+            Type::Ref(_, t, _) => Type::clone(t, alloc),
+            Type::BindingArray(t, _) => Type::clone(t, alloc),
+            Type::Bool
+            | Type::AbstractInt
+            | Type::AbstractFloat
+            | Type::I32
+            | Type::U32
+            | Type::F32
+            | Type::F16
+            | Type::I64
+            | Type::U64
+            | Type::F64
+            | Type::Struct(_)
+            | Type::Texture(_)
+            | Type::Sampler(_)
+            | Type::RayQuery(_)
+            | Type::AccelerationStructure(_) => self.clone(alloc),
+        }
+    }
+}
+
+impl Ty for LiteralInstance {
+    ghost use Rattle.wgsl_rules.specs.Types.{scalar};
+    ghost use Rattle.wgsl_rules.specs.Literals.{literal_scalar};
+    ghost use Rattle.wgsl_core.specs.Instances.{literal_view};
+
+    ghost type_of = { λ l. scalar (literal_scalar (literal_view l)) };
+
+    ghost inner_type_of = { λ l. scalar (literal_scalar (literal_view l)) };
+
+    fn ty(&self, _alloc: Global) -> Result<Type, AllocError> {
+        Ok(self.scalar_type())
+    }
+
+    fn inner_ty(&self, _alloc: Global) -> Result<Type, AllocError> {
+        Ok(self.scalar_type())
+    }
+}
+
+impl Ty for Instance {
+    ghost use Rattle.wgsl_rules.specs.Types.{scalar};
+    ghost use Rattle.wgsl_rules.specs.Literals.{literal_scalar};
+    ghost use Rattle.wgsl_core.specs.Instances.{instance_view};
+
+    ghost type_of = { λ x. scalar (literal_scalar (instance_view x)) };
+
+    ghost inner_type_of = { λ x. scalar (literal_scalar (instance_view x)) };
+
+    fn ty(&self, alloc: Global) -> Result<Type, AllocError> {
+        match self {
+            Instance::Literal(literal) => literal.ty(alloc),
+        }
+    }
+
+    fn inner_ty(&self, alloc: Global) -> Result<Type, AllocError> {
+        match self {
+            Instance::Literal(literal) => literal.inner_ty(alloc),
+        }
+    }
+}
