@@ -7,3 +7,4 @@ pub mod Recognition
 pub mod Ranks
 pub mod Sums
 pub mod Lists
+pub mod Sames

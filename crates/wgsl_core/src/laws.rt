@@ -14,14 +14,12 @@ pub fn conversion_order(a: &Type, b: &Type, c: &Type)
 }
 
 /// On value types ranks add, and only equal types have rank 0.
-#[tactic(auto, using(wgsl_rules::proofs::Lawful::adds))]
 pub fn rank_adds(a: &Type, b: &Type, c: &Type)
     ensures { IsValueType (view a.now) → IsValueType (view b.now) → RanksAdd (view a.now) (view b.now) (view c.now) }
 {
 }
 
 /// Two value types that convert to one type are comparable.
-#[tactic(auto, using(wgsl_rules::proofs::Lawful::comparable))]
 pub fn targets_comparable(a: &Type, b: &Type, c: &Type)
     ensures { IsValueType (view a.now) → IsValueType (view b.now) → TargetsComparable (view a.now) (view b.now) (view c.now) }
 {
