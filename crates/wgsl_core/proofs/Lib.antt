@@ -8,3 +8,4 @@ pub mod Ranks
 pub mod Sums
 pub mod Lists
 pub mod Sames
+pub mod Inners
