@@ -3,9 +3,10 @@ pub mod Listed
 pub mod Equals
 pub mod Scalars
 pub mod Forms
+pub mod Sames
+pub mod Refused
 pub mod Recognition
 pub mod Ranks
 pub mod Sums
 pub mod Lists
-pub mod Sames
 pub mod Inners

@@ -6,9 +6,9 @@ use Rattle.std.specs.Cmp.{booleans_Decides}
 use denote.Enum.Bare.{same_true, true_same}
 use Rattle.wgsl_syntax.specs.contracts.address.AccessMode.{the_type as access_type}
 use Rattle.wgsl_syntax.specs.contracts.address.AddressSpace.{the_type as space_type}
-use Rattle.wgsl_syntax.specs.contracts.attribute.AccelerationStructureFlags.{the_type as flag_type}
 use Rattle.wgsl_syntax.specs.contracts.texel.TexelFormat.{the_type as texel_type}
 use Rattle.wgsl_syntax.specs.contracts.enumerant.EnumerantPartialEq.TheImpl.{ghosts as enumerants}
+use Rattle.wgsl_syntax.specs.declared.attribute.AccelerationStructureFlags.TheVariants.{VertexReturn}
 use Rattle.wgsl_syntax.specs.declared.enumerant.Enumerant.{Enumerant}
 use Rattle.wgsl_syntax.specs.declared.enumerant.Enumerant.TheVariants.{AccessMode, AddressSpace, TexelFormat, AccelerationStructureFlags}
 use Rattle.wgsl_rules.specs.Literals.{Literal, bool, abstract_int, i32, u32, i64, u64}
@@ -21,14 +21,14 @@ one : (a b : Enumerant) → enumerants.eq a b ≡ true → a ≡ b
 one (AccessMode a) (AccessMode b) h = ap AccessMode (same_true access_type tt a b h)
 one (AddressSpace a) (AddressSpace b) h = ap AddressSpace (same_true space_type tt a b h)
 one (TexelFormat a) (TexelFormat b) h = ap TexelFormat (same_true texel_type tt a b h)
-one (AccelerationStructureFlags a) (AccelerationStructureFlags b) h = ap AccelerationStructureFlags (same_true flag_type tt a b h)
+one (AccelerationStructureFlags VertexReturn) (AccelerationStructureFlags VertexReturn) h = refl
 one a b h = absurd (true≢false (sym h))
 
 itself : (a : Enumerant) → enumerants.eq a a ≡ true
 itself (AccessMode a) = true_same access_type a a refl
 itself (AddressSpace a) = true_same space_type a a refl
 itself (TexelFormat a) = true_same texel_type a a refl
-itself (AccelerationStructureFlags a) = true_same flag_type a a refl
+itself (AccelerationStructureFlags a) = refl
 
 pub enumerant_same : (a b : Enumerant) → Decides (enumerants.eq a b) (a ≡ b)
 enumerant_same a b = (one a b, λ e. subst (λ x. enumerants.eq a x ≡ true) e (itself a))

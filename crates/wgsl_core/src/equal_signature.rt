@@ -49,7 +49,7 @@ fn same_parameter(a: &TpltParam, b: &TpltParam) -> bool
 {
     match a {
         TpltParam::Ty(t) => match b {
-            TpltParam::Ty(u) => t == u,
+            TpltParam::Ty(u) => same_type(t, u),
             TpltParam::Instance(_) | TpltParam::Enumerant(_) => false,
         },
         TpltParam::Instance(i) => match b {
@@ -71,7 +71,15 @@ fn same_instance(a: &Instance, b: &Instance) -> bool
     same_literal(l, m)
 }
 
-/// Whether two literals are one.
+/// Whether two types are equal.
+#[tactic(auto, using(crate::specs::Equality::type_eq_decides))]
+pub(crate) fn same_type(a: &Type, b: &Type) -> bool
+    ensures { IsTrue result ↔ (view a.now ≡ view b.now) }
+{
+    a == b
+}
+
+/// Whether two literals are equal.
 #[tactic(auto, using(crate::proofs::Sames::literal_same))]
 pub(crate) fn same_literal(a: &LiteralInstance, b: &LiteralInstance) -> bool
     ensures { IsTrue result ↔ (literal_view a.now ≡ literal_view b.now) }
@@ -86,7 +94,8 @@ fn same_enumerant(a: &Enumerant, b: &Enumerant) -> bool
     a == b
 }
 
-fn same_signature(a: &CallSignature, b: &CallSignature) -> bool
+/// Whether two signatures are equal.
+pub(crate) fn same_signature(a: &CallSignature, b: &CallSignature) -> bool
     ensures { IsTrue result ↔ (signature_view a.now ≡ signature_view b.now) }
 {
     a.name == b.name && same_template(&a.tplt, &b.tplt) && same_arguments(&a.args, &b.args)
@@ -125,7 +134,7 @@ fn same_arguments(a: &Vec<Type>, b: &Vec<Type>) -> bool
         return false;
     }
     for i in 0..a.len() {
-        if a[i] != b[i] {
+        if !same_type(&a[i], &b[i]) {
             return false;
         }
     }
