@@ -1,7 +1,7 @@
 // The common type of many types.
 ghost use Rattle.std.specs.Prelude.{◌≡◌, List, [], ◌⊎◌, IsSome, map, option_map};
 ghost use Rattle.std.specs.Borrow.{Bor};
-ghost use Rattle.std.specs.Iterator.{DrainsIf, IsFinite};
+ghost use Rattle.std.specs.Iterator.{DrainsIf, IsFiniteIterable};
 ghost use Rattle.wgsl_rules.specs.Lists.{IsCommonOfGiven};
 ghost use Rattle.wgsl_core.specs.View.{view};
 ghost use Rattle.wgsl_core.specs.declared.ty.Type.{«Type»};
@@ -15,7 +15,7 @@ pub fn convert_all_ty<'a, I: IntoIterator<Item = &'a Type>>(types: I) -> Option<
 where
     I: Drop,
     I::IntoIter: Drop,
-    requires { (it : I.IntoIter) → I.into_iter_gives types it → I.IntoIter.can_next it × IsFinite (I.IntoIter.remaining it) }
+    requires { IsFiniteIterable I.into_iter_gives I.IntoIter.can_next I.IntoIter.remaining types }
     ensures { (it : I.IntoIter) × (given : List (Bor «Type»)) × I.into_iter_gives types it
         × DrainsIf I.IntoIter.next_gives (IsSome result ⊎ (given ≡ [])) it given
         × IsCommonOfGiven (map (λ t. view t.now) given) (option_map (λ t. view t.now) result) }
