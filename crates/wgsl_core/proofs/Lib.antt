@@ -9,3 +9,5 @@ pub mod Layouts
 pub mod Recognition
 pub mod Ranks
 pub mod Sums
+pub mod Lists
+pub mod Inners

@@ -3,6 +3,7 @@ pub mod Instances
 pub mod Outcome
 pub mod Parts
 pub mod Equality
+pub mod Converted
 pub mod RefusalEquality
 pub mod Results
 pub mod Memory

@@ -3,6 +3,7 @@ ghost use Rattle.std.specs.Prelude.{◌≡◌, ◌≤◌, ◌↔◌, ℕ, IsTrue
 ghost use Rattle.wgsl_syntax.specs.declared.result_struct.ResultStruct.{ResultStruct as ResultName};
 ghost use Rattle.wgsl_rules.specs.Conversion.{Converts, ConvertsIn, ConvertsTo, Load};
 ghost use Rattle.wgsl_rules.specs.Common.{IsCommon};
+ghost use Rattle.wgsl_rules.specs.Laws.{CommonSymmetric};
 ghost use Rattle.wgsl_rules.specs.Places.{Place as RulePlace, type_at, parent_of, depth_of};
 ghost use Rattle.wgsl_core.specs.View.{view};
 ghost use Rattle.wgsl_core.specs.Parts.{layer_of};
@@ -21,8 +22,10 @@ pub fn conversion_rank(a: &Type, b: &Type) -> Option<u32>
 
 /// The common type of two types (WGSL, "Overload Resolution"): `b` where `a` converts to it, else `a` where `b` converts
 /// to it, else None.
+#[tactic(auto, using(wgsl_rules::proofs::Lawful::symmetric))]
 pub fn convert_ty<'a>(a: &'a Type, b: &'a Type) -> Option<&'a Type>
-    ensures { IsCommon (view a.now) (view b.now) (option_map (λ t. view t.now) result) }
+    ensures common { IsCommon (view a.now) (view b.now) (option_map (λ t. view t.now) result) }
+    ensures symmetric { CommonSymmetric (view a.now) (view b.now) }
 {
     if a.is_convertible_to(b) {
         Some(b)

@@ -2,7 +2,10 @@
 #![tactic(auto)]
 
 pub mod builtin;
+pub mod common;
+pub mod concrete;
 pub mod conv;
+pub mod convert;
 pub mod copy;
 pub mod copy_error;
 pub mod copy_signature;

@@ -1,5 +1,5 @@
 -- The concrete type of least rank.
-use Rattle.std.proofs.Common.{◌≡◌, ◌≢◌, ℕ, ◌<◌, ◌≤◌, ◌⊎◌, Bool, true, false, refl, sym, ◌∙◌, ap, subst, inl, inr, arith}
+use Rattle.std.proofs.Common.{◌≡◌, ◌≢◌, ℕ, ◌<◌, ◌≤◌, ◌⊎◌, ◌↔◌, Bool, true, false, refl, sym, ◌∙◌, ap, subst, inl, inr, arith}
 use native.Mathlib.Decide.{ℕ_discrete}
 use Rattle.wgsl_syntax.specs.declared.scalar.Scalar.{Scalar}
 use Rattle.wgsl_syntax.specs.declared.scalar.Scalar.TheVariants.{AbstractInt, AbstractFloat, I32, U32, F32, F16, F64}
@@ -124,3 +124,24 @@ concrete_stays (within (mat_of c r) t) h = matrix (is_abstract t) refl
 concrete_stays (within (vec_of n) t) h = ap (λ t. within (vec_of n) t) (concrete_stays t h)
 concrete_stays (within (array_of n) t) h = ap (λ t. within (array_of n) t) (concrete_stays t h)
 concrete_stays t h = refl
+
+-- by what a call answers
+
+abbrev IsOf : WgslType → WgslType → Type 0
+IsOf t u = u ≡ concretized t
+
+pub concrete_is_concrete : (t u : WgslType) → IsOf t u → ¬ IsAbstract u
+concrete_is_concrete t u e h = concretized_concrete t (subst IsAbstract e h)
+
+pub concrete_changes : (t u : WgslType) → IsOf t u → (u ≢ t) ↔ IsAbstract t
+concrete_changes t u e = (λ n. abstract (is_abstract t) refl (λ k. n (e ∙ k)), λ a k. concrete_is_concrete t u e (subst IsAbstract (sym k) a))
+  where
+    abstract : (b : Bool) → is_abstract t ≡ b → concretized t ≢ t → IsAbstract t
+    abstract true q n = q
+    abstract false q n = absurd (n (concrete_stays t (λ h. absurd (cc (h, q)))))
+
+pub concrete_once : (t u : WgslType) → IsOf t u → concretized u ≡ u
+concrete_once t u e = concrete_stays u (concrete_is_concrete t u e)
+
+pub concrete_least : (t u : WgslType) → IsOf t u → IsValueType t → HasFloatMatrices t → IsLeastConcrete t u
+concrete_least t u e v h = subst (λ u. IsLeastConcrete t u) (sym e) (least_concrete t v h)

@@ -4,6 +4,7 @@ pub mod Order
 pub mod Equations
 pub mod Counts
 pub mod Walks
+pub mod Loading
 pub mod Commons
 pub mod Concretes
 pub mod Families
@@ -12,6 +13,7 @@ pub mod Choices
 pub mod Rowed
 pub mod Called
 pub mod Lawful
+pub mod Lists
 pub mod SumRows
 pub mod Examples
 pub mod Placing

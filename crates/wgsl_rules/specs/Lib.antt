@@ -6,8 +6,10 @@ pub mod Literals
 pub mod Signatures
 pub mod ResultStructs
 pub mod Conversion
+pub mod Loading
 pub mod Places
 pub mod Common
+pub mod Lists
 pub mod Concrete
 pub mod Candidates
 pub mod Choice

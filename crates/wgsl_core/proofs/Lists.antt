@@ -1,0 +1,19 @@
+-- Common types of what an iterator gave.
+use Rattle.std.proofs.Common.{List, [], ◌∷◌, ◌++◌, ◌≡◌, map, Option, Some, refl, sym, ap, subst}
+use Rattle.std.specs.Borrow.{Bor}
+use Rattle.wgsl_rules.specs.Types.{WgslType}
+use Rattle.wgsl_rules.specs.Common.{IsCommon, IsLeftCommonFrom}
+use Rattle.wgsl_rules.proofs.Lists.{one_more}
+use Rattle.wgsl_core.specs.View.{view}
+use Rattle.wgsl_core.specs.declared.ty.Type.{«Type»}
+
+abbrev pub seen : List (Bor «Type») → List WgslType
+seen = map (λ t. view t.now)
+
+map_last : (ts : List (Bor «Type»)) (t : Bor «Type») → seen (ts ++ t ∷ []) ≡ seen ts ++ view t.now ∷ []
+map_last [] t = refl
+map_last (u ∷ ts) t = ap (λ us. view u.now ∷ us) (map_last ts t)
+
+pub one_more_given : (c : Option WgslType) (ts : List (Bor «Type»)) (t : Bor «Type») (d : WgslType) (r : Option WgslType) →
+    IsLeftCommonFrom c (seen ts) (Some d) → IsCommon d (view t.now) r → IsLeftCommonFrom c (seen (ts ++ t ∷ [])) r
+one_more_given c ts t d r h k = subst (λ us. IsLeftCommonFrom c us r) (sym (map_last ts t)) (one_more c (seen ts) d (view t.now) r h k)

@@ -1,0 +1,5 @@
+use Rattle.wgsl_rules.proofs.Lawful.{adds}
+use Rattle.wgsl_core.proofs.laws.rank_adds.Goals as goal
+
+pub returns : goal.returns
+returns c = adds _ _ _
