@@ -11,3 +11,4 @@ pub mod Ranks
 pub mod Sums
 pub mod Lists
 pub mod Inners
+pub mod Slices
