@@ -41,6 +41,6 @@ common_of_slice s all None (t ∷ ts) p d c =
     let n = length (t ∷ ts) in
     let not_empty : seen (t ∷ ts) ≢ [] = λ e. absurd (cc e) in
     let split : seen (t ∷ ts) ++ map view (drop n all) ≡ map view all =
-        ap (λ us. us ++ map view (drop n all)) (seen_now (t ∷ ts) ∙ ap (map view) so_far)
-        ∙ (sym (map-append view (take n all) (drop n all)) ∙ ap (map view) (take-append-drop n all)) in
+    ap (λ us. us ++ map view (drop n all)) (seen_now (t ∷ ts) ∙ ap (map view) so_far)
+    ∙ (sym (map-append view (take n all) (drop n all)) ∙ ap (map view) (take-append-drop n all)) in
     subst (λ us. IsCommonOfList us None) split (c.whatever_follows not_empty refl (map view (drop n all)))

@@ -93,10 +93,19 @@ fn copy_if(alloc: Global, holds: bool, ty: &Type) -> Result<Option<Type>, AllocE
     ensures value { IfOk result (λ y. option_map view y ≡ (if holds then Some (view ty.now) else None)) }
     ensures takes_no_memory { NeedsNoMemory (if holds then Some (view ty.now) else None) → IsOk result }
 {
-    if holds { Ok(Some(ty.clone(alloc)?)) } else { Ok(None) }
+    if holds {
+        Ok(Some(ty.clone(alloc)?))
+    } else {
+        Ok(None)
+    }
 }
 
-fn around_converted(alloc: Global, layer: Layer, element: &Type, ty: &Type) -> Result<Option<Type>, AllocError>
+fn around_converted(
+    alloc: Global,
+    layer: Layer,
+    element: &Type,
+    ty: &Type,
+) -> Result<Option<Type>, AllocError>
     ensures value { IfOk result (λ y. option_map view y ≡ option_map (λ t. within (layer_view layer) t) (converted (view element.now) (view ty.now))) }
     ensures takes_no_memory { NeedsNoMemory (option_map (λ t. within (layer_view layer) t) (converted (view element.now) (view ty.now))) → IsOk result }
 {

@@ -12,7 +12,7 @@ loop-t-preserved g c = (
   (search rules),
   (search rules),
   one_more_given (Some (view c.in_ok-common.common.now)) c.loop-t.yielded c.in-Some.t (view c.loop-t.common.now) (Some (view c.in_ok-common-2.common.now))
-  c.loop-t.invariant.2 c.in_ok-common-2.ensures.common,
+      c.loop-t.invariant.2 c.in_ok-common-2.ensures.common,
 )
 
 pub returns : goal.returns
@@ -34,27 +34,25 @@ returns-in_err-common-2 g c =
     let r = c.from_residual-in_err-common-2.ensures in
     let none : c.from_residual-in_err-common-2.result ≡ None = r in
     let given = c.in_ok-common.common ∷ (c.loop-t.yielded ++ c.in-Some.t ∷ []) in
-    let left = one_more_given (Some (view c.in_ok-common.common.now)) c.loop-t.yielded c.in-Some.t (view c.loop-t.common.now) None c.loop-t.invariant.2 c.in_err-common-2.ensures.common in
-    (
-  c.into_iter-rest.result,
-  given,
-  c.into_iter-rest.ensures.into_iter_gives,
-  (
-    c.next-in-loop-t.new.self,
-    (c.next.new.self, c.in_ok-common.ensures.steps, subst (λ s. Yields g.I.IntoIter.Iterator.next_gives s (c.loop-t.yielded ++ c.in-Some.t ∷ []) c.next-in-loop-t.new.self) c.into_iter-t-iterator.ensures.into_iter_gives more),
-    λ w. absurd (elim w [ inl s ↦ true≢false (sym s ∙ ap is_some none) | inr e ↦ (cc e) ]),
-  ),
-  subst (λ r. IsCommonOfGiven (seen given) (option_map (λ t. view t.now) r)) (sym none) (common_of_given (seen given) None left),
-)
+    let left = one_more_given (Some (view c.in_ok-common.common.now)) c.loop-t.yielded c.in-Some.t (view c.loop-t.common.now) None c.loop-t.invariant.2 c.in_err-common-2.ensures.common in (
+      c.into_iter-rest.result,
+      given,
+      c.into_iter-rest.ensures.into_iter_gives,
+      (
+        c.next-in-loop-t.new.self,
+        (c.next.new.self, c.in_ok-common.ensures.steps, subst (λ s. Yields g.I.IntoIter.Iterator.next_gives s (c.loop-t.yielded ++ c.in-Some.t ∷ []) c.next-in-loop-t.new.self) c.into_iter-t-iterator.ensures.into_iter_gives more),
+        λ w. absurd (elim w [ inl s ↦ true≢false (sym s ∙ ap is_some none) | inr e ↦ (cc e) ]),
+      ),
+      subst (λ r. IsCommonOfGiven (seen given) (option_map (λ t. view t.now) r)) (sym none) (common_of_given (seen given) None left),
+    )
 
 pub returns-in_err-common : goal.returns-in_err-common
 returns-in_err-common g c =
     let r = c.from_residual.ensures in
-    let none : c.from_residual.result ≡ None = r in
-    (
-  c.into_iter-rest.result,
-  [],
-  c.into_iter-rest.ensures.into_iter_gives,
-  (c.into_iter-rest.result, refl, λ w. (c.next.new.self, c.in_err-common.ensures.steps)),
-  subst (λ r. IsCommonOfGiven [] (option_map (λ t. view t.now) r)) (sym none) (common_of_given [] None refl),
-)
+    let none : c.from_residual.result ≡ None = r in (
+      c.into_iter-rest.result,
+      [],
+      c.into_iter-rest.ensures.into_iter_gives,
+      (c.into_iter-rest.result, refl, λ w. (c.next.new.self, c.in_err-common.ensures.steps)),
+      subst (λ r. IsCommonOfGiven [] (option_map (λ t. view t.now) r)) (sym none) (common_of_given [] None refl),
+    )

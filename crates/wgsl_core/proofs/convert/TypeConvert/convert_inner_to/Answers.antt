@@ -8,8 +8,8 @@ use Rattle.wgsl_core.proofs.convert.TypeConvert.convert_inner_to.Goals as goal
 pub returns-in_default : goal.returns-in_default
 returns-in_default c =
     let whole =
-        as_a_whole (view c.args.self.now) (view c.args.ty.now) (sym c.layer.ensures ∙ ap (option_map _) c.in-None.is)
-        (not_atomic c.args.self.now c.in_default.not-Atomic) (not_pointer c.args.self.now c.in_default.not-Ptr) in
+    as_a_whole (view c.args.self.now) (view c.args.ty.now) (sym c.layer.ensures ∙ ap (option_map _) c.in-None.is)
+    (not_atomic c.args.self.now c.in_default.not-Atomic) (not_pointer c.args.self.now c.in_default.not-Ptr) in
     record {
       value = subst (λ r. IfOk c.convert_to.result (λ y. option_map view y ≡ r)) (sym whole) c.convert_to.ensures.value;
       takes_no_memory = subst (λ r. NeedsNoMemory r → IsOk c.convert_to.result) (sym whole) c.convert_to.ensures.takes_no_memory;
