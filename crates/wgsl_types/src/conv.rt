@@ -1,2 +1,118 @@
-//! Conversion of types (WGSL, "Conversion Rank").
+//! Conversion of types and of what has a type (WGSL, "Conversion Rank").
+ghost use Rattle.std.specs.Prelude.{◌≡◌, Option, IfOk, IfSome, All, option_map, option_and_then, map};
+ghost use Rattle.wgsl_rules.specs.Types.{WgslType};
+ghost use Rattle.wgsl_rules.specs.Common.{IsCommon, IsLeftCommon};
+ghost use Rattle.wgsl_core.specs.View.{view};
+ghost use Rattle.wgsl_types.specs.Family.{both_to, all_to};
+
+use std::alloc::{AllocError, Global};
+pub use wgsl_core::common::convert_all_ty;
 pub use wgsl_core::conv::{conversion_rank, convert_ty, rank_steps};
+pub use wgsl_core::convert::Convert;
+use wgsl_core::ty::Type;
+use wgsl_core::typed::Ty;
+
+/// Both values converted to the common type of their types; None where there is none, or one of them doesn't convert.
+pub fn convert<T: Convert>(alloc: Global, a: &T, b: &T) -> Result<Option<(T, T)>, AllocError>
+where
+    T: Drop,
+    ensures { IfOk result (λ p. (c : Option WgslType) × IsCommon (T.type_of a.now) (T.type_of b.now) c
+        × (option_map (λ q. (T.shown q.0, T.shown q.1)) p ≡ option_and_then (both_to T.to T.to a.now b.now) c)) }
+{
+    let (s, t) = (a.ty(alloc)?, b.ty(alloc)?);
+    let Some(ty) = convert_ty(&s, &t) else {
+        return Ok(None);
+    };
+    let Some(x) = a.convert_to(alloc, ty)? else {
+        return Ok(None);
+    };
+    let Some(y) = b.convert_to(alloc, ty)? else {
+        return Ok(None);
+    };
+    Ok(Some((x, y)))
+}
+
+/// Both values with what is inside converted to the common type of their inner types; None where there is none, or one of
+/// them doesn't convert.
+pub fn convert_inner<T: Convert, U: Convert>(alloc: Global, a: &T, b: &U) -> Result<Option<(T, U)>, AllocError>
+where
+    T: Drop,
+    U: Drop,
+    ensures { IfOk result (λ p. (c : Option WgslType) × IsCommon (T.inner_type_of a.now) (U.inner_type_of b.now) c
+        × (option_map (λ q. (T.shown q.0, U.shown q.1)) p ≡ option_and_then (both_to T.inner_to U.inner_to a.now b.now) c)) }
+{
+    let (s, t) = (a.inner_ty(alloc)?, b.inner_ty(alloc)?);
+    let Some(ty) = convert_ty(&s, &t) else {
+        return Ok(None);
+    };
+    let Some(x) = a.convert_inner_to(alloc, ty)? else {
+        return Ok(None);
+    };
+    let Some(y) = b.convert_inner_to(alloc, ty)? else {
+        return Ok(None);
+    };
+    Ok(Some((x, y)))
+}
+
+/// Every value converted to a type, in order; None where one doesn't convert.
+pub fn convert_all_to<T: Convert>(alloc: Global, values: &[T], ty: &Type) -> Result<Option<Vec<T>>, AllocError>
+where
+    T: Drop,
+    ensures { IfOk result (λ r. option_map (λ v. map T.shown v.items) r ≡ all_to T.to (view ty.now) values.now) }
+{
+    let mut converted = Vec::new(alloc);
+    for value in values {
+        let Some(x) = value.convert_to(alloc, ty)? else {
+            return Ok(None);
+        };
+        converted.push(x)?;
+    }
+    Ok(Some(converted))
+}
+
+/// Every value with what is inside converted to a type, in order; None where one doesn't convert.
+pub fn convert_all_inner_to<T: Convert>(alloc: Global, values: &[T], ty: &Type) -> Result<Option<Vec<T>>, AllocError>
+where
+    T: Drop,
+    ensures { IfOk result (λ r. option_map (λ v. map T.shown v.items) r ≡ all_to T.inner_to (view ty.now) values.now) }
+{
+    let mut converted = Vec::new(alloc);
+    for value in values {
+        let Some(x) = value.convert_inner_to(alloc, ty)? else {
+            return Ok(None);
+        };
+        converted.push(x)?;
+    }
+    Ok(Some(converted))
+}
+
+/// Every value converted to the common type of their types, in order; None where there is none, as of no values, or one
+/// doesn't convert.
+pub fn convert_all<T: Convert>(alloc: Global, values: &[T]) -> Result<Option<Vec<T>>, AllocError>
+where
+    T: Drop,
+    ensures { IfOk result (λ r. (c : Option WgslType) × IsLeftCommon (map T.type_of values.now) c
+        × (option_map (λ v. map T.shown v.items) r ≡ option_and_then (λ t. all_to T.to t values.now) c)) }
+{
+    let types = types_of(alloc, values)?;
+    let Some(ty) = common_of(&types) else {
+        return Ok(None);
+    };
+    convert_all_to(alloc, values, ty)
+}
+
+fn types_of<T: Convert>(alloc: Global, values: &[T]) -> Result<Vec<Type>, AllocError>
+    ensures { IfOk result (λ v. map view v.items ≡ map T.type_of values.now) }
+{
+    let mut types = Vec::new(alloc);
+    for value in values {
+        types.push(value.ty(alloc)?)?;
+    }
+    Ok(types)
+}
+
+fn common_of(types: &[Type]) -> Option<&Type>
+    ensures { IsLeftCommon (map view types.now) (option_map (λ t. view t.now) result) }
+{
+    convert_all_ty(types)
+}

@@ -1,3 +1,4 @@
-//! Types.
-pub use wgsl_core::ty::{StructMemberType, StructType, Type};
+//! Types, and what has a type.
+pub use wgsl_core::ty::{StructMemberType, StructType, Type, try_from_type};
+pub use wgsl_core::typed::Ty;
 pub use wgsl_syntax::texture::{SamplerType, TextureDimensions, TextureType};

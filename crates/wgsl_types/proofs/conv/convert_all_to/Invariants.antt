@@ -1,0 +1,7 @@
+use Rattle.std.proofs.Common.{◌≡◌, take, map, Some}
+use Rattle.wgsl_types.specs.Family.{all_to}
+use Rattle.wgsl_core.specs.View.{view}
+use Rattle.wgsl_types.proofs.conv.convert_all_to.Given as goal
+
+abbrev pub invariant-loop-value : goal.invariant-loop-value
+invariant-loop-value g l = all_to g.T.Convert.to (view l.ty) (take l.value-index l.values) ≡ Some (map g.T.Convert.shown l.converted.items)

@@ -1,0 +1,2 @@
+//! Template parameters.
+pub use wgsl_core::signature::TpltParam;
