@@ -1,8 +1,8 @@
 // What the program answers to a command.
-use crate::read::read_type;
+use crate::read::{read_type, read_types};
 use crate::words::{Unread, Words};
 use std::alloc::{AllocError, Global};
-use wgsl_types::conv::conversion_rank;
+use wgsl_types::conv::{conversion_rank, convert_all_ty};
 use wgsl_types::error::Fail;
 use wgsl_types::ty::Type;
 
@@ -18,6 +18,7 @@ pub fn answer(alloc: Global, words: &[&str]) -> Result<Option<String>, AllocErro
 fn command(alloc: Global, mut words: Words) -> Result<String, Unread> {
     match words.next()? {
         "rank" => rank(alloc, words),
+        "common" => common(alloc, words),
         "binary" => binary(alloc, words),
         "size" => size(alloc, words),
         "offsets" => offsets(alloc, words),
@@ -31,6 +32,19 @@ fn rank(alloc: Global, mut words: Words) -> Result<String, Unread> {
     let to = read_type(alloc, &mut words)?;
     words.end()?;
     Ok(number_or_none(alloc, conversion_rank(&from, &to))?)
+}
+
+/// `common T..`: the common type of all.
+fn common(alloc: Global, mut words: Words) -> Result<String, Unread> {
+    let types = read_types(alloc, &mut words)?;
+    match common_of(&types) {
+        Some(ty) => Ok(ty.to_string(alloc)?),
+        None => Ok(String::from_str(alloc, "none")?),
+    }
+}
+
+fn common_of(types: &[Type]) -> Option<&Type> {
+    convert_all_ty(types)
 }
 
 /// `binary OP T U`: the type of the expression, or why it has none.

@@ -56,6 +56,19 @@ pub fn read_type(alloc: Global, words: &mut Words) -> Result<Type, Unread>
     }
 }
 
+/// The types that all words that are left stand for.
+pub fn read_types(alloc: Global, words: &mut Words) -> Result<Vec<Type>, Unread> {
+    let mut types = Vec::new(alloc);
+    for _ in 0..words.left() {
+        if words.left() == 0 {
+            break;
+        }
+        let ty = read_type(alloc, words)?;
+        types.push(ty).map_err(|_e| AllocError)?;
+    }
+    Ok(types)
+}
+
 #[cycle(reading)]
 fn read_boxed(alloc: Global, words: &mut Words) -> Result<Box<Type>, Unread>
     ensures { GoesOn words.old words.new }

@@ -1,6 +1,8 @@
 // What no clause says: which lines are answered how, and what a read or a write that fails comes to.
+mod conversion;
 mod layout;
 mod names;
+mod refusals;
 mod streams;
 mod types;
 

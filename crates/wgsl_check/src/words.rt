@@ -83,9 +83,14 @@ impl<'w, 't> Words<'w, 't> {
         Ok(Some(bytes))
     }
 
+    /// How many words are not taken yet.
+    pub fn left(&self) -> usize {
+        self.all.len() - self.taken
+    }
+
     /// Whether every word is taken.
     pub fn end(&self) -> Result<(), Unread> {
-        if self.taken == self.all.len() {
+        if self.left() == 0 {
             Ok(())
         } else {
             Err(Unread::Word)

@@ -34,7 +34,11 @@ where
 
 /// Both values with what is inside converted to the common type of their inner types; None where there is none, or one of
 /// them doesn't convert.
-pub fn convert_inner<T: Convert, U: Convert>(alloc: Global, a: &T, b: &U) -> Result<Option<(T, U)>, AllocError>
+pub fn convert_inner<T: Convert, U: Convert>(
+    alloc: Global,
+    a: &T,
+    b: &U,
+) -> Result<Option<(T, U)>, AllocError>
 where
     T: Drop,
     U: Drop,
@@ -55,7 +59,11 @@ where
 }
 
 /// Every value converted to a type, in order; None where one doesn't convert.
-pub fn convert_all_to<T: Convert>(alloc: Global, values: &[T], ty: &Type) -> Result<Option<Vec<T>>, AllocError>
+pub fn convert_all_to<T: Convert>(
+    alloc: Global,
+    values: &[T],
+    ty: &Type,
+) -> Result<Option<Vec<T>>, AllocError>
 where
     T: Drop,
     ensures { IfOk result (λ r. option_map (λ v. map T.shown v.items) r ≡ all_to T.to (view ty.now) values.now) }
@@ -71,7 +79,11 @@ where
 }
 
 /// Every value with what is inside converted to a type, in order; None where one doesn't convert.
-pub fn convert_all_inner_to<T: Convert>(alloc: Global, values: &[T], ty: &Type) -> Result<Option<Vec<T>>, AllocError>
+pub fn convert_all_inner_to<T: Convert>(
+    alloc: Global,
+    values: &[T],
+    ty: &Type,
+) -> Result<Option<Vec<T>>, AllocError>
 where
     T: Drop,
     ensures { IfOk result (λ r. option_map (λ v. map T.shown v.items) r ≡ all_to T.inner_to (view ty.now) values.now) }

@@ -8,10 +8,8 @@ pub mod syntax;
 pub mod tplt;
 pub mod ty;
 
-pub use wgsl_core::builtin;
 pub use wgsl_core::error::{Error, Fail};
 pub use wgsl_core::inst::Instance;
-pub use wgsl_core::laws;
-pub use wgsl_core::mem;
 pub use wgsl_core::signature::{CallSignature, ShaderStage};
 pub use wgsl_core::ty::Type;
+pub use wgsl_core::{builtin, laws, mem};
