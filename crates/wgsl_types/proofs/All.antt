@@ -1,6 +1,8 @@
 -- Converting each of a list.
-use Rattle.std.proofs.Common.{◌≡◌, ℕ, ◌+◌, ◌<◌, List, [], ◌∷◌, ◌++◌, length, take, drop, get_or, map, Option, Some, None, refl, sym, ap, ◌∙◌, subst, arith, add-one, drop-cons}
-use Rattle.std.specs.Prelude.{option_and_then, option_map}
+use Rattle.std.proofs.Common.{◌≡◌, ℕ, ◌+◌, ◌<◌, List, [], ◌∷◌, ◌++◌, length, take, drop, get_or, Option, Some, None, refl, sym, ap, ◌∙◌, add-one, drop-cons}
+use Rattle.std.specs.Prelude.{Result, IfOk, IfSome, option_and_then, option_map}
+use Rattle.std.proofs.lemmas.Option.{IfSome_then}
+use Rattle.std.proofs.lemmas.Result.{IfOk-weaker}
 use Rattle.std.proofs.lemmas.List.{take_more, take-append-drop}
 use Rattle.wgsl_rules.specs.Types.{WgslType}
 use Rattle.wgsl_types.specs.Family.{all_to}
@@ -33,3 +35,7 @@ module _ {T V : Type 0} (to : T → WgslType → Option V) (t : WgslType) where
   all_none xs i ys x lt e h k =
       let d : drop i xs ≡ x ∷ drop (i + 1) xs = rw (add-one, drop-cons xs i x, ← e) refl in
       none_at (take i xs) ys x (drop (i + 1) xs) h k ∙ ap (all_to to t) (ap (λ z. take i xs ++ z) (sym d) ∙ take-append-drop i xs)
+
+-- what follows from what is said of the value in an Ok of a Some
+pub IfAnswered_then : {X E : Type 0} (r : Result (Option X) E) {P Q : X → Type 0} → ((x : X) → P x → Q x) → IfOk r (λ o. IfSome o P) → IfOk r (λ o. IfSome o Q)
+IfAnswered_then r {P} {Q} f h = IfOk-weaker r (λ o. IfSome o P) (λ o. IfSome o Q) (λ o p. IfSome_then o p f) h

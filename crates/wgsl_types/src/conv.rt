@@ -16,8 +16,9 @@ use wgsl_core::typed::Ty;
 pub fn convert<T: Convert>(alloc: Global, a: &T, b: &T) -> Result<Option<(T, T)>, AllocError>
 where
     T: Drop,
-    ensures { IfOk result (λ p. (c : Option WgslType) × IsCommon (T.type_of a.now) (T.type_of b.now) c
+    ensures value { IfOk result (λ p. (c : Option WgslType) × IsCommon (T.type_of a.now) (T.type_of b.now) c
         × (option_map (λ q. (T.shown q.0, T.shown q.1)) p ≡ option_and_then (both_to T.to T.to a.now b.now) c)) }
+    ensures one_type { IfOk result (λ p. IfSome p (λ q. T.type_of q.0 ≡ T.type_of q.1)) }
 {
     let (s, t) = (a.ty(alloc)?, b.ty(alloc)?);
     let Some(ty) = convert_ty(&s, &t) else {
@@ -66,7 +67,8 @@ pub fn convert_all_to<T: Convert>(
 ) -> Result<Option<Vec<T>>, AllocError>
 where
     T: Drop,
-    ensures { IfOk result (λ r. option_map (λ v. map T.shown v.items) r ≡ all_to T.to (view ty.now) values.now) }
+    ensures value { IfOk result (λ r. option_map (λ v. map T.shown v.items) r ≡ all_to T.to (view ty.now) values.now) }
+    ensures one_type { IfOk result (λ r. IfSome r (λ v. All (λ x. T.type_of x ≡ view ty.now) v.items)) }
 {
     let mut converted = Vec::new(alloc);
     for value in values {
@@ -103,8 +105,9 @@ where
 pub fn convert_all<T: Convert>(alloc: Global, values: &[T]) -> Result<Option<Vec<T>>, AllocError>
 where
     T: Drop,
-    ensures { IfOk result (λ r. (c : Option WgslType) × IsLeftCommon (map T.type_of values.now) c
+    ensures value { IfOk result (λ r. (c : Option WgslType) × IsLeftCommon (map T.type_of values.now) c
         × (option_map (λ v. map T.shown v.items) r ≡ option_and_then (λ t. all_to T.to t values.now) c)) }
+    ensures one_type { IfOk result (λ r. IfSome r (λ v. (t : WgslType) × All (λ x. T.type_of x ≡ t) v.items)) }
 {
     let types = types_of(alloc, values)?;
     let Some(ty) = common_of(&types) else {

@@ -1,7 +1,6 @@
-use Rattle.std.proofs.Common.{◌≡◌, ◌∷◌, [], ◌++◌, Some, None, map, sym, ◌∙◌, ap, refl, arith}
+use Rattle.std.proofs.Common.{◌≡◌, ◌∷◌, [], Some, None, map, sym, ◌∙◌, ap, arith}
 use Rattle.std.specs.Prelude.{option_map}
 use Rattle.std.proofs.lemmas.List.{map-append}
-use Rattle.wgsl_types.specs.Family.{all_to}
 use Rattle.wgsl_core.specs.View.{view}
 use Rattle.wgsl_types.proofs.All.{all_next, all_none}
 use Rattle.wgsl_types.proofs.conv.convert_all_inner_to.Goals as goal
