@@ -2,7 +2,7 @@
 use Rattle.std.proofs.Common.{◌≡◌, ℕ, Option, Some, None, option_map, refl, sym, subst, subst₂}
 use Rattle.wgsl_syntax.specs.declared.scalar.Scalar.{Scalar}
 use Rattle.wgsl_syntax.specs.declared.operator.BinaryOperator.TheVariants.{Addition}
-use Rattle.wgsl_rules.specs.Types.{Layer, array_of, vec_of, mat_of, WgslType, scalar, within, vec, mat}
+use Rattle.wgsl_rules.specs.Types.{vec_of, mat_of, WgslType, scalar, within, vec, mat}
 use Rattle.wgsl_rules.specs.Common.{IsCommon, IsInside}
 use Rattle.wgsl_rules.specs.Operators.{IsRow, HasResult, scalar_row, vector_row, scalar_vector_row, vector_scalar_row, matrix_row, comparison_row, comparison_vector_row, logical_row, bools_row, bit_row, shift_row, shift_vector_row}
 use Rattle.wgsl_rules.proofs.Commons.{common_once}
