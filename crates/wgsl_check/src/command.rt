@@ -2,8 +2,10 @@
 use crate::read::{read_type, read_types};
 use crate::words::{Unread, Words};
 use std::alloc::{AllocError, Global};
+use wgsl_types::builtin::{type_binary_op, type_unary_op};
 use wgsl_types::conv::{conversion_rank, convert_all_ty};
 use wgsl_types::error::Fail;
+use wgsl_types::syntax::{BinaryOperator, UnaryOperator};
 use wgsl_types::ty::Type;
 
 /// The answer to a line's words, or `None` where they are no command.
@@ -19,6 +21,7 @@ fn command(alloc: Global, mut words: Words) -> Result<String, Unread> {
     match words.next()? {
         "rank" => rank(alloc, words),
         "common" => common(alloc, words),
+        "unary" => unary(alloc, words),
         "binary" => binary(alloc, words),
         "size" => size(alloc, words),
         "offsets" => offsets(alloc, words),
@@ -37,24 +40,60 @@ fn rank(alloc: Global, mut words: Words) -> Result<String, Unread> {
 /// `common T..`: the common type of all.
 fn common(alloc: Global, mut words: Words) -> Result<String, Unread> {
     let types = read_types(alloc, &mut words)?;
-    match common_of(&types) {
+    match convert_all_ty(types.as_slice()) {
         Some(ty) => Ok(ty.to_string(alloc)?),
         None => Ok(String::from_str(alloc, "none")?),
     }
 }
 
-fn common_of(types: &[Type]) -> Option<&Type> {
-    convert_all_ty(types)
+/// `unary OP T`: the type of the expression, or why it has none.
+fn unary(alloc: Global, mut words: Words) -> Result<String, Unread> {
+    let operator = unary_operator(words.next()?)?;
+    let operand = read_type(alloc, &mut words)?;
+    words.end()?;
+    Ok(type_or_refusal(alloc, type_unary_op(alloc, operator, &operand))?)
+}
+
+fn unary_operator(word: &str) -> Result<UnaryOperator, Unread> {
+    match word {
+        "!" => Ok(UnaryOperator::LogicalNegation),
+        "-" => Ok(UnaryOperator::Negation),
+        "~" => Ok(UnaryOperator::BitwiseComplement),
+        "&" => Ok(UnaryOperator::AddressOf),
+        "*" => Ok(UnaryOperator::Indirection),
+        _ => Err(Unread::Word),
+    }
 }
 
 /// `binary OP T U`: the type of the expression, or why it has none.
 fn binary(alloc: Global, mut words: Words) -> Result<String, Unread> {
-    let operator = words.next()?;
+    let operator = binary_operator(words.next()?)?;
     let lhs = read_type(alloc, &mut words)?;
     let rhs = read_type(alloc, &mut words)?;
     words.end()?;
-    match operator {
-        "+" => Ok(type_or_refusal(alloc, lhs.op_add(alloc, &rhs))?),
+    Ok(type_or_refusal(alloc, type_binary_op(alloc, operator, &lhs, &rhs))?)
+}
+
+fn binary_operator(word: &str) -> Result<BinaryOperator, Unread> {
+    match word {
+        "||" => Ok(BinaryOperator::ShortCircuitOr),
+        "&&" => Ok(BinaryOperator::ShortCircuitAnd),
+        "+" => Ok(BinaryOperator::Addition),
+        "-" => Ok(BinaryOperator::Subtraction),
+        "*" => Ok(BinaryOperator::Multiplication),
+        "/" => Ok(BinaryOperator::Division),
+        "%" => Ok(BinaryOperator::Remainder),
+        "==" => Ok(BinaryOperator::Equality),
+        "!=" => Ok(BinaryOperator::Inequality),
+        "<" => Ok(BinaryOperator::LessThan),
+        "<=" => Ok(BinaryOperator::LessThanEqual),
+        ">" => Ok(BinaryOperator::GreaterThan),
+        ">=" => Ok(BinaryOperator::GreaterThanEqual),
+        "|" => Ok(BinaryOperator::BitwiseOr),
+        "&" => Ok(BinaryOperator::BitwiseAnd),
+        "^" => Ok(BinaryOperator::BitwiseXor),
+        "<<" => Ok(BinaryOperator::ShiftLeft),
+        ">>" => Ok(BinaryOperator::ShiftRight),
         _ => Err(Unread::Word),
     }
 }

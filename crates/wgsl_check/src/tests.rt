@@ -2,6 +2,7 @@
 mod conversion;
 mod layout;
 mod names;
+mod operators;
 mod refusals;
 mod streams;
 mod types;
@@ -106,7 +107,7 @@ binary
 binary +
 binary + i32 i32 i32
 binary ++ i32 i32
-binary - i32 i32
+binary ! i32 i32
 binary + I32 i32
 binary + vec i32 i32
 binary + vec 256 i32 i32

@@ -8,7 +8,8 @@ pub mod Refused
 pub mod Layouts
 pub mod Recognition
 pub mod Ranks
-pub mod Sums
+pub mod Found
+pub mod Unary
 pub mod Lists
 pub mod Inners
 pub mod Slices

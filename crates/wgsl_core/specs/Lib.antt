@@ -8,4 +8,4 @@ pub mod RefusalEquality
 pub mod Results
 pub mod Memory
 pub mod Places
-pub mod Planned
+pub mod Found

@@ -50,11 +50,15 @@ abbrev pub fail_text : Fail → List ℕ
 fail_text (fails.Error e) = message (refusal e)
 fail_text (fails.Memory e) = codes "out of memory"
 
--- A call answers by P: the type that it gives or the refusal is such an answer. Want of memory stands for any.
+-- A call answers by P: what it gives, as it is seen, or the refusal is such an answer. Want of memory stands for any.
+abbrev pub AnswersAs : {A B : Type 0} → (A → B) → (Result B Refusal → Type 0) → Result A Fail → Type 0
+AnswersAs seen P (Ok a) = P (Ok (seen a))
+AnswersAs seen P (Err (fails.Error e)) = P (Err (refusal e))
+AnswersAs seen P (Err (fails.Memory e)) = Unit {0}
+
+-- The same of a type.
 abbrev pub AnswersBy : (Result WgslType Refusal → Type 0) → Result «Type» Fail → Type 0
-AnswersBy P (Ok t) = P (Ok (view t))
-AnswersBy P (Err (fails.Error e)) = P (Err (refusal e))
-AnswersBy P (Err (fails.Memory e)) = Unit {0}
+AnswersBy P r = AnswersAs view P r
 
 -- A call gives what this answer gives, or refuses as it does. Want of memory stands for any answer.
 abbrev pub Gives : {A : Type 0} → Result A Refusal → Result A Fail → Type 0

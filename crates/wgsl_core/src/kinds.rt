@@ -2,10 +2,11 @@
 ghost use Rattle.std.specs.Prelude.{◌≡◌, ◌↔◌, IsTrue};
 ghost use Rattle.wgsl_syntax.specs.declared.scalar.Scalar.TheVariants.{Bool, AbstractInt, I32, U32, F32, I64, U64, F64};
 ghost use Rattle.wgsl_rules.specs.Types.{scalar};
-ghost use Rattle.wgsl_rules.specs.Kinds.{IsScalar, IsInteger, IsIntegerScalar, IsNumeric, IsNumericScalar, IsArray, IsVector, IsMatrix};
+ghost use Rattle.wgsl_rules.specs.Kinds.{IsScalar, IsInteger, IsIntegerScalar, IsIntegerOrVector, IsNumeric, IsNumericScalar, IsArray, IsVector, IsMatrix};
 ghost use Rattle.wgsl_rules.specs.Concrete.{IsAbstract, IsFloat, IsStorable};
 ghost use Rattle.wgsl_core.specs.View.{view};
 
+use crate::parts::Operand;
 use crate::ty::Type;
 use wgsl_syntax::scalar::Scalar;
 
@@ -44,6 +45,18 @@ impl Type {
         match self.scalar() {
             Some(scalar) => is_float_scalar(scalar),
             None => false,
+        }
+    }
+
+    /// Whether it is an integer or a vector of integers.
+    pub fn is_integer_or_vector(&self) -> bool
+        ensures { IsTrue result ↔ IsIntegerOrVector (view self.now) }
+    {
+        match self.operand() {
+            Operand::Scalar(scalar) => is_integer_scalar(scalar),
+            Operand::Vector(_, component) => component.is_integer(),
+            Operand::Matrix(_, _, _) => false,
+            Operand::Other => false,
         }
     }
 

@@ -2,6 +2,7 @@
 #![tactic(auto)]
 
 pub mod builtin;
+pub mod candidate;
 pub mod common;
 pub mod concrete;
 pub mod conv;

@@ -12,6 +12,7 @@ use crate::error::{Error, Fail};
 use std::alloc::{AllocError, Global};
 use wgsl_syntax::address::{AccessMode, AddressSpace};
 use wgsl_syntax::attribute::AccelerationStructureFlags;
+use wgsl_syntax::scalar::Scalar;
 use wgsl_syntax::texture::{SampledType, SamplerType, TextureType};
 
 /// A type (WGSL, "Types"), with the abstract numbers and naga's additions.
@@ -116,6 +117,29 @@ impl Type {
         ensures { IfOk result (λ t. view t ≡ struct_type (struct_view s)) }
     {
         Ok(Type::Struct(Box::new(alloc, s)?))
+    }
+}
+
+impl From<Scalar> for Type {
+    ghost use Rattle.std.specs.Prelude.{◌≡◌};
+    ghost use Rattle.wgsl_rules.specs.Types.{scalar};
+    ghost use Rattle.wgsl_core.specs.View.{view};
+
+    ghost from_gives = { λ s t. view t ≡ scalar s };
+
+    fn from(of: Scalar) -> Type {
+        match of {
+            Scalar::Bool => Type::Bool,
+            Scalar::AbstractInt => Type::AbstractInt,
+            Scalar::AbstractFloat => Type::AbstractFloat,
+            Scalar::I32 => Type::I32,
+            Scalar::U32 => Type::U32,
+            Scalar::F32 => Type::F32,
+            Scalar::F16 => Type::F16,
+            Scalar::I64 => Type::I64,
+            Scalar::U64 => Type::U64,
+            Scalar::F64 => Type::F64,
+        }
     }
 }
 

@@ -5,7 +5,7 @@ use Rattle.wgsl_rules.specs.Conversion.{IsValueType, ConvertsTo}
 use Rattle.wgsl_rules.specs.Common.{IsLeftCommon, Receives, IsLeastCommon}
 use Rattle.wgsl_rules.specs.Laws.{ConversionOrder, RanksAdd, TargetsComparable, RankNamesTarget, CommonAnyOrder, LeftCommonIsLeast, CommonSymmetric, OneChoice, RowIsChoice, IsCallName, CallRowIsChoice}
 use Rattle.wgsl_rules.proofs.Called.{call_chosen, call_refused}
-use Rattle.wgsl_rules.proofs.Rowed.{row_chosen, row_refused}
+use Rattle.wgsl_rules.proofs.Rowed.{two_values, row_chosen, row_refused}
 use Rattle.wgsl_syntax.specs.declared.operator.BinaryOperator.{BinaryOperator}
 use Rattle.wgsl_rules.specs.Candidates.{Name}
 use Rattle.wgsl_rules.proofs.Choices.{some_choice, choice_once}
@@ -80,6 +80,9 @@ one_choice n ts vs = record {
   exists = λ us r q h. some_choice n ts us r vs q h;
   one = λ us ws r s a b. choice_once n ts us ws r s a b;
 }
+
+pub one_choice_of_two : (n : Name) (a b : WgslType) → IsValueType a → IsValueType b → OneChoice n (a ∷ b ∷ [])
+one_choice_of_two n a b va vb = one_choice n (a ∷ b ∷ []) (two_values a b va vb)
 
 pub row_is_choice : (o : BinaryOperator) (a b : WgslType) → IsValueType a → IsValueType b → RowIsChoice o a b
 row_is_choice o a b va vb = record {

@@ -14,7 +14,9 @@ pub mod Rowed
 pub mod Called
 pub mod Lawful
 pub mod Lists
-pub mod SumRows
+pub mod Groups
+pub mod Rows
+pub mod Unary
 pub mod Examples
 pub mod Placing
 pub mod OneSize

@@ -1,16 +1,12 @@
 -- The common type of two types and of a list (WGSL, "Conversion Rank" and "Overload Resolution").
-use Rattle.std.specs.Prelude.{List, [], ◌∷◌, ◌≡◌, ◌⊎◌, Option, Some, None, option_map, All}
-use Rattle.wgsl_rules.specs.Types.{Layer, WgslType, within}
+use Rattle.std.specs.Prelude.{List, [], ◌∷◌, ◌≡◌, ◌⊎◌, Option, Some, None, All}
+use Rattle.wgsl_rules.specs.Types.{WgslType}
 use Rattle.wgsl_rules.specs.Conversion.{ConvertsTo}
 
 -- The common type of a and b: b where a converts to b, else a where b converts to a, else none.
 abbrev pub IsCommon : WgslType → WgslType → Option WgslType → Type 0
 IsCommon a b (Some c) = (ConvertsTo a b × (c ≡ b)) ⊎ (¬ ConvertsTo a b × ConvertsTo b a × (c ≡ a))
 IsCommon a b None = ¬ ConvertsTo a b × ¬ ConvertsTo b a
-
--- The common type of a and b inside a layer, or none.
-abbrev pub IsInside : Layer → WgslType → WgslType → Option WgslType → Type 0
-IsInside l a b r = (c : Option WgslType) × IsCommon a b c × (r ≡ option_map (within l) c)
 
 -- The common type so far, taken on with each of the list in turn.
 abbrev pub IsLeftCommonFrom : Option WgslType → List WgslType → Option WgslType → Type 0

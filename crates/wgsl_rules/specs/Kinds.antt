@@ -1,7 +1,8 @@
 -- Which scalars are integers or numbers, and which types are made of them (WGSL, "Plain Types").
 use Rattle.wgsl_syntax.specs.declared.scalar.Scalar.{Scalar}
 use Rattle.wgsl_syntax.specs.declared.scalar.Scalar.TheVariants.{Bool, AbstractInt, I32, U32, I64, U64}
-use Rattle.wgsl_rules.specs.Types.{array_of, vec_of, mat_of, WgslType, scalar, within, struct, atomic, texture, sampler, ray_query, acceleration_structure}
+use Rattle.wgsl_syntax.specs.declared.address.AddressSpace.TheVariants.{Handle}
+use Rattle.wgsl_rules.specs.Types.{array_of, vec_of, mat_of, WgslType, scalar, within, struct, atomic, reference, texture, sampler, ray_query, acceleration_structure}
 
 abbrev pub IsInteger : Scalar → Type 0
 IsInteger AbstractInt = Unit {0}
@@ -86,3 +87,8 @@ IsFlat (sampler s) = Unit {0}
 IsFlat (ray_query f) = Unit {0}
 IsFlat (acceleration_structure f) = Unit {0}
 IsFlat t = ⊥
+
+-- A reference in the handle space, of which there are no pointers.
+abbrev pub IsInHandleSpace : WgslType → Type 0
+IsInHandleSpace (reference Handle t m) = Unit {0}
+IsInHandleSpace t = ⊥

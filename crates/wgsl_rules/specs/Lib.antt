@@ -16,5 +16,7 @@ pub mod Choice
 pub mod Operators
 pub mod Laws
 pub mod Refusals
+pub mod UnaryOperators
+pub mod OperatorAnswers
 pub mod Placement
 pub mod Layout

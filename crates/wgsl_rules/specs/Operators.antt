@@ -1,6 +1,6 @@
 -- What the binary operators and five of the calls answer, row by row, by the common type of two types (WGSL, "Logical
 -- Expressions" to "Bit Expressions", and "Built-in Functions").
-use Rattle.std.specs.Prelude.{◌≡◌, ℕ, List, [], ◌∷◌, Option, Some, None, Result, Ok, Err}
+use Rattle.std.specs.Prelude.{ℕ, List, [], ◌∷◌, Some}
 use Rattle.wgsl_syntax.specs.declared.scalar.Scalar.{Scalar}
 use Rattle.wgsl_syntax.specs.declared.scalar.Scalar.TheVariants.{Bool, U32}
 use Rattle.wgsl_syntax.specs.declared.operator.BinaryOperator.{BinaryOperator}
@@ -9,7 +9,6 @@ use Rattle.wgsl_rules.specs.Types.{WgslType, scalar, vec, mat}
 use Rattle.wgsl_rules.specs.Kinds.{IsInteger, IsNumeric, IsIntegerOrVector, IsNumericOrVector, IsScalarOrVector}
 use Rattle.wgsl_rules.specs.Conversion.{ConvertsTo}
 use Rattle.wgsl_rules.specs.Common.{IsCommon, IsLeftCommon}
-use Rattle.wgsl_rules.specs.Refusals.{Refusal, binary}
 use Rattle.wgsl_rules.specs.Candidates.{Name, clamp, dot, select, IsMinMax, IsArithmetic, IsSum, IsComparison, IsLogical, IsBitwise, IsOrAnd, IsShift}
 
 -- An operator and its two operands; then the two types that they are taken as, and the result.
@@ -80,13 +79,3 @@ pub data IsCallRow : Name → List WgslType → WgslType → Type 0 where
   -- by a vector of `bool`, for vectors
   select_each_row : (n m : ℕ) (e b c : WgslType) → IsCommon (vec n e) b (Some c) →
       IsCallRow select (vec n e ∷ b ∷ vec m (scalar Bool) ∷ []) c
-
--- The result that the rows give for two operands, or none.
-abbrev pub HasResult : BinaryOperator → WgslType → WgslType → Option WgslType → Type 0
-HasResult o a b (Some t) = (l : WgslType) × (r : WgslType) × IsRow o a b l r t
-HasResult o a b None = (l r t : WgslType) → ¬ IsRow o a b l r t
-
--- What an operator answers for two operands: the result of a row, or where there is none the refusal that names them.
-abbrev pub IsOperatorAnswer : BinaryOperator → WgslType → WgslType → Result WgslType Refusal → Type 0
-IsOperatorAnswer o a b (Ok t) = HasResult o a b (Some t)
-IsOperatorAnswer o a b (Err e) = (e ≡ binary o a b) × HasResult o a b None

@@ -1,6 +1,7 @@
 //! WGSL's types and the rules on them, for users: every public item under the module that it belongs to.
 #![tactic(auto)]
 
+pub mod builtin;
 pub mod conv;
 pub mod error;
 pub mod inst;
@@ -12,4 +13,4 @@ pub use wgsl_core::error::{Error, Fail};
 pub use wgsl_core::inst::Instance;
 pub use wgsl_core::signature::{CallSignature, ShaderStage};
 pub use wgsl_core::ty::Type;
-pub use wgsl_core::{builtin, laws, mem};
+pub use wgsl_core::{laws, mem};

@@ -1,0 +1,320 @@
+// Unary and binary operators, and the candidates that are chosen for them.
+use super::expect_answers;
+use std::alloc::{AllocError, Global};
+use std::test::Fail;
+use wgsl_types::builtin::{Candidate, binary_candidate, type_binary_op};
+use wgsl_types::conv::conversion_rank;
+use wgsl_types::error;
+use wgsl_types::syntax::BinaryOperator;
+use wgsl_types::ty::Type;
+
+const SCALARS: [Type; 10] = [
+    Type::Bool,
+    Type::AbstractInt,
+    Type::AbstractFloat,
+    Type::I32,
+    Type::U32,
+    Type::F32,
+    Type::F16,
+    Type::I64,
+    Type::U64,
+    Type::F64,
+];
+
+const OPERATORS: [BinaryOperator; 18] = [
+    BinaryOperator::ShortCircuitOr,
+    BinaryOperator::ShortCircuitAnd,
+    BinaryOperator::Addition,
+    BinaryOperator::Subtraction,
+    BinaryOperator::Multiplication,
+    BinaryOperator::Division,
+    BinaryOperator::Remainder,
+    BinaryOperator::Equality,
+    BinaryOperator::Inequality,
+    BinaryOperator::LessThan,
+    BinaryOperator::LessThanEqual,
+    BinaryOperator::GreaterThan,
+    BinaryOperator::GreaterThanEqual,
+    BinaryOperator::BitwiseOr,
+    BinaryOperator::BitwiseAnd,
+    BinaryOperator::BitwiseXor,
+    BinaryOperator::ShiftLeft,
+    BinaryOperator::ShiftRight,
+];
+
+#[test]
+fn arithmetic_takes_the_common_type(rt: HostRuntime) -> Result<(), Fail> {
+    expect_answers(
+        &rt,
+        &[
+            ("binary + AbstractInt vec 3 f32", "vec3<f32>"),
+            ("binary + mat 2 3 f32 mat 2 3 AbstractFloat", "mat2x3<f32>"),
+            (
+                "binary + bool i32",
+                "cannot use binary operator `+` with operands `bool` and `i32`",
+            ),
+            ("binary - vec 2 AbstractInt u32", "vec2<u32>"),
+            ("binary / f16 AbstractInt", "f16"),
+            ("binary % vec 2 i32 vec 2 AbstractInt", "vec2<i32>"),
+            ("binary * mat 2 3 f32 vec 2 f32", "vec3<f32>"),
+            ("binary * vec 3 f32 mat 2 3 f32", "vec2<f32>"),
+            (
+                "binary * vec 2 f32 mat 2 3 f32",
+                "cannot use binary operator `*` with operands `vec2<f32>` and `mat2x3<f32>`",
+            ),
+            ("binary * mat 2 3 f32 mat 4 2 f32", "mat4x3<f32>"),
+            ("binary * AbstractFloat mat 2 2 f16", "mat2x2<f16>"),
+            ("binary * mat 2 2 f16 AbstractInt", "mat2x2<f16>"),
+            (
+                "binary / mat 2 2 f32 f32",
+                "cannot use binary operator `/` with operands `mat2x2<f32>` and `f32`",
+            ),
+            (
+                "binary - mat 2 3 f32 mat 3 2 f32",
+                "cannot use binary operator `-` with operands `mat2x3<f32>` and `mat3x2<f32>`",
+            ),
+        ],
+    )?;
+    Ok(())
+}
+
+#[test]
+fn comparisons_give_bool(rt: HostRuntime) -> Result<(), Fail> {
+    expect_answers(
+        &rt,
+        &[
+            ("binary == vec 3 AbstractInt vec 3 f32", "vec3<bool>"),
+            ("binary == ref function read i32 i32", "bool"),
+            ("binary < bool bool", "bool"),
+            ("binary >= AbstractInt f32", "bool"),
+            (
+                "binary != i32 u32",
+                "cannot use binary operator `!=` with operands `i32` and `u32`",
+            ),
+            (
+                "binary <= mat 2 2 f32 mat 2 2 f32",
+                "cannot use binary operator `<=` with operands `mat2x2<f32>` and `mat2x2<f32>`",
+            ),
+            ("binary > vec 2 f16 vec 2 AbstractInt", "vec2<bool>"),
+        ],
+    )?;
+    Ok(())
+}
+
+#[test]
+fn logic_and_bits_take_their_kinds_alone(rt: HostRuntime) -> Result<(), Fail> {
+    expect_answers(
+        &rt,
+        &[
+            ("binary || bool bool", "bool"),
+            (
+                "binary && bool vec 2 bool",
+                "cannot use binary operator `&&` with operands `bool` and `vec2<bool>`",
+            ),
+            ("binary | AbstractInt u32", "u32"),
+            (
+                "binary | bool bool",
+                "cannot use binary operator `|` with operands `bool` and `bool`",
+            ),
+            ("binary & vec 2 bool vec 2 bool", "vec2<bool>"),
+            (
+                "binary ^ vec 2 bool vec 2 bool",
+                "cannot use binary operator `^` with operands `vec2<bool>` and `vec2<bool>`",
+            ),
+            (
+                "binary | AbstractInt AbstractFloat",
+                "cannot use binary operator `|` with operands `AbstractInt` and `AbstractFloat`",
+            ),
+            ("binary ^ vec 3 i64 vec 3 i64", "vec3<i64>"),
+        ],
+    )?;
+    Ok(())
+}
+
+#[test]
+fn shifts_keep_the_left_type(rt: HostRuntime) -> Result<(), Fail> {
+    expect_answers(
+        &rt,
+        &[
+            ("binary << vec 3 i32 vec 3 AbstractInt", "vec3<i32>"),
+            (
+                "binary << f32 vec 2 u32",
+                "cannot use binary operator `<<` with operands `f32` and `vec2<u32>`",
+            ),
+            (
+                "binary << vec 3 i32 vec 2 u32",
+                "cannot use binary operator `<<` with operands `vec3<i32>` and `vec2<u32>`",
+            ),
+            (
+                "binary << vec 3 i32 u32",
+                "cannot use binary operator `<<` with operands `vec3<i32>` and `u32`",
+            ),
+            ("binary << i32 ref function read u32", "i32"),
+            (
+                "binary << ref function read i32 u32",
+                "cannot use binary operator `<<` with operands `ref<function, i32, read>` and `u32`",
+            ),
+            ("binary >> AbstractInt AbstractInt", "AbstractInt"),
+        ],
+    )?;
+    Ok(())
+}
+
+#[test]
+fn unary_operators_answer_the_type_or_refuse_it(rt: HostRuntime) -> Result<(), Fail> {
+    expect_answers(
+        &rt,
+        &[
+            ("unary ! bool", "bool"),
+            ("unary ! vec 2 f32", "vec2<f32>"),
+            ("unary ! i32", "cannot use unary operator `!` on type `i32`"),
+            ("unary - u32", "u32"),
+            (
+                "unary - vec 2 f32",
+                "cannot use unary operator `-` on type `vec2<f32>`",
+            ),
+            ("unary ~ vec 4 AbstractInt", "vec4<AbstractInt>"),
+            ("unary ~ f32", "cannot use unary operator `~` on type `f32`"),
+            (
+                "unary & ref handle read i32",
+                "cannot create a pointer in `handle` address space",
+            ),
+            (
+                "unary & ref private read_write f32",
+                "ptr<private, f32, read_write>",
+            ),
+            ("unary & i32", "cannot use unary operator `&` on type `i32`"),
+            (
+                "unary * ptr function read_write i32",
+                "ref<function, i32, read_write>",
+            ),
+            ("unary * i32", "cannot use unary operator `*` on type `i32`"),
+            ("unary + i32", "bad line 13"),
+            ("unary - i32 i32", "bad line 14"),
+        ],
+    )?;
+    Ok(())
+}
+
+/// The candidate as it is printed: what it takes, and what it gives.
+fn chosen(
+    alloc: Global,
+    operator: BinaryOperator,
+    lhs: &Type,
+    rhs: &Type,
+) -> Result<String, error::Fail> {
+    let Candidate { lhs, rhs, result } = binary_candidate(alloc, operator, lhs, rhs)?;
+    Ok(format!(in alloc; "({lhs}, {rhs}) {result}")?)
+}
+
+fn boxed(alloc: Global, ty: Type) -> Result<Box<Type>, AllocError> {
+    Box::new(alloc, ty).map_err(|_e| AllocError)
+}
+
+#[test]
+fn candidates_say_what_the_operands_convert_to(rt: HostRuntime) -> Result<(), Fail> {
+    let alloc = rt.alloc();
+    let abstract_int = Type::AbstractInt;
+    let sum = chosen(
+        alloc,
+        BinaryOperator::Addition,
+        &abstract_int,
+        &Type::AbstractFloat,
+    );
+    assert!(rt; sum.is_ok_and(|s| s.as_str() == "(AbstractFloat, AbstractFloat) AbstractFloat"));
+    let vector = Type::Vec(3, boxed(alloc, Type::F32)?);
+    let sum = chosen(alloc, BinaryOperator::Addition, &abstract_int, &vector);
+    assert!(rt; sum.is_ok_and(|s| s.as_str() == "(f32, vec3<f32>) vec3<f32>"));
+    let shift = chosen(
+        alloc,
+        BinaryOperator::ShiftLeft,
+        &abstract_int,
+        &abstract_int,
+    );
+    assert!(rt; shift.is_ok_and(|s| s.as_str() == "(AbstractInt, u32) AbstractInt"));
+    let matrix = Type::Mat(2, 3, boxed(alloc, Type::AbstractFloat)?);
+    let vector = Type::Vec(2, boxed(alloc, Type::F16)?);
+    let product = chosen(alloc, BinaryOperator::Multiplication, &matrix, &vector);
+    assert!(rt; product.is_ok_and(|s| s.as_str() == "(mat2x3<f16>, vec2<f16>) vec3<f16>"));
+    let refused = chosen(alloc, BinaryOperator::Addition, &Type::Bool, &Type::I32);
+    assert!(rt; refused.is_err());
+    Ok(())
+}
+
+/// The ranks of two operands to one type.
+fn ranks(lhs: &Type, rhs: &Type, to: &Type) -> Option<(u32, u32)> {
+    Some((conversion_rank(lhs, to)?, conversion_rank(rhs, to)?))
+}
+
+/// Whether no other scalar takes the operands with as little rank in both: the sum of two of that scalar is the choice.
+fn is_choice(lhs: &Type, rhs: &Type, to: &Type) -> bool {
+    let Some((left, right)) = ranks(lhs, rhs, to) else {
+        return false;
+    };
+    SCALARS.iter().all(|other| match ranks(lhs, rhs, other) {
+        Some((l, r)) => other == to || (left <= l && right <= r && (left < l || right < r)),
+        None => true,
+    })
+}
+
+#[test]
+fn sums_of_scalars_are_those_that_a_search_finds(rt: HostRuntime) -> Result<(), Fail> {
+    for lhs in SCALARS {
+        for rhs in SCALARS {
+            let choice = SCALARS.iter().find(|to| is_choice(&lhs, &rhs, to));
+            let found = binary_candidate(rt.alloc(), BinaryOperator::Addition, &lhs, &rhs);
+            match (choice, found) {
+                (Some(to), Ok(candidate)) => {
+                    assert!(rt; candidate.lhs == *to && candidate.rhs == *to);
+                    assert!(rt; candidate.result == *to);
+                }
+                (None, Err(error::Fail::Error(_))) => {}
+                _ => return Err("the search and the operator differ".into()),
+            }
+        }
+    }
+    Ok(())
+}
+
+/// The scalars, and the vectors, matrices and arrays of them.
+fn sixty_types(alloc: Global) -> Result<Vec<Type>, AllocError> {
+    let mut types = Vec::new(alloc);
+    for scalar in SCALARS {
+        types
+            .push(Type::Vec(2, boxed(alloc, scalar.clone(alloc)?)?))
+            .map_err(|_e| AllocError)?;
+        types
+            .push(Type::Vec(3, boxed(alloc, scalar.clone(alloc)?)?))
+            .map_err(|_e| AllocError)?;
+        types
+            .push(Type::Mat(2, 2, boxed(alloc, scalar.clone(alloc)?)?))
+            .map_err(|_e| AllocError)?;
+        types
+            .push(Type::Mat(2, 3, boxed(alloc, scalar.clone(alloc)?)?))
+            .map_err(|_e| AllocError)?;
+        types
+            .push(Type::Array(boxed(alloc, scalar.clone(alloc)?)?, Some(2)))
+            .map_err(|_e| AllocError)?;
+        types.push(scalar).map_err(|_e| AllocError)?;
+    }
+    Ok(types)
+}
+
+#[test]
+fn every_operator_gives_its_candidates_result(rt: HostRuntime) -> Result<(), Fail> {
+    let types = sixty_types(rt.alloc())?;
+    assert_eq!(rt; types.len(), 60);
+    for operator in OPERATORS {
+        for lhs in &types {
+            for rhs in &types {
+                let candidate = binary_candidate(rt.alloc(), operator, lhs, rhs);
+                match (type_binary_op(rt.alloc(), operator, lhs, rhs), candidate) {
+                    (Ok(ty), Ok(candidate)) => assert!(rt; ty == candidate.result),
+                    (Err(error::Fail::Error(e)), Err(error::Fail::Error(f))) => assert!(rt; e == f),
+                    _ => return Err("the operator and its candidate differ".into()),
+                }
+            }
+        }
+    }
+    Ok(())
+}

@@ -1,0 +1,61 @@
+-- What a unary operator answers, in code.
+use Rattle.std.proofs.Common.{◌≡◌, ◌≢◌, ◌↔◌, Bool, true, false, IsTrue, IsFalse, Result, Ok, Err, Box, Global, refl, sym, ap, ◌∙◌, subst, subst₂}
+use Rattle.wgsl_syntax.specs.declared.address.AccessMode.{AccessMode}
+use Rattle.wgsl_syntax.specs.declared.address.AddressSpace.{AddressSpace}
+use Rattle.wgsl_syntax.specs.declared.address.AddressSpace.TheVariants.{Handle}
+use Rattle.wgsl_syntax.specs.declared.operator.UnaryOperator.TheVariants.{AddressOf, Indirection}
+use Rattle.wgsl_rules.specs.Types.{WgslType, pointer, reference}
+use Rattle.wgsl_rules.specs.Refusals.{Refusal}
+use Rattle.wgsl_rules.specs.UnaryOperators.{IsUnaryRow, address_row, indirection_row}
+use Rattle.wgsl_rules.specs.Kinds.{IsInHandleSpace}
+use Rattle.wgsl_rules.specs.Loading.{IsReference}
+use Rattle.wgsl_rules.proofs.Unary.{IsPointer, one_reference}
+use Rattle.wgsl_core.specs.View.{view}
+use Rattle.wgsl_core.specs.Outcome.{AnswersBy}
+use Rattle.wgsl_core.specs.declared.ty.Type.{«Type»}
+use Rattle.wgsl_core.specs.declared.ty.Type.TheVariants as v
+use Rattle.wgsl_core.specs.declared.error.Fail.{Fail}
+use Rattle.wgsl_core.specs.declared.error.Fail.TheVariants as fails
+use Rattle.wgsl_core.proofs.Views.{view-Ptr, view-Ref}
+
+answers : (P : Result WgslType Refusal → Type 0) (x : Result WgslType Refusal) (r : Result «Type» Fail) → AnswersBy (λ a. a ≡ x) r → P x → AnswersBy P r
+answers P x (Ok t) e p = subst P (sym e) p
+answers P x (Err (fails.Error f)) e p = subst P (sym e) p
+answers P x (Err (fails.Memory m)) e p = tt
+
+-- the operand's own type where b holds, else the refusal
+pub own_or_refused : (P : Result WgslType Refusal → Type 0) {t : WgslType} {e : Refusal} (b : Bool) (r : Result «Type» Fail) →
+    (IsTrue b → AnswersBy (λ a. a ≡ Ok t) r) → (IsFalse b → AnswersBy (λ a. a ≡ Err e) r) → (IsTrue b → P (Ok t)) → (¬ IsTrue b → P (Err e)) → AnswersBy P r
+own_or_refused P {t} {e} true r own refused p q = answers P (Ok t) r (own refl) (p refl)
+own_or_refused P {t} {e} false r own refused p q = answers P (Err e) r (refused refl) (q (λ h. cc h))
+
+-- the reference of a pointer
+pub reference_row : {self : «Type»} {p : AddressSpace} {t : Box «Type» Global} {m : AccessMode} (u : Box «Type» Global) → self ≡ v.Ptr p t m → view u.value ≡ view t.value →
+    IsUnaryRow Indirection (view self) (view (v.Ref p u m))
+reference_row {self} {p} {t} {m} u e k =
+    subst₂ (λ a b. IsUnaryRow Indirection a b) (sym (ap view e ∙ view-Ptr p t m)) (sym (view-Ref p u m ∙ ap (λ t. reference p t m) k)) (indirection_row p (view t.value) m)
+
+-- the pointer of a reference
+pub pointer_row : {self : «Type»} {p : AddressSpace} {t : Box «Type» Global} {m : AccessMode} (u : Box «Type» Global) → self ≡ v.Ref p t m → view u.value ≡ view t.value → p ≢ Handle →
+    IsUnaryRow AddressOf (view self) (view (v.Ptr p u m))
+pointer_row {self} {p} {t} {m} u e k n =
+    subst₂ (λ a b. IsUnaryRow AddressOf a b) (sym (ap view e ∙ view-Ref p t m)) (sym (view-Ptr p u m ∙ ap (λ t. pointer p t m) k)) (address_row p (view t.value) m n)
+
+-- which refers back to it
+pub gives_back : {self : «Type»} {p : AddressSpace} {t : Box «Type» Global} {m : AccessMode} (u : Box «Type» Global) → self ≡ v.Ref p t m → view u.value ≡ view t.value →
+    (r : WgslType) → IsUnaryRow Indirection (view (v.Ptr p u m)) r ↔ (r ≡ view self)
+gives_back {self} {p} {t} {m} u e k r =
+    subst₂ (λ a b. IsUnaryRow Indirection a r ↔ (r ≡ b)) (sym (view-Ptr p u m ∙ ap (λ t. pointer p t m) k)) (sym (ap view e ∙ view-Ref p t m))
+    (one_reference p (view t.value) m r, λ f. subst (λ r. IsUnaryRow Indirection (pointer p (view t.value) m) r) (sym f) (indirection_row p (view t.value) m))
+
+pub no_pointer : (t : WgslType) → ((s : AddressSpace) (u : WgslType) (m : AccessMode) → t ≡ pointer s u m → ⊥) → ¬ IsPointer t
+no_pointer (pointer s u m) h i = h s u m refl
+no_pointer t h i = i
+
+pub no_reference : (t : WgslType) → ((s : AddressSpace) (u : WgslType) (m : AccessMode) → t ≡ reference s u m → ⊥) → ¬ IsReference t
+no_reference (reference s u m) h i = h s u m refl
+no_reference t h i = i
+
+pub no_handle_reference : (t : WgslType) → ((s : AddressSpace) (u : WgslType) (m : AccessMode) → t ≡ reference s u m → ⊥) → ¬ IsInHandleSpace t
+no_handle_reference (reference s u m) h i = h s u m refl
+no_handle_reference t h i = i
