@@ -259,9 +259,10 @@ fn is_choice(lhs: &Type, rhs: &Type, to: &Type) -> bool {
 
 #[test]
 fn sums_of_scalars_are_those_that_a_search_finds(rt: HostRuntime) -> Result<(), Fail> {
+    let scalars = SCALARS;
     for lhs in SCALARS {
         for rhs in SCALARS {
-            let choice = SCALARS.iter().find(|to| is_choice(&lhs, &rhs, to));
+            let choice = scalars.iter().find(|to| is_choice(&lhs, &rhs, to));
             let found = binary_candidate(rt.alloc(), BinaryOperator::Addition, &lhs, &rhs);
             match (choice, found) {
                 (Some(to), Ok(candidate)) => {

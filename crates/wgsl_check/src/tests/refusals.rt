@@ -127,21 +127,6 @@ fn refusals_of_types_print_their_messages(rt: HostRuntime) -> Result<(), Fail> {
             "missing template arguments for type `ptr`",
         ),
         (
-            Error::WriteRefType(Type::I32, Type::U32),
-            "cannot write a `i32` to a reference to `u32`",
-        ),
-        (Error::NotWrite, "attempt to write to a read-only reference"),
-        (Error::NotRead, "attempt to read a write-only reference"),
-        (Error::NotReadWrite, "reference is not read-write"),
-        (
-            Error::PtrHandle,
-            "cannot create a pointer in `handle` address space",
-        ),
-        (
-            Error::PtrVecComp,
-            "cannot create a pointer to a vector component",
-        ),
-        (
             Error::Conversion(Type::I32, Type::F32),
             "cannot convert from `i32` to `f32`",
         ),
@@ -157,6 +142,31 @@ fn refusals_of_types_print_their_messages(rt: HostRuntime) -> Result<(), Fail> {
         (
             Error::OutOfBounds(3, vector(alloc, 3, Type::F32)?, 3),
             "index `3` is out-of-bounds for `vec3<f32>` of `3` components",
+        ),
+    ];
+    for (error, message) in rows {
+        expect_message(&rt, error, message)?;
+    }
+    Ok(())
+}
+
+#[test]
+fn refusals_of_memory_print_their_messages(rt: HostRuntime) -> Result<(), Fail> {
+    let rows = [
+        (
+            Error::WriteRefType(Type::I32, Type::U32),
+            "cannot write a `i32` to a reference to `u32`",
+        ),
+        (Error::NotWrite, "attempt to write to a read-only reference"),
+        (Error::NotRead, "attempt to read a write-only reference"),
+        (Error::NotReadWrite, "reference is not read-write"),
+        (
+            Error::PtrHandle,
+            "cannot create a pointer in `handle` address space",
+        ),
+        (
+            Error::PtrVecComp,
+            "cannot create a pointer to a vector component",
         ),
     ];
     for (error, message) in rows {
