@@ -217,11 +217,18 @@ vectors_not_shifted {e = e} {f} {n} {m} p r k o h = by_forms (λ a b. HasCandida
 -- what is built is the choice, and what isn't found is taken by nothing
 
 pub chosen_result : {o : BinaryOperator} {a b t : WgslType} {found : BinaryCandidate} → HasCandidate o a b (Some found) → t ≡ found.result → IsChosenResult o a b (Ok t)
+unfolding IsChosenResult
 chosen_result {o} {a} {b} {t} {found} k e va vb =
     (found.lhs ∷ found.rhs ∷ [], subst (λ t. IsChoice (operator o) (a ∷ b ∷ []) (found.lhs ∷ found.rhs ∷ []) t) (sym e) (chosen found k va vb))
 
 pub chosen_candidate : {o : BinaryOperator} {a b : WgslType} {found : BinaryCandidate} (c : BinaryCandidate) → HasCandidate o a b (Some found) → c ≡ found → IsChosenCandidate o a b (Ok c)
+unfolding IsChosenCandidate
 chosen_candidate {o} {a} {b} {found} c k e = subst (λ c. IsChosenCandidate o a b (Ok c)) (sym e) (chosen found k)
 
-pub refused_choice : {o : BinaryOperator} {a b : WgslType} {e : Refusal} → HasCandidate o a b None → e ≡ binary o a b → IsChosenResult o a b (Err e)
-refused_choice {o} {a} {b} k e va vb = (e, nothing_takes o a b k va vb)
+pub refused_result : {o : BinaryOperator} {a b : WgslType} {e : Refusal} → HasCandidate o a b None → e ≡ binary o a b → IsChosenResult o a b (Err e)
+unfolding IsChosenResult
+refused_result {o} {a} {b} k e va vb = (e, nothing_takes o a b k va vb)
+
+pub refused_candidate : {o : BinaryOperator} {a b : WgslType} {e : Refusal} → HasCandidate o a b None → e ≡ binary o a b → IsChosenCandidate o a b (Err e)
+unfolding IsChosenCandidate
+refused_candidate {o} {a} {b} k e va vb = (e, nothing_takes o a b k va vb)

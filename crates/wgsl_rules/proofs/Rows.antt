@@ -59,6 +59,7 @@ pub chosen : {o : BinaryOperator} {a b : WgslType} (c : BinaryCandidate) → Has
 chosen c k va vb = row_chosen k va vb
 
 pub nothing_takes : (o : BinaryOperator) (a b : WgslType) → HasCandidate o a b None → IsValueType a → IsValueType b → NothingTakes o a b
+unfolding NothingTakes
 nothing_takes o a b n va vb = row_refused o a b va vb n
 
 -- of two scalars all is flat

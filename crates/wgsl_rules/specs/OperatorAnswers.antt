@@ -23,7 +23,7 @@ HasCandidate o a b (Some c) = IsRow o a b c.lhs c.rhs c.result
 HasCandidate o a b None = (l r t : WgslType) → ¬ IsRow o a b l r t
 
 -- No candidate takes the operands.
-abbrev pub NothingTakes : BinaryOperator → WgslType → WgslType → Type 0
+unfoldable pub NothingTakes : BinaryOperator → WgslType → WgslType → Type 0
 NothingTakes o a b = (us : List WgslType) (t : WgslType) → IsCandidate (operator o) us t → ¬ Takes us (a ∷ b ∷ [])
 
 -- A binary operator answers the result of a row, or where there is none the refusal that names it and its operands.
@@ -32,7 +32,7 @@ IsOperatorAnswer o a b (Ok t) = (l : WgslType) × (r : WgslType) × IsRow o a b 
 IsOperatorAnswer o a b (Err e) = (e ≡ binary o a b) × HasCandidate o a b None
 
 -- On value types that is the result of the choice; it refuses exactly where no candidate takes the operands.
-abbrev pub IsChosenResult : BinaryOperator → WgslType → WgslType → Result WgslType Refusal → Type 0
+unfoldable pub IsChosenResult : BinaryOperator → WgslType → WgslType → Result WgslType Refusal → Type 0
 IsChosenResult o a b (Ok t) = IsValueType a → IsValueType b → (us : List WgslType) × IsChoice (operator o) (a ∷ b ∷ []) us t
 IsChosenResult o a b (Err e) = IsValueType a → IsValueType b → (e ≡ binary o a b) × NothingTakes o a b
 
@@ -42,7 +42,7 @@ IsCandidateAnswer o a b (Ok c) = HasCandidate o a b (Some c)
 IsCandidateAnswer o a b (Err e) = (e ≡ binary o a b) × HasCandidate o a b None
 
 -- On value types it is the choice.
-abbrev pub IsChosenCandidate : BinaryOperator → WgslType → WgslType → Result BinaryCandidate Refusal → Type 0
+unfoldable pub IsChosenCandidate : BinaryOperator → WgslType → WgslType → Result BinaryCandidate Refusal → Type 0
 IsChosenCandidate o a b (Ok c) = IsValueType a → IsValueType b → IsChoice (operator o) (a ∷ b ∷ []) (c.lhs ∷ c.rhs ∷ []) c.result
 IsChosenCandidate o a b (Err e) = IsValueType a → IsValueType b → (e ≡ binary o a b) × NothingTakes o a b
 

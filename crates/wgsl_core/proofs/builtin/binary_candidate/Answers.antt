@@ -1,5 +1,5 @@
 use Rattle.wgsl_rules.proofs.Rows.{scalars_flat}
-use Rattle.wgsl_core.proofs.Found.{chosen_candidate, refused_choice}
+use Rattle.wgsl_core.proofs.Found.{chosen_candidate, refused_candidate}
 use Rattle.wgsl_core.proofs.builtin.binary_candidate.Goals as goal
 
 pub returns-in_err-build_candidate-in-Some-clause-takes_no_memory_on_scalars : goal.returns-in_err-build_candidate-in-Some-clause-takes_no_memory_on_scalars
@@ -10,4 +10,4 @@ pub returns-in_ok-build_candidate-in-Some-clause-least : goal.returns-in_ok-buil
 returns-in_ok-build_candidate-in-Some-clause-least c = chosen_candidate _ c.in-Some.ensures c.in_ok-build_candidate-in-Some.ensures.same
 
 pub returns-in_ok-refuse_binary-in-None-clause-least : goal.returns-in_ok-refuse_binary-in-None-clause-least
-returns-in_ok-refuse_binary-in-None-clause-least c = refused_choice c.in-None.ensures c.in_ok-refuse_binary-in-None.ensures.names
+returns-in_ok-refuse_binary-in-None-clause-least c = refused_candidate c.in-None.ensures c.in_ok-refuse_binary-in-None.ensures.names
