@@ -8,6 +8,7 @@ use Rattle.wgsl_syntax.specs.declared.texture.TextureType.{TextureType}
 use Rattle.wgsl_rules.specs.Types.{WgslType, struct, atomic, pointer, reference, texture, sampler, binding_array, ray_query, acceleration_structure, Members, array, vec, mat}
 use Rattle.wgsl_rules.specs.Kinds.{IsStruct, IsArray, IsVector, IsMatrix, IsAtomic}
 use Rattle.wgsl_rules.specs.Loading.{IsReference}
+use Rattle.wgsl_rules.proofs.Unary.{IsPointer}
 use Rattle.wgsl_core.specs.View.{Member, Struct, view, members_view, type_step, member_step, struct_step}
 use Rattle.wgsl_core.specs.declared.ty.Type.{«Type», the_lemmas, out-Type, roll-Type, roll-out-Type, fold-roll-Type}
 use Rattle.wgsl_core.specs.declared.ty.Type.TheOpen.{Type-F}
@@ -55,10 +56,6 @@ pub view-AccelerationStructure : (f : Option AccelerationStructureFlags) → vie
 view-AccelerationStructure f = search (rules, the_lemmas)
 
 -- the kinds that no rule speaks of
-abbrev IsPointer : WgslType → Type 0
-IsPointer (pointer s t m) = Unit {0}
-IsPointer t = ⊥
-
 abbrev IsTexture : WgslType → Type 0
 IsTexture (texture t) = Unit {0}
 IsTexture t = ⊥

@@ -16,6 +16,7 @@ ghost use Rattle.wgsl_core.specs.Found.{candidate_view, found_view, IsFlatCandid
 ghost use Rattle.wgsl_core.specs.Outcome.{AnswersAs, AnswersBy, IsAnswered, refusal};
 
 use crate::candidate::{Found, find_candidate};
+use crate::copy::boxed_copy;
 use crate::error::{Error, Fail};
 use crate::ty::Type;
 use std::alloc::{AllocError, Global};
@@ -240,7 +241,7 @@ impl Type {
         match self {
             Type::Ref(space, ty, access) => match space {
                 AddressSpace::Handle => Err(Fail::Error(Error::PtrHandle)),
-                _ => Ok(Type::Ptr(*space, copied(alloc, ty)?, *access)),
+                _ => Ok(Type::Ptr(*space, boxed_copy(alloc, ty)?, *access)),
             },
             _ => Err(Fail::Error(refuse_unary(alloc, UnaryOperator::AddressOf, self)?)),
         }
@@ -252,7 +253,7 @@ impl Type {
         ensures takes_no_memory_on_scalars { IsScalar (view self.now) → IsAnswered result }
     {
         match self {
-            Type::Ptr(space, ty, access) => Ok(Type::Ref(*space, copied(alloc, ty)?, *access)),
+            Type::Ptr(space, ty, access) => Ok(Type::Ref(*space, boxed_copy(alloc, ty)?, *access)),
             _ => Err(Fail::Error(refuse_unary(alloc, UnaryOperator::Indirection, self)?)),
         }
     }
@@ -343,10 +344,4 @@ fn refuse_unary(alloc: Global, operator: UnaryOperator, ty: &Type) -> Result<Err
     ensures takes_no_memory { IsFlat (view ty.now) → IsOk result }
 {
     Ok(Error::Unary(operator, ty.clone(alloc)?))
-}
-
-fn copied(alloc: Global, ty: &Type) -> Result<Box<Type>, AllocError>
-    ensures { IfOk result (λ t. view t.value ≡ view ty.now) }
-{
-    Ok(Box::new(alloc, Type::clone(ty, alloc)?)?)
 }

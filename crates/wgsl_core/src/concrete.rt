@@ -6,6 +6,7 @@ ghost use Rattle.wgsl_rules.specs.Loading.{IsReference, loaded_of};
 ghost use Rattle.wgsl_rules.specs.Concrete.{IsAbstract, HasFloatMatrices, IsLeastConcrete, concretized};
 ghost use Rattle.wgsl_core.specs.View.{view};
 
+use crate::copy::boxed_copy;
 use crate::ty::Type;
 use std::alloc::{AllocError, Global};
 
@@ -58,7 +59,7 @@ fn concrete(alloc: Global, ty: &Type) -> Result<Type, AllocError>
             if t.is_abstract() {
                 Ok(Type::Mat(*c, *r, Box::new(alloc, Type::F32)?))
             } else {
-                Ok(Type::Mat(*c, *r, Box::new(alloc, Type::clone(t, alloc)?)?))
+                Ok(Type::Mat(*c, *r, boxed_copy(alloc, t)?))
             }
         }
         Type::Bool

@@ -40,8 +40,9 @@ impl Type {
     }
 }
 
+/// A copy in a box of its own.
 #[cycle(copy)]
-fn boxed_copy(alloc: Global, ty: &Type) -> Result<Box<Type>, AllocError>
+pub fn boxed_copy(alloc: Global, ty: &Type) -> Result<Box<Type>, AllocError>
     ensures { IfOk result (λ t. view t.value ≡ view ty.now) }
 {
     Ok(Box::new(alloc, ty.clone(alloc)?)?)

@@ -5,8 +5,8 @@ use Rattle.wgsl_core.proofs.Unary.{reference_row, no_pointer}
 use Rattle.wgsl_core.proofs.Views.{not_pointer}
 use Rattle.wgsl_core.proofs.ty.Type.op_deref.Goals as goal
 
-pub returns-in_ok-copied-in-Ptr-clause-row : goal.returns-in_ok-copied-in-Ptr-clause-row
-returns-in_ok-copied-in-Ptr-clause-row c = reference_row _ c.in-Ptr.is (c.in_ok-copied-in-Ptr.ensures ∙ ap view c.deref.ensures)
+pub returns-in_ok-boxed_copy-in-Ptr-clause-row : goal.returns-in_ok-boxed_copy-in-Ptr-clause-row
+returns-in_ok-boxed_copy-in-Ptr-clause-row c = reference_row _ c.in-Ptr.is (c.in_ok-boxed_copy-in-Ptr.ensures ∙ ap view c.deref.ensures)
 
 pub returns-in_ok-refuse_unary-in_default-clause-row : goal.returns-in_ok-refuse_unary-in_default-clause-row
 returns-in_ok-refuse_unary-in_default-clause-row c =

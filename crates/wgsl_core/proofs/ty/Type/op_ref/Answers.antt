@@ -5,13 +5,13 @@ use Rattle.wgsl_core.proofs.Unary.{pointer_row, gives_back, no_reference, no_han
 use Rattle.wgsl_core.proofs.Views.{not_reference}
 use Rattle.wgsl_core.proofs.ty.Type.op_ref.Goals as goal
 
-pub returns-in_ok-copied-in_default-space-clause-row : goal.returns-in_ok-copied-in_default-space-clause-row
-returns-in_ok-copied-in_default-space-clause-row c =
-    pointer_row _ c.in-Ref.is (c.in_ok-copied-in_default-space.ensures ∙ ap view c.deref.ensures) c.in_default-space.not-Handle
+pub returns-in_ok-boxed_copy-in_default-space-clause-row : goal.returns-in_ok-boxed_copy-in_default-space-clause-row
+returns-in_ok-boxed_copy-in_default-space-clause-row c =
+    pointer_row _ c.in-Ref.is (c.in_ok-boxed_copy-in_default-space.ensures ∙ ap view c.deref.ensures) c.in_default-space.not-Handle
 
-pub returns-in_ok-copied-in_default-space-clause-deref_gives_back : goal.returns-in_ok-copied-in_default-space-clause-deref_gives_back
-returns-in_ok-copied-in_default-space-clause-deref_gives_back c =
-    gives_back _ c.in-Ref.is (c.in_ok-copied-in_default-space.ensures ∙ ap view c.deref.ensures)
+pub returns-in_ok-boxed_copy-in_default-space-clause-deref_gives_back : goal.returns-in_ok-boxed_copy-in_default-space-clause-deref_gives_back
+returns-in_ok-boxed_copy-in_default-space-clause-deref_gives_back c =
+    gives_back _ c.in-Ref.is (c.in_ok-boxed_copy-in_default-space.ensures ∙ ap view c.deref.ensures)
 
 pub returns-in_ok-refuse_unary-in_default-clause-row : goal.returns-in_ok-refuse_unary-in_default-clause-row
 returns-in_ok-refuse_unary-in_default-clause-row c =
