@@ -1,4 +1,5 @@
-//! What expressions are typed as: operators, by their name.
+//! What expressions are typed as, by the name of an operator or a constructor; and templates.
 #![tactic(auto)]
 
 pub mod builtin;
+pub mod tplt;
