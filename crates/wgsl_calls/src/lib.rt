@@ -2,4 +2,5 @@
 #![tactic(auto)]
 
 pub mod builtin;
+pub mod constructor;
 pub mod tplt;

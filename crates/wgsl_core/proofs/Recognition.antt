@@ -151,7 +151,7 @@ parts s xs x y h r =
     let w = whole (string_bytes (out-StructType s).name) (member_view x) (member_view y) r in
     (λ k. seen ∙ w.0 k, λ e. w.1 (sym seen ∙ e))
 
-view-ty : (m : StructMemberType) → (member_view m).ty ≡ view (out-StructMemberType m).ty
+pub view-ty : (m : StructMemberType) → (member_view m).ty ≡ view (out-StructMemberType m).ty
 view-ty m = search (rules, the_lemmas)
 
 view-name : (m : StructMemberType) → (member_view m).name ≡ string_bytes (out-StructMemberType m).name

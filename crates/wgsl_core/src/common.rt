@@ -2,6 +2,7 @@
 ghost use Rattle.std.specs.Prelude.{◌≡◌, List, [], ◌⊎◌, IsSome, map, option_map};
 ghost use Rattle.std.specs.Borrow.{Bor};
 ghost use Rattle.std.specs.Iterator.{DrainsIf, IsFiniteIterable};
+ghost use Rattle.wgsl_rules.specs.Common.{IsLeftCommon};
 ghost use Rattle.wgsl_rules.specs.Lists.{IsCommonOfGiven};
 ghost use Rattle.wgsl_core.specs.View.{view};
 ghost use Rattle.wgsl_core.specs.declared.ty.Type.{«Type»};
@@ -26,4 +27,11 @@ where
         common = convert_ty(common, t)?;
     }
     Some(common)
+}
+
+/// The common type of the types in a slice.
+pub fn common_of(types: &[Type]) -> Option<&Type>
+    ensures { IsLeftCommon (map view types.now) (option_map (λ t. view t.now) result) }
+{
+    convert_all_ty(types)
 }

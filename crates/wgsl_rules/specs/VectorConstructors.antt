@@ -5,10 +5,10 @@ use Rattle.wgsl_rules.specs.Types.{WgslType, scalar, vec}
 use Rattle.wgsl_rules.specs.Kinds.{IsScalarOrVector}
 use Rattle.wgsl_rules.specs.Conversion.{ConvertsTo}
 use Rattle.wgsl_rules.specs.Parts.{inner_of}
-use Rattle.wgsl_rules.specs.Signatures.{Parameter, Signature}
+use Rattle.wgsl_rules.specs.Signatures.{Parameter}
 use Rattle.wgsl_rules.specs.Refusals.{Refusal, conversion, builtin, param_count}
 use Rattle.wgsl_rules.specs.Templates.{IsVecTemplate}
-use Rattle.wgsl_rules.specs.ConstructorSteps.{Either, Then, ThenCommon, IsCounted}
+use Rattle.wgsl_rules.specs.ConstructorSteps.{Either, Then, ThenCommon}
 
 -- the components that a scalar or a vector brings
 abbrev pub components : WgslType → ℕ
@@ -30,37 +30,48 @@ BringsComponents t a = ⊥
 abbrev pub no_components : Refusal
 no_components = builtin (codes "vector constructor expects scalar or vector arguments")
 
--- Vectors of n components of a template's type.
-abbrev pub IsTypedVector : List ℕ → ℕ → List WgslType → WgslType → Result WgslType Refusal → Type 0
-IsTypedVector name n [] t r = r ≡ Ok (vec n t)
--- of one scalar, which is each component
-IsTypedVector name n (scalar s ∷ []) t r = Either (ConvertsTo (scalar s) t) (r ≡ Ok (vec n t)) (r ≡ Err (conversion (scalar s) t))
--- of one vector of as many components
-IsTypedVector name n (vec m e ∷ []) t r = Either (m ≡ n) (r ≡ Ok (vec n t)) (r ≡ Err (conversion (vec m e) (vec n t)))
-IsTypedVector name n (a ∷ []) t r = r ≡ Err (conversion a t)
--- of several, which bring as many components together
-IsTypedVector name n args t r =
+-- A vector of n components of a template's type, out of one argument.
+abbrev pub IsTypedVectorOfOne : ℕ → WgslType → WgslType → Result WgslType Refusal → Type 0
+-- a scalar, which is each component
+IsTypedVectorOfOne n (scalar s) t r = Either (ConvertsTo (scalar s) t) (r ≡ Ok (vec n t)) (r ≡ Err (conversion (scalar s) t))
+-- a vector of as many components
+IsTypedVectorOfOne n (vec m e) t r = Either (m ≡ n) (r ≡ Ok (vec n t)) (r ≡ Err (conversion (vec m e) (vec n t)))
+IsTypedVectorOfOne n a t r = r ≡ Err (conversion a t)
+
+-- Out of several, which bring as many components together.
+abbrev pub IsTypedVectorOfSeveral : List ℕ → ℕ → List WgslType → WgslType → Result WgslType Refusal → Type 0
+IsTypedVectorOfSeveral name n args t r =
     Either (All (BringsComponents t) args)
         (Either (all_components args ≡ n) (r ≡ Ok (vec n t)) (r ≡ Err (param_count name n (length args))))
         (r ≡ Err no_components)
 
--- Vectors of n components of the arguments' own types.
-abbrev pub IsUntypedVector : List ℕ → ℕ → List WgslType → Result WgslType Refusal → Type 0
-IsUntypedVector name n [] r = r ≡ Ok (vec n (scalar AbstractInt))
-IsUntypedVector name n (scalar s ∷ []) r = r ≡ Ok (vec n (scalar s))
-IsUntypedVector name n (vec m e ∷ []) r = Either (m ≡ n) (r ≡ Ok (vec n e)) (r ≡ Err (conversion (vec m e) (vec n e)))
-IsUntypedVector name n (a ∷ []) r = r ≡ Err no_components
--- of several: the common type of what they bring
-IsUntypedVector name n args r =
+-- Vectors of n components of a template's type.
+abbrev pub IsTypedVector : List ℕ → ℕ → List WgslType → WgslType → Result WgslType Refusal → Type 0
+IsTypedVector name n [] t r = r ≡ Ok (vec n t)
+IsTypedVector name n (a ∷ []) t r = IsTypedVectorOfOne n a t r
+IsTypedVector name n args t r = IsTypedVectorOfSeveral name n args t r
+
+-- A vector of n components, out of one argument.
+abbrev pub IsUntypedVectorOfOne : ℕ → WgslType → Result WgslType Refusal → Type 0
+IsUntypedVectorOfOne n (scalar s) r = r ≡ Ok (vec n (scalar s))
+IsUntypedVectorOfOne n (vec m e) r = Either (m ≡ n) (r ≡ Ok (vec n e)) (r ≡ Err (conversion (vec m e) (vec n e)))
+IsUntypedVectorOfOne n a r = r ≡ Err no_components
+
+-- Out of several, which bring as many components together: of the common type of what they bring.
+abbrev pub IsUntypedVectorOfSeveral : List ℕ → ℕ → List WgslType → Result WgslType Refusal → Type 0
+IsUntypedVectorOfSeveral name n args r =
     Either (All IsScalarOrVector args)
         (Either (all_components args ≡ n)
             (ThenCommon (map inner_of args) (codes "vector components are incompatible") (λ c q. q ≡ Ok (vec n c)) r)
             (r ≡ Err (param_count name n (length args))))
         (r ≡ Err no_components)
 
-abbrev pub IsVectorCall : ℕ → Signature → Result WgslType Refusal → Type 0
-IsVectorCall n call r = at call.template
-  where
-    at : Option (List Parameter) → Type 0
-    at (Some ps) = (q : Result WgslType Refusal) × IsVecTemplate ps q × Then q (IsTypedVector call.name n call.arguments) r
-    at None = IsUntypedVector call.name n call.arguments r
+-- Vectors of n components of the arguments' own types.
+abbrev pub IsUntypedVector : List ℕ → ℕ → List WgslType → Result WgslType Refusal → Type 0
+IsUntypedVector name n [] r = r ≡ Ok (vec n (scalar AbstractInt))
+IsUntypedVector name n (a ∷ []) r = IsUntypedVectorOfOne n a r
+IsUntypedVector name n args r = IsUntypedVectorOfSeveral name n args r
+
+abbrev pub IsVectorCall : List ℕ → ℕ → Option (List Parameter) → List WgslType → Result WgslType Refusal → Type 0
+IsVectorCall name n (Some ps) args r = (q : Result WgslType Refusal) × IsVecTemplate ps q × Then q (IsTypedVector name n args) r
+IsVectorCall name n None args r = IsUntypedVector name n args r

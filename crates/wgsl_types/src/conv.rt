@@ -6,6 +6,7 @@ ghost use Rattle.wgsl_core.specs.View.{view};
 ghost use Rattle.wgsl_types.specs.Family.{both_to, all_to};
 
 use std::alloc::{AllocError, Global};
+use wgsl_core::common::common_of;
 pub use wgsl_core::common::convert_all_ty;
 pub use wgsl_core::conv::{conversion_rank, convert_ty, rank_steps};
 pub use wgsl_core::convert::Convert;
@@ -124,10 +125,4 @@ fn types_of<T: Convert>(alloc: Global, values: &[T]) -> Result<Vec<Type>, AllocE
         types.push(value.ty(alloc)?)?;
     }
     Ok(types)
-}
-
-fn common_of(types: &[Type]) -> Option<&Type>
-    ensures { IsLeftCommon (map view types.now) (option_map (λ t. view t.now) result) }
-{
-    convert_all_ty(types)
 }

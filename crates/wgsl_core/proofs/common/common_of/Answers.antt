@@ -1,5 +1,5 @@
 use Rattle.wgsl_core.proofs.Slices.{common_of_slice}
-use Rattle.wgsl_types.proofs.conv.common_of.Goals as goal
+use Rattle.wgsl_core.proofs.common.common_of.Goals as goal
 
 pub returns : goal.returns
 returns c =

@@ -1,0 +1,19 @@
+-- What a call answers by another's answer.
+use Rattle.std.proofs.Common.{Result, Ok, Err}
+use Rattle.wgsl_rules.specs.Refusals.{Refusal}
+use Rattle.wgsl_core.specs.Outcome.{AnswersAs, refusal}
+use Rattle.wgsl_core.specs.declared.error.Fail.{Fail}
+use Rattle.wgsl_core.specs.declared.error.Fail.TheVariants as fails
+
+-- each answer of the one kind is one of the other
+pub answers : {A B : Type 0} (seen : A → B) (P Q : Result B Refusal → Type 0) (r : Result A Fail) →
+    ((q : Result B Refusal) → P q → Q q) → AnswersAs seen P r → AnswersAs seen Q r
+answers seen P Q (Ok a) f h = f (Ok (seen a)) h
+answers seen P Q (Err (fails.Error e)) f h = f (Err (refusal e)) h
+answers seen P Q (Err (fails.Memory e)) f h = h
+
+-- a refusal that is handed on
+pub refuses : {A B C D : Type 0} (seen : A → B) (shown : C → D) (P : Result B Refusal → Type 0) (Q : Result D Refusal → Type 0) (e : Fail) →
+    ((q : Refusal) → P (Err q) → Q (Err q)) → AnswersAs seen P (Err e) → AnswersAs shown Q (Err e)
+refuses seen shown P Q (fails.Error e) f h = f (refusal e) h
+refuses seen shown P Q (fails.Memory e) f h = h

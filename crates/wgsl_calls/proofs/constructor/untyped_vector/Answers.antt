@@ -1,0 +1,31 @@
+use Rattle.std.proofs.Common.{rules, Some, None, Ok, Err, refl, ap, sym, ◌∙◌, inl, inr, map}
+use Rattle.std.proofs.lemmas.List.{length-map}
+use Rattle.wgsl_rules.specs.Refusals.{param_count}
+use Rattle.wgsl_core.specs.View.{view}
+use Rattle.wgsl_calls.proofs.Arguments.{holds, fails}
+use Rattle.wgsl_calls.proofs.Constructed.{several_untyped}
+use Rattle.wgsl_calls.proofs.constructor.untyped_vector.Goals as goal
+
+pub returns-then-not-bring_together : goal.returns-then-not-bring_together
+returns-then-not-bring_together c = several_untyped c.args.name.now c.args.n c.args.args.now _ c.in_default.len_at_least (inl (
+  holds c.all_scalars_or_vectors.ensures c.if-not-all_scalars_or_vectors.false,
+  inr (
+    fails c.bring_together.ensures c.if-not-bring_together.true,
+    ap Err (c.in_ok-refuse_count-in_default.ensures ∙ ap (param_count c.args.name.now c.args.n) (sym (length-map c.args.args.now view))),
+  ),
+))
+
+pub returns-in_ok-vector_of-in-Some : goal.returns-in_ok-vector_of-in-Some
+returns-in_ok-vector_of-in-Some c = several_untyped c.args.name.now c.args.n c.args.args.now _ c.in_default.len_at_least (inl (
+  holds c.all_scalars_or_vectors.ensures c.if-not-all_scalars_or_vectors.false,
+  inl (
+    holds c.bring_together.ensures c.if-not-bring_together.false,
+    (Some (view c.in-Some.common.now), c.in-Some.ensures, ap Ok c.in_ok-vector_of-in-Some.ensures),
+  ),
+))
+
+pub returns-in-None : goal.returns-in-None
+returns-in-None c = several_untyped c.args.name.now c.args.n c.args.args.now _ c.in_default.len_at_least (inl (
+  holds c.all_scalars_or_vectors.ensures c.if-not-all_scalars_or_vectors.false,
+  inl (holds c.bring_together.ensures c.if-not-bring_together.false, (None, c.in-None.ensures, refl)),
+))
