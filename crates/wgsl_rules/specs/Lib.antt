@@ -20,3 +20,9 @@ pub mod UnaryOperators
 pub mod OperatorAnswers
 pub mod Placement
 pub mod Layout
+pub mod CallShapes
+pub mod CallResults
+pub mod CallRows
+pub mod CallNames
+pub mod CallTable
+pub mod Calls
