@@ -1,8 +1,10 @@
 -- The literals, template parameters and signatures of the rules that those of the code stand for.
-use Rattle.std.specs.Prelude.{map, option_map, string_bytes}
+use Rattle.std.specs.Prelude.{ℕ, List, Option, map, option_map, string_bytes}
+use Rattle.std.specs.Borrow.{Bor}
 use Rattle.wgsl_rules.specs.Literals.{Literal, bool, abstract_int, i32, u32, i64, u64}
 use Rattle.wgsl_rules.specs.Signatures.{Parameter, of_type, of_literal, of_enumerant, Signature}
 use Rattle.wgsl_core.specs.View.{view}
+use Rattle.wgsl_core.specs.declared.ty.Type.{«Type»}
 use Rattle.wgsl_core.specs.declared.inst.Instance.{Instance}
 use Rattle.wgsl_core.specs.declared.inst.Instance.TheVariants as instances
 use Rattle.wgsl_core.specs.declared.inst.LiteralInstance.{LiteralInstance}
@@ -32,4 +34,12 @@ signature_view c = record {
   name = string_bytes c.name;
   template = option_map (λ ps. map parameter_view ps.items) c.tplt;
   arguments = map view (c.args).items;
+}
+
+-- the signature of a call, as it is given
+abbrev pub call_view : List ℕ → Option (Bor (List TpltParam)) → List «Type» → Signature
+call_view name tplt args = record {
+  name = name;
+  template = option_map (λ ps. map parameter_view ps.now) tplt;
+  arguments = map view args;
 }

@@ -1,6 +1,7 @@
 // The parts of types, borrowed.
 ghost use Rattle.std.specs.Prelude.{◌≡◌, ◌↔◌, IsTrue, IfOk, option_map};
 ghost use Rattle.wgsl_rules.specs.Types.{within};
+ghost use Rattle.wgsl_rules.specs.Parts.{inner_of};
 ghost use Rattle.wgsl_core.specs.View.{view};
 ghost use Rattle.wgsl_core.specs.Parts.{layer_view, scalar_of, layer_of, IsSeenAs};
 
@@ -109,6 +110,37 @@ impl Type {
             | Type::BindingArray(_, _)
             | Type::RayQuery(_)
             | Type::AccelerationStructure(_) => None,
+        }
+    }
+
+    /// The type that an array, a vector, a matrix, an atomic, a pointer, a reference or a binding array is of; else the type
+    /// itself.
+    pub fn inner(&self) -> &Type
+        ensures { view result.now ≡ inner_of (view self.now) }
+    {
+        match self {
+            Type::Array(t, _) => t,
+            Type::Vec(_, t) => t,
+            Type::Mat(_, _, t) => t,
+            Type::Atomic(t) => t,
+            Type::Ptr(_, t, _) => t,
+            Type::Ref(_, t, _) => t,
+            Type::BindingArray(t, _) => t,
+            Type::Bool
+            | Type::AbstractInt
+            | Type::AbstractFloat
+            | Type::I32
+            | Type::U32
+            | Type::F32
+            | Type::F16
+            | Type::I64
+            | Type::U64
+            | Type::F64
+            | Type::Struct(_)
+            | Type::Texture(_)
+            | Type::Sampler(_)
+            | Type::RayQuery(_)
+            | Type::AccelerationStructure(_) => self,
         }
     }
 

@@ -33,8 +33,8 @@ impl StructType {
     }
 }
 
-/// The shape and the float of a float, or of a vector of floats.
-fn shaped_float(ty: &Type) -> Option<(ResultShape, ResultPrecision)>
+/// The shape and the float of a float, or of a vector of floats, that `frexp` and `modf` take.
+pub fn shaped_float(ty: &Type) -> Option<(ResultShape, ResultPrecision)>
     ensures { result ≡ shape_in (view ty.now) }
 {
     match ty.scalar() {
@@ -161,7 +161,8 @@ fn has_shape(ty: &Type, shape: ResultShape, of: Scalar) -> bool
     }
 }
 
-fn is_vector_of(ty: &Type, components: u8, of: Scalar) -> bool
+/// Whether the type is a vector of so many components of a scalar.
+pub fn is_vector_of(ty: &Type, components: u8, of: Scalar) -> bool
     ensures { IsTrue result ↔ (view ty.now ≡ vec components (scalar of)) }
 {
     match ty {

@@ -37,30 +37,7 @@ impl Ty for Type {
     }
 
     fn inner_ty(&self, alloc: Global) -> Result<Type, AllocError> {
-        match self {
-            Type::Array(t, _) => Type::clone(t, alloc),
-            Type::Vec(_, t) => Type::clone(t, alloc),
-            Type::Mat(_, _, t) => Type::clone(t, alloc),
-            Type::Atomic(t) => Type::clone(t, alloc),
-            Type::Ptr(_, t, _) => Type::clone(t, alloc),
-            Type::Ref(_, t, _) => Type::clone(t, alloc),
-            Type::BindingArray(t, _) => Type::clone(t, alloc),
-            Type::Bool
-            | Type::AbstractInt
-            | Type::AbstractFloat
-            | Type::I32
-            | Type::U32
-            | Type::F32
-            | Type::F16
-            | Type::I64
-            | Type::U64
-            | Type::F64
-            | Type::Struct(_)
-            | Type::Texture(_)
-            | Type::Sampler(_)
-            | Type::RayQuery(_)
-            | Type::AccelerationStructure(_) => self.clone(alloc),
-        }
+        self.inner().clone(alloc)
     }
 }
 

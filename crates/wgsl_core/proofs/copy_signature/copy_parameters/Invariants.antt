@@ -3,4 +3,4 @@ use Rattle.wgsl_core.specs.Instances.{parameter_view}
 use Rattle.wgsl_core.proofs.copy_signature.copy_parameters.Given as goal
 
 abbrev pub invariant-loop-parameter : goal.invariant-loop-parameter
-invariant-loop-parameter l = map parameter_view l.copies.items ≡ map parameter_view (take l.parameter-index l.parameter-items)
+invariant-loop-parameter l = map parameter_view l.copies.items ≡ map parameter_view (take l.parameter-index l.parameters)
