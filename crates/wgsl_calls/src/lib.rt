@@ -2,3 +2,8 @@
 #![tactic(auto)]
 
 pub mod builtin;
+pub mod find;
+pub mod parts;
+pub mod rows;
+pub mod shapes;
+pub mod table;

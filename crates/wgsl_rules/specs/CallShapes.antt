@@ -9,8 +9,8 @@ use Rattle.wgsl_syntax.specs.declared.result_struct.ResultPrecision.{ResultPreci
 use Rattle.wgsl_syntax.specs.declared.texture.TextureType.{TextureType}
 use Rattle.wgsl_syntax.specs.declared.texture.TextureType.TheVariants.{Sampled2D, DepthMultisampled2D, External}
 use Rattle.wgsl_syntax.specs.TextureKind.{IsDepth, IsStorage, IsSampled, IsArrayed, IsMultisampled}
-use Rattle.wgsl_rules.specs.Types.{vec_of, mat_of, WgslType, scalar, within, struct, atomic, pointer, texture, acceleration_structure}
-use Rattle.wgsl_rules.specs.Kinds.{IsInteger, IsNumeric, IsScalarOrVector, IsVector, IsMatrix, IsStruct}
+use Rattle.wgsl_rules.specs.Types.{vec_of, mat_of, WgslType, scalar, within, pointer, texture, acceleration_structure}
+use Rattle.wgsl_rules.specs.Kinds.{IsInteger, IsNumeric, IsScalarOrVector, IsVector, IsMatrix, IsStruct, IsAtomic}
 use Rattle.wgsl_rules.specs.Concrete.{IsFloat}
 use Rattle.wgsl_rules.specs.Conversion.{ConvertsTo}
 use Rattle.wgsl_rules.specs.ResultStructs.{shaped, float_of}
@@ -99,7 +99,7 @@ IsTextureTypeOf k (texture x) = IsTextureOf k x
 IsTextureTypeOf k t = ⊥
 
 abbrev pub IsPointerToAtomic : WgslType → Type 0
-IsPointerToAtomic (pointer s (atomic t) m) = Unit {0}
+IsPointerToAtomic (pointer s t m) = IsAtomic t
 IsPointerToAtomic t = ⊥
 
 abbrev pub IsPointerInWorkgroup : WgslType → Type 0
