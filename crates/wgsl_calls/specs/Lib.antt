@@ -1,2 +1,3 @@
+pub mod Templates
 pub mod Rows
 pub mod Forms

@@ -7,3 +7,4 @@ pub mod parts;
 pub mod rows;
 pub mod shapes;
 pub mod table;
+pub mod tplt;

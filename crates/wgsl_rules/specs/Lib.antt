@@ -18,6 +18,11 @@ pub mod Laws
 pub mod Refusals
 pub mod UnaryOperators
 pub mod OperatorAnswers
+pub mod Templates
+pub mod ConstructorSteps
+pub mod VectorConstructors
+pub mod MatrixConstructors
+pub mod Constructors
 pub mod Placement
 pub mod Layout
 pub mod CallShapes

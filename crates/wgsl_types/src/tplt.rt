@@ -1,2 +1,6 @@
-//! Template parameters.
+//! Templates and their parameters (WGSL, "Template Lists").
+pub use wgsl_calls::tplt::{
+    ArrayTemplate, AtomicTemplate, BindingArrayTemplate, BitcastTemplate, MatTemplate, PtrTemplate,
+    TextureTemplate, VecTemplate,
+};
 pub use wgsl_core::signature::TpltParam;

@@ -1,0 +1,40 @@
+-- What the templates stand for: the type that each makes, or the type that it is of.
+use Rattle.wgsl_syntax.specs.declared.texture.TextureType.{TextureType}
+use Rattle.wgsl_rules.specs.Types.{WgslType, atomic, pointer, binding_array, array}
+use Rattle.wgsl_core.specs.View.{view}
+use Rattle.wgsl_calls.specs.declared.tplt.ArrayTemplate.{ArrayTemplate}
+use Rattle.wgsl_calls.specs.declared.tplt.BindingArrayTemplate.{BindingArrayTemplate}
+use Rattle.wgsl_calls.specs.declared.tplt.VecTemplate.{VecTemplate}
+use Rattle.wgsl_calls.specs.declared.tplt.MatTemplate.{MatTemplate}
+use Rattle.wgsl_calls.specs.declared.tplt.PtrTemplate.{PtrTemplate}
+use Rattle.wgsl_calls.specs.declared.tplt.BitcastTemplate.{BitcastTemplate}
+use Rattle.wgsl_calls.specs.declared.tplt.AtomicTemplate.{AtomicTemplate}
+use Rattle.wgsl_calls.specs.declared.tplt.TextureTemplate.{TextureTemplate}
+
+abbrev pub array_view : ArrayTemplate → WgslType
+array_view t = array t.n (view t.ty)
+
+abbrev pub binding_array_view : BindingArrayTemplate → WgslType
+binding_array_view t = binding_array t.n (view t.ty)
+
+-- the type of a vector's components
+abbrev pub vec_view : VecTemplate → WgslType
+vec_view t = view t.ty
+
+-- the type of a matrix's components
+abbrev pub mat_view : MatTemplate → WgslType
+mat_view t = view t.ty
+
+abbrev pub ptr_view : PtrTemplate → WgslType
+ptr_view t = pointer t.space (view t.ty) t.access
+
+-- the type that a value's bits are taken as
+abbrev pub bitcast_view : BitcastTemplate → WgslType
+bitcast_view t = view t.ty
+
+-- the type that an atomic is of
+abbrev pub atomic_view : AtomicTemplate → WgslType
+atomic_view t = view t.ty
+
+abbrev pub texture_view : TextureTemplate → TextureType
+texture_view t = t.ty

@@ -1,0 +1,66 @@
+-- What the constructors of vectors make of their arguments (WGSL, "Value Constructor Built-in Functions").
+use Rattle.std.specs.Prelude.{ℕ, ◌+◌, List, [], ◌∷◌, ◌≡◌, ◌⊎◌, Option, Some, None, Result, Ok, Err, All, codes, length, map}
+use Rattle.wgsl_syntax.specs.declared.scalar.Scalar.TheVariants.{AbstractInt}
+use Rattle.wgsl_rules.specs.Types.{WgslType, scalar, vec}
+use Rattle.wgsl_rules.specs.Kinds.{IsScalarOrVector}
+use Rattle.wgsl_rules.specs.Conversion.{ConvertsTo}
+use Rattle.wgsl_rules.specs.Parts.{inner_of}
+use Rattle.wgsl_rules.specs.Signatures.{Parameter, Signature}
+use Rattle.wgsl_rules.specs.Refusals.{Refusal, conversion, builtin, param_count}
+use Rattle.wgsl_rules.specs.Templates.{IsVecTemplate}
+use Rattle.wgsl_rules.specs.ConstructorSteps.{Either, Then, ThenCommon, IsCounted}
+
+-- the components that a scalar or a vector brings
+abbrev pub components : WgslType → ℕ
+components (scalar s) = 1
+components (vec n t) = n
+components t = 0
+
+-- the components that all bring, in whole numbers
+abbrev pub all_components : List WgslType → ℕ
+all_components [] = 0
+all_components (t ∷ ts) = components t + all_components ts
+
+-- A scalar that converts to a type, or a vector of such.
+abbrev pub BringsComponents : WgslType → WgslType → Type 0
+BringsComponents t (scalar s) = ConvertsTo (scalar s) t
+BringsComponents t (vec n e) = ConvertsTo e t
+BringsComponents t a = ⊥
+
+abbrev pub no_components : Refusal
+no_components = builtin (codes "vector constructor expects scalar or vector arguments")
+
+-- Vectors of n components of a template's type.
+abbrev pub IsTypedVector : List ℕ → ℕ → List WgslType → WgslType → Result WgslType Refusal → Type 0
+IsTypedVector name n [] t r = r ≡ Ok (vec n t)
+-- of one scalar, which is each component
+IsTypedVector name n (scalar s ∷ []) t r = Either (ConvertsTo (scalar s) t) (r ≡ Ok (vec n t)) (r ≡ Err (conversion (scalar s) t))
+-- of one vector of as many components
+IsTypedVector name n (vec m e ∷ []) t r = Either (m ≡ n) (r ≡ Ok (vec n t)) (r ≡ Err (conversion (vec m e) (vec n t)))
+IsTypedVector name n (a ∷ []) t r = r ≡ Err (conversion a t)
+-- of several, which bring as many components together
+IsTypedVector name n args t r =
+    Either (All (BringsComponents t) args)
+        (Either (all_components args ≡ n) (r ≡ Ok (vec n t)) (r ≡ Err (param_count name n (length args))))
+        (r ≡ Err no_components)
+
+-- Vectors of n components of the arguments' own types.
+abbrev pub IsUntypedVector : List ℕ → ℕ → List WgslType → Result WgslType Refusal → Type 0
+IsUntypedVector name n [] r = r ≡ Ok (vec n (scalar AbstractInt))
+IsUntypedVector name n (scalar s ∷ []) r = r ≡ Ok (vec n (scalar s))
+IsUntypedVector name n (vec m e ∷ []) r = Either (m ≡ n) (r ≡ Ok (vec n e)) (r ≡ Err (conversion (vec m e) (vec n e)))
+IsUntypedVector name n (a ∷ []) r = r ≡ Err no_components
+-- of several: the common type of what they bring
+IsUntypedVector name n args r =
+    Either (All IsScalarOrVector args)
+        (Either (all_components args ≡ n)
+            (ThenCommon (map inner_of args) (codes "vector components are incompatible") (λ c q. q ≡ Ok (vec n c)) r)
+            (r ≡ Err (param_count name n (length args))))
+        (r ≡ Err no_components)
+
+abbrev pub IsVectorCall : ℕ → Signature → Result WgslType Refusal → Type 0
+IsVectorCall n call r = at call.template
+  where
+    at : Option (List Parameter) → Type 0
+    at (Some ps) = (q : Result WgslType Refusal) × IsVecTemplate ps q × Then q (IsTypedVector call.name n call.arguments) r
+    at None = IsUntypedVector call.name n call.arguments r
