@@ -1,1 +1,5 @@
 pub mod Fractions
+pub mod Fitting
+pub mod Wanted
+pub mod Built
+pub mod Named

@@ -1,3 +1,4 @@
 pub mod Templates
 pub mod Rows
 pub mod Forms
+pub mod Answers

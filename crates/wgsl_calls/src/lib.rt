@@ -2,8 +2,11 @@
 #![tactic(auto)]
 
 pub mod builtin;
+pub mod call;
 pub mod find;
+pub mod fits;
 pub mod parts;
+pub mod results;
 pub mod rows;
 pub mod shapes;
 pub mod table;

@@ -121,7 +121,8 @@ fn is_second(member: &StructMemberType, result_struct: ResultStruct) -> bool
     }
 }
 
-fn float_in(precision: ResultPrecision) -> Scalar
+/// The scalar that the function takes.
+pub fn float_in(precision: ResultPrecision) -> Scalar
     ensures { result ≡ float_of precision }
 {
     match precision {
@@ -131,7 +132,8 @@ fn float_in(precision: ResultPrecision) -> Scalar
     }
 }
 
-fn exponent_in(precision: ResultPrecision) -> Scalar
+/// The scalar of the exponent that `frexp` gives.
+pub fn exponent_in(precision: ResultPrecision) -> Scalar
     ensures { result ≡ exponent_of precision }
 {
     match precision {

@@ -15,11 +15,14 @@ use Rattle.wgsl_rules.specs.Refusals.{Refusal, signature}
 use Rattle.wgsl_rules.specs.CallShapes.{boolean, number, any, scalar_of, vector_of, scalar_or_vector_of, vector, scalar_or_vector, IsScalarOf, IsVectorOf, IsScalarOrVectorOf}
 use Rattle.wgsl_rules.specs.CallRows.{Part, common, inner_of_common, common_of_three, of, Row, takes, outcome_of, Fits, IsOutcome, IsCommonOf, given}
 use Rattle.wgsl_rules.specs.CallTable.{call_table, rows_named}
-use Rattle.wgsl_rules.specs.Calls.{IsAnswerOf, call, IsCallAnswer, name_of, IsChosenCall, IsLeastAnswer, IsFlatAnswer, IsFlatCall}
+use Rattle.wgsl_rules.specs.Calls.{IsAnswerOf, IsCallAnswer, name_of, IsChosenCall, IsLeastAnswer}
 use Rattle.wgsl_rules.proofs.Order.{above_from_within}
 use Rattle.wgsl_rules.proofs.Commons.{common_join, values_head, values_tail}
 use Rattle.wgsl_rules.proofs.Lawful.{call_row_is_choice}
 use Rattle.wgsl_rules.proofs.OneAnswer.{answer_once}
+
+abbrev call : List ℕ → Option (List Parameter) → List WgslType → Signature
+call name template arguments = record { name = name; template = template; arguments = arguments }
 
 -- The rows of the five, by computation.
 
@@ -256,7 +259,7 @@ row_answers (select_each_row n j e b c m) =
     (inr (λ f. f.1.1.1.0, inl ((refl, (tt, (tt, (tt, tt)))), (Some c, m, refl))))
 
 chosen : (n : Name) → IsCallName n → (ts : List WgslType) → All IsValueType ts → (a : Answer) → IsAnswerOf (rows_named (name_of n) call_table) (call (name_of n) None ts) a → IsRowOf n ts a →
-    IsChosenCall n ts a
+    IsChosenCall n (call (name_of n) None ts) a
 chosen n h ts v (Ok (Some t)) k r = (call_row_is_choice n h ts v).chosen t r
 chosen n h ts v (Ok None) k r = absurd r
 chosen n h ts v (Err e) k r =
@@ -264,8 +267,9 @@ chosen n h ts v (Err e) k r =
       (λ t q. absurd (cc (answer_once (rows_named (name_of n) call_table) (call (name_of n) None ts) (Err e) (Ok (Some t)) refl k (row_answers q)))))
 
 -- What a call answers is the result of the choice.
-pub call_is_least : (name : List ℕ) (template : Option (List Parameter)) (ts : List WgslType) (a : Answer) → IsCallAnswer name template ts a → IsLeastAnswer name template ts a
+pub call_is_least : (c : Signature) (a : Answer) → IsCallAnswer c a → IsLeastAnswer c a
 unfolding IsCallAnswer IsLeastAnswer
-call_is_least name template ts a k n h e f v =
-    let q = subst₂ (λ name template. IsAnswerOf (rows_named name call_table) (call name template ts) a) e f k in
-    chosen n h ts v a q (row_of n h ts v a q)
+call_is_least c a k n h e f v =
+    let d : c ≡ call (name_of n) None c.arguments = λ i. record { name = e i; template = f i; arguments = c.arguments } in
+    let q = subst (λ c. IsAnswerOf (rows_named c.name call_table) c a) d k in
+    subst (λ c. IsChosenCall n c a) (sym d) (chosen n h c.arguments v a q (row_of n h c.arguments v a q))

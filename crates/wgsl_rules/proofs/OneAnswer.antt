@@ -11,7 +11,7 @@ use Rattle.wgsl_rules.specs.ResultStructs.{shaped, float_of, result_struct}
 use Rattle.wgsl_rules.specs.Signatures.{Signature}
 use Rattle.wgsl_rules.specs.Refusals.{Refusal}
 use Rattle.wgsl_rules.specs.CallResults.{IsResultOf}
-use Rattle.wgsl_rules.specs.CallRows.{Part, argument, inner, inner_of_inner, common, inner_of_common, common_of_three, common_of_inner, the, sampled_as, channel, Outcome, of, concrete, as_long, in_vector, transposed, texture_size, result_of, exchange_result, ray_intersection, hit_positions, no_value, by_template, Row, outcome_of, Fits, first, second, third, IsCommonOf, IsPart, vector_like, IsResultFor, given, IsOutcome}
+use Rattle.wgsl_rules.specs.CallRows.{Part, argument, inner, inner_of_inner, common, inner_of_common, common_of_three, common_of_inner, the, sampled_as, channel, Outcome, of, concrete, as_long, in_vector, transposed, texture_size, result_of, exchange_result, ray_intersection, hit_positions, no_value, by_template, Row, outcome_of, Fits, first, second, third, IsCommonOf, IsPart, vector_like, IsResultFor, given, IsFromTemplate, IsOutcome}
 use Rattle.wgsl_rules.specs.Calls.{IsAnswerOf}
 use Rattle.wgsl_rules.proofs.Commons.{common_once}
 use Rattle.wgsl_rules.proofs.Fractions.{one_fraction}
@@ -65,7 +65,8 @@ outcome_once exchange_result c a b n p q = p ∙ sym q
 outcome_once ray_intersection c a b n p q = p ∙ sym q
 outcome_once hit_positions c a b n p q = p ∙ sym q
 outcome_once no_value c a b n p q = p ∙ sym q
-outcome_once by_template c a b n p q = absurd p
+outcome_once by_template c a b n p q =
+    subst (λ t. IsFromTemplate c t a) n p ∙ sym (subst (λ t. IsFromTemplate c t b) n q)
 
 pub answer_once : (rs : List Row) (c : Signature) (a b : Answer) → c.template ≡ None → IsAnswerOf rs c a → IsAnswerOf rs c b → a ≡ b
 answer_once [] c a b n p q = p ∙ sym q

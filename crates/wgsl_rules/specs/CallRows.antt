@@ -8,7 +8,8 @@ use Rattle.wgsl_rules.specs.Types.{vec_of, WgslType, scalar, within, texture, ve
 use Rattle.wgsl_rules.specs.Parts.{inner_of, sampled_scalar}
 use Rattle.wgsl_rules.specs.Common.{IsCommon}
 use Rattle.wgsl_rules.specs.Concrete.{is_abstract, concretized}
-use Rattle.wgsl_rules.specs.Signatures.{Signature}
+use Rattle.wgsl_rules.specs.Signatures.{Parameter, Signature}
+use Rattle.wgsl_rules.specs.Templates.{IsBitcastTemplate}
 use Rattle.wgsl_rules.specs.Refusals.{Refusal, signature}
 use Rattle.wgsl_rules.specs.CallShapes.{Shape, Is}
 use Rattle.wgsl_rules.specs.CallResults.{IsResultOf, exchange_struct, ray_intersection_struct, hit_positions_type, size_type, transposed_of}
@@ -144,7 +145,14 @@ abbrev pub given : Signature → Option WgslType → Result (Option WgslType) Re
 given c None = Err (signature c)
 given c (Some t) = Ok (Some t)
 
--- What a row without a template gives for the call.
+-- What `bitcast` answers by its template.
+abbrev pub IsFromTemplate : Signature → Option (List Parameter) → Result (Option WgslType) Refusal → Type 0
+IsFromTemplate c (Some ps) (Ok (Some t)) = IsBitcastTemplate ps (Ok t)
+IsFromTemplate c (Some ps) (Ok None) = ⊥
+IsFromTemplate c (Some ps) (Err e) = IsBitcastTemplate ps (Err e)
+IsFromTemplate c None a = a ≡ Err (signature c)
+
+-- What a row that takes the call gives.
 abbrev pub IsOutcome : Outcome → Signature → Result (Option WgslType) Refusal → Type 0
 IsOutcome (of p) c a = (t : Option WgslType) × IsPart p c.arguments t × (a ≡ given c t)
 IsOutcome (concrete p) c a = (t : Option WgslType) × IsPart p c.arguments t × (a ≡ given c (option_map concretized t))
@@ -158,4 +166,4 @@ IsOutcome exchange_result c a = a ≡ given c (option_map exchange_struct (optio
 IsOutcome ray_intersection c a = a ≡ given c (Some ray_intersection_struct)
 IsOutcome hit_positions c a = a ≡ given c (Some hit_positions_type)
 IsOutcome no_value c a = a ≡ Ok None
-IsOutcome by_template c a = ⊥
+IsOutcome by_template c a = IsFromTemplate c c.template a

@@ -7,7 +7,7 @@ use Rattle.wgsl_rules.specs.Conversion.{IsValueType}
 use Rattle.wgsl_rules.specs.Candidates.{Name, operator, min, max, clamp, dot, select, IsCandidate}
 use Rattle.wgsl_rules.specs.Choice.{Takes, IsChoice}
 use Rattle.wgsl_rules.specs.Laws.{IsCallName}
-use Rattle.wgsl_rules.specs.Signatures.{Parameter, Signature}
+use Rattle.wgsl_rules.specs.Signatures.{Signature}
 use Rattle.wgsl_rules.specs.Refusals.{Refusal, signature}
 use Rattle.wgsl_rules.specs.CallRows.{Row, outcome_of, Fits, IsOutcome}
 use Rattle.wgsl_rules.specs.CallNames.{call_names}
@@ -18,12 +18,9 @@ abbrev pub IsAnswerOf : List Row → Signature → Result (Option WgslType) Refu
 IsAnswerOf [] c a = a ≡ Err (signature c)
 IsAnswerOf (r ∷ rs) c a = (Fits r c × IsOutcome (outcome_of r) c a) ⊎ (¬ Fits r c × IsAnswerOf rs c a)
 
-abbrev pub call : List ℕ → Option (List Parameter) → List WgslType → Signature
-call name template arguments = record { name = name; template = template; arguments = arguments }
-
--- A call by its name, its template where it has one, and the types of its arguments.
-unfoldable pub IsCallAnswer : List ℕ → Option (List Parameter) → List WgslType → Result (Option WgslType) Refusal → Type 0
-IsCallAnswer name template arguments a = IsAnswerOf (rows_named name call_table) (call name template arguments) a
+-- A call is answered by the rows under its name.
+unfoldable pub IsCallAnswer : Signature → Result (Option WgslType) Refusal → Type 0
+IsCallAnswer c a = IsAnswerOf (rows_named c.name call_table) c a
 
 -- The names of the five functions that candidates are written for.
 abbrev pub name_of : Name → List ℕ
@@ -34,16 +31,15 @@ name_of clamp = codes "clamp"
 name_of dot = codes "dot"
 name_of select = codes "select"
 
--- On value types that is the result of the choice among the candidates; the call is refused exactly where none takes them.
-abbrev pub IsChosenCall : Name → List WgslType → Result (Option WgslType) Refusal → Type 0
-IsChosenCall n ts (Ok (Some t)) = (us : List WgslType) × IsChoice n ts us t
-IsChosenCall n ts (Ok None) = ⊥
-IsChosenCall n ts (Err e) = (e ≡ signature (call (name_of n) None ts)) × ((us : List WgslType) (t : WgslType) → IsCandidate n us t → ¬ Takes us ts)
+-- The answer is the result of the choice among the candidates; the call is refused exactly where none takes its arguments.
+abbrev pub IsChosenCall : Name → Signature → Result (Option WgslType) Refusal → Type 0
+IsChosenCall n c (Ok (Some t)) = (us : List WgslType) × IsChoice n c.arguments us t
+IsChosenCall n c (Ok None) = ⊥
+IsChosenCall n c (Err e) = (e ≡ signature c) × ((us : List WgslType) (t : WgslType) → IsCandidate n us t → ¬ Takes us c.arguments)
 
--- The same of a name and a template, where it is one of the five functions and there is no template.
-unfoldable pub IsLeastAnswer : List ℕ → Option (List Parameter) → List WgslType → Result (Option WgslType) Refusal → Type 0
-IsLeastAnswer name template ts a =
-    (n : Name) → IsCallName n → name ≡ name_of n → template ≡ None → All IsValueType ts → IsChosenCall n ts a
+-- So are the five functions answered on value types, without a template.
+unfoldable pub IsLeastAnswer : Signature → Result (Option WgslType) Refusal → Type 0
+IsLeastAnswer c a = (n : Name) → IsCallName n → c.name ≡ name_of n → c.template ≡ None → All IsValueType c.arguments → IsChosenCall n c a
 
 -- The answer is a type without parts and name, or no value.
 abbrev pub IsFlatAnswer : Result (Option WgslType) Refusal → Type 0
@@ -52,8 +48,8 @@ IsFlatAnswer (Ok (Some t)) = IsFlat t
 IsFlatAnswer (Err e) = ⊥
 
 -- The call has no template, and the row that takes it gives such an answer.
-unfoldable pub IsFlatCall : List ℕ → Option (List Parameter) → List WgslType → Type 0
-IsFlatCall name template ts = (template ≡ None) × (a : Result (Option WgslType) Refusal) × IsCallAnswer name template ts a × IsFlatAnswer a
+unfoldable pub IsFlatCall : Signature → Type 0
+IsFlatCall c = (c.template ≡ None) × (a : Result (Option WgslType) Refusal) × IsCallAnswer c a × IsFlatAnswer a
 
 abbrev pub parts : List (List Line)
 parts = maths_of_one ∷ maths_of_several ∷ bits_and_subgroups ∷ derivatives_and_packing ∷ textures ∷ atomics ∷ barriers_and_rays ∷ []
