@@ -44,9 +44,10 @@ whole_begins (s ∷ ss) (t ∷ ts) h = let k = whole_begins ss ts h.1 in (omega 
 
 -- all are of their shapes where they begin so and are as many
 pub as_many : (ss : List shapes.Shape) (ts : List «Type») → AllAre ss (map view ts) ↔ (length ts ≡ length ss) × BeginAs ss (map view ts)
-as_many ss ts =
-    (λ h. let k = whole_begins ss (map view ts) h in (sym (length-map ts view) ∙ k.0, k.1),
-     λ h. begins_whole ss (map view ts) (length-map ts view ∙ h.0) h.1)
+as_many ss ts = (
+  λ h. let k = whole_begins ss (map view ts) h in (sym (length-map ts view) ∙ k.0, k.1),
+  λ h. begins_whole ss (map view ts) (length-map ts view ∙ h.0) h.1,
+)
 
 pub none_or_some : {A B : Type 0} (f : A → B) (o : Option A) (b : Bool) → b ≡ is_some o →
     (IsTrue b ↔ (is_some (option_map f o) ≡ true)) × (¬ IsTrue b ↔ (option_map f o ≡ None))

@@ -10,9 +10,8 @@ ghost use Rattle.wgsl_core.specs.View.{view};
 ghost use Rattle.wgsl_core.specs.Instances.{call_view};
 ghost use Rattle.wgsl_core.specs.Outcome.{AnswersAs, AnswersBy, IsAnswered};
 
-pub use crate::find::find_call;
-
 use crate::call::answer;
+pub use crate::find::find_call;
 use crate::fits::Call;
 use std::alloc::Global;
 use wgsl_core::error::Fail;

@@ -120,11 +120,7 @@ fn given(alloc: Global, found: Option<Planned<'_>>, call: Call<'_>) -> Result<Op
     }
 }
 
-fn concrete(
-    alloc: Global,
-    found: Option<Element<'_>>,
-    call: Call<'_>,
-) -> Result<Option<Type>, Fail>
+fn concrete(alloc: Global, found: Option<Element<'_>>, call: Call<'_>) -> Result<Option<Type>, Fail>
     ensures { IsMet (given_for (signature_of call.entry) (option_map concretized (option_map element_view found.entry))) result }
 {
     match found {

@@ -13,15 +13,13 @@ use std::cmp::Ordering;
 #[tactic(auto, using(wgsl_rules::proofs::RisingNames::names_rise))]
 pub fn names_rise()
     ensures { IsRising call_names }
-{
-}
+{}
 
 /// Each name is in exactly one part of the table, and the table has no other names.
 #[tactic(auto, using(wgsl_rules::proofs::NamedRows::names_match))]
 pub fn names_match_table()
     ensures { NamesMatchTable }
-{
-}
+{}
 
 /// The place of a built-in function (WGSL, "Built-in Functions") among their names in the order of the bytes, and the number
 /// of names that were compared with it.
@@ -36,7 +34,7 @@ pub fn find_call(name: &str) -> (Option<usize>, u32)
     while low < high {
         let middle = low + (high - low) / 2;
         compared += 1;
-        match name.cmp(built_ins[middle].name) {
+        match name.cmp(built_ins[middle].0) {
             Ordering::Equal => return (Some(middle), compared),
             Ordering::Less => high = middle,
             Ordering::Greater => low = middle + 1,
@@ -50,7 +48,7 @@ pub fn rows_of(name: &str) -> Option<Rows>
     ensures { found_rows result ≡ rows_named name.now call_table }
 {
     match find_call(name).0 {
-        Some(place) => Some(built_ins()[place].rows),
+        Some(place) => Some(built_ins()[place].1),
         None => None,
     }
 }

@@ -59,10 +59,25 @@ pub fn ray_intersection(alloc: Global) -> Result<Type, AllocError>
     push(&mut members, alloc, "sbt_record_offset", Type::U32)?;
     push(&mut members, alloc, "geometry_index", Type::U32)?;
     push(&mut members, alloc, "primitive_index", Type::U32)?;
-    push(&mut members, alloc, "barycentrics", floats(alloc, Layer::Vec(2))?)?;
+    push(
+        &mut members,
+        alloc,
+        "barycentrics",
+        floats(alloc, Layer::Vec(2))?,
+    )?;
     push(&mut members, alloc, "front_face", Type::Bool)?;
-    push(&mut members, alloc, "object_to_world", floats(alloc, Layer::Mat(4, 3))?)?;
-    push(&mut members, alloc, "world_to_object", floats(alloc, Layer::Mat(4, 3))?)?;
+    push(
+        &mut members,
+        alloc,
+        "object_to_world",
+        floats(alloc, Layer::Mat(4, 3))?,
+    )?;
+    push(
+        &mut members,
+        alloc,
+        "world_to_object",
+        floats(alloc, Layer::Mat(4, 3))?,
+    )?;
     struct_of(alloc, "RayIntersection", members)
 }
 
@@ -124,11 +139,7 @@ fn push(
 }
 
 /// A struct of that name and those members.
-fn struct_of(
-    alloc: Global,
-    name: &str,
-    members: Vec<StructMemberType>,
-) -> Result<Type, AllocError>
+fn struct_of(alloc: Global, name: &str, members: Vec<StructMemberType>) -> Result<Type, AllocError>
     ensures { IfOk result (λ t. view t ≡ struct name.now (members_of (map member_view members.items))) }
 {
     let name = String::from_str(alloc, name)?;

@@ -1,14 +1,14 @@
 use Rattle.std.proofs.Common.{ℕ, ◌≡◌, ◌≤◌, ◌<◌, ◌+◌, ◌-◌, ◌*◌, ◌/◌, ◌^◌, ap, subst, sym, ◌∙◌, arith, List, Bor}
 use Rattle.std.specs.Cmp.Lexicographic.{slice_cmp}
 use Rattle.std.specs.Ordering.{nat_cmp}
-use Rattle.wgsl_calls.specs.declared.rows.BuiltIn.{BuiltIn}
+use Rattle.wgsl_calls.specs.declared.rows.Rows.{Rows}
 use Rattle.wgsl_rules.specs.CallNames.{name_at}
 use Rattle.wgsl_rules.specs.CallNames.{call_names}
 use Rattle.wgsl_rules.proofs.RisingNames.{found, not_found, few, halved, at_name, below_step, above_step}
 use Rattle.wgsl_calls.proofs.find.find_call.Goals as goal
 
-abbrev name : BuiltIn → List ℕ
-name e = (e.name).now
+abbrev name : Bor (List ℕ) × Rows → List ℕ
+name e = (e.0).now
 
 pub returns-in-Equal-clause-place : goal.returns-in-Equal-clause-place
 returns-in-Equal-clause-place c =
@@ -25,7 +25,8 @@ loop-low-preserved-in-Less c =
       halved = omega arith;
       few = omega arith;
       below = inv.below;
-      above = above_step _ _ (at_name name c.built_ins-built_ins.result.now c.built_ins-built_ins.ensures.names _ _ (omega arith) _ _ c.cmp.ensures ∙ (c.in-Less.is)) }
+      above = above_step _ _ (at_name name c.built_ins-built_ins.result.now c.built_ins-built_ins.ensures.names _ _ (omega arith) _ _ c.cmp.ensures ∙ (c.in-Less.is));
+    }
 
 pub loop-low-preserved : goal.loop-low-preserved
 loop-low-preserved c =
@@ -38,7 +39,8 @@ loop-low-preserved c =
       halved = omega arith;
       few = omega arith;
       below = below_step _ c.loop-low.low _ inv.below (omega arith) (at_name name c.built_ins-built_ins.result.now c.built_ins-built_ins.ensures.names _ _ (omega arith) _ _ c.cmp.ensures ∙ (c.in-Greater.is));
-      above = inv.above }
+      above = inv.above;
+    }
 
 pub returns-clause-place : goal.returns-clause-place
 returns-clause-place c = let inv = c.loop-low.invariant in not_found _ c.loop-low.low c.loop-low.high (omega arith) inv.below inv.above

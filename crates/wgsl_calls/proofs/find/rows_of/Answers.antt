@@ -1,14 +1,14 @@
-use Rattle.std.proofs.Common.{◌≡◌, ◌<◌, ℕ, Some, None, sym, arith, List}
+use Rattle.std.proofs.Common.{◌≡◌, ◌<◌, ℕ, Some, None, sym, arith, List, Bor}
 use Rattle.wgsl_rules.specs.CallNames.{IsNameAt, call_names}
 use Rattle.wgsl_rules.specs.CallRows.{Row}
 use Rattle.wgsl_rules.proofs.RisingNames.{names_many}
 use Rattle.wgsl_rules.proofs.UnlistedNames.{nameless, rows_at}
 use Rattle.wgsl_calls.specs.Rows.{rows_view}
-use Rattle.wgsl_calls.specs.declared.rows.BuiltIn.{BuiltIn}
+use Rattle.wgsl_calls.specs.declared.rows.Rows.{Rows}
 use Rattle.wgsl_calls.proofs.find.rows_of.Goals as goal
 
-abbrev rows : BuiltIn → List Row
-rows b = rows_view b.rows
+abbrev rows : Bor (List ℕ) × Rows → List Row
+rows b = rows_view b.1
 
 pub offset_bounds-built_ins-place : goal.offset_bounds-built_ins-place
 offset_bounds-built_ins-place c =
