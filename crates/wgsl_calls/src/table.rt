@@ -39,120 +39,129 @@ pub fn built_ins() -> &'static [(&'static str, Rows)]
     &BUILT_INS
 }
 
+/// A float function of one argument.
+const FLOAT_FUNCTION: Rows = Only(Takes(One(ScalarOrVectorOf(Float)), Of(Argument)));
+
+/// A test of all components.
+const TEST: Rows = Only(Takes(One(Any), Of(The(Bool))));
+
+/// A float function of two arguments.
+const FLOAT_PAIR: Rows = Only(Takes(Two(ScalarOrVectorOf(Float), Any), Of(Common)));
+
+/// An update of an atomic.
+const ATOMIC_UPDATE: Rows = Only(Takes(Two(PointerToAtomic, Any), Of(InnerOfInner)));
+
+/// A function of bits.
+const BIT_FUNCTION: Rows = Only(Takes(One(ScalarOrVectorOf(Integer)), Concrete(Argument)));
+
+/// A function of two vectors of floats.
+const VECTOR_PAIR: Rows = Only(Takes(Two(VectorOf(Float), Any), Of(Common)));
+
+/// A derivative.
+const DERIVATIVE: Rows = Either(
+    Takes(One(ScalarOf(Single)), Of(The(F32))),
+    Takes(One(VectorOf(Single)), AsLong(The(F32))),
+);
+
+/// A float function of three arguments.
+const FLOAT_TRIPLE: Rows = Only(Takes(Three(ScalarOrVectorOf(Float), Any, Any), Of(CommonOfThree)));
+
+/// The corners of the triangle that a ray hit.
+const HIT_VERTICES: Rows = Only(Takes(One(Query), HitPositions));
+
+/// The greater or the less of two numbers.
+const EXTREME: Rows = Only(Takes(Two(ScalarOrVectorOf(Number), Any), Of(Common)));
+
+/// Two floats packed.
+const PACK_TWO: Rows = Only(Takes(One(ToVector(2, F32)), Of(The(U32))));
+
+/// Four floats packed.
+const PACK_FOUR: Rows = Only(Takes(One(ToVector(4, F32)), Of(The(U32))));
+
+/// A number from another invocation.
+const SHUFFLE: Rows = Only(Takes(
+    Two(ScalarOrVectorOf(Number), ScalarOf(Integer)),
+    Concrete(Argument),
+));
+
+/// A number from all invocations.
+const SUBGROUP_NUMBER: Rows = Only(Takes(One(ScalarOrVectorOf(Number)), Concrete(Argument)));
+
+/// No arguments and no value.
+const BARE_STATEMENT: Rows = Only(Takes(Nothing, NoValue));
+
+/// An intersection of a ray.
+const INTERSECTION: Rows = Only(Takes(One(Query), RayIntersection));
+
+/// A vote of all invocations.
+const VOTE: Rows = Only(Takes(One(ScalarOf(Boolean)), Of(The(Bool))));
+
+/// A sample of a color or a depth.
+const SAMPLE: Rows = Either(
+    TakesAndMore(One(TextureOf(Sampled)), InVector(4, The(F32))),
+    TakesAndMore(One(TextureOf(Depth)), Of(The(F32))),
+);
+
+/// A sample of a color.
+const SAMPLE_COLOR: Rows = Only(TakesAndMore(One(TextureOf(Sampled)), InVector(4, The(F32))));
+
+/// A sample that is compared with a depth.
+const COMPARE_DEPTH: Rows = Only(TakesAndMore(One(TextureOf(Depth)), Of(The(F32))));
+
+/// Two floats unpacked.
+const UNPACK_TWO: Rows = Only(Takes(One(To(U32)), InVector(2, The(F32))));
+
+/// Four floats unpacked.
+const UNPACK_FOUR: Rows = Only(Takes(One(To(U32)), InVector(4, The(F32))));
+
 static BUILT_INS: [(&str, Rows); 155] = [
     (
         "abs",
         Only(Takes(One(ScalarOrVectorOf(Number)), Of(Argument))),
     ),
-    (
-        "acos",
-        Only(Takes(One(ScalarOrVectorOf(Float)), Of(Argument))),
-    ),
-    (
-        "acosh",
-        Only(Takes(One(ScalarOrVectorOf(Float)), Of(Argument))),
-    ),
-    ("all", Only(Takes(One(Any), Of(The(Bool))))),
-    ("any", Only(Takes(One(Any), Of(The(Bool))))),
+    ("acos", FLOAT_FUNCTION),
+    ("acosh", FLOAT_FUNCTION),
+    ("all", TEST),
+    ("any", TEST),
     ("arrayLength", Only(Takes(One(Any), Of(The(U32))))),
-    (
-        "asin",
-        Only(Takes(One(ScalarOrVectorOf(Float)), Of(Argument))),
-    ),
-    (
-        "asinh",
-        Only(Takes(One(ScalarOrVectorOf(Float)), Of(Argument))),
-    ),
-    (
-        "atan",
-        Only(Takes(One(ScalarOrVectorOf(Float)), Of(Argument))),
-    ),
-    (
-        "atan2",
-        Only(Takes(Two(ScalarOrVectorOf(Float), Any), Of(Common))),
-    ),
-    (
-        "atanh",
-        Only(Takes(One(ScalarOrVectorOf(Float)), Of(Argument))),
-    ),
-    (
-        "atomicAdd",
-        Only(Takes(Two(PointerToAtomic, Any), Of(InnerOfInner))),
-    ),
-    (
-        "atomicAnd",
-        Only(Takes(Two(PointerToAtomic, Any), Of(InnerOfInner))),
-    ),
+    ("asin", FLOAT_FUNCTION),
+    ("asinh", FLOAT_FUNCTION),
+    ("atan", FLOAT_FUNCTION),
+    ("atan2", FLOAT_PAIR),
+    ("atanh", FLOAT_FUNCTION),
+    ("atomicAdd", ATOMIC_UPDATE),
+    ("atomicAnd", ATOMIC_UPDATE),
     (
         "atomicCompareExchangeWeak",
         Only(Takes(Three(PointerToAtomic, Any, Any), ExchangeResult)),
     ),
-    (
-        "atomicExchange",
-        Only(Takes(Two(PointerToAtomic, Any), Of(InnerOfInner))),
-    ),
+    ("atomicExchange", ATOMIC_UPDATE),
     (
         "atomicLoad",
         Only(Takes(One(PointerToAtomic), Of(InnerOfInner))),
     ),
-    (
-        "atomicMax",
-        Only(Takes(Two(PointerToAtomic, Any), Of(InnerOfInner))),
-    ),
-    (
-        "atomicMin",
-        Only(Takes(Two(PointerToAtomic, Any), Of(InnerOfInner))),
-    ),
-    (
-        "atomicOr",
-        Only(Takes(Two(PointerToAtomic, Any), Of(InnerOfInner))),
-    ),
+    ("atomicMax", ATOMIC_UPDATE),
+    ("atomicMin", ATOMIC_UPDATE),
+    ("atomicOr", ATOMIC_UPDATE),
     (
         "atomicStore",
         Only(TakesAndMore(One(PointerToAtomic), NoValue)),
     ),
-    (
-        "atomicSub",
-        Only(Takes(Two(PointerToAtomic, Any), Of(InnerOfInner))),
-    ),
-    (
-        "atomicXor",
-        Only(Takes(Two(PointerToAtomic, Any), Of(InnerOfInner))),
-    ),
+    ("atomicSub", ATOMIC_UPDATE),
+    ("atomicXor", ATOMIC_UPDATE),
     ("bitcast", Only(TakesWithTemplate(One(Any), ByTemplate))),
-    (
-        "ceil",
-        Only(Takes(One(ScalarOrVectorOf(Float)), Of(Argument))),
-    ),
+    ("ceil", FLOAT_FUNCTION),
     (
         "clamp",
         Only(Takes(Three(ScalarOrVectorOf(Number), Any, Any), Of(CommonOfThree))),
     ),
-    (
-        "cos",
-        Only(Takes(One(ScalarOrVectorOf(Float)), Of(Argument))),
-    ),
-    (
-        "cosh",
-        Only(Takes(One(ScalarOrVectorOf(Float)), Of(Argument))),
-    ),
-    (
-        "countLeadingZeros",
-        Only(Takes(One(ScalarOrVectorOf(Integer)), Concrete(Argument))),
-    ),
-    (
-        "countOneBits",
-        Only(Takes(One(ScalarOrVectorOf(Integer)), Concrete(Argument))),
-    ),
-    (
-        "countTrailingZeros",
-        Only(Takes(One(ScalarOrVectorOf(Integer)), Concrete(Argument))),
-    ),
-    ("cross", Only(Takes(Two(VectorOf(Float), Any), Of(Common)))),
-    (
-        "degrees",
-        Only(Takes(One(ScalarOrVectorOf(Float)), Of(Argument))),
-    ),
+    ("cos", FLOAT_FUNCTION),
+    ("cosh", FLOAT_FUNCTION),
+    ("countLeadingZeros", BIT_FUNCTION),
+    ("countOneBits", BIT_FUNCTION),
+    ("countTrailingZeros", BIT_FUNCTION),
+    ("cross", VECTOR_PAIR),
+    ("degrees", FLOAT_FUNCTION),
     ("determinant", Only(Takes(One(SquareMatrix), Of(Inner)))),
     (
         "distance",
@@ -170,56 +179,14 @@ static BUILT_INS: [(&str, Rows); 155] = [
         "dot4U8Packed",
         Only(Takes(Two(To(U32), To(U32)), Of(The(U32)))),
     ),
-    (
-        "dpdx",
-        Either(
-            Takes(One(ScalarOf(Single)), Of(The(F32))),
-            Takes(One(VectorOf(Single)), AsLong(The(F32))),
-        ),
-    ),
-    (
-        "dpdxCoarse",
-        Either(
-            Takes(One(ScalarOf(Single)), Of(The(F32))),
-            Takes(One(VectorOf(Single)), AsLong(The(F32))),
-        ),
-    ),
-    (
-        "dpdxFine",
-        Either(
-            Takes(One(ScalarOf(Single)), Of(The(F32))),
-            Takes(One(VectorOf(Single)), AsLong(The(F32))),
-        ),
-    ),
-    (
-        "dpdy",
-        Either(
-            Takes(One(ScalarOf(Single)), Of(The(F32))),
-            Takes(One(VectorOf(Single)), AsLong(The(F32))),
-        ),
-    ),
-    (
-        "dpdyCoarse",
-        Either(
-            Takes(One(ScalarOf(Single)), Of(The(F32))),
-            Takes(One(VectorOf(Single)), AsLong(The(F32))),
-        ),
-    ),
-    (
-        "dpdyFine",
-        Either(
-            Takes(One(ScalarOf(Single)), Of(The(F32))),
-            Takes(One(VectorOf(Single)), AsLong(The(F32))),
-        ),
-    ),
-    (
-        "exp",
-        Only(Takes(One(ScalarOrVectorOf(Float)), Of(Argument))),
-    ),
-    (
-        "exp2",
-        Only(Takes(One(ScalarOrVectorOf(Float)), Of(Argument))),
-    ),
+    ("dpdx", DERIVATIVE),
+    ("dpdxCoarse", DERIVATIVE),
+    ("dpdxFine", DERIVATIVE),
+    ("dpdy", DERIVATIVE),
+    ("dpdyCoarse", DERIVATIVE),
+    ("dpdyFine", DERIVATIVE),
+    ("exp", FLOAT_FUNCTION),
+    ("exp2", FLOAT_FUNCTION),
     (
         "extractBits",
         Only(Takes(
@@ -231,56 +198,17 @@ static BUILT_INS: [(&str, Rows); 155] = [
         "faceForward",
         Only(Takes(Three(VectorOf(Float), Any, Any), Of(CommonOfThree))),
     ),
-    (
-        "firstLeadingBit",
-        Only(Takes(One(ScalarOrVectorOf(Integer)), Concrete(Argument))),
-    ),
-    (
-        "firstTrailingBit",
-        Only(Takes(One(ScalarOrVectorOf(Integer)), Concrete(Argument))),
-    ),
-    (
-        "floor",
-        Only(Takes(One(ScalarOrVectorOf(Float)), Of(Argument))),
-    ),
-    (
-        "fma",
-        Only(Takes(Three(ScalarOrVectorOf(Float), Any, Any), Of(CommonOfThree))),
-    ),
-    (
-        "fract",
-        Only(Takes(One(ScalarOrVectorOf(Float)), Of(Argument))),
-    ),
+    ("firstLeadingBit", BIT_FUNCTION),
+    ("firstTrailingBit", BIT_FUNCTION),
+    ("floor", FLOAT_FUNCTION),
+    ("fma", FLOAT_TRIPLE),
+    ("fract", FLOAT_FUNCTION),
     ("frexp", Only(Takes(One(Fraction), ResultOf(Frexp)))),
-    (
-        "fwidth",
-        Either(
-            Takes(One(ScalarOf(Single)), Of(The(F32))),
-            Takes(One(VectorOf(Single)), AsLong(The(F32))),
-        ),
-    ),
-    (
-        "fwidthCoarse",
-        Either(
-            Takes(One(ScalarOf(Single)), Of(The(F32))),
-            Takes(One(VectorOf(Single)), AsLong(The(F32))),
-        ),
-    ),
-    (
-        "fwidthFine",
-        Either(
-            Takes(One(ScalarOf(Single)), Of(The(F32))),
-            Takes(One(VectorOf(Single)), AsLong(The(F32))),
-        ),
-    ),
-    (
-        "getCandidateHitVertexPositions",
-        Only(Takes(One(Query), HitPositions)),
-    ),
-    (
-        "getCommittedHitVertexPositions",
-        Only(Takes(One(Query), HitPositions)),
-    ),
+    ("fwidth", DERIVATIVE),
+    ("fwidthCoarse", DERIVATIVE),
+    ("fwidthFine", DERIVATIVE),
+    ("getCandidateHitVertexPositions", HIT_VERTICES),
+    ("getCommittedHitVertexPositions", HIT_VERTICES),
     (
         "insertBits",
         Only(Takes(
@@ -288,10 +216,7 @@ static BUILT_INS: [(&str, Rows); 155] = [
             Concrete(Common),
         )),
     ),
-    (
-        "inverseSqrt",
-        Only(Takes(One(ScalarOrVectorOf(Float)), Of(Argument))),
-    ),
+    ("inverseSqrt", FLOAT_FUNCTION),
     (
         "ldexp",
         Either(
@@ -311,22 +236,10 @@ static BUILT_INS: [(&str, Rows); 155] = [
         "length",
         Only(Takes(One(ScalarOrVectorOf(Float)), Of(Inner))),
     ),
-    (
-        "log",
-        Only(Takes(One(ScalarOrVectorOf(Float)), Of(Argument))),
-    ),
-    (
-        "log2",
-        Only(Takes(One(ScalarOrVectorOf(Float)), Of(Argument))),
-    ),
-    (
-        "max",
-        Only(Takes(Two(ScalarOrVectorOf(Number), Any), Of(Common))),
-    ),
-    (
-        "min",
-        Only(Takes(Two(ScalarOrVectorOf(Number), Any), Of(Common))),
-    ),
+    ("log", FLOAT_FUNCTION),
+    ("log2", FLOAT_FUNCTION),
+    ("max", EXTREME),
+    ("min", EXTREME),
     (
         "mix",
         Either(
@@ -340,87 +253,39 @@ static BUILT_INS: [(&str, Rows); 155] = [
     ),
     ("modf", Only(Takes(One(Fraction), ResultOf(Modf)))),
     ("normalize", Only(Takes(One(VectorOf(Float)), Of(Argument)))),
-    (
-        "pack2x16float",
-        Only(Takes(One(ToVector(2, F32)), Of(The(U32)))),
-    ),
-    (
-        "pack2x16snorm",
-        Only(Takes(One(ToVector(2, F32)), Of(The(U32)))),
-    ),
-    (
-        "pack2x16unorm",
-        Only(Takes(One(ToVector(2, F32)), Of(The(U32)))),
-    ),
-    (
-        "pack4x8snorm",
-        Only(Takes(One(ToVector(4, F32)), Of(The(U32)))),
-    ),
-    (
-        "pack4x8unorm",
-        Only(Takes(One(ToVector(4, F32)), Of(The(U32)))),
-    ),
+    ("pack2x16float", PACK_TWO),
+    ("pack2x16snorm", PACK_TWO),
+    ("pack2x16unorm", PACK_TWO),
+    ("pack4x8snorm", PACK_FOUR),
+    ("pack4x8unorm", PACK_FOUR),
     ("pack4xI8", Only(Takes(One(ToVector(4, I32)), Of(The(U32))))),
-    (
-        "pack4xI8Clamp",
-        Only(Takes(One(ToVector(4, F32)), Of(The(U32)))),
-    ),
+    ("pack4xI8Clamp", PACK_FOUR),
     ("pack4xU8", Only(Takes(One(ToVector(4, U32)), Of(The(U32))))),
-    (
-        "pack4xU8Clamp",
-        Only(Takes(One(ToVector(4, F32)), Of(The(U32)))),
-    ),
+    ("pack4xU8Clamp", PACK_FOUR),
     ("pow", Only(Takes(Two(Any, Any), Of(Common)))),
-    (
-        "quadBroadcast",
-        Only(Takes(
-            Two(ScalarOrVectorOf(Number), ScalarOf(Integer)),
-            Concrete(Argument),
-        )),
-    ),
-    (
-        "quadSwapDiagonal",
-        Only(Takes(One(ScalarOrVectorOf(Number)), Concrete(Argument))),
-    ),
-    (
-        "quadSwapX",
-        Only(Takes(One(ScalarOrVectorOf(Number)), Concrete(Argument))),
-    ),
-    (
-        "quadSwapY",
-        Only(Takes(One(ScalarOrVectorOf(Number)), Concrete(Argument))),
-    ),
+    ("quadBroadcast", SHUFFLE),
+    ("quadSwapDiagonal", SUBGROUP_NUMBER),
+    ("quadSwapX", SUBGROUP_NUMBER),
+    ("quadSwapY", SUBGROUP_NUMBER),
     (
         "quantizeToF16",
         Only(Takes(One(ScalarOrVectorOf(Single)), Of(Argument))),
     ),
-    (
-        "radians",
-        Only(Takes(One(ScalarOrVectorOf(Float)), Of(Argument))),
-    ),
-    ("rayQueryConfirmIntersection", Only(Takes(Nothing, NoValue))),
+    ("radians", FLOAT_FUNCTION),
+    ("rayQueryConfirmIntersection", BARE_STATEMENT),
     (
         "rayQueryGenerateIntersection",
         Only(Takes(One(To(F32)), NoValue)),
     ),
-    (
-        "rayQueryGetCandidateIntersection",
-        Only(Takes(One(Query), RayIntersection)),
-    ),
-    (
-        "rayQueryGetCommittedIntersection",
-        Only(Takes(One(Query), RayIntersection)),
-    ),
+    ("rayQueryGetCandidateIntersection", INTERSECTION),
+    ("rayQueryGetCommittedIntersection", INTERSECTION),
     (
         "rayQueryInitialize",
         Only(Takes(Three(Query, Acceleration, Structure), NoValue)),
     ),
     ("rayQueryProceed", Only(Takes(One(Query), Of(The(Bool))))),
-    ("rayQueryTerminate", Only(Takes(Nothing, NoValue))),
-    (
-        "reflect",
-        Only(Takes(Two(VectorOf(Float), Any), Of(Common))),
-    ),
+    ("rayQueryTerminate", BARE_STATEMENT),
+    ("reflect", VECTOR_PAIR),
     (
         "refract",
         Only(TakesWhere(
@@ -433,14 +298,8 @@ static BUILT_INS: [(&str, Rows); 155] = [
         "reverseBits",
         Only(Takes(One(ScalarOrVectorOf(Integer)), Of(Argument))),
     ),
-    (
-        "round",
-        Only(Takes(One(ScalarOrVectorOf(Float)), Of(Argument))),
-    ),
-    (
-        "saturate",
-        Only(Takes(One(ScalarOrVectorOf(Float)), Of(Argument))),
-    ),
+    ("round", FLOAT_FUNCTION),
+    ("saturate", FLOAT_FUNCTION),
     (
         "select",
         Either(
@@ -452,43 +311,16 @@ static BUILT_INS: [(&str, Rows); 155] = [
         "sign",
         Only(Takes(One(ScalarOrVectorOf(NumberButU32)), Of(Argument))),
     ),
-    (
-        "sin",
-        Only(Takes(One(ScalarOrVectorOf(Float)), Of(Argument))),
-    ),
-    (
-        "sinh",
-        Only(Takes(One(ScalarOrVectorOf(Float)), Of(Argument))),
-    ),
-    (
-        "smoothstep",
-        Only(Takes(Three(ScalarOrVectorOf(Float), Any, Any), Of(CommonOfThree))),
-    ),
-    (
-        "sqrt",
-        Only(Takes(One(ScalarOrVectorOf(Float)), Of(Argument))),
-    ),
-    (
-        "step",
-        Only(Takes(Two(ScalarOrVectorOf(Float), Any), Of(Common))),
-    ),
-    ("storageBarrier", Only(Takes(Nothing, NoValue))),
-    (
-        "subgroupAdd",
-        Only(Takes(One(ScalarOrVectorOf(Number)), Concrete(Argument))),
-    ),
-    (
-        "subgroupAll",
-        Only(Takes(One(ScalarOf(Boolean)), Of(The(Bool)))),
-    ),
-    (
-        "subgroupAnd",
-        Only(Takes(One(ScalarOrVectorOf(Integer)), Concrete(Argument))),
-    ),
-    (
-        "subgroupAny",
-        Only(Takes(One(ScalarOf(Boolean)), Of(The(Bool)))),
-    ),
+    ("sin", FLOAT_FUNCTION),
+    ("sinh", FLOAT_FUNCTION),
+    ("smoothstep", FLOAT_TRIPLE),
+    ("sqrt", FLOAT_FUNCTION),
+    ("step", FLOAT_PAIR),
+    ("storageBarrier", BARE_STATEMENT),
+    ("subgroupAdd", SUBGROUP_NUMBER),
+    ("subgroupAll", VOTE),
+    ("subgroupAnd", BIT_FUNCTION),
+    ("subgroupAny", VOTE),
     (
         "subgroupBallot",
         Either(
@@ -496,91 +328,25 @@ static BUILT_INS: [(&str, Rows); 155] = [
             Takes(Nothing, InVector(4, The(U32))),
         ),
     ),
-    (
-        "subgroupBroadcast",
-        Only(Takes(
-            Two(ScalarOrVectorOf(Number), ScalarOf(Integer)),
-            Concrete(Argument),
-        )),
-    ),
-    (
-        "subgroupBroadcastFirst",
-        Only(Takes(One(ScalarOrVectorOf(Number)), Concrete(Argument))),
-    ),
+    ("subgroupBroadcast", SHUFFLE),
+    ("subgroupBroadcastFirst", SUBGROUP_NUMBER),
     ("subgroupElect", Only(Takes(Nothing, Of(The(Bool))))),
-    (
-        "subgroupExclusiveAdd",
-        Only(Takes(One(ScalarOrVectorOf(Number)), Concrete(Argument))),
-    ),
-    (
-        "subgroupExclusiveMul",
-        Only(Takes(One(ScalarOrVectorOf(Number)), Concrete(Argument))),
-    ),
-    (
-        "subgroupInclusiveAdd",
-        Only(Takes(One(ScalarOrVectorOf(Number)), Concrete(Argument))),
-    ),
-    (
-        "subgroupInclusiveMul",
-        Only(Takes(One(ScalarOrVectorOf(Number)), Concrete(Argument))),
-    ),
-    (
-        "subgroupMax",
-        Only(Takes(One(ScalarOrVectorOf(Number)), Concrete(Argument))),
-    ),
-    (
-        "subgroupMin",
-        Only(Takes(One(ScalarOrVectorOf(Number)), Concrete(Argument))),
-    ),
-    (
-        "subgroupMul",
-        Only(Takes(One(ScalarOrVectorOf(Number)), Concrete(Argument))),
-    ),
-    (
-        "subgroupOr",
-        Only(Takes(One(ScalarOrVectorOf(Integer)), Concrete(Argument))),
-    ),
-    (
-        "subgroupShuffle",
-        Only(Takes(
-            Two(ScalarOrVectorOf(Number), ScalarOf(Integer)),
-            Concrete(Argument),
-        )),
-    ),
-    (
-        "subgroupShuffleDown",
-        Only(Takes(
-            Two(ScalarOrVectorOf(Number), ScalarOf(Integer)),
-            Concrete(Argument),
-        )),
-    ),
-    (
-        "subgroupShuffleUp",
-        Only(Takes(
-            Two(ScalarOrVectorOf(Number), ScalarOf(Integer)),
-            Concrete(Argument),
-        )),
-    ),
-    (
-        "subgroupShuffleXor",
-        Only(Takes(
-            Two(ScalarOrVectorOf(Number), ScalarOf(Integer)),
-            Concrete(Argument),
-        )),
-    ),
-    (
-        "subgroupXor",
-        Only(Takes(One(ScalarOrVectorOf(Integer)), Concrete(Argument))),
-    ),
-    (
-        "tan",
-        Only(Takes(One(ScalarOrVectorOf(Float)), Of(Argument))),
-    ),
-    (
-        "tanh",
-        Only(Takes(One(ScalarOrVectorOf(Float)), Of(Argument))),
-    ),
-    ("textureBarrier", Only(Takes(Nothing, NoValue))),
+    ("subgroupExclusiveAdd", SUBGROUP_NUMBER),
+    ("subgroupExclusiveMul", SUBGROUP_NUMBER),
+    ("subgroupInclusiveAdd", SUBGROUP_NUMBER),
+    ("subgroupInclusiveMul", SUBGROUP_NUMBER),
+    ("subgroupMax", SUBGROUP_NUMBER),
+    ("subgroupMin", SUBGROUP_NUMBER),
+    ("subgroupMul", SUBGROUP_NUMBER),
+    ("subgroupOr", BIT_FUNCTION),
+    ("subgroupShuffle", SHUFFLE),
+    ("subgroupShuffleDown", SHUFFLE),
+    ("subgroupShuffleUp", SHUFFLE),
+    ("subgroupShuffleXor", SHUFFLE),
+    ("subgroupXor", BIT_FUNCTION),
+    ("tan", FLOAT_FUNCTION),
+    ("tanh", FLOAT_FUNCTION),
+    ("textureBarrier", BARE_STATEMENT),
     (
         "textureDimensions",
         Either(
@@ -618,69 +384,27 @@ static BUILT_INS: [(&str, Rows); 155] = [
         "textureNumSamples",
         Only(Takes(One(TextureOf(Multisampled)), Of(The(U32)))),
     ),
-    (
-        "textureSample",
-        Either(
-            TakesAndMore(One(TextureOf(Sampled)), InVector(4, The(F32))),
-            TakesAndMore(One(TextureOf(Depth)), Of(The(F32))),
-        ),
-    ),
+    ("textureSample", SAMPLE),
     (
         "textureSampleBaseClampToEdge",
         Only(TakesAndMore(One(TextureOf(Sampled2dOrExternal)), InVector(4, The(F32)))),
     ),
-    (
-        "textureSampleBias",
-        Only(TakesAndMore(One(TextureOf(Sampled)), InVector(4, The(F32)))),
-    ),
-    (
-        "textureSampleCompare",
-        Only(TakesAndMore(One(TextureOf(Depth)), Of(The(F32)))),
-    ),
-    (
-        "textureSampleCompareLevel",
-        Only(TakesAndMore(One(TextureOf(Depth)), Of(The(F32)))),
-    ),
-    (
-        "textureSampleGrad",
-        Only(TakesAndMore(One(TextureOf(Sampled)), InVector(4, The(F32)))),
-    ),
-    (
-        "textureSampleLevel",
-        Either(
-            TakesAndMore(One(TextureOf(Sampled)), InVector(4, The(F32))),
-            TakesAndMore(One(TextureOf(Depth)), Of(The(F32))),
-        ),
-    ),
+    ("textureSampleBias", SAMPLE_COLOR),
+    ("textureSampleCompare", COMPARE_DEPTH),
+    ("textureSampleCompareLevel", COMPARE_DEPTH),
+    ("textureSampleGrad", SAMPLE_COLOR),
+    ("textureSampleLevel", SAMPLE),
     (
         "textureStore",
         Only(TakesAndMore(One(TextureOf(Storage)), NoValue)),
     ),
     ("transpose", Only(Takes(One(Matrix), Transposed))),
-    (
-        "trunc",
-        Only(Takes(One(ScalarOrVectorOf(Float)), Of(Argument))),
-    ),
-    (
-        "unpack2x16float",
-        Only(Takes(One(To(U32)), InVector(2, The(F32)))),
-    ),
-    (
-        "unpack2x16snorm",
-        Only(Takes(One(To(U32)), InVector(2, The(F32)))),
-    ),
-    (
-        "unpack2x16unorm",
-        Only(Takes(One(To(U32)), InVector(2, The(F32)))),
-    ),
-    (
-        "unpack4x8snorm",
-        Only(Takes(One(To(U32)), InVector(4, The(F32)))),
-    ),
-    (
-        "unpack4x8unorm",
-        Only(Takes(One(To(U32)), InVector(4, The(F32)))),
-    ),
+    ("trunc", FLOAT_FUNCTION),
+    ("unpack2x16float", UNPACK_TWO),
+    ("unpack2x16snorm", UNPACK_TWO),
+    ("unpack2x16unorm", UNPACK_TWO),
+    ("unpack4x8snorm", UNPACK_FOUR),
+    ("unpack4x8unorm", UNPACK_FOUR),
     (
         "unpack4xI8",
         Only(Takes(One(To(U32)), InVector(4, The(I32)))),
@@ -689,7 +413,7 @@ static BUILT_INS: [(&str, Rows); 155] = [
         "unpack4xU8",
         Only(Takes(One(To(U32)), InVector(4, The(U32)))),
     ),
-    ("workgroupBarrier", Only(Takes(Nothing, NoValue))),
+    ("workgroupBarrier", BARE_STATEMENT),
     (
         "workgroupUniformLoad",
         Only(Takes(One(PointerInWorkgroup), Of(Inner))),
