@@ -1,6 +1,5 @@
 -- Shapes and arguments, side by side.
-use Rattle.std.proofs.Common.{◌≡◌, ℕ, suc, ◌+◌, ◌<◌, ◌≤◌, List, [], ◌∷◌, drop, length, get_or, map, Bool, true, false, Option, Some, None, is_some, option_map, refl, sym, ap, ◌∙◌, subst, arith, drop-cons, add-one, true≢false, ◌↔◌, IsTrue, nat_eq, drop_of_length-le, length-drop}
-use Rattle.std.specs.Cmp.{unsigned_Decides}
+use Rattle.std.proofs.Common.{◌≡◌, ℕ, ◌+◌, ◌<◌, ◌≤◌, List, [], ◌∷◌, drop, length, get_or, map, Bool, true, Option, Some, None, is_some, option_map, refl, sym, ◌∙◌, subst, arith, drop-cons, add-one, ◌↔◌, IsTrue, drop_of_length-le}
 use Rattle.std.proofs.lemmas.List.{length-map}
 use Rattle.wgsl_rules.specs.Types.{WgslType}
 use Rattle.wgsl_rules.specs.CallShapes as shapes

@@ -1,5 +1,5 @@
 -- A call by its name: what it answers, the choice that this is, and that it takes no memory.
-use Rattle.std.proofs.Common.{◌≡◌, List, [], Option, Some, None, Result, Ok, Err, refl, sym, subst, option_map}
+use Rattle.std.proofs.Common.{◌≡◌, List, [], Option, Some, None, Result, Ok, Err, refl, subst, option_map}
 use Rattle.wgsl_rules.specs.Types.{WgslType}
 use Rattle.wgsl_rules.specs.Signatures.{Parameter, Signature}
 use Rattle.wgsl_rules.specs.Refusals.{Refusal, signature}

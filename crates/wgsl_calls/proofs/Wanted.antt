@@ -1,5 +1,5 @@
 -- Where want of memory may stand for an answer.
-use Rattle.std.proofs.Common.{◌≡◌, ◌≢◌, List, [], ◌∷◌, Option, Some, None, Result, Ok, Err, inl, inr, refl, sym, ap, subst, ◌∙◌, option_map, Bool, true, false, cond}
+use Rattle.std.proofs.Common.{◌≡◌, List, [], ◌∷◌, Option, None, Result, Ok, Err, inl, inr, refl, sym, subst, Bool, true, false, cond}
 use Rattle.wgsl_syntax.specs.declared.scalar.Scalar.TheVariants.{F32}
 use Rattle.wgsl_rules.specs.Types.{Layer, array_of, vec_of, mat_of, WgslType, scalar, within}
 use Rattle.wgsl_rules.specs.Kinds.{IsFlat}
@@ -12,12 +12,10 @@ use Rattle.wgsl_rules.specs.Signatures.{Parameter, Signature}
 use Rattle.wgsl_rules.specs.Refusals.{Refusal, signature}
 use Rattle.wgsl_rules.specs.CallRows.{Row, Fits, outcome_of, IsFromTemplate, IsOutcome}
 use Rattle.wgsl_rules.specs.Calls.{IsAnswerOf}
-use Rattle.wgsl_core.specs.View.{view}
-use Rattle.wgsl_core.specs.Outcome.{refusal}
 use Rattle.wgsl_core.specs.declared.ty.Type.{«Type»}
 use Rattle.wgsl_core.specs.declared.error.Fail.{Fail}
 use Rattle.wgsl_core.specs.declared.error.Fail.TheVariants as fails
-use Rattle.wgsl_calls.specs.Answers.{MayWant, IsMet, Answered}
+use Rattle.wgsl_calls.specs.Answers.{IsMet, Answered}
 
 abbrev Answer : Type 0
 Answer = Result (Option WgslType) Refusal

@@ -3,7 +3,7 @@ use Rattle.std.proofs.Common.{◌≡◌, ℕ, List, [], ◌∷◌, Option, None,
 use Rattle.wgsl_syntax.specs.declared.scalar.Scalar.{Scalar}
 use Rattle.wgsl_syntax.specs.declared.scalar.Scalar.TheVariants.{Bool}
 use Rattle.wgsl_rules.specs.Types.{vec_of, WgslType, scalar, within, vec}
-use Rattle.wgsl_rules.specs.Kinds.{IsNumeric, IsNumericOrVector, IsScalarOrVector, IsVector}
+use Rattle.wgsl_rules.specs.Kinds.{IsNumeric, IsNumericOrVector, IsVector}
 use Rattle.wgsl_rules.specs.Conversion.{IsValueType}
 use Rattle.wgsl_rules.specs.Common.{IsCommon, IsLeftCommon}
 use Rattle.wgsl_rules.specs.Parts.{inner_of}
@@ -25,7 +25,6 @@ abbrev call : List ℕ → Option (List Parameter) → List WgslType → Signatu
 call name template arguments = record { name = name; template = template; arguments = arguments }
 
 -- The rows of the five, by computation.
-
 
 rows_of_min : rows_named (codes "min") call_table ≡ takes (scalar_or_vector_of number ∷ any ∷ []) (of common) ∷ []
 unfolding call_table
@@ -262,9 +261,11 @@ chosen : (n : Name) → IsCallName n → (ts : List WgslType) → All IsValueTyp
     IsChosenCall n (call (name_of n) None ts) a
 chosen n h ts v (Ok (Some t)) k r = (call_row_is_choice n h ts v).chosen t r
 chosen n h ts v (Ok None) k r = absurd r
-chosen n h ts v (Err e) k r =
-    (r, (call_row_is_choice n h ts v).refused
-      (λ t q. absurd (cc (answer_once (rows_named (name_of n) call_table) (call (name_of n) None ts) (Err e) (Ok (Some t)) refl k (row_answers q)))))
+chosen n h ts v (Err e) k r = (
+  r,
+  (call_row_is_choice n h ts v).refused
+      (λ t q. absurd (cc (answer_once (rows_named (name_of n) call_table) (call (name_of n) None ts) (Err e) (Ok (Some t)) refl k (row_answers q)))),
+)
 
 -- What a call answers is the result of the choice.
 pub call_is_least : (c : Signature) (a : Answer) → IsCallAnswer c a → IsLeastAnswer c a

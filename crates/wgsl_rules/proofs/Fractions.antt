@@ -50,6 +50,7 @@ its_precision precision.F32 = refl
 its_precision precision.F16 = refl
 
 pub one_fraction : (s r : ResultShape) (p q : ResultPrecision) → shaped s (scalar (float_of p)) ≡ shaped r (scalar (float_of q)) → (s ≡ r) × (p ≡ q)
-one_fraction s r p q e =
-    (sym (its_shape s (float_of p)) ∙ (ap (λ t. shape_at (components t)) e ∙ its_shape r (float_of q)),
-     sym (its_precision p) ∙ (ap precision_at (sym (its_component s (float_of p)) ∙ (ap component e ∙ its_component r (float_of q))) ∙ its_precision q))
+one_fraction s r p q e = (
+  sym (its_shape s (float_of p)) ∙ (ap (λ t. shape_at (components t)) e ∙ its_shape r (float_of q)),
+  sym (its_precision p) ∙ (ap precision_at (sym (its_component s (float_of p)) ∙ (ap component e ∙ its_component r (float_of q))) ∙ its_precision q),
+)

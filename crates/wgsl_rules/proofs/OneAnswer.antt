@@ -1,17 +1,15 @@
 -- A call without a template has one answer.
-use Rattle.std.proofs.Common.{◌≡◌, List, [], ◌∷◌, Option, None, Some, Result, Ok, Err, inl, inr, refl, sym, ap, subst, ◌∙◌, option_map}
+use Rattle.std.proofs.Common.{◌≡◌, List, [], ◌∷◌, Option, None, Some, Result, inl, inr, refl, sym, ap, subst, ◌∙◌, option_map}
 use Rattle.std.specs.Option.{option_and_then}
 use Rattle.wgsl_syntax.specs.declared.result_struct.ResultFunction.{ResultFunction}
-use Rattle.wgsl_syntax.specs.declared.result_struct.ResultShape.{ResultShape}
-use Rattle.wgsl_syntax.specs.declared.result_struct.ResultPrecision.{ResultPrecision}
-use Rattle.wgsl_rules.specs.Types.{WgslType, vec, scalar}
+use Rattle.wgsl_rules.specs.Types.{WgslType, vec}
 use Rattle.wgsl_rules.specs.Parts.{inner_of}
 use Rattle.wgsl_rules.specs.Concrete.{concretized}
-use Rattle.wgsl_rules.specs.ResultStructs.{shaped, float_of, result_struct}
+use Rattle.wgsl_rules.specs.ResultStructs.{result_struct}
 use Rattle.wgsl_rules.specs.Signatures.{Signature}
 use Rattle.wgsl_rules.specs.Refusals.{Refusal}
 use Rattle.wgsl_rules.specs.CallResults.{IsResultOf}
-use Rattle.wgsl_rules.specs.CallRows.{Part, argument, inner, inner_of_inner, common, inner_of_common, common_of_three, common_of_inner, the, sampled_as, channel, Outcome, of, concrete, as_long, in_vector, transposed, texture_size, result_of, exchange_result, ray_intersection, hit_positions, no_value, by_template, Row, outcome_of, Fits, first, second, third, IsCommonOf, IsPart, vector_like, IsResultFor, given, IsFromTemplate, IsOutcome}
+use Rattle.wgsl_rules.specs.CallRows.{Part, argument, inner, inner_of_inner, common, inner_of_common, common_of_three, common_of_inner, the, sampled_as, channel, Outcome, of, concrete, as_long, in_vector, transposed, texture_size, result_of, exchange_result, ray_intersection, hit_positions, no_value, by_template, Row, outcome_of, first, second, third, IsCommonOf, IsPart, vector_like, IsResultFor, given, IsFromTemplate, IsOutcome}
 use Rattle.wgsl_rules.specs.Calls.{IsAnswerOf}
 use Rattle.wgsl_rules.proofs.Commons.{common_once}
 use Rattle.wgsl_rules.proofs.Fractions.{one_fraction}

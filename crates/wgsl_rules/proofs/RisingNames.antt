@@ -54,7 +54,6 @@ rises_far (x ∷ ns) h (suc i) (suc j) l b = rises_far ns (tail x ns h) i j (ome
 pub names_rise : IsRising call_names
 names_rise = rises_far call_names computed
 
-
 pub names_many : length call_names ≡ 155
 unfolding call_names
 names_many = refl
@@ -95,8 +94,8 @@ rise i j l b = names_rise i j l (omega (arith, names_many))
 pub below_step : (x : List ℕ) (low m : ℕ) → ((k : ℕ) → k < low → order x (name_at call_names k) ≡ Greater) → m < 155 → order x (name_at call_names m) ≡ Greater → (k : ℕ) → k < m + 1 → order x (name_at call_names k) ≡ Greater
 below_step x low m below b h =
     below_more (λ k. order x (name_at call_names k) ≡ Greater) m
-      (λ k l. flip_less (name_at call_names k) x (nat_list_cmp_total.trans (name_at call_names k) (name_at call_names m) x (rise k m l b) (flip_greater x (name_at call_names m) h)))
-      h
+    (λ k l. flip_less (name_at call_names k) x (nat_list_cmp_total.trans (name_at call_names k) (name_at call_names m) x (rise k m l b) (flip_greater x (name_at call_names m) h)))
+    h
 
 above_at : (x : List ℕ) (m k : ℕ) → order x (name_at call_names m) ≡ Less → k < 155 → (m ≡ k) ⊎ (m < k) → order x (name_at call_names k) ≡ Less
 above_at x m k h b (inl e) = subst (λ j. order x (name_at call_names j) ≡ Less) e h
@@ -123,9 +122,10 @@ swap_cases (inl a) = inr a
 swap_cases (inr b) = inl b
 
 pub found : (x : List ℕ) (m : ℕ) → m < 155 → order x (name_at call_names m) ≡ Equal → (i : ℕ) → (Some m ≡ Some i) ↔ IsNameAt call_names i x
-found x m b h i =
-    (λ e. let p : m ≡ i = cc in subst (λ j. IsNameAt call_names j x) p (omega (arith, names_many), sym (same x (name_at call_names m) h)),
-     λ n. ap Some (places m i b (omega (arith, names_many, n.0)) (sym (same x (name_at call_names m) h) ∙ sym n.1) (split m i)))
+found x m b h i = (
+  λ e. let p : m ≡ i = cc in subst (λ j. IsNameAt call_names j x) p (omega (arith, names_many), sym (same x (name_at call_names m) h)),
+  λ n. ap Some (places m i b (omega (arith, names_many, n.0)) (sym (same x (name_at call_names m) h) ∙ sym n.1) (split m i)),
+)
   where
     split : (i j : ℕ) → (i ≤ j) ⊎ (j < i)
     split i j = swap_cases (cases_lt j i)

@@ -1,13 +1,12 @@
 -- What is not the name of a built-in function has no rows.
-use Rattle.std.proofs.Common.{ℕ, suc, zero, ◌≡◌, ◌<◌, ◌+◌, ◌&&◌, ◌||◌, List, [], ◌∷◌, length, get_or, map, Bool, true, false, if◌then◌else◌, refl, sym, ap, ◌∙◌, subst, arith, true≢false, bytes_eq, Option, None, Some, ◌↔◌}
+use Rattle.std.proofs.Common.{ℕ, suc, ◌≡◌, ◌<◌, ◌&&◌, ◌||◌, List, [], ◌∷◌, length, get_or, map, Bool, true, false, refl, sym, ap, ◌∙◌, arith, true≢false, bytes_eq}
 use Rattle.std.specs.List.{list_any, list_all}
 use Rattle.std.proofs.lemmas.Slice.Eq.{bytes_eq-Decides}
 use Rattle.std.proofs.lemmas.List as lists
 use Rattle.std.proofs.lemmas.List.{length-map}
-use Rattle.wgsl_rules.specs.CallNames.{IsNameAt, name_at, call_names}
+use Rattle.wgsl_rules.specs.CallNames.{IsNameAt, call_names}
 use Rattle.wgsl_rules.specs.CallRows.{Row}
 use Rattle.wgsl_rules.specs.CallTable.{call_table, Line, rows_named}
-
 
 either : (a b : Bool) → a ≡ false → b ≡ false → (a || b) ≡ false
 either true b h k = absurd (true≢false h)
@@ -27,8 +26,8 @@ unlisted : (ns : List (List ℕ)) (name : List ℕ) → ((i : ℕ) → IsNameAt 
 unlisted [] name h = refl
 unlisted (n ∷ ns) name h =
     either (bytes_eq name n) (list_any (bytes_eq name) ns)
-      (never (bytes_eq name n) (λ e. h 0 (omega arith, sym ((bytes_eq-Decides name n).0 e))))
-      (unlisted ns name (λ i p. h (suc i) (omega (arith, p.0), p.1)))
+    (never (bytes_eq name n) (λ e. h 0 (omega arith, sym ((bytes_eq-Decides name n).0 e))))
+    (unlisted ns name (λ i p. h (suc i) (omega (arith, p.0), p.1)))
 
 abbrev is_known : List ℕ → Bool
 is_known w = list_any (bytes_eq w) call_names
@@ -38,8 +37,8 @@ no_word [] name h k = refl
 no_word (w ∷ ws) name h k =
     let p = both (is_known w) (list_all is_known ws) k in
     either (bytes_eq name w) (list_any (bytes_eq name) ws)
-      (never (bytes_eq name w) (λ e. true≢false (sym p.0 ∙ (ap is_known (sym ((bytes_eq-Decides name w).0 e)) ∙ h))))
-      (no_word ws name h p.1)
+    (never (bytes_eq name w) (λ e. true≢false (sym p.0 ∙ (ap is_known (sym ((bytes_eq-Decides name w).0 e)) ∙ h))))
+    (no_word ws name h p.1)
 
 abbrev all_known : List Line → Bool
 all_known ls = list_all (λ l. list_all is_known l.names) ls

@@ -1,5 +1,5 @@
 -- What the built-in functions ask of an argument (WGSL, "Built-in Functions").
-use Rattle.std.specs.Prelude.{◌≡◌, ◌⊎◌, ℕ}
+use Rattle.std.specs.Prelude.{◌≡◌, ◌⊎◌}
 use Rattle.wgsl_syntax.specs.declared.scalar.Scalar.{Scalar}
 use Rattle.wgsl_syntax.specs.declared.scalar.Scalar.TheVariants.{Bool, AbstractInt, AbstractFloat, I32, U32, F32}
 use Rattle.wgsl_syntax.specs.declared.address.AddressSpace.TheVariants.{Function, Workgroup}

@@ -1,9 +1,5 @@
-use Rattle.std.proofs.Common.{ℕ, ◌≡◌, ◌≤◌, ◌<◌, ◌+◌, ◌-◌, ◌*◌, ◌/◌, ◌^◌, ap, subst, sym, ◌∙◌, arith, List, Bor}
-use Rattle.std.specs.Cmp.Lexicographic.{slice_cmp}
-use Rattle.std.specs.Ordering.{nat_cmp}
+use Rattle.std.proofs.Common.{ℕ, ◌∙◌, arith, List, Bor}
 use Rattle.wgsl_calls.specs.declared.rows.Rows.{Rows}
-use Rattle.wgsl_rules.specs.CallNames.{name_at}
-use Rattle.wgsl_rules.specs.CallNames.{call_names}
 use Rattle.wgsl_rules.proofs.RisingNames.{found, not_found, few, halved, at_name, below_step, above_step}
 use Rattle.wgsl_calls.proofs.find.find_call.Goals as goal
 

@@ -1,4 +1,4 @@
-use Rattle.std.proofs.Common.{◌≡◌, ◌<◌, ℕ, Some, None, sym, arith, List, Bor}
+use Rattle.std.proofs.Common.{ℕ, sym, arith, List, Bor}
 use Rattle.wgsl_rules.specs.CallNames.{IsNameAt, call_names}
 use Rattle.wgsl_rules.specs.CallRows.{Row}
 use Rattle.wgsl_rules.proofs.RisingNames.{names_many}
