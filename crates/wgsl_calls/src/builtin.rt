@@ -1,8 +1,8 @@
 // The types of expressions, by the operator.
-ghost use Rattle.std.specs.Prelude.{[], ◌∷◌, option_map};
+ghost use Rattle.std.specs.Prelude.{[], ◌∷◌, All, map, option_map};
 ghost use Rattle.wgsl_rules.specs.Kinds.{IsScalar};
 ghost use Rattle.wgsl_rules.specs.Conversion.{IsValueType};
-ghost use Rattle.wgsl_rules.specs.Candidates.{operator as of_operator};
+ghost use Rattle.wgsl_rules.specs.Candidates.{Name, operator as of_operator};
 ghost use Rattle.wgsl_rules.specs.Laws.{OneChoice};
 ghost use Rattle.wgsl_rules.specs.OperatorAnswers.{IsOperatorAnswer, IsChosenResult, IsUnaryAnswer};
 ghost use Rattle.wgsl_rules.specs.Calls.{IsCallAnswer, IsLeastAnswer, IsFlatCall};
@@ -70,7 +70,7 @@ pub fn type_binary_op(
 
 /// The type of a call of a built-in function (WGSL, "Built-in Functions"), by its name, its template where it has one, and the
 /// types of its arguments; None where it gives no value. Where no row of the table takes the call: `Signature` with all three.
-#[tactic(auto, using(crate::proofs::Named::row_answered, crate::proofs::Named::least_answered, crate::proofs::Named::flat_answered))]
+#[tactic(auto, using(crate::proofs::Named::row_answered, crate::proofs::Named::least_answered))]
 pub fn type_builtin_fn(
     alloc: Global,
     name: &str,
@@ -79,6 +79,7 @@ pub fn type_builtin_fn(
 ) -> Result<Option<Type>, Fail>
     ensures row { AnswersAs (option_map view) (IsCallAnswer (call_view name.now template.entry args.now)) result }
     ensures least { AnswersAs (option_map view) (IsLeastAnswer (call_view name.now template.entry args.now)) result }
+    ensures one_choice { (n : Name) → All IsValueType (map view args.now) → OneChoice n (map view args.now) }
     ensures takes_no_memory { IsFlatCall (call_view name.now template.entry args.now) → IsAnswered result }
 {
     answer(

@@ -113,8 +113,8 @@ impl Type {
         }
     }
 
-    /// The type that an array, a vector, a matrix, an atomic, a pointer, a reference or a binding array is of; else the type
-    /// itself.
+    /// The type inside: what an array, a vector, a matrix, an atomic, a pointer, a reference or a binding array is of, and
+    /// of all else the type itself.
     pub fn inner(&self) -> &Type
         ensures { view result.now ≡ inner_of (view self.now) }
     {
