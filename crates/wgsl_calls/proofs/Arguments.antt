@@ -1,5 +1,5 @@
 -- Arguments one after another, and the members of a struct beside them.
-use Rattle.std.proofs.Common.{rules, Bool, true, false, true≢false, IsTrue, ◌↔◌, ◌≡◌, ℕ, ◌+◌, ◌<◌, ◌≤◌, suc, List, [], ◌∷◌, length, drop, drop-cons, add-one, map, slice_index_or, All, Option, Some, None, option_map, refl, sym, ap, subst, ◌∙◌, inl, inr}
+use Rattle.std.proofs.Common.{Bool, true, false, true≢false, IsTrue, ◌↔◌, ◌≡◌, ℕ, ◌+◌, ◌<◌, ◌≤◌, suc, List, [], ◌∷◌, length, drop, drop-cons, add-one, map, slice_index_or, All, Option, Some, None, option_map, refl, sym, ap, subst, ◌∙◌, inl, inr}
 use Rattle.std.proofs.lemmas.List.{drop_all, get_or-map, length-map}
 use Rattle.std.proofs.lemmas.List.Elements.{All-cons}
 use Rattle.wgsl_rules.specs.Types.{WgslType, Members, no_members, member}

@@ -1,17 +1,15 @@
 -- What is made of one argument and of several, as the answers of the calls below it say.
-use Rattle.std.proofs.Common.{rules, string_bytes, ◌≡◌, ◌≢◌, ℕ, ◌≤◌, ◌⊎◌, List, [], ◌∷◌, length, map, Option, Some, None, Result, Ok, Err, All, refl, sym, ap, subst, ◌∙◌, inl, inr}
+use Rattle.std.proofs.Common.{string_bytes, ◌≡◌, ◌≢◌, ℕ, ◌≤◌, List, [], ◌∷◌, length, map, Option, Some, Result, Ok, Err, refl, sym, ap, subst, ◌∙◌, inl, inr}
 use native.Mathlib.Omega.{arith}
 use Rattle.std.proofs.lemmas.List.{length-map}
 use Rattle.wgsl_rules.specs.Types.{WgslType, scalar, array, vec, mat, Members, struct, atomic, pointer, reference, texture, sampler, binding_array, ray_query, acceleration_structure}
 use Rattle.wgsl_syntax.specs.declared.scalar.Scalar.{Scalar}
-use Rattle.wgsl_rules.specs.Kinds.{IsScalarOrVector, IsMatrix}
+use Rattle.wgsl_rules.specs.Kinds.{IsMatrix}
 use Rattle.wgsl_rules.specs.Conversion.{ConvertsTo}
 use Rattle.wgsl_rules.specs.Common.{IsLeftCommon}
-use Rattle.wgsl_rules.specs.Parts.{inner_of}
 use Rattle.wgsl_rules.specs.Refusals.{Refusal, conversion, param_count, param_type}
-use Rattle.wgsl_rules.specs.ConstructorSteps.{ThenCommon}
 use Rattle.wgsl_rules.specs.VectorConstructors.{IsTypedVectorOfOne, IsTypedVectorOfSeveral, IsTypedVector, IsUntypedVectorOfSeveral, IsUntypedVector}
-use Rattle.wgsl_rules.specs.MatrixConstructors.{incompatible_matrix, IsTypedMatrixOf, IsTypedMatrixOfOne, IsTypedMatrix, IsUntypedMatrixOf, IsUntypedMatrixOfOne, IsUntypedMatrix}
+use Rattle.wgsl_rules.specs.MatrixConstructors.{IsTypedMatrixOf, IsTypedMatrixOfOne, IsTypedMatrix, IsUntypedMatrixOf, IsUntypedMatrixOfOne, IsUntypedMatrix}
 use Rattle.wgsl_rules.specs.Signatures.{Signature}
 use Rattle.wgsl_rules.specs.Constructors.{Constructor, constructor_of, IsBuilt, IsConstructorAnswer, IsTypedArray, IsFilled, IsStructCall, member_count, AllFit, IsFirstMisfit}
 use Rattle.wgsl_core.specs.View.{view, members_view, struct_view}
@@ -19,7 +17,7 @@ use Rattle.wgsl_core.proofs.Recognition.{view-struct}
 use Rattle.wgsl_core.specs.declared.ty.StructType.{StructType, out-StructType}
 use Rattle.wgsl_calls.proofs.Arguments.{count_of_members, misfit_is_no_fit}
 use Rattle.wgsl_core.specs.Parts.{IsNoOperand}
-use Rattle.wgsl_core.specs.Outcome.{AnswersAs, refusal}
+use Rattle.wgsl_core.specs.Outcome.{AnswersAs}
 use Rattle.wgsl_core.specs.declared.ty.Type.{«Type»}
 use Rattle.wgsl_core.specs.declared.error.Fail.{Fail}
 use Rattle.wgsl_core.specs.declared.error.Fail.TheVariants as fails

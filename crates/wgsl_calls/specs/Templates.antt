@@ -1,6 +1,6 @@
 -- What the templates stand for: the type that each makes, or the type that it is of.
 use Rattle.wgsl_syntax.specs.declared.texture.TextureType.{TextureType}
-use Rattle.wgsl_rules.specs.Types.{WgslType, atomic, pointer, binding_array, array}
+use Rattle.wgsl_rules.specs.Types.{WgslType, pointer, binding_array, array}
 use Rattle.wgsl_core.specs.View.{view}
 use Rattle.wgsl_calls.specs.declared.tplt.ArrayTemplate.{ArrayTemplate}
 use Rattle.wgsl_calls.specs.declared.tplt.BindingArrayTemplate.{BindingArrayTemplate}

@@ -1,15 +1,22 @@
-// The types of expressions, by the operator.
-ghost use Rattle.std.specs.Prelude.{[], ◌∷◌};
+// The types of expressions: by the operator, and by the name of a built-in function.
+ghost use Rattle.std.specs.Prelude.{[], ◌∷◌, All, map, option_map};
 ghost use Rattle.wgsl_rules.specs.Kinds.{IsScalar};
 ghost use Rattle.wgsl_rules.specs.Conversion.{IsValueType};
-ghost use Rattle.wgsl_rules.specs.Candidates.{operator as of_operator};
+ghost use Rattle.wgsl_rules.specs.Candidates.{Name, operator as of_operator};
 ghost use Rattle.wgsl_rules.specs.Laws.{OneChoice};
 ghost use Rattle.wgsl_rules.specs.OperatorAnswers.{IsOperatorAnswer, IsChosenResult, IsUnaryAnswer};
+ghost use Rattle.wgsl_rules.specs.Calls.{IsCallAnswer, IsLeastAnswer, IsFlatCall};
 ghost use Rattle.wgsl_core.specs.View.{view};
-ghost use Rattle.wgsl_core.specs.Outcome.{AnswersBy, IsAnswered};
+ghost use Rattle.wgsl_core.specs.Instances.{call_view};
+ghost use Rattle.wgsl_core.specs.Outcome.{AnswersAs, AnswersBy, IsAnswered};
 
+use crate::call::answer;
+pub use crate::constructor::{is_ctor, type_ctor, typecheck_struct_ctor};
+pub use crate::find::find_call;
+use crate::fits::Call;
 use std::alloc::Global;
 use wgsl_core::error::Fail;
+use wgsl_core::signature::TpltParam;
 use wgsl_core::ty::Type;
 use wgsl_syntax::operator::{BinaryOperator, UnaryOperator};
 
@@ -60,4 +67,28 @@ pub fn type_binary_op(
         BinaryOperator::ShiftLeft => lhs.op_shl(alloc, rhs),
         BinaryOperator::ShiftRight => lhs.op_shr(alloc, rhs),
     }
+}
+
+/// The type of a call of a built-in function (WGSL, "Built-in Functions"), by its name, its template where it has one, and the
+/// types of its arguments; None where it gives no value. Where no row of the table takes the call: `Signature` with all three.
+#[tactic(auto, using(crate::proofs::Named::row_answered, crate::proofs::Named::least_answered))]
+pub fn type_builtin_fn(
+    alloc: Global,
+    name: &str,
+    template: Option<&[TpltParam]>,
+    args: &[Type],
+) -> Result<Option<Type>, Fail>
+    ensures row { AnswersAs (option_map view) (IsCallAnswer (call_view name.now template.entry args.now)) result }
+    ensures least { AnswersAs (option_map view) (IsLeastAnswer (call_view name.now template.entry args.now)) result }
+    ensures one_choice { (n : Name) → All IsValueType (map view args.now) → OneChoice n (map view args.now) }
+    ensures takes_no_memory { IsFlatCall (call_view name.now template.entry args.now) → IsAnswered result }
+{
+    answer(
+        alloc,
+        Call {
+            name,
+            template,
+            args,
+        },
+    )
 }

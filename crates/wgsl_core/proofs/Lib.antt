@@ -13,3 +13,4 @@ pub mod Unary
 pub mod Lists
 pub mod Inners
 pub mod Slices
+pub mod Vectors

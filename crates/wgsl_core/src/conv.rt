@@ -1,6 +1,7 @@
 // Conversion of types.
 ghost use Rattle.std.specs.Prelude.{◌≡◌, ◌≤◌, ◌↔◌, ℕ, IsTrue, IfSome, IfNone, Some, None, option_map};
 ghost use Rattle.wgsl_syntax.specs.declared.result_struct.ResultStruct.{ResultStruct as ResultName};
+ghost use Rattle.wgsl_rules.specs.Types.{scalar, vec};
 ghost use Rattle.wgsl_rules.specs.Conversion.{Converts, ConvertsIn, ConvertsTo, Load};
 ghost use Rattle.wgsl_rules.specs.Common.{IsCommon};
 ghost use Rattle.wgsl_rules.specs.Laws.{CommonSymmetric};
@@ -9,6 +10,8 @@ ghost use Rattle.wgsl_core.specs.View.{view};
 ghost use Rattle.wgsl_core.specs.Parts.{layer_of};
 ghost use Rattle.wgsl_core.specs.Places.{place_view};
 
+use crate::parts::Layer;
+use crate::results::is_vector_of;
 use crate::ty::Type;
 use wgsl_syntax::result_struct::{ResultPrecision, ResultStruct};
 use wgsl_syntax::scalar::Scalar;
@@ -42,6 +45,18 @@ impl Type {
         ensures { IsTrue result ↔ ConvertsTo (view self.now) (view ty.now) }
     {
         conversion_rank(self, ty).is_some()
+    }
+
+    /// Whether the type converts to a vector of so many components of a scalar.
+    pub fn is_convertible_to_vector(&self, components: u8, of: Scalar) -> bool
+        ensures { IsTrue result ↔ ConvertsTo (view self.now) (vec components (scalar of)) }
+    {
+        match self.layer() {
+            Some((layer, element)) => {
+                layer.is(Layer::Vec(components)) && element.is_convertible_to(&Type::from(of))
+            }
+            None => loads_vector(self, components, of),
+        }
     }
 }
 
@@ -92,6 +107,16 @@ fn loads(a: &Type, b: &Type) -> bool
 {
     match a {
         Type::Ref(_, ty, access) => access.is_read() && **ty == *b,
+        _ => false,
+    }
+}
+
+fn loads_vector(ty: &Type, components: u8, of: Scalar) -> bool
+    requires { layer_of (view ty.now) ≡ None }
+    ensures { IsTrue result ↔ ConvertsTo (view ty.now) (vec components (scalar of)) }
+{
+    match ty {
+        Type::Ref(_, target, access) => access.is_read() && is_vector_of(target, components, of),
         _ => false,
     }
 }

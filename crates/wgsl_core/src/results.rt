@@ -33,8 +33,8 @@ impl StructType {
     }
 }
 
-/// The shape and the float of a float, or of a vector of floats.
-fn shaped_float(ty: &Type) -> Option<(ResultShape, ResultPrecision)>
+/// The shape and the float of a float, or of a vector of floats, that `frexp` and `modf` take.
+pub fn shaped_float(ty: &Type) -> Option<(ResultShape, ResultPrecision)>
     ensures { result ≡ shape_in (view ty.now) }
 {
     match ty.scalar() {
@@ -121,7 +121,8 @@ fn is_second(member: &StructMemberType, result_struct: ResultStruct) -> bool
     }
 }
 
-fn float_in(precision: ResultPrecision) -> Scalar
+/// The scalar that the function takes.
+pub fn float_in(precision: ResultPrecision) -> Scalar
     ensures { result ≡ float_of precision }
 {
     match precision {
@@ -131,7 +132,8 @@ fn float_in(precision: ResultPrecision) -> Scalar
     }
 }
 
-fn exponent_in(precision: ResultPrecision) -> Scalar
+/// The scalar of the exponent that `frexp` gives.
+pub fn exponent_in(precision: ResultPrecision) -> Scalar
     ensures { result ≡ exponent_of precision }
 {
     match precision {
@@ -161,7 +163,8 @@ fn has_shape(ty: &Type, shape: ResultShape, of: Scalar) -> bool
     }
 }
 
-fn is_vector_of(ty: &Type, components: u8, of: Scalar) -> bool
+/// Whether the type is a vector of so many components of a scalar.
+pub fn is_vector_of(ty: &Type, components: u8, of: Scalar) -> bool
     ensures { IsTrue result ↔ (view ty.now ≡ vec components (scalar of)) }
 {
     match ty {

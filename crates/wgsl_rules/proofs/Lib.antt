@@ -25,3 +25,9 @@ pub mod StructSizes
 pub mod StructAligns
 pub mod Offsets
 pub mod MatrixColumns
+pub mod RisingNames
+pub mod UnlistedNames
+pub mod NamedRows
+pub mod Fractions
+pub mod OneAnswer
+pub mod ChosenCalls

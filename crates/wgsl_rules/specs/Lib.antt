@@ -25,3 +25,9 @@ pub mod MatrixConstructors
 pub mod Constructors
 pub mod Placement
 pub mod Layout
+pub mod CallShapes
+pub mod CallResults
+pub mod CallRows
+pub mod CallNames
+pub mod CallTable
+pub mod Calls

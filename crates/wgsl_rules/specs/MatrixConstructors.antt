@@ -1,5 +1,5 @@
 -- What the constructors of matrices make of their arguments (WGSL, "Value Constructor Built-in Functions").
-use Rattle.std.specs.Prelude.{ℕ, ◌*◌, List, [], ◌∷◌, ◌≡◌, ◌⊎◌, Option, Some, None, Result, Ok, Err, codes, length}
+use Rattle.std.specs.Prelude.{ℕ, ◌*◌, List, [], ◌∷◌, ◌≡◌, Option, Some, None, Result, Ok, Err, codes, length}
 use Rattle.wgsl_syntax.specs.declared.scalar.Scalar.TheVariants.{AbstractInt, F32}
 use Rattle.wgsl_rules.specs.Types.{WgslType, scalar, within, vec, mat}
 use Rattle.wgsl_rules.specs.Conversion.{ConvertsTo}

@@ -1,5 +1,5 @@
 -- What template parameters make of the name before them (WGSL, "Template Lists", and the types of "Types" that take them).
-use Rattle.std.specs.Prelude.{ℕ, zero, suc, ℤ, pos, negsuc, List, [], ◌∷◌, ◌≡◌, ◌≢◌, ◌⊎◌, Option, Some, None, Result, Ok, Err, All, codes, option_map, ok_or}
+use Rattle.std.specs.Prelude.{ℕ, zero, suc, ℤ, pos, negsuc, List, [], ◌∷◌, ◌≡◌, ◌⊎◌, Option, Some, None, Result, Ok, Err, codes, option_map, ok_or}
 use Rattle.wgsl_syntax.specs.Names.{named}
 use Rattle.wgsl_syntax.specs.declared.scalar.Scalar.TheVariants.{I32, U32, F32, I64, U64}
 use Rattle.wgsl_syntax.specs.declared.address.AddressSpace.{AddressSpace}

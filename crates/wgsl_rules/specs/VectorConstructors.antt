@@ -1,5 +1,5 @@
 -- What the constructors of vectors make of their arguments (WGSL, "Value Constructor Built-in Functions").
-use Rattle.std.specs.Prelude.{ℕ, ◌+◌, List, [], ◌∷◌, ◌≡◌, ◌⊎◌, Option, Some, None, Result, Ok, Err, All, codes, length, map}
+use Rattle.std.specs.Prelude.{ℕ, ◌+◌, List, [], ◌∷◌, ◌≡◌, Option, Some, None, Result, Ok, Err, All, codes, length, map}
 use Rattle.wgsl_syntax.specs.declared.scalar.Scalar.TheVariants.{AbstractInt}
 use Rattle.wgsl_rules.specs.Types.{WgslType, scalar, vec}
 use Rattle.wgsl_rules.specs.Kinds.{IsScalarOrVector}

@@ -1,4 +1,3 @@
-use Rattle.std.proofs.Common.{rules}
 use Rattle.wgsl_core.specs.View.{view}
 use Rattle.wgsl_calls.proofs.Constructed.{of_elements}
 use Rattle.wgsl_calls.proofs.constructor.check_elements.Goals as goal

@@ -1,4 +1,4 @@
-use Rattle.std.proofs.Common.{rules, ◌≡◌, ◌≢◌, length, map, Some, None, sym, ap, ◌∙◌, subst, string_bytes}
+use Rattle.std.proofs.Common.{◌≡◌, length, map, Some, None, sym, ap, ◌∙◌, subst, string_bytes}
 use Rattle.wgsl_rules.specs.Refusals.{param_count}
 use Rattle.wgsl_core.specs.View.{view, members_view}
 use Rattle.wgsl_core.specs.declared.ty.StructType.{out-StructType}

@@ -1,6 +1,5 @@
-use Rattle.std.proofs.Common.{rules, ◌≡◌, ◌∷◌, Option, Some, None, option_map, sym, ap, subst, ◌∙◌, refl}
-use Rattle.wgsl_rules.specs.Types.{WgslType}
-use Rattle.wgsl_rules.specs.Common.{IsCommon, IsLeftCommonFrom, IsLeftCommon}
+use Rattle.std.proofs.Common.{Some, None, sym, subst}
+use Rattle.wgsl_rules.specs.Common.{IsCommon, IsLeftCommonFrom}
 use Rattle.wgsl_core.specs.View.{view}
 use Rattle.wgsl_calls.proofs.Arguments.{inside_at, none_from, left_common_at}
 use Rattle.wgsl_calls.proofs.constructor.common_component.Goals as goal

@@ -1,4 +1,4 @@
-use Rattle.std.proofs.Common.{rules, ◌≡◌, Some, None, Err, ap, sym, ◌∙◌, map, option_map}
+use Rattle.std.proofs.Common.{◌≡◌, Some, None, Err, ap, sym, ◌∙◌, map, option_map}
 use Rattle.wgsl_rules.specs.Refusals.{signature}
 use Rattle.wgsl_rules.specs.VectorConstructors.{IsVectorCall}
 use Rattle.wgsl_rules.specs.MatrixConstructors.{IsMatrixCall}

@@ -1,4 +1,4 @@
-use Rattle.std.proofs.Common.{rules, Err, ap, ◌∙◌, inr}
+use Rattle.std.proofs.Common.{Err, ap, ◌∙◌, inr}
 use Rattle.wgsl_rules.specs.Refusals.{conversion}
 use Rattle.wgsl_core.specs.View.{view}
 use Rattle.wgsl_calls.proofs.Arguments.{fails}

@@ -1,4 +1,3 @@
-use Rattle.std.proofs.Common.{rules}
 use Rattle.wgsl_core.specs.View.{view}
 use Rattle.wgsl_calls.proofs.Arguments.{fails}
 use Rattle.wgsl_calls.proofs.Constructed.{scalar_refused}

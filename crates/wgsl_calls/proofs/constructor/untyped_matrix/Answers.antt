@@ -1,4 +1,4 @@
-use Rattle.std.proofs.Common.{rules, length, map}
+use Rattle.std.proofs.Common.{length, map}
 use Rattle.wgsl_rules.specs.MatrixConstructors.{IsUntypedMatrixOf, IsUntypedMatrix}
 use Rattle.wgsl_core.specs.View.{view}
 use Rattle.wgsl_calls.proofs.Outcomes.{answers}

@@ -1,4 +1,4 @@
-use Rattle.std.proofs.Common.{rules, subst}
+use Rattle.std.proofs.Common.{subst}
 use Rattle.wgsl_rules.specs.Kinds.{IsMatrix}
 use Rattle.wgsl_rules.specs.MatrixConstructors.{IsUntypedMatrixOf, IsUntypedMatrixOfOne}
 use Rattle.wgsl_core.specs.View.{view}

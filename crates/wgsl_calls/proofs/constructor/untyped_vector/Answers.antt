@@ -1,4 +1,4 @@
-use Rattle.std.proofs.Common.{rules, Some, None, Ok, Err, refl, ap, sym, ◌∙◌, inl, inr, map}
+use Rattle.std.proofs.Common.{Some, None, Ok, Err, refl, ap, sym, ◌∙◌, inl, inr}
 use Rattle.std.proofs.lemmas.List.{length-map}
 use Rattle.wgsl_rules.specs.Refusals.{param_count}
 use Rattle.wgsl_core.specs.View.{view}

@@ -1,0 +1,283 @@
+// Whether an argument is what a built-in function asks for.
+ghost use Rattle.std.specs.Prelude.{◌≡◌, ◌↔◌, IsTrue};
+ghost use Rattle.wgsl_rules.specs.Types.{scalar};
+ghost use Rattle.wgsl_rules.specs.Kinds.{IsScalarOrVector, IsStruct, IsAtomic};
+ghost use Rattle.wgsl_rules.specs.CallShapes.{IsOfKind, IsTextureOf, IsScalarOf, IsVectorOf, IsScalarOrVectorOf, IsSquareMatrix, IsFraction, IsTextureTypeOf, IsPointerToAtomic, IsPointerInWorkgroup, IsQuery, IsAccelerationStructure, Is};
+ghost use Rattle.wgsl_core.specs.View.{view};
+ghost use Rattle.wgsl_calls.specs.Rows.{kind_view, texture_kind_view, shape_view};
+ghost use Rattle.wgsl_calls.specs.Forms.{IsFormOf};
+
+use crate::rows::{ScalarKind, Shape, TextureKind};
+use wgsl_core::parts::Operand;
+use wgsl_core::results::shaped_float;
+use wgsl_core::ty::Type;
+use wgsl_syntax::address::{AccessMode, AddressSpace};
+use wgsl_syntax::scalar::Scalar;
+use wgsl_syntax::texture::TextureType;
+
+/// Whether the type is what the shape asks for.
+pub fn is(shape: Shape, ty: &Type) -> bool
+    ensures { IsTrue result ↔ Is (shape_view shape) (view ty.now) }
+{
+    match shape {
+        Shape::Any => true,
+        Shape::ScalarOf(kind) => is_scalar_of(kind, ty),
+        Shape::VectorOf(kind) => is_vector_of(kind, ty),
+        Shape::ScalarOrVectorOf(kind) => is_scalar_or_vector_of(kind, ty),
+        Shape::Vector => ty.is_vec(),
+        Shape::ScalarOrVector => is_scalar_or_vector(ty),
+        Shape::Matrix => ty.is_mat(),
+        Shape::SquareMatrix => is_square_matrix(ty),
+        Shape::Fraction => is_fraction(ty),
+        Shape::To(of) => ty.is_convertible_to(&Type::from(of)),
+        Shape::ToVector(n, of) => ty.is_convertible_to_vector(n, of),
+        Shape::TextureOf(kind) => is_texture_type_of(kind, ty),
+        Shape::PointerToAtomic => is_pointer_to_atomic(ty),
+        Shape::PointerInWorkgroup => is_pointer_in_workgroup(ty),
+        Shape::Query => is_query(ty),
+        Shape::Acceleration => is_acceleration_structure(ty),
+        Shape::Structure => is_struct(ty),
+    }
+}
+
+fn is_of_kind(kind: ScalarKind, scalar: Scalar) -> bool
+    ensures { IsTrue result ↔ IsOfKind (kind_view kind) scalar }
+{
+    match kind {
+        ScalarKind::Boolean => matches!(scalar, Scalar::Bool),
+        ScalarKind::Number => !matches!(scalar, Scalar::Bool),
+        ScalarKind::NumberButU32 => !matches!(scalar, Scalar::Bool | Scalar::U32),
+        ScalarKind::Integer => matches!(
+            scalar,
+            Scalar::AbstractInt | Scalar::I32 | Scalar::U32 | Scalar::I64 | Scalar::U64
+        ),
+        ScalarKind::Float => matches!(
+            scalar,
+            Scalar::AbstractFloat | Scalar::F32 | Scalar::F16 | Scalar::F64
+        ),
+        ScalarKind::Single => matches!(scalar, Scalar::AbstractFloat | Scalar::F32),
+        ScalarKind::Exponent => matches!(scalar, Scalar::AbstractInt | Scalar::I32),
+    }
+}
+
+fn is_scalar_of(kind: ScalarKind, ty: &Type) -> bool
+    ensures { IsTrue result ↔ IsScalarOf (kind_view kind) (view ty.now) }
+{
+    match ty.operand() {
+        Operand::Scalar(scalar) => is_of_kind(kind, scalar),
+        Operand::Vector(_, _) => false,
+        Operand::Matrix(_, _, _) => false,
+        Operand::Other => false,
+    }
+}
+
+fn is_vector_of(kind: ScalarKind, ty: &Type) -> bool
+    ensures { IsTrue result ↔ IsVectorOf (kind_view kind) (view ty.now) }
+{
+    match ty.operand() {
+        Operand::Scalar(_) => false,
+        Operand::Vector(_, component) => is_scalar_of(kind, component),
+        Operand::Matrix(_, _, _) => false,
+        Operand::Other => false,
+    }
+}
+
+fn is_scalar_or_vector_of(kind: ScalarKind, ty: &Type) -> bool
+    ensures { IsTrue result ↔ IsScalarOrVectorOf (kind_view kind) (view ty.now) }
+{
+    match ty.operand() {
+        Operand::Scalar(scalar) => is_of_kind(kind, scalar),
+        Operand::Vector(_, component) => is_scalar_of(kind, component),
+        Operand::Matrix(_, _, _) => false,
+        Operand::Other => false,
+    }
+}
+
+fn is_scalar_or_vector(ty: &Type) -> bool
+    ensures { IsTrue result ↔ IsScalarOrVector (view ty.now) }
+{
+    match ty.operand() {
+        Operand::Scalar(_) => true,
+        Operand::Vector(_, _) => true,
+        Operand::Matrix(_, _, _) => false,
+        Operand::Other => false,
+    }
+}
+
+fn is_square_matrix(ty: &Type) -> bool
+    ensures { IsTrue result ↔ IsSquareMatrix (view ty.now) }
+{
+    match ty.operand() {
+        Operand::Scalar(_) => false,
+        Operand::Vector(_, _) => false,
+        Operand::Matrix(columns, rows, _) => columns == rows,
+        Operand::Other => false,
+    }
+}
+
+#[tactic(auto, using(crate::proofs::Fractions::some_fraction))]
+fn is_fraction(ty: &Type) -> bool
+    ensures { IsTrue result ↔ IsFraction (view ty.now) }
+{
+    shaped_float(ty).is_some()
+}
+
+/// A type that is neither a scalar nor made of components.
+#[derive(Clone, Copy)]
+pub enum Form<'a> {
+    Texture(TextureType),
+    Pointer(AddressSpace, &'a Type, AccessMode),
+    Atomic,
+    Struct,
+    AccelerationStructure,
+    Other,
+}
+
+/// The form of a type.
+pub fn form_of(ty: &Type) -> Form<'_>
+    ensures { IsFormOf (view ty.now) result }
+{
+    match ty {
+        Type::Texture(texture) => Form::Texture(*texture),
+        Type::Ptr(space, target, access) => Form::Pointer(*space, target, *access),
+        Type::Atomic(_) => Form::Atomic,
+        Type::Struct(_) => Form::Struct,
+        Type::AccelerationStructure(_) => Form::AccelerationStructure,
+        Type::Bool
+        | Type::AbstractInt
+        | Type::AbstractFloat
+        | Type::I32
+        | Type::U32
+        | Type::F32
+        | Type::F16
+        | Type::I64
+        | Type::U64
+        | Type::F64
+        | Type::Array(_, _)
+        | Type::Vec(_, _)
+        | Type::Mat(_, _, _)
+        | Type::Ref(_, _, _)
+        | Type::Sampler(_)
+        | Type::BindingArray(_, _)
+        | Type::RayQuery(_) => Form::Other,
+    }
+}
+
+fn is_texture_of(kind: TextureKind, texture: TextureType) -> bool
+    ensures { IsTrue result ↔ IsTextureOf (texture_kind_view kind) texture }
+{
+    match kind {
+        TextureKind::AnyTexture => true,
+        TextureKind::Sampled => texture.is_sampled(),
+        TextureKind::Depth => texture.is_depth(),
+        TextureKind::Arrayed => texture.is_arrayed(),
+        TextureKind::Multisampled => texture.is_multisampled(),
+        TextureKind::Storage => texture.is_storage(),
+        TextureKind::SampledOrDepth => texture.is_sampled() || texture.is_depth(),
+        TextureKind::DepthOrMultisampledDepth => matches!(
+            texture,
+            TextureType::DepthMultisampled2D
+                | TextureType::Depth2D
+                | TextureType::Depth2DArray
+                | TextureType::DepthCube
+                | TextureType::DepthCubeArray
+        ),
+        TextureKind::Sampled2dOrExternal => matches!(
+            texture,
+            TextureType::Sampled2D(_) | TextureType::External
+        ),
+    }
+}
+
+fn is_texture_type_of(kind: TextureKind, ty: &Type) -> bool
+    ensures { IsTrue result ↔ IsTextureTypeOf (texture_kind_view kind) (view ty.now) }
+{
+    match form_of(ty) {
+        Form::Texture(texture) => is_texture_of(kind, texture),
+        Form::Pointer(_, _, _) => false,
+        Form::Atomic => false,
+        Form::Struct => false,
+        Form::AccelerationStructure => false,
+        Form::Other => false,
+    }
+}
+
+fn is_pointer_to_atomic(ty: &Type) -> bool
+    ensures { IsTrue result ↔ IsPointerToAtomic (view ty.now) }
+{
+    match form_of(ty) {
+        Form::Pointer(_, target, _) => is_atomic(target),
+        Form::Texture(_) => false,
+        Form::Atomic => false,
+        Form::Struct => false,
+        Form::AccelerationStructure => false,
+        Form::Other => false,
+    }
+}
+
+fn is_pointer_in_workgroup(ty: &Type) -> bool
+    ensures { IsTrue result ↔ IsPointerInWorkgroup (view ty.now) }
+{
+    match form_of(ty) {
+        Form::Pointer(space, _, _) => space == AddressSpace::Workgroup,
+        Form::Texture(_) => false,
+        Form::Atomic => false,
+        Form::Struct => false,
+        Form::AccelerationStructure => false,
+        Form::Other => false,
+    }
+}
+
+fn is_query(ty: &Type) -> bool
+    ensures { IsTrue result ↔ IsQuery (view ty.now) }
+{
+    match form_of(ty) {
+        Form::Pointer(space, _, access) => {
+            space == AddressSpace::Function && access == AccessMode::ReadWrite
+        }
+        Form::Texture(_) => false,
+        Form::Atomic => false,
+        Form::Struct => false,
+        Form::AccelerationStructure => false,
+        Form::Other => false,
+    }
+}
+
+fn is_atomic(ty: &Type) -> bool
+    ensures { IsTrue result ↔ IsAtomic (view ty.now) }
+{
+    match form_of(ty) {
+        Form::Atomic => true,
+        Form::Texture(_) => false,
+        Form::Pointer(_, _, _) => false,
+        Form::Struct => false,
+        Form::AccelerationStructure => false,
+        Form::Other => false,
+    }
+}
+
+fn is_struct(ty: &Type) -> bool
+    ensures { IsTrue result ↔ IsStruct (view ty.now) }
+{
+    match form_of(ty) {
+        Form::Struct => true,
+        Form::Texture(_) => false,
+        Form::Pointer(_, _, _) => false,
+        Form::Atomic => false,
+        Form::AccelerationStructure => false,
+        Form::Other => false,
+    }
+}
+
+fn is_acceleration_structure(ty: &Type) -> bool
+    ensures { IsTrue result ↔ IsAccelerationStructure (view ty.now) }
+{
+    match form_of(ty) {
+        Form::AccelerationStructure => true,
+        Form::Texture(_) => false,
+        Form::Pointer(_, _, _) => false,
+        Form::Atomic => false,
+        Form::Struct => false,
+        Form::Other => false,
+    }
+}

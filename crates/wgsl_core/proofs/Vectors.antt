@@ -1,0 +1,60 @@
+-- Conversion to a vector of a scalar.
+use Rattle.std.proofs.Common.{◌≡◌, ◌↔◌, ℕ, Bool, true, false, IsTrue, Some, None, Box, Global, inl, inr, refl, sym, ap, subst, ◌∙◌}
+use Rattle.wgsl_syntax.specs.declared.address.AddressSpace.{AddressSpace}
+use Rattle.wgsl_syntax.specs.declared.address.AccessMode.{AccessMode}
+use Rattle.wgsl_syntax.specs.Address.{MayRead}
+use Rattle.wgsl_rules.specs.Types.{Layer, vec_of, WgslType, within, reference, vec}
+use Rattle.wgsl_rules.specs.Conversion.{Load, load, Converts, ConvertsTo}
+use Rattle.wgsl_rules.proofs.Order.{along_above, above_to_within, load_readable}
+use Rattle.wgsl_rules.proofs.Equations.{converts_within}
+use Rattle.wgsl_core.specs.View.{view}
+use Rattle.wgsl_core.specs.Parts.{layer_of}
+use Rattle.wgsl_core.specs.declared.ty.Type.{«Type»}
+use Rattle.wgsl_core.specs.declared.ty.Type.TheVariants as v
+use Rattle.wgsl_core.proofs.Ranks.{no_load}
+use Rattle.wgsl_core.proofs.Views.{view-Ref}
+
+layered : (t : WgslType) (l : Layer) (e : WgslType) → layer_of t ≡ Some (l, e) → t ≡ within l e
+layered (within k f) l e h = let p : (k, f) ≡ (l, e) = cc h in ap (λ (q : Layer × WgslType). within q.0 q.1) p
+layered t l e h = absurd (cc h)
+
+false_for : {P : Type 0} (b : Bool) → b ≡ false → ¬ P → IsTrue b ↔ P
+false_for b e no_p = (λ h. absurd (cc (sym h ∙ e)), λ p. absurd (no_p p))
+
+-- what is in layers converts inside them
+pub inside_vector : (t : WgslType) (l : Layer) (e : WgslType) (n : ℕ) (u : WgslType) (a b : Bool) → layer_of t ≡ Some (l, e) → IsTrue a ↔ (l ≡ vec_of n) → a ≡ true → IsTrue b ↔ ConvertsTo e u →
+    IsTrue b ↔ ConvertsTo t (vec n u)
+inside_vector t l e n u a b p la i be =
+    subst (λ t. IsTrue b ↔ ConvertsTo t (vec n u)) (sym (layered t l e p)) (
+      λ h. let k = be.0 h in (k.0, (converts_within l (vec_of n) e u k.0).1 (sym (la.0 i), k.1)),
+      λ k. be.1 (k.0, ((converts_within l (vec_of n) e u k.0).0 k.1).1),
+    )
+
+pub outside_vector : (t : WgslType) (l : Layer) (e : WgslType) (n : ℕ) (u : WgslType) (a : Bool) → layer_of t ≡ Some (l, e) → IsTrue a ↔ (l ≡ vec_of n) → a ≡ false →
+    IsTrue a ↔ ConvertsTo t (vec n u)
+outside_vector t l e n u a p la i =
+    false_for a i (subst (λ t. ¬ ConvertsTo t (vec n u)) (sym (layered t l e p))
+    (λ k. absurd (cc (sym (la.1 (sym ((converts_within l (vec_of n) e u k.0).0 k.1).0)) ∙ i))))
+
+-- no path leads to a vector from what is in no layer
+no_way : (t u : WgslType) (n w : ℕ) → layer_of t ≡ None → Converts t (vec n u) w → Load t (vec n u)
+no_way t u n w e (inl p) = let k = above_to_within (along_above p).0 (vec_of n) u refl in let d : None ≡ Some (vec_of n, k.0) = sym e ∙ ap layer_of k.1 in absurd (cc d)
+no_way t u n w e (inr l) = l.0
+
+pub loads_vector : (a : «Type») (s : AddressSpace) (ty : Box «Type» Global) (m : AccessMode) (t : WgslType) (n : ℕ) (u : WgslType) (b : Bool) → a ≡ v.Ref s ty m → view ty.value ≡ t → MayRead m →
+    IsTrue b ↔ (t ≡ vec n u) → IsTrue b ↔ ConvertsTo (view a) (vec n u)
+loads_vector a s ty m t n u b e f may h =
+    let seen : view a ≡ reference s t m = ap view e ∙ (view-Ref s ty m ∙ ap (λ t. reference s t m) f) in
+    subst (λ a. IsTrue b ↔ ConvertsTo a (vec n u)) (sym seen) (
+      λ k. (0, inr (subst (λ u. Load (reference s t m) u) (h.0 k) (load s t m may), refl)),
+      λ k. h.1 (load_readable (no_way (reference s t m) u n k.0 refl k.1)).1,
+    )
+
+pub unreadable : (a : «Type») (s : AddressSpace) (ty : Box «Type» Global) (m : AccessMode) (n : ℕ) (u : WgslType) (b : Bool) → a ≡ v.Ref s ty m → b ≡ false → (IsTrue b ↔ MayRead m) →
+    IsTrue b ↔ ConvertsTo (view a) (vec n u)
+unreadable a s ty m n u b e i may =
+    false_for b i (subst (λ a. ¬ ConvertsTo a (vec n u)) (sym (ap view e ∙ view-Ref s ty m))
+    (λ k. absurd (cc (sym (may.1 (load_readable (no_way (reference s (view ty.value) m) u n k.0 refl k.1)).0) ∙ i))))
+
+pub loads_nothing : (t : WgslType) (n : ℕ) (u : WgslType) → layer_of t ≡ None → ((s : AddressSpace) (e : WgslType) (m : AccessMode) → t ≡ reference s e m → ⊥) → IsTrue false ↔ ConvertsTo t (vec n u)
+loads_nothing t n u e no_ref = (λ h. absurd (cc h), λ k. absurd (no_load t (vec n u) e no_ref (no_way t u n k.0 e k.1)))
