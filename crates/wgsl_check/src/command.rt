@@ -1,8 +1,9 @@
 // What the program answers to a command.
 use crate::read::{read_type, read_types};
+use crate::template::read_template;
 use crate::words::{Unread, Words};
 use std::alloc::{AllocError, Global};
-use wgsl_types::builtin::{type_binary_op, type_unary_op};
+use wgsl_types::builtin::{type_binary_op, type_builtin_fn, type_ctor, type_unary_op};
 use wgsl_types::conv::{conversion_rank, convert_all_ty};
 use wgsl_types::error::Fail;
 use wgsl_types::syntax::{BinaryOperator, UnaryOperator};
@@ -25,6 +26,8 @@ fn command(alloc: Global, mut words: Words) -> Result<String, Unread> {
         "binary" => binary(alloc, words),
         "size" => size(alloc, words),
         "offsets" => offsets(alloc, words),
+        "ctor" => ctor(alloc, words),
+        "call" => call(alloc, words),
         _ => Err(Unread::Word),
     }
 }
@@ -120,12 +123,46 @@ fn offsets(alloc: Global, mut words: Words) -> Result<String, Unread> {
     }
 }
 
+/// `ctor NAME P T..`: the type that the constructor makes, or why it makes none.
+fn ctor(alloc: Global, mut words: Words) -> Result<String, Unread> {
+    let name = words.next()?;
+    let template = read_template(alloc, &mut words)?;
+    let arguments = read_types(alloc, &mut words)?;
+    let made = match &template {
+        Some(parameters) => type_ctor(alloc, name, Some(parameters.as_slice()), &arguments),
+        None => type_ctor(alloc, name, None, &arguments),
+    };
+    Ok(type_or_refusal(alloc, made)?)
+}
+
+/// `call NAME P T..`: the type of the call, or why it has none; `no value` where it gives none.
+fn call(alloc: Global, mut words: Words) -> Result<String, Unread> {
+    let name = words.next()?;
+    let template = read_template(alloc, &mut words)?;
+    let arguments = read_types(alloc, &mut words)?;
+    let answer = match &template {
+        Some(parameters) => type_builtin_fn(alloc, name, Some(parameters.as_slice()), &arguments),
+        None => type_builtin_fn(alloc, name, None, &arguments),
+    };
+    match answer {
+        Ok(Some(ty)) => Ok(ty.to_string(alloc)?),
+        Ok(None) => Ok(String::from_str(alloc, "no value")?),
+        Err(refused) => Ok(message(alloc, refused)?),
+    }
+}
+
 /// The spelling of a type, or the message of a refusal.
 fn type_or_refusal(alloc: Global, answer: Result<Type, Fail>) -> Result<String, AllocError> {
     match answer {
         Ok(ty) => ty.to_string(alloc),
-        Err(Fail::Error(e)) => e.to_string(alloc),
-        Err(Fail::Memory(e)) => Err(e),
+        Err(refused) => message(alloc, refused),
+    }
+}
+
+fn message(alloc: Global, refused: Fail) -> Result<String, AllocError> {
+    match refused {
+        Fail::Error(e) => e.to_string(alloc),
+        Fail::Memory(e) => Err(e),
     }
 }
 

@@ -5,6 +5,7 @@ mod command;
 mod line;
 mod read;
 mod run;
+mod template;
 #[cfg(test)]
 mod tests;
 mod words;

@@ -173,7 +173,8 @@ fn read_storage(word: &str, words: &mut Words) -> Result<TextureType, Unread>
     }
 }
 
-fn parsed<T: FromStr>(word: &str) -> Result<T, Unread>
+/// What a name is read as.
+pub fn parsed<T: FromStr>(word: &str) -> Result<T, Unread>
 where
     T::Err: Drop,
 {

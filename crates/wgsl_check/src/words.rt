@@ -98,7 +98,8 @@ impl<'w, 't> Words<'w, 't> {
     }
 }
 
-fn number(word: &str) -> Result<u64, Unread> {
+/// A number: decimal digits alone, with leading zeros or without.
+pub fn number(word: &str) -> Result<u64, Unread> {
     if !word.bytes().all(|byte| byte.is_ascii_digit()) {
         return Err(Unread::Word);
     }

@@ -1,0 +1,62 @@
+// The template parameters that words stand for.
+use crate::read::{parsed, read_type};
+use crate::words::{Unread, Words, number};
+use std::alloc::{AllocError, Global};
+use wgsl_types::inst::{Instance, LiteralInstance};
+use wgsl_types::tplt::TpltParam;
+
+/// The template of a call: `-` for none, or `<`, parameters and `>`.
+pub fn read_template(alloc: Global, words: &mut Words) -> Result<Option<Vec<TpltParam>>, Unread> {
+    match words.next()? {
+        "-" => Ok(None),
+        "<" => Ok(Some(read_parameters(alloc, words)?)),
+        _ => Err(Unread::Word),
+    }
+}
+
+/// Parameters up to `>`: `t` and a type, `n` and a literal, or `e` and an enumerant.
+fn read_parameters(alloc: Global, words: &mut Words) -> Result<Vec<TpltParam>, Unread> {
+    let mut parameters = Vec::new(alloc);
+    for _ in 0..words.left() {
+        let parameter = match words.next()? {
+            ">" => return Ok(parameters),
+            "t" => TpltParam::Ty(read_type(alloc, words)?),
+            "n" => TpltParam::Instance(Instance::Literal(literal(words.next()?)?)),
+            "e" => TpltParam::Enumerant(parsed(words.next()?)?),
+            _ => return Err(Unread::Word),
+        };
+        parameters.push(parameter).map_err(|_e| AllocError)?;
+    }
+    Err(Unread::Word)
+}
+
+/// A literal: `true`, `false`, or a number, with the suffix of its kind where it isn't abstract.
+fn literal(word: &str) -> Result<LiteralInstance, Unread> {
+    match word {
+        "true" => return Ok(LiteralInstance::Bool(true)),
+        "false" => return Ok(LiteralInstance::Bool(false)),
+        _ => {}
+    }
+    if let Some(digits) = word.strip_suffix("li") {
+        Ok(LiteralInstance::I64(signed(digits)?))
+    } else if let Some(digits) = word.strip_suffix("lu") {
+        Ok(LiteralInstance::U64(number(digits)?))
+    } else if let Some(digits) = word.strip_suffix("i") {
+        let value = i32::try_from(signed(digits)?).map_err(|_e| Unread::Word)?;
+        Ok(LiteralInstance::I32(value))
+    } else if let Some(digits) = word.strip_suffix("u") {
+        let value = u32::try_from(number(digits)?).map_err(|_e| Unread::Word)?;
+        Ok(LiteralInstance::U32(value))
+    } else {
+        Ok(LiteralInstance::AbstractInt(signed(word)?))
+    }
+}
+
+/// A number with a minus or without: decimal digits alone, with leading zeros or without.
+fn signed(word: &str) -> Result<i64, Unread> {
+    let digits = word.strip_prefix("-").unwrap_or(word);
+    if !digits.bytes().all(|byte| byte.is_ascii_digit()) {
+        return Err(Unread::Word);
+    }
+    word.parse::<i64>().map_err(|_e| Unread::Word)
+}
