@@ -100,9 +100,9 @@ IsFirstMisfit ms args u b = ⊥
 abbrev pub IsFilled : List ℕ → Members → List WgslType → Result (Unit {0}) Refusal → Type 0
 IsFilled name ms args r =
     Either (member_count ms ≡ length args)
-        (AllFit ms args × (r ≡ Ok tt)
-            ⊎ ((t : WgslType) × (a : WgslType) × IsFirstMisfit ms args t a × (r ≡ Err (param_type t a))))
-        (r ≡ Err (param_count name (member_count ms) (length args)))
+    (AllFit ms args × (r ≡ Ok tt)
+    ⊎ ((t : WgslType) × (a : WgslType) × IsFirstMisfit ms args t a × (r ≡ Err (param_type t a))))
+    (r ≡ Err (param_count name (member_count ms) (length args)))
 
 -- Structs: no argument, or as many as there are members.
 abbrev pub IsStructCall : List ℕ → Members → List WgslType → Result (Unit {0}) Refusal → Type 0

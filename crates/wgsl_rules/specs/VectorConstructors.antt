@@ -42,8 +42,8 @@ IsTypedVectorOfOne n a t r = r ≡ Err (conversion a t)
 abbrev pub IsTypedVectorOfSeveral : List ℕ → ℕ → List WgslType → WgslType → Result WgslType Refusal → Type 0
 IsTypedVectorOfSeveral name n args t r =
     Either (All (BringsComponents t) args)
-        (Either (all_components args ≡ n) (r ≡ Ok (vec n t)) (r ≡ Err (param_count name n (length args))))
-        (r ≡ Err no_components)
+    (Either (all_components args ≡ n) (r ≡ Ok (vec n t)) (r ≡ Err (param_count name n (length args))))
+    (r ≡ Err no_components)
 
 -- Vectors of n components of a template's type.
 abbrev pub IsTypedVector : List ℕ → ℕ → List WgslType → WgslType → Result WgslType Refusal → Type 0
@@ -61,10 +61,10 @@ IsUntypedVectorOfOne n a r = r ≡ Err no_components
 abbrev pub IsUntypedVectorOfSeveral : List ℕ → ℕ → List WgslType → Result WgslType Refusal → Type 0
 IsUntypedVectorOfSeveral name n args r =
     Either (All IsScalarOrVector args)
-        (Either (all_components args ≡ n)
-            (ThenCommon (map inner_of args) (codes "vector components are incompatible") (λ c q. q ≡ Ok (vec n c)) r)
-            (r ≡ Err (param_count name n (length args))))
-        (r ≡ Err no_components)
+    (Either (all_components args ≡ n)
+    (ThenCommon (map inner_of args) (codes "vector components are incompatible") (λ c q. q ≡ Ok (vec n c)) r)
+    (r ≡ Err (param_count name n (length args))))
+    (r ≡ Err no_components)
 
 -- Vectors of n components of the arguments' own types.
 abbrev pub IsUntypedVector : List ℕ → ℕ → List WgslType → Result WgslType Refusal → Type 0
