@@ -1,13 +1,10 @@
 // What no clause says: which lines are answered how, and what a read or a write that fails comes to.
-mod calls;
-mod constructors;
 mod conversion;
 mod layout;
 mod names;
 mod operators;
 mod refusals;
 mod streams;
-mod templates;
 mod types;
 
 use crate::run::{RunError, run, status};

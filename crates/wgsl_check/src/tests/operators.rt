@@ -277,8 +277,8 @@ fn sums_of_scalars_are_those_that_a_search_finds(rt: HostRuntime) -> Result<(), 
     Ok(())
 }
 
-/// The ten scalars, and of each the vectors of two and three, two matrices and an array.
-pub fn sixty_types(alloc: Global) -> Result<Vec<Type>, AllocError> {
+/// The scalars, and the vectors, matrices and arrays of them.
+fn sixty_types(alloc: Global) -> Result<Vec<Type>, AllocError> {
     let mut types = Vec::new(alloc);
     for scalar in SCALARS {
         types
