@@ -1,4 +1,6 @@
 // What no clause says: which lines are answered how, and what a read or a write that fails comes to.
+mod calls;
+mod constructors;
 mod conversion;
 mod layout;
 mod names;
