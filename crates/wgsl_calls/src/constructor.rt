@@ -17,6 +17,7 @@ ghost use Rattle.wgsl_core.specs.Outcome.{AnswersAs, AnswersBy, IsAnswered, refu
 ghost use Rattle.wgsl_calls.specs.Constructors.{constructor_view, IsStuckAt, IsConverted, IsMisfitAt};
 ghost use Rattle.wgsl_calls.specs.Templates.{array_view};
 
+use crate::shapes::is_scalar_or_vector;
 use crate::tplt::{ArrayTemplate, MatTemplate, VecTemplate};
 use std::alloc::{AllocError, Global};
 use wgsl_core::common::common_of;
@@ -525,12 +526,6 @@ fn all_scalars_or_vectors(args: &[Type]) -> bool
         }
     }
     true
-}
-
-fn is_scalar_or_vector(arg: &Type) -> bool
-    ensures { IsTrue result ↔ IsScalarOrVector (view arg.now) }
-{
-    arg.is_scalar() || arg.is_vec()
 }
 
 /// Whether the arguments bring so many components together.

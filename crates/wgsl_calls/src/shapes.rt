@@ -93,7 +93,8 @@ fn is_scalar_or_vector_of(kind: ScalarKind, ty: &Type) -> bool
     }
 }
 
-fn is_scalar_or_vector(ty: &Type) -> bool
+/// Whether the type is a scalar, or a vector of whatever type.
+pub fn is_scalar_or_vector(ty: &Type) -> bool
     ensures { IsTrue result ↔ IsScalarOrVector (view ty.now) }
 {
     match ty.operand() {
