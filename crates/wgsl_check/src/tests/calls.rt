@@ -1,7 +1,12 @@
 // Calls of built-in functions.
 use super::expect_answers;
+use super::operators::sixty_types;
+use std::process::Abort;
 use std::test::Fail;
-use wgsl_types::builtin::find_call;
+use wgsl_types::builtin::{find_call, type_builtin_fn};
+use wgsl_types::conv::convert_ty;
+use wgsl_types::error;
+use wgsl_types::ty::Type;
 
 #[test]
 fn calls_of_numbers_are_answered(rt: HostRuntime) -> Result<(), Fail> {
@@ -123,4 +128,55 @@ fn names_are_found_by_halves(rt: HostRuntime) {
     assert_eq!(rt; find_call("").0, None);
     assert_eq!(rt; find_call("ab").0, None);
     assert_eq!(rt; find_call("absA").0, None);
+}
+
+/// The call gives this type, or is refused as it was given where there is none.
+fn expect_call(
+    rt: &(impl Abort + AllocGlobal),
+    name: &str,
+    args: &[Type],
+    wanted: Option<&Type>,
+) -> Result<(), Fail> {
+    match type_builtin_fn(rt.alloc(), name, None, args) {
+        Ok(Some(ty)) => assert!(rt; wanted.is_some_and(|w| *w == ty), "`{name}` gives `{ty}`"),
+        Err(error::Fail::Error(error::Error::Signature(call))) => {
+            assert!(rt; wanted.is_none(), "`{call}` is refused");
+            assert_eq!(rt; call.name.as_str(), name);
+            assert!(rt; call.tplt.is_none());
+            assert!(rt; call.args.as_slice() == args, "`{call}` is another call");
+        }
+        _ => return Err("neither a type nor the call as it was given".into()),
+    }
+    Ok(())
+}
+
+fn is_number_or_vector(ty: &Type) -> bool {
+    match ty {
+        Type::Vec(_, component) => component.is_numeric(),
+        other => other.is_numeric(),
+    }
+}
+
+fn numeric_component(ty: &Type) -> Option<&Type> {
+    match ty {
+        Type::Vec(_, component) if component.is_numeric() => Some(component),
+        _ => None,
+    }
+}
+
+#[test]
+fn calls_of_two_take_the_common_type(rt: HostRuntime) -> Result<(), Fail> {
+    let alloc = rt.alloc();
+    let types = sixty_types(alloc)?;
+    for lhs in &types {
+        for rhs in &types {
+            let args = [lhs.clone(alloc)?, rhs.clone(alloc)?];
+            let common = convert_ty(lhs, rhs);
+            let number = common.filter(|ty| is_number_or_vector(ty));
+            expect_call(&rt, "min", &args, number)?;
+            expect_call(&rt, "max", &args, number)?;
+            expect_call(&rt, "dot", &args, common.and_then(numeric_component))?;
+        }
+    }
+    Ok(())
 }

@@ -278,7 +278,7 @@ fn sums_of_scalars_are_those_that_a_search_finds(rt: HostRuntime) -> Result<(), 
 }
 
 /// The ten scalars, and of each the vectors of two and three, two matrices and an array.
-fn sixty_types(alloc: Global) -> Result<Vec<Type>, AllocError> {
+pub fn sixty_types(alloc: Global) -> Result<Vec<Type>, AllocError> {
     let mut types = Vec::new(alloc);
     for scalar in SCALARS {
         types
