@@ -7,6 +7,7 @@ mod names;
 mod operators;
 mod refusals;
 mod streams;
+mod templates;
 mod types;
 
 use crate::run::{RunError, run, status};
