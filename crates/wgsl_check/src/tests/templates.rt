@@ -33,6 +33,17 @@ const STORAGE: [&str; 5] = [
     "texture_storage_3d",
 ];
 
+/// What is refused by every template that takes one type.
+const NOT_ONE_TYPE: [&str; 7] = [
+    "",
+    "n 2",
+    "e read",
+    "t i32 t i32",
+    "t bool t sampler",
+    "t i32 n 2",
+    "e read t i32",
+];
+
 /// The parameters that these words stand for between `<` and `>`.
 fn parameters(alloc: Global, text: &str) -> Result<Vec<TpltParam>, Fail> {
     let line = format!(in alloc; "< {text} >")?;
@@ -243,17 +254,6 @@ fn arrays_take_a_type_and_a_literal(rt: HostRuntime) -> Result<(), Fail> {
         "invalid template arguments to `binding_array`",
     )
 }
-
-/// What is refused by every template that takes one type.
-const NOT_ONE_TYPE: [&str; 7] = [
-    "",
-    "n 2",
-    "e read",
-    "t i32 t i32",
-    "t bool t sampler",
-    "t i32 n 2",
-    "e read t i32",
-];
 
 #[test]
 fn vectors_are_of_concrete_scalars(rt: HostRuntime) -> Result<(), Fail> {
@@ -612,24 +612,6 @@ fn textures_are_sampled_as_three_types(rt: HostRuntime) -> Result<(), Fail> {
             let ty = format!(in rt.alloc(); "{name}<{sampled}>")?;
             expect_rows(&rt, name, &[(words.as_str(), ty.as_str())])?;
         }
-        expect_rows(
-            &rt,
-            name,
-            &[
-                (
-                    "t f16",
-                    "invalid sampled type, expected `i32`, `u32` or `f32`, got `f16`",
-                ),
-                (
-                    "t AbstractInt",
-                    "invalid sampled type, expected `i32`, `u32` or `f32`, got `AbstractInt`",
-                ),
-                (
-                    "t vec 4 f32",
-                    "invalid sampled type, expected `i32`, `u32` or `f32`, got `vec4<f32>`",
-                ),
-            ],
-        )?;
         expect_refusal(
             &rt,
             name,
@@ -642,6 +624,30 @@ fn textures_are_sampled_as_three_types(rt: HostRuntime) -> Result<(), Fail> {
             &["", "t f32 t f32", "t f16 n 3", "e r32uint e read"],
             "sampled texture types take a single template parameter",
         )?;
+    }
+    Ok(())
+}
+
+#[test]
+fn textures_are_sampled_as_no_other_type(rt: HostRuntime) -> Result<(), Fail> {
+    for (words, ty) in [
+        ("t bool", "bool"),
+        ("t AbstractInt", "AbstractInt"),
+        ("t AbstractFloat", "AbstractFloat"),
+        ("t f16", "f16"),
+        ("t i64", "i64"),
+        ("t u64", "u64"),
+        ("t f64", "f64"),
+        ("t vec 4 f32", "vec4<f32>"),
+        ("t atomic i32", "atomic<i32>"),
+        ("t texture_2d f32", "texture_2d<f32>"),
+    ] {
+        let message = format!(in rt.alloc();
+            "invalid sampled type, expected `i32`, `u32` or `f32`, got `{ty}`"
+        )?;
+        for name in SAMPLED {
+            expect_rows(&rt, name, &[(words, message.as_str())])?;
+        }
     }
     Ok(())
 }
