@@ -138,7 +138,10 @@ fn expect_call(
     wanted: Option<&Type>,
 ) -> Result<(), Fail> {
     match type_builtin_fn(rt.alloc(), name, None, args) {
-        Ok(Some(ty)) => assert!(rt; wanted.is_some_and(|w| *w == ty), "`{name}` gives `{ty}`"),
+        Ok(Some(ty)) => assert!(rt;
+            wanted.is_some_and(|w| *w == ty),
+            "`{name}` of {args:?} gives `{ty}`"
+        ),
         Err(error::Fail::Error(error::Error::Signature(call))) => {
             assert!(rt; wanted.is_none(), "`{call}` is refused");
             assert_eq!(rt; call.name.as_str(), name);
