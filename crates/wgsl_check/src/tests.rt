@@ -2,6 +2,7 @@
 mod calls;
 mod constructors;
 mod conversion;
+mod hostile;
 mod layout;
 mod names;
 mod operators;
@@ -9,6 +10,7 @@ mod refusals;
 mod streams;
 mod templates;
 mod types;
+mod worded;
 
 use crate::run::{RunError, run, status};
 use std::alloc::{AllocError, Global};

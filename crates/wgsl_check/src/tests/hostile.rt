@@ -1,0 +1,617 @@
+// Types that no program would write: sizes, kinds, conversion and printing of each.
+use super::expect_answers;
+use super::worded::one_type;
+use std::alloc::{AllocError, Global};
+use std::process::Abort;
+use std::test::Fail;
+use wgsl_types::conv::{conversion_rank, rank_steps};
+use wgsl_types::syntax::{AccessMode, AddressSpace};
+use wgsl_types::ty::{StructMemberType, StructType, Ty, Type};
+
+/// How many layers stand around a scalar.
+const DEPTH: usize = 300;
+
+/// What can stand around a type.
+#[derive(Clone, Copy)]
+pub enum Layer {
+    Array(Option<usize>),
+    Vector(u8),
+    Matrix(u8, u8),
+    Atomic,
+    Pointer,
+    Reference,
+    BindingArray,
+    Struct,
+}
+
+/// A layer around a type.
+fn around(alloc: Global, layer: Layer, ty: Type) -> Result<Type, AllocError> {
+    if matches!(layer, Layer::Struct) {
+        return wrapped(alloc, ty);
+    }
+    let inner = Box::new(alloc, ty).map_err(|_e| AllocError)?;
+    Ok(match layer {
+        Layer::Array(count) => Type::Array(inner, count),
+        Layer::Vector(components) => Type::Vec(components, inner),
+        Layer::Matrix(columns, rows) => Type::Mat(columns, rows, inner),
+        Layer::Pointer => Type::Ptr(AddressSpace::Function, inner, AccessMode::Read),
+        Layer::Reference => Type::Ref(AddressSpace::Handle, inner, AccessMode::ReadWrite),
+        Layer::BindingArray => Type::BindingArray(inner, Some(4294967296)),
+        Layer::Atomic | Layer::Struct => Type::Atomic(inner),
+    })
+}
+
+/// A struct whose only member is of the type.
+fn wrapped(alloc: Global, ty: Type) -> Result<Type, AllocError> {
+    let member = StructMemberType::new(String::from_str(alloc, "inner")?, ty);
+    let mut members = Vec::new(alloc);
+    members.push(member).map_err(|_e| AllocError)?;
+    let name = String::from_str(alloc, "Outer")?;
+    Type::from_struct(alloc, StructType { name, members })
+}
+
+/// The layer so many times around a type.
+pub fn nest(alloc: Global, layer: Layer, depth: usize, core: Type) -> Result<Type, AllocError> {
+    let mut ty = core;
+    for _ in 0..depth {
+        ty = around(alloc, layer, ty)?;
+    }
+    Ok(ty)
+}
+
+fn number_or_none(alloc: Global, number: Option<u32>) -> Result<String, AllocError> {
+    match number {
+        Some(number) => number.to_string(alloc),
+        None => String::from_str(alloc, "none"),
+    }
+}
+
+/// The size, the alignment and the least size.
+fn layout(alloc: Global, ty: &Type) -> Result<String, AllocError> {
+    let size = number_or_none(alloc, ty.size_of())?;
+    let align = number_or_none(alloc, ty.align_of())?;
+    let least = number_or_none(alloc, ty.min_size_of())?;
+    format!(in alloc; "{size} {align} {least}")
+}
+
+/// The predicates that hold, as words.
+fn kinds(alloc: Global, ty: &Type) -> Result<String, AllocError> {
+    let mut text = String::new(alloc);
+    for (holds, name) in [
+        (ty.is_scalar(), "scalar"),
+        (ty.is_numeric(), "numeric"),
+        (ty.is_integer(), "integer"),
+        (ty.is_float(), "float"),
+        (ty.is_abstract(), "abstract"),
+        (ty.is_concrete(), "concrete"),
+        (ty.is_storable(), "storable"),
+        (ty.is_array(), "array"),
+        (ty.is_vec(), "vec"),
+        (ty.is_mat(), "mat"),
+        (ty.is_bool(), "bool"),
+        (ty.is_i32(), "i32"),
+        (ty.is_u32(), "u32"),
+        (ty.is_f32(), "f32"),
+        (ty.is_i64(), "i64"),
+        (ty.is_u64(), "u64"),
+        (ty.is_f64(), "f64"),
+        (ty.is_abstract_int(), "abstract_int"),
+    ] {
+        if holds {
+            if !text.is_empty() {
+                text.push(' ')?;
+            }
+            text.push_str(name)?;
+        }
+    }
+    Ok(text)
+}
+
+/// What is asked of a type, and answered by a text.
+#[derive(Clone, Copy)]
+enum Question {
+    Layout,
+    Kinds,
+    Spelling,
+}
+
+fn expect_texts(
+    rt: &(impl Abort + AllocGlobal),
+    question: Question,
+    rows: &[(&str, &str)],
+) -> Result<(), Fail> {
+    for (words, text) in rows {
+        let ty = one_type(rt.alloc(), words)?;
+        let answer = match question {
+            Question::Layout => layout(rt.alloc(), &ty)?,
+            Question::Kinds => kinds(rt.alloc(), &ty)?,
+            Question::Spelling => ty.to_string(rt.alloc())?,
+        };
+        assert_eq!(rt; answer.as_str(), *text, "of {words}");
+    }
+    Ok(())
+}
+
+/// A type that is made of another.
+#[derive(Clone, Copy)]
+enum Made {
+    Concrete,
+    Loaded,
+    Inner,
+}
+
+fn expect_types(
+    rt: &(impl Abort + AllocGlobal),
+    made: Made,
+    rows: &[(&str, &str)],
+) -> Result<(), Fail> {
+    for (words, of) in rows {
+        let ty = one_type(rt.alloc(), words)?;
+        let answer = match made {
+            Made::Concrete => Type::concretize(&ty, rt.alloc())?,
+            Made::Loaded => ty.loaded(),
+            Made::Inner => ty.inner_ty(rt.alloc())?,
+        };
+        assert!(rt; answer == one_type(rt.alloc(), of)?, "of {words}");
+    }
+    Ok(())
+}
+
+#[test]
+fn structs_of_strange_attributes_have_their_sizes(rt: HostRuntime) -> Result<(), Fail> {
+    expect_texts(
+        &rt,
+        Question::Layout,
+        &[
+            ("struct E 0", "none 0 none"),
+            ("struct S 1 a - 0 f32", "none 0 none"),
+            ("struct S 1 a 0 0 f32", "none 0 none"),
+            ("struct S 2 a - 0 f32 b - 16 f32", "none 16 none"),
+            ("struct S 1 a 0 1 f32", "0 1 0"),
+            ("struct S 1 a 8 4 sampler", "8 4 8"),
+            ("struct S 1 a 8 - sampler", "none none none"),
+            ("struct S 1 a - 4 sampler", "none 4 none"),
+            ("struct S 1 a - - struct E 0", "none 0 none"),
+            ("struct S 1 a 4 4 struct E 0", "4 4 4"),
+            ("struct S 2 a - - f32 b - - struct E 0", "none 4 none"),
+            (
+                "struct S 1 a - 4294967295 f32",
+                "4294967295 4294967295 4294967295",
+            ),
+            ("struct S 1 a 4294967295 1 f32", "4294967295 1 4294967295"),
+            (
+                "struct S 2 a 1 1 f32 b 4294967294 1 f32",
+                "4294967295 1 4294967295",
+            ),
+            ("struct S 2 a 1 1 f32 b 4294967295 1 f32", "none 1 none"),
+            (
+                "struct S 2 a - - f32 b - 4294967295 f32",
+                "none 4294967295 none",
+            ),
+            ("struct S 1 a - - array * f32", "none 4 none"),
+            ("struct S 1 a - - ref function read i32", "none none none"),
+        ],
+    )
+}
+
+#[test]
+fn arrays_of_strange_counts_have_their_sizes(rt: HostRuntime) -> Result<(), Fail> {
+    expect_texts(
+        &rt,
+        Question::Layout,
+        &[
+            ("array 0 f32", "0 4 0"),
+            ("array 0 sampler", "none none none"),
+            ("array 0 struct E 0", "none 0 none"),
+            ("array 4294967295 f32", "none 4 none"),
+            (
+                "array 4294967295 struct S 1 a 1 1 f32",
+                "4294967295 1 4294967295",
+            ),
+            ("array 4294967295 struct S 1 a 0 1 f32", "0 1 0"),
+            ("array 4294967296 f32", "none 4 none"),
+            ("array 4294967296 struct S 1 a 0 1 f32", "none 1 none"),
+            ("array 18446744073709551615 f32", "none 4 none"),
+            (
+                "array 18446744073709551615 struct S 1 a 0 1 f32",
+                "none 1 none",
+            ),
+            (
+                "array 65535 array 65537 struct S 1 a 1 1 f32",
+                "4294967295 1 4294967295",
+            ),
+            (
+                "array 65536 array 65536 struct S 1 a 1 1 f32",
+                "none 1 none",
+            ),
+            ("array 2 vec 0 f32", "none 0 none"),
+            ("array 2 ref function read i32", "none none none"),
+            ("array * f32", "none 4 4"),
+            ("array * vec 3 f16", "none 8 8"),
+            ("array * vec 3 bool", "none none none"),
+            ("array * array * f32", "none 4 none"),
+            ("array * struct E 0", "none 0 none"),
+            ("array * struct S 1 a 4294967295 4 f32", "none 4 none"),
+            ("binding_array 18446744073709551615 f32", "none none none"),
+        ],
+    )
+}
+
+#[test]
+fn vectors_and_matrices_of_strange_lengths_have_their_sizes(rt: HostRuntime) -> Result<(), Fail> {
+    expect_texts(
+        &rt,
+        Question::Layout,
+        &[
+            ("vec 0 f32", "0 0 0"),
+            ("vec 0 sampler", "none none none"),
+            ("vec 1 f32", "4 4 4"),
+            ("vec 3 f64", "24 none 24"),
+            ("vec 3 vec 2 f32", "24 none 24"),
+            ("vec 2 vec 3 f32", "24 24 24"),
+            ("vec 5 f32", "20 20 20"),
+            ("vec 255 f32", "1020 1020 1020"),
+            ("vec 255 f64", "2040 2040 2040"),
+            ("vec 255 AbstractInt", "none none none"),
+            ("vec 255 array 4294967295 f32", "none none none"),
+            ("vec 255 struct E 0", "none none none"),
+            ("mat 0 0 f32", "0 0 0"),
+            ("mat 0 3 f64", "none none none"),
+            ("mat 0 3 f32", "0 16 0"),
+            ("mat 255 3 f16", "2040 8 2040"),
+            ("mat 255 0 f32", "0 0 0"),
+            ("mat 255 255 f32", "260100 1020 260100"),
+            ("atomic atomic i64", "4 4 4"),
+            ("atomic sampler", "4 4 4"),
+            ("ref function read ref function read i32", "none none none"),
+        ],
+    )
+}
+
+#[test]
+fn offsets_of_strange_structs_are_the_least(rt: HostRuntime) -> Result<(), Fail> {
+    expect_answers(
+        &rt,
+        &[
+            ("offsets struct E 0", "none"),
+            ("offsets struct S 1 a - 0 f32", "none"),
+            ("offsets struct S 2 a - - f32 b - 0 f32", "none"),
+            ("offsets struct S 1 a - - ref function read i32", "none"),
+            ("offsets struct S 1 a 8 4 ref function read i32", "0"),
+            ("offsets struct S 2 a 0 1 sampler b - - vec 255 f32", "0 0"),
+            ("offsets struct S 2 a 1 1 f32 b - - vec 255 f32", "0 1020"),
+            ("offsets struct S 2 a 1 1 f32 b 4294967294 1 f32", "0 1"),
+            ("offsets struct S 2 a 1 1 f32 b 4294967295 1 f32", "none"),
+            (
+                "offsets struct S 2 a - - f32 b - - array 4294967296 f32",
+                "none",
+            ),
+        ],
+    )?;
+    Ok(())
+}
+
+#[test]
+fn strange_types_are_of_their_kinds(rt: HostRuntime) -> Result<(), Fail> {
+    expect_texts(
+        &rt,
+        Question::Kinds,
+        &[
+            (
+                "AbstractInt",
+                "scalar numeric integer abstract abstract_int",
+            ),
+            ("u64", "scalar numeric integer concrete storable u64"),
+            ("struct E 0", "concrete storable"),
+            ("struct S 1 a - 0 AbstractInt", "concrete storable"),
+            ("array 18446744073709551615 AbstractInt", "abstract array"),
+            ("array 0 sampler", "concrete storable array"),
+            (
+                "array 2 ref function read AbstractInt",
+                "concrete storable array",
+            ),
+            ("vec 255 AbstractFloat", "abstract vec"),
+            ("vec 0 struct E 0", "concrete storable vec"),
+            ("vec 1 array * mat 0 0 AbstractInt", "abstract vec"),
+            ("mat 0 0 bool", "concrete storable mat"),
+            ("atomic AbstractInt", "concrete storable"),
+            ("ref function read AbstractInt", "concrete"),
+            ("ptr handle write AbstractFloat", "concrete"),
+            ("binding_array 4294967296 AbstractInt", "concrete"),
+            ("ray_query vertex_return", "concrete"),
+        ],
+    )
+}
+
+#[test]
+fn strange_types_are_spelled(rt: HostRuntime) -> Result<(), Fail> {
+    expect_texts(
+        &rt,
+        Question::Spelling,
+        &[
+            ("struct E 0", "E"),
+            ("struct < 1 a - 0 f32", "<"),
+            (
+                "array 18446744073709551615 struct E 0",
+                "array<E, 18446744073709551615>",
+            ),
+            (
+                "array 4294967296 vec 255 mat 0 255 f16",
+                "array<vec255<mat0x255<f16>>, 4294967296>",
+            ),
+            ("array * vec 0 AbstractInt", "array<vec0<AbstractInt>>"),
+            (
+                "binding_array * atomic atomic i32",
+                "binding_array<atomic<atomic<i32>>>",
+            ),
+            (
+                "ref handle read ref private atomic i32",
+                "ref<handle, ref<private, i32, atomic>, read>",
+            ),
+            (
+                "ptr push_constant write array 0 ptr handle read i32",
+                "ptr<push_constant, array<ptr<handle, i32, read>, 0>, write>",
+            ),
+        ],
+    )
+}
+
+#[test]
+fn strange_abstract_types_become_concrete(rt: HostRuntime) -> Result<(), Fail> {
+    expect_types(
+        &rt,
+        Made::Concrete,
+        &[
+            ("array 4294967296 AbstractInt", "array 4294967296 i32"),
+            ("array * vec 255 AbstractFloat", "array * vec 255 f32"),
+            ("vec 0 AbstractInt", "vec 0 i32"),
+            ("mat 0 255 AbstractInt", "mat 0 255 f32"),
+            ("mat 2 2 array 2 vec 5 AbstractInt", "mat 2 2 f32"),
+            ("mat 2 2 array 2 vec 5 i64", "mat 2 2 array 2 vec 5 i64"),
+            ("vec 5 mat 1 1 AbstractInt", "vec 5 mat 1 1 f32"),
+            (
+                "struct S 1 a - 0 AbstractInt",
+                "struct S 1 a - 0 AbstractInt",
+            ),
+            ("atomic AbstractInt", "atomic AbstractInt"),
+            (
+                "array 2 ref function read AbstractInt",
+                "array 2 ref function read AbstractInt",
+            ),
+            ("binding_array * AbstractInt", "binding_array * AbstractInt"),
+            (
+                "ptr handle read AbstractFloat",
+                "ptr handle read AbstractFloat",
+            ),
+        ],
+    )
+}
+
+#[test]
+fn references_are_loaded_and_taken_apart(rt: HostRuntime) -> Result<(), Fail> {
+    expect_types(
+        &rt,
+        Made::Loaded,
+        &[
+            (
+                "ref function read ref private write ref handle atomic struct E 0",
+                "struct E 0",
+            ),
+            (
+                "ref function write array 2 ref handle read i32",
+                "array 2 ref handle read i32",
+            ),
+            (
+                "array 2 ref function read i32",
+                "array 2 ref function read i32",
+            ),
+            (
+                "ptr function read ref function read i32",
+                "ptr function read ref function read i32",
+            ),
+        ],
+    )?;
+    expect_types(
+        &rt,
+        Made::Inner,
+        &[
+            (
+                "array 18446744073709551615 ref function read i32",
+                "ref function read i32",
+            ),
+            (
+                "ref function read ref private write i32",
+                "ref private write i32",
+            ),
+            ("ptr handle read atomic i32", "atomic i32"),
+            ("atomic atomic f32", "atomic f32"),
+            ("binding_array 4294967296 vec 0 f32", "vec 0 f32"),
+            ("mat 0 255 struct E 0", "struct E 0"),
+            ("struct S 1 a - 0 f32", "struct S 1 a - 0 f32"),
+            ("ray_query -", "ray_query -"),
+        ],
+    )
+}
+
+#[test]
+fn strange_types_convert_by_their_ranks(rt: HostRuntime) -> Result<(), Fail> {
+    expect_answers(
+        &rt,
+        &[
+            (
+                "rank array 4294967296 AbstractInt array 4294967296 f32",
+                "6",
+            ),
+            ("rank array 4294967296 AbstractInt array 0 f32", "none"),
+            (
+                "rank array 18446744073709551615 i32 array 4294967295 i32",
+                "none",
+            ),
+            ("rank array 18446744073709551615 i32 array * i32", "none"),
+            ("rank vec 255 AbstractInt vec 255 f16", "7"),
+            ("rank vec 0 AbstractFloat vec 0 f32", "1"),
+            ("rank vec 1 f32 f32", "none"),
+            ("rank f32 vec 1 f32", "none"),
+            ("rank mat 255 0 AbstractFloat mat 255 0 f16", "2"),
+            ("rank mat 255 0 AbstractFloat mat 0 255 f16", "none"),
+            ("rank vec 2 struct E 0 vec 2 struct E 0", "0"),
+            ("rank struct E 0 struct F 0", "none"),
+            ("rank struct S 1 a - 0 f32 struct S 1 a - - f32", "none"),
+            (
+                "rank struct __frexp_result_abstract 0 struct __frexp_result_f32 0",
+                "none",
+            ),
+            (
+                "rank ref function read ref function read i32 ref function read i32",
+                "0",
+            ),
+            ("rank ref function read ref function read i32 i32", "none"),
+            (
+                "rank ref function write ref function read i32 ref function read i32",
+                "none",
+            ),
+            ("rank array 2 ref function read i32 array 2 i32", "0"),
+            (
+                "rank array 2 ref function read AbstractInt array 2 i32",
+                "none",
+            ),
+            (
+                "rank vec 5 mat 0 1 ref handle read_write struct E 0 vec 5 mat 0 1 struct E 0",
+                "0",
+            ),
+            ("rank atomic AbstractInt atomic i32", "none"),
+            (
+                "rank ptr function read AbstractInt ptr function read i32",
+                "none",
+            ),
+            (
+                "rank binding_array 2 AbstractInt binding_array 2 i32",
+                "none",
+            ),
+            (
+                "common array 2 i32 array 2 ref function read i32",
+                "array<i32, 2>",
+            ),
+            (
+                "common vec 255 AbstractInt vec 255 AbstractFloat vec 255 f16",
+                "vec255<f16>",
+            ),
+            ("common struct E 0 struct E 0", "E"),
+            ("common array 4294967296 i32 array 0 i32", "none"),
+        ],
+    )?;
+    Ok(())
+}
+
+#[test]
+fn layers_300_deep_have_sizes_and_ranks(rt: HostRuntime) -> Result<(), Fail> {
+    let alloc = rt.alloc();
+    for (layer, sizes, rank) in [
+        (Layer::Array(Some(1)), "4 4 4", Some(6)),
+        (Layer::Array(None), "none 4 none", Some(6)),
+        (Layer::Vector(1), "4 4 4", Some(6)),
+        (Layer::Vector(2), "none none none", Some(6)),
+        (Layer::Matrix(1, 1), "4 4 4", Some(6)),
+        (Layer::Atomic, "4 4 4", None),
+        (Layer::Pointer, "none none none", None),
+        (Layer::Reference, "none none none", None),
+        (Layer::BindingArray, "none none none", None),
+        (Layer::Struct, "4 4 4", None),
+    ] {
+        let floats = nest(alloc, layer, DEPTH, Type::F32)?;
+        let integers = nest(alloc, layer, DEPTH, Type::AbstractInt)?;
+        assert_eq!(rt; layout(alloc, &floats)?.as_str(), sizes);
+        assert_eq!(rt; conversion_rank(&integers, &floats), rank);
+        assert_eq!(rt; integers.is_convertible_to(&floats), rank.is_some());
+        assert_eq!(rt; rank_steps(&integers, &floats).0, rank);
+        assert!(rt; floats != integers);
+        assert!(rt; floats.clone(alloc)? == floats);
+        assert!(rt; Type::concretize(&floats, alloc)? == floats);
+    }
+    Ok(())
+}
+
+#[test]
+fn layers_300_deep_are_spelled(rt: HostRuntime) -> Result<(), Fail> {
+    let alloc = rt.alloc();
+    for (layer, before, after) in [
+        (Layer::Array(Some(4294967296)), "array<", ", 4294967296>"),
+        (Layer::Array(None), "array<", ">"),
+        (Layer::Vector(255), "vec255<", ">"),
+        (Layer::Matrix(0, 255), "mat0x255<", ">"),
+        (Layer::Atomic, "atomic<", ">"),
+        (Layer::Pointer, "ptr<function, ", ", read>"),
+        (Layer::Reference, "ref<handle, ", ", read_write>"),
+        (Layer::BindingArray, "binding_array<", ", 4294967296>"),
+    ] {
+        let printed = nest(alloc, layer, DEPTH, Type::F64)?.to_string(alloc)?;
+        let (before, after) = (before.repeat(alloc, DEPTH)?, after.repeat(alloc, DEPTH)?);
+        let spelling = format!(in alloc; "{before}f64{after}")?;
+        assert_eq!(rt; printed.as_str(), spelling.as_str());
+    }
+    let structs = nest(alloc, Layer::Struct, DEPTH, Type::F64)?;
+    assert_eq!(rt; structs.to_string(alloc)?.as_str(), "Outer");
+    Ok(())
+}
+
+#[test]
+fn layers_300_deep_become_concrete(rt: HostRuntime) -> Result<(), Fail> {
+    let alloc = rt.alloc();
+    for layer in [Layer::Array(Some(4294967296)), Layer::Vector(255)] {
+        let abstract_type = nest(alloc, layer, DEPTH, Type::AbstractInt)?;
+        let concrete = nest(alloc, layer, DEPTH, Type::I32)?;
+        assert!(rt; Type::concretize(&abstract_type, alloc)? == concrete);
+    }
+    let matrices = nest(alloc, Layer::Matrix(0, 255), DEPTH, Type::AbstractInt)?;
+    let matrix = nest(alloc, Layer::Matrix(0, 255), 1, Type::F32)?;
+    assert!(rt; Type::concretize(&matrices, alloc)? == matrix);
+    let references = nest(alloc, Layer::Reference, DEPTH, Type::AbstractInt)?;
+    assert!(rt; Type::concretize(&references, alloc)? == references);
+    assert!(rt; references.loaded() == Type::AbstractInt);
+    Ok(())
+}
+
+#[test]
+fn layers_300_deep_are_taken_apart(rt: HostRuntime) -> Result<(), Fail> {
+    let alloc = rt.alloc();
+    for layer in [
+        Layer::Array(None),
+        Layer::Vector(255),
+        Layer::Matrix(0, 255),
+        Layer::Atomic,
+        Layer::Pointer,
+        Layer::Reference,
+        Layer::BindingArray,
+    ] {
+        let whole = nest(alloc, layer, DEPTH, Type::Bool)?;
+        let inner = nest(alloc, layer, DEPTH - 1, Type::Bool)?;
+        assert!(rt; whole.ty(alloc)? == whole);
+        assert!(rt; whole.inner_ty(alloc)? == inner);
+    }
+    let structs = nest(alloc, Layer::Struct, DEPTH, Type::Bool)?;
+    assert!(rt; structs.inner_ty(alloc)? == structs);
+    Ok(())
+}
+
+#[test]
+fn strange_types_are_unwrapped(rt: HostRuntime) -> Result<(), Fail> {
+    let alloc = rt.alloc();
+    let vector = nest(alloc, Layer::Vector(255), DEPTH, Type::Bool)?;
+    assert!(rt; vector.is_vec());
+    let (components, element) = vector.unwrap_vec();
+    assert_eq!(rt; components, 255);
+    assert!(rt; *element == nest(alloc, Layer::Vector(255), DEPTH - 1, Type::Bool)?);
+    let inner = Box::new(alloc, nest(alloc, Layer::Atomic, DEPTH, Type::Bool)?)?;
+    assert!(rt;
+        *Type::Atomic(inner).unwrap_atomic() == nest(alloc, Layer::Atomic, DEPTH, Type::Bool)?
+    );
+    let empty = StructType {
+        name: String::new(alloc),
+        members: Vec::new(alloc),
+    };
+    let whole = Type::Struct(Box::new(alloc, empty)?);
+    let unwrapped = whole.unwrap_struct();
+    assert!(rt; unwrapped.name.is_empty() && unwrapped.members.is_empty());
+    assert!(rt; unwrapped.offsets(alloc)? == None);
+    Ok(())
+}
