@@ -1,0 +1,350 @@
+// Types that no program would write, and long lists, in templates, structs and conversions of values.
+use super::hostile_calls::{MANY, many, text_of};
+use super::worded::{one_type, template, types};
+use std::alloc::{AllocError, Global};
+use std::process::Abort;
+use std::test::Fail;
+use wgsl_types::builtin::typecheck_struct_ctor;
+use wgsl_types::conv::{
+    convert, convert_all, convert_all_inner_to, convert_all_to, convert_all_ty, convert_inner,
+};
+use wgsl_types::inst::{Instance, LiteralInstance};
+use wgsl_types::tplt::{
+    ArrayTemplate, AtomicTemplate, BindingArrayTemplate, BitcastTemplate, MatTemplate, PtrTemplate,
+    TextureTemplate, TpltParam, VecTemplate,
+};
+use wgsl_types::ty::{StructMemberType, StructType, Ty, Type};
+use wgsl_types::{CallSignature, error};
+
+/// The type that the template makes, a vector or a matrix of 255 each way.
+fn made(alloc: Global, name: &str, template: &[TpltParam]) -> Result<Type, error::Fail> {
+    Ok(match name {
+        "array" => ArrayTemplate::parse(alloc, template)?.ty(alloc)?,
+        "binding_array" => BindingArrayTemplate::parse(alloc, template)?.ty(alloc)?,
+        "vec255" => VecTemplate::parse(alloc, template)?.ty(alloc, 255)?,
+        "mat255x255" => MatTemplate::parse(alloc, template)?.ty(alloc, 255, 255)?,
+        "ptr" => PtrTemplate::parse(alloc, template)?.ty(alloc)?,
+        "bitcast" => BitcastTemplate::parse(alloc, template)?.ty().clone(alloc)?,
+        "atomic" => AtomicTemplate::parse(alloc, template)?.ty(alloc)?,
+        _ => Type::Texture(TextureTemplate::parse(alloc, name, template)?.ty()),
+    })
+}
+
+/// Compares what templates make, or why they make nothing, with what stands in their rows.
+fn expect_made(rt: &(impl Abort + AllocGlobal), rows: &[(&str, &str, &str)]) -> Result<(), Fail> {
+    for (name, words, text) in rows {
+        let parameters = template(rt.alloc(), words)?;
+        let answer = made(rt.alloc(), name, &parameters);
+        assert_eq!(rt;
+            text_of(rt.alloc(), answer)?.as_str(),
+            *text,
+            "of {name} {words}"
+        );
+    }
+    Ok(())
+}
+
+#[test]
+fn templates_take_strange_types(rt: HostRuntime) -> Result<(), Fail> {
+    expect_made(
+        &rt,
+        &[
+            (
+                "array",
+                "< t struct E 0 n 18446744073709551615lu >",
+                "array<E, 18446744073709551615>",
+            ),
+            (
+                "array",
+                "< t ref handle read i32 >",
+                "array<ref<handle, i32, read>>",
+            ),
+            (
+                "binding_array",
+                "< t vec 0 f32 n 4294967296 >",
+                "binding_array<vec0<f32>, 4294967296>",
+            ),
+            ("vec255", "< t f64 >", "vec255<f64>"),
+            (
+                "vec255",
+                "< t vec 1 f32 >",
+                "vector template type must be a scalar",
+            ),
+            (
+                "vec255",
+                "< t struct E 0 >",
+                "vector template type must be a scalar",
+            ),
+            (
+                "mat255x255",
+                "< t AbstractFloat >",
+                "mat255x255<AbstractFloat>",
+            ),
+            (
+                "mat255x255",
+                "< t vec 255 f32 >",
+                "matrix template type must be f32 or f16",
+            ),
+            (
+                "ptr",
+                "< e function t struct E 0 >",
+                "ptr<function, E, read_write>",
+            ),
+            (
+                "ptr",
+                "< e uniform t array 18446744073709551615 f32 >",
+                "ptr<uniform, array<f32, 18446744073709551615>, read>",
+            ),
+            (
+                "ptr",
+                "< e private t ref function read i32 >",
+                "pointer type must be storable",
+            ),
+            (
+                "ptr",
+                "< e private t array 0 AbstractInt >",
+                "pointer type must be storable",
+            ),
+            (
+                "bitcast",
+                "< t vec 255 AbstractInt >",
+                "vec255<AbstractInt>",
+            ),
+            (
+                "bitcast",
+                "< t vec 2 vec 2 f32 >",
+                "bitcast template type must be a numeric scalar or numeric vector",
+            ),
+            (
+                "atomic",
+                "< t atomic i32 >",
+                "atomic template type must be an integer",
+            ),
+            (
+                "texture_2d",
+                "< t vec 0 f32 >",
+                "invalid sampled type, expected `i32`, `u32` or `f32`, got `vec0<f32>`",
+            ),
+            (
+                "texture_3d",
+                "< t ref function read f32 >",
+                "invalid sampled type, expected `i32`, `u32` or `f32`, got `ref<function, f32, read>`",
+            ),
+        ],
+    )
+}
+
+#[test]
+fn templates_refuse_no_parameters_and_300(rt: HostRuntime) -> Result<(), Fail> {
+    let alloc = rt.alloc();
+    let list = "t f32 ".repeat(alloc, MANY)?;
+    let long = template(alloc, format!(in alloc; "< {list}>")?.as_str())?;
+    let none = template(alloc, "< >")?;
+    for (name, message) in [
+        ("array", "invalid template arguments to `array`"),
+        (
+            "binding_array",
+            "invalid template arguments to `binding_array`",
+        ),
+        ("vec255", "invalid template arguments to `vector`"),
+        ("mat255x255", "invalid template arguments to `matrix`"),
+        ("ptr", "invalid template arguments to `pointer`"),
+        ("bitcast", "invalid template arguments to `bitcast`"),
+        ("atomic", "invalid template arguments to `atomic`"),
+        (
+            "texture_2d",
+            "sampled texture types take a single template parameter",
+        ),
+        (
+            "texture_storage_2d",
+            "storage texture types take two template parameters",
+        ),
+        ("texture_4d", "not a templated texture type"),
+    ] {
+        let answer = made(alloc, name, &long);
+        assert_eq!(rt; text_of(alloc, answer)?.as_str(), message);
+        let answer = made(alloc, name, &none);
+        assert_eq!(rt; text_of(alloc, answer)?.as_str(), message);
+    }
+    Ok(())
+}
+
+/// A struct of so many members of the type that the words stand for.
+fn struct_of(alloc: Global, count: usize, words: &str) -> Result<StructType, Fail> {
+    let mut members = Vec::new(alloc);
+    for _ in 0..count {
+        let ty = one_type(alloc, words)?;
+        members.push(StructMemberType::new(String::from_str(alloc, "a")?, ty))?;
+    }
+    let name = String::from_str(alloc, "S")?;
+    Ok(StructType { name, members })
+}
+
+/// What the check of a struct's constructor says, empty where it passes.
+fn check(alloc: Global, of: &StructType, args: &[Type]) -> Result<String, AllocError> {
+    match typecheck_struct_ctor(alloc, of, args) {
+        Ok(()) => Ok(String::new(alloc)),
+        Err(error::Fail::Error(e)) => e.to_string(alloc),
+        Err(error::Fail::Memory(e)) => Err(e),
+    }
+}
+
+#[test]
+fn structs_are_made_of_strange_types(rt: HostRuntime) -> Result<(), Fail> {
+    let alloc = rt.alloc();
+    for (count, member, args, message) in [
+        (0, "f32", "", ""),
+        (
+            0,
+            "f32",
+            "f32",
+            "incorrect number of arguments to `S`, expected `0`, got `1`",
+        ),
+        (
+            1,
+            "array 18446744073709551615 f32",
+            "array 18446744073709551615 AbstractInt",
+            "",
+        ),
+        (
+            1,
+            "array 0 f32",
+            "array 18446744073709551615 f32",
+            "invalid parameter type, expected `array<f32, 0>`, got `array<f32, 18446744073709551615>`",
+        ),
+        (
+            1,
+            "ref function read i32",
+            "ref private read ref function read i32",
+            "",
+        ),
+        (
+            2,
+            "struct E 0",
+            "struct E 0 struct F 0",
+            "invalid parameter type, expected `E`, got `F`",
+        ),
+    ] {
+        let of = struct_of(alloc, count, member)?;
+        let args = types(alloc, args)?;
+        assert_eq!(rt; check(alloc, &of, &args)?.as_str(), message);
+    }
+    Ok(())
+}
+
+#[test]
+fn structs_of_300_members_are_made_and_placed(rt: HostRuntime) -> Result<(), Fail> {
+    let alloc = rt.alloc();
+    let of = struct_of(alloc, MANY, "f32")?;
+    let mut args = many(alloc, "AbstractInt ")?;
+    assert_eq!(rt; check(alloc, &of, &args)?.as_str(), "");
+    let Some(last) = args.pop() else {
+        return Err("there are arguments".into());
+    };
+    assert!(rt; last == Type::AbstractInt);
+    assert_eq!(rt;
+        check(alloc, &of, &args)?.as_str(),
+        "incorrect number of arguments to `S`, expected `300`, got `299`"
+    );
+    args.push(Type::Bool)?;
+    assert_eq!(rt;
+        check(alloc, &of, &args)?.as_str(),
+        "invalid parameter type, expected `f32`, got `bool`"
+    );
+    let Some(offsets) = of.offsets(alloc)? else {
+        return Err("it has a size".into());
+    };
+    let mut places = Vec::new(alloc);
+    for place in 0..300u32 {
+        places.push(place * 4)?;
+    }
+    assert!(rt; offsets == places);
+    assert!(rt; of.clone(alloc)? == of);
+    Ok(())
+}
+
+#[test]
+fn literals_convert_to_their_types_alone(rt: HostRuntime) -> Result<(), Fail> {
+    let alloc = rt.alloc();
+    let one = Instance::Literal(LiteralInstance::AbstractInt(-9223372036854775808));
+    for words in [
+        "bool",
+        "i64",
+        "vec 1 AbstractInt",
+        "array 1 AbstractInt",
+        "mat 1 1 f32",
+        "ref function read AbstractInt",
+        "atomic AbstractInt",
+        "struct E 0",
+        "ptr handle read i32",
+    ] {
+        assert!(rt; !one.is_convertible_to(&one_type(alloc, words)?), "{words}");
+    }
+    for words in ["AbstractInt", "i32", "u32", "AbstractFloat", "f32", "f16"] {
+        assert!(rt; one.is_convertible_to(&one_type(alloc, words)?), "{words}");
+    }
+    assert!(rt; one.ty(alloc)? == Type::AbstractInt);
+    assert!(rt; one.inner_ty(alloc)? == Type::AbstractInt);
+    Ok(())
+}
+
+#[test]
+fn strange_values_convert_together(rt: HostRuntime) -> Result<(), Fail> {
+    let alloc = rt.alloc();
+    let counted = one_type(alloc, "array 18446744073709551615 AbstractInt")?;
+    let long = one_type(alloc, "vec 255 f32")?;
+    let Some((x, y)) = convert_inner(alloc, &counted, &long)? else {
+        return Err("the inner types have a common type".into());
+    };
+    assert!(rt; x == one_type(alloc, "array 18446744073709551615 f32")? && y == long);
+    assert!(rt; convert(alloc, &counted, &long)?.is_none());
+    let references = types(alloc, "array 2 ref function read i32 array 2 i32")?;
+    let Some(converted) = convert_all(alloc, &references)? else {
+        return Err("one converts to the other".into());
+    };
+    assert!(rt; converted == types(alloc, "array 2 i32 array 2 i32")?);
+    let empty = types(alloc, "struct E 0 struct E 0")?;
+    let Some(converted) = convert_all(alloc, &empty)? else {
+        return Err("they are equal".into());
+    };
+    assert!(rt; converted == empty);
+    Ok(())
+}
+
+#[test]
+fn lists_of_300_values_convert(rt: HostRuntime) -> Result<(), Fail> {
+    let alloc = rt.alloc();
+    let mut values = many(alloc, "vec 255 AbstractInt ")?;
+    let last = one_type(alloc, "vec 255 f16")?;
+    let halves = many(alloc, "vec 255 f16 ")?;
+    assert!(rt; convert_all_to(alloc, &values, &last)? == Some(many(alloc, "vec 255 f16 ")?));
+    assert!(rt; convert_all_inner_to(alloc, &values, &Type::F16)? == Some(halves));
+    values.push(one_type(alloc, "vec 255 f16")?)?;
+    assert!(rt; convert_all_ty(&values) == Some(&last));
+    let Some(converted) = convert_all(alloc, &values)? else {
+        return Err("the last is common".into());
+    };
+    assert_eq!(rt; converted.len(), MANY + 1);
+    assert!(rt; converted.iter().all(|ty| *ty == last));
+    values.push(one_type(alloc, "vec 0 f16")?)?;
+    assert!(rt; convert_all_ty(&values) == None);
+    assert!(rt; convert_all(alloc, &values)?.is_none());
+    Ok(())
+}
+
+#[test]
+fn calls_of_300_arguments_are_copied(rt: HostRuntime) -> Result<(), Fail> {
+    let alloc = rt.alloc();
+    let call = CallSignature {
+        name: String::new(alloc),
+        tplt: Some(template(alloc, "< t struct E 0 n -1li e function >")?),
+        args: many(alloc, "struct E 0 ")?,
+    };
+    assert!(rt; call.clone(alloc)? == call);
+    let list = "E, ".repeat(alloc, MANY - 1)?;
+    let text = format!(in alloc; "<E, -1li, function>({list}E)")?;
+    assert_eq!(rt; call.to_string(alloc)?.as_str(), text.as_str());
+    let refusal = error::Error::Signature(call);
+    assert!(rt; refusal.clone(alloc)? == refusal);
+    Ok(())
+}
