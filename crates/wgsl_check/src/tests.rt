@@ -1,7 +1,9 @@
 // What no clause says: which lines are answered how, and what a read or a write that fails comes to.
+mod ample_memory;
 mod calls;
 mod constructors;
 mod conversion;
+mod failing;
 mod hostile;
 mod hostile_calls;
 mod hostile_values;

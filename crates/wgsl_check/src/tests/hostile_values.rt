@@ -17,7 +17,7 @@ use wgsl_types::ty::{StructMemberType, StructType, Ty, Type};
 use wgsl_types::{CallSignature, error};
 
 /// The type that the template makes, a vector or a matrix of 255 each way.
-fn made(alloc: Global, name: &str, template: &[TpltParam]) -> Result<Type, error::Fail> {
+pub fn made(alloc: Global, name: &str, template: &[TpltParam]) -> Result<Type, error::Fail> {
     Ok(match name {
         "array" => ArrayTemplate::parse(alloc, template)?.ty(alloc)?,
         "binding_array" => BindingArrayTemplate::parse(alloc, template)?.ty(alloc)?,

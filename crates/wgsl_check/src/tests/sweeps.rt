@@ -179,7 +179,7 @@ fn strange_types_convert_as_their_ranks_say(rt: HostRuntime) -> Result<(), Fail>
 }
 
 /// What the method of the operator answers.
-fn by_method(
+pub fn by_method(
     alloc: Global,
     operator: BinaryOperator,
     lhs: &Type,
@@ -260,15 +260,24 @@ fn operators_agree_on_strange_types(rt: HostRuntime) -> Result<(), Fail> {
     Ok(())
 }
 
-/// Whether the operator answers by its method: the type, or a refusal of the operand.
-fn unary_agrees(alloc: Global, operator: UnaryOperator, ty: &Type) -> Result<bool, AllocError> {
-    let method = match operator {
+/// What the method of the operator answers.
+pub fn by_unary_method(
+    alloc: Global,
+    operator: UnaryOperator,
+    ty: &Type,
+) -> Result<Type, error::Fail> {
+    match operator {
         UnaryOperator::LogicalNegation => ty.op_not(alloc),
         UnaryOperator::Negation => ty.op_neg(alloc),
         UnaryOperator::BitwiseComplement => ty.op_bitnot(alloc),
         UnaryOperator::AddressOf => ty.op_ref(alloc),
         UnaryOperator::Indirection => ty.op_deref(alloc),
-    };
+    }
+}
+
+/// Whether the operator answers by its method: the type, or a refusal of the operand.
+fn unary_agrees(alloc: Global, operator: UnaryOperator, ty: &Type) -> Result<bool, AllocError> {
+    let method = by_unary_method(alloc, operator, ty);
     let answer = type_unary_op(alloc, operator, ty);
     match (&method, &answer) {
         (Ok(ty), Ok(other)) => Ok(ty == other),
