@@ -143,11 +143,11 @@ fn parent(place: Place) -> Option<Place>
 {
     match place {
         Place::Scalar(scalar) => match scalar {
-            Scalar::I32 | Scalar::U32 | Scalar::AbstractFloat => Some(Place::Scalar(
-                Scalar::AbstractInt,
-            )),
+            Scalar::I32 | Scalar::U32 | Scalar::AbstractFloat | Scalar::I64 | Scalar::U64 => {
+                Some(Place::Scalar(Scalar::AbstractInt))
+            }
             Scalar::F32 | Scalar::F16 => Some(Place::Scalar(Scalar::AbstractFloat)),
-            Scalar::Bool | Scalar::AbstractInt | Scalar::I64 | Scalar::U64 | Scalar::F64 => None,
+            Scalar::Bool | Scalar::AbstractInt | Scalar::F64 => None,
         },
         Place::Result(result_struct) => match result_struct.precision {
             ResultPrecision::Abstract => None,
@@ -171,7 +171,9 @@ fn depth(place: Place) -> u32
             Scalar::AbstractFloat => 5,
             Scalar::F32 => 6,
             Scalar::F16 => 7,
-            Scalar::Bool | Scalar::AbstractInt | Scalar::I64 | Scalar::U64 | Scalar::F64 => 0,
+            Scalar::I64 => 8,
+            Scalar::U64 => 9,
+            Scalar::Bool | Scalar::AbstractInt | Scalar::F64 => 0,
         },
         Place::Result(result_struct) => match result_struct.precision {
             ResultPrecision::Abstract => 0,

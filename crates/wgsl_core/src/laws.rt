@@ -25,7 +25,7 @@ pub fn targets_comparable(a: &Type, b: &Type, c: &Type)
     ensures { IsValueType (view a.now) → IsValueType (view b.now) → TargetsComparable (view a.now) (view b.now) (view c.now) }
 {}
 
-/// Two targets of a value type that it converts to with one rank are equal, and no rank passes 7.
+/// Two targets of a value type that it converts to with one rank are equal, and no rank passes 9.
 #[tactic(auto, using(wgsl_rules::proofs::Lawful::names_target))]
 pub fn rank_names_target(a: &Type, b: &Type, c: &Type)
     ensures { IsValueType (view a.now) → RankNamesTarget (view a.now) (view b.now) (view c.now) }

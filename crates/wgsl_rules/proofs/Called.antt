@@ -9,7 +9,7 @@ use Rattle.wgsl_syntax.specs.declared.result_struct.ResultShape.{ResultShape}
 use Rattle.wgsl_syntax.specs.declared.result_struct.ResultPrecision.{ResultPrecision}
 use Rattle.wgsl_rules.specs.Types.{Layer, vec_of, WgslType, scalar, within, vec}
 use Rattle.wgsl_rules.specs.ResultStructs.{result_struct}
-use Rattle.wgsl_rules.specs.Conversion.{BaseStep, int_to_float, int_to_i32, int_to_u32, float_to_f32, float_to_f16, result_to_f32, result_to_f16, Step, base, inside, IsValueType, ConvertsTo}
+use Rattle.wgsl_rules.specs.Conversion.{BaseStep, int_to_float, int_to_i32, int_to_u32, int_to_i64, int_to_u64, float_to_f32, float_to_f16, result_to_f32, result_to_f16, Step, base, inside, IsValueType, ConvertsTo}
 use Rattle.wgsl_rules.specs.Common.{IsCommon, IsLeftCommon, Receives, IsLeastCommon}
 use Rattle.wgsl_rules.specs.Candidates.{Name, min, max, clamp, dot, select, IsMinMax, IsCandidate, of_two, of_three, products, either, each_either}
 use Rattle.wgsl_rules.specs.Kinds.{IsNumeric, IsNumericOrVector, IsScalarOrVector}
@@ -32,6 +32,8 @@ base_number : {t u : WgslType} {w : ℕ} → BaseStep t u w → Admits a_number 
 base_number int_to_float h = tt
 base_number int_to_i32 h = tt
 base_number int_to_u32 h = tt
+base_number int_to_i64 h = tt
+base_number int_to_u64 h = tt
 base_number float_to_f32 h = tt
 base_number float_to_f16 h = tt
 base_number (result_to_f32 m s) h = result_number m s _ _ h

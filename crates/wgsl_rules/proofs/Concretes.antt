@@ -1,14 +1,14 @@
 -- The concrete type of least rank.
-use Rattle.std.proofs.Common.{◌≡◌, ◌≢◌, ℕ, ◌<◌, ◌≤◌, ◌⊎◌, ◌↔◌, Bool, true, false, refl, sym, ◌∙◌, ap, subst, inl, inr, arith}
+use Rattle.std.proofs.Common.{◌≡◌, ◌≢◌, ℕ, ◌<◌, ◌⊎◌, ◌↔◌, Some, None, Bool, true, false, refl, sym, ◌∙◌, ap, subst, inl, inr, arith}
 use native.Mathlib.Decide.{ℕ_discrete}
 use Rattle.wgsl_syntax.specs.declared.scalar.Scalar.{Scalar}
-use Rattle.wgsl_syntax.specs.declared.scalar.Scalar.TheVariants.{AbstractInt, AbstractFloat, I32, U32, F32, F16, F64}
+use Rattle.wgsl_syntax.specs.declared.scalar.Scalar.TheVariants.{AbstractInt, AbstractFloat, I32, U32, F32, F16, I64, U64, F64}
 use Rattle.wgsl_rules.specs.Types.{Layer, array_of, vec_of, mat_of, WgslType, scalar, within}
 use Rattle.wgsl_rules.specs.Conversion.{int_to_i32, float_to_f32, base, IsValueType}
 use Rattle.wgsl_rules.specs.Concrete.{is_abstract, IsAbstract, IsFloat, HasFloatMatrices, IsLeastConcrete, concretized}
 use Rattle.wgsl_rules.proofs.Steps.{depth}
 use Rattle.wgsl_rules.proofs.Order.{Above, here, further, above_depth, above_level, above_inside, above_from_within, above_converts, value_converts}
-use Rattle.wgsl_rules.proofs.Equations.{above_plain, IsPlainScalar}
+use Rattle.wgsl_rules.proofs.Equations.{above_plain, IsPlainScalar, scalar_rank, converts_scalar}
 
 record Least (t u : WgslType) : Type 0 where
   above : Above t u
@@ -37,8 +37,11 @@ within_layer l t u k = record {
       ];
 }
 
-no_target : (r s : Scalar) → r ≢ s → depth (scalar s) ≤ depth (scalar r) → ¬ Above (scalar r) (scalar s)
-no_target r s n h a = let e : scalar r ≡ scalar s = above_level a h in n (cc e)
+no_target : (r s : Scalar) → scalar_rank r s ≡ None → ¬ Above (scalar r) (scalar s)
+no_target r s n a =
+    let k = above_converts a in
+    let e : None ≡ Some k.0 = sym n ∙ (converts_scalar r s k.0).0 k.1 in
+    cc e
 
 int_targets : (s : Scalar) → Above (scalar AbstractInt) (scalar s) → ¬ IsAbstract (scalar s) → (scalar s ≡ scalar I32) ⊎ (3 < depth (scalar s))
 int_targets AbstractInt a c = absurd (c refl)
@@ -47,13 +50,15 @@ int_targets I32 a c = inl refl
 int_targets U32 a c = inr (omega arith)
 int_targets F32 a c = inr (omega arith)
 int_targets F16 a c = inr (omega arith)
-int_targets s a c = absurd (no_target AbstractInt s (λ e. cc e) (omega arith) a)
+int_targets I64 a c = inr (omega arith)
+int_targets U64 a c = inr (omega arith)
+int_targets s a c = absurd (no_target AbstractInt s refl a)
 
 float_targets : (s : Scalar) → Above (scalar AbstractFloat) (scalar s) → ¬ IsAbstract (scalar s) → (scalar s ≡ scalar F32) ⊎ (6 < depth (scalar s))
 float_targets AbstractFloat a c = absurd (c refl)
 float_targets F32 a c = inl refl
 float_targets F16 a c = inr (omega arith)
-float_targets s a c = absurd (no_target AbstractFloat s (λ e. cc e) (omega arith) a)
+float_targets s a c = absurd (no_target AbstractFloat s refl a)
 
 plain_least : (r u : Scalar) → Above (scalar r) (scalar u) → ¬ IsAbstract (scalar u) →
     ((s : Scalar) → Above (scalar r) (scalar s) → ¬ IsAbstract (scalar s) → (scalar s ≡ scalar u) ⊎ (depth (scalar u) < depth (scalar s))) →

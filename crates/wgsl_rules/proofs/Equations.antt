@@ -11,7 +11,7 @@ use Rattle.wgsl_syntax.specs.declared.result_struct.ResultPrecision.TheVariants 
 use Rattle.wgsl_rules.specs.Types.{Layer, WgslType, scalar, within, reference, struct, Members}
 use Rattle.wgsl_rules.specs.ResultStructs.{result_struct}
 use Rattle.wgsl_syntax.specs.Address.{MayRead}
-use Rattle.wgsl_rules.specs.Conversion.{BaseStep, int_to_float, int_to_i32, int_to_u32, float_to_f32, float_to_f16, result_to_f32, result_to_f16, Step, base, inside, Load, load, load_inside, Converts}
+use Rattle.wgsl_rules.specs.Conversion.{BaseStep, int_to_float, int_to_i32, int_to_u32, int_to_i64, int_to_u64, float_to_f32, float_to_f16, result_to_f32, result_to_f16, Step, base, inside, Load, load, load_inside, Converts}
 use Rattle.wgsl_rules.proofs.Steps.{depth, depth-result_struct, parent, scalar_at, step_parent}
 use Rattle.wgsl_rules.proofs.Order.{Above, here, further, above_inside, above_from_within, above_along, along_above, value_converts, above_target, converts_once, dec_converts}
 
@@ -81,6 +81,8 @@ base_no_root : {t u : WgslType} {w : ℕ} → BaseStep t u w → ¬ IsRoot t
 base_no_root int_to_float h = h
 base_no_root int_to_i32 h = h
 base_no_root int_to_u32 h = h
+base_no_root int_to_i64 h = h
+base_no_root int_to_u64 h = h
 base_no_root float_to_f32 h = h
 base_no_root float_to_f16 h = h
 base_no_root (result_to_f32 m s) h = result_no_root m s h
@@ -146,6 +148,8 @@ scalar_rank AbstractInt U32 = Some 4
 scalar_rank AbstractInt AbstractFloat = Some 5
 scalar_rank AbstractInt F32 = Some 6
 scalar_rank AbstractInt F16 = Some 7
+scalar_rank AbstractInt I64 = Some 8
+scalar_rank AbstractInt U64 = Some 9
 scalar_rank AbstractFloat AbstractFloat = Some 0
 scalar_rank AbstractFloat F32 = Some 1
 scalar_rank AbstractFloat F16 = Some 2
@@ -171,6 +175,8 @@ base_plain : {t u : WgslType} {w : ℕ} → BaseStep t u w → IsPlainScalar t �
 base_plain int_to_float h = tt
 base_plain int_to_i32 h = tt
 base_plain int_to_u32 h = tt
+base_plain int_to_i64 h = tt
+base_plain int_to_u64 h = tt
 base_plain float_to_f32 h = tt
 base_plain float_to_f16 h = tt
 base_plain (result_to_f32 m s) h = result_plain m s _ _ h
@@ -196,6 +202,8 @@ table_above AbstractInt U32 w e = let p : 4 ≡ w = cc e in (further here (base 
 table_above AbstractInt AbstractFloat w e = let p : 5 ≡ w = cc e in (further here int_float, omega arith)
 table_above AbstractInt F32 w e = let p : 6 ≡ w = cc e in (further (further here int_float) (base float_to_f32), omega arith)
 table_above AbstractInt F16 w e = let p : 7 ≡ w = cc e in (further (further here int_float) (base float_to_f16), omega arith)
+table_above AbstractInt I64 w e = let p : 8 ≡ w = cc e in (further here (base int_to_i64), omega arith)
+table_above AbstractInt U64 w e = let p : 9 ≡ w = cc e in (further here (base int_to_u64), omega arith)
 table_above AbstractFloat AbstractFloat w e = let p : 0 ≡ w = cc e in (here, omega arith)
 table_above AbstractFloat F32 w e = let p : 1 ≡ w = cc e in (further here (base float_to_f32), omega arith)
 table_above AbstractFloat F16 w e = let p : 2 ≡ w = cc e in (further here (base float_to_f16), omega arith)
@@ -245,8 +253,8 @@ above_table a I32 h = from_int a I32 0 3 refl refl refl h
 above_table a U32 h = from_int a U32 0 4 refl refl refl h
 above_table a F32 h = from_float a F32 0 1 6 refl refl refl refl h
 above_table a F16 h = from_float a F16 0 2 7 refl refl refl refl h
-above_table a I64 h = known a I64 I64 0 (alone a I64 (λ q. cc q) h) refl
-above_table a U64 h = known a U64 U64 0 (alone a U64 (λ q. cc q) h) refl
+above_table a I64 h = from_int a I64 0 8 refl refl refl h
+above_table a U64 h = from_int a U64 0 9 refl refl refl h
 above_table a F64 h = known a F64 F64 0 (alone a F64 (λ q. cc q) h) refl
 
 pub converts_scalar : (a b : Scalar) (w : ℕ) → Converts (scalar a) (scalar b) w ↔ scalar_rank a b ≡ Some w
@@ -279,6 +287,8 @@ base_struct : {t u : WgslType} {w : ℕ} → BaseStep t u w → IsStruct t → I
 base_struct int_to_float h = absurd h
 base_struct int_to_i32 h = absurd h
 base_struct int_to_u32 h = absurd h
+base_struct int_to_i64 h = absurd h
+base_struct int_to_u64 h = absurd h
 base_struct float_to_f32 h = absurd h
 base_struct float_to_f16 h = absurd h
 base_struct (result_to_f32 m s) h = (m, s, refl, inl (refl, refl))

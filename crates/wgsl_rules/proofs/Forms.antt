@@ -1,14 +1,14 @@
 -- The candidates of a name are families, and the outer layers of the operands say which family can take them.
 use Rattle.std.proofs.Common.{◌≡◌, ℕ, ◌⊎◌, List, [], ◌∷◌, Option, Some, None, All, refl, ◌∙◌, inl, inr}
 use Rattle.wgsl_syntax.specs.declared.scalar.Scalar.{Scalar}
-use Rattle.wgsl_syntax.specs.declared.scalar.Scalar.TheVariants.{Bool, AbstractInt, AbstractFloat, I32, U32, F32, F16}
+use Rattle.wgsl_syntax.specs.declared.scalar.Scalar.TheVariants.{Bool, AbstractInt, AbstractFloat, I32, U32, I64, U64, F32, F16}
 use Rattle.wgsl_syntax.specs.declared.result_struct.ResultFunction.{ResultFunction}
 use Rattle.wgsl_syntax.specs.declared.result_struct.ResultShape.{ResultShape}
 use Rattle.wgsl_syntax.specs.declared.result_struct.ResultPrecision.{ResultPrecision}
 use Rattle.wgsl_syntax.specs.declared.result_struct.ResultPrecision.TheVariants as precision
 use Rattle.wgsl_rules.specs.Types.{Layer, vec_of, mat_of, WgslType, scalar, within, vec, mat}
 use Rattle.wgsl_rules.specs.ResultStructs.{result_struct}
-use Rattle.wgsl_rules.specs.Conversion.{BaseStep, int_to_float, int_to_i32, int_to_u32, float_to_f32, float_to_f16, result_to_f32, result_to_f16, Step, base, inside, IsValueType}
+use Rattle.wgsl_rules.specs.Conversion.{BaseStep, int_to_float, int_to_i32, int_to_u32, int_to_i64, int_to_u64, float_to_f32, float_to_f16, result_to_f32, result_to_f16, Step, base, inside, IsValueType}
 use Rattle.wgsl_syntax.specs.declared.operator.BinaryOperator.{BinaryOperator}
 use Rattle.wgsl_syntax.specs.declared.operator.BinaryOperator.TheVariants.{ShortCircuitOr, ShortCircuitAnd, Addition, Subtraction, Multiplication, Division, Remainder, Equality, Inequality, LessThan, LessThanEqual, GreaterThan, GreaterThanEqual, BitwiseOr, BitwiseAnd, BitwiseXor, ShiftLeft, ShiftRight}
 use Rattle.wgsl_rules.specs.Candidates.{Name, operator, min, max, clamp, dot, select, IsArithmetic, IsSum, IsComparison, IsLogical, IsBitwise, IsOrAnd, IsShift, IsMinMax, IsCandidate, scalars, vectors, scalar_vector, vector_scalar, matrices, scalar_matrix, matrix_scalar, vector_matrix, matrix_vector, matrix_matrix, compared, compared_vectors, logical, bits, bits_vectors, bools_vectors, shifted, shifted_vectors, of_two, of_three, products, either, each_either}
@@ -66,6 +66,8 @@ base_admits : {t u : WgslType} {w : ℕ} → BaseStep t u w → (k : Kind) → A
 base_admits int_to_float k h = admits_int k AbstractFloat (λ n. n) h
 base_admits int_to_i32 k h = admits_int k I32 (λ n. n) h
 base_admits int_to_u32 k h = admits_int k U32 (λ n. n) h
+base_admits int_to_i64 k h = admits_int k I64 (λ n. n) h
+base_admits int_to_u64 k h = admits_int k U64 (λ n. n) h
 base_admits float_to_f32 k h = admits_float k F32 (λ n. n) (λ n. n) h
 base_admits float_to_f16 k h = admits_float k F16 (λ n. n) (λ n. n) h
 base_admits (result_to_f32 m s) k h = admits_result k m s precision.F32 precision.Abstract h
@@ -106,6 +108,8 @@ unfolding result_struct
 base_outer int_to_float = refl
 base_outer int_to_i32 = refl
 base_outer int_to_u32 = refl
+base_outer int_to_i64 = refl
+base_outer int_to_u64 = refl
 base_outer float_to_f32 = refl
 base_outer float_to_f16 = refl
 base_outer (result_to_f32 m s) = refl

@@ -11,7 +11,7 @@ use Rattle.wgsl_syntax.specs.declared.result_struct.ResultPrecision.TheVariants 
 use Rattle.wgsl_rules.specs.Types.{Layer, vec_of, WgslType, scalar, within, reference, struct, Members, no_members, member}
 use Rattle.wgsl_rules.specs.ResultStructs.{float_of, shaped, result_members, result_struct}
 use Rattle.wgsl_syntax.specs.ResultStruct.{function_text, shape_text, precision_text}
-use Rattle.wgsl_rules.specs.Conversion.{BaseStep, int_to_float, int_to_i32, int_to_u32, float_to_f32, float_to_f16, result_to_f32, result_to_f16, Step, base, inside, IsValueType}
+use Rattle.wgsl_rules.specs.Conversion.{BaseStep, int_to_float, int_to_i32, int_to_u32, int_to_i64, int_to_u64, float_to_f32, float_to_f16, result_to_f32, result_to_f16, Step, base, inside, IsValueType}
 use Rattle.wgsl_rules.proofs.Equality.{same_type}
 
 -- Depths
@@ -22,6 +22,8 @@ scalar_depth U32 = 4
 scalar_depth AbstractFloat = 5
 scalar_depth F32 = 6
 scalar_depth F16 = 7
+scalar_depth I64 = 8
+scalar_depth U64 = 9
 scalar_depth s = 0
 
 -- the scalar at the bottom
@@ -68,6 +70,8 @@ base_depth : {t u : WgslType} {w : ℕ} → BaseStep t u w → depth u ≡ depth
 base_depth int_to_float = refl
 base_depth int_to_i32 = refl
 base_depth int_to_u32 = refl
+base_depth int_to_i64 = refl
+base_depth int_to_u64 = refl
 base_depth float_to_f32 = refl
 base_depth float_to_f16 = refl
 base_depth (result_to_f32 m s) = omega (arith, depth-result_struct m s precision.Abstract, depth-result_struct m s precision.F32)
@@ -81,6 +85,8 @@ base_positive : {t u : WgslType} {w : ℕ} → BaseStep t u w → 0 < w
 base_positive int_to_float = omega arith
 base_positive int_to_i32 = omega arith
 base_positive int_to_u32 = omega arith
+base_positive int_to_i64 = omega arith
+base_positive int_to_u64 = omega arith
 base_positive float_to_f32 = omega arith
 base_positive float_to_f16 = omega arith
 base_positive (result_to_f32 m s) = omega arith
@@ -90,7 +96,7 @@ pub step_positive : {t u : WgslType} {w : ℕ} → Step t u w → 0 < w
 step_positive (base b) = base_positive b
 step_positive (inside l s) = step_positive s
 
-scalar_depth_small : (s : Scalar) → scalar_depth s ≤ 7
+scalar_depth_small : (s : Scalar) → scalar_depth s ≤ 9
 scalar_depth_small Bool = omega arith
 scalar_depth_small AbstractInt = omega arith
 scalar_depth_small AbstractFloat = omega arith
@@ -102,12 +108,12 @@ scalar_depth_small I64 = omega arith
 scalar_depth_small U64 = omega arith
 scalar_depth_small F64 = omega arith
 
-float_depth_small : (s : Scalar) → float_depth s ≤ 7
+float_depth_small : (s : Scalar) → float_depth s ≤ 9
 float_depth_small F32 = omega arith
 float_depth_small F16 = omega arith
 float_depth_small s = omega arith
 
-pub depth_small : (t : WgslType) → depth t ≤ 7
+pub depth_small : (t : WgslType) → depth t ≤ 9
 depth_small (scalar s) = scalar_depth_small s
 depth_small (within l t) = depth_small t
 depth_small (struct n ms) = float_depth_small (core (first ms))
@@ -118,6 +124,8 @@ depth_small t = omega arith
 abbrev pub scalar_height : Scalar → ℕ
 scalar_height I32 = 1
 scalar_height U32 = 1
+scalar_height I64 = 1
+scalar_height U64 = 1
 scalar_height AbstractFloat = 1
 scalar_height F32 = 2
 scalar_height F16 = 2
@@ -142,6 +150,8 @@ base_height : {t u : WgslType} {w : ℕ} → BaseStep t u w → height u ≡ hei
 base_height int_to_float = refl
 base_height int_to_i32 = refl
 base_height int_to_u32 = refl
+base_height int_to_i64 = refl
+base_height int_to_u64 = refl
 base_height float_to_f32 = refl
 base_height float_to_f16 = refl
 base_height (result_to_f32 m s) = omega (arith, height-result_struct m s precision.Abstract, height-result_struct m s precision.F32)
@@ -154,6 +164,8 @@ step_height (inside l s) = step_height s
 scalar_height_small : (s : Scalar) → scalar_height s ≤ 2
 scalar_height_small I32 = omega arith
 scalar_height_small U32 = omega arith
+scalar_height_small I64 = omega arith
+scalar_height_small U64 = omega arith
 scalar_height_small AbstractFloat = omega arith
 scalar_height_small F32 = omega arith
 scalar_height_small F16 = omega arith
@@ -230,6 +242,8 @@ base_parent : {t u : WgslType} {w : ℕ} → BaseStep t u w → parent u ≡ t
 base_parent int_to_float = refl
 base_parent int_to_i32 = refl
 base_parent int_to_u32 = refl
+base_parent int_to_i64 = refl
+base_parent int_to_u64 = refl
 base_parent float_to_f32 = refl
 base_parent float_to_f16 = refl
 base_parent (result_to_f32 m s) = parent-result_struct m s precision.F32
@@ -242,7 +256,7 @@ step_parent (inside l s) = ap (λ t. within l t) (step_parent s)
 -- Where a type can be converted to, by the depth there
 
 abbrev pub scalar_at : ℕ → Scalar
-scalar_at d = cond (eqb d 3) I32 (cond (eqb d 4) U32 (cond (eqb d 5) AbstractFloat (cond (eqb d 6) F32 F16)))
+scalar_at d = cond (eqb d 3) I32 (cond (eqb d 4) U32 (cond (eqb d 5) AbstractFloat (cond (eqb d 6) F32 (cond (eqb d 8) I64 (cond (eqb d 9) U64 F16)))))
 
 abbrev pub precision_at : ℕ → ResultPrecision
 precision_at d = cond (eqb d 1) precision.F32 precision.F16
@@ -263,6 +277,8 @@ base_target : {t u : WgslType} {w : ℕ} → BaseStep t u w → u ≡ target t (
 base_target int_to_float = refl
 base_target int_to_i32 = refl
 base_target int_to_u32 = refl
+base_target int_to_i64 = refl
+base_target int_to_u64 = refl
 base_target float_to_f32 = refl
 base_target float_to_f16 = refl
 base_target (result_to_f32 m s) = result_target m s precision.Abstract precision.F32 1 (depth-result_struct m s precision.F32) refl
@@ -276,6 +292,8 @@ base_family : {t u : WgslType} {w : ℕ} → BaseStep t u w → (d : ℕ) → ta
 base_family int_to_float d = refl
 base_family int_to_i32 d = refl
 base_family int_to_u32 d = refl
+base_family int_to_i64 d = refl
+base_family int_to_u64 d = refl
 base_family float_to_f32 d = refl
 base_family float_to_f16 d = refl
 base_family (result_to_f32 m s) d = target-result_struct m s precision.Abstract d ∙ sym (target-result_struct m s precision.F32 d)
@@ -300,6 +318,8 @@ base_leaves : {t u : WgslType} {w : ℕ} → BaseStep t u w → IsLeaf t × IsLe
 base_leaves int_to_float = (tt, tt)
 base_leaves int_to_i32 = (tt, tt)
 base_leaves int_to_u32 = (tt, tt)
+base_leaves int_to_i64 = (tt, tt)
+base_leaves int_to_u64 = (tt, tt)
 base_leaves float_to_f32 = (tt, tt)
 base_leaves float_to_f16 = (tt, tt)
 base_leaves (result_to_f32 m s) = (result_leaf m s precision.Abstract, result_leaf m s precision.F32)
@@ -332,15 +352,17 @@ step_from_within (inside {t = t} {u = v} {w = w} k s) l u e =
 -- Whether a step leads to a type
 
 base_refuted : {t u : WgslType} {w : ℕ} → BaseStep t u w →
-    u ≢ scalar AbstractFloat → u ≢ scalar I32 → u ≢ scalar U32 → u ≢ scalar F32 → u ≢ scalar F16 →
+    u ≢ scalar AbstractFloat → u ≢ scalar I32 → u ≢ scalar U32 → u ≢ scalar I64 → u ≢ scalar U64 → u ≢ scalar F32 → u ≢ scalar F16 →
     u ≢ variant_of u precision.F32 → u ≢ variant_of u precision.F16 → ⊥
-base_refuted int_to_float a b c d e f g = a refl
-base_refuted int_to_i32 a b c d e f g = b refl
-base_refuted int_to_u32 a b c d e f g = c refl
-base_refuted float_to_f32 a b c d e f g = d refl
-base_refuted float_to_f16 a b c d e f g = e refl
-base_refuted (result_to_f32 m s) a b c d e f g = f (sym (variant_of-result_struct m s precision.F32 precision.F32))
-base_refuted (result_to_f16 m s) a b c d e f g = g (sym (variant_of-result_struct m s precision.F16 precision.F16))
+base_refuted int_to_float a b c i j d e f g = a refl
+base_refuted int_to_i32 a b c i j d e f g = b refl
+base_refuted int_to_u32 a b c i j d e f g = c refl
+base_refuted int_to_i64 a b c i j d e f g = i refl
+base_refuted int_to_u64 a b c i j d e f g = j refl
+base_refuted float_to_f32 a b c i j d e f g = d refl
+base_refuted float_to_f16 a b c i j d e f g = e refl
+base_refuted (result_to_f32 m s) a b c i j d e f g = f (sym (variant_of-result_struct m s precision.F32 precision.F32))
+base_refuted (result_to_f16 m s) a b c i j d e f g = g (sym (variant_of-result_struct m s precision.F16 precision.F16))
 
 abbrev IsBaseChild : WgslType → Type 0
 IsBaseChild u = (t : WgslType) × (w : ℕ) × BaseStep t u w
@@ -356,19 +378,27 @@ base_child u =
                 elim (same_type u (scalar U32)) [
                   | yes e ↦ yes (rw e (_, 4, int_to_u32))
                   | no c ↦
-                      elim (same_type u (scalar F32)) [
-                        | yes e ↦ yes (rw e (_, 1, float_to_f32))
-                        | no d ↦
-                            elim (same_type u (scalar F16)) [
-                              | yes e ↦ yes (rw e (_, 2, float_to_f16))
-                              | no e ↦
-                                  elim (same_type u (variant_of u precision.F32)) [
-                                    | yes q ↦ yes (subst IsBaseChild (sym q) (_, 1, result_to_f32 (function_of u) (shape_of u)))
-                                    | no f ↦
-                                        elim (same_type u (variant_of u precision.F16)) [
-                                          | yes q ↦ yes (subst IsBaseChild (sym q) (_, 2, result_to_f16 (function_of u) (shape_of u)))
-                                          | no g ↦
-                                              no (λ h. base_refuted h.2 a b c d e f g)
+                      elim (same_type u (scalar I64)) [
+                        | yes e ↦ yes (rw e (_, 8, int_to_i64))
+                        | no i ↦
+                            elim (same_type u (scalar U64)) [
+                              | yes e ↦ yes (rw e (_, 9, int_to_u64))
+                              | no j ↦
+                                  elim (same_type u (scalar F32)) [
+                                    | yes e ↦ yes (rw e (_, 1, float_to_f32))
+                                    | no d ↦
+                                        elim (same_type u (scalar F16)) [
+                                          | yes e ↦ yes (rw e (_, 2, float_to_f16))
+                                          | no e ↦
+                                              elim (same_type u (variant_of u precision.F32)) [
+                                                | yes q ↦ yes (subst IsBaseChild (sym q) (_, 1, result_to_f32 (function_of u) (shape_of u)))
+                                                | no f ↦
+                                                    elim (same_type u (variant_of u precision.F16)) [
+                                                      | yes q ↦ yes (subst IsBaseChild (sym q) (_, 2, result_to_f16 (function_of u) (shape_of u)))
+                                                      | no g ↦
+                                                          no (λ h. base_refuted h.2 a b c i j d e f g)
+                                                    ]
+                                              ]
                                         ]
                                   ]
                             ]

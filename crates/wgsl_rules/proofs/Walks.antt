@@ -11,7 +11,7 @@ use Rattle.wgsl_syntax.specs.declared.result_struct.ResultPrecision.TheVariants 
 use Rattle.wgsl_rules.specs.Types.{WgslType, scalar, within, reference}
 use Rattle.wgsl_rules.specs.ResultStructs.{float_of, result_struct}
 use Rattle.wgsl_syntax.specs.Address.{MayRead}
-use Rattle.wgsl_rules.specs.Conversion.{BaseStep, int_to_float, int_to_i32, int_to_u32, float_to_f32, float_to_f16, result_to_f32, result_to_f16, Step, base, inside, Path, PathOf, Load, load, load_inside, Converts, ConvertsIn}
+use Rattle.wgsl_rules.specs.Conversion.{BaseStep, int_to_float, int_to_i32, int_to_u32, int_to_i64, int_to_u64, float_to_f32, float_to_f16, result_to_f32, result_to_f16, Step, base, inside, Path, PathOf, Load, load, load_inside, Converts, ConvertsIn}
 use Rattle.wgsl_rules.specs.Places.{Place, at_scalar, at_result, type_at, parent_of, depth_of}
 use Rattle.wgsl_rules.proofs.Steps.{float_depth, depth, depth-result_struct, height, height_small, step_height, function_of, function_of-result_struct, shape_of, shape_of-result_struct, precision_at, IsLeaf, result_leaf}
 use Rattle.wgsl_rules.proofs.Order.{Above, here, further, above_to_within, along_above}
@@ -77,6 +77,8 @@ base_between : {t u : WgslType} {w : ℕ} → BaseStep t u w → Between t u w
 base_between int_to_float = record { from = at_scalar AbstractInt; to = at_scalar AbstractFloat; begins = refl; ends = refl; parent = refl; weighs = refl }
 base_between int_to_i32 = record { from = at_scalar AbstractInt; to = at_scalar I32; begins = refl; ends = refl; parent = refl; weighs = refl }
 base_between int_to_u32 = record { from = at_scalar AbstractInt; to = at_scalar U32; begins = refl; ends = refl; parent = refl; weighs = refl }
+base_between int_to_i64 = record { from = at_scalar AbstractInt; to = at_scalar I64; begins = refl; ends = refl; parent = refl; weighs = refl }
+base_between int_to_u64 = record { from = at_scalar AbstractInt; to = at_scalar U64; begins = refl; ends = refl; parent = refl; weighs = refl }
 base_between float_to_f32 = record { from = at_scalar AbstractFloat; to = at_scalar F32; begins = refl; ends = refl; parent = refl; weighs = refl }
 base_between float_to_f16 = record { from = at_scalar AbstractFloat; to = at_scalar F16; begins = refl; ends = refl; parent = refl; weighs = refl }
 base_between (result_to_f32 f s) = record { from = at_result f s precision.Abstract; to = at_result f s precision.F32; begins = refl; ends = refl; parent = refl; weighs = refl }
@@ -85,6 +87,8 @@ base_between (result_to_f16 f s) = record { from = at_result f s precision.Abstr
 pub parent_below : (p q : Place) → parent_of p ≡ Some q → depth_of q < depth_of p
 parent_below (at_scalar I32) q e = let k : at_scalar AbstractInt ≡ q = cc e in subst (λ q. depth_of q < 3) k (omega arith)
 parent_below (at_scalar U32) q e = let k : at_scalar AbstractInt ≡ q = cc e in subst (λ q. depth_of q < 4) k (omega arith)
+parent_below (at_scalar I64) q e = let k : at_scalar AbstractInt ≡ q = cc e in subst (λ q. depth_of q < 8) k (omega arith)
+parent_below (at_scalar U64) q e = let k : at_scalar AbstractInt ≡ q = cc e in subst (λ q. depth_of q < 9) k (omega arith)
 parent_below (at_scalar AbstractFloat) q e = let k : at_scalar AbstractInt ≡ q = cc e in subst (λ q. depth_of q < 5) k (omega arith)
 parent_below (at_scalar F32) q e = let k : at_scalar AbstractFloat ≡ q = cc e in subst (λ q. depth_of q < 6) k (omega arith)
 parent_below (at_scalar F16) q e = let k : at_scalar AbstractFloat ≡ q = cc e in subst (λ q. depth_of q < 7) k (omega arith)
@@ -99,6 +103,8 @@ ParentStep p q = Step (type_at q) (type_at p) (depth_of p - depth_of q)
 pub parent_step : (p q : Place) → parent_of p ≡ Some q → Step (type_at q) (type_at p) (depth_of p - depth_of q)
 parent_step (at_scalar I32) q e = let k : at_scalar AbstractInt ≡ q = cc e in subst (λ q. ParentStep (at_scalar I32) q) k (base int_to_i32)
 parent_step (at_scalar U32) q e = let k : at_scalar AbstractInt ≡ q = cc e in subst (λ q. ParentStep (at_scalar U32) q) k (base int_to_u32)
+parent_step (at_scalar I64) q e = let k : at_scalar AbstractInt ≡ q = cc e in subst (λ q. ParentStep (at_scalar I64) q) k (base int_to_i64)
+parent_step (at_scalar U64) q e = let k : at_scalar AbstractInt ≡ q = cc e in subst (λ q. ParentStep (at_scalar U64) q) k (base int_to_u64)
 parent_step (at_scalar AbstractFloat) q e = let k : at_scalar AbstractInt ≡ q = cc e in subst (λ q. ParentStep (at_scalar AbstractFloat) q) k (base int_to_float)
 parent_step (at_scalar F32) q e = let k : at_scalar AbstractFloat ≡ q = cc e in subst (λ q. ParentStep (at_scalar F32) q) k (base float_to_f32)
 parent_step (at_scalar F16) q e = let k : at_scalar AbstractFloat ≡ q = cc e in subst (λ q. ParentStep (at_scalar F16) q) k (base float_to_f16)

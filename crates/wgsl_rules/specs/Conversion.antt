@@ -1,6 +1,6 @@
 -- Which types convert to which, and with what rank (WGSL, "Conversion Rank" and "Load Rule").
 use Rattle.std.specs.Prelude.{ℕ, List, [], ◌∷◌, ◌≡◌, ◌+◌, ◌⊎◌, length}
-use Rattle.wgsl_syntax.specs.declared.scalar.Scalar.TheVariants.{AbstractInt, AbstractFloat, I32, U32, F32, F16}
+use Rattle.wgsl_syntax.specs.declared.scalar.Scalar.TheVariants.{AbstractInt, AbstractFloat, I32, U32, F32, F16, I64, U64}
 use Rattle.wgsl_syntax.specs.declared.address.AddressSpace.{AddressSpace}
 use Rattle.wgsl_syntax.specs.declared.address.AccessMode.{AccessMode}
 use Rattle.wgsl_syntax.specs.Address.{MayRead}
@@ -22,6 +22,8 @@ pub data BaseStep : WgslType → WgslType → ℕ → Type 0 where
   int_to_float : BaseStep (scalar AbstractInt) (scalar AbstractFloat) 5
   int_to_i32 : BaseStep (scalar AbstractInt) (scalar I32) 3
   int_to_u32 : BaseStep (scalar AbstractInt) (scalar U32) 4
+  int_to_i64 : BaseStep (scalar AbstractInt) (scalar I64) 8
+  int_to_u64 : BaseStep (scalar AbstractInt) (scalar U64) 9
   -- from an abstract float
   float_to_f32 : BaseStep (scalar AbstractFloat) (scalar F32) 1
   float_to_f16 : BaseStep (scalar AbstractFloat) (scalar F16) 2

@@ -24,10 +24,10 @@ pub record RanksAdd (a b c : WgslType) : Type 0 where
 abbrev pub TargetsComparable : WgslType → WgslType → WgslType → Type 0
 TargetsComparable a b c = ConvertsTo a c → ConvertsTo b c → ConvertsTo a b ⊎ ConvertsTo b a
 
--- The rank of a type to another, at most 7, says which other.
+-- The rank of a type to another, at most 9, says which other.
 pub record RankNamesTarget (a b c : WgslType) : Type 0 where
   pub same : (w : ℕ) → Converts a b w → Converts a c w → b ≡ c
-  pub small : (w : ℕ) → Converts a b w → w ≤ 7
+  pub small : (w : ℕ) → Converts a b w → w ≤ 9
 
 -- The left commons of a list and of its permutation are equal.
 abbrev pub CommonAnyOrder : List WgslType → List WgslType → Type 0

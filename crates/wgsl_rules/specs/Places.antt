@@ -1,7 +1,7 @@
 -- The types that take part in single conversions, and which of them each comes from (WGSL, "Conversion Rank").
 use Rattle.std.specs.Prelude.{ℕ, Option, Some, None}
 use Rattle.wgsl_syntax.specs.declared.scalar.Scalar.{Scalar}
-use Rattle.wgsl_syntax.specs.declared.scalar.Scalar.TheVariants.{AbstractInt, AbstractFloat, I32, U32, F32, F16}
+use Rattle.wgsl_syntax.specs.declared.scalar.Scalar.TheVariants.{AbstractInt, AbstractFloat, I32, U32, F32, F16, I64, U64}
 use Rattle.wgsl_syntax.specs.declared.result_struct.ResultFunction.{ResultFunction}
 use Rattle.wgsl_syntax.specs.declared.result_struct.ResultShape.{ResultShape}
 use Rattle.wgsl_syntax.specs.declared.result_struct.ResultPrecision.{ResultPrecision}
@@ -23,6 +23,8 @@ type_at (at_result f s p) = result_struct f s p
 abbrev pub parent_of : Place → Option Place
 parent_of (at_scalar I32) = Some (at_scalar AbstractInt)
 parent_of (at_scalar U32) = Some (at_scalar AbstractInt)
+parent_of (at_scalar I64) = Some (at_scalar AbstractInt)
+parent_of (at_scalar U64) = Some (at_scalar AbstractInt)
 parent_of (at_scalar AbstractFloat) = Some (at_scalar AbstractInt)
 parent_of (at_scalar F32) = Some (at_scalar AbstractFloat)
 parent_of (at_scalar F16) = Some (at_scalar AbstractFloat)
@@ -38,6 +40,8 @@ depth_of (at_scalar U32) = 4
 depth_of (at_scalar AbstractFloat) = 5
 depth_of (at_scalar F32) = 6
 depth_of (at_scalar F16) = 7
+depth_of (at_scalar I64) = 8
+depth_of (at_scalar U64) = 9
 depth_of (at_scalar s) = 0
 depth_of (at_result f s precision.Abstract) = 0
 depth_of (at_result f s precision.F32) = 1

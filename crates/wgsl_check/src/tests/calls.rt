@@ -18,9 +18,10 @@ fn calls_of_numbers_are_answered(rt: HostRuntime) -> Result<(), Fail> {
                 "call max - f32 bool",
                 "invalid function call signature: `max(f32, bool)`",
             ),
+            ("call max - AbstractInt u64", "u64"),
             (
-                "call max - AbstractInt u64",
-                "invalid function call signature: `max(AbstractInt, u64)`",
+                "call max - AbstractFloat u64",
+                "invalid function call signature: `max(AbstractFloat, u64)`",
             ),
             ("call min - vec 2 AbstractInt vec 2 f16", "vec2<f16>"),
             ("call dot - vec 3 AbstractInt vec 3 f32", "f32"),

@@ -70,7 +70,7 @@ fn arrays_are_made(rt: HostRuntime) -> Result<(), Fail> {
             ),
             (
                 "ctor array < t i64 n 2 > AbstractInt AbstractInt",
-                "cannot convert from `AbstractInt` to `i64`",
+                "array<i64, 2>",
             ),
             (
                 "ctor array < t f32 n 2 > f32 i32 u32",
@@ -156,8 +156,9 @@ fn vectors_are_made(rt: HostRuntime) -> Result<(), Fail> {
             ),
             ("ctor vec3 - vec 3 u32", "vec3<u32>"),
             ("ctor vec2 - bool", "vec2<bool>"),
+            ("ctor vec2 - AbstractInt i64", "vec2<i64>"),
             (
-                "ctor vec2 - AbstractInt i64",
+                "ctor vec2 - AbstractFloat i64",
                 "vector components are incompatible",
             ),
             (
@@ -292,6 +293,10 @@ fn matrices_are_made(rt: HostRuntime) -> Result<(), Fail> {
             ),
             (
                 "ctor mat2x2 - i64 AbstractInt AbstractInt AbstractInt",
+                "matrix constructor expects float or vector of float arguments",
+            ),
+            (
+                "ctor mat2x2 - i64 AbstractFloat AbstractInt AbstractInt",
                 "matrix components are incompatible",
             ),
             (

@@ -23,12 +23,14 @@ const SCALARS: [&str; 10] = [
 ];
 
 /// The ranks between different scalars.
-const RANKS: [(&str, &str, &str); 7] = [
+const RANKS: [(&str, &str, &str); 9] = [
     ("AbstractInt", "i32", "3"),
     ("AbstractInt", "u32", "4"),
     ("AbstractInt", "AbstractFloat", "5"),
     ("AbstractInt", "f32", "6"),
     ("AbstractInt", "f16", "7"),
+    ("AbstractInt", "i64", "8"),
+    ("AbstractInt", "u64", "9"),
     ("AbstractFloat", "f32", "1"),
     ("AbstractFloat", "f16", "2"),
 ];
@@ -58,7 +60,7 @@ fn every_pair_of_scalars_has_its_rank(rt: HostRuntime) -> Result<(), Fail> {
             expect_answers(&rt, &[(line.as_str(), rank)])?;
         }
     }
-    assert_eq!(rt; some, 17);
+    assert_eq!(rt; some, 19);
     Ok(())
 }
 
@@ -194,13 +196,14 @@ fn common_types_are_the_same_in_every_order(rt: HostRuntime) -> Result<(), Fail>
             ("common AbstractFloat AbstractInt f32", "f32"),
             ("common AbstractFloat f32 AbstractInt", "f32"),
             ("common i32 AbstractInt AbstractFloat", "none"),
+            ("common AbstractInt i64 AbstractFloat", "none"),
             ("common", "none"),
             ("common bool", "bool"),
             (
                 "common ref function read AbstractInt AbstractInt i32",
                 "i32",
             ),
-            ("common i32 bad", "bad line 11"),
+            ("common i32 bad", "bad line 12"),
         ],
     )?;
     Ok(())

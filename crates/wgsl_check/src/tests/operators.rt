@@ -54,6 +54,11 @@ fn arithmetic_takes_the_common_type(rt: HostRuntime) -> Result<(), Fail> {
                 "cannot use binary operator `+` with operands `bool` and `i32`",
             ),
             ("binary - vec 2 AbstractInt u32", "vec2<u32>"),
+            ("binary + AbstractInt i64", "i64"),
+            (
+                "binary + AbstractFloat i64",
+                "cannot use binary operator `+` with operands `AbstractFloat` and `i64`",
+            ),
             ("binary / f16 AbstractInt", "f16"),
             ("binary % vec 2 i32 vec 2 AbstractInt", "vec2<i32>"),
             ("binary * mat 2 3 f32 vec 2 f32", "vec3<f32>"),
@@ -126,6 +131,7 @@ fn logic_and_bits_take_their_kinds_alone(rt: HostRuntime) -> Result<(), Fail> {
                 "cannot use binary operator `|` with operands `AbstractInt` and `AbstractFloat`",
             ),
             ("binary ^ vec 3 i64 vec 3 i64", "vec3<i64>"),
+            ("binary | vec 3 AbstractInt vec 3 u64", "vec3<u64>"),
         ],
     )?;
     Ok(())
@@ -154,6 +160,7 @@ fn shifts_keep_the_left_type(rt: HostRuntime) -> Result<(), Fail> {
                 "binary << ref function read i32 u32",
                 "cannot use binary operator `<<` with operands `ref<function, i32, read>` and `u32`",
             ),
+            ("binary << AbstractInt AbstractInt", "AbstractInt"),
             ("binary >> AbstractInt AbstractInt", "AbstractInt"),
         ],
     )?;
