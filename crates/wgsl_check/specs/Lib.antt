@@ -3,3 +3,4 @@ pub mod Session
 pub mod Status
 pub mod Words
 pub mod Taken
+pub mod Typed

@@ -1,31 +1,34 @@
 // What the program answers to a command.
 use crate::read::{read_type, read_types};
+use crate::report::{layout_of, number_or_none};
 use crate::template::read_template;
+use crate::typed::{Typed, convert_to_common};
 use crate::words::{Unread, Words};
 use std::alloc::{AllocError, Global};
 use wgsl_types::builtin::{type_binary_op, type_builtin_fn, type_ctor, type_unary_op};
-use wgsl_types::conv::{conversion_rank, convert_all_ty};
+use wgsl_types::conv::conversion_rank;
 use wgsl_types::error::Fail;
 use wgsl_types::syntax::{BinaryOperator, UnaryOperator};
 use wgsl_types::ty::Type;
 
-/// The answer to a line's words, or `None` where they are no command.
-pub fn answer(alloc: Global, words: &[&str]) -> Result<Option<String>, AllocError> {
-    match command(alloc, Words::new(words)) {
+/// The answer to the words of the line of this number, or `None` where they are no command.
+pub fn answer(alloc: Global, line: u64, words: &[&str]) -> Result<Option<String>, AllocError> {
+    match command(alloc, line, Words::new(words)) {
         Ok(text) => Ok(Some(text)),
         Err(Unread::Word) => Ok(None),
         Err(Unread::Memory(e)) => Err(e),
     }
 }
 
-fn command(alloc: Global, mut words: Words) -> Result<String, Unread> {
+fn command(alloc: Global, line: u64, mut words: Words) -> Result<String, Unread> {
     match words.next()? {
         "rank" => rank(alloc, words),
-        "common" => common(alloc, words),
+        "common" => common(alloc, line, words),
         "unary" => unary(alloc, words),
         "binary" => binary(alloc, words),
         "size" => size(alloc, words),
         "offsets" => offsets(alloc, words),
+        "layout" => layout(alloc, words),
         "ctor" => ctor(alloc, words),
         "call" => call(alloc, words),
         _ => Err(Unread::Word),
@@ -41,12 +44,17 @@ fn rank(alloc: Global, mut words: Words) -> Result<String, Unread> {
 }
 
 /// `common T..`: the common type of all.
-fn common(alloc: Global, mut words: Words) -> Result<String, Unread> {
-    let types = read_types(alloc, &mut words)?;
-    match convert_all_ty(types.as_slice()) {
-        Some(ty) => Ok(ty.to_string(alloc)?),
-        None => Ok(String::from_str(alloc, "none")?),
+fn common(alloc: Global, line: u64, mut words: Words) -> Result<String, Unread> {
+    let mut types = Vec::new(alloc);
+    for ty in read_types(alloc, &mut words)? {
+        types.push(Typed { ty, line }).map_err(|_e| AllocError)?;
     }
+    if let Some(converted) = convert_to_common(alloc, &types)? {
+        if let Some(first) = converted.first() {
+            return Ok(first.ty.to_string(alloc)?);
+        }
+    }
+    Ok(String::from_str(alloc, "none")?)
 }
 
 /// `unary OP T`: the type of the expression, or why it has none.
@@ -123,6 +131,19 @@ fn offsets(alloc: Global, mut words: Words) -> Result<String, Unread> {
     }
 }
 
+/// `layout T`, where T is a struct: a report of its members and of the whole.
+fn layout(alloc: Global, mut words: Words) -> Result<String, Unread> {
+    let ty = read_type(alloc, &mut words)?;
+    words.end()?;
+    let Type::Struct(read) = &ty else {
+        return Err(Unread::Word);
+    };
+    match layout_of(alloc, &ty, read)? {
+        Some(text) => Ok(text),
+        None => Ok(String::from_str(alloc, "none")?),
+    }
+}
+
 /// `ctor NAME P T..`: the type that the constructor makes, or why it makes none.
 fn ctor(alloc: Global, mut words: Words) -> Result<String, Unread> {
     let name = words.next()?;
@@ -163,13 +184,6 @@ fn message(alloc: Global, refused: Fail) -> Result<String, AllocError> {
     match refused {
         Fail::Error(e) => e.to_string(alloc),
         Fail::Memory(e) => Err(e),
-    }
-}
-
-fn number_or_none(alloc: Global, number: Option<u32>) -> Result<String, AllocError> {
-    match number {
-        Some(number) => number.to_string(alloc),
-        None => String::from_str(alloc, "none"),
     }
 }
 

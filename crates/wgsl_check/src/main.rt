@@ -4,10 +4,12 @@
 mod command;
 mod line;
 mod read;
+mod report;
 mod run;
 mod template;
 #[cfg(test)]
 mod tests;
+mod typed;
 mod words;
 
 use run::{run, status};

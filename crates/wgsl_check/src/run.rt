@@ -183,7 +183,7 @@ fn reply_to(alloc: Global, line: &Line) -> Result<Reply, AllocError>
     if words.is_empty() {
         return Ok(Reply::Nothing);
     }
-    match answer(alloc, &words)? {
+    match answer(alloc, line.number, &words)? {
         Some(text) => Ok(Reply::Answer(text)),
         None => Ok(Reply::BadLine),
     }

@@ -201,7 +201,7 @@ fn common_types_are_the_same_in_every_order(rt: HostRuntime) -> Result<(), Fail>
             ("common bool", "bool"),
             (
                 "common ref function read AbstractInt AbstractInt i32",
-                "i32",
+                "none",
             ),
             ("common i32 bad", "bad line 12"),
         ],

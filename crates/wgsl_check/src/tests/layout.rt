@@ -112,6 +112,39 @@ fn offsets_are_the_least(rt: HostRuntime) -> Result<(), Fail> {
 }
 
 #[test]
+fn a_report_has_a_line_for_each_member_and_one_for_the_whole(rt: HostRuntime) -> Result<(), Fail> {
+    expect_answers(
+        &rt,
+        &[
+            (
+                "layout struct S 3 a - - f32 b - - vec 3 f32 c - - f32",
+                "         0          4          4 a f32
+        16         12         16 b vec3<f32>
+        28          4          4 c f32
+        32          -         16 S",
+            ),
+            (
+                "layout struct O 2 a 10 1 f32 inner - - struct S 2 a 1 3 u32 b 1 2 u32",
+                "         0         10          1 a f32
+        12          3          3 inner S
+        15          -          3 O",
+            ),
+            (
+                "layout struct S 2 a 4294967295 1 u32 b 0 1 u32",
+                "         0 4294967295          1 a u32
+4294967295          0          1 b u32
+4294967295          -          1 S",
+            ),
+            ("layout struct S 0", "none"),
+            ("layout struct S 1 a - 0 f32", "none"),
+            ("layout f32", "bad line 6"),
+            ("layout struct S 0 f32", "bad line 7"),
+        ],
+    )?;
+    Ok(())
+}
+
+#[test]
 fn the_least_size_of_an_open_array_is_its_stride(rt: HostRuntime) -> Result<(), Fail> {
     let element = Box::new(rt.alloc(), Type::F32)?;
     let vector = Box::new(rt.alloc(), Type::Vec(3, element))?;

@@ -1,0 +1,19 @@
+-- Types on their lines.
+use Rattle.std.specs.Prelude.{◌≡◌, ℕ, Option, Some, None, option_map}
+use Rattle.std.specs.Prelude.{map}
+use Rattle.wgsl_rules.specs.Types.{WgslType}
+use Rattle.wgsl_core.specs.View.{view}
+use Rattle.wgsl_core.specs.Converted.{converted, converted_has_type}
+use Rattle.wgsl_check.specs.declared.typed.Typed.{Typed}
+
+-- what was converted stays on its line
+abbrev pub on_line : ℕ → Option WgslType → Option (WgslType × ℕ)
+on_line line o = option_map (λ t. (t, line)) o
+
+-- what is converted to a type has that type
+pub typed_has_type : (x : Typed) (t : WgslType) (y : Typed) → on_line x.line (converted (view x.ty) t) ≡ Some (view y.ty, y.line) → view y.ty ≡ t
+typed_has_type x t y h = at (converted (view x.ty) t) refl h
+  where
+    at : (o : Option WgslType) → converted (view x.ty) t ≡ o → on_line x.line o ≡ Some (view y.ty, y.line) → view y.ty ≡ t
+    at None e h = absurd (cc h)
+    at (Some u) e h = let k : u ≡ view y.ty = cc h in converted_has_type x.ty t y.ty (rw e (ap Some k))
