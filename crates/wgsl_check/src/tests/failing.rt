@@ -8,7 +8,7 @@ use std::process::Abort;
 use std::test::Fail;
 
 /// A line of every command, a blank one and one that can't be read, each with what is printed for it.
-const LINES: [(&str, &str); 12] = [
+const LINES: [(&str, &str); 13] = [
     ("rank AbstractInt f16\n", "7\n"),
     ("common i32 AbstractInt\n", "i32\n"),
     ("unary ! bool\n", "bool\n"),
@@ -20,8 +20,12 @@ const LINES: [(&str, &str); 12] = [
     ("size vec 3 f16\n", "6 8\n"),
     ("\n", ""),
     ("offsets struct S 2 a - - f32 b - - vec 2 f32\n", "0 8\n"),
+    (
+        "layout struct S 1 a - - vec 2 f32\n",
+        "         0          8          8 a vec2<f32>\n         8          -          8 S\n",
+    ),
     ("ctor vec2 - f32 f32\n", "vec2<f32>\n"),
-    ("no command\n", "bad line 10\n"),
+    ("no command\n", "bad line 11\n"),
     ("call max - f32 AbstractFloat\n", "f32\n"),
     ("call storageBarrier -\n", "no value\n"),
 ];
@@ -50,7 +54,7 @@ struct Ran {
     text: String,
 }
 
-fn ran(alloc: Global, mut source: Source<'_>, mut target: Target) -> Result<Ran, Fail> {
+fn run_over(alloc: Global, mut source: Source<'_>, mut target: Target) -> Result<Ran, Fail> {
     let outcome = run(alloc, &mut source, &mut target);
     match std::str::from_utf8(&target.taken) {
         Ok(text) => Ok(Ran {
@@ -72,7 +76,7 @@ fn reads_of_a_run(
     for before in 0..1000usize {
         let mut source = Source::new(input.as_bytes(), most_read);
         source.fails_after = Some(before);
-        let ran = ran(alloc, source, Target::new(alloc, most_written))?;
+        let ran = run_over(alloc, source, Target::new(alloc, most_written))?;
         if ran.outcome == Ok(false) {
             assert_eq!(rt; ran.text.as_str(), answers(alloc, LINES.len())?.as_str());
             return Ok(before);
@@ -111,7 +115,7 @@ fn an_interrupted_read_changes_nothing_anywhere(rt: HostRuntime) -> Result<(), F
         let mut source = Source::new(input.as_bytes(), 1);
         source.fails_after = Some(before);
         source.failure = ErrorKind::Interrupted;
-        let ran = ran(alloc, source, Target::new(alloc, 1))?;
+        let ran = run_over(alloc, source, Target::new(alloc, 1))?;
         assert_eq!(rt; ran.outcome, Ok(false));
         assert_eq!(rt; ran.text.as_str(), answers(alloc, LINES.len())?.as_str());
     }
@@ -130,7 +134,7 @@ fn writes_of_a_run(
     for before in 0..1000usize {
         let mut target = Target::new(alloc, most_written);
         target.fails_after = Some(before);
-        let ran = ran(alloc, Source::new(input.as_bytes(), most_read), target)?;
+        let ran = run_over(alloc, Source::new(input.as_bytes(), most_read), target)?;
         if ran.outcome == Ok(false) {
             assert_eq!(rt; ran.text.as_str(), whole.as_str());
             return Ok(before);
@@ -150,7 +154,7 @@ fn a_run_ends_at_the_write_that_fails(rt: HostRuntime) -> Result<(), Fail> {
     for most_read in [1, WHOLE] {
         assert_eq!(rt; writes_of_a_run(&rt, most_read, 1)?, bytes);
     }
-    assert_eq!(rt; writes_of_a_run(&rt, 1, WHOLE)?, 11);
+    assert_eq!(rt; writes_of_a_run(&rt, 1, WHOLE)?, 12);
     assert_eq!(rt; writes_of_a_run(&rt, WHOLE, WHOLE)?, 1);
     Ok(())
 }
@@ -161,7 +165,7 @@ fn a_writer_that_takes_nothing_ends_every_run(rt: HostRuntime) -> Result<(), Fai
     let input = input(alloc)?;
     for most_read in [1, 100, WHOLE] {
         let source = Source::new(input.as_bytes(), most_read);
-        let ran = ran(alloc, source, Target::new(alloc, 0))?;
+        let ran = run_over(alloc, source, Target::new(alloc, 0))?;
         assert_eq!(rt; ran.outcome, Err(RunError::Write));
         assert_eq!(rt; ran.text.as_str(), "");
     }
@@ -179,13 +183,13 @@ fn input_may_end_after_each_byte(rt: HostRuntime) -> Result<(), Fail> {
             if byte == b'\n' {
                 ended = ended.saturating_add(1);
             }
-            let ran = ran(alloc, Source::new(&part, most_read), Target::new(alloc, 1))?;
+            let ran = run_over(alloc, Source::new(&part, most_read), Target::new(alloc, 1))?;
             assert_eq!(rt; ran.outcome, Ok(!ran.text.contains("bad line")));
             let before = answers(alloc, ended)?;
             let Some(last) = ran.text.strip_prefix(before.as_str()) else {
                 return Err("a line that ended is answered otherwise".into());
             };
-            assert_eq!(rt; last.lines().count(), usize::from(byte != b'\n'));
+            assert_eq!(rt; last.is_empty(), byte == b'\n');
         }
     }
     Ok(())
