@@ -1,6 +1,6 @@
 -- Types on their lines.
+use Rattle.std.proofs.Common.{ap, refl}
 use Rattle.std.specs.Prelude.{◌≡◌, ℕ, Option, Some, None, option_map}
-use Rattle.std.specs.Prelude.{map}
 use Rattle.wgsl_rules.specs.Types.{WgslType}
 use Rattle.wgsl_core.specs.View.{view}
 use Rattle.wgsl_core.specs.Converted.{converted, converted_has_type}
@@ -16,4 +16,6 @@ typed_has_type x t y h = at (converted (view x.ty) t) refl h
   where
     at : (o : Option WgslType) → converted (view x.ty) t ≡ o → on_line x.line o ≡ Some (view y.ty, y.line) → view y.ty ≡ t
     at None e h = absurd (cc h)
-    at (Some u) e h = let k : u ≡ view y.ty = cc h in converted_has_type x.ty t y.ty (rw e (ap Some k))
+    at (Some u) e h =
+        let k : (u, x.line) ≡ (view y.ty, y.line) = cc h in
+        converted_has_type x.ty t y.ty (rw e (ap (λ (p : WgslType × ℕ). Some p.0) k))

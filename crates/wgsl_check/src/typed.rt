@@ -1,7 +1,8 @@
 // Types that remember where they were read.
-ghost use Rattle.std.specs.Prelude.{◌≡◌, All, IfOk, IfSome, map};
+ghost use Rattle.std.specs.Prelude.{◌≡◌, ℕ, All, IfOk, IfSome, map, option_map};
 ghost use Rattle.wgsl_rules.specs.Types.{WgslType};
 ghost use Rattle.wgsl_core.specs.View.{view};
+ghost use Rattle.wgsl_check.specs.Typed.{on_line};
 
 use std::alloc::{AllocError, Global};
 use wgsl_types::conv::{Convert, convert_all};

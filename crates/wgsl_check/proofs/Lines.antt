@@ -1,0 +1,41 @@
+-- What converts together stays on its lines.
+use Rattle.std.proofs.Common.{◌≡◌, ℕ, List, [], ◌∷◌, Option, Some, None, refl, sym, ap, ◌∙◌, subst}
+use Rattle.std.specs.Prelude.{IfSome, map, option_and_then, option_map}
+use Rattle.wgsl_rules.specs.Types.{WgslType}
+use Rattle.wgsl_core.specs.View.{view}
+use Rattle.wgsl_core.specs.Converted.{converted}
+use Rattle.wgsl_types.specs.Family.{all_to}
+use Rattle.wgsl_check.specs.Typed.{on_line}
+use Rattle.wgsl_check.specs.declared.typed.Typed.{Typed}
+
+abbrev to : Typed → WgslType → Option (WgslType × ℕ)
+to x t = on_line x.line (converted (view x.ty) t)
+
+abbrev shown : Typed → WgslType × ℕ
+shown x = (view x.ty, x.line)
+
+abbrev line_of : WgslType × ℕ → ℕ
+line_of p = p.1
+
+shown_lines : (xs : List Typed) → map line_of (map shown xs) ≡ map (λ (x : Typed). x.line) xs
+shown_lines [] = refl
+shown_lines (x ∷ xs) = ap (λ (ns : List ℕ). x.line ∷ ns) (shown_lines xs)
+
+all_lines : (t : WgslType) (xs : List Typed) (ys : List (WgslType × ℕ)) → all_to to t xs ≡ Some ys → map line_of ys ≡ map (λ (x : Typed). x.line) xs
+all_lines t [] ys h = let e : [] ≡ ys = cc h in subst (λ ys. map line_of ys ≡ []) e refl
+all_lines t (x ∷ xs) ys h = at (converted (view x.ty) t) (all_to to t xs) (all_lines t xs) h
+  where
+    at : (o : Option WgslType) (r : Option (List (WgslType × ℕ))) → ((zs : List (WgslType × ℕ)) → r ≡ Some zs → map line_of zs ≡ map (λ (x : Typed). x.line) xs) →
+        option_and_then (λ y. option_map (λ ys. y ∷ ys) r) (on_line x.line o) ≡ Some ys → map line_of ys ≡ x.line ∷ map (λ (x : Typed). x.line) xs
+    at None r more h = absurd (cc h)
+    at (Some u) None more h = absurd (cc h)
+    at (Some u) (Some zs) more h =
+        let k : (u, x.line) ∷ zs ≡ ys = cc h in
+        subst (λ ys. map line_of ys ≡ x.line ∷ map (λ (x : Typed). x.line) xs) k (ap (λ (ns : List ℕ). x.line ∷ ns) (more zs refl))
+
+pub lines_kept : {V : Type 0} (items : V → List Typed) (r : Option V) (c : Option WgslType) (xs : List Typed) →
+    option_map (λ v. map shown (items v)) r ≡ option_and_then (λ t. all_to to t xs) c →
+    IfSome r (λ v. map (λ (x : Typed). x.line) (items v) ≡ map (λ (x : Typed). x.line) xs)
+lines_kept items None c xs h = tt
+lines_kept items (Some v) None xs h = absurd (cc h)
+lines_kept items (Some v) (Some t) xs h = sym (shown_lines (items v)) ∙ all_lines t xs (map shown (items v)) (sym h)
