@@ -1,11 +1,9 @@
 // What no clause says: which lines are answered how, and what a read or a write that fails comes to.
-mod ample_memory;
 mod calls;
 mod constructors;
 mod conversion;
 mod failing;
 mod hostile;
-mod hostile_calls;
 mod hostile_values;
 mod layout;
 mod names;
@@ -156,6 +154,34 @@ bad line 17
 #[test]
 fn run_is_silent(rt: HostRuntime) {
     expect_whole(&rt, b"binary + i32 i32\n", true, "i32\n");
+}
+
+// So does a body of most calls that answers want of memory whatever it is asked.
+#[test]
+fn want_of_memory_always(rt: HostRuntime) {
+    expect_whole(
+        &rt,
+        b"common vec 2 AbstractInt vec 2 f32
+unary ! vec 2 bool
+unary - vec 2 f32
+binary + vec 2 f32 f32
+offsets struct S 1 a - - f32
+layout struct S 1 a - - vec 2 f32
+ctor vec2 - f32 f32
+call min - vec 2 AbstractInt vec 2 f32
+",
+        true,
+        "vec2<f32>
+vec2<bool>
+cannot use unary operator `-` on type `vec2<f32>`
+vec2<f32>
+0
+         0          8          8 a vec2<f32>
+         8          -          8 S
+vec2<f32>
+vec2<f32>
+",
+    );
 }
 
 #[test]

@@ -1,5 +1,4 @@
-// Types that no program would write: sizes, kinds, conversion and printing of each.
-use super::expect_answers;
+// Types that no program would write: the kinds that they are of, what is made of them, and nests of 300 layers.
 use super::worded::one_type;
 use std::alloc::{AllocError, Global};
 use std::process::Abort;
@@ -107,31 +106,6 @@ fn kinds(alloc: Global, ty: &Type) -> Result<String, AllocError> {
     Ok(text)
 }
 
-/// What is asked of a type, and answered by a text.
-#[derive(Clone, Copy)]
-enum Question {
-    Layout,
-    Kinds,
-    Spelling,
-}
-
-fn expect_texts(
-    rt: &(impl Abort + AllocGlobal),
-    question: Question,
-    rows: &[(&str, &str)],
-) -> Result<(), Fail> {
-    for (words, text) in rows {
-        let ty = one_type(rt.alloc(), words)?;
-        let answer = match question {
-            Question::Layout => layout(rt.alloc(), &ty)?,
-            Question::Kinds => kinds(rt.alloc(), &ty)?,
-            Question::Spelling => ty.to_string(rt.alloc())?,
-        };
-        assert_eq!(rt; answer.as_str(), *text, "of {words}");
-    }
-    Ok(())
-}
-
 /// A type that is made of another.
 #[derive(Clone, Copy)]
 enum Made {
@@ -158,145 +132,8 @@ fn expect_types(
 }
 
 #[test]
-fn structs_of_strange_attributes_have_their_sizes(rt: HostRuntime) -> Result<(), Fail> {
-    expect_texts(
-        &rt,
-        Question::Layout,
-        &[
-            ("struct E 0", "none 0 none"),
-            ("struct S 1 a - 0 f32", "none 0 none"),
-            ("struct S 1 a 0 0 f32", "none 0 none"),
-            ("struct S 2 a - 0 f32 b - 16 f32", "none 16 none"),
-            ("struct S 1 a 0 1 f32", "0 1 0"),
-            ("struct S 1 a 8 4 sampler", "8 4 8"),
-            ("struct S 1 a 8 - sampler", "none none none"),
-            ("struct S 1 a - 4 sampler", "none 4 none"),
-            ("struct S 1 a - - struct E 0", "none 0 none"),
-            ("struct S 1 a 4 4 struct E 0", "4 4 4"),
-            ("struct S 2 a - - f32 b - - struct E 0", "none 4 none"),
-            (
-                "struct S 1 a - 4294967295 f32",
-                "4294967295 4294967295 4294967295",
-            ),
-            ("struct S 1 a 4294967295 1 f32", "4294967295 1 4294967295"),
-            (
-                "struct S 2 a 1 1 f32 b 4294967294 1 f32",
-                "4294967295 1 4294967295",
-            ),
-            ("struct S 2 a 1 1 f32 b 4294967295 1 f32", "none 1 none"),
-            (
-                "struct S 2 a - - f32 b - 4294967295 f32",
-                "none 4294967295 none",
-            ),
-            ("struct S 1 a - - array * f32", "none 4 none"),
-            ("struct S 1 a - - ref function read i32", "none none none"),
-        ],
-    )
-}
-
-#[test]
-fn arrays_of_strange_counts_have_their_sizes(rt: HostRuntime) -> Result<(), Fail> {
-    expect_texts(
-        &rt,
-        Question::Layout,
-        &[
-            ("array 0 f32", "0 4 0"),
-            ("array 0 sampler", "none none none"),
-            ("array 0 struct E 0", "none 0 none"),
-            ("array 4294967295 f32", "none 4 none"),
-            (
-                "array 4294967295 struct S 1 a 1 1 f32",
-                "4294967295 1 4294967295",
-            ),
-            ("array 4294967295 struct S 1 a 0 1 f32", "0 1 0"),
-            ("array 4294967296 f32", "none 4 none"),
-            ("array 4294967296 struct S 1 a 0 1 f32", "none 1 none"),
-            ("array 18446744073709551615 f32", "none 4 none"),
-            (
-                "array 18446744073709551615 struct S 1 a 0 1 f32",
-                "none 1 none",
-            ),
-            (
-                "array 65535 array 65537 struct S 1 a 1 1 f32",
-                "4294967295 1 4294967295",
-            ),
-            (
-                "array 65536 array 65536 struct S 1 a 1 1 f32",
-                "none 1 none",
-            ),
-            ("array 2 vec 0 f32", "none 0 none"),
-            ("array 2 ref function read i32", "none none none"),
-            ("array * f32", "none 4 4"),
-            ("array * vec 3 f16", "none 8 8"),
-            ("array * vec 3 bool", "none none none"),
-            ("array * array * f32", "none 4 none"),
-            ("array * struct E 0", "none 0 none"),
-            ("array * struct S 1 a 4294967295 4 f32", "none 4 none"),
-            ("binding_array 18446744073709551615 f32", "none none none"),
-        ],
-    )
-}
-
-#[test]
-fn vectors_and_matrices_of_strange_lengths_have_their_sizes(rt: HostRuntime) -> Result<(), Fail> {
-    expect_texts(
-        &rt,
-        Question::Layout,
-        &[
-            ("vec 0 f32", "0 0 0"),
-            ("vec 0 sampler", "none none none"),
-            ("vec 1 f32", "4 4 4"),
-            ("vec 3 f64", "24 none 24"),
-            ("vec 3 vec 2 f32", "24 none 24"),
-            ("vec 2 vec 3 f32", "24 24 24"),
-            ("vec 5 f32", "20 20 20"),
-            ("vec 255 f32", "1020 1020 1020"),
-            ("vec 255 f64", "2040 2040 2040"),
-            ("vec 255 AbstractInt", "none none none"),
-            ("vec 255 array 4294967295 f32", "none none none"),
-            ("vec 255 struct E 0", "none none none"),
-            ("mat 0 0 f32", "0 0 0"),
-            ("mat 0 3 f64", "none none none"),
-            ("mat 0 3 f32", "0 16 0"),
-            ("mat 255 3 f16", "2040 8 2040"),
-            ("mat 255 0 f32", "0 0 0"),
-            ("mat 255 255 f32", "260100 1020 260100"),
-            ("atomic atomic i64", "4 4 4"),
-            ("atomic sampler", "4 4 4"),
-            ("ref function read ref function read i32", "none none none"),
-        ],
-    )
-}
-
-#[test]
-fn offsets_of_strange_structs_are_the_least(rt: HostRuntime) -> Result<(), Fail> {
-    expect_answers(
-        &rt,
-        &[
-            ("offsets struct E 0", "none"),
-            ("offsets struct S 1 a - 0 f32", "none"),
-            ("offsets struct S 2 a - - f32 b - 0 f32", "none"),
-            ("offsets struct S 1 a - - ref function read i32", "none"),
-            ("offsets struct S 1 a 8 4 ref function read i32", "0"),
-            ("offsets struct S 2 a 0 1 sampler b - - vec 255 f32", "0 0"),
-            ("offsets struct S 2 a 1 1 f32 b - - vec 255 f32", "0 1020"),
-            ("offsets struct S 2 a 1 1 f32 b 4294967294 1 f32", "0 1"),
-            ("offsets struct S 2 a 1 1 f32 b 4294967295 1 f32", "none"),
-            (
-                "offsets struct S 2 a - - f32 b - - array 4294967296 f32",
-                "none",
-            ),
-        ],
-    )?;
-    Ok(())
-}
-
-#[test]
 fn strange_types_are_of_their_kinds(rt: HostRuntime) -> Result<(), Fail> {
-    expect_texts(
-        &rt,
-        Question::Kinds,
-        &[
+    for (words, names) in [
             (
                 "AbstractInt",
                 "scalar numeric integer abstract abstract_int",
@@ -319,41 +156,11 @@ fn strange_types_are_of_their_kinds(rt: HostRuntime) -> Result<(), Fail> {
             ("ptr handle write AbstractFloat", "concrete"),
             ("binding_array 4294967296 AbstractInt", "concrete"),
             ("ray_query vertex_return", "concrete"),
-        ],
-    )
-}
-
-#[test]
-fn strange_types_are_spelled(rt: HostRuntime) -> Result<(), Fail> {
-    expect_texts(
-        &rt,
-        Question::Spelling,
-        &[
-            ("struct E 0", "E"),
-            ("struct < 1 a - 0 f32", "<"),
-            (
-                "array 18446744073709551615 struct E 0",
-                "array<E, 18446744073709551615>",
-            ),
-            (
-                "array 4294967296 vec 255 mat 0 255 f16",
-                "array<vec255<mat0x255<f16>>, 4294967296>",
-            ),
-            ("array * vec 0 AbstractInt", "array<vec0<AbstractInt>>"),
-            (
-                "binding_array * atomic atomic i32",
-                "binding_array<atomic<atomic<i32>>>",
-            ),
-            (
-                "ref handle read ref private atomic i32",
-                "ref<handle, ref<private, i32, atomic>, read>",
-            ),
-            (
-                "ptr push_constant write array 0 ptr handle read i32",
-                "ptr<push_constant, array<ptr<handle, i32, read>, 0>, write>",
-            ),
-        ],
-    )
+    ] {
+        let ty = one_type(rt.alloc(), words)?;
+        assert_eq!(rt; kinds(rt.alloc(), &ty)?.as_str(), names, "of {words}");
+    }
+    Ok(())
 }
 
 #[test]
@@ -431,76 +238,6 @@ fn references_are_loaded_and_taken_apart(rt: HostRuntime) -> Result<(), Fail> {
             ("ray_query -", "ray_query -"),
         ],
     )
-}
-
-#[test]
-fn strange_types_convert_by_their_ranks(rt: HostRuntime) -> Result<(), Fail> {
-    expect_answers(
-        &rt,
-        &[
-            (
-                "rank array 4294967296 AbstractInt array 4294967296 f32",
-                "6",
-            ),
-            ("rank array 4294967296 AbstractInt array 0 f32", "none"),
-            (
-                "rank array 18446744073709551615 i32 array 4294967295 i32",
-                "none",
-            ),
-            ("rank array 18446744073709551615 i32 array * i32", "none"),
-            ("rank vec 255 AbstractInt vec 255 f16", "7"),
-            ("rank vec 0 AbstractFloat vec 0 f32", "1"),
-            ("rank vec 1 f32 f32", "none"),
-            ("rank f32 vec 1 f32", "none"),
-            ("rank mat 255 0 AbstractFloat mat 255 0 f16", "2"),
-            ("rank mat 255 0 AbstractFloat mat 0 255 f16", "none"),
-            ("rank vec 2 struct E 0 vec 2 struct E 0", "0"),
-            ("rank struct E 0 struct F 0", "none"),
-            ("rank struct S 1 a - 0 f32 struct S 1 a - - f32", "none"),
-            (
-                "rank struct __frexp_result_abstract 0 struct __frexp_result_f32 0",
-                "none",
-            ),
-            (
-                "rank ref function read ref function read i32 ref function read i32",
-                "0",
-            ),
-            ("rank ref function read ref function read i32 i32", "none"),
-            (
-                "rank ref function write ref function read i32 ref function read i32",
-                "none",
-            ),
-            ("rank array 2 ref function read i32 array 2 i32", "0"),
-            (
-                "rank array 2 ref function read AbstractInt array 2 i32",
-                "none",
-            ),
-            (
-                "rank vec 5 mat 0 1 ref handle read_write struct E 0 vec 5 mat 0 1 struct E 0",
-                "0",
-            ),
-            ("rank atomic AbstractInt atomic i32", "none"),
-            (
-                "rank ptr function read AbstractInt ptr function read i32",
-                "none",
-            ),
-            (
-                "rank binding_array 2 AbstractInt binding_array 2 i32",
-                "none",
-            ),
-            (
-                "common array 2 i32 array 2 ref function read i32",
-                "array<i32, 2>",
-            ),
-            (
-                "common vec 255 AbstractInt vec 255 AbstractFloat vec 255 f16",
-                "vec255<f16>",
-            ),
-            ("common struct E 0 struct E 0", "E"),
-            ("common array 4294967296 i32 array 0 i32", "none"),
-        ],
-    )?;
-    Ok(())
 }
 
 #[test]

@@ -1,172 +1,21 @@
-// Types that no program would write, and long lists, in templates, structs and conversions of values.
-use super::hostile_calls::{MANY, many, text_of};
+// Types that no program would write, and long lists, in structs, calls and conversions of values.
 use super::worded::{one_type, template, types};
 use std::alloc::{AllocError, Global};
-use std::process::Abort;
 use std::test::Fail;
 use wgsl_types::builtin::typecheck_struct_ctor;
 use wgsl_types::conv::{
     convert, convert_all, convert_all_inner_to, convert_all_to, convert_all_ty, convert_inner,
 };
 use wgsl_types::inst::{Instance, LiteralInstance};
-use wgsl_types::tplt::{
-    ArrayTemplate, AtomicTemplate, BindingArrayTemplate, BitcastTemplate, MatTemplate, PtrTemplate,
-    TextureTemplate, TpltParam, VecTemplate,
-};
 use wgsl_types::ty::{StructMemberType, StructType, Ty, Type};
 use wgsl_types::{CallSignature, error};
 
-/// The type that the template makes, a vector or a matrix of 255 each way.
-pub fn made(alloc: Global, name: &str, template: &[TpltParam]) -> Result<Type, error::Fail> {
-    Ok(match name {
-        "array" => ArrayTemplate::parse(alloc, template)?.ty(alloc)?,
-        "binding_array" => BindingArrayTemplate::parse(alloc, template)?.ty(alloc)?,
-        "vec255" => VecTemplate::parse(alloc, template)?.ty(alloc, 255)?,
-        "mat255x255" => MatTemplate::parse(alloc, template)?.ty(alloc, 255, 255)?,
-        "ptr" => PtrTemplate::parse(alloc, template)?.ty(alloc)?,
-        "bitcast" => BitcastTemplate::parse(alloc, template)?.ty().clone(alloc)?,
-        "atomic" => AtomicTemplate::parse(alloc, template)?.ty(alloc)?,
-        _ => Type::Texture(TextureTemplate::parse(alloc, name, template)?.ty()),
-    })
-}
+/// How many arguments a long call has.
+const MANY: usize = 300;
 
-/// Compares what templates make, or why they make nothing, with what stands in their rows.
-fn expect_made(rt: &(impl Abort + AllocGlobal), rows: &[(&str, &str, &str)]) -> Result<(), Fail> {
-    for (name, words, text) in rows {
-        let parameters = template(rt.alloc(), words)?;
-        let answer = made(rt.alloc(), name, &parameters);
-        assert_eq!(rt;
-            text_of(rt.alloc(), answer)?.as_str(),
-            *text,
-            "of {name} {words}"
-        );
-    }
-    Ok(())
-}
-
-#[test]
-fn templates_take_strange_types(rt: HostRuntime) -> Result<(), Fail> {
-    expect_made(
-        &rt,
-        &[
-            (
-                "array",
-                "< t struct E 0 n 18446744073709551615lu >",
-                "array<E, 18446744073709551615>",
-            ),
-            (
-                "array",
-                "< t ref handle read i32 >",
-                "array<ref<handle, i32, read>>",
-            ),
-            (
-                "binding_array",
-                "< t vec 0 f32 n 4294967296 >",
-                "binding_array<vec0<f32>, 4294967296>",
-            ),
-            ("vec255", "< t f64 >", "vec255<f64>"),
-            (
-                "vec255",
-                "< t vec 1 f32 >",
-                "vector template type must be a scalar",
-            ),
-            (
-                "vec255",
-                "< t struct E 0 >",
-                "vector template type must be a scalar",
-            ),
-            (
-                "mat255x255",
-                "< t AbstractFloat >",
-                "mat255x255<AbstractFloat>",
-            ),
-            (
-                "mat255x255",
-                "< t vec 255 f32 >",
-                "matrix template type must be f32 or f16",
-            ),
-            (
-                "ptr",
-                "< e function t struct E 0 >",
-                "ptr<function, E, read_write>",
-            ),
-            (
-                "ptr",
-                "< e uniform t array 18446744073709551615 f32 >",
-                "ptr<uniform, array<f32, 18446744073709551615>, read>",
-            ),
-            (
-                "ptr",
-                "< e private t ref function read i32 >",
-                "pointer type must be storable",
-            ),
-            (
-                "ptr",
-                "< e private t array 0 AbstractInt >",
-                "pointer type must be storable",
-            ),
-            (
-                "bitcast",
-                "< t vec 255 AbstractInt >",
-                "vec255<AbstractInt>",
-            ),
-            (
-                "bitcast",
-                "< t vec 2 vec 2 f32 >",
-                "bitcast template type must be a numeric scalar or numeric vector",
-            ),
-            (
-                "atomic",
-                "< t atomic i32 >",
-                "atomic template type must be an integer",
-            ),
-            (
-                "texture_2d",
-                "< t vec 0 f32 >",
-                "invalid sampled type, expected `i32`, `u32` or `f32`, got `vec0<f32>`",
-            ),
-            (
-                "texture_3d",
-                "< t ref function read f32 >",
-                "invalid sampled type, expected `i32`, `u32` or `f32`, got `ref<function, f32, read>`",
-            ),
-        ],
-    )
-}
-
-#[test]
-fn templates_refuse_no_parameters_and_300(rt: HostRuntime) -> Result<(), Fail> {
-    let alloc = rt.alloc();
-    let list = "t f32 ".repeat(alloc, MANY)?;
-    let long = template(alloc, format!(in alloc; "< {list}>")?.as_str())?;
-    let none = template(alloc, "< >")?;
-    for (name, message) in [
-        ("array", "invalid template arguments to `array`"),
-        (
-            "binding_array",
-            "invalid template arguments to `binding_array`",
-        ),
-        ("vec255", "invalid template arguments to `vector`"),
-        ("mat255x255", "invalid template arguments to `matrix`"),
-        ("ptr", "invalid template arguments to `pointer`"),
-        ("bitcast", "invalid template arguments to `bitcast`"),
-        ("atomic", "invalid template arguments to `atomic`"),
-        (
-            "texture_2d",
-            "sampled texture types take a single template parameter",
-        ),
-        (
-            "texture_storage_2d",
-            "storage texture types take two template parameters",
-        ),
-        ("texture_4d", "not a templated texture type"),
-    ] {
-        let answer = made(alloc, name, &long);
-        assert_eq!(rt; text_of(alloc, answer)?.as_str(), message);
-        let answer = made(alloc, name, &none);
-        assert_eq!(rt; text_of(alloc, answer)?.as_str(), message);
-    }
-    Ok(())
+/// The same words so many times.
+fn many(alloc: Global, words: &str) -> Result<Vec<Type>, Fail> {
+    types(alloc, &words.repeat(alloc, MANY)?)
 }
 
 /// A struct of so many members of the type that the words stand for.
@@ -269,7 +118,7 @@ fn literals_convert_to_their_types_alone(rt: HostRuntime) -> Result<(), Fail> {
     let one = Instance::Literal(LiteralInstance::AbstractInt(-9223372036854775808));
     for words in [
         "bool",
-        "i64",
+        "f64",
         "vec 1 AbstractInt",
         "array 1 AbstractInt",
         "mat 1 1 f32",
@@ -280,7 +129,16 @@ fn literals_convert_to_their_types_alone(rt: HostRuntime) -> Result<(), Fail> {
     ] {
         assert!(rt; !one.is_convertible_to(&one_type(alloc, words)?), "{words}");
     }
-    for words in ["AbstractInt", "i32", "u32", "AbstractFloat", "f32", "f16"] {
+    for words in [
+        "AbstractInt",
+        "i32",
+        "u32",
+        "i64",
+        "u64",
+        "AbstractFloat",
+        "f32",
+        "f16",
+    ] {
         assert!(rt; one.is_convertible_to(&one_type(alloc, words)?), "{words}");
     }
     assert!(rt; one.ty(alloc)? == Type::AbstractInt);

@@ -179,7 +179,7 @@ fn strange_types_convert_as_their_ranks_say(rt: HostRuntime) -> Result<(), Fail>
 }
 
 /// What the method of the operator answers.
-pub fn by_method(
+fn by_method(
     alloc: Global,
     operator: BinaryOperator,
     lhs: &Type,
@@ -261,7 +261,7 @@ fn operators_agree_on_strange_types(rt: HostRuntime) -> Result<(), Fail> {
 }
 
 /// What the method of the operator answers.
-pub fn by_unary_method(
+fn by_unary_method(
     alloc: Global,
     operator: UnaryOperator,
     ty: &Type,

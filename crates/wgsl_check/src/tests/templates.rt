@@ -1,7 +1,5 @@
 // Templates one by one: what each makes of its parameters, and each of its refusals.
-use crate::line::words;
-use crate::template::read_template;
-use crate::words::{Unread, Words};
+use super::worded::template;
 use std::alloc::{AllocError, Global};
 use std::process::Abort;
 use std::test::Fail;
@@ -46,15 +44,7 @@ const NOT_ONE_TYPE: [&str; 7] = [
 
 /// The parameters that these words stand for between `<` and `>`.
 fn parameters(alloc: Global, text: &str) -> Result<Vec<TpltParam>, Fail> {
-    let line = format!(in alloc; "< {text} >")?;
-    let Some(words) = words(alloc, line.as_bytes())? else {
-        return Err("the words are no text".into());
-    };
-    match read_template(alloc, &mut Words::new(&words)) {
-        Ok(Some(tplt)) => Ok(tplt),
-        Ok(None) | Err(Unread::Word) => Err("the words are no parameters".into()),
-        Err(Unread::Memory(e)) => Err(e.into()),
-    }
+    template(alloc, &format!(in alloc; "< {text} >")?)
 }
 
 /// The type that the template of this name makes; any other name is one of a texture.
@@ -726,5 +716,36 @@ fn texture_templates_hold_their_texture(rt: HostRuntime) -> Result<(), Fail> {
     };
     let texture = TextureType::Storage2DArray(TexelFormat::Rg32Sint, AccessMode::Write);
     assert_eq!(rt; stored.ty(), texture);
+    Ok(())
+}
+
+#[test]
+fn templates_take_types_that_no_program_would_write(rt: HostRuntime) -> Result<(), Fail> {
+    for (name, words, ty) in [
+        (
+            "array",
+            "t struct E 0 n 18446744073709551615lu",
+            "array<E, 18446744073709551615>",
+        ),
+        (
+            "array",
+            "t ref handle read i32",
+            "array<ref<handle, i32, read>>",
+        ),
+        (
+            "binding_array",
+            "t vec 0 f32 n 4294967296",
+            "binding_array<vec0<f32>, 4294967296>",
+        ),
+        ("ptr", "e function t struct E 0", "ptr<function, E, read_write>"),
+        (
+            "ptr",
+            "e uniform t array 18446744073709551615 f32",
+            "ptr<uniform, array<f32, 18446744073709551615>, read>",
+        ),
+        ("bitcast", "t vec 255 AbstractInt", "vec255<AbstractInt>"),
+    ] {
+        expect_rows(&rt, name, &[(words, ty)])?;
+    }
     Ok(())
 }
