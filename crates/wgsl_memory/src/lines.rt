@@ -79,10 +79,11 @@ where
     } else {
         first
     };
+    let answer = Answer(answer);
     let is_changed = arguments != copies;
     Ok(Tried {
         wanted_memory,
         is_changed,
-        answer: Answer(answer),
+        answer,
     })
 }

@@ -18,6 +18,10 @@ pub fn vector(alloc: Global, components: u8, component: Type) -> Result<Type, Al
     Ok(Type::Vec(components, boxed(alloc, component)?))
 }
 
+pub fn list<const N: usize>(alloc: Global, types: [Type; N]) -> Result<Vec<Type>, AllocError> {
+    Vec::from_array(alloc, types).map_err(|_e| AllocError)
+}
+
 /// Two vectors of two.
 pub fn vectors(alloc: Global, first: Type, second: Type) -> Result<(Type, Type), AllocError> {
     let first = vector(alloc, 2, first)?;
@@ -108,7 +112,7 @@ pub fn of_vectors(alloc: Global) -> Result<[TpltParam; 2], AllocError> {
 /// `array<vec2<f16>, 2>(f32)`
 pub fn signature(alloc: Global) -> Result<CallSignature, AllocError> {
     let tplt = Vec::from_array(alloc, of_vectors(alloc)?).map_err(|_e| AllocError)?;
-    let args = Vec::from_array(alloc, [Type::F32]).map_err(|_e| AllocError)?;
+    let args = list(alloc, [Type::F32])?;
     let name = text(alloc, "array")?;
     Ok(CallSignature {
         name,

@@ -1,6 +1,8 @@
 // Calls that never want memory: their lines begin with the word `never`.
 use crate::lines::Lines;
-use crate::make::{empty_structure, literal, reference, structure_and_arguments, vector, vectors};
+use crate::make::{
+    empty_structure, list, literal, reference, structure_and_arguments, vector, vectors,
+};
 use crate::operators::{BINARY, UNARY};
 use crate::shown::{Chosen, Done, Equal, Listed, Maybe};
 use std::alloc::{AllocError, Global};
@@ -131,33 +133,40 @@ fn print_templates<W: Write>(lines: &mut Lines<W>) -> io::Result<()> {
 }
 
 fn print_calls<W: Write>(lines: &mut Lines<W>) -> io::Result<()> {
-    print_call(lines, "storageBarrier", |_alloc| Ok([]))?;
-    print_call(lines, "max", |_alloc| Ok([Type::AbstractInt, Type::F32]))?;
-    print_call(lines, "min", |_alloc| Ok([Type::U32, Type::U32]))?;
-    print_call(lines, "clamp", |_alloc| {
-        Ok([Type::AbstractInt, Type::F32, Type::AbstractFloat])
+    print_call(lines, "storageBarrier", |alloc| Ok(Vec::new(alloc)))?;
+    print_call(
+        lines,
+        "max",
+        |alloc| list(alloc, [Type::AbstractInt, Type::F32]),
+    )?;
+    print_call(lines, "min", |alloc| list(alloc, [Type::U32, Type::U32]))?;
+    print_call(lines, "clamp", |alloc| {
+        list(alloc, [Type::AbstractInt, Type::F32, Type::AbstractFloat])
+    })?;
+    print_call(lines, "select", |alloc| {
+        list(alloc, [Type::F32, Type::AbstractInt, Type::Bool])
+    })?;
+    print_call(lines, "dot", |alloc| {
+        let first = vector(alloc, 3, Type::AbstractInt)?;
+        let second = vector(alloc, 3, Type::F32)?;
+        list(alloc, [first, second])
     })?;
     print_call(
         lines,
-        "select",
-        |_alloc| Ok([Type::F32, Type::AbstractInt, Type::Bool]),
+        "length",
+        |alloc| list(alloc, [vector(alloc, 2, Type::F16)?]),
     )?;
-    print_call(lines, "dot", |alloc| {
-        let first = vector(alloc, 3, Type::AbstractInt)?;
-        Ok([first, vector(alloc, 3, Type::F32)?])
-    })?;
-    print_call(lines, "length", |alloc| Ok([vector(alloc, 2, Type::F16)?]))?;
-    print_call(lines, "all", |alloc| Ok([vector(alloc, 2, Type::Bool)?]))
+    print_call(
+        lines,
+        "all",
+        |alloc| list(alloc, [vector(alloc, 2, Type::Bool)?]),
+    )
 }
 
 /// The call of a built-in function.
-fn print_call<W: Write, M, const N: usize>(
-    lines: &mut Lines<W>,
-    name: &str,
-    make: M,
-) -> io::Result<()>
+fn print_call<W: Write, M>(lines: &mut Lines<W>, name: &str, make: M) -> io::Result<()>
 where
-    M: Fn(Global) -> Result<[Type; N], AllocError> + Drop,
+    M: Fn(Global) -> Result<Vec<Type>, AllocError> + Drop,
     requires { M.IsAlwaysCallable make }
 {
     lines.call(
