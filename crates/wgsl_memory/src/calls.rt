@@ -1,5 +1,5 @@
 // Constructors and built-in functions.
-use crate::lines::Lines;
+use crate::lines::{Lines, answered};
 use crate::make::{exchanged, of_vector, of_vectors, pointer, structure, vector};
 use crate::shown::{Done, Maybe};
 use std::io;
@@ -36,27 +36,27 @@ fn print_constructors<W: Write>(lines: &mut Lines<W>) -> io::Result<()> {
     lines.call(
         "typecheck_struct_ctor, refused",
         structure,
-        |alloc, layout| { Ok(Done(typecheck_struct_ctor(alloc, layout, &[Type::F32])?)) },
+        |alloc, layout| { answered(Done(typecheck_struct_ctor(alloc, layout, &[Type::F32])?)) },
     )
 }
 
 fn print_built_in_functions<W: Write>(lines: &mut Lines<W>) -> io::Result<()> {
     let of_two = |alloc| Ok([vector(alloc, 2, Type::F32)?]);
     lines.call("type_builtin_fn frexp", of_two, |alloc, args| {
-        Ok(Maybe(type_builtin_fn(alloc, "frexp", None, args)?))
+        answered(Maybe(type_builtin_fn(alloc, "frexp", None, args)?))
     })?;
     let of_five = |alloc| Ok([vector(alloc, 5, Type::F32)?]);
     lines.call("type_builtin_fn frexp, refused", of_five, |alloc, args| {
-        Ok(Maybe(type_builtin_fn(alloc, "frexp", None, args)?))
+        answered(Maybe(type_builtin_fn(alloc, "frexp", None, args)?))
     })?;
     lines.call("type_builtin_fn bitcast", of_vector, |alloc, tplt| {
-        Ok(Maybe(type_builtin_fn(alloc, "bitcast", Some(tplt), &[Type::U32])?))
+        answered(Maybe(type_builtin_fn(alloc, "bitcast", Some(tplt), &[Type::U32])?))
     })?;
     lines.call(
         "type_builtin_fn atomicCompareExchangeWeak",
         exchanged,
         |alloc, args| {
-            Ok(Maybe(type_builtin_fn(alloc, "atomicCompareExchangeWeak", None, args)?))
+            answered(Maybe(type_builtin_fn(alloc, "atomicCompareExchangeWeak", None, args)?))
         },
     )?;
     let of_query = |alloc| Ok([pointer(alloc, Type::RayQuery(None))?]);
@@ -64,7 +64,7 @@ fn print_built_in_functions<W: Write>(lines: &mut Lines<W>) -> io::Result<()> {
         "type_builtin_fn rayQueryGetCommittedIntersection",
         of_query,
         |alloc, args| {
-            Ok(Maybe(type_builtin_fn(alloc, "rayQueryGetCommittedIntersection", None, args)?))
+            answered(Maybe(type_builtin_fn(alloc, "rayQueryGetCommittedIntersection", None, args)?))
         },
     )
 }

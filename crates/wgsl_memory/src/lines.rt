@@ -11,79 +11,78 @@ pub struct Lines<W> {
     pub output: W,
 }
 
-/// How a call went.
-#[derive(Drop)]
-struct Tried<T> {
-    /// Whether it wanted memory, and was made a second time.
-    wanted_memory: bool,
-    /// Whether an argument isn't what it was.
-    is_changed: bool,
-    answer: Answer<T>,
+/// Why a call gives nothing.
+pub trait Refusal: fmt::Display + Drop {
+    fn is_want_of_memory(&self) -> bool;
 }
 
-/// What a call answers, as it is printed.
-#[derive(Drop)]
-struct Answer<T>(Result<T, Fail>);
+impl Refusal for Fail {
+    fn is_want_of_memory(&self) -> bool {
+        matches!(self, Fail::Memory(_))
+    }
+}
 
-impl<T: fmt::Display> fmt::Display for Answer<T> {
-    fn fmt<W: fmt::Write>(&self, f: &mut fmt::Formatter<W>) -> fmt::Result {
-        match &self.0 {
-            Ok(value) => write!(f, "{value}"),
-            Err(fail) => write!(f, "{fail}"),
-        }
+/// What a call answers that may refuse.
+pub fn answered<T>(value: T) -> Result<T, Fail> {
+    Ok(value)
+}
+
+/// Whether a call wanted memory.
+fn wanted_memory<T, E: Refusal>(answer: &Result<T, E>) -> bool {
+    match answer {
+        Ok(_) => false,
+        Err(refusal) => refusal.is_want_of_memory(),
     }
 }
 
 impl<W: Write> Lines<W> {
     /// Makes a call, and prints how it went. It is made a second time where it wanted memory, and not at all where there is
-    /// none for its arguments. Printing takes no memory.
-    pub fn call<N, A, T, M, C>(&mut self, name: N, make: M, call: C) -> io::Result<()>
+    /// none for its arguments. A line more says if an argument isn't what it was. Printing takes no memory.
+    pub fn call<N, A, T, E, M, C>(&mut self, name: N, make: M, call: C) -> io::Result<()>
     where
         N: fmt::Display + Drop,
         A: PartialEq + Drop,
         T: fmt::Display + Drop,
+        E: Refusal,
         M: Fn(Global) -> Result<A, AllocError> + Drop,
-        C: Fn(Global, &A) -> Result<T, Fail> + Drop,
+        C: Fn(Global, &A) -> Result<T, E> + Drop,
         requires make { M.IsAlwaysCallable make }
         requires call { C.IsAlwaysCallable call }
     {
-        let Ok(tried) = attempt(self.alloc, make, call) else {
+        let Ok((arguments, copies)) = make_twice(self.alloc, make) else {
             return writeln!(self.output, "{name}: not tried");
         };
-        let answer = tried.answer;
-        if tried.is_changed {
-            writeln!(self.output, "{name}: changed")
-        } else if tried.wanted_memory {
-            writeln!(self.output, "{name}: want of memory, then {answer}")
+        write!(self.output, "{name}: ")?;
+        let first = call(self.alloc, &arguments);
+        if wanted_memory(&first) {
+            write!(self.output, "want of memory, then ")?;
+            self.print(call(self.alloc, &arguments))?;
         } else {
-            writeln!(self.output, "{name}: {answer}")
+            self.print(first)?;
+        }
+        if arguments != copies {
+            writeln!(self.output, "{name}: changed")?;
+        }
+        Ok(())
+    }
+
+    fn print<T: fmt::Display + Drop, E: Refusal>(
+        &mut self,
+        answer: Result<T, E>,
+    ) -> io::Result<()> {
+        match answer {
+            Ok(value) => writeln!(self.output, "{value}"),
+            Err(refusal) => writeln!(self.output, "{refusal}"),
         }
     }
 }
 
-fn attempt<A, T, M, C>(alloc: Global, make: M, call: C) -> Result<Tried<T>, AllocError>
+fn make_twice<A, M>(alloc: Global, make: M) -> Result<(A, A), AllocError>
 where
-    A: PartialEq + Drop,
-    T: Drop,
+    A: Drop,
     M: Fn(Global) -> Result<A, AllocError> + Drop,
-    C: Fn(Global, &A) -> Result<T, Fail> + Drop,
-    requires make { M.IsAlwaysCallable make }
-    requires call { C.IsAlwaysCallable call }
+    requires { M.IsAlwaysCallable make }
 {
     let arguments = make(alloc)?;
-    let copies = make(alloc)?;
-    let first = call(alloc, &arguments);
-    let wanted_memory = matches!(first, Err(Fail::Memory(_)));
-    let answer = if wanted_memory {
-        call(alloc, &arguments)
-    } else {
-        first
-    };
-    let answer = Answer(answer);
-    let is_changed = arguments != copies;
-    Ok(Tried {
-        wanted_memory,
-        is_changed,
-        answer,
-    })
+    Ok((arguments, make(alloc)?))
 }

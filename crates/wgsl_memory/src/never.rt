@@ -1,5 +1,5 @@
 // Calls that never want memory: their lines begin with the word `never`.
-use crate::lines::Lines;
+use crate::lines::{Lines, answered};
 use crate::make::{
     empty_structure, list, literal, reference, structure_and_arguments, vector, vectors,
 };
@@ -63,7 +63,7 @@ fn print_binary<W: Write>(
     lines.call(
         format_args!("never binary_candidate {lhs} {operator} {rhs}"),
         make,
-        |alloc, (lhs, rhs)| Ok(Chosen(binary_candidate(alloc, operator, lhs, rhs)?)),
+        |alloc, (lhs, rhs)| answered(Chosen(binary_candidate(alloc, operator, lhs, rhs)?)),
     )
 }
 
@@ -72,27 +72,31 @@ fn print_types<W: Write>(lines: &mut Lines<W>) -> io::Result<()> {
     lines.call(
         "never Type::clone",
         scalar,
-        |alloc, ty| Ok(ty.clone(alloc)?),
+        |alloc, ty| answered(ty.clone(alloc)?),
     )?;
     lines.call("never concretize", scalar, |alloc, ty| {
-        Ok(Type::concretize(ty, alloc)?)
+        answered(Type::concretize(ty, alloc)?)
     })?;
     lines.call(
         "never try_from_type",
         scalar,
         |alloc, ty| try_from_type(alloc, ty),
     )?;
-    lines.call("never ty", literal, |alloc, literal| Ok(literal.ty(alloc)?))?;
+    lines.call(
+        "never ty",
+        literal,
+        |alloc, literal| answered(literal.ty(alloc)?),
+    )?;
     lines.call("never inner_ty", literal, |alloc, literal| {
-        Ok(literal.inner_ty(alloc)?)
+        answered(literal.inner_ty(alloc)?)
     })?;
     let parameter = |_alloc| Ok(TpltParam::Ty(Type::F32));
     lines.call("never TpltParam::clone", parameter, |alloc, parameter| {
-        Ok(parameter.clone(alloc)?)
+        answered(parameter.clone(alloc)?)
     })?;
     let refusal = |_alloc| Ok(Error::Conversion(Type::I32, Type::F32));
     lines.call("never Error::clone", refusal, |alloc, error| {
-        Ok(error.clone(alloc)?)
+        answered(error.clone(alloc)?)
     })?;
     let in_handle = |alloc| reference(alloc, AddressSpace::Handle);
     lines.call(
@@ -107,28 +111,28 @@ fn print_conversions<W: Write>(lines: &mut Lines<W>) -> io::Result<()> {
     lines.call(
         "never convert_to, to what it doesn't",
         unlike,
-        |alloc, (from, to)| { Ok(Maybe(from.convert_to(alloc, to)?)) },
+        |alloc, (from, to)| { answered(Maybe(from.convert_to(alloc, to)?)) },
     )?;
     let like = |alloc| vectors(alloc, Type::AbstractInt, Type::F32);
     lines.call(
         "never convert_ty, the second",
         like,
-        |_alloc, (first, second)| { Ok(Equal(convert_ty(first, second) == Some(second))) },
+        |_alloc, (first, second)| { answered(Equal(convert_ty(first, second) == Some(second))) },
     )?;
     let numbers = |_alloc| Ok([Type::AbstractInt, Type::AbstractFloat, Type::F32]);
     lines.call("never convert_all_ty, the last", numbers, |_alloc, types| {
-        Ok(Equal(convert_all_ty(types) == types.last()))
+        answered(Equal(convert_all_ty(types) == types.last()))
     })
 }
 
 fn print_templates<W: Write>(lines: &mut Lines<W>) -> io::Result<()> {
     let of_scalar = |_alloc| Ok([TpltParam::Ty(Type::U32)]);
     lines.call("never AtomicTemplate::inner_ty", of_scalar, |alloc, tplt| {
-        Ok(AtomicTemplate::parse(alloc, tplt)?.inner_ty(alloc)?)
+        answered(AtomicTemplate::parse(alloc, tplt)?.inner_ty(alloc)?)
     })?;
     lines.call("never TextureTemplate::parse", of_scalar, |alloc, tplt| {
         let texture = TextureTemplate::parse(alloc, "texture_2d", tplt)?;
-        Ok(texture.ty().channel_type())
+        answered(texture.ty().channel_type())
     })
 }
 
@@ -172,7 +176,7 @@ where
     lines.call(
         format_args!("never type_builtin_fn {name}"),
         make,
-        |alloc, args| Ok(Maybe(type_builtin_fn(alloc, name, None, args)?)),
+        |alloc, args| answered(Maybe(type_builtin_fn(alloc, name, None, args)?)),
     )
 }
 
@@ -180,16 +184,16 @@ fn print_structs<W: Write>(lines: &mut Lines<W>) -> io::Result<()> {
     lines.call(
         "never typecheck_struct_ctor",
         structure_and_arguments,
-        |alloc, (layout, args)| Ok(Done(typecheck_struct_ctor(alloc, layout, args)?)),
+        |alloc, (layout, args)| answered(Done(typecheck_struct_ctor(alloc, layout, args)?)),
     )?;
     lines.call(
         "never typecheck_struct_ctor of an empty struct",
         empty_structure,
-        |alloc, layout| Ok(Done(typecheck_struct_ctor(alloc, layout, &[])?)),
+        |alloc, layout| answered(Done(typecheck_struct_ctor(alloc, layout, &[])?)),
     )?;
     lines.call(
         "never offsets of an empty struct",
         empty_structure,
-        |alloc, layout| Ok(Maybe(layout.offsets(alloc)?.map(|offsets| Listed(offsets)))),
+        |alloc, layout| answered(Maybe(layout.offsets(alloc)?.map(|offsets| Listed(offsets)))),
     )
 }

@@ -1,5 +1,5 @@
 // Operators. `type_unary_op` and `type_binary_op` are the methods of a type from `op_not` to `op_shr`, by their operators.
-use crate::lines::Lines;
+use crate::lines::{Lines, answered};
 use crate::make::{factors, pointer, reference, vector, vectors};
 use crate::shown::Chosen;
 use std::io;
@@ -95,7 +95,7 @@ fn print_candidates<W: Write>(lines: &mut Lines<W>) -> io::Result<()> {
         factors,
         |alloc, (lhs, rhs)| {
             let operator = BinaryOperator::Multiplication;
-            Ok(Chosen(binary_candidate(alloc, operator, lhs, rhs)?))
+            answered(Chosen(binary_candidate(alloc, operator, lhs, rhs)?))
         },
     )?;
     lines.call(
@@ -103,7 +103,7 @@ fn print_candidates<W: Write>(lines: &mut Lines<W>) -> io::Result<()> {
         |alloc| vector(alloc, 2, Type::I32),
         |alloc, rhs| {
             let operator = BinaryOperator::Addition;
-            Ok(Chosen(binary_candidate(alloc, operator, &Type::Bool, rhs)?))
+            answered(Chosen(binary_candidate(alloc, operator, &Type::Bool, rhs)?))
         },
     )
 }

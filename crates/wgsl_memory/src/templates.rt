@@ -1,5 +1,5 @@
 // Templates: parsed, and asked for the types that they make.
-use crate::lines::Lines;
+use crate::lines::{Lines, answered};
 use crate::make::{of_vector, of_vectors, vector};
 use std::io;
 use std::io::Write;
@@ -15,41 +15,41 @@ pub fn print_templates<W: Write>(lines: &mut Lines<W>) -> io::Result<()> {
     print_scalars(lines)?;
     print_pointers(lines)?;
     lines.call("BitcastTemplate::inner_ty", of_vector, |alloc, tplt| {
-        Ok(BitcastTemplate::parse(alloc, tplt)?.inner_ty(alloc)?)
+        answered(BitcastTemplate::parse(alloc, tplt)?.inner_ty(alloc)?)
     })?;
     lines.call("TextureTemplate::parse", of_vector, |alloc, tplt| {
         let texture = TextureTemplate::parse(alloc, "texture_2d", tplt)?;
-        Ok(texture.ty().channel_type())
+        answered(texture.ty().channel_type())
     })
 }
 
 fn print_arrays<W: Write>(lines: &mut Lines<W>) -> io::Result<()> {
     lines.call("ArrayTemplate::ty", of_vectors, |alloc, tplt| {
-        Ok(ArrayTemplate::parse(alloc, tplt)?.ty(alloc)?)
+        answered(ArrayTemplate::parse(alloc, tplt)?.ty(alloc)?)
     })?;
     lines.call("ArrayTemplate::inner_ty", of_vectors, |alloc, tplt| {
-        Ok(ArrayTemplate::parse(alloc, tplt)?.inner_ty(alloc)?)
+        answered(ArrayTemplate::parse(alloc, tplt)?.inner_ty(alloc)?)
     })?;
     lines.call("BindingArrayTemplate::ty", of_vectors, |alloc, tplt| {
-        Ok(BindingArrayTemplate::parse(alloc, tplt)?.ty(alloc)?)
+        answered(BindingArrayTemplate::parse(alloc, tplt)?.ty(alloc)?)
     })?;
     lines.call(
         "BindingArrayTemplate::inner_ty",
         of_vectors,
-        |alloc, tplt| { Ok(BindingArrayTemplate::parse(alloc, tplt)?.inner_ty(alloc)?) },
+        |alloc, tplt| { answered(BindingArrayTemplate::parse(alloc, tplt)?.inner_ty(alloc)?) },
     )
 }
 
 fn print_scalars<W: Write>(lines: &mut Lines<W>) -> io::Result<()> {
     let of_float = |_alloc| Ok([TpltParam::Ty(Type::F32)]);
     lines.call("VecTemplate::ty", of_float, |alloc, tplt| {
-        Ok(VecTemplate::parse(alloc, tplt)?.ty(alloc, 3)?)
+        answered(VecTemplate::parse(alloc, tplt)?.ty(alloc, 3)?)
     })?;
     lines.call("MatTemplate::ty", of_float, |alloc, tplt| {
-        Ok(MatTemplate::parse(alloc, tplt)?.ty(alloc, 2, 3)?)
+        answered(MatTemplate::parse(alloc, tplt)?.ty(alloc, 2, 3)?)
     })?;
     lines.call("AtomicTemplate::ty", of_float, |alloc, tplt| {
-        Ok(AtomicTemplate::parse(alloc, tplt)?.ty(alloc)?)
+        answered(AtomicTemplate::parse(alloc, tplt)?.ty(alloc)?)
     })
 }
 
@@ -59,17 +59,17 @@ fn print_pointers<W: Write>(lines: &mut Lines<W>) -> io::Result<()> {
         Ok([in_space(AddressSpace::Function), ty])
     };
     lines.call("PtrTemplate::parse", of_vector, |alloc, tplt| {
-        Ok(PtrTemplate::parse(alloc, tplt)?.access)
+        answered(PtrTemplate::parse(alloc, tplt)?.access)
     })?;
     lines.call("PtrTemplate::ty", of_vector, |alloc, tplt| {
-        Ok(PtrTemplate::parse(alloc, tplt)?.ty(alloc)?)
+        answered(PtrTemplate::parse(alloc, tplt)?.ty(alloc)?)
     })?;
     let of_constant = |_alloc| Ok([
         in_space(AddressSpace::PushConstant),
         TpltParam::Ty(Type::F32),
     ]);
     lines.call("PtrTemplate::parse, refused", of_constant, |alloc, tplt| {
-        Ok(PtrTemplate::parse(alloc, tplt)?.access)
+        answered(PtrTemplate::parse(alloc, tplt)?.access)
     })
 }
 
