@@ -11,7 +11,8 @@ pub struct Lines<W> {
     pub output: W,
 }
 
-/// Why a call gives nothing.
+/// Why a call gives nothing. A closure's bound can't name `Fail`, since the borrow checker doesn't cover one whose result holds
+/// a reference, here a `&'static str`.
 pub trait Refusal: fmt::Display + Drop {
     fn is_want_of_memory(&self) -> bool;
 }
