@@ -134,28 +134,28 @@ fn expect_types(
 #[test]
 fn strange_types_are_of_their_kinds(rt: HostRuntime) -> Result<(), Fail> {
     for (words, names) in [
-            (
-                "AbstractInt",
-                "scalar numeric integer abstract abstract_int",
-            ),
-            ("u64", "scalar numeric integer concrete storable u64"),
-            ("struct E 0", "concrete storable"),
-            ("struct S 1 a - 0 AbstractInt", "concrete storable"),
-            ("array 18446744073709551615 AbstractInt", "abstract array"),
-            ("array 0 sampler", "concrete storable array"),
-            (
-                "array 2 ref function read AbstractInt",
-                "concrete storable array",
-            ),
-            ("vec 255 AbstractFloat", "abstract vec"),
-            ("vec 0 struct E 0", "concrete storable vec"),
-            ("vec 1 array * mat 0 0 AbstractInt", "abstract vec"),
-            ("mat 0 0 bool", "concrete storable mat"),
-            ("atomic AbstractInt", "concrete storable"),
-            ("ref function read AbstractInt", "concrete"),
-            ("ptr handle write AbstractFloat", "concrete"),
-            ("binding_array 4294967296 AbstractInt", "concrete"),
-            ("ray_query vertex_return", "concrete"),
+        (
+            "AbstractInt",
+            "scalar numeric integer abstract abstract_int",
+        ),
+        ("u64", "scalar numeric integer concrete storable u64"),
+        ("struct E 0", "concrete storable"),
+        ("struct S 1 a - 0 AbstractInt", "concrete storable"),
+        ("array 18446744073709551615 AbstractInt", "abstract array"),
+        ("array 0 sampler", "concrete storable array"),
+        (
+            "array 2 ref function read AbstractInt",
+            "concrete storable array",
+        ),
+        ("vec 255 AbstractFloat", "abstract vec"),
+        ("vec 0 struct E 0", "concrete storable vec"),
+        ("vec 1 array * mat 0 0 AbstractInt", "abstract vec"),
+        ("mat 0 0 bool", "concrete storable mat"),
+        ("atomic AbstractInt", "concrete storable"),
+        ("ref function read AbstractInt", "concrete"),
+        ("ptr handle write AbstractFloat", "concrete"),
+        ("binding_array 4294967296 AbstractInt", "concrete"),
+        ("ray_query vertex_return", "concrete"),
     ] {
         let ty = one_type(rt.alloc(), words)?;
         assert_eq!(rt; kinds(rt.alloc(), &ty)?.as_str(), names, "of {words}");

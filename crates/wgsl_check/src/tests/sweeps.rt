@@ -261,11 +261,7 @@ fn operators_agree_on_strange_types(rt: HostRuntime) -> Result<(), Fail> {
 }
 
 /// What the method of the operator answers.
-fn by_unary_method(
-    alloc: Global,
-    operator: UnaryOperator,
-    ty: &Type,
-) -> Result<Type, error::Fail> {
+fn by_unary_method(alloc: Global, operator: UnaryOperator, ty: &Type) -> Result<Type, error::Fail> {
     match operator {
         UnaryOperator::LogicalNegation => ty.op_not(alloc),
         UnaryOperator::Negation => ty.op_neg(alloc),

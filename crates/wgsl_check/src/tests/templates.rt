@@ -737,7 +737,11 @@ fn templates_take_types_that_no_program_would_write(rt: HostRuntime) -> Result<(
             "t vec 0 f32 n 4294967296",
             "binding_array<vec0<f32>, 4294967296>",
         ),
-        ("ptr", "e function t struct E 0", "ptr<function, E, read_write>"),
+        (
+            "ptr",
+            "e function t struct E 0",
+            "ptr<function, E, read_write>",
+        ),
         (
             "ptr",
             "e uniform t array 18446744073709551615 f32",
