@@ -1,5 +1,7 @@
 // Types that no program would write: the kinds that they are of, what is made of them, and nests of 300 layers.
+use super::operators::boxed;
 use super::worded::one_type;
+use crate::report::number_or_none;
 use std::alloc::{AllocError, Global};
 use std::process::Abort;
 use std::test::Fail;
@@ -25,18 +27,15 @@ pub enum Layer {
 
 /// A layer around a type.
 fn around(alloc: Global, layer: Layer, ty: Type) -> Result<Type, AllocError> {
-    if matches!(layer, Layer::Struct) {
-        return wrapped(alloc, ty);
-    }
-    let inner = Box::new(alloc, ty).map_err(|_e| AllocError)?;
     Ok(match layer {
-        Layer::Array(count) => Type::Array(inner, count),
-        Layer::Vector(components) => Type::Vec(components, inner),
-        Layer::Matrix(columns, rows) => Type::Mat(columns, rows, inner),
-        Layer::Pointer => Type::Ptr(AddressSpace::Function, inner, AccessMode::Read),
-        Layer::Reference => Type::Ref(AddressSpace::Handle, inner, AccessMode::ReadWrite),
-        Layer::BindingArray => Type::BindingArray(inner, Some(4294967296)),
-        Layer::Atomic | Layer::Struct => Type::Atomic(inner),
+        Layer::Array(count) => Type::Array(boxed(alloc, ty)?, count),
+        Layer::Vector(components) => Type::Vec(components, boxed(alloc, ty)?),
+        Layer::Matrix(columns, rows) => Type::Mat(columns, rows, boxed(alloc, ty)?),
+        Layer::Atomic => Type::Atomic(boxed(alloc, ty)?),
+        Layer::Pointer => Type::Ptr(AddressSpace::Private, boxed(alloc, ty)?, AccessMode::Read),
+        Layer::Reference => Type::Ref(AddressSpace::Handle, boxed(alloc, ty)?, AccessMode::Write),
+        Layer::BindingArray => Type::BindingArray(boxed(alloc, ty)?, Some(4294967296)),
+        Layer::Struct => wrapped(alloc, ty)?,
     })
 }
 
@@ -56,13 +55,6 @@ pub fn nest(alloc: Global, layer: Layer, depth: usize, core: Type) -> Result<Typ
         ty = around(alloc, layer, ty)?;
     }
     Ok(ty)
-}
-
-fn number_or_none(alloc: Global, number: Option<u32>) -> Result<String, AllocError> {
-    match number {
-        Some(number) => number.to_string(alloc),
-        None => String::from_str(alloc, "none"),
-    }
 }
 
 /// The size, the alignment and the least size.
@@ -277,8 +269,8 @@ fn layers_300_deep_are_spelled(rt: HostRuntime) -> Result<(), Fail> {
         (Layer::Vector(255), "vec255<", ">"),
         (Layer::Matrix(0, 255), "mat0x255<", ">"),
         (Layer::Atomic, "atomic<", ">"),
-        (Layer::Pointer, "ptr<function, ", ", read>"),
-        (Layer::Reference, "ref<handle, ", ", read_write>"),
+        (Layer::Pointer, "ptr<private, ", ", read>"),
+        (Layer::Reference, "ref<handle, ", ", write>"),
         (Layer::BindingArray, "binding_array<", ", 4294967296>"),
     ] {
         let printed = nest(alloc, layer, DEPTH, Type::F64)?.to_string(alloc)?;

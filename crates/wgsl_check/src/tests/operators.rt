@@ -214,7 +214,7 @@ fn chosen(
     Ok(format!(in alloc; "({lhs}, {rhs}) {result}")?)
 }
 
-fn boxed(alloc: Global, ty: Type) -> Result<Box<Type>, AllocError> {
+pub fn boxed(alloc: Global, ty: Type) -> Result<Box<Type>, AllocError> {
     Box::new(alloc, ty).map_err(|_e| AllocError)
 }
 
