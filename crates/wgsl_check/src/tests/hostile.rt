@@ -232,6 +232,22 @@ fn references_are_loaded_and_taken_apart(rt: HostRuntime) -> Result<(), Fail> {
     )
 }
 
+/// Compares what each call says of the conversion of one type to another.
+fn expect_rank(rt: &(impl Abort + AllocGlobal), from: &Type, to: &Type, rank: Option<u32>) {
+    assert_eq!(rt; conversion_rank(from, to), rank);
+    assert_eq!(rt; from.is_convertible_to(to), rank.is_some());
+    assert_eq!(rt; rank_steps(from, to).0, rank);
+    assert!(rt; from != to);
+}
+
+fn becomes_concrete(alloc: Global, ty: &Type, concrete: &Type) -> Result<bool, AllocError> {
+    Ok(Type::concretize(ty, alloc)? == *concrete)
+}
+
+fn is_made_of(alloc: Global, ty: &Type, inner: &Type) -> Result<bool, AllocError> {
+    Ok(ty.ty(alloc)? == *ty && ty.inner_ty(alloc)? == *inner)
+}
+
 #[test]
 fn layers_300_deep_have_sizes_and_ranks(rt: HostRuntime) -> Result<(), Fail> {
     let alloc = rt.alloc();
@@ -247,15 +263,11 @@ fn layers_300_deep_have_sizes_and_ranks(rt: HostRuntime) -> Result<(), Fail> {
         (Layer::BindingArray, "none none none", None),
         (Layer::Struct, "4 4 4", None),
     ] {
-        let floats = nest(alloc, layer, DEPTH, Type::F32)?;
         let integers = nest(alloc, layer, DEPTH, Type::AbstractInt)?;
+        let floats = nest(alloc, layer, DEPTH, Type::F32)?;
+        expect_rank(&rt, &integers, &floats, rank);
         assert_eq!(rt; layout(alloc, &floats)?.as_str(), sizes);
-        assert_eq!(rt; conversion_rank(&integers, &floats), rank);
-        assert_eq!(rt; integers.is_convertible_to(&floats), rank.is_some());
-        assert_eq!(rt; rank_steps(&integers, &floats).0, rank);
-        assert!(rt; floats != integers);
-        assert!(rt; floats.clone(alloc)? == floats);
-        assert!(rt; Type::concretize(&floats, alloc)? == floats);
+        assert!(rt; becomes_concrete(alloc, &floats, &floats)?);
     }
     Ok(())
 }
@@ -289,13 +301,13 @@ fn layers_300_deep_become_concrete(rt: HostRuntime) -> Result<(), Fail> {
     for layer in [Layer::Array(Some(4294967296)), Layer::Vector(255)] {
         let abstract_type = nest(alloc, layer, DEPTH, Type::AbstractInt)?;
         let concrete = nest(alloc, layer, DEPTH, Type::I32)?;
-        assert!(rt; Type::concretize(&abstract_type, alloc)? == concrete);
+        assert!(rt; becomes_concrete(alloc, &abstract_type, &concrete)?);
     }
     let matrices = nest(alloc, Layer::Matrix(0, 255), DEPTH, Type::AbstractInt)?;
     let matrix = nest(alloc, Layer::Matrix(0, 255), 1, Type::F32)?;
-    assert!(rt; Type::concretize(&matrices, alloc)? == matrix);
+    assert!(rt; becomes_concrete(alloc, &matrices, &matrix)?);
     let references = nest(alloc, Layer::Reference, DEPTH, Type::AbstractInt)?;
-    assert!(rt; Type::concretize(&references, alloc)? == references);
+    assert!(rt; becomes_concrete(alloc, &references, &references)?);
     assert!(rt; references.loaded() == Type::AbstractInt);
     Ok(())
 }
@@ -314,11 +326,10 @@ fn layers_300_deep_are_taken_apart(rt: HostRuntime) -> Result<(), Fail> {
     ] {
         let whole = nest(alloc, layer, DEPTH, Type::Bool)?;
         let inner = nest(alloc, layer, DEPTH - 1, Type::Bool)?;
-        assert!(rt; whole.ty(alloc)? == whole);
-        assert!(rt; whole.inner_ty(alloc)? == inner);
+        assert!(rt; is_made_of(alloc, &whole, &inner)?);
     }
     let structs = nest(alloc, Layer::Struct, DEPTH, Type::Bool)?;
-    assert!(rt; structs.inner_ty(alloc)? == structs);
+    assert!(rt; is_made_of(alloc, &structs, &structs)?);
     Ok(())
 }
 

@@ -147,7 +147,7 @@ fn literals_convert_to_their_types_alone(rt: HostRuntime) -> Result<(), Fail> {
 }
 
 #[test]
-fn strange_values_convert_together(rt: HostRuntime) -> Result<(), Fail> {
+fn strange_values_convert_inside_together(rt: HostRuntime) -> Result<(), Fail> {
     let alloc = rt.alloc();
     let counted = one_type(alloc, "array 18446744073709551615 AbstractInt")?;
     let long = one_type(alloc, "vec 255 f32")?;
@@ -156,16 +156,30 @@ fn strange_values_convert_together(rt: HostRuntime) -> Result<(), Fail> {
     };
     assert!(rt; x == one_type(alloc, "array 18446744073709551615 f32")? && y == long);
     assert!(rt; convert(alloc, &counted, &long)?.is_none());
-    let references = types(alloc, "array 2 ref function read i32 array 2 i32")?;
-    let Some(converted) = convert_all(alloc, &references)? else {
-        return Err("one converts to the other".into());
-    };
-    assert!(rt; converted == types(alloc, "array 2 i32 array 2 i32")?);
-    let empty = types(alloc, "struct E 0 struct E 0")?;
-    let Some(converted) = convert_all(alloc, &empty)? else {
-        return Err("they are equal".into());
-    };
-    assert!(rt; converted == empty);
+    Ok(())
+}
+
+/// Whether all of the types together convert to these.
+fn become_all(alloc: Global, types: &[Type], converted: &[Type]) -> Result<bool, AllocError> {
+    match convert_all(alloc, types)? {
+        Some(all) => Ok(all.as_slice() == converted),
+        None => Ok(false),
+    }
+}
+
+#[test]
+fn lists_of_strange_values_convert_together(rt: HostRuntime) -> Result<(), Fail> {
+    let alloc = rt.alloc();
+    for (words, converted) in [
+        (
+            "array 2 ref function read i32 array 2 i32",
+            "array 2 i32 array 2 i32",
+        ),
+        ("struct E 0 struct E 0", "struct E 0 struct E 0"),
+    ] {
+        let values = types(alloc, words)?;
+        assert!(rt; become_all(alloc, &values, &types(alloc, converted)?)?);
+    }
     Ok(())
 }
 

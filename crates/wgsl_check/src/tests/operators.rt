@@ -1,6 +1,8 @@
 // Unary and binary operators, and the candidates that are chosen for them.
 use super::expect_answers;
+use super::worded::one_type;
 use std::alloc::{AllocError, Global};
+use std::process::Abort;
 use std::test::Fail;
 use wgsl_types::builtin::{Candidate, binary_candidate, type_binary_op};
 use wgsl_types::conv::conversion_rank;
@@ -203,49 +205,69 @@ fn unary_operators_answer_the_type_or_refuse_it(rt: HostRuntime) -> Result<(), F
     Ok(())
 }
 
-/// The candidate as it is printed: what it takes, and what it gives.
+/// The candidate as it is printed, what it takes and what it gives, or the message of the refusal.
 fn chosen(
     alloc: Global,
     operator: BinaryOperator,
     lhs: &Type,
     rhs: &Type,
-) -> Result<String, error::Fail> {
-    let Candidate { lhs, rhs, result } = binary_candidate(alloc, operator, lhs, rhs)?;
-    Ok(format!(in alloc; "({lhs}, {rhs}) {result}")?)
+) -> Result<String, AllocError> {
+    match binary_candidate(alloc, operator, lhs, rhs) {
+        Ok(Candidate { lhs, rhs, result }) => format!(in alloc; "({lhs}, {rhs}) {result}"),
+        Err(error::Fail::Error(e)) => e.to_string(alloc),
+        Err(error::Fail::Memory(e)) => Err(e),
+    }
 }
 
 pub fn boxed(alloc: Global, ty: Type) -> Result<Box<Type>, AllocError> {
     Box::new(alloc, ty).map_err(|_e| AllocError)
 }
 
+/// Compares the candidate of two types in words with its text.
+fn expect_candidate(
+    rt: &(impl Abort + AllocGlobal),
+    operator: BinaryOperator,
+    (lhs, rhs): (&str, &str),
+    text: &str,
+) -> Result<(), Fail> {
+    let lhs = one_type(rt.alloc(), lhs)?;
+    let rhs = one_type(rt.alloc(), rhs)?;
+    assert_eq!(rt; chosen(rt.alloc(), operator, &lhs, &rhs)?.as_str(), text);
+    Ok(())
+}
+
 #[test]
 fn candidates_say_what_the_operands_convert_to(rt: HostRuntime) -> Result<(), Fail> {
-    let alloc = rt.alloc();
-    let abstract_int = Type::AbstractInt;
-    let sum = chosen(
-        alloc,
+    expect_candidate(
+        &rt,
         BinaryOperator::Addition,
-        &abstract_int,
-        &Type::AbstractFloat,
-    );
-    assert!(rt; sum.is_ok_and(|s| s.as_str() == "(AbstractFloat, AbstractFloat) AbstractFloat"));
-    let vector = Type::Vec(3, boxed(alloc, Type::F32)?);
-    let sum = chosen(alloc, BinaryOperator::Addition, &abstract_int, &vector);
-    assert!(rt; sum.is_ok_and(|s| s.as_str() == "(f32, vec3<f32>) vec3<f32>"));
-    let shift = chosen(
-        alloc,
+        ("AbstractInt", "AbstractFloat"),
+        "(AbstractFloat, AbstractFloat) AbstractFloat",
+    )?;
+    expect_candidate(
+        &rt,
+        BinaryOperator::Addition,
+        ("AbstractInt", "vec 3 f32"),
+        "(f32, vec3<f32>) vec3<f32>",
+    )?;
+    expect_candidate(
+        &rt,
         BinaryOperator::ShiftLeft,
-        &abstract_int,
-        &abstract_int,
-    );
-    assert!(rt; shift.is_ok_and(|s| s.as_str() == "(AbstractInt, u32) AbstractInt"));
-    let matrix = Type::Mat(2, 3, boxed(alloc, Type::AbstractFloat)?);
-    let vector = Type::Vec(2, boxed(alloc, Type::F16)?);
-    let product = chosen(alloc, BinaryOperator::Multiplication, &matrix, &vector);
-    assert!(rt; product.is_ok_and(|s| s.as_str() == "(mat2x3<f16>, vec2<f16>) vec3<f16>"));
-    let refused = chosen(alloc, BinaryOperator::Addition, &Type::Bool, &Type::I32);
-    assert!(rt; refused.is_err());
-    Ok(())
+        ("AbstractInt", "AbstractInt"),
+        "(AbstractInt, u32) AbstractInt",
+    )?;
+    expect_candidate(
+        &rt,
+        BinaryOperator::Multiplication,
+        ("mat 2 3 AbstractFloat", "vec 2 f16"),
+        "(mat2x3<f16>, vec2<f16>) vec3<f16>",
+    )?;
+    expect_candidate(
+        &rt,
+        BinaryOperator::Addition,
+        ("bool", "i32"),
+        "cannot use binary operator `+` with operands `bool` and `i32`",
+    )
 }
 
 /// The ranks of two operands to one type.
@@ -266,19 +288,20 @@ fn is_choice(lhs: &Type, rhs: &Type, to: &Type) -> bool {
 
 #[test]
 fn sums_of_scalars_are_those_that_a_search_finds(rt: HostRuntime) -> Result<(), Fail> {
+    let alloc = rt.alloc();
     let scalars = SCALARS;
-    for lhs in SCALARS {
-        for rhs in SCALARS {
-            let choice = scalars.iter().find(|to| is_choice(&lhs, &rhs, to));
-            let found = binary_candidate(rt.alloc(), BinaryOperator::Addition, &lhs, &rhs);
-            match (choice, found) {
-                (Some(to), Ok(candidate)) => {
-                    assert!(rt; candidate.lhs == *to && candidate.rhs == *to);
-                    assert!(rt; candidate.result == *to);
+    for lhs in &scalars {
+        for rhs in &scalars {
+            let wanted = match scalars.iter().find(|to| is_choice(lhs, rhs, to)) {
+                Some(to) => format!(in alloc; "({to}, {to}) {to}")?,
+                None => {
+                    format!(in alloc;
+                        "cannot use binary operator `+` with operands `{lhs}` and `{rhs}`"
+                    )?
                 }
-                (None, Err(error::Fail::Error(_))) => {}
-                _ => return Err("the search and the operator differ".into()),
-            }
+            };
+            let found = chosen(alloc, BinaryOperator::Addition, lhs, rhs)?;
+            assert_eq!(rt; found.as_str(), wanted.as_str());
         }
     }
     Ok(())

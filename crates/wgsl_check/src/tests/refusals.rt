@@ -311,15 +311,22 @@ fn types_are_taken_apart(rt: HostRuntime) -> Result<(), Fail> {
     Ok(())
 }
 
+/// What a texture of the type is sampled as, or the message of the refusal.
+fn sampled(alloc: Global, ty: &Type) -> Result<String, AllocError> {
+    match try_from_type(alloc, ty) {
+        Ok(sampled) => sampled.to_string(alloc),
+        Err(error::Fail::Error(e)) => e.to_string(alloc),
+        Err(error::Fail::Memory(e)) => Err(e),
+    }
+}
+
 #[test]
 fn three_types_are_sampled(rt: HostRuntime) -> Result<(), Fail> {
     let alloc = rt.alloc();
-    assert!(rt; matches!(try_from_type(alloc, &Type::U32), Ok(SampledType::U32)));
-    assert!(rt;
-        matches!(
-            try_from_type(alloc, &Type::F16),
-            Err(error::Fail::Error(Error::SampledType(Type::F16)))
-        )
+    assert_eq!(rt; sampled(alloc, &Type::U32)?.as_str(), "u32");
+    assert_eq!(rt;
+        sampled(alloc, &Type::F16)?.as_str(),
+        "invalid sampled type, expected `i32`, `u32` or `f32`, got `f16`"
     );
     assert!(rt; Type::from(SampledType::F32) == Type::F32);
     Ok(())

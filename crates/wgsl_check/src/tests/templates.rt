@@ -4,12 +4,12 @@ use std::alloc::{AllocError, Global};
 use std::process::Abort;
 use std::test::Fail;
 use wgsl_types::error;
-use wgsl_types::syntax::{AccessMode, AddressSpace, Enumerant, SampledType, TexelFormat};
+use wgsl_types::syntax::{AccessMode, AddressSpace, Enumerant};
 use wgsl_types::tplt::{
     ArrayTemplate, AtomicTemplate, BindingArrayTemplate, BitcastTemplate, MatTemplate, PtrTemplate,
     TextureTemplate, TpltParam, VecTemplate,
 };
-use wgsl_types::ty::{TextureType, Type};
+use wgsl_types::ty::Type;
 
 const SAMPLED: [&str; 9] = [
     "texture_1d",
@@ -696,26 +696,6 @@ fn other_textures_take_no_template(rt: HostRuntime) -> Result<(), Fail> {
             "not a templated texture type",
         )?;
     }
-    Ok(())
-}
-
-#[test]
-fn texture_templates_hold_their_texture(rt: HostRuntime) -> Result<(), Fail> {
-    let alloc = rt.alloc();
-    let float = [TpltParam::Ty(Type::F32)];
-    let Ok(sampled) = TextureTemplate::parse(alloc, "texture_cube_array", &float) else {
-        return Err("no array of cubes".into());
-    };
-    assert_eq!(rt;
-        sampled.ty(),
-        TextureType::SampledCubeArray(SampledType::F32)
-    );
-    let tplt = parameters(alloc, "e rg32sint e write")?;
-    let Ok(stored) = TextureTemplate::parse(alloc, "texture_storage_2d_array", &tplt) else {
-        return Err("no stored array".into());
-    };
-    let texture = TextureType::Storage2DArray(TexelFormat::Rg32Sint, AccessMode::Write);
-    assert_eq!(rt; stored.ty(), texture);
     Ok(())
 }
 
