@@ -173,14 +173,15 @@ fn call(alloc: Global, mut words: Words) -> Result<String, Unread> {
 }
 
 /// The spelling of a type, or the message of a refusal.
-fn type_or_refusal(alloc: Global, answer: Result<Type, Fail>) -> Result<String, AllocError> {
+pub fn type_or_refusal(alloc: Global, answer: Result<Type, Fail>) -> Result<String, AllocError> {
     match answer {
         Ok(ty) => ty.to_string(alloc),
         Err(refused) => message(alloc, refused),
     }
 }
 
-fn message(alloc: Global, refused: Fail) -> Result<String, AllocError> {
+/// The message of a refusal.
+pub fn message(alloc: Global, refused: Fail) -> Result<String, AllocError> {
     match refused {
         Fail::Error(e) => e.to_string(alloc),
         Fail::Memory(e) => Err(e),

@@ -169,6 +169,16 @@ fn vectors_are_made(rt: HostRuntime) -> Result<(), Fail> {
                 "ctor vec2 - f32 array 2 f32",
                 "vector constructor expects scalar or vector arguments",
             ),
+        ],
+    )?;
+    Ok(())
+}
+
+#[test]
+fn vectors_are_made_of_their_template(rt: HostRuntime) -> Result<(), Fail> {
+    expect_answers(
+        &rt,
+        &[
             ("ctor vec3 < t f32 >", "vec3<f32>"),
             (
                 "ctor vec3 < t f32 > i32",
@@ -238,10 +248,6 @@ fn matrices_are_made(rt: HostRuntime) -> Result<(), Fail> {
                 "ctor mat2x2 - f32 f32 f32",
                 "incorrect number of arguments to `mat2x2`, expected `4`, got `3`",
             ),
-            (
-                "ctor mat2x2 < t f32 > vec 2 AbstractInt vec 2 AbstractFloat",
-                "mat2x2<f32>",
-            ),
             ("ctor mat2x3 - vec 2 f32 vec 2 f32", "mat2x3<f32>"),
             (
                 "ctor mat2x3 - vec 3 f32",
@@ -252,12 +258,6 @@ fn matrices_are_made(rt: HostRuntime) -> Result<(), Fail> {
                 "ctor mat2x4 - mat 4 2 f16",
                 "cannot convert from `mat4x2<f16>` to `mat2x4<f16>`",
             ),
-            ("ctor mat3x2 < t f16 > mat 3 2 f32", "mat3x2<f16>"),
-            (
-                "ctor mat3x2 < t f16 > mat 2 3 f32",
-                "cannot convert from `mat2x3<f32>` to `mat3x2<f16>`",
-            ),
-            ("ctor mat3x3 < t f64 >", "mat3x3<f64>"),
             ("ctor mat3x3 -", "matrix components are incompatible"),
             (
                 "ctor mat3x4 - vec 4 AbstractInt vec 4 f16 vec 4 AbstractFloat",
@@ -265,22 +265,6 @@ fn matrices_are_made(rt: HostRuntime) -> Result<(), Fail> {
             ),
             (
                 "ctor mat3x4 - vec 4 i32 vec 4 i32 vec 4 i32",
-                "matrix constructor expects float or vector of float arguments",
-            ),
-            (
-                "ctor mat4x2 < t f32 > f32 f32 f32 f32 f32 f32 f32 f32",
-                "mat4x2<f32>",
-            ),
-            (
-                "ctor mat4x2 < t f32 > i32 i32",
-                "cannot convert from `i32` to `f32`",
-            ),
-            (
-                "ctor mat4x3 < t f32 > vec 2 f32 vec 2 f32 vec 2 f32 vec 2 f32",
-                "mat4x3<f32>",
-            ),
-            (
-                "ctor mat4x3 < t f32 > array 2 f32",
                 "matrix constructor expects float or vector of float arguments",
             ),
             (
@@ -298,6 +282,42 @@ fn matrices_are_made(rt: HostRuntime) -> Result<(), Fail> {
             (
                 "ctor mat2x2 - i64 AbstractFloat AbstractInt AbstractInt",
                 "matrix components are incompatible",
+            ),
+        ],
+    )?;
+    Ok(())
+}
+
+#[test]
+fn matrices_are_made_of_their_template(rt: HostRuntime) -> Result<(), Fail> {
+    expect_answers(
+        &rt,
+        &[
+            (
+                "ctor mat2x2 < t f32 > vec 2 AbstractInt vec 2 AbstractFloat",
+                "mat2x2<f32>",
+            ),
+            ("ctor mat3x2 < t f16 > mat 3 2 f32", "mat3x2<f16>"),
+            (
+                "ctor mat3x2 < t f16 > mat 2 3 f32",
+                "cannot convert from `mat2x3<f32>` to `mat3x2<f16>`",
+            ),
+            ("ctor mat3x3 < t f64 >", "mat3x3<f64>"),
+            (
+                "ctor mat4x2 < t f32 > f32 f32 f32 f32 f32 f32 f32 f32",
+                "mat4x2<f32>",
+            ),
+            (
+                "ctor mat4x2 < t f32 > i32 i32",
+                "cannot convert from `i32` to `f32`",
+            ),
+            (
+                "ctor mat4x3 < t f32 > vec 2 f32 vec 2 f32 vec 2 f32 vec 2 f32",
+                "mat4x3<f32>",
+            ),
+            (
+                "ctor mat4x3 < t f32 > array 2 f32",
+                "matrix constructor expects float or vector of float arguments",
             ),
             (
                 "ctor mat2x2 < t f32 > vec 2 i32 vec 2 i32",

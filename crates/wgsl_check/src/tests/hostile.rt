@@ -1,4 +1,5 @@
 // Types that no program would write: the kinds that they are of, what is made of them, and nests of 300 layers.
+use super::layout::wrapped;
 use super::operators::boxed;
 use super::worded::one_type;
 use crate::report::number_or_none;
@@ -7,7 +8,7 @@ use std::process::Abort;
 use std::test::Fail;
 use wgsl_types::conv::{conversion_rank, rank_steps};
 use wgsl_types::syntax::{AccessMode, AddressSpace};
-use wgsl_types::ty::{StructMemberType, StructType, Ty, Type};
+use wgsl_types::ty::{StructType, Ty, Type};
 
 /// How many layers stand around a scalar.
 const DEPTH: usize = 300;
@@ -37,15 +38,6 @@ fn around(alloc: Global, layer: Layer, ty: Type) -> Result<Type, AllocError> {
         Layer::BindingArray => Type::BindingArray(boxed(alloc, ty)?, Some(4294967296)),
         Layer::Struct => wrapped(alloc, ty)?,
     })
-}
-
-/// A struct whose only member is of the type.
-fn wrapped(alloc: Global, ty: Type) -> Result<Type, AllocError> {
-    let member = StructMemberType::new(String::from_str(alloc, "inner")?, ty);
-    let mut members = Vec::new(alloc);
-    members.push(member).map_err(|_e| AllocError)?;
-    let name = String::from_str(alloc, "Outer")?;
-    Type::from_struct(alloc, StructType { name, members })
 }
 
 /// The layer so many times around a type.

@@ -1,5 +1,6 @@
 // Types that no program would write, and long lists, in structs, calls and conversions of values.
 use super::worded::{one_type, template, types};
+use crate::command::message;
 use std::alloc::{AllocError, Global};
 use std::test::Fail;
 use wgsl_types::builtin::typecheck_struct_ctor;
@@ -33,8 +34,7 @@ fn struct_of(alloc: Global, count: usize, words: &str) -> Result<StructType, Fai
 fn check(alloc: Global, of: &StructType, args: &[Type]) -> Result<String, AllocError> {
     match typecheck_struct_ctor(alloc, of, args) {
         Ok(()) => Ok(String::new(alloc)),
-        Err(error::Fail::Error(e)) => e.to_string(alloc),
-        Err(error::Fail::Memory(e)) => Err(e),
+        Err(refused) => message(alloc, refused),
     }
 }
 

@@ -156,7 +156,7 @@ fn the_least_size_of_an_open_array_is_its_stride(rt: HostRuntime) -> Result<(), 
 }
 
 /// A struct whose only member is of the type.
-fn wrapped(alloc: Global, ty: Type) -> Result<Type, AllocError> {
+pub fn wrapped(alloc: Global, ty: Type) -> Result<Type, AllocError> {
     let name = String::from_str(alloc, "inner")?;
     let mut members = Vec::new(alloc);
     let member = StructMemberType {

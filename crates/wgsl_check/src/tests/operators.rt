@@ -1,6 +1,7 @@
 // Unary and binary operators, and the candidates that are chosen for them.
 use super::expect_answers;
 use super::worded::one_type;
+use crate::command::message;
 use std::alloc::{AllocError, Global};
 use std::process::Abort;
 use std::test::Fail;
@@ -214,8 +215,7 @@ fn chosen(
 ) -> Result<String, AllocError> {
     match binary_candidate(alloc, operator, lhs, rhs) {
         Ok(Candidate { lhs, rhs, result }) => format!(in alloc; "({lhs}, {rhs}) {result}"),
-        Err(error::Fail::Error(e)) => e.to_string(alloc),
-        Err(error::Fail::Memory(e)) => Err(e),
+        Err(refused) => message(alloc, refused),
     }
 }
 

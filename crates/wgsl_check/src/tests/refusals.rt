@@ -1,4 +1,5 @@
 // Literals, signatures and refusals as they are printed; types taken apart, copied and asked for their type.
+use crate::command::message;
 use std::alloc::{AllocError, Global};
 use std::test::Fail;
 use wgsl_types::error::Error;
@@ -315,8 +316,7 @@ fn types_are_taken_apart(rt: HostRuntime) -> Result<(), Fail> {
 fn sampled(alloc: Global, ty: &Type) -> Result<String, AllocError> {
     match try_from_type(alloc, ty) {
         Ok(sampled) => sampled.to_string(alloc),
-        Err(error::Fail::Error(e)) => e.to_string(alloc),
-        Err(error::Fail::Memory(e)) => Err(e),
+        Err(refused) => message(alloc, refused),
     }
 }
 

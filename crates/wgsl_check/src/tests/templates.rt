@@ -1,5 +1,6 @@
 // Templates one by one: what each makes of its parameters, and each of its refusals.
 use super::worded::template;
+use crate::command::type_or_refusal;
 use std::alloc::{AllocError, Global};
 use std::process::Abort;
 use std::test::Fail;
@@ -63,11 +64,7 @@ fn made(alloc: Global, name: &str, tplt: &[TpltParam]) -> Result<Type, error::Fa
 
 /// The type that the template makes, as it is spelled, or the message of its refusal.
 fn answer(alloc: Global, name: &str, tplt: &[TpltParam]) -> Result<String, AllocError> {
-    match made(alloc, name, tplt) {
-        Ok(ty) => ty.to_string(alloc),
-        Err(error::Fail::Error(e)) => e.to_string(alloc),
-        Err(error::Fail::Memory(e)) => Err(e),
-    }
+    type_or_refusal(alloc, made(alloc, name, tplt))
 }
 
 /// The parameters in words, each time with the answer to them.
