@@ -165,10 +165,18 @@ fn call(alloc: Global, mut words: Words) -> Result<String, Unread> {
         Some(parameters) => type_builtin_fn(alloc, name, Some(parameters.as_slice()), &arguments),
         None => type_builtin_fn(alloc, name, None, &arguments),
     };
+    Ok(value_or_refusal(alloc, answer)?)
+}
+
+/// The spelling of the type that a call gives, `no value`, or the message of a refusal.
+pub fn value_or_refusal(
+    alloc: Global,
+    answer: Result<Option<Type>, Fail>,
+) -> Result<String, AllocError> {
     match answer {
-        Ok(Some(ty)) => Ok(ty.to_string(alloc)?),
-        Ok(None) => Ok(String::from_str(alloc, "no value")?),
-        Err(refused) => Ok(message(alloc, refused)?),
+        Ok(Some(ty)) => ty.to_string(alloc),
+        Ok(None) => String::from_str(alloc, "no value"),
+        Err(refused) => message(alloc, refused),
     }
 }
 

@@ -4,7 +4,9 @@ ghost use Rattle.wgsl_check.specs.Taken.{GoesOn};
 use crate::words::{Unread, Words};
 use std::alloc::{AllocError, Global};
 use std::str::FromStr;
-use wgsl_types::syntax::{AccelerationStructureFlags, AccessMode, AddressSpace, TexelFormat};
+use wgsl_types::syntax::{
+    AccelerationStructureFlags, AccessMode, AddressSpace, SampledType, TexelFormat,
+};
 use wgsl_types::ty::{SamplerType, StructMemberType, StructType, TextureType, Type};
 
 /// The type that the next words stand for.
@@ -13,16 +15,6 @@ pub fn read_type(alloc: Global, words: &mut Words) -> Result<Type, Unread>
     ensures { GoesOn words.old words.new }
 {
     match words.next()? {
-        "bool" => Ok(Type::Bool),
-        "AbstractInt" => Ok(Type::AbstractInt),
-        "AbstractFloat" => Ok(Type::AbstractFloat),
-        "i32" => Ok(Type::I32),
-        "u32" => Ok(Type::U32),
-        "f32" => Ok(Type::F32),
-        "f16" => Ok(Type::F16),
-        "i64" => Ok(Type::I64),
-        "u64" => Ok(Type::U64),
-        "f64" => Ok(Type::F64),
         "vec" => {
             let components = words.next_small()?;
             Ok(Type::Vec(components, read_boxed(alloc, words)?))
@@ -50,9 +42,7 @@ pub fn read_type(alloc: Global, words: &mut Words) -> Result<Type, Unread>
             Ok(Type::Ref(space, read_boxed(alloc, words)?, access))
         }
         "struct" => read_struct(alloc, words),
-        "ray_query" => Ok(Type::RayQuery(read_flag(words)?)),
-        "acceleration_structure" => Ok(Type::AccelerationStructure(read_flag(words)?)),
-        word => read_opaque(word, words),
+        word => read_flat(word, words),
     }
 }
 
@@ -121,6 +111,27 @@ fn read_memory(words: &mut Words) -> Result<(AddressSpace, AccessMode), Unread>
     Ok((space, parsed(words.next()?)?))
 }
 
+/// A type without parts: a scalar, a type of rays, a sampler or a texture.
+fn read_flat(word: &str, words: &mut Words) -> Result<Type, Unread>
+    ensures { GoesOn words.old words.new }
+{
+    match word {
+        "bool" => Ok(Type::Bool),
+        "AbstractInt" => Ok(Type::AbstractInt),
+        "AbstractFloat" => Ok(Type::AbstractFloat),
+        "i32" => Ok(Type::I32),
+        "u32" => Ok(Type::U32),
+        "f32" => Ok(Type::F32),
+        "f16" => Ok(Type::F16),
+        "i64" => Ok(Type::I64),
+        "u64" => Ok(Type::U64),
+        "f64" => Ok(Type::F64),
+        "ray_query" => Ok(Type::RayQuery(read_flag(words)?)),
+        "acceleration_structure" => Ok(Type::AccelerationStructure(read_flag(words)?)),
+        _ => read_opaque(word, words),
+    }
+}
+
 fn read_flag(words: &mut Words) -> Result<Option<AccelerationStructureFlags>, Unread>
     ensures { GoesOn words.old words.new }
 {
@@ -138,24 +149,34 @@ fn read_opaque(word: &str, words: &mut Words) -> Result<Type, Unread>
         return Ok(Type::Sampler(sampler));
     }
     let texture = match word {
-        "texture_1d" => TextureType::Sampled1D(parsed(words.next()?)?),
-        "texture_1d_array" => TextureType::Sampled1DArray(parsed(words.next()?)?),
-        "texture_2d" => TextureType::Sampled2D(parsed(words.next()?)?),
-        "texture_2d_array" => TextureType::Sampled2DArray(parsed(words.next()?)?),
-        "texture_3d" => TextureType::Sampled3D(parsed(words.next()?)?),
-        "texture_cube" => TextureType::SampledCube(parsed(words.next()?)?),
-        "texture_cube_array" => TextureType::SampledCubeArray(parsed(words.next()?)?),
-        "texture_multisampled_2d" => TextureType::Multisampled2D(parsed(words.next()?)?),
-        "texture_multisampled_2d_array" => TextureType::Multisampled2DArray(parsed(words.next()?)?),
         "texture_depth_multisampled_2d" => TextureType::DepthMultisampled2D,
         "texture_external" => TextureType::External,
         "texture_depth_2d" => TextureType::Depth2D,
         "texture_depth_2d_array" => TextureType::Depth2DArray,
         "texture_depth_cube" => TextureType::DepthCube,
         "texture_depth_cube_array" => TextureType::DepthCubeArray,
-        _ => read_storage(word, words)?,
+        _ if word.starts_with("texture_storage_") => read_storage(word, words)?,
+        _ => read_sampled(word, words)?,
     };
     Ok(Type::Texture(texture))
+}
+
+fn read_sampled(word: &str, words: &mut Words) -> Result<TextureType, Unread>
+    ensures { GoesOn words.old words.new }
+{
+    let sampled: SampledType = parsed(words.next()?)?;
+    match word {
+        "texture_1d" => Ok(TextureType::Sampled1D(sampled)),
+        "texture_1d_array" => Ok(TextureType::Sampled1DArray(sampled)),
+        "texture_2d" => Ok(TextureType::Sampled2D(sampled)),
+        "texture_2d_array" => Ok(TextureType::Sampled2DArray(sampled)),
+        "texture_3d" => Ok(TextureType::Sampled3D(sampled)),
+        "texture_cube" => Ok(TextureType::SampledCube(sampled)),
+        "texture_cube_array" => Ok(TextureType::SampledCubeArray(sampled)),
+        "texture_multisampled_2d" => Ok(TextureType::Multisampled2D(sampled)),
+        "texture_multisampled_2d_array" => Ok(TextureType::Multisampled2DArray(sampled)),
+        _ => Err(Unread::Word),
+    }
 }
 
 fn read_storage(word: &str, words: &mut Words) -> Result<TextureType, Unread>

@@ -1,11 +1,12 @@
 // Calls of built-in functions.
 use super::expect_answers;
 use super::operators::sixty_types;
+use crate::command::value_or_refusal;
+use std::alloc::AllocError;
 use std::process::Abort;
 use std::test::Fail;
 use wgsl_types::builtin::{find_call, type_builtin_fn};
 use wgsl_types::conv::convert_ty;
-use wgsl_types::error;
 use wgsl_types::ty::Type;
 
 #[test]
@@ -124,33 +125,32 @@ fn a_user_without_fault_is_answered_line_by_line(rt: HostRuntime) -> Result<(), 
 
 #[test]
 fn names_are_found_by_halves(rt: HostRuntime) {
-    assert_eq!(rt; find_call("abs").0, Some(0));
-    assert_eq!(rt; find_call("workgroupUniformLoad").0, Some(154));
-    assert_eq!(rt; find_call("").0, None);
-    assert_eq!(rt; find_call("ab").0, None);
-    assert_eq!(rt; find_call("absA").0, None);
+    for (name, place) in [
+        ("abs", Some(0)),
+        ("workgroupUniformLoad", Some(154)),
+        ("", None),
+        ("ab", None),
+        ("absA", None),
+    ] {
+        assert_eq!(rt; find_call(name).0, place);
+    }
 }
 
-/// The call gives this type, or is refused as it was given where there is none.
+/// What the call answers in words: the type, or without one the refusal of the call as it was given.
 fn expect_call(
     rt: &(impl Abort + AllocGlobal),
     name: &str,
-    args: &[Type],
+    args: &[Type; 2],
     wanted: Option<&Type>,
-) -> Result<(), Fail> {
-    match type_builtin_fn(rt.alloc(), name, None, args) {
-        Ok(Some(ty)) => assert!(rt;
-            wanted.is_some_and(|w| *w == ty),
-            "`{name}` of {args:?} gives `{ty}`"
-        ),
-        Err(error::Fail::Error(error::Error::Signature(call))) => {
-            assert!(rt; wanted.is_none(), "`{call}` is refused");
-            assert_eq!(rt; call.name.as_str(), name);
-            assert!(rt; call.tplt.is_none());
-            assert!(rt; call.args.as_slice() == args, "`{call}` is another call");
-        }
-        _ => return Err("neither a type nor the call as it was given".into()),
-    }
+) -> Result<(), AllocError> {
+    let alloc = rt.alloc();
+    let answer = value_or_refusal(alloc, type_builtin_fn(alloc, name, None, args))?;
+    let [lhs, rhs] = args;
+    let wanted = match wanted {
+        Some(ty) => ty.to_string(alloc)?,
+        None => format!(in alloc; "invalid function call signature: `{name}({lhs}, {rhs})`")?,
+    };
+    assert_eq!(rt; answer.as_str(), wanted.as_str());
     Ok(())
 }
 

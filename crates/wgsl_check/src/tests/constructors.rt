@@ -1,10 +1,11 @@
 // Constructors, and the templates before them.
 use super::expect_answers;
-use std::alloc::AllocError;
+use super::worded::{one_type, types};
+use crate::command::message;
+use std::alloc::{AllocError, Global};
 use std::test::Fail;
 use wgsl_types::builtin::{is_ctor, typecheck_struct_ctor};
-use wgsl_types::error;
-use wgsl_types::ty::{StructMemberType, StructType, Type};
+use wgsl_types::ty::{StructType, Type};
 
 const NAMES: [&str; 21] = [
     "array", "bool", "i32", "u32", "f32", "f16", "i64", "u64", "f64", "vec2", "vec3", "vec4",
@@ -360,42 +361,38 @@ fn templates_that_cannot_be_read_make_bad_lines(rt: HostRuntime) -> Result<(), F
     Ok(())
 }
 
-fn text(rt: &(impl AllocGlobal), text: &str) -> Result<String, AllocError> {
-    String::from_str(rt.alloc(), text)
+/// `fits` where the struct is made of such arguments, or the message of the refusal.
+fn made_of(alloc: Global, made: &StructType, args: &[Type]) -> Result<String, AllocError> {
+    match typecheck_struct_ctor(alloc, made, args) {
+        Ok(()) => String::from_str(alloc, "fits"),
+        Err(refused) => message(alloc, refused),
+    }
 }
 
 #[test]
 fn structs_are_made_of_their_members(rt: HostRuntime) -> Result<(), Fail> {
     let alloc = rt.alloc();
-    let mut members = Vec::new(alloc);
-    members.push(StructMemberType::new(text(&rt, "a")?, Type::F32))?;
-    members.push(StructMemberType::new(text(&rt, "b")?, Type::I32))?;
-    let made = StructType {
-        name: text(&rt, "S")?,
-        members,
+    let Type::Struct(made) = one_type(alloc, "struct S 2 a - - f32 b - - i32")? else {
+        return Err("no struct".into());
     };
-    assert!(rt; typecheck_struct_ctor(alloc, &made, &[]).is_ok());
-    assert!(rt;
-        typecheck_struct_ctor(alloc, &made, &[Type::AbstractInt, Type::AbstractInt]).is_ok()
-    );
-    for (args, message) in [
+    for (args, wanted) in [
+        ("", "fits"),
+        ("AbstractInt AbstractInt", "fits"),
         (
-            [Type::AbstractFloat].as_slice(),
+            "AbstractFloat",
             "incorrect number of arguments to `S`, expected `2`, got `1`",
         ),
         (
-            [Type::F32, Type::AbstractFloat].as_slice(),
+            "f32 AbstractFloat",
             "invalid parameter type, expected `i32`, got `AbstractFloat`",
         ),
         (
-            [Type::Bool, Type::Bool].as_slice(),
+            "bool bool",
             "invalid parameter type, expected `f32`, got `bool`",
         ),
     ] {
-        match typecheck_struct_ctor(alloc, &made, args) {
-            Err(error::Fail::Error(e)) => assert_eq!(rt; e.to_string(alloc)?.as_str(), message),
-            _ => assert!(rt; false),
-        }
+        let answer = made_of(alloc, &made, &types(alloc, args)?)?;
+        assert_eq!(rt; answer.as_str(), wanted);
     }
     Ok(())
 }

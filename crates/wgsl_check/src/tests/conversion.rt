@@ -1,83 +1,43 @@
 // Ranks, common types, concrete types, and the generic conversions.
 use super::expect_answers;
+use super::worded::{one_type, types};
 use std::alloc::{AllocError, Global};
+use std::process::Abort;
 use std::test::Fail;
 use wgsl_types::conv::{
     Convert, convert, convert_all, convert_all_inner_to, convert_all_to, convert_inner, rank_steps,
 };
 use wgsl_types::inst::{Instance, LiteralInstance};
-use wgsl_types::syntax::{AccessMode, AddressSpace};
 use wgsl_types::ty::Type;
 
-const SCALARS: [&str; 10] = [
-    "bool",
-    "AbstractInt",
-    "AbstractFloat",
-    "i32",
-    "u32",
-    "f32",
-    "f16",
-    "i64",
-    "u64",
-    "f64",
+/// Each scalar with the ranks from it to each of them, in their order: of the hundred 19 are ranks.
+const RANKS: [(&str, &str); 10] = [
+    ("bool", "0 none none none none none none none none none"),
+    ("AbstractInt", "none 0 5 3 4 6 7 8 9 none"),
+    ("AbstractFloat", "none none 0 none none 1 2 none none none"),
+    ("i32", "none none none 0 none none none none none none"),
+    ("u32", "none none none none 0 none none none none none"),
+    ("f32", "none none none none none 0 none none none none"),
+    ("f16", "none none none none none none 0 none none none"),
+    ("i64", "none none none none none none none 0 none none"),
+    ("u64", "none none none none none none none none 0 none"),
+    ("f64", "none none none none none none none none none 0"),
 ];
-
-/// The ranks between different scalars.
-const RANKS: [(&str, &str, &str); 9] = [
-    ("AbstractInt", "i32", "3"),
-    ("AbstractInt", "u32", "4"),
-    ("AbstractInt", "AbstractFloat", "5"),
-    ("AbstractInt", "f32", "6"),
-    ("AbstractInt", "f16", "7"),
-    ("AbstractInt", "i64", "8"),
-    ("AbstractInt", "u64", "9"),
-    ("AbstractFloat", "f32", "1"),
-    ("AbstractFloat", "f16", "2"),
-];
-
-fn scalar_rank(from: &str, to: &str) -> &'static str {
-    if from == to {
-        return "0";
-    }
-    for (source, target, rank) in RANKS {
-        if source == from && target == to {
-            return rank;
-        }
-    }
-    "none"
-}
 
 #[test]
 fn every_pair_of_scalars_has_its_rank(rt: HostRuntime) -> Result<(), Fail> {
-    let mut some = 0;
-    for from in SCALARS {
-        for to in SCALARS {
-            let rank = scalar_rank(from, to);
-            if rank != "none" && some < 100 {
-                some += 1;
-            }
+    for (from, ranks) in RANKS {
+        for ((to, _ranks), rank) in RANKS.iter().zip(ranks.split(' ')) {
             let line = format!(in rt.alloc(); "rank {from} {to}")?;
             expect_answers(&rt, &[(line.as_str(), rank)])?;
         }
     }
-    assert_eq!(rt; some, 19);
     Ok(())
 }
 
-/// A function's name, the shape in a name, what stands before a scalar of the shape, the float and its exponent.
-fn result_struct(
-    alloc: Global,
-    function: &str,
-    (shape, words): (&str, &str),
-    (precision, float, exponent): (&str, &str, &str),
-) -> Result<String, AllocError> {
-    let second = if function == "frexp" { exponent } else { float };
-    let name = if function == "frexp" { "exp" } else { "whole" };
-    format!(in alloc;
-        "struct __{function}_result_{shape}{precision} 2 fract - - {words}{float} {name} - - {words}{second}"
-    )
-}
+const FUNCTIONS: [&str; 2] = ["frexp", "modf"];
 
+/// The shape in a result struct's name, and what stands before a scalar of the shape.
 const SHAPES: [(&str, &str); 4] = [
     ("", ""),
     ("vec2_", "vec 2 "),
@@ -85,36 +45,65 @@ const SHAPES: [(&str, &str); 4] = [
     ("vec4_", "vec 4 "),
 ];
 
+/// The precision in its name, the float and its exponent.
 const PRECISIONS: [(&str, &str, &str); 3] = [
     ("abstract", "AbstractFloat", "AbstractInt"),
     ("f32", "f32", "i32"),
     ("f16", "f16", "i32"),
 ];
 
+/// The ranks from each precision to each, of the same function and shape.
+const PRECISION_RANKS: [[&str; 3]; 3] = [
+    ["0", "1", "2"],
+    ["none", "0", "none"],
+    ["none", "none", "0"],
+];
+
+fn result_struct(
+    alloc: Global,
+    function: &str,
+    (shape, words): (&str, &str),
+    (precision, float, exponent): (&str, &str, &str),
+) -> Result<String, AllocError> {
+    let (second, name) = match function {
+        "frexp" => (exponent, "exp"),
+        _ => (float, "whole"),
+    };
+    format!(in alloc;
+        "struct __{function}_result_{shape}{precision} 2 fract - - {words}{float} {name} - - {words}{second}"
+    )
+}
+
+/// Compares the ranks from a result struct of one function and shape to all others.
+fn expect_result_ranks(
+    rt: &(impl Abort + AllocGlobal),
+    (function, shape): (&str, &str),
+    from: &str,
+    ranks: [&str; 3],
+) -> Result<(), AllocError> {
+    for other in FUNCTIONS {
+        for other_shape in SHAPES {
+            let is_kin = function == other && shape == other_shape.0;
+            for (target, rank) in PRECISIONS.iter().zip(ranks) {
+                let to = result_struct(rt.alloc(), other, other_shape, *target)?;
+                let line = format!(in rt.alloc(); "rank {from} {to}")?;
+                let rank = if is_kin { rank } else { "none" };
+                expect_answers(rt, &[(line.as_str(), rank)])?;
+            }
+        }
+    }
+    Ok(())
+}
+
 #[test]
 fn result_structs_convert_to_those_of_their_function_and_shape(
     rt: HostRuntime,
 ) -> Result<(), Fail> {
-    for function in ["frexp", "modf"] {
+    for function in FUNCTIONS {
         for shape in SHAPES {
-            for precision in PRECISIONS {
-                let from = result_struct(rt.alloc(), function, shape, precision)?;
-                for other in ["frexp", "modf"] {
-                    for other_shape in SHAPES {
-                        for target in PRECISIONS {
-                            let to = result_struct(rt.alloc(), other, other_shape, target)?;
-                            let kin = function == other && shape.0 == other_shape.0;
-                            let rank = match (kin, precision.0, target.0) {
-                                (true, "abstract", "f32") => "1",
-                                (true, "abstract", "f16") => "2",
-                                _ if kin && precision.0 == target.0 => "0",
-                                _ => "none",
-                            };
-                            let line = format!(in rt.alloc(); "rank {from} {to}")?;
-                            expect_answers(&rt, &[(line.as_str(), rank)])?;
-                        }
-                    }
-                }
+            for (precision, ranks) in PRECISIONS.iter().zip(PRECISION_RANKS) {
+                let from = result_struct(rt.alloc(), function, shape, *precision)?;
+                expect_result_ranks(&rt, (function, shape.0), &from, ranks)?;
             }
         }
     }
@@ -224,107 +213,141 @@ fn literals_convert_as_their_types(rt: HostRuntime) {
     assert!(rt; !one.is_convertible_to(&Type::F32));
 }
 
-fn vector(alloc: Global, element: Type) -> Result<Type, AllocError> {
-    let element = Box::new(alloc, element).map_err(|_e| AllocError)?;
-    Ok(Type::Vec(2, element))
+/// A type as it is spelled, or `none`.
+fn spelled(alloc: Global, ty: Option<Type>) -> Result<String, AllocError> {
+    match ty {
+        Some(ty) => ty.to_string(alloc),
+        None => String::from_str(alloc, "none"),
+    }
 }
 
-fn matrix(alloc: Global, element: Type) -> Result<Type, AllocError> {
-    let element = Box::new(alloc, element).map_err(|_e| AllocError)?;
-    Ok(Type::Mat(2, 2, element))
-}
-
-fn array(alloc: Global, element: Type) -> Result<Type, AllocError> {
-    let element = Box::new(alloc, element).map_err(|_e| AllocError)?;
-    Ok(Type::Array(element, Some(2)))
-}
-
-fn atomic(alloc: Global, element: Type) -> Result<Type, AllocError> {
-    let element = Box::new(alloc, element).map_err(|_e| AllocError)?;
-    Ok(Type::Atomic(element))
+/// What both calls that make the type concrete give.
+fn concrete(alloc: Global, words: &str) -> Result<String, Fail> {
+    let ty = one_type(alloc, words)?;
+    let own = Type::concretize(&ty, alloc)?.to_string(alloc)?;
+    let value = spelled(alloc, Convert::concretize(&ty, alloc)?)?;
+    Ok(format!(in alloc; "{own}, {value}")?)
 }
 
 #[test]
 fn abstract_types_become_concrete(rt: HostRuntime) -> Result<(), Fail> {
-    let alloc = rt.alloc();
-    let nested = array(alloc, vector(alloc, Type::AbstractInt)?)?;
-    let concrete = array(alloc, vector(alloc, Type::I32)?)?;
-    assert!(rt; Type::concretize(&nested, alloc)? == concrete);
-    let square = matrix(alloc, Type::AbstractInt)?;
-    let floats = matrix(alloc, Type::F32)?;
-    assert!(rt; Type::concretize(&square, alloc)? == floats);
-    assert!(rt; Type::concretize(&Type::AbstractFloat, alloc)? == Type::F32);
+    for (words, made) in [
+        (
+            "array 2 vec 2 AbstractInt",
+            "array<vec2<i32>, 2>, array<vec2<i32>, 2>",
+        ),
+        ("mat 2 2 AbstractInt", "mat2x2<f32>, mat2x2<f32>"),
+        ("AbstractFloat", "f32, f32"),
+        ("u32", "u32, u32"),
+    ] {
+        assert_eq!(rt; concrete(rt.alloc(), words)?.as_str(), made);
+    }
     Ok(())
 }
 
 #[test]
 fn references_are_loaded_to_the_last(rt: HostRuntime) -> Result<(), Fail> {
-    let alloc = rt.alloc();
-    let inner = Box::new(alloc, Type::I32)?;
-    let once = Type::Ref(AddressSpace::Function, inner, AccessMode::Read);
-    let outer = Box::new(alloc, once)?;
-    let twice = Type::Ref(AddressSpace::Private, outer, AccessMode::Write);
+    let twice = one_type(rt.alloc(), "ref private write ref function read i32")?;
     assert!(rt; twice.loaded() == Type::I32);
     Ok(())
 }
 
-#[test]
-fn two_values_convert_to_their_common_type(rt: HostRuntime) -> Result<(), Fail> {
-    let alloc = rt.alloc();
-    let Some((x, y)) = convert(alloc, &Type::AbstractInt, &Type::F32)? else {
-        return Err("no common type".into());
-    };
-    assert!(rt; x == Type::F32 && y == Type::F32);
-    assert!(rt; convert(alloc, &Type::Bool, &Type::F32)?.is_none());
-    let Some((x, y)) = convert_inner(alloc, &vector(alloc, Type::AbstractInt)?, &Type::F32)? else {
-        return Err("no common inner type".into());
-    };
-    assert!(rt; x == vector(alloc, Type::F32)? && y == Type::F32);
-    Ok(())
-}
-
-#[test]
-fn lists_convert_whole_or_not_at_all(rt: HostRuntime) -> Result<(), Fail> {
-    let alloc = rt.alloc();
-    let none: [Type; 0] = [];
-    assert!(rt; convert_all(alloc, &none)?.is_none());
-    let Some(converted) = convert_all_to(alloc, &none, &Type::F32)? else {
-        return Err("an empty list converts to an empty list".into());
-    };
-    assert!(rt; converted.is_empty());
-    let mixed = [Type::AbstractInt, Type::Bool];
-    assert!(rt; convert_all_to(alloc, &mixed, &Type::F32)?.is_none());
-    let numbers = [Type::AbstractInt, Type::F16, Type::AbstractFloat];
-    let Some(converted) = convert_all(alloc, &numbers)? else {
-        return Err("no common type".into());
-    };
-    assert_eq!(rt; converted.len(), 3);
-    assert!(rt;
-        converted[0] == Type::F16 && converted[1] == Type::F16 && converted[2] == Type::F16
-    );
-    let nested = [vector(alloc, Type::AbstractInt)?, Type::AbstractFloat];
-    let Some(converted) = convert_all_inner_to(alloc, &nested, &Type::F32)? else {
-        return Err("each converts inside".into());
-    };
-    assert_eq!(rt; converted.len(), 2);
-    assert!(rt; converted[0] == vector(alloc, Type::F32)? && converted[1] == Type::F32);
-    Ok(())
+/// What a type is converted to, whole and inside.
+fn converted(alloc: Global, from: &str, to: &str) -> Result<String, Fail> {
+    let (from, to) = (one_type(alloc, from)?, one_type(alloc, to)?);
+    let whole = spelled(alloc, from.convert_to(alloc, &to)?)?;
+    let inside = spelled(alloc, from.convert_inner_to(alloc, &to)?)?;
+    Ok(format!(in alloc; "{whole}; {inside}")?)
 }
 
 #[test]
 fn types_convert_whole_or_inside(rt: HostRuntime) -> Result<(), Fail> {
-    let alloc = rt.alloc();
-    let words = array(alloc, Type::U32)?;
-    assert!(rt;
-        words
-            .convert_to(alloc, &array(alloc, Type::F32)?)?
-            .is_none()
-    );
-    assert!(rt; words.convert_inner_to(alloc, &Type::F32)?.is_none());
-    let counter = atomic(alloc, Type::I32)?;
-    assert!(rt; counter.convert_inner_to(alloc, &Type::I32)?.is_none());
-    let same = atomic(alloc, Type::I32)?;
-    assert!(rt; counter.convert_inner_to(alloc, &same)? == Some(atomic(alloc, Type::I32)?));
-    assert!(rt; Convert::concretize(&Type::AbstractInt, alloc)? == Some(Type::I32));
+    for (from, to, made) in [
+        ("AbstractInt", "i64", "i64; i64"),
+        ("array 2 u32", "array 2 f32", "none; none"),
+        ("array 2 u32", "f32", "none; none"),
+        ("array 2 AbstractInt", "f32", "none; array<f32, 2>"),
+        ("atomic i32", "i32", "none; none"),
+        ("atomic i32", "atomic i32", "atomic<i32>; atomic<i32>"),
+    ] {
+        assert_eq!(rt; converted(rt.alloc(), from, to)?.as_str(), made);
+    }
+    Ok(())
+}
+
+/// Two types as they are spelled, or `none`.
+fn both(alloc: Global, types: Option<(Type, Type)>) -> Result<String, AllocError> {
+    match types {
+        Some((x, y)) => format!(in alloc; "{x} {y}"),
+        None => String::from_str(alloc, "none"),
+    }
+}
+
+/// What two types are converted to together, whole and inside.
+fn brought_together(alloc: Global, lhs: &str, rhs: &str) -> Result<String, Fail> {
+    let (lhs, rhs) = (one_type(alloc, lhs)?, one_type(alloc, rhs)?);
+    let whole = both(alloc, convert(alloc, &lhs, &rhs)?)?;
+    let inside = both(alloc, convert_inner(alloc, &lhs, &rhs)?)?;
+    Ok(format!(in alloc; "{whole}; {inside}")?)
+}
+
+#[test]
+fn two_values_convert_to_their_common_type(rt: HostRuntime) -> Result<(), Fail> {
+    for (lhs, rhs, made) in [
+        ("AbstractInt", "f32", "f32 f32; f32 f32"),
+        ("bool", "f32", "none; none"),
+        ("vec 2 AbstractInt", "f32", "none; vec2<f32> f32"),
+        (
+            "array 18446744073709551615 AbstractInt",
+            "vec 255 f32",
+            "none; array<f32, 18446744073709551615> vec255<f32>",
+        ),
+    ] {
+        assert_eq!(rt; brought_together(rt.alloc(), lhs, rhs)?.as_str(), made);
+    }
+    Ok(())
+}
+
+/// Each type as it is spelled and a space after it, or `none`.
+pub fn listed(alloc: Global, types: Option<Vec<Type>>) -> Result<String, AllocError> {
+    let Some(types) = types else {
+        return String::from_str(alloc, "none");
+    };
+    let mut text = String::new(alloc);
+    for ty in &types {
+        text.push_str(&ty.to_string(alloc)?)?;
+        text.push(' ')?;
+    }
+    Ok(text)
+}
+
+/// What a list is converted to: together, to `f32`, and to `f32` inside.
+fn all_converted(alloc: Global, words: &str) -> Result<String, Fail> {
+    let values = types(alloc, words)?;
+    let together = listed(alloc, convert_all(alloc, &values)?)?;
+    let whole = listed(alloc, convert_all_to(alloc, &values, &Type::F32)?)?;
+    let inside = listed(alloc, convert_all_inner_to(alloc, &values, &Type::F32)?)?;
+    Ok(format!(in alloc; "{together}; {whole}; {inside}")?)
+}
+
+#[test]
+fn lists_convert_whole_or_not_at_all(rt: HostRuntime) -> Result<(), Fail> {
+    for (words, made) in [
+        ("", "none; ; "),
+        ("AbstractInt bool", "none; none; none"),
+        ("AbstractInt f16 AbstractFloat", "f16 f16 f16 ; none; none"),
+        ("struct E 0 struct E 0", "E E ; none; none"),
+        (
+            "array 2 ref function read i32 array 2 i32",
+            "array<i32, 2> array<i32, 2> ; none; none",
+        ),
+        ("AbstractInt f32", "f32 f32 ; f32 f32 ; f32 f32 "),
+        (
+            "vec 2 AbstractInt AbstractFloat",
+            "none; none; vec2<f32> f32 ",
+        ),
+    ] {
+        assert_eq!(rt; all_converted(rt.alloc(), words)?.as_str(), made);
+    }
     Ok(())
 }

@@ -1,6 +1,5 @@
 // Types that no program would write: the kinds that they are of, what is made of them, and nests of 300 layers.
 use super::layout::wrapped;
-use super::operators::boxed;
 use super::worded::one_type;
 use crate::report::number_or_none;
 use std::alloc::{AllocError, Global};
@@ -24,6 +23,10 @@ pub enum Layer {
     Reference,
     BindingArray,
     Struct,
+}
+
+fn boxed(alloc: Global, ty: Type) -> Result<Box<Type>, AllocError> {
+    Box::new(alloc, ty).map_err(|_e| AllocError)
 }
 
 /// A layer around a type.
@@ -92,10 +95,23 @@ fn kinds(alloc: Global, ty: &Type) -> Result<String, AllocError> {
 
 /// A type that is made of another.
 #[derive(Clone, Copy)]
-enum Made {
+pub enum Made {
     Concrete,
     Loaded,
     Inner,
+}
+
+fn made_of(alloc: Global, made: Made, ty: Type) -> Result<Type, AllocError> {
+    match made {
+        Made::Concrete => Type::concretize(&ty, alloc),
+        Made::Loaded => Ok(ty.loaded()),
+        Made::Inner => ty.inner_ty(alloc),
+    }
+}
+
+/// Whether the type that is made of the first words is that of the second.
+pub fn is_made(alloc: Global, made: Made, words: &str, of: &str) -> Result<bool, Fail> {
+    Ok(made_of(alloc, made, one_type(alloc, words)?)? == one_type(alloc, of)?)
 }
 
 fn expect_types(
@@ -104,13 +120,7 @@ fn expect_types(
     rows: &[(&str, &str)],
 ) -> Result<(), Fail> {
     for (words, of) in rows {
-        let ty = one_type(rt.alloc(), words)?;
-        let answer = match made {
-            Made::Concrete => Type::concretize(&ty, rt.alloc())?,
-            Made::Loaded => ty.loaded(),
-            Made::Inner => ty.inner_ty(rt.alloc())?,
-        };
-        assert!(rt; answer == one_type(rt.alloc(), of)?, "of {words}");
+        assert!(rt; is_made(rt.alloc(), made, words, of)?, "of {words}");
     }
     Ok(())
 }
@@ -236,6 +246,12 @@ fn becomes_concrete(alloc: Global, ty: &Type, concrete: &Type) -> Result<bool, A
     Ok(Type::concretize(ty, alloc)? == *concrete)
 }
 
+/// Whether a nest around the one becomes a nest around the other.
+fn nest_becomes(alloc: Global, layer: Layer, core: Type, made: Type) -> Result<bool, AllocError> {
+    let concrete = nest(alloc, layer, DEPTH, made)?;
+    becomes_concrete(alloc, &nest(alloc, layer, DEPTH, core)?, &concrete)
+}
+
 fn is_made_of(alloc: Global, ty: &Type, inner: &Type) -> Result<bool, AllocError> {
     Ok(ty.ty(alloc)? == *ty && ty.inner_ty(alloc)? == *inner)
 }
@@ -264,6 +280,12 @@ fn layers_300_deep_have_sizes_and_ranks(rt: HostRuntime) -> Result<(), Fail> {
     Ok(())
 }
 
+/// `f64` with each of the two so many times around it.
+fn spelled(alloc: Global, before: &str, after: &str) -> Result<String, AllocError> {
+    let (before, after) = (before.repeat(alloc, DEPTH)?, after.repeat(alloc, DEPTH)?);
+    format!(in alloc; "{before}f64{after}")
+}
+
 #[test]
 fn layers_300_deep_are_spelled(rt: HostRuntime) -> Result<(), Fail> {
     let alloc = rt.alloc();
@@ -278,9 +300,7 @@ fn layers_300_deep_are_spelled(rt: HostRuntime) -> Result<(), Fail> {
         (Layer::BindingArray, "binding_array<", ", 4294967296>"),
     ] {
         let printed = nest(alloc, layer, DEPTH, Type::F64)?.to_string(alloc)?;
-        let (before, after) = (before.repeat(alloc, DEPTH)?, after.repeat(alloc, DEPTH)?);
-        let spelling = format!(in alloc; "{before}f64{after}")?;
-        assert_eq!(rt; printed.as_str(), spelling.as_str());
+        assert_eq!(rt; printed.as_str(), spelled(alloc, before, after)?.as_str());
     }
     let structs = nest(alloc, Layer::Struct, DEPTH, Type::F64)?;
     assert_eq!(rt; structs.to_string(alloc)?.as_str(), "Outer");
@@ -291,13 +311,17 @@ fn layers_300_deep_are_spelled(rt: HostRuntime) -> Result<(), Fail> {
 fn layers_300_deep_become_concrete(rt: HostRuntime) -> Result<(), Fail> {
     let alloc = rt.alloc();
     for layer in [Layer::Array(Some(4294967296)), Layer::Vector(255)] {
-        let abstract_type = nest(alloc, layer, DEPTH, Type::AbstractInt)?;
-        let concrete = nest(alloc, layer, DEPTH, Type::I32)?;
-        assert!(rt; becomes_concrete(alloc, &abstract_type, &concrete)?);
+        assert!(rt; nest_becomes(alloc, layer, Type::AbstractInt, Type::I32)?);
     }
     let matrices = nest(alloc, Layer::Matrix(0, 255), DEPTH, Type::AbstractInt)?;
     let matrix = nest(alloc, Layer::Matrix(0, 255), 1, Type::F32)?;
     assert!(rt; becomes_concrete(alloc, &matrices, &matrix)?);
+    Ok(())
+}
+
+#[test]
+fn references_300_deep_stay_as_they_are_and_are_loaded(rt: HostRuntime) -> Result<(), Fail> {
+    let alloc = rt.alloc();
     let references = nest(alloc, Layer::Reference, DEPTH, Type::AbstractInt)?;
     assert!(rt; becomes_concrete(alloc, &references, &references)?);
     assert!(rt; references.loaded() == Type::AbstractInt);

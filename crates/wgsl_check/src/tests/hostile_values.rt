@@ -1,12 +1,12 @@
 // Types that no program would write, and long lists, in structs, calls and conversions of values.
+use super::conversion::listed;
+use super::expect_answers;
 use super::worded::{one_type, template, types};
 use crate::command::message;
 use std::alloc::{AllocError, Global};
 use std::test::Fail;
 use wgsl_types::builtin::typecheck_struct_ctor;
-use wgsl_types::conv::{
-    convert, convert_all, convert_all_inner_to, convert_all_to, convert_all_ty, convert_inner,
-};
+use wgsl_types::conv::{convert_all, convert_all_inner_to, convert_all_to, convert_all_ty};
 use wgsl_types::inst::{Instance, LiteralInstance};
 use wgsl_types::ty::{StructMemberType, StructType, Ty, Type};
 use wgsl_types::{CallSignature, error};
@@ -82,33 +82,41 @@ fn structs_are_made_of_strange_types(rt: HostRuntime) -> Result<(), Fail> {
 }
 
 #[test]
-fn structs_of_300_members_are_made_and_placed(rt: HostRuntime) -> Result<(), Fail> {
+fn structs_of_300_members_are_made_and_copied(rt: HostRuntime) -> Result<(), Fail> {
     let alloc = rt.alloc();
     let of = struct_of(alloc, MANY, "f32")?;
-    let mut args = many(alloc, "AbstractInt ")?;
-    assert_eq!(rt; check(alloc, &of, &args)?.as_str(), "");
-    let Some(last) = args.pop() else {
-        return Err("there are arguments".into());
-    };
-    assert!(rt; last == Type::AbstractInt);
-    assert_eq!(rt;
-        check(alloc, &of, &args)?.as_str(),
-        "incorrect number of arguments to `S`, expected `300`, got `299`"
-    );
-    args.push(Type::Bool)?;
-    assert_eq!(rt;
-        check(alloc, &of, &args)?.as_str(),
-        "invalid parameter type, expected `f32`, got `bool`"
-    );
-    let Some(offsets) = of.offsets(alloc)? else {
-        return Err("it has a size".into());
-    };
-    let mut places = Vec::new(alloc);
-    for place in 0..300u32 {
-        places.push(place * 4)?;
-    }
-    assert!(rt; offsets == places);
     assert!(rt; of.clone(alloc)? == of);
+    for (count, last, message) in [
+        (MANY, "", ""),
+        (
+            MANY - 1,
+            "",
+            "incorrect number of arguments to `S`, expected `300`, got `299`",
+        ),
+        (
+            MANY - 1,
+            "bool",
+            "invalid parameter type, expected `f32`, got `bool`",
+        ),
+    ] {
+        let mut words = "AbstractInt ".repeat(alloc, count)?;
+        words.push_str(last)?;
+        let args = types(alloc, &words)?;
+        assert_eq!(rt; check(alloc, &of, &args)?.as_str(), message);
+    }
+    Ok(())
+}
+
+#[test]
+fn structs_of_300_members_are_placed(rt: HostRuntime) -> Result<(), Fail> {
+    let members = " a - - f32".repeat(rt.alloc(), MANY)?;
+    let line = format!(in rt.alloc(); "offsets struct S {MANY}{members}")?;
+    let mut answer = String::from_str(rt.alloc(), "0")?;
+    for place in 1..300u32 {
+        let offset = place * 4;
+        answer.push_str(&format!(in rt.alloc(); " {offset}")?)?;
+    }
+    expect_answers(&rt, &[(line.as_str(), answer.as_str())])?;
     Ok(())
 }
 
@@ -147,60 +155,32 @@ fn literals_convert_to_their_types_alone(rt: HostRuntime) -> Result<(), Fail> {
 }
 
 #[test]
-fn strange_values_convert_inside_together(rt: HostRuntime) -> Result<(), Fail> {
+fn lists_of_300_values_convert_to_a_type(rt: HostRuntime) -> Result<(), Fail> {
     let alloc = rt.alloc();
-    let counted = one_type(alloc, "array 18446744073709551615 AbstractInt")?;
-    let long = one_type(alloc, "vec 255 f32")?;
-    let Some((x, y)) = convert_inner(alloc, &counted, &long)? else {
-        return Err("the inner types have a common type".into());
-    };
-    assert!(rt; x == one_type(alloc, "array 18446744073709551615 f32")? && y == long);
-    assert!(rt; convert(alloc, &counted, &long)?.is_none());
-    Ok(())
-}
-
-/// Whether all of the types together convert to these.
-fn become_all(alloc: Global, types: &[Type], converted: &[Type]) -> Result<bool, AllocError> {
-    match convert_all(alloc, types)? {
-        Some(all) => Ok(all.as_slice() == converted),
-        None => Ok(false),
-    }
-}
-
-#[test]
-fn lists_of_strange_values_convert_together(rt: HostRuntime) -> Result<(), Fail> {
-    let alloc = rt.alloc();
-    for (words, converted) in [
-        (
-            "array 2 ref function read i32 array 2 i32",
-            "array 2 i32 array 2 i32",
-        ),
-        ("struct E 0 struct E 0", "struct E 0 struct E 0"),
-    ] {
-        let values = types(alloc, words)?;
-        assert!(rt; become_all(alloc, &values, &types(alloc, converted)?)?);
-    }
+    let values = many(alloc, "vec 255 AbstractInt ")?;
+    let halves = "vec255<f16> ".repeat(alloc, MANY)?;
+    let whole = convert_all_to(alloc, &values, &one_type(alloc, "vec 255 f16")?)?;
+    assert_eq!(rt; listed(alloc, whole)?.as_str(), halves.as_str());
+    let inside = convert_all_inner_to(alloc, &values, &Type::F16)?;
+    assert_eq!(rt; listed(alloc, inside)?.as_str(), halves.as_str());
     Ok(())
 }
 
 #[test]
-fn lists_of_300_values_convert(rt: HostRuntime) -> Result<(), Fail> {
+fn lists_of_more_than_300_values_convert_together(rt: HostRuntime) -> Result<(), Fail> {
     let alloc = rt.alloc();
     let mut values = many(alloc, "vec 255 AbstractInt ")?;
-    let last = one_type(alloc, "vec 255 f16")?;
-    let halves = many(alloc, "vec 255 f16 ")?;
-    assert!(rt; convert_all_to(alloc, &values, &last)? == Some(many(alloc, "vec 255 f16 ")?));
-    assert!(rt; convert_all_inner_to(alloc, &values, &Type::F16)? == Some(halves));
     values.push(one_type(alloc, "vec 255 f16")?)?;
-    assert!(rt; convert_all_ty(&values) == Some(&last));
-    let Some(converted) = convert_all(alloc, &values)? else {
-        return Err("the last is common".into());
-    };
-    assert_eq!(rt; converted.len(), MANY + 1);
-    assert!(rt; converted.iter().all(|ty| *ty == last));
+    let halves = "vec255<f16> ".repeat(alloc, MANY + 1)?;
+    let converted = listed(alloc, convert_all(alloc, &values)?)?;
+    assert_eq!(rt; converted.as_str(), halves.as_str());
+    assert!(rt; convert_all_ty(&values) == values.last());
     values.push(one_type(alloc, "vec 0 f16")?)?;
     assert!(rt; convert_all_ty(&values) == None);
-    assert!(rt; convert_all(alloc, &values)?.is_none());
+    assert_eq!(rt;
+        listed(alloc, convert_all(alloc, &values)?)?.as_str(),
+        "none"
+    );
     Ok(())
 }
 

@@ -1,13 +1,12 @@
 // Unary and binary operators, and the candidates that are chosen for them.
 use super::expect_answers;
 use super::worded::one_type;
-use crate::command::message;
+use crate::command::{message, type_or_refusal};
 use std::alloc::{AllocError, Global};
 use std::process::Abort;
 use std::test::Fail;
 use wgsl_types::builtin::{Candidate, binary_candidate, type_binary_op};
 use wgsl_types::conv::conversion_rank;
-use wgsl_types::error;
 use wgsl_types::syntax::BinaryOperator;
 use wgsl_types::ty::Type;
 
@@ -219,10 +218,6 @@ fn chosen(
     }
 }
 
-pub fn boxed(alloc: Global, ty: Type) -> Result<Box<Type>, AllocError> {
-    Box::new(alloc, ty).map_err(|_e| AllocError)
-}
-
 /// Compares the candidate of two types in words with its text.
 fn expect_candidate(
     rt: &(impl Abort + AllocGlobal),
@@ -307,43 +302,34 @@ fn sums_of_scalars_are_those_that_a_search_finds(rt: HostRuntime) -> Result<(), 
     Ok(())
 }
 
-/// The ten scalars, and of each the vectors of two and three, two matrices and an array.
-pub fn sixty_types(alloc: Global) -> Result<Vec<Type>, AllocError> {
+/// What stands before a scalar in the words of its vectors of two and three, of two matrices, and of an array.
+pub const SHAPES: [&str; 6] = ["vec 2 ", "vec 3 ", "mat 2 2 ", "mat 2 3 ", "array 2 ", ""];
+
+/// The ten scalars, and what is of each.
+pub fn sixty_types(alloc: Global) -> Result<Vec<Type>, Fail> {
     let mut types = Vec::new(alloc);
     for scalar in SCALARS {
-        types
-            .push(Type::Vec(2, boxed(alloc, scalar.clone(alloc)?)?))
-            .map_err(|_e| AllocError)?;
-        types
-            .push(Type::Vec(3, boxed(alloc, scalar.clone(alloc)?)?))
-            .map_err(|_e| AllocError)?;
-        types
-            .push(Type::Mat(2, 2, boxed(alloc, scalar.clone(alloc)?)?))
-            .map_err(|_e| AllocError)?;
-        types
-            .push(Type::Mat(2, 3, boxed(alloc, scalar.clone(alloc)?)?))
-            .map_err(|_e| AllocError)?;
-        types
-            .push(Type::Array(boxed(alloc, scalar.clone(alloc)?)?, Some(2)))
-            .map_err(|_e| AllocError)?;
-        types.push(scalar).map_err(|_e| AllocError)?;
+        for shape in SHAPES {
+            types.push(one_type(alloc, &format!(in alloc; "{shape}{scalar}")?)?)?;
+        }
     }
     Ok(types)
 }
 
 #[test]
 fn every_operator_gives_its_candidates_result(rt: HostRuntime) -> Result<(), Fail> {
-    let types = sixty_types(rt.alloc())?;
+    let alloc = rt.alloc();
+    let types = sixty_types(alloc)?;
     assert_eq!(rt; types.len(), 60);
     for operator in OPERATORS {
         for lhs in &types {
             for rhs in &types {
-                let candidate = binary_candidate(rt.alloc(), operator, lhs, rhs);
-                match (type_binary_op(rt.alloc(), operator, lhs, rhs), candidate) {
-                    (Ok(ty), Ok(candidate)) => assert!(rt; ty == candidate.result),
-                    (Err(error::Fail::Error(e)), Err(error::Fail::Error(f))) => assert!(rt; e == f),
-                    _ => return Err("the operator and its candidate differ".into()),
-                }
+                let answer = type_or_refusal(alloc, type_binary_op(alloc, operator, lhs, rhs))?;
+                let result = match binary_candidate(alloc, operator, lhs, rhs) {
+                    Ok(candidate) => candidate.result.to_string(alloc)?,
+                    Err(refused) => message(alloc, refused)?,
+                };
+                assert_eq!(rt; answer.as_str(), result.as_str());
             }
         }
     }

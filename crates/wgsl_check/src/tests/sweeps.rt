@@ -1,7 +1,9 @@
 // Every type of a list in every call that takes types: with ample memory each answers, and what they answer agrees.
-use super::hostile::{Layer, nest};
-use super::operators::sixty_types;
+use super::hostile::{Layer, Made, is_made, nest};
+use super::operators::SHAPES;
+use super::refusals::{expect_message, sampled};
 use super::worded::{one_type, types};
+use crate::command::{type_or_refusal, value_or_refusal};
 use std::alloc::{AllocError, Global};
 use std::process::Abort;
 use std::test::Fail;
@@ -14,7 +16,7 @@ use wgsl_types::conv::{
 use wgsl_types::error::{self, Error};
 use wgsl_types::laws;
 use wgsl_types::syntax::{BinaryOperator, UnaryOperator};
-use wgsl_types::ty::{Ty, Type, try_from_type};
+use wgsl_types::ty::{Ty, Type};
 
 /// Strange types, and the scalars and results that take part in conversions, all different.
 const STRANGE: [&str; 44] = [
@@ -80,8 +82,9 @@ fn strange_types(alloc: Global, depth: usize) -> Result<Vec<Type>, Fail> {
         Layer::Reference,
         Layer::Struct,
     ] {
-        strange.push(nest(alloc, layer, depth, Type::AbstractInt)?)?;
-        strange.push(nest(alloc, layer, depth, Type::F32)?)?;
+        for core in ["AbstractInt", "f32"] {
+            strange.push(nest(alloc, layer, depth, one_type(alloc, core)?)?)?;
+        }
     }
     Ok(strange)
 }
@@ -97,30 +100,52 @@ fn strange_types_equal_themselves_alone(rt: HostRuntime) -> Result<(), Fail> {
     Ok(())
 }
 
+fn is_its_own_copy(alloc: Global, ty: &Type) -> Result<bool, AllocError> {
+    Ok(ty.clone(alloc)? == *ty && ty.ty(alloc)? == *ty)
+}
+
+/// Whether a load ends at what is no reference.
+fn is_loaded_whole(alloc: Global, ty: &Type) -> Result<bool, AllocError> {
+    let loaded = ty.clone(alloc)?.loaded().to_string(alloc)?;
+    Ok(!loaded.starts_with("ref<"))
+}
+
+/// Whether both calls give one concrete type, the type itself where that is concrete.
+fn becomes_concrete(alloc: Global, ty: &Type) -> Result<bool, AllocError> {
+    let concrete = Type::concretize(ty, alloc)?;
+    let is_right = concrete.is_concrete() && (concrete == *ty) == ty.is_concrete();
+    Ok(is_right && Convert::concretize(ty, alloc)? == Some(concrete))
+}
+
 #[test]
-fn strange_types_are_copied_printed_and_measured(rt: HostRuntime) -> Result<(), Fail> {
+fn strange_types_are_copied_loaded_and_measured(rt: HostRuntime) -> Result<(), Fail> {
     let alloc = rt.alloc();
     for ty in &strange_types(alloc, 300)? {
-        assert!(rt; ty.clone(alloc)? == *ty);
-        assert!(rt; ty.ty(alloc)? == *ty);
-        assert!(rt;
-            !ty.clone(alloc)?
-                .loaded()
-                .to_string(alloc)?
-                .starts_with("ref<")
-        );
+        assert!(rt; is_its_own_copy(alloc, ty)?);
+        assert!(rt; is_loaded_whole(alloc, ty)?);
+        assert!(rt; becomes_concrete(alloc, ty)?);
         assert!(rt; ty.min_size_of() == ty.size_of() || matches!(ty, Type::Array(_, None)));
-        let concrete = Type::concretize(ty, alloc)?;
-        assert!(rt; concrete.is_concrete());
-        assert_eq!(rt; concrete == *ty, ty.is_concrete());
-        assert!(rt; Convert::concretize(ty, alloc)? == Some(concrete));
-        let refusal = Error::ParamType(ty.clone(alloc)?, ty.inner_ty(alloc)?);
-        assert!(rt; refusal.clone(alloc)? == refusal);
-        let inner = ty.inner_ty(alloc)?;
-        let message = format!(in alloc; "invalid parameter type, expected `{ty}`, got `{inner}`")?;
-        assert_eq!(rt; refusal.to_string(alloc)?.as_str(), message.as_str());
     }
     Ok(())
+}
+
+#[test]
+fn refusals_of_strange_types_are_copied_and_printed(rt: HostRuntime) -> Result<(), Fail> {
+    let alloc = rt.alloc();
+    for ty in &strange_types(alloc, 300)? {
+        let message = format!(in alloc; "invalid parameter type, expected `{ty}`, got `{ty}`")?;
+        let refusal = Error::ParamType(ty.clone(alloc)?, ty.clone(alloc)?);
+        expect_message(&rt, refusal, message.as_str())?;
+    }
+    Ok(())
+}
+
+/// Whether there are two types, both this one, or none of either.
+fn are_both(types: Option<(Type, Type)>, wanted: Option<&Type>) -> bool {
+    match types {
+        Some((x, y)) => wanted.is_some_and(|ty| x == *ty && y == *ty),
+        None => wanted.is_none(),
+    }
 }
 
 /// Whether the calls that convert agree with the ranks of the two types.
@@ -133,20 +158,12 @@ fn converts_by_rank(alloc: Global, a: &Type, b: &Type) -> Result<bool, AllocErro
     } else {
         None
     };
-    let converted = a.convert_to(alloc, b)?;
-    let both = convert(alloc, a, b)?;
-    let agree = match &both {
-        Some((x, y)) => Some(x) == common && Some(y) == common,
-        None => common.is_none(),
-    };
-    Ok(
-        agree
-            && rank_steps(a, b).0 == rank
-            && a.is_convertible_to(b) == rank.is_some()
-            && converted.as_ref() == rank.map(|_rank| b)
-            && convert_ty(a, b) == common
-            && convert_all_ty([a, b]) == common,
-    )
+    let agree = rank_steps(a, b).0 == rank
+        && a.is_convertible_to(b) == rank.is_some()
+        && convert_ty(a, b) == common
+        && convert_all_ty([a, b]) == common
+        && are_both(convert(alloc, a, b)?, common);
+    Ok(agree && a.convert_to(alloc, b)?.as_ref() == rank.map(|_rank| b))
 }
 
 /// Whether what converts inside does so by the ranks of the inner types.
@@ -304,56 +321,72 @@ fn unary_operators_agree_on_strange_types(rt: HostRuntime) -> Result<(), Fail> {
     Ok(())
 }
 
+/// What a constructor answers of the type, in words.
+fn constructed(alloc: Global, name: &str, ty: &Type) -> Result<String, AllocError> {
+    let args = [ty.clone(alloc)?];
+    type_or_refusal(alloc, type_ctor(alloc, name, None, &args))
+}
+
+/// What a built-in function answers of the type, in words.
+fn called(alloc: Global, name: &str, ty: &Type) -> Result<String, AllocError> {
+    let args = [ty.clone(alloc)?];
+    value_or_refusal(alloc, type_builtin_fn(alloc, name, None, &args))
+}
+
 #[test]
 fn constructors_and_calls_answer_for_every_strange_type(rt: HostRuntime) -> Result<(), Fail> {
     let alloc = rt.alloc();
     for ty in &strange_types(alloc, 300)? {
-        let args = [ty.clone(alloc)?];
-        let Ok(array) = type_ctor(alloc, "array", None, &args) else {
-            return Err("one element has its own type".into());
-        };
-        assert!(rt; array == Type::Array(Box::new(alloc, ty.clone(alloc)?)?, Some(1)));
-        let scalar = type_ctor(alloc, "u64", None, &args);
-        assert_eq!(rt; scalar.is_ok_and(|made| made == Type::U64), ty.is_scalar());
-        let sampled = try_from_type(alloc, ty);
-        assert_eq!(rt; sampled.is_ok(), *ty == Type::F32);
-        let all = type_builtin_fn(alloc, "all", None, &args);
-        assert!(rt; all.is_ok_and(|answer| answer == Some(Type::Bool)));
-        let gathered = type_builtin_fn(alloc, "transpose", None, &args);
-        assert_eq!(rt; gathered.is_ok(), ty.is_mat());
+        let spelling = format!(in alloc; "array<{ty}, 1>")?;
+        let array = constructed(alloc, "array", ty)?;
+        assert_eq!(rt; array.as_str(), spelling.as_str());
+        let scalar = constructed(alloc, "u64", ty)?;
+        assert_eq!(rt; scalar.as_str() == "u64", ty.is_scalar());
+        assert_eq!(rt; called(alloc, "all", ty)?.as_str(), "bool");
+        let turned = called(alloc, "transpose", ty)?;
+        assert_eq!(rt; turned.starts_with("mat"), ty.is_mat());
+        assert_eq!(rt; sampled(alloc, ty)?.as_str() == "f32", *ty == Type::F32);
     }
     Ok(())
 }
 
 #[test]
-fn laws_hold_of_strange_types(rt: HostRuntime) -> Result<(), Fail> {
+fn laws_of_ranks_hold_of_strange_types(rt: HostRuntime) -> Result<(), Fail> {
     let alloc = rt.alloc();
-    let (a, b) = (
-        one_type(alloc, "vec 255 AbstractInt")?,
-        one_type(alloc, "vec 255 AbstractFloat")?,
-    );
-    let c = one_type(alloc, "vec 255 f16")?;
-    laws::conversion_order(&a, &b, &c);
-    laws::targets_comparable(&a, &b, &c);
-    laws::rank_names_target(&a, &b, &c);
-    laws::rank_adds(&a, &b, &c);
-    let ranks = [
-        conversion_rank(&a, &b),
-        conversion_rank(&b, &c),
-        conversion_rank(&a, &c),
-    ];
-    assert_eq!(rt; ranks, [Some(5), Some(2), Some(7)]);
+    let read = types(
+        alloc,
+        "vec 255 AbstractInt vec 255 AbstractFloat vec 255 f16",
+    )?;
+    let [a, b, c] = read.as_slice() else {
+        return Err("there are three".into());
+    };
+    laws::conversion_order(a, b, c);
+    laws::targets_comparable(a, b, c);
+    laws::rank_names_target(a, b, c);
+    laws::rank_adds(a, b, c);
+    for (from, to, rank) in [(a, b, 5), (b, c, 2), (a, c, 7)] {
+        assert_eq!(rt; conversion_rank(from, to), Some(rank));
+    }
+    Ok(())
+}
+
+#[test]
+fn strange_lists_have_one_common_type_in_both_orders(rt: HostRuntime) -> Result<(), Fail> {
+    let alloc = rt.alloc();
     let forward = types(alloc, "array 4294967296 AbstractInt array 4294967296 f32")?;
     let back = types(alloc, "array 4294967296 f32 array 4294967296 AbstractInt")?;
     laws::common_any_order(&forward, &back);
-    assert!(rt; convert_all_ty(&forward) == convert_all_ty(&back));
+    assert!(rt; convert_all_ty(&forward) == forward.last());
+    assert!(rt; convert_all_ty(&back) == back.first());
+    Ok(())
+}
+
+#[test]
+fn a_strange_matrix_has_the_size_of_its_columns(rt: HostRuntime) -> Result<(), Fail> {
     laws::matrix_columns(&Type::F32, 255, 255);
-    let columns = one_type(alloc, "array 255 vec 255 f32")?;
-    assert_eq!(rt; columns.size_of(), Some(260100));
-    assert_eq!(rt;
-        one_type(alloc, "mat 255 255 f32")?.size_of(),
-        columns.size_of()
-    );
+    for words in ["array 255 vec 255 f32", "mat 255 255 f32"] {
+        assert_eq!(rt; one_type(rt.alloc(), words)?.size_of(), Some(260100));
+    }
     Ok(())
 }
 
@@ -374,28 +407,21 @@ const CONCRETE: [(&str, &str, &str); 10] = [
 #[test]
 fn sixty_types_are_copied_and_become_concrete(rt: HostRuntime) -> Result<(), Fail> {
     let alloc = rt.alloc();
-    let sixty = sixty_types(alloc)?;
-    for ty in &sixty {
-        assert!(rt; ty.clone(alloc)? == *ty);
-    }
-    let mut concrete = sixty.iter();
     for (scalar, plain, in_matrix) in CONCRETE {
-        for (shape, element) in [
-            ("vec 2 ", plain),
-            ("vec 3 ", plain),
-            ("mat 2 2 ", in_matrix),
-            ("mat 2 3 ", in_matrix),
-            ("array 2 ", plain),
-            ("", plain),
-        ] {
-            let Some(ty) = concrete.next() else {
-                return Err("there are sixty".into());
+        for shape in SHAPES {
+            let element = if shape.starts_with("mat") {
+                in_matrix
+            } else {
+                plain
             };
-            assert!(rt; *ty == one_type(alloc, &format!(in alloc; "{shape}{scalar}")?)?);
-            let expected = one_type(alloc, &format!(in alloc; "{shape}{element}")?)?;
-            assert!(rt; Type::concretize(ty, alloc)? == expected, "of {ty}");
+            let words = format!(in alloc; "{shape}{scalar}")?;
+            let concrete = format!(in alloc; "{shape}{element}")?;
+            assert!(rt; is_its_own_copy(alloc, &one_type(alloc, &words)?)?);
+            assert!(rt;
+                is_made(alloc, Made::Concrete, &words, &concrete)?,
+                "of {words}"
+            );
         }
     }
-    assert!(rt; concrete.next().is_none());
     Ok(())
 }

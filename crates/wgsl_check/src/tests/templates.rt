@@ -1,6 +1,6 @@
 // Templates one by one: what each makes of its parameters, and each of its refusals.
 use super::worded::template;
-use crate::command::type_or_refusal;
+use crate::command::{message, type_or_refusal};
 use std::alloc::{AllocError, Global};
 use std::process::Abort;
 use std::test::Fail;
@@ -67,6 +67,17 @@ fn answer(alloc: Global, name: &str, tplt: &[TpltParam]) -> Result<String, Alloc
     type_or_refusal(alloc, made(alloc, name, tplt))
 }
 
+/// A text, or the message of the refusal.
+fn text_or_refusal(
+    alloc: Global,
+    answer: Result<String, error::Fail>,
+) -> Result<String, AllocError> {
+    match answer {
+        Ok(text) => Ok(text),
+        Err(refused) => message(alloc, refused),
+    }
+}
+
 /// The parameters in words, each time with the answer to them.
 fn expect_rows(
     rt: &(impl Abort + AllocGlobal),
@@ -129,53 +140,67 @@ fn arrays_have_an_element_and_a_count(rt: HostRuntime) -> Result<(), Fail> {
     Ok(())
 }
 
+/// The type inside what the template of this name makes.
+fn inside(alloc: Global, name: &str, tplt: &[TpltParam]) -> Result<Type, error::Fail> {
+    match name {
+        "array" => Ok(ArrayTemplate::parse(alloc, tplt)?.inner_ty(alloc)?),
+        "binding_array" => Ok(BindingArrayTemplate::parse(alloc, tplt)?.inner_ty(alloc)?),
+        "vec" => Ok(VecTemplate::parse(alloc, tplt)?.inner_ty().clone(alloc)?),
+        "mat" => Ok(MatTemplate::parse(alloc, tplt)?.inner_ty().clone(alloc)?),
+        "bitcast" => Ok(BitcastTemplate::parse(alloc, tplt)?.inner_ty(alloc)?),
+        _ => Ok(AtomicTemplate::parse(alloc, tplt)?.inner_ty(alloc)?),
+    }
+}
+
 #[test]
-fn array_templates_answer_what_they_hold(rt: HostRuntime) -> Result<(), Fail> {
+fn templates_answer_what_is_inside(rt: HostRuntime) -> Result<(), Fail> {
     let alloc = rt.alloc();
-    let three = parameters(alloc, "t vec 2 f16 n 3u")?;
-    let unknown = parameters(alloc, "t i32")?;
-    let Ok(array) = ArrayTemplate::parse(alloc, &three) else {
-        return Err("no array of three".into());
-    };
-    assert_eq!(rt; array.n(), Some(3));
-    assert_eq!(rt;
-        array.inner_ty(alloc)?.to_string(alloc)?.as_str(),
-        "vec2<f16>"
-    );
-    let Ok(array) = ArrayTemplate::parse(alloc, &unknown) else {
-        return Err("no array without a count".into());
-    };
-    assert_eq!(rt; array.n(), None);
-    assert!(rt; array.inner_ty(alloc)? == Type::I32);
-    let Ok(bound) = BindingArrayTemplate::parse(alloc, &three) else {
-        return Err("no binding array of three".into());
-    };
-    assert_eq!(rt; bound.n(), Some(3));
-    assert_eq!(rt;
-        bound.inner_ty(alloc)?.to_string(alloc)?.as_str(),
-        "vec2<f16>"
-    );
-    let Ok(bound) = BindingArrayTemplate::parse(alloc, &unknown) else {
-        return Err("no binding array without a count".into());
-    };
-    assert_eq!(rt; bound.n(), None);
-    assert!(rt; bound.inner_ty(alloc)? == Type::I32);
+    for (name, words, inner) in [
+        ("array", "t vec 2 f16 n 3u", "vec2<f16>"),
+        ("array", "t i32", "i32"),
+        ("binding_array", "t vec 2 f16 n 3u", "vec2<f16>"),
+        ("binding_array", "t i32", "i32"),
+        ("vec", "t bool", "bool"),
+        ("mat", "t f64", "f64"),
+        ("bitcast", "t f32", "f32"),
+        ("bitcast", "t vec 3 u32", "u32"),
+        ("atomic", "t i64", "i64"),
+    ] {
+        let answer = inside(alloc, name, &parameters(alloc, words)?);
+        let text = type_or_refusal(alloc, answer)?;
+        assert_eq!(rt; text.as_str(), inner, "in `{name}<{words}>`");
+    }
+    Ok(())
+}
+
+/// How many elements there are in what the templates of an array and a binding array make.
+fn counts(alloc: Global, tplt: &[TpltParam]) -> Result<String, error::Fail> {
+    let array = ArrayTemplate::parse(alloc, tplt)?.n();
+    let bound = BindingArrayTemplate::parse(alloc, tplt)?.n();
+    Ok(format!(in alloc; "{array:?} {bound:?}")?)
+}
+
+#[test]
+fn array_templates_answer_their_count(rt: HostRuntime) -> Result<(), Fail> {
+    let alloc = rt.alloc();
+    for (words, count) in [
+        ("t vec 2 f16 n 3u", "Some(3) Some(3)"),
+        ("t i32", "None None"),
+    ] {
+        let answer = text_or_refusal(alloc, counts(alloc, &parameters(alloc, words)?))?;
+        assert_eq!(rt; answer.as_str(), count);
+    }
     Ok(())
 }
 
 #[test]
 fn array_templates_are_made_without_parameters(rt: HostRuntime) -> Result<(), Fail> {
     let alloc = rt.alloc();
-    let array = ArrayTemplate::new(Type::U64, Some(5));
-    assert_eq!(rt; array.n(), Some(5));
-    assert!(rt; array.inner_ty(alloc)? == Type::U64);
-    assert_eq!(rt;
-        array.ty(alloc)?.to_string(alloc)?.as_str(),
-        "array<u64, 5>"
-    );
-    let array = ArrayTemplate::new(Type::Bool, None);
-    assert_eq!(rt; array.n(), None);
-    assert_eq!(rt; array.ty(alloc)?.to_string(alloc)?.as_str(), "array<bool>");
+    for (count, spelling) in [(Some(5), "array<u64, 5>"), (None, "array<u64>")] {
+        let array = ArrayTemplate::new(Type::U64, count);
+        assert_eq!(rt; array.n(), count);
+        assert_eq!(rt; array.ty(alloc)?.to_string(alloc)?.as_str(), spelling);
+    }
     Ok(())
 }
 
@@ -398,43 +423,25 @@ fn bits_are_taken_as_numbers_and_vectors_of_them(rt: HostRuntime) -> Result<(), 
     )
 }
 
+/// A vector of so many components, and a matrix of so many columns and rows.
+fn shaped(alloc: Global, tplt: &[TpltParam], columns: u8, rows: u8) -> Result<String, error::Fail> {
+    let vector = VecTemplate::parse(alloc, tplt)?.ty(alloc, rows)?;
+    let matrix = MatTemplate::parse(alloc, tplt)?.ty(alloc, columns, rows)?;
+    Ok(format!(in alloc; "{vector} {matrix}")?)
+}
+
 #[test]
-fn templates_of_one_type_answer_what_is_inside(rt: HostRuntime) -> Result<(), Fail> {
+fn vectors_and_matrices_are_of_the_shape_asked_for(rt: HostRuntime) -> Result<(), Fail> {
     let alloc = rt.alloc();
-    let float = [TpltParam::Ty(Type::F32)];
-    let Ok(vector) = VecTemplate::parse(alloc, &float) else {
-        return Err("no vector of floats".into());
-    };
-    assert!(rt; *vector.inner_ty() == Type::F32);
-    assert_eq!(rt;
-        vector.ty(alloc, 2)?.to_string(alloc)?.as_str(),
-        "vec2<f32>"
-    );
-    assert_eq!(rt;
-        vector.ty(alloc, 255)?.to_string(alloc)?.as_str(),
-        "vec255<f32>"
-    );
-    let Ok(matrix) = MatTemplate::parse(alloc, &float) else {
-        return Err("no matrix of floats".into());
-    };
-    assert!(rt; *matrix.inner_ty() == Type::F32);
-    assert_eq!(rt;
-        matrix.ty(alloc, 4, 3)?.to_string(alloc)?.as_str(),
-        "mat4x3<f32>"
-    );
-    let Ok(atomic) = AtomicTemplate::parse(alloc, &float) else {
-        return Err("no atomic float".into());
-    };
-    assert!(rt; atomic.ty == Type::F32);
-    assert!(rt; atomic.inner_ty(alloc)? == Type::F32);
-    let Ok(number) = BitcastTemplate::parse(alloc, &float) else {
-        return Err("no bits of a float".into());
-    };
-    assert!(rt; number.inner_ty(alloc)? == Type::F32);
-    let Ok(numbers) = BitcastTemplate::parse(alloc, &parameters(alloc, "t vec 3 u32")?) else {
-        return Err("no bits of a vector".into());
-    };
-    assert!(rt; numbers.inner_ty(alloc)? == Type::U32);
+    let floats = parameters(alloc, "t f32")?;
+    for (columns, rows, spelling) in [
+        (4, 2, "vec2<f32> mat4x2<f32>"),
+        (4, 3, "vec3<f32> mat4x3<f32>"),
+        (0, 255, "vec255<f32> mat0x255<f32>"),
+    ] {
+        let answer = text_or_refusal(alloc, shaped(alloc, &floats, columns, rows))?;
+        assert_eq!(rt; answer.as_str(), spelling);
+    }
     Ok(())
 }
 
@@ -578,16 +585,30 @@ fn two_spaces_have_no_pointers(rt: HostRuntime) -> Result<(), Fail> {
     Ok(())
 }
 
+/// The parts that the template of this name shows.
+fn parts(alloc: Global, name: &str, tplt: &[TpltParam]) -> Result<String, error::Fail> {
+    if name == "atomic" {
+        return Ok(AtomicTemplate::parse(alloc, tplt)?.ty.to_string(alloc)?);
+    }
+    let pointer = PtrTemplate::parse(alloc, tplt)?;
+    let (space, ty, access) = (pointer.space, &pointer.ty, pointer.access);
+    Ok(format!(in alloc; "{space} {ty} {access}")?)
+}
+
 #[test]
-fn pointer_templates_show_their_parts(rt: HostRuntime) -> Result<(), Fail> {
+fn templates_show_their_parts(rt: HostRuntime) -> Result<(), Fail> {
     let alloc = rt.alloc();
-    let tplt = parameters(alloc, "e storage t u32 e read_write")?;
-    let Ok(pointer) = PtrTemplate::parse(alloc, &tplt) else {
-        return Err("no pointer into storage".into());
-    };
-    assert_eq!(rt; pointer.space, AddressSpace::Storage);
-    assert!(rt; pointer.ty == Type::U32);
-    assert_eq!(rt; pointer.access, AccessMode::ReadWrite);
+    for (name, words, shown) in [
+        (
+            "ptr",
+            "e storage t u32 e read_write",
+            "storage u32 read_write",
+        ),
+        ("atomic", "t f32", "f32"),
+    ] {
+        let answer = text_or_refusal(alloc, parts(alloc, name, &parameters(alloc, words)?))?;
+        assert_eq!(rt; answer.as_str(), shown);
+    }
     Ok(())
 }
 
