@@ -1,9 +1,12 @@
 // Copies of refusals.
 ghost use Rattle.std.specs.Prelude.{◌≡◌, IfOk, IsOk};
+ghost use Rattle.wgsl_rules.specs.Kinds.{IsFlat};
 ghost use Rattle.wgsl_rules.specs.Refusals.{IsFlatRefusal};
 ghost use Rattle.wgsl_core.specs.Outcome.{refusal};
+ghost use Rattle.wgsl_core.specs.View.{view};
 
 use crate::error::Error;
+use crate::ty::Type;
 use std::alloc::{AllocError, Global};
 
 impl Error {
@@ -23,13 +26,19 @@ impl Error {
                 s.as_str(),
             )?)),
             Error::MissingTemplate(s) => Ok(Error::MissingTemplate(*s)),
-            Error::WriteRefType(n, t) => Ok(Error::WriteRefType(n.clone(alloc)?, t.clone(alloc)?)),
+            Error::WriteRefType(n, t) => {
+                let (n, t) = copy_pair(alloc, n, t)?;
+                Ok(Error::WriteRefType(n, t))
+            }
             Error::NotWrite => Ok(Error::NotWrite),
             Error::NotRead => Ok(Error::NotRead),
             Error::NotReadWrite => Ok(Error::NotReadWrite),
             Error::PtrHandle => Ok(Error::PtrHandle),
             Error::PtrVecComp => Ok(Error::PtrVecComp),
-            Error::Conversion(a, b) => Ok(Error::Conversion(a.clone(alloc)?, b.clone(alloc)?)),
+            Error::Conversion(a, b) => {
+                let (a, b) = copy_pair(alloc, a, b)?;
+                Ok(Error::Conversion(a, b))
+            }
             Error::ConvOverflow(l, t) => Ok(Error::ConvOverflow(*l, t.clone(alloc)?)),
             Error::Component(t, s) => Ok(Error::Component(
                 t.clone(alloc)?,
@@ -38,11 +47,14 @@ impl Error {
             Error::NotIndexable(t) => Ok(Error::NotIndexable(t.clone(alloc)?)),
             Error::OutOfBounds(i, t, n) => Ok(Error::OutOfBounds(*i, t.clone(alloc)?, *n)),
             Error::Unary(o, t) => Ok(Error::Unary(*o, t.clone(alloc)?)),
-            Error::Binary(o, a, b) => Ok(Error::Binary(*o, a.clone(alloc)?, b.clone(alloc)?)),
-            Error::CompwiseBinary(a, b) => Ok(Error::CompwiseBinary(
-                a.clone(alloc)?,
-                b.clone(alloc)?,
-            )),
+            Error::Binary(o, a, b) => {
+                let (a, b) = copy_pair(alloc, a, b)?;
+                Ok(Error::Binary(*o, a, b))
+            }
+            Error::CompwiseBinary(a, b) => {
+                let (a, b) = copy_pair(alloc, a, b)?;
+                Ok(Error::CompwiseBinary(a, b))
+            }
             Error::AddOverflow => Ok(Error::AddOverflow),
             Error::SubOverflow => Ok(Error::SubOverflow),
             Error::MulOverflow => Ok(Error::MulOverflow),
@@ -58,7 +70,17 @@ impl Error {
                 *e,
                 *n,
             )),
-            Error::ParamType(e, t) => Ok(Error::ParamType(e.clone(alloc)?, t.clone(alloc)?)),
+            Error::ParamType(e, t) => {
+                let (e, t) = copy_pair(alloc, e, t)?;
+                Ok(Error::ParamType(e, t))
+            }
         }
     }
+}
+
+fn copy_pair(alloc: Global, a: &Type, b: &Type) -> Result<(Type, Type), AllocError>
+    ensures same { IfOk result (λ p. (view p.0 ≡ view a.now) × (view p.1 ≡ view b.now)) }
+    ensures takes_no_memory { IsFlat (view a.now) → IsFlat (view b.now) → IsOk result }
+{
+    Ok((a.clone(alloc)?, b.clone(alloc)?))
 }

@@ -1,4 +1,7 @@
 // How types are printed.
+ghost use Rattle.std.specs.Prelude.{◌≡◌};
+ghost use Rattle.wgsl_syntax.specs.Texture.{texture_name};
+
 use crate::ty::Type;
 use std::fmt;
 use std::fmt::Write;
@@ -55,26 +58,58 @@ impl fmt::Display for TextureSpelling {
 
     fn fmt<W: Write>(&self, f: &mut fmt::Formatter<W>) -> fmt::Result {
         match self.0 {
-            TextureType::Sampled1D(s) => write!(f, "texture_1d<{s}>"),
-            TextureType::Sampled2D(s) => write!(f, "texture_2d<{s}>"),
-            TextureType::Sampled2DArray(s) => write!(f, "texture_2d_array<{s}>"),
-            TextureType::Sampled3D(s) => write!(f, "texture_3d<{s}>"),
-            TextureType::SampledCube(s) => write!(f, "texture_cube<{s}>"),
-            TextureType::SampledCubeArray(s) => write!(f, "texture_cube_array<{s}>"),
-            TextureType::Sampled1DArray(s) => write!(f, "texture_1d_array<{s}>"),
-            TextureType::Multisampled2D(s) => write!(f, "texture_multisampled_2d<{s}>"),
-            TextureType::Multisampled2DArray(s) => write!(f, "texture_multisampled_2d_array<{s}>"),
-            TextureType::DepthMultisampled2D => f.write_str("texture_depth_multisampled_2d"),
-            TextureType::Storage1D(t, m) => write!(f, "texture_storage_1d<{t}, {m}>"),
-            TextureType::Storage1DArray(t, m) => write!(f, "texture_storage_1d_array<{t}, {m}>"),
-            TextureType::Storage2D(t, m) => write!(f, "texture_storage_2d<{t}, {m}>"),
-            TextureType::Storage2DArray(t, m) => write!(f, "texture_storage_2d_array<{t}, {m}>"),
-            TextureType::Storage3D(t, m) => write!(f, "texture_storage_3d<{t}, {m}>"),
-            TextureType::External => f.write_str("texture_external"),
-            TextureType::Depth2D => f.write_str("texture_depth_2d"),
-            TextureType::Depth2DArray => f.write_str("texture_depth_2d_array"),
-            TextureType::DepthCube => f.write_str("texture_depth_cube"),
-            TextureType::DepthCubeArray => f.write_str("texture_depth_cube_array"),
+            TextureType::Sampled1D(sampled)
+            | TextureType::Sampled2D(sampled)
+            | TextureType::Sampled2DArray(sampled)
+            | TextureType::Sampled3D(sampled)
+            | TextureType::SampledCube(sampled)
+            | TextureType::SampledCubeArray(sampled)
+            | TextureType::Sampled1DArray(sampled)
+            | TextureType::Multisampled2D(sampled)
+            | TextureType::Multisampled2DArray(sampled) => {
+                write!(f, "{}<{sampled}>", texture_name(self.0))
+            }
+            TextureType::Storage1D(format, access)
+            | TextureType::Storage1DArray(format, access)
+            | TextureType::Storage2D(format, access)
+            | TextureType::Storage2DArray(format, access)
+            | TextureType::Storage3D(format, access) => {
+                write!(f, "{}<{format}, {access}>", texture_name(self.0))
+            }
+            TextureType::DepthMultisampled2D
+            | TextureType::External
+            | TextureType::Depth2D
+            | TextureType::Depth2DArray
+            | TextureType::DepthCube
+            | TextureType::DepthCubeArray => f.write_str(texture_name(self.0)),
         }
+    }
+}
+
+/// The name of a texture's type, without its parameters.
+fn texture_name(texture: TextureType) -> &'static str
+    ensures { result.now ≡ texture_name texture }
+{
+    match texture {
+        TextureType::Sampled1D(_) => "texture_1d",
+        TextureType::Sampled2D(_) => "texture_2d",
+        TextureType::Sampled2DArray(_) => "texture_2d_array",
+        TextureType::Sampled3D(_) => "texture_3d",
+        TextureType::SampledCube(_) => "texture_cube",
+        TextureType::SampledCubeArray(_) => "texture_cube_array",
+        TextureType::Sampled1DArray(_) => "texture_1d_array",
+        TextureType::Multisampled2D(_) => "texture_multisampled_2d",
+        TextureType::Multisampled2DArray(_) => "texture_multisampled_2d_array",
+        TextureType::DepthMultisampled2D => "texture_depth_multisampled_2d",
+        TextureType::Storage1D(_, _) => "texture_storage_1d",
+        TextureType::Storage1DArray(_, _) => "texture_storage_1d_array",
+        TextureType::Storage2D(_, _) => "texture_storage_2d",
+        TextureType::Storage2DArray(_, _) => "texture_storage_2d_array",
+        TextureType::Storage3D(_, _) => "texture_storage_3d",
+        TextureType::External => "texture_external",
+        TextureType::Depth2D => "texture_depth_2d",
+        TextureType::Depth2DArray => "texture_depth_2d_array",
+        TextureType::DepthCube => "texture_depth_cube",
+        TextureType::DepthCubeArray => "texture_depth_cube_array",
     }
 }

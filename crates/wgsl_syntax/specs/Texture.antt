@@ -26,32 +26,52 @@ abbrev pub sampler_text : SamplerType → List ℕ
 sampler_text Sampler = codes "sampler"
 sampler_text SamplerComparison = codes "sampler_comparison"
 
--- a name with the type that the texture is sampled as
-abbrev pub sampled_as : List ℕ → SampledType → List ℕ
-sampled_as name sampled = name ++ codes "<" ++ sampled_text sampled ++ codes ">"
+abbrev pub texture_name : TextureType → List ℕ
+texture_name (Sampled1D sampled) = codes "texture_1d"
+texture_name (Sampled2D sampled) = codes "texture_2d"
+texture_name (Sampled2DArray sampled) = codes "texture_2d_array"
+texture_name (Sampled3D sampled) = codes "texture_3d"
+texture_name (SampledCube sampled) = codes "texture_cube"
+texture_name (SampledCubeArray sampled) = codes "texture_cube_array"
+texture_name (Sampled1DArray sampled) = codes "texture_1d_array"
+texture_name (Multisampled2D sampled) = codes "texture_multisampled_2d"
+texture_name (Multisampled2DArray sampled) = codes "texture_multisampled_2d_array"
+texture_name DepthMultisampled2D = codes "texture_depth_multisampled_2d"
+texture_name (Storage1D format access) = codes "texture_storage_1d"
+texture_name (Storage1DArray format access) = codes "texture_storage_1d_array"
+texture_name (Storage2D format access) = codes "texture_storage_2d"
+texture_name (Storage2DArray format access) = codes "texture_storage_2d_array"
+texture_name (Storage3D format access) = codes "texture_storage_3d"
+texture_name External = codes "texture_external"
+texture_name Depth2D = codes "texture_depth_2d"
+texture_name Depth2DArray = codes "texture_depth_2d_array"
+texture_name DepthCube = codes "texture_depth_cube"
+texture_name DepthCubeArray = codes "texture_depth_cube_array"
 
--- a name with the format of the texture's texels and how they are accessed
-abbrev pub stored_as : List ℕ → TexelFormat → AccessMode → List ℕ
-stored_as name format access = name ++ codes "<" ++ texel_text format ++ codes ", " ++ access_text access ++ codes ">"
+abbrev sampled_as : SampledType → List ℕ
+sampled_as sampled = codes "<" ++ sampled_text sampled ++ codes ">"
 
+abbrev stored_as : TexelFormat → AccessMode → List ℕ
+stored_as format access = codes "<" ++ texel_text format ++ codes ", " ++ access_text access ++ codes ">"
+
+-- the type that the texture is sampled as, or the format of its texels and how they are accessed
+abbrev texture_parameters : TextureType → List ℕ
+texture_parameters (Sampled1D sampled) = sampled_as sampled
+texture_parameters (Sampled2D sampled) = sampled_as sampled
+texture_parameters (Sampled2DArray sampled) = sampled_as sampled
+texture_parameters (Sampled3D sampled) = sampled_as sampled
+texture_parameters (SampledCube sampled) = sampled_as sampled
+texture_parameters (SampledCubeArray sampled) = sampled_as sampled
+texture_parameters (Sampled1DArray sampled) = sampled_as sampled
+texture_parameters (Multisampled2D sampled) = sampled_as sampled
+texture_parameters (Multisampled2DArray sampled) = sampled_as sampled
+texture_parameters (Storage1D format access) = stored_as format access
+texture_parameters (Storage1DArray format access) = stored_as format access
+texture_parameters (Storage2D format access) = stored_as format access
+texture_parameters (Storage2DArray format access) = stored_as format access
+texture_parameters (Storage3D format access) = stored_as format access
+texture_parameters t = []
+
+-- `texture_2d<f32>`, `texture_storage_2d<rgba8unorm, write>`, `texture_depth_2d`
 abbrev pub texture_text : TextureType → List ℕ
-texture_text (Sampled1D sampled) = sampled_as (codes "texture_1d") sampled
-texture_text (Sampled2D sampled) = sampled_as (codes "texture_2d") sampled
-texture_text (Sampled2DArray sampled) = sampled_as (codes "texture_2d_array") sampled
-texture_text (Sampled3D sampled) = sampled_as (codes "texture_3d") sampled
-texture_text (SampledCube sampled) = sampled_as (codes "texture_cube") sampled
-texture_text (SampledCubeArray sampled) = sampled_as (codes "texture_cube_array") sampled
-texture_text (Sampled1DArray sampled) = sampled_as (codes "texture_1d_array") sampled
-texture_text (Multisampled2D sampled) = sampled_as (codes "texture_multisampled_2d") sampled
-texture_text (Multisampled2DArray sampled) = sampled_as (codes "texture_multisampled_2d_array") sampled
-texture_text DepthMultisampled2D = codes "texture_depth_multisampled_2d"
-texture_text (Storage1D format access) = stored_as (codes "texture_storage_1d") format access
-texture_text (Storage1DArray format access) = stored_as (codes "texture_storage_1d_array") format access
-texture_text (Storage2D format access) = stored_as (codes "texture_storage_2d") format access
-texture_text (Storage2DArray format access) = stored_as (codes "texture_storage_2d_array") format access
-texture_text (Storage3D format access) = stored_as (codes "texture_storage_3d") format access
-texture_text External = codes "texture_external"
-texture_text Depth2D = codes "texture_depth_2d"
-texture_text Depth2DArray = codes "texture_depth_2d_array"
-texture_text DepthCube = codes "texture_depth_cube"
-texture_text DepthCubeArray = codes "texture_depth_cube_array"
+texture_text t = texture_name t ++ texture_parameters t

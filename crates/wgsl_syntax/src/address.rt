@@ -43,15 +43,15 @@ impl fmt::Display for AddressSpace {
     ghost output = { λ x. Some (space_text x) };
 
     fn fmt<W: Write>(&self, f: &mut fmt::Formatter<W>) -> fmt::Result {
-        match self {
-            AddressSpace::Function => f.write_str("function"),
-            AddressSpace::Private => f.write_str("private"),
-            AddressSpace::Workgroup => f.write_str("workgroup"),
-            AddressSpace::Uniform => f.write_str("uniform"),
-            AddressSpace::Storage => f.write_str("storage"),
-            AddressSpace::Handle => f.write_str("handle"),
-            AddressSpace::PushConstant => f.write_str("push_constant"),
-        }
+        f.write_str(match self {
+            AddressSpace::Function => "function",
+            AddressSpace::Private => "private",
+            AddressSpace::Workgroup => "workgroup",
+            AddressSpace::Uniform => "uniform",
+            AddressSpace::Storage => "storage",
+            AddressSpace::Handle => "handle",
+            AddressSpace::PushConstant => "push_constant",
+        })
     }
 }
 
@@ -110,12 +110,12 @@ impl fmt::Display for AccessMode {
     ghost output = { λ x. Some (access_text x) };
 
     fn fmt<W: Write>(&self, f: &mut fmt::Formatter<W>) -> fmt::Result {
-        match self {
-            AccessMode::Read => f.write_str("read"),
-            AccessMode::Write => f.write_str("write"),
-            AccessMode::ReadWrite => f.write_str("read_write"),
-            AccessMode::Atomic => f.write_str("atomic"),
-        }
+        f.write_str(match self {
+            AccessMode::Read => "read",
+            AccessMode::Write => "write",
+            AccessMode::ReadWrite => "read_write",
+            AccessMode::Atomic => "atomic",
+        })
     }
 }
 

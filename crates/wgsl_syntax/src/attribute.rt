@@ -37,27 +37,27 @@ impl fmt::Display for BuiltinValue {
     ghost output = { λ x. Some (builtin_text x) };
 
     fn fmt<W: Write>(&self, f: &mut fmt::Formatter<W>) -> fmt::Result {
-        match self {
-            BuiltinValue::VertexIndex => f.write_str("vertex_index"),
-            BuiltinValue::InstanceIndex => f.write_str("instance_index"),
-            BuiltinValue::ClipDistances => f.write_str("clip_distances"),
-            BuiltinValue::Position => f.write_str("position"),
-            BuiltinValue::FrontFacing => f.write_str("front_facing"),
-            BuiltinValue::FragDepth => f.write_str("frag_depth"),
-            BuiltinValue::SampleIndex => f.write_str("sample_index"),
-            BuiltinValue::SampleMask => f.write_str("sample_mask"),
-            BuiltinValue::LocalInvocationId => f.write_str("local_invocation_id"),
-            BuiltinValue::LocalInvocationIndex => f.write_str("local_invocation_index"),
-            BuiltinValue::GlobalInvocationId => f.write_str("global_invocation_id"),
-            BuiltinValue::WorkgroupId => f.write_str("workgroup_id"),
-            BuiltinValue::NumWorkgroups => f.write_str("num_workgroups"),
-            BuiltinValue::SubgroupInvocationId => f.write_str("subgroup_invocation_id"),
-            BuiltinValue::SubgroupSize => f.write_str("subgroup_size"),
-            BuiltinValue::SubgroupId => f.write_str("subgroup_id"),
-            BuiltinValue::NumSubgroups => f.write_str("num_subgroups"),
-            BuiltinValue::PrimitiveIndex => f.write_str("primitive_index"),
-            BuiltinValue::ViewIndex => f.write_str("view_index"),
-        }
+        f.write_str(match self {
+            BuiltinValue::VertexIndex => "vertex_index",
+            BuiltinValue::InstanceIndex => "instance_index",
+            BuiltinValue::ClipDistances => "clip_distances",
+            BuiltinValue::Position => "position",
+            BuiltinValue::FrontFacing => "front_facing",
+            BuiltinValue::FragDepth => "frag_depth",
+            BuiltinValue::SampleIndex => "sample_index",
+            BuiltinValue::SampleMask => "sample_mask",
+            BuiltinValue::LocalInvocationId => "local_invocation_id",
+            BuiltinValue::LocalInvocationIndex => "local_invocation_index",
+            BuiltinValue::GlobalInvocationId => "global_invocation_id",
+            BuiltinValue::WorkgroupId => "workgroup_id",
+            BuiltinValue::NumWorkgroups => "num_workgroups",
+            BuiltinValue::SubgroupInvocationId => "subgroup_invocation_id",
+            BuiltinValue::SubgroupSize => "subgroup_size",
+            BuiltinValue::SubgroupId => "subgroup_id",
+            BuiltinValue::NumSubgroups => "num_subgroups",
+            BuiltinValue::PrimitiveIndex => "primitive_index",
+            BuiltinValue::ViewIndex => "view_index",
+        })
     }
 }
 
@@ -113,12 +113,12 @@ impl fmt::Display for DiagnosticSeverity {
     ghost output = { λ x. Some (severity_text x) };
 
     fn fmt<W: Write>(&self, f: &mut fmt::Formatter<W>) -> fmt::Result {
-        match self {
-            DiagnosticSeverity::Error => f.write_str("error"),
-            DiagnosticSeverity::Warning => f.write_str("warning"),
-            DiagnosticSeverity::Info => f.write_str("info"),
-            DiagnosticSeverity::Off => f.write_str("off"),
-        }
+        f.write_str(match self {
+            DiagnosticSeverity::Error => "error",
+            DiagnosticSeverity::Warning => "warning",
+            DiagnosticSeverity::Info => "info",
+            DiagnosticSeverity::Off => "off",
+        })
     }
 }
 
@@ -158,11 +158,11 @@ impl fmt::Display for InterpolationType {
     ghost output = { λ x. Some (interpolation_text x) };
 
     fn fmt<W: Write>(&self, f: &mut fmt::Formatter<W>) -> fmt::Result {
-        match self {
-            InterpolationType::Perspective => f.write_str("perspective"),
-            InterpolationType::Linear => f.write_str("linear"),
-            InterpolationType::Flat => f.write_str("flat"),
-        }
+        f.write_str(match self {
+            InterpolationType::Perspective => "perspective",
+            InterpolationType::Linear => "linear",
+            InterpolationType::Flat => "flat",
+        })
     }
 }
 
@@ -203,13 +203,13 @@ impl fmt::Display for InterpolationSampling {
     ghost output = { λ x. Some (sampling_text x) };
 
     fn fmt<W: Write>(&self, f: &mut fmt::Formatter<W>) -> fmt::Result {
-        match self {
-            InterpolationSampling::Center => f.write_str("center"),
-            InterpolationSampling::Centroid => f.write_str("centroid"),
-            InterpolationSampling::Sample => f.write_str("sample"),
-            InterpolationSampling::First => f.write_str("first"),
-            InterpolationSampling::Either => f.write_str("either"),
-        }
+        f.write_str(match self {
+            InterpolationSampling::Center => "center",
+            InterpolationSampling::Centroid => "centroid",
+            InterpolationSampling::Sample => "sample",
+            InterpolationSampling::First => "first",
+            InterpolationSampling::Either => "either",
+        })
     }
 }
 
@@ -250,11 +250,11 @@ impl fmt::Display for ConservativeDepth {
     ghost output = { λ x. Some (depth_text x) };
 
     fn fmt<W: Write>(&self, f: &mut fmt::Formatter<W>) -> fmt::Result {
-        match self {
-            ConservativeDepth::GreaterEqual => f.write_str("greater_equal"),
-            ConservativeDepth::LessEqual => f.write_str("less_equal"),
-            ConservativeDepth::Unchanged => f.write_str("unchanged"),
-        }
+        f.write_str(match self {
+            ConservativeDepth::GreaterEqual => "greater_equal",
+            ConservativeDepth::LessEqual => "less_equal",
+            ConservativeDepth::Unchanged => "unchanged",
+        })
     }
 }
 
@@ -291,9 +291,9 @@ impl fmt::Display for AccelerationStructureFlags {
     ghost output = { λ x. Some (flag_text x) };
 
     fn fmt<W: Write>(&self, f: &mut fmt::Formatter<W>) -> fmt::Result {
-        match self {
-            AccelerationStructureFlags::VertexReturn => f.write_str("vertex_return"),
-        }
+        f.write_str(match self {
+            AccelerationStructureFlags::VertexReturn => "vertex_return",
+        })
     }
 }
 

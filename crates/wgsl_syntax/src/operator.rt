@@ -19,13 +19,13 @@ impl fmt::Display for UnaryOperator {
     ghost output = { λ x. Some (unary_text x) };
 
     fn fmt<W: Write>(&self, f: &mut fmt::Formatter<W>) -> fmt::Result {
-        match self {
-            UnaryOperator::LogicalNegation => f.write_str("!"),
-            UnaryOperator::Negation => f.write_str("-"),
-            UnaryOperator::BitwiseComplement => f.write_str("~"),
-            UnaryOperator::AddressOf => f.write_str("&"),
-            UnaryOperator::Indirection => f.write_str("*"),
-        }
+        f.write_str(match self {
+            UnaryOperator::LogicalNegation => "!",
+            UnaryOperator::Negation => "-",
+            UnaryOperator::BitwiseComplement => "~",
+            UnaryOperator::AddressOf => "&",
+            UnaryOperator::Indirection => "*",
+        })
     }
 }
 
@@ -59,26 +59,26 @@ impl fmt::Display for BinaryOperator {
     ghost output = { λ x. Some (binary_text x) };
 
     fn fmt<W: Write>(&self, f: &mut fmt::Formatter<W>) -> fmt::Result {
-        match self {
-            BinaryOperator::ShortCircuitOr => f.write_str("||"),
-            BinaryOperator::ShortCircuitAnd => f.write_str("&&"),
-            BinaryOperator::Addition => f.write_str("+"),
-            BinaryOperator::Subtraction => f.write_str("-"),
-            BinaryOperator::Multiplication => f.write_str("*"),
-            BinaryOperator::Division => f.write_str("/"),
-            BinaryOperator::Remainder => f.write_str("%"),
-            BinaryOperator::Equality => f.write_str("=="),
-            BinaryOperator::Inequality => f.write_str("!="),
-            BinaryOperator::LessThan => f.write_str("<"),
-            BinaryOperator::LessThanEqual => f.write_str("<="),
-            BinaryOperator::GreaterThan => f.write_str(">"),
-            BinaryOperator::GreaterThanEqual => f.write_str(">="),
-            BinaryOperator::BitwiseOr => f.write_str("|"),
-            BinaryOperator::BitwiseAnd => f.write_str("&"),
-            BinaryOperator::BitwiseXor => f.write_str("^"),
-            BinaryOperator::ShiftLeft => f.write_str("<<"),
-            BinaryOperator::ShiftRight => f.write_str(">>"),
-        }
+        f.write_str(match self {
+            BinaryOperator::ShortCircuitOr => "||",
+            BinaryOperator::ShortCircuitAnd => "&&",
+            BinaryOperator::Addition => "+",
+            BinaryOperator::Subtraction => "-",
+            BinaryOperator::Multiplication => "*",
+            BinaryOperator::Division => "/",
+            BinaryOperator::Remainder => "%",
+            BinaryOperator::Equality => "==",
+            BinaryOperator::Inequality => "!=",
+            BinaryOperator::LessThan => "<",
+            BinaryOperator::LessThanEqual => "<=",
+            BinaryOperator::GreaterThan => ">",
+            BinaryOperator::GreaterThanEqual => ">=",
+            BinaryOperator::BitwiseOr => "|",
+            BinaryOperator::BitwiseAnd => "&",
+            BinaryOperator::BitwiseXor => "^",
+            BinaryOperator::ShiftLeft => "<<",
+            BinaryOperator::ShiftRight => ">>",
+        })
     }
 }
 
@@ -105,18 +105,18 @@ impl fmt::Display for AssignmentOperator {
     ghost output = { λ x. Some (assignment_text x) };
 
     fn fmt<W: Write>(&self, f: &mut fmt::Formatter<W>) -> fmt::Result {
-        match self {
-            AssignmentOperator::Equal => f.write_str("="),
-            AssignmentOperator::PlusEqual => f.write_str("+="),
-            AssignmentOperator::MinusEqual => f.write_str("-="),
-            AssignmentOperator::TimesEqual => f.write_str("*="),
-            AssignmentOperator::DivisionEqual => f.write_str("/="),
-            AssignmentOperator::ModuloEqual => f.write_str("%="),
-            AssignmentOperator::AndEqual => f.write_str("&="),
-            AssignmentOperator::OrEqual => f.write_str("|="),
-            AssignmentOperator::XorEqual => f.write_str("^="),
-            AssignmentOperator::ShiftRightAssign => f.write_str(">>="),
-            AssignmentOperator::ShiftLeftAssign => f.write_str("<<="),
-        }
+        f.write_str(match self {
+            AssignmentOperator::Equal => "=",
+            AssignmentOperator::PlusEqual => "+=",
+            AssignmentOperator::MinusEqual => "-=",
+            AssignmentOperator::TimesEqual => "*=",
+            AssignmentOperator::DivisionEqual => "/=",
+            AssignmentOperator::ModuloEqual => "%=",
+            AssignmentOperator::AndEqual => "&=",
+            AssignmentOperator::OrEqual => "|=",
+            AssignmentOperator::XorEqual => "^=",
+            AssignmentOperator::ShiftRightAssign => ">>=",
+            AssignmentOperator::ShiftLeftAssign => "<<=",
+        })
     }
 }

@@ -28,18 +28,18 @@ impl fmt::Display for Scalar {
     ghost output = { λ x. Some (scalar_text x) };
 
     fn fmt<W: Write>(&self, f: &mut fmt::Formatter<W>) -> fmt::Result {
-        match self {
-            Scalar::Bool => f.write_str("bool"),
-            Scalar::AbstractInt => f.write_str("AbstractInt"),
-            Scalar::AbstractFloat => f.write_str("AbstractFloat"),
-            Scalar::I32 => f.write_str("i32"),
-            Scalar::U32 => f.write_str("u32"),
-            Scalar::F32 => f.write_str("f32"),
-            Scalar::F16 => f.write_str("f16"),
-            Scalar::I64 => f.write_str("i64"),
-            Scalar::U64 => f.write_str("u64"),
-            Scalar::F64 => f.write_str("f64"),
-        }
+        f.write_str(match self {
+            Scalar::Bool => "bool",
+            Scalar::AbstractInt => "AbstractInt",
+            Scalar::AbstractFloat => "AbstractFloat",
+            Scalar::I32 => "i32",
+            Scalar::U32 => "u32",
+            Scalar::F32 => "f32",
+            Scalar::F16 => "f16",
+            Scalar::I64 => "i64",
+            Scalar::U64 => "u64",
+            Scalar::F64 => "f64",
+        })
     }
 }
 

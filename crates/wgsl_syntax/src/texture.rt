@@ -24,11 +24,11 @@ impl fmt::Display for SampledType {
     ghost output = { λ x. Some (sampled_text x) };
 
     fn fmt<W: Write>(&self, f: &mut fmt::Formatter<W>) -> fmt::Result {
-        match self {
-            SampledType::I32 => f.write_str("i32"),
-            SampledType::U32 => f.write_str("u32"),
-            SampledType::F32 => f.write_str("f32"),
-        }
+        f.write_str(match self {
+            SampledType::I32 => "i32",
+            SampledType::U32 => "u32",
+            SampledType::F32 => "f32",
+        })
     }
 }
 
