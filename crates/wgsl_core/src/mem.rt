@@ -16,12 +16,14 @@ struct Layout {
 }
 
 impl Type {
-    /// The size in bytes (WGSL, "Alignment and Size").
+    /// The size in bytes (WGSL, "Alignment and Size"); an atomic has one, whatever it is of.
     ///
-    /// None where a part has no size, as an abstract number, a pointer, a reference, a texture, a sampler, a binding
-    /// array, a ray query or an acceleration structure; where an alignment that is rounded up to is missing or 0; for
-    /// an array whose number of elements isn't known, or passes 4294967295; for a struct without members; and where
-    /// the size passes 4294967295.
+    /// None for an abstract number, a pointer, a reference, a texture, a sampler, a binding array, a ray query and an
+    /// acceleration structure; for a vector of a type without a size; for a matrix without an alignment; for an array
+    /// whose number of elements isn't known or passes 4294967295, or whose element has no size, no alignment or the
+    /// alignment 0; for a struct without members, or with a member whose size or alignment comes neither from an
+    /// attribute nor from its type, or whose alignment is 0; and where the size, or an array's stride, passes
+    /// 4294967295.
     pub fn size_of(&self) -> Option<u32>
         ensures exact { IsExactly result (HasSize (view self.now)) }
         ensures none { (result ≡ None) ↔ LacksSize (view self.now) }
@@ -42,11 +44,14 @@ impl Type {
         }
     }
 
-    /// The alignment in bytes, `Some(0)` for a struct without members (WGSL, "Alignment and Size").
+    /// The alignment in bytes, `Some(0)` for a struct without members (WGSL, "Alignment and Size"); an atomic has one,
+    /// whatever it is of.
     ///
-    /// None where a part has none, as an abstract number, a pointer, a reference, a texture, a sampler, a binding
-    /// array, a ray query or an acceleration structure; for a vector of three, or a matrix of three rows, whose
-    /// components are not I32, U32, F32 or F16; and where it passes 4294967295.
+    /// None for an abstract number, a pointer, a reference, a texture, a sampler, a binding array, a ray query and an
+    /// acceleration structure; for a vector of three, or a matrix of three rows, whose components are not `i32`, `u32`,
+    /// `f32` or `f16`; for any other vector or matrix whose components have no size; for an array of a type without an
+    /// alignment; for a struct with a member whose alignment comes neither from an attribute nor from its type; and
+    /// where it passes 4294967295.
     pub fn align_of(&self) -> Option<u32>
         ensures { IsExactly result (HasAlignment (view self.now)) }
     {
@@ -187,8 +192,8 @@ fn rounded_up(size: Option<u32>, align: Option<u32>) -> Option<u32>
 impl StructType {
     /// The offset of each member in bytes: no placement has a smaller one (WGSL, "Structure Member Layout").
     ///
-    /// None exactly where the struct has no size: where a member has no size or no alignment, or the alignment 0;
-    /// where there is no member; and where the size passes 4294967295.
+    /// None exactly where the struct has no size: where there is no member; where a member's size or alignment comes
+    /// neither from an attribute nor from its type, or its alignment is 0; and where the size passes 4294967295.
     pub fn offsets(&self, alloc: Global) -> Result<Option<Vec<u32>>, AllocError>
         ensures none { HasNoSize (struct_view self.now).members ↔ (result ≡ Ok None) }
         ensures offsets { IfOk result (λ answer. IfSome answer (λ offsets. AreOffsets (struct_view self.now).members offsets.items)) }
