@@ -37,7 +37,8 @@ pub fn common_any_order(ts: &[Type], us: &[Type])
     ensures { IsPermutation (map view ts.now) (map view us.now) → All IsValueType (map view ts.now) → CommonAnyOrder (map view ts.now) (map view us.now) }
 {}
 
-/// A matrix has the size of an array of its columns, or both have none (WGSL, "Alignment and Size").
+/// A matrix of scalars with at least one row has the size of an array of its columns, or both have none (WGSL,
+/// "Alignment and Size").
 pub fn matrix_columns(element: &Type, columns: u8, rows: u8)
     ensures { (s : Scalar) → view element.now ≡ scalar s → 0 < rows → (n : ℕ) → HasSize (mat columns rows (view element.now)) n ↔ HasSize (array (Some columns) (vec rows (view element.now))) n }
 {}
