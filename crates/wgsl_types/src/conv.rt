@@ -21,8 +21,45 @@ where
         × (option_map (λ q. (T.shown q.0, T.shown q.1)) p ≡ option_and_then (both_to T.to T.to a.now b.now) c)) }
     ensures one_type { IfOk result (λ p. IfSome p (λ q. T.type_of q.0 ≡ T.type_of q.1)) }
 {
-    let (s, t) = (a.ty(alloc)?, b.ty(alloc)?);
-    let Some(ty) = convert_ty(&s, &t) else {
+    let first = a.ty(alloc)?;
+    let both = convert_beside(alloc, a, &first, b);
+    drop(first);
+    both
+}
+
+/// The same, of a value with its type and another value.
+fn convert_beside<T: Convert>(
+    alloc: Global,
+    a: &T,
+    first: &Type,
+    b: &T,
+) -> Result<Option<(T, T)>, AllocError>
+where
+    T: Drop,
+    ensures value { IfOk result (λ p. (c : Option WgslType) × IsCommon (view first.now) (T.type_of b.now) c
+        × (option_map (λ q. (T.shown q.0, T.shown q.1)) p ≡ option_and_then (both_to T.to T.to a.now b.now) c)) }
+    ensures one_type { IfOk result (λ p. IfSome p (λ q. T.type_of q.0 ≡ T.type_of q.1)) }
+{
+    let second = b.ty(alloc)?;
+    let both = convert_both_to(alloc, a, b, convert_ty(first, &second));
+    drop(second);
+    both
+}
+
+/// Both values converted to a type, where there is one; None where one of them doesn't convert.
+fn convert_both_to<T: Convert>(
+    alloc: Global,
+    a: &T,
+    b: &T,
+    ty: Option<&Type>,
+) -> Result<Option<(T, T)>, AllocError>
+where
+    T: Drop,
+    ensures value { IfOk result (λ p. option_map (λ q. (T.shown q.0, T.shown q.1)) p
+        ≡ option_and_then (both_to T.to T.to a.now b.now) (option_map (λ t. view t.now) ty.entry)) }
+    ensures one_type { IfOk result (λ p. IfSome p (λ q. T.type_of q.0 ≡ T.type_of q.1)) }
+{
+    let Some(ty) = ty else {
         return Ok(None);
     };
     let Some(x) = a.convert_to(alloc, ty)? else {
@@ -47,8 +84,45 @@ where
     ensures { IfOk result (λ p. (c : Option WgslType) × IsCommon (T.inner_type_of a.now) (U.inner_type_of b.now) c
         × (option_map (λ q. (T.shown q.0, U.shown q.1)) p ≡ option_and_then (both_to T.inner_to U.inner_to a.now b.now) c)) }
 {
-    let (s, t) = (a.inner_ty(alloc)?, b.inner_ty(alloc)?);
-    let Some(ty) = convert_ty(&s, &t) else {
+    let first = a.inner_ty(alloc)?;
+    let both = convert_inner_beside(alloc, a, &first, b);
+    drop(first);
+    both
+}
+
+/// The same, of a value with its inner type and another value.
+fn convert_inner_beside<T: Convert, U: Convert>(
+    alloc: Global,
+    a: &T,
+    first: &Type,
+    b: &U,
+) -> Result<Option<(T, U)>, AllocError>
+where
+    T: Drop,
+    U: Drop,
+    ensures { IfOk result (λ p. (c : Option WgslType) × IsCommon (view first.now) (U.inner_type_of b.now) c
+        × (option_map (λ q. (T.shown q.0, U.shown q.1)) p ≡ option_and_then (both_to T.inner_to U.inner_to a.now b.now) c)) }
+{
+    let second = b.inner_ty(alloc)?;
+    let both = convert_both_inner_to(alloc, a, b, convert_ty(first, &second));
+    drop(second);
+    both
+}
+
+/// Both values with what is inside converted to a type, where there is one; None where one of them doesn't convert.
+fn convert_both_inner_to<T: Convert, U: Convert>(
+    alloc: Global,
+    a: &T,
+    b: &U,
+    ty: Option<&Type>,
+) -> Result<Option<(T, U)>, AllocError>
+where
+    T: Drop,
+    U: Drop,
+    ensures { IfOk result (λ p. option_map (λ q. (T.shown q.0, U.shown q.1)) p
+        ≡ option_and_then (both_to T.inner_to U.inner_to a.now b.now) (option_map (λ t. view t.now) ty.entry)) }
+{
+    let Some(ty) = ty else {
         return Ok(None);
     };
     let Some(x) = a.convert_inner_to(alloc, ty)? else {

@@ -1,4 +1,4 @@
-use Rattle.std.proofs.Common.{◌≡◌, ◌∷◌, [], Some, None, map, sym, ◌∙◌, ap, subst, All, arith}
+use Rattle.std.proofs.Common.{◌≡◌, ◌∷◌, [], Some, None, map, sym, ◌∙◌, ap, arith}
 use Rattle.std.specs.Prelude.{option_map}
 use Rattle.std.proofs.lemmas.List.{map-append}
 use Rattle.std.proofs.lemmas.List.Elements.{All-push}
@@ -14,7 +14,7 @@ loop-value-preserved g c =
     record {
       given = all_next g.T.Convert.to (view c.args.ty.now) c.args.values.now c.loop-value.value-index (map g.T.Convert.shown c.loop-value.converted.items) c.value-item.result (g.T.Convert.shown c.in-Some.x) (omega arith) c.value-item.is c.loop-value.invariant.given given
           ∙ sym (ap Some shown);
-      one_type = subst (λ xs. All (λ x. g.T.Ty.type_of x ≡ view c.args.ty.now) xs) (sym c.in_ok-push.ensures.items) (All-push (λ x. g.T.Ty.type_of x ≡ view c.args.ty.now) c.loop-value.converted.items c.in-Some.x c.loop-value.invariant.one_type one);
+      one_type = rw c.in_ok-push.ensures.items (All-push (λ x. g.T.Ty.type_of x ≡ view c.args.ty.now) c.loop-value.converted.items c.in-Some.x c.loop-value.invariant.one_type one);
     }
 
 pub returns-in_default-clause-value : goal.returns-in_default-clause-value
