@@ -1,5 +1,5 @@
 -- What is made of one argument and of several, as the answers of the calls below it say.
-use Rattle.std.proofs.Common.{string_bytes, ◌≡◌, ◌≢◌, ℕ, ◌≤◌, List, [], ◌∷◌, length, map, Option, Some, Result, Ok, Err, refl, sym, ap, subst, ◌∙◌, inl, inr}
+use Rattle.std.proofs.Common.{string_bytes, ◌≡◌, ◌≢◌, ℕ, ◌≤◌, List, [], ◌∷◌, length, map, Option, Some, Result, Ok, Err, refl, sym, ap, subst, ◌∙◌, ◌⊎◌, inl, inr}
 use native.Mathlib.Omega.{arith}
 use Rattle.std.proofs.lemmas.List.{length-map}
 use Rattle.wgsl_rules.specs.Types.{WgslType, scalar, array, vec, mat, Members, struct, atomic, pointer, reference, texture, sampler, binding_array, ray_query, acceleration_structure}
@@ -16,7 +16,10 @@ use Rattle.wgsl_core.specs.View.{view, members_view, struct_view}
 use Rattle.wgsl_core.proofs.Recognition.{view-struct}
 use Rattle.wgsl_core.specs.declared.ty.StructType.{StructType, out-StructType}
 use Rattle.wgsl_calls.proofs.Arguments.{count_of_members, misfit_is_no_fit}
-use Rattle.wgsl_core.specs.Parts.{IsNoOperand}
+use Rattle.std.specs.Borrow.{Bor}
+use Rattle.wgsl_core.specs.Parts.{IsNoOperand, IsSeenAs}
+use Rattle.wgsl_core.specs.declared.parts.Operand.{Operand}
+use Rattle.wgsl_core.specs.declared.parts.Operand.TheVariants as operands
 use Rattle.wgsl_core.specs.Outcome.{AnswersAs}
 use Rattle.wgsl_core.specs.declared.ty.Type.{«Type»}
 use Rattle.wgsl_core.specs.declared.error.Fail.{Fail}
@@ -120,6 +123,16 @@ no_matrix (sampler x) o m = m
 no_matrix (binding_array k e) o m = m
 no_matrix (ray_query f) o m = m
 no_matrix (acceleration_structure f) o m = m
+
+-- what is seen as a scalar, a vector or another is no matrix
+pub seen_as_no_matrix : (t : WgslType) (o : Operand) → IsSeenAs t o →
+    ((s : Scalar) × (o ≡ operands.Scalar s)) ⊎ (((n : ℕ) × (e : Bor «Type») × (o ≡ operands.Vector n e)) ⊎ (o ≡ operands.Other)) → ¬ IsMatrix t
+seen_as_no_matrix t (operands.Scalar s) h k m = subst IsMatrix h m
+seen_as_no_matrix t (operands.Vector n e) h k m = subst IsMatrix h m
+seen_as_no_matrix t (operands.Matrix c r e) h (inl k) m = absurd (cc k.1)
+seen_as_no_matrix t (operands.Matrix c r e) h (inr (inl k)) m = absurd (cc k.2)
+seen_as_no_matrix t (operands.Matrix c r e) h (inr (inr k)) m = absurd (cc k)
+seen_as_no_matrix t operands.Other h k m = no_matrix t h m
 
 -- a scalar that doesn't convert
 pub scalar_refused : (n : ℕ) (a t : WgslType) (s : Scalar) (e : Refusal) → a ≡ scalar s → ¬ ConvertsTo a t → e ≡ conversion a t →

@@ -201,5 +201,7 @@ fn bitcast(alloc: Global, parameters: &[TpltParam]) -> Result<Type, Fail>
     ensures { AnswersBy (IsBitcastTemplate (map parameter_view parameters.now)) result }
 {
     let template = BitcastTemplate::parse(alloc, parameters)?;
-    Ok(template.ty().clone(alloc)?)
+    let ty = template.ty().clone(alloc);
+    drop(template);
+    Ok(ty?)
 }

@@ -1,11 +1,12 @@
 // Constructors: what they make of their arguments.
-ghost use Rattle.std.specs.Prelude.{◌≡◌, ◌↔◌, All, IfOk, IsSome, IsTrue, None, Ok, length, map, option_map};
+ghost use Rattle.std.specs.Prelude.{◌≡◌, ◌↔◌, All, Err, IfOk, IsSome, IsTrue, None, Ok, length, map, option_map, if◌then◌else◌};
+ghost use Rattle.wgsl_syntax.specs.declared.scalar.Scalar.{Scalar};
 ghost use Rattle.wgsl_syntax.specs.declared.scalar.Scalar.TheVariants.{AbstractInt};
 ghost use Rattle.wgsl_rules.specs.Types.{scalar, vec, mat};
 ghost use Rattle.wgsl_rules.specs.Kinds.{IsScalarOrVector};
 ghost use Rattle.wgsl_rules.specs.Common.{IsLeftCommon};
 ghost use Rattle.wgsl_rules.specs.Parts.{inner_of};
-ghost use Rattle.wgsl_rules.specs.Refusals.{conversion, signature, param_count, param_type};
+ghost use Rattle.wgsl_rules.specs.Refusals.{Refusal, conversion, signature, param_count, param_type};
 ghost use Rattle.wgsl_rules.specs.Templates.{array_template};
 ghost use Rattle.wgsl_rules.specs.ConstructorSteps.{Then};
 ghost use Rattle.wgsl_rules.specs.VectorConstructors.{BringsComponents, components, all_components, no_components, IsTypedVectorOfOne, IsTypedVector, IsUntypedVectorOfOne, IsUntypedVector, IsVectorCall};
@@ -112,7 +113,15 @@ fn typed_array(alloc: Global, tplt: &[TpltParam], args: &[Type]) -> Result<Type,
     ensures { AnswersBy (Then (array_template (map parameter_view tplt.now)) (IsTypedArray (map view args.now))) result }
 {
     let template = ArrayTemplate::parse(alloc, tplt)?;
-    check_elements(alloc, &template, args)?;
+    let made = array_of(alloc, &template, args);
+    drop(template);
+    made
+}
+
+fn array_of(alloc: Global, template: &ArrayTemplate, args: &[Type]) -> Result<Type, Fail>
+    ensures { AnswersBy (IsTypedArray (map view args.now) (array_view template.now)) result }
+{
+    check_elements(alloc, template, args)?;
     Ok(template.ty(alloc)?)
 }
 
@@ -158,19 +167,21 @@ fn scalar_of(
 ) -> Result<Type, Fail>
     ensures { AnswersBy (λ r. r ≡ scalar_call of (option_map (λ ps. map parameter_view ps.now) tplt.entry) (map view args.now) (signature (call_view name.now tplt.entry args.now))) result }
 {
-    match tplt {
-        None => match args {
-            [] => Ok(Type::from(of)),
-            [arg] => {
-                if arg.is_scalar() {
-                    Ok(Type::from(of))
-                } else {
-                    Err(Fail::Error(refuse_call(alloc, name, tplt, args)?))
-                }
-            }
-            _ => Err(Fail::Error(refuse_call(alloc, name, tplt, args)?)),
-        },
-        Some(_) => Err(Fail::Error(refuse_call(alloc, name, tplt, args)?)),
+    if tplt.is_none() && are_none_or_scalar(args) {
+        Ok(Type::from(of))
+    } else {
+        Err(Fail::Error(refuse_call(alloc, name, tplt, args)?))
+    }
+}
+
+fn are_none_or_scalar(args: &[Type]) -> bool
+    ensures { (s : Scalar) → (refused : Refusal) →
+        scalar_call s None (map view args.now) refused ≡ (if result then Ok (scalar s) else Err refused) }
+{
+    match args {
+        [] => true,
+        [arg] => arg.is_scalar(),
+        _ => false,
     }
 }
 
@@ -186,7 +197,9 @@ fn vector(
     match tplt {
         Some(tplt) => {
             let template = VecTemplate::parse(alloc, tplt)?;
-            typed_vector(alloc, n, name, args, template.inner_ty())
+            let made = typed_vector(alloc, n, name, args, template.inner_ty());
+            drop(template);
+            made
         }
         None => untyped_vector(alloc, n, name, args),
     }
@@ -222,15 +235,15 @@ fn typed_vector_of_one(alloc: Global, n: u8, arg: &Type, ty: &Type) -> Result<Ty
             }
         }
         Operand::Vector(m, _) => {
-            let whole = vector_of(alloc, n, ty)?;
             if m == n {
-                Ok(whole)
+                Ok(vector_of(alloc, n, ty)?)
             } else {
-                Err(Fail::Error(Error::Conversion(arg.clone(alloc)?, whole)))
+                Err(Fail::Error(refuse_conversion_to(alloc, arg, vector_of(alloc, n, ty)?)?))
             }
         }
-        Operand::Matrix(_, _, _) => Err(Fail::Error(refuse_conversion(alloc, arg, ty)?)),
-        Operand::Other => Err(Fail::Error(refuse_conversion(alloc, arg, ty)?)),
+        Operand::Matrix(_, _, _) | Operand::Other => {
+            Err(Fail::Error(refuse_conversion(alloc, arg, ty)?))
+        }
     }
 }
 
@@ -261,15 +274,13 @@ fn untyped_vector_of_one(alloc: Global, n: u8, arg: &Type) -> Result<Type, Fail>
     match arg.operand() {
         Operand::Scalar(_) => Ok(vector_of(alloc, n, arg)?),
         Operand::Vector(m, component) => {
-            let whole = vector_of(alloc, n, component)?;
             if m == n {
-                Ok(whole)
+                Ok(vector_of(alloc, n, component)?)
             } else {
-                Err(Fail::Error(Error::Conversion(arg.clone(alloc)?, whole)))
+                Err(Fail::Error(refuse_conversion_to(alloc, arg, vector_of(alloc, n, component)?)?))
             }
         }
-        Operand::Matrix(_, _, _) => Err(Fail::Error(refuse_components())),
-        Operand::Other => Err(Fail::Error(refuse_components())),
+        Operand::Matrix(_, _, _) | Operand::Other => Err(Fail::Error(refuse_components())),
     }
 }
 
@@ -286,7 +297,9 @@ fn matrix(
     match tplt {
         Some(tplt) => {
             let template = MatTemplate::parse(alloc, tplt)?;
-            typed_matrix(alloc, c, r, name, args, template.inner_ty())
+            let made = typed_matrix(alloc, c, r, name, args, template.inner_ty());
+            drop(template);
+            made
         }
         None => untyped_matrix(alloc, c, r, name, args),
     }
@@ -324,16 +337,15 @@ fn typed_matrix_of_one(
 {
     match arg.operand() {
         Operand::Matrix(d, s, _) => {
-            let whole = matrix_of(alloc, c, r, ty)?;
             if d == c && s == r {
-                Ok(whole)
+                Ok(matrix_of(alloc, c, r, ty)?)
             } else {
-                Err(Fail::Error(Error::Conversion(arg.clone(alloc)?, whole)))
+                Err(Fail::Error(refuse_conversion_to(alloc, arg, matrix_of(alloc, c, r, ty)?)?))
             }
         }
-        Operand::Scalar(_) => typed_matrix_of_common(alloc, c, r, name, 1, ty, arg),
-        Operand::Vector(_, _) => typed_matrix_of_common(alloc, c, r, name, 1, ty, arg),
-        Operand::Other => typed_matrix_of_common(alloc, c, r, name, 1, ty, arg),
+        Operand::Scalar(_) | Operand::Vector(_, _) | Operand::Other => {
+            typed_matrix_of_common(alloc, c, r, name, 1, ty, arg)
+        }
     }
 }
 
@@ -384,16 +396,15 @@ fn untyped_matrix_of_one(alloc: Global, c: u8, r: u8, name: &str, arg: &Type) ->
 {
     match arg.operand() {
         Operand::Matrix(d, s, component) => {
-            let whole = matrix_of(alloc, c, r, component)?;
             if d == c && s == r {
-                Ok(whole)
+                Ok(matrix_of(alloc, c, r, component)?)
             } else {
-                Err(Fail::Error(Error::Conversion(arg.clone(alloc)?, whole)))
+                Err(Fail::Error(refuse_conversion_to(alloc, arg, matrix_of(alloc, c, r, component)?)?))
             }
         }
-        Operand::Scalar(_) => untyped_matrix_of_common(alloc, c, r, name, 1, arg),
-        Operand::Vector(_, _) => untyped_matrix_of_common(alloc, c, r, name, 1, arg),
-        Operand::Other => untyped_matrix_of_common(alloc, c, r, name, 1, arg),
+        Operand::Scalar(_) | Operand::Vector(_, _) | Operand::Other => {
+            untyped_matrix_of_common(alloc, c, r, name, 1, arg)
+        }
     }
 }
 
@@ -586,7 +597,13 @@ fn matrix_of(alloc: Global, c: u8, r: u8, component: &Type) -> Result<Type, Allo
 fn refuse_conversion(alloc: Global, from: &Type, to: &Type) -> Result<Error, AllocError>
     ensures { IfOk result (λ e. refusal e ≡ conversion (view from.now) (view to.now)) }
 {
-    Ok(Error::Conversion(from.clone(alloc)?, to.clone(alloc)?))
+    refuse_conversion_to(alloc, from, to.clone(alloc)?)
+}
+
+fn refuse_conversion_to(alloc: Global, from: &Type, to: Type) -> Result<Error, AllocError>
+    ensures { IfOk result (λ e. refusal e ≡ conversion (view from.now) (view to)) }
+{
+    Ok(Error::Conversion(from.clone(alloc)?, to))
 }
 
 fn refuse_count(

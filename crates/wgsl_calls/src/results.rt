@@ -1,5 +1,5 @@
 // The structs that built-in functions give.
-ghost use Rattle.std.specs.Prelude.{◌≡◌, [], ◌∷◌, ◌++◌, IfOk, map};
+ghost use Rattle.std.specs.Prelude.{◌≡◌, [], ◌∷◌, ◌++◌, IfOk, codes, map};
 ghost use Rattle.wgsl_syntax.specs.declared.scalar.Scalar.TheVariants.{F32};
 ghost use Rattle.wgsl_rules.specs.Types.{scalar, within, struct, no_members};
 ghost use Rattle.wgsl_rules.specs.ResultStructs.{shaped, plain_member};
@@ -52,33 +52,30 @@ pub fn ray_intersection(alloc: Global) -> Result<Type, AllocError>
     ensures { IfOk result (λ t. view t ≡ ray_intersection_struct) }
 {
     let mut members = Vec::new(alloc);
-    push(&mut members, alloc, "kind", Type::U32)?;
-    push(&mut members, alloc, "t", Type::F32)?;
-    push(&mut members, alloc, "instance_custom_data", Type::U32)?;
-    push(&mut members, alloc, "instance_index", Type::U32)?;
-    push(&mut members, alloc, "sbt_record_offset", Type::U32)?;
-    push(&mut members, alloc, "geometry_index", Type::U32)?;
-    push(&mut members, alloc, "primitive_index", Type::U32)?;
-    push(
-        &mut members,
-        alloc,
-        "barycentrics",
-        floats(alloc, Layer::Vec(2))?,
-    )?;
-    push(&mut members, alloc, "front_face", Type::Bool)?;
-    push(
-        &mut members,
-        alloc,
-        "object_to_world",
-        floats(alloc, Layer::Mat(4, 3))?,
-    )?;
-    push(
-        &mut members,
-        alloc,
-        "world_to_object",
-        floats(alloc, Layer::Mat(4, 3))?,
-    )?;
+    push_intersection(&mut members, alloc)?;
     struct_of(alloc, "RayIntersection", members)
+}
+
+/// Adds the members of an intersection.
+fn push_intersection(
+    members: &mut Vec<StructMemberType>,
+    alloc: Global,
+) -> Result<(), AllocError>
+    requires { map member_view members.now.items ≡ [] }
+    ensures { IfOk result (λ u. struct (codes "RayIntersection") (members_of (map member_view members.new.items)) ≡ ray_intersection_struct) }
+{
+    push(members, alloc, "kind", Type::U32)?;
+    push(members, alloc, "t", Type::F32)?;
+    push(members, alloc, "instance_custom_data", Type::U32)?;
+    push(members, alloc, "instance_index", Type::U32)?;
+    push(members, alloc, "sbt_record_offset", Type::U32)?;
+    push(members, alloc, "geometry_index", Type::U32)?;
+    push(members, alloc, "primitive_index", Type::U32)?;
+    push(members, alloc, "barycentrics", floats(alloc, Layer::Vec(2))?)?;
+    push(members, alloc, "front_face", Type::Bool)?;
+    push(members, alloc, "object_to_world", floats(alloc, Layer::Mat(4, 3))?)?;
+    push(members, alloc, "world_to_object", floats(alloc, Layer::Mat(4, 3))?)?;
+    Ok(())
 }
 
 /// The corners of the triangle that a ray hit: an array of three vectors.

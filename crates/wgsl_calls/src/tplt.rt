@@ -1,13 +1,14 @@
 // Templates: what template parameters make of the name before them.
-ghost use Rattle.std.specs.Prelude.{◌≡◌, ◌↔◌, IfOk, IsTrue, Some, map};
+ghost use Rattle.std.specs.Prelude.{◌≡◌, ◌↔◌, IfOk, IsTrue, Some, map, option_map};
+ghost use Rattle.wgsl_syntax.specs.Names.{named};
 ghost use Rattle.wgsl_rules.specs.Types.{array, vec, mat, atomic, pointer, binding_array};
 ghost use Rattle.wgsl_rules.specs.Kinds.{IsNumericOrVector};
 ghost use Rattle.wgsl_rules.specs.Parts.{inner_of};
-ghost use Rattle.wgsl_rules.specs.Templates.{count_of, element_and_count as element_and_count_of, array_template, binding_array_template, IsVecTemplate, IsMatTemplate, IsAtomicScalar, IsAtomicTemplate, IsBitcastTemplate, access_of, format_of, pointer_access, IsPointerOf, IsPtrTemplate, sampled_parameter, storage_parameters, texture_template};
+ghost use Rattle.wgsl_rules.specs.Templates.{count_of, element_and_count as element_and_count_of, array_template, binding_array_template, IsVecTemplate, IsMatTemplate, IsAtomicScalar, IsAtomicTemplate, IsBitcastTemplate, access_of, format_of, pointer_access, IsPointerOf, IsPtrTemplate, sampled_parameter, storage_parameters, texture_names, texture_template};
 ghost use Rattle.wgsl_core.specs.View.{view};
 ghost use Rattle.wgsl_core.specs.Instances.{instance_view, parameter_view};
 ghost use Rattle.wgsl_core.specs.Outcome.{AnswersAs, Gives};
-ghost use Rattle.wgsl_calls.specs.Templates.{array_view, binding_array_view, vec_view, mat_view, ptr_view, bitcast_view, atomic_view, texture_view};
+ghost use Rattle.wgsl_calls.specs.Templates.{array_view, binding_array_view, vec_view, mat_view, ptr_view, bitcast_view, atomic_view, texture_view, sampled_view, storage_view, name_view};
 
 use std::alloc::{AllocError, Global};
 use wgsl_core::copy::boxed_copy;
@@ -430,39 +431,13 @@ impl TextureTemplate {
     pub fn parse(alloc: Global, name: &str, tplt: &[TpltParam]) -> Result<TextureTemplate, Fail>
         ensures { AnswersAs texture_view (λ r. r ≡ texture_template name.now (map parameter_view tplt.now)) result }
     {
-        let ty = match name {
-            "texture_1d" => TextureType::Sampled1D(sampled_type(alloc, tplt)?),
-            "texture_1d_array" => TextureType::Sampled1DArray(sampled_type(alloc, tplt)?),
-            "texture_2d" => TextureType::Sampled2D(sampled_type(alloc, tplt)?),
-            "texture_2d_array" => TextureType::Sampled2DArray(sampled_type(alloc, tplt)?),
-            "texture_3d" => TextureType::Sampled3D(sampled_type(alloc, tplt)?),
-            "texture_cube" => TextureType::SampledCube(sampled_type(alloc, tplt)?),
-            "texture_cube_array" => TextureType::SampledCubeArray(sampled_type(alloc, tplt)?),
-            "texture_multisampled_2d" => TextureType::Multisampled2D(sampled_type(alloc, tplt)?),
-            "texture_multisampled_2d_array" => {
-                TextureType::Multisampled2DArray(sampled_type(alloc, tplt)?)
-            }
-            "texture_storage_1d" => {
+        let ty = match texture_named(name) {
+            Some(TextureName::Sampled(texture)) => texture.of(sampled_type(alloc, tplt)?),
+            Some(TextureName::Storage(texture)) => {
                 let (format, access) = storage(tplt)?;
-                TextureType::Storage1D(format, access)
+                texture.of(format, access)
             }
-            "texture_storage_1d_array" => {
-                let (format, access) = storage(tplt)?;
-                TextureType::Storage1DArray(format, access)
-            }
-            "texture_storage_2d" => {
-                let (format, access) = storage(tplt)?;
-                TextureType::Storage2D(format, access)
-            }
-            "texture_storage_2d_array" => {
-                let (format, access) = storage(tplt)?;
-                TextureType::Storage2DArray(format, access)
-            }
-            "texture_storage_3d" => {
-                let (format, access) = storage(tplt)?;
-                TextureType::Storage3D(format, access)
-            }
-            _ => return Err(Fail::Error(Error::Builtin("not a templated texture type"))),
+            None => return Err(Fail::Error(Error::Builtin("not a templated texture type"))),
         };
         Ok(TextureTemplate { ty })
     }
@@ -472,6 +447,93 @@ impl TextureTemplate {
         ensures { result ≡ texture_view self.now }
     {
         self.ty
+    }
+}
+
+/// A texture that takes what it is sampled as.
+#[derive(Clone, Copy)]
+enum SampledTexture {
+    D1,
+    D1Array,
+    D2,
+    D2Array,
+    D3,
+    Cube,
+    CubeArray,
+    Multisampled2D,
+    Multisampled2DArray,
+}
+
+impl SampledTexture {
+    fn of(self, sampled: SampledType) -> TextureType
+        ensures { result ≡ sampled_view self sampled }
+    {
+        match self {
+            SampledTexture::D1 => TextureType::Sampled1D(sampled),
+            SampledTexture::D1Array => TextureType::Sampled1DArray(sampled),
+            SampledTexture::D2 => TextureType::Sampled2D(sampled),
+            SampledTexture::D2Array => TextureType::Sampled2DArray(sampled),
+            SampledTexture::D3 => TextureType::Sampled3D(sampled),
+            SampledTexture::Cube => TextureType::SampledCube(sampled),
+            SampledTexture::CubeArray => TextureType::SampledCubeArray(sampled),
+            SampledTexture::Multisampled2D => TextureType::Multisampled2D(sampled),
+            SampledTexture::Multisampled2DArray => TextureType::Multisampled2DArray(sampled),
+        }
+    }
+}
+
+/// A texture that takes the format of its texels, and how they are accessed.
+#[derive(Clone, Copy)]
+enum StorageTexture {
+    D1,
+    D1Array,
+    D2,
+    D2Array,
+    D3,
+}
+
+impl StorageTexture {
+    fn of(self, format: TexelFormat, access: AccessMode) -> TextureType
+        ensures { result ≡ storage_view self format access }
+    {
+        match self {
+            StorageTexture::D1 => TextureType::Storage1D(format, access),
+            StorageTexture::D1Array => TextureType::Storage1DArray(format, access),
+            StorageTexture::D2 => TextureType::Storage2D(format, access),
+            StorageTexture::D2Array => TextureType::Storage2DArray(format, access),
+            StorageTexture::D3 => TextureType::Storage3D(format, access),
+        }
+    }
+}
+
+/// A texture that takes a template.
+#[derive(Clone, Copy)]
+enum TextureName {
+    Sampled(SampledTexture),
+    Storage(StorageTexture),
+}
+
+fn texture_named(name: &str) -> Option<TextureName>
+    ensures { option_map name_view result ≡ named texture_names name.now }
+{
+    match name {
+        "texture_1d" => Some(TextureName::Sampled(SampledTexture::D1)),
+        "texture_1d_array" => Some(TextureName::Sampled(SampledTexture::D1Array)),
+        "texture_2d" => Some(TextureName::Sampled(SampledTexture::D2)),
+        "texture_2d_array" => Some(TextureName::Sampled(SampledTexture::D2Array)),
+        "texture_3d" => Some(TextureName::Sampled(SampledTexture::D3)),
+        "texture_cube" => Some(TextureName::Sampled(SampledTexture::Cube)),
+        "texture_cube_array" => Some(TextureName::Sampled(SampledTexture::CubeArray)),
+        "texture_multisampled_2d" => Some(TextureName::Sampled(SampledTexture::Multisampled2D)),
+        "texture_multisampled_2d_array" => {
+            Some(TextureName::Sampled(SampledTexture::Multisampled2DArray))
+        }
+        "texture_storage_1d" => Some(TextureName::Storage(StorageTexture::D1)),
+        "texture_storage_1d_array" => Some(TextureName::Storage(StorageTexture::D1Array)),
+        "texture_storage_2d" => Some(TextureName::Storage(StorageTexture::D2)),
+        "texture_storage_2d_array" => Some(TextureName::Storage(StorageTexture::D2Array)),
+        "texture_storage_3d" => Some(TextureName::Storage(StorageTexture::D3)),
+        _ => None,
     }
 }
 
