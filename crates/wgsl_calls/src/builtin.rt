@@ -1,6 +1,7 @@
 // The types of expressions: by the operator, and by the name of a built-in function.
-ghost use Rattle.std.specs.Prelude.{[], ◌∷◌, All, map, option_map};
-ghost use Rattle.wgsl_rules.specs.Kinds.{IsScalar};
+ghost use Rattle.std.specs.Prelude.{◌≡◌, [], ◌∷◌, All, map, option_map};
+ghost use Rattle.wgsl_syntax.specs.declared.operator.UnaryOperator.TheVariants.{AddressOf};
+ghost use Rattle.wgsl_rules.specs.Kinds.{IsScalar, IsInHandleSpace};
 ghost use Rattle.wgsl_rules.specs.Conversion.{IsValueType};
 ghost use Rattle.wgsl_rules.specs.Candidates.{Name, operator as of_operator};
 ghost use Rattle.wgsl_rules.specs.Laws.{OneChoice};
@@ -24,6 +25,7 @@ use wgsl_syntax::operator::{BinaryOperator, UnaryOperator};
 pub fn type_unary_op(alloc: Global, operator: UnaryOperator, operand: &Type) -> Result<Type, Fail>
     ensures row { AnswersBy (IsUnaryAnswer operator (view operand.now)) result }
     ensures takes_no_memory_on_scalars { IsScalar (view operand.now) → IsAnswered result }
+    ensures takes_no_memory_on_handles { operator ≡ AddressOf → IsInHandleSpace (view operand.now) → IsAnswered result }
 {
     match operator {
         UnaryOperator::LogicalNegation => operand.op_not(alloc),
@@ -35,7 +37,6 @@ pub fn type_unary_op(alloc: Global, operator: UnaryOperator, operand: &Type) -> 
 }
 
 /// The type of a binary expression (WGSL, "Expressions"), or `Binary` with the operator and both operands.
-#[tactic(auto, using(wgsl_rules::proofs::Lawful::one_choice_of_two))]
 pub fn type_binary_op(
     alloc: Global,
     operator: BinaryOperator,
@@ -70,8 +71,10 @@ pub fn type_binary_op(
 }
 
 /// The type of a call of a built-in function (WGSL, "Built-in Functions"), by its name, its template where it has one, and the
-/// types of its arguments; None where it gives no value. Where no row of the table takes the call: `Signature` with all three.
-#[tactic(auto, using(crate::proofs::Named::row_answered, crate::proofs::Named::least_answered))]
+/// types of its arguments; None where it gives no value. `Signature` with all three refuses a call that no row of the table
+/// takes, and one whose arguments lack the common type that its row gives; `bitcast` refuses its template as
+/// `BitcastTemplate::parse` does.
+#[tactic(auto, using(crate::proofs::Named::row_answered, crate::proofs::Named::least_answered, wgsl_rules::proofs::Lawful::one_choice))]
 pub fn type_builtin_fn(
     alloc: Global,
     name: &str,

@@ -78,10 +78,17 @@ pub fn is_ctor(name: &str) -> bool
     constructor_named(name).is_some()
 }
 
-/// The type that a constructor makes of its arguments (WGSL, "Value Constructor Built-in Functions"). The template is read
-/// first, and refused as its own `parse` does. Then `Conversion` names an argument and the type that it should have been,
-/// `ParamCount` the constructor with the number of arguments that it takes and the given one, `Builtin` what is wrong with
-/// the arguments together, and `Signature` any other call.
+/// The type that a constructor makes of its arguments (WGSL, "Value Constructor Built-in Functions").
+///
+/// `Signature` refuses the name of no constructor, and of a scalar a call with a template, with several arguments or with one
+/// that is no scalar. Arrays, vectors and matrices read their template first, if they have one, and refuse it as its `parse`
+/// does. Then they refuse with:
+/// - `TemplateArgs`, arguments of an array whose template has no count;
+/// - `Conversion`, an argument, with the type that it should have been; where a matrix has a template, and no single matrix
+///   as its argument, what is inside the arguments' common type, with the template's type;
+/// - `ParamCount`, with the constructor's name, the number that it takes (for vectors: of components) and the number of
+///   arguments;
+/// - `Builtin`, with what is wrong with the arguments, of which there may be one or none.
 pub fn type_ctor(
     alloc: Global,
     name: &str,
