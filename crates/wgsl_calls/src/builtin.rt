@@ -70,10 +70,10 @@ pub fn type_binary_op(
     }
 }
 
-/// The type of a call of a built-in function (WGSL, "Built-in Functions"), by its name, its template where it has one, and the
-/// types of its arguments; None where it gives no value. `Signature` with all three refuses a call that no row of the table
-/// takes, and one whose arguments lack the common type that its row gives; `bitcast` refuses its template as
-/// `BitcastTemplate::parse` does.
+/// The type of a call of a built-in function (WGSL, "Built-in Functions"), by its name, its template where it has
+/// one, and the types of its arguments; None where it gives no value. `Signature` with all three refuses a call that
+/// no row of the table takes, and one whose arguments lack the common type that its row gives; `bitcast` refuses its
+/// template as `BitcastTemplate::parse` does.
 #[tactic(auto, using(crate::proofs::Named::row_answered, crate::proofs::Named::least_answered, wgsl_rules::proofs::Lawful::one_choice))]
 pub fn type_builtin_fn(
     alloc: Global,

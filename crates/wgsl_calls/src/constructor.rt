@@ -80,14 +80,14 @@ pub fn is_ctor(name: &str) -> bool
 
 /// The type that a constructor makes of its arguments (WGSL, "Value Constructor Built-in Functions").
 ///
-/// `Signature` refuses the name of no constructor, and of a scalar a call with a template, with several arguments or with one
-/// that is no scalar. Arrays, vectors and matrices read their template first, if they have one, and refuse it as its `parse`
-/// does. Then they refuse with:
+/// `Signature` refuses the name of no constructor, and of a scalar a call with a template, with several arguments or
+/// with one that is no scalar. Arrays, vectors and matrices read their template first, if they have one, and refuse
+/// it as its `parse` does. Then they refuse with:
 /// - `TemplateArgs`, arguments of an array whose template has no count;
-/// - `Conversion`, an argument, with the type that it should have been; where a matrix has a template, and no single matrix
-///   as its argument, what is inside the arguments' common type, with the template's type;
-/// - `ParamCount`, with the constructor's name, the number that it takes (for vectors: of components) and the number of
-///   arguments;
+/// - `Conversion`, an argument, with the type that it should have been; where a matrix has a template, and no single
+///   matrix as its argument, what is inside the arguments' common type, with the template's type;
+/// - `ParamCount`, with the constructor's name, the number that it takes (for vectors: of components) and the number
+///   of arguments;
 /// - `Builtin`, with what is wrong with the arguments, of which there may be one or none.
 pub fn type_ctor(
     alloc: Global,
@@ -406,7 +406,11 @@ fn untyped_matrix_of_one(alloc: Global, c: u8, r: u8, name: &str, arg: &Type) ->
             if d == c && s == r {
                 Ok(matrix_of(alloc, c, r, component)?)
             } else {
-                Err(Fail::Error(refuse_conversion_to(alloc, arg, matrix_of(alloc, c, r, component)?)?))
+                Err(Fail::Error(refuse_conversion_to(
+                    alloc,
+                    arg,
+                    matrix_of(alloc, c, r, component)?,
+                )?))
             }
         }
         Operand::Scalar(_) | Operand::Vector(_, _) | Operand::Other => {

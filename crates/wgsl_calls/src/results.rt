@@ -57,10 +57,7 @@ pub fn ray_intersection(alloc: Global) -> Result<Type, AllocError>
 }
 
 /// Adds the members of an intersection.
-fn push_intersection(
-    members: &mut Vec<StructMemberType>,
-    alloc: Global,
-) -> Result<(), AllocError>
+fn push_intersection(members: &mut Vec<StructMemberType>, alloc: Global) -> Result<(), AllocError>
     requires { map member_view members.now.items ≡ [] }
     ensures { IfOk result (λ u. struct (codes "RayIntersection") (members_of (map member_view members.new.items)) ≡ ray_intersection_struct) }
 {
@@ -71,10 +68,25 @@ fn push_intersection(
     push(members, alloc, "sbt_record_offset", Type::U32)?;
     push(members, alloc, "geometry_index", Type::U32)?;
     push(members, alloc, "primitive_index", Type::U32)?;
-    push(members, alloc, "barycentrics", floats(alloc, Layer::Vec(2))?)?;
+    push(
+        members,
+        alloc,
+        "barycentrics",
+        floats(alloc, Layer::Vec(2))?,
+    )?;
     push(members, alloc, "front_face", Type::Bool)?;
-    push(members, alloc, "object_to_world", floats(alloc, Layer::Mat(4, 3))?)?;
-    push(members, alloc, "world_to_object", floats(alloc, Layer::Mat(4, 3))?)?;
+    push(
+        members,
+        alloc,
+        "object_to_world",
+        floats(alloc, Layer::Mat(4, 3))?,
+    )?;
+    push(
+        members,
+        alloc,
+        "world_to_object",
+        floats(alloc, Layer::Mat(4, 3))?,
+    )?;
     Ok(())
 }
 

@@ -21,28 +21,28 @@ where
         × (option_map (λ q. (T.shown q.0, T.shown q.1)) p ≡ option_and_then (both_to T.to T.to a.now b.now) c)) }
     ensures one_type { IfOk result (λ p. IfSome p (λ q. T.type_of q.0 ≡ T.type_of q.1)) }
 {
-    let first = a.ty(alloc)?;
-    let both = convert_beside(alloc, a, &first, b);
-    drop(first);
+    let a_type = a.ty(alloc)?;
+    let both = convert_with_type(alloc, a, &a_type, b);
+    drop(a_type);
     both
 }
 
-/// The same, of a value with its type and another value.
-fn convert_beside<T: Convert>(
+/// As `convert`, where the type of `a` is at hand.
+fn convert_with_type<T: Convert>(
     alloc: Global,
     a: &T,
-    first: &Type,
+    a_type: &Type,
     b: &T,
 ) -> Result<Option<(T, T)>, AllocError>
 where
     T: Drop,
-    ensures value { IfOk result (λ p. (c : Option WgslType) × IsCommon (view first.now) (T.type_of b.now) c
+    ensures value { IfOk result (λ p. (c : Option WgslType) × IsCommon (view a_type.now) (T.type_of b.now) c
         × (option_map (λ q. (T.shown q.0, T.shown q.1)) p ≡ option_and_then (both_to T.to T.to a.now b.now) c)) }
     ensures one_type { IfOk result (λ p. IfSome p (λ q. T.type_of q.0 ≡ T.type_of q.1)) }
 {
-    let second = b.ty(alloc)?;
-    let both = convert_both_to(alloc, a, b, convert_ty(first, &second));
-    drop(second);
+    let b_type = b.ty(alloc)?;
+    let both = convert_both_to(alloc, a, b, convert_ty(a_type, &b_type));
+    drop(b_type);
     both
 }
 
@@ -84,28 +84,28 @@ where
     ensures { IfOk result (λ p. (c : Option WgslType) × IsCommon (T.inner_type_of a.now) (U.inner_type_of b.now) c
         × (option_map (λ q. (T.shown q.0, U.shown q.1)) p ≡ option_and_then (both_to T.inner_to U.inner_to a.now b.now) c)) }
 {
-    let first = a.inner_ty(alloc)?;
-    let both = convert_inner_beside(alloc, a, &first, b);
-    drop(first);
+    let a_type = a.inner_ty(alloc)?;
+    let both = convert_inner_with_type(alloc, a, &a_type, b);
+    drop(a_type);
     both
 }
 
-/// The same, of a value with its inner type and another value.
-fn convert_inner_beside<T: Convert, U: Convert>(
+/// As `convert_inner`, where the inner type of `a` is at hand.
+fn convert_inner_with_type<T: Convert, U: Convert>(
     alloc: Global,
     a: &T,
-    first: &Type,
+    a_type: &Type,
     b: &U,
 ) -> Result<Option<(T, U)>, AllocError>
 where
     T: Drop,
     U: Drop,
-    ensures { IfOk result (λ p. (c : Option WgslType) × IsCommon (view first.now) (U.inner_type_of b.now) c
+    ensures { IfOk result (λ p. (c : Option WgslType) × IsCommon (view a_type.now) (U.inner_type_of b.now) c
         × (option_map (λ q. (T.shown q.0, U.shown q.1)) p ≡ option_and_then (both_to T.inner_to U.inner_to a.now b.now) c)) }
 {
-    let second = b.inner_ty(alloc)?;
-    let both = convert_both_inner_to(alloc, a, b, convert_ty(first, &second));
-    drop(second);
+    let b_type = b.inner_ty(alloc)?;
+    let both = convert_both_inner_to(alloc, a, b, convert_ty(a_type, &b_type));
+    drop(b_type);
     both
 }
 

@@ -2,10 +2,10 @@ use Rattle.std.proofs.Common.{◌≡◌, option_map}
 use Rattle.std.specs.Prelude.{option_and_then}
 use Rattle.wgsl_types.specs.Family.{both_to}
 use Rattle.wgsl_types.proofs.Pairs.{of_common}
-use Rattle.wgsl_types.proofs.conv.convert_inner_beside.Goals as goal
+use Rattle.wgsl_types.proofs.conv.convert_inner_with_type.Goals as goal
 
 pub returns : goal.returns
 returns g c =
     of_common c.convert_both_inner_to-both.result
     (λ p t. option_map (λ q. (g.T.Convert.shown q.0, g.U.Convert.shown q.1)) p ≡ option_and_then (both_to g.T.Convert.inner_to g.U.Convert.inner_to c.args.a.now c.args.b.now) t)
-    _ _ _ _ c.in_ok-second.ensures c.convert_ty.ensures.common c.convert_both_inner_to-both.ensures
+    _ _ _ _ c.in_ok-b_type.ensures c.convert_ty.ensures.common c.convert_both_inner_to-both.ensures
