@@ -123,6 +123,40 @@ fn strange_types_are_taken_apart(rt: HostRuntime) -> Result<(), Fail> {
     )
 }
 
+/// Strange types, and the scalars and results that take part in conversions, all different.
+const STRANGE: &str =
+    "AbstractInt AbstractFloat f32 f64 struct E 0 struct S 1 a - 0 f32 struct S 1 a 0 0 f32 \
+    struct S 1 a 4294967295 4294967295 AbstractInt struct __frexp_result_abstract 0 \
+    struct __modf_result_f16 2 fract - - f16 whole - - f16 array 0 f32 array * f32 array 4294967295 f32 \
+    array 4294967296 f32 array 4294967296 AbstractInt array 18446744073709551615 struct E 0 \
+    array 2 ref function read f32 array 2 f32 binding_array 2 f32 binding_array * f32 vec 0 f32 vec 0 AbstractInt \
+    vec 255 AbstractInt vec 255 struct E 0 mat 0 0 f32 mat 0 255 f32 mat 255 0 f32 atomic f32 atomic atomic f32 \
+    ref function read f32 ref function write f32 ref private read f32 ref function read ref function read f32 \
+    ptr function read f32 ptr handle atomic ptr function read f32 sampler sampler_comparison texture_2d f32 \
+    texture_2d i32 texture_storage_3d r64uint atomic ray_query - ray_query vertex_return \
+    acceleration_structure - acceleration_structure vertex_return";
+
+/// The first two types of which it is wrong whether they are equal: at one index and no others.
+fn wrongly_equal(alloc: Global, types: &[Type]) -> Result<String, AllocError> {
+    for (index, one) in types.iter().enumerate() {
+        for (other_index, other) in types.iter().enumerate() {
+            if (one == other) != (index == other_index) {
+                return format!(in alloc; "{one} and {other}");
+            }
+        }
+    }
+    Ok(String::new(alloc))
+}
+
+#[test]
+fn strange_types_equal_themselves_alone(rt: HostRuntime) -> Result<(), Fail> {
+    let strange = types(rt.alloc(), STRANGE)?;
+    let text = wrongly_equal(rt.alloc(), &strange);
+    drop(strange);
+    expect_text(&rt, "strange types", &text?, "");
+    Ok(())
+}
+
 /// How many layers stand around a scalar.
 const DEPTH: usize = 300;
 

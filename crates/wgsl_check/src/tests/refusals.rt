@@ -1,319 +1,490 @@
 // Literals, signatures and refusals as they are printed; types taken apart, copied and asked for their type.
-use super::worded::{one_type, template, types};
-use crate::command::message;
+use super::expect_answers;
+use super::worded::{expect_replies, expect_text, one_type, spelled, template, types};
+use crate::command::{message, value_or_refusal};
 use std::alloc::{AllocError, Global};
+use std::process::Abort;
 use std::test::Fail;
-use wgsl_types::error::Error;
+use wgsl_types::CallSignature;
+use wgsl_types::builtin::type_builtin_fn;
+use wgsl_types::error::{self, Error};
 use wgsl_types::inst::{Instance, LiteralInstance};
-use wgsl_types::syntax::{BinaryOperator, SampledType, UnaryOperator};
+use wgsl_types::syntax::{BinaryOperator, UnaryOperator};
 use wgsl_types::tplt::TpltParam;
-use wgsl_types::ty::{StructType, Ty, Type, try_from_type};
-use wgsl_types::{CallSignature, error};
+use wgsl_types::ty::{StructMemberType, StructType, Ty, Type, try_from_type};
 
-fn text(alloc: Global, text: &str) -> Result<String, AllocError> {
-    String::from_str(alloc, text)
+/// A literal as it is printed, alone and as a value, with its type and that of the value.
+fn literal_parts(alloc: Global, literal: LiteralInstance) -> Result<String, AllocError> {
+    let value = Instance::Literal(literal);
+    let ty = spelled(alloc, literal.ty(alloc)?)?;
+    let whole = spelled(alloc, value.ty(alloc)?)?;
+    let inner = spelled(alloc, value.inner_ty(alloc)?)?;
+    format!(in alloc; "{literal} {value} {ty} {whole} {inner}")
 }
 
-/// The call of `array` with such a template, none where it is empty, and such arguments.
-fn signature(alloc: Global, tplt: &str, args: &str) -> Result<CallSignature, Fail> {
-    let tplt = if tplt.is_empty() {
-        None
-    } else {
-        Some(template(alloc, tplt)?)
-    };
-    Ok(CallSignature {
-        name: text(alloc, "array")?,
-        tplt,
-        args: types(alloc, args)?,
-    })
+fn expect_literals(
+    rt: &(impl Abort + AllocGlobal),
+    rows: &[(LiteralInstance, &str)],
+) -> Result<(), AllocError> {
+    for (literal, wanted) in rows {
+        expect_text(rt, wanted, &literal_parts(rt.alloc(), *literal)?, wanted);
+    }
+    Ok(())
 }
 
 #[test]
-fn literals_are_printed_with_their_suffix(rt: HostRuntime) -> Result<(), Fail> {
-    let rows = [
-        (LiteralInstance::Bool(true), "true"),
-        (LiteralInstance::Bool(false), "false"),
-        (LiteralInstance::AbstractInt(-5), "-5"),
-        (
-            LiteralInstance::AbstractInt(-9223372036854775808),
-            "-9223372036854775808",
-        ),
-        (LiteralInstance::I32(-2147483648), "-2147483648i"),
-        (LiteralInstance::U32(4294967295), "4294967295u"),
-        (LiteralInstance::I64(-5), "-5li"),
-        (LiteralInstance::U64(5), "5lu"),
-    ];
-    for (literal, printed) in rows {
-        assert_eq!(rt; literal.to_string(rt.alloc())?.as_str(), printed);
-        assert_eq!(rt;
-            Instance::Literal(literal).to_string(rt.alloc())?.as_str(),
-            printed
-        );
-    }
+fn literals_have_their_suffix_and_their_type(rt: HostRuntime) -> Result<(), Fail> {
+    expect_literals(
+        &rt,
+        &[
+            (LiteralInstance::Bool(true), "true true bool bool bool"),
+            (LiteralInstance::Bool(false), "false false bool bool bool"),
+            (
+                LiteralInstance::AbstractInt(-5),
+                "-5 -5 AbstractInt AbstractInt AbstractInt",
+            ),
+            (
+                LiteralInstance::AbstractInt(-9223372036854775808),
+                "-9223372036854775808 -9223372036854775808 AbstractInt AbstractInt AbstractInt",
+            ),
+            (
+                LiteralInstance::I32(-2147483648),
+                "-2147483648i -2147483648i i32 i32 i32",
+            ),
+            (
+                LiteralInstance::U32(4294967295),
+                "4294967295u 4294967295u u32 u32 u32",
+            ),
+            (LiteralInstance::I64(-5), "-5li -5li i64 i64 i64"),
+            (LiteralInstance::U64(5), "5lu 5lu u64 u64 u64"),
+        ],
+    )?;
     Ok(())
 }
 
 #[test]
 fn signatures_are_printed_as_they_are_written(rt: HostRuntime) -> Result<(), Fail> {
-    for (tplt, args, printed) in [
-        ("< t f32 n 3 >", "", "array<f32, 3>()"),
-        ("< e read >", "i32 bool", "array<read>(i32, bool)"),
-        ("< >", "i32", "array<>(i32)"),
-        ("", "i32 bool", "array(i32, bool)"),
-    ] {
-        let call = signature(rt.alloc(), tplt, args)?;
-        assert_eq!(rt; call.to_string(rt.alloc())?.as_str(), printed);
-        assert!(rt; call.clone(rt.alloc())? == call);
-    }
-    Ok(())
-}
-
-/// A refusal equals its copy, which is printed so.
-pub fn expect_message(
-    rt: &(impl std::process::Abort + AllocGlobal),
-    error: Error,
-    message: &str,
-) -> Result<(), AllocError> {
-    let copy = error.clone(rt.alloc())?;
-    assert!(rt; copy == error);
-    assert_eq!(rt; copy.to_string(rt.alloc())?.as_str(), message);
-    Ok(())
-}
-
-#[test]
-fn refusals_of_types_print_their_messages(rt: HostRuntime) -> Result<(), Fail> {
-    let alloc = rt.alloc();
-    expect_message(&rt, Error::Todo(text(alloc, "x")?), "not implemented: `x`")?;
-    expect_message(
+    expect_answers(
         &rt,
-        Error::NotScalar(one_type(alloc, "vec 3 f32")?),
-        "expected a scalar type, got `vec3<f32>`",
-    )?;
-    expect_message(
-        &rt,
-        Error::NotConstructible(Type::F16),
-        "`f16` is not constructible",
-    )?;
-    expect_message(
-        &rt,
-        Error::SampledType(Type::F16),
-        "invalid sampled type, expected `i32`, `u32` or `f32`, got `f16`",
-    )?;
-    expect_message(
-        &rt,
-        Error::UnknownType(text(alloc, "vec5")?),
-        "unknown type `vec5`",
-    )?;
-    expect_message(
-        &rt,
-        Error::UnexpectedTemplate(text(alloc, "i32")?),
-        "type `i32` does not take any template arguments",
-    )?;
-    expect_message(
-        &rt,
-        Error::MissingTemplate("ptr"),
-        "missing template arguments for type `ptr`",
-    )?;
-    expect_message(
-        &rt,
-        Error::Conversion(Type::I32, Type::F32),
-        "cannot convert from `i32` to `f32`",
-    )?;
-    expect_message(
-        &rt,
-        Error::ConvOverflow(LiteralInstance::AbstractInt(-1), Type::U32),
-        "overflow while converting `-1` to `u32`",
-    )?;
-    expect_message(
-        &rt,
-        Error::Component(Type::F32, text(alloc, "xy")?),
-        "`f32` has no component `xy`",
-    )?;
-    expect_message(
-        &rt,
-        Error::NotIndexable(Type::Bool),
-        "`bool` cannot be indexed",
-    )?;
-    expect_message(
-        &rt,
-        Error::OutOfBounds(3, one_type(alloc, "vec 3 f32")?, 3),
-        "index `3` is out-of-bounds for `vec3<f32>` of `3` components",
+        &[
+            (
+                "call array < t f32 n 3 >",
+                "invalid function call signature: `array<f32, 3>()`",
+            ),
+            (
+                "call array < e read > i32 bool",
+                "invalid function call signature: `array<read>(i32, bool)`",
+            ),
+            (
+                "call array < > i32",
+                "invalid function call signature: `array<>(i32)`",
+            ),
+            (
+                "call array - i32 bool",
+                "invalid function call signature: `array(i32, bool)`",
+            ),
+            (
+                "call array < e function e write e rgba8unorm e vertex_return >",
+                "invalid function call signature: `array<function, write, rgba8unorm, vertex_return>()`",
+            ),
+        ],
     )?;
     Ok(())
 }
 
 #[test]
-fn refusals_of_memory_print_their_messages(rt: HostRuntime) -> Result<(), Fail> {
-    expect_message(
+fn no_function_has_the_empty_name(rt: HostRuntime) -> Result<(), Fail> {
+    let text = value_or_refusal(rt.alloc(), type_builtin_fn(rt.alloc(), "", None, &[]))?;
+    expect_text(
         &rt,
-        Error::WriteRefType(Type::I32, Type::U32),
-        "cannot write a `i32` to a reference to `u32`",
-    )?;
-    expect_message(
-        &rt,
-        Error::NotWrite,
-        "attempt to write to a read-only reference",
-    )?;
-    expect_message(
-        &rt,
-        Error::NotRead,
-        "attempt to read a write-only reference",
-    )?;
-    expect_message(&rt, Error::NotReadWrite, "reference is not read-write")?;
-    expect_message(
-        &rt,
-        Error::PtrHandle,
-        "cannot create a pointer in `handle` address space",
-    )?;
-    expect_message(
-        &rt,
-        Error::PtrVecComp,
-        "cannot create a pointer to a vector component",
-    )?;
-    Ok(())
-}
-
-#[test]
-fn refusals_of_operators_and_calls_print_their_messages(rt: HostRuntime) -> Result<(), Fail> {
-    let alloc = rt.alloc();
-    expect_message(
-        &rt,
-        Error::Unary(UnaryOperator::AddressOf, Type::I32),
-        "cannot use unary operator `&` on type `i32`",
-    )?;
-    expect_message(
-        &rt,
-        Error::Binary(BinaryOperator::ShortCircuitOr, Type::I32, Type::Bool),
-        "cannot use binary operator `||` with operands `i32` and `bool`",
-    )?;
-    expect_message(
-        &rt,
-        Error::CompwiseBinary(Type::I32, Type::U32),
-        "cannot apply component-wise binary operation on operands `i32` and `u32`",
-    )?;
-    expect_message(&rt, Error::AddOverflow, "attempt to add with overflow")?;
-    expect_message(&rt, Error::SubOverflow, "attempt to subtract with overflow")?;
-    expect_message(&rt, Error::MulOverflow, "attempt to multiply with overflow")?;
-    expect_message(&rt, Error::DivByZero, "attempt to divide by zero")?;
-    expect_message(
-        &rt,
-        Error::RemZeroDiv,
-        "attempt to calculate the remainder with a divisor of zero",
-    )?;
-    expect_message(
-        &rt,
-        Error::ShlOverflow(32, LiteralInstance::U32(1)),
-        "attempt to shift left by `32`, which would overflow `1u`",
-    )?;
-    expect_message(
-        &rt,
-        Error::ShrOverflow(64, LiteralInstance::I64(-1)),
-        "attempt to shift right by `64`, which would overflow `-1li`",
-    )?;
-    expect_message(
-        &rt,
-        Error::Signature(signature(alloc, "< t f32 n 3 >", "")?),
-        "invalid function call signature: `array<f32, 3>()`",
-    )?;
-    expect_message(&rt, Error::Builtin("no such texture"), "no such texture")?;
-    expect_message(
-        &rt,
-        Error::TemplateArgs("array"),
-        "invalid template arguments to `array`",
-    )?;
-    expect_message(
-        &rt,
-        Error::ParamCount(text(alloc, "vec4")?, 4, 130),
-        "incorrect number of arguments to `vec4`, expected `4`, got `130`",
-    )?;
-    expect_message(
-        &rt,
-        Error::ParamType(Type::F32, Type::Bool),
-        "invalid parameter type, expected `f32`, got `bool`",
-    )?;
-    let memory = error::Fail::Memory(AllocError);
-    assert_eq!(rt; memory.to_string(alloc)?.as_str(), "out of memory");
-    let refused = error::Fail::Error(Error::NotRead);
-    assert_eq!(rt;
-        refused.to_string(alloc)?.as_str(),
-        "attempt to read a write-only reference"
+        "the empty name",
+        &text,
+        "invalid function call signature: `()`",
     );
     Ok(())
 }
 
-#[test]
-fn the_inner_type_is_the_element_or_the_type_itself(rt: HostRuntime) -> Result<(), Fail> {
-    let alloc = rt.alloc();
-    for (words, inner) in [
-        ("array * vec 3 u32", "vec3<u32>"),
-        ("atomic i32", "i32"),
-        ("struct S 0", "S"),
-    ] {
-        let ty = one_type(alloc, words)?;
-        assert!(rt; ty.ty(alloc)? == ty);
-        assert_eq!(rt; ty.inner_ty(alloc)?.to_string(alloc)?.as_str(), inner);
+/// A copy of the refusal as it is printed.
+fn copied_message(alloc: Global, error: &Error) -> Result<String, AllocError> {
+    let copy = error.clone(alloc)?;
+    let text = copy.to_string(alloc);
+    drop(copy);
+    text
+}
+
+fn expect_messages(
+    rt: &(impl Abort + AllocGlobal),
+    rows: &[(Error, &str)],
+) -> Result<(), AllocError> {
+    for (error, wanted) in rows {
+        expect_text(rt, wanted, &copied_message(rt.alloc(), error)?, wanted);
     }
-    assert!(rt; LiteralInstance::U64(5).ty(alloc)? == Type::U64);
-    assert!(rt; Instance::Literal(LiteralInstance::Bool(true)).inner_ty(alloc)? == Type::Bool);
+    Ok(())
+}
+
+const OF_TYPES: [(Error, &str); 7] = [
+    (
+        Error::NotConstructible(Type::F16),
+        "`f16` is not constructible",
+    ),
+    (
+        Error::SampledType(Type::F16),
+        "invalid sampled type, expected `i32`, `u32` or `f32`, got `f16`",
+    ),
+    (
+        Error::MissingTemplate("ptr"),
+        "missing template arguments for type `ptr`",
+    ),
+    (
+        Error::Conversion(Type::I32, Type::F32),
+        "cannot convert from `i32` to `f32`",
+    ),
+    (
+        Error::ConvOverflow(LiteralInstance::AbstractInt(-1), Type::U32),
+        "overflow while converting `-1` to `u32`",
+    ),
+    (Error::NotIndexable(Type::Bool), "`bool` cannot be indexed"),
+    (
+        Error::ParamType(Type::F32, Type::Bool),
+        "invalid parameter type, expected `f32`, got `bool`",
+    ),
+];
+
+const OF_MEMORY: [(Error, &str); 6] = [
+    (
+        Error::WriteRefType(Type::I32, Type::U32),
+        "cannot write a `i32` to a reference to `u32`",
+    ),
+    (Error::NotWrite, "attempt to write to a read-only reference"),
+    (Error::NotRead, "attempt to read a write-only reference"),
+    (Error::NotReadWrite, "reference is not read-write"),
+    (
+        Error::PtrHandle,
+        "cannot create a pointer in `handle` address space",
+    ),
+    (
+        Error::PtrVecComp,
+        "cannot create a pointer to a vector component",
+    ),
+];
+
+const OF_OPERATORS_AND_CALLS: [(Error, &str); 12] = [
+    (
+        Error::Unary(UnaryOperator::AddressOf, Type::I32),
+        "cannot use unary operator `&` on type `i32`",
+    ),
+    (
+        Error::Binary(BinaryOperator::ShortCircuitOr, Type::I32, Type::Bool),
+        "cannot use binary operator `||` with operands `i32` and `bool`",
+    ),
+    (
+        Error::CompwiseBinary(Type::I32, Type::U32),
+        "cannot apply component-wise binary operation on operands `i32` and `u32`",
+    ),
+    (Error::AddOverflow, "attempt to add with overflow"),
+    (Error::SubOverflow, "attempt to subtract with overflow"),
+    (Error::MulOverflow, "attempt to multiply with overflow"),
+    (Error::DivByZero, "attempt to divide by zero"),
+    (
+        Error::RemZeroDiv,
+        "attempt to calculate the remainder with a divisor of zero",
+    ),
+    (
+        Error::ShlOverflow(32, LiteralInstance::U32(1)),
+        "attempt to shift left by `32`, which would overflow `1u`",
+    ),
+    (
+        Error::ShrOverflow(64, LiteralInstance::I64(-1)),
+        "attempt to shift right by `64`, which would overflow `-1li`",
+    ),
+    (Error::Builtin("no such texture"), "no such texture"),
+    (
+        Error::TemplateArgs("array"),
+        "invalid template arguments to `array`",
+    ),
+];
+
+#[test]
+fn refusals_print_their_messages(rt: HostRuntime) -> Result<(), Fail> {
+    expect_messages(&rt, &OF_TYPES)?;
+    expect_messages(&rt, &OF_MEMORY)?;
+    expect_messages(&rt, &OF_OPERATORS_AND_CALLS)?;
+    Ok(())
+}
+
+/// The call of `array` with `f32` and 3 as its template, and an `i32`.
+fn signature(alloc: Global) -> Result<CallSignature, Fail> {
+    let tplt = template(alloc, "< t f32 n 3 >")?;
+    let args = types(alloc, "i32")?;
+    let name = String::from_str(alloc, "array")?;
+    Ok(CallSignature {
+        name,
+        tplt: Some(tplt),
+        args,
+    })
+}
+
+/// The refusal of the kind that names something.
+fn naming(alloc: Global, kind: &str, name: &str) -> Result<Error, AllocError> {
+    let name = String::from_str(alloc, name)?;
+    Ok(match kind {
+        "Todo" => Error::Todo(name),
+        "UnknownType" => Error::UnknownType(name),
+        "UnexpectedTemplate" => Error::UnexpectedTemplate(name),
+        "Component" => Error::Component(Type::F32, name),
+        _ => Error::ParamCount(name, 4, 130),
+    })
+}
+
+/// The refusal of the kind with a name or the type in words.
+fn refusal(alloc: Global, kind: &str, words: &str) -> Result<Error, Fail> {
+    match kind {
+        "NotScalar" => Ok(Error::NotScalar(one_type(alloc, words)?)),
+        "OutOfBounds" => Ok(Error::OutOfBounds(3, one_type(alloc, words)?, 3)),
+        "Signature" => Ok(Error::Signature(signature(alloc)?)),
+        _ => Ok(naming(alloc, kind, words)?),
+    }
+}
+
+fn message_of(alloc: Global, kind: &str, words: &str) -> Result<String, Fail> {
+    let error = refusal(alloc, kind, words)?;
+    let text = copied_message(alloc, &error);
+    drop(error);
+    Ok(text?)
+}
+
+fn expect_messages_of(
+    rt: &(impl Abort + AllocGlobal),
+    rows: &[(&str, &str, &str)],
+) -> Result<(), Fail> {
+    for (kind, words, wanted) in rows {
+        expect_text(rt, kind, &message_of(rt.alloc(), kind, words)?, wanted);
+    }
     Ok(())
 }
 
 #[test]
-fn types_and_parameters_are_copied(rt: HostRuntime) -> Result<(), Fail> {
-    let alloc = rt.alloc();
-    for parameter in &template(
-        alloc,
-        "< t ptr storage read struct S 1 a - 16 f32 n 3 e read >",
-    )? {
-        assert!(rt; parameter.clone(alloc)? == *parameter);
-    }
-    let whole = one_type(alloc, "struct S 1 a - 16 vec 2 f32")?;
-    let Type::Struct(boxed) = &whole else {
-        return Err("no struct".into());
-    };
-    let layout = &**boxed;
-    assert!(rt; layout.clone(alloc)? == *layout);
-    assert!(rt; Type::from_struct(alloc, layout.clone(alloc)?)? == whole);
-    for member in &layout.members {
-        assert!(rt; member.clone(alloc)? == *member);
-    }
+fn refusals_with_names_and_types_print_their_messages(rt: HostRuntime) -> Result<(), Fail> {
+    expect_messages_of(
+        &rt,
+        &[
+            ("Todo", "x", "not implemented: `x`"),
+            ("UnknownType", "vec5", "unknown type `vec5`"),
+            (
+                "UnexpectedTemplate",
+                "i32",
+                "type `i32` does not take any template arguments",
+            ),
+            ("Component", "xy", "`f32` has no component `xy`"),
+            (
+                "ParamCount",
+                "vec4",
+                "incorrect number of arguments to `vec4`, expected `4`, got `130`",
+            ),
+            (
+                "NotScalar",
+                "vec 3 f32",
+                "expected a scalar type, got `vec3<f32>`",
+            ),
+            (
+                "OutOfBounds",
+                "vec 3 f32",
+                "index `3` is out-of-bounds for `vec3<f32>` of `3` components",
+            ),
+            (
+                "Signature",
+                "",
+                "invalid function call signature: `array<f32, 3>(i32)`",
+            ),
+        ],
+    )
+}
+
+const OUT_OF_MEMORY: error::Fail = error::Fail::Memory(AllocError);
+
+const REFUSED: error::Fail = error::Fail::Error(Error::NotRead);
+
+#[test]
+fn failures_print_out_of_memory_or_their_refusal(rt: HostRuntime) -> Result<(), Fail> {
+    let text = (&OUT_OF_MEMORY).to_string(rt.alloc())?;
+    expect_text(&rt, "Memory", &text, "out of memory");
+    let text = (&REFUSED).to_string(rt.alloc())?;
+    expect_text(
+        &rt,
+        "Error",
+        &text,
+        "attempt to read a write-only reference",
+    );
     Ok(())
+}
+
+const CONVERSIONS: [Error; 3] = [
+    Error::Conversion(Type::I32, Type::F32),
+    Error::Conversion(Type::F32, Type::I32),
+    Error::CompwiseBinary(Type::I32, Type::F32),
+];
+
+#[test]
+fn refusals_differ_if_they_say_different_things(rt: HostRuntime) {
+    let [one, other_way, other_kind] = &CONVERSIONS;
+    assert!(rt; one == one);
+    assert!(rt; one != other_way);
+    assert!(rt; one != other_kind);
+}
+
+#[test]
+fn the_inner_type_is_the_element_or_the_type_itself(rt: HostRuntime) -> Result<(), Fail> {
+    expect_replies(
+        &rt,
+        "inner_ty",
+        &[
+            ("array * vec 3 u32", "vec3<u32>"),
+            ("atomic i32", "i32"),
+            ("struct S 0", "S"),
+        ],
+    )?;
+    expect_replies(
+        &rt,
+        "ty",
+        &[
+            ("array * vec 3 u32", "array<vec3<u32>>"),
+            ("atomic i32", "atomic<i32>"),
+            ("struct S 0", "S"),
+        ],
+    )
+}
+
+fn is_signature_copied(alloc: Global, call: &CallSignature) -> Result<bool, AllocError> {
+    let copy = call.clone(alloc)?;
+    let is_same = copy == *call;
+    drop(copy);
+    Ok(is_same)
+}
+
+fn is_parameter_copied(alloc: Global, parameter: &TpltParam) -> Result<bool, AllocError> {
+    let copy = parameter.clone(alloc)?;
+    let is_same = copy == *parameter;
+    drop(copy);
+    Ok(is_same)
+}
+
+/// Whether the call and the first two of its parameters are copied.
+fn is_call_copied(alloc: Global, call: &CallSignature) -> Result<bool, AllocError> {
+    let Some(tplt) = &call.tplt else {
+        return Ok(false);
+    };
+    let [ty, count] = tplt.as_slice() else {
+        return Ok(false);
+    };
+    Ok(
+        is_signature_copied(alloc, call)?
+            && is_parameter_copied(alloc, ty)?
+            && is_parameter_copied(alloc, count)?,
+    )
+}
+
+#[test]
+fn signatures_and_parameters_are_copied(rt: HostRuntime) -> Result<(), Fail> {
+    let call = signature(rt.alloc())?;
+    let is_copied = is_call_copied(rt.alloc(), &call);
+    drop(call);
+    assert!(rt; is_copied?);
+    Ok(())
+}
+
+fn is_struct_copied(alloc: Global, of: &StructType) -> Result<bool, AllocError> {
+    let copy = of.clone(alloc)?;
+    let is_same = copy == *of;
+    drop(copy);
+    Ok(is_same)
+}
+
+fn is_member_copied(alloc: Global, member: &StructMemberType) -> Result<bool, AllocError> {
+    let copy = member.clone(alloc)?;
+    let is_same = copy == *member;
+    drop(copy);
+    Ok(is_same)
+}
+
+/// Whether the type is made again of a copy of the struct.
+fn is_made_again(alloc: Global, ty: &Type, of: &StructType) -> Result<bool, AllocError> {
+    let whole = Type::from_struct(alloc, of.clone(alloc)?)?;
+    let is_same = whole == *ty;
+    drop(whole);
+    Ok(is_same)
+}
+
+/// Whether a struct and its only member are copied, and the type is made again.
+fn is_type_copied(alloc: Global, ty: &Type) -> Result<bool, AllocError> {
+    let Type::Struct(boxed) = ty else {
+        return Ok(false);
+    };
+    let of = &**boxed;
+    let [member] = of.members.as_slice() else {
+        return Ok(false);
+    };
+    Ok(
+        is_struct_copied(alloc, of)?
+            && is_member_copied(alloc, member)?
+            && is_made_again(alloc, ty, of)?,
+    )
+}
+
+#[test]
+fn structs_and_members_are_copied(rt: HostRuntime) -> Result<(), Fail> {
+    let ty = one_type(rt.alloc(), "struct S 1 a - 16 vec 2 f32")?;
+    let is_copied = is_type_copied(rt.alloc(), &ty);
+    drop(ty);
+    assert!(rt; is_copied?);
+    Ok(())
+}
+
+fn unwrapped_atomic(alloc: Global) -> Result<String, Fail> {
+    let inner = Type::Atomic(Box::new(alloc, Type::I32)?).unwrap_atomic();
+    let text = inner.to_string(alloc);
+    drop(inner);
+    Ok(text?)
+}
+
+fn unwrapped_vector(alloc: Global) -> Result<String, Fail> {
+    let (components, inner) = Type::Vec(3, Box::new(alloc, Type::F16)?).unwrap_vec();
+    let text = format!(in alloc; "{components} {inner}");
+    drop(inner);
+    Ok(text?)
+}
+
+fn unwrapped_struct(alloc: Global) -> Result<String, Fail> {
+    let name = String::from_str(alloc, "S")?;
+    let empty = StructType {
+        name,
+        members: Vec::new(alloc),
+    };
+    let inner = Type::Struct(Box::new(alloc, empty)?).unwrap_struct();
+    let text = String::from_str(alloc, &inner.name);
+    drop(inner);
+    Ok(text?)
 }
 
 #[test]
 fn types_are_taken_apart(rt: HostRuntime) -> Result<(), Fail> {
-    let alloc = rt.alloc();
-    let inner = Box::new(alloc, Type::I32)?;
-    assert!(rt; *Type::Atomic(inner).unwrap_atomic() == Type::I32);
-    let inner = Box::new(alloc, Type::F16)?;
-    let (components, element) = Type::Vec(3, inner).unwrap_vec();
-    assert_eq!(rt; components, 3);
-    assert!(rt; *element == Type::F16);
-    let layout = StructType {
-        name: text(alloc, "S")?,
-        members: Vec::new(alloc),
-    };
-    let whole = Type::Struct(Box::new(alloc, layout)?);
-    assert_eq!(rt; whole.unwrap_struct().name.as_str(), "S");
+    expect_text(&rt, "atomic", &unwrapped_atomic(rt.alloc())?, "i32");
+    expect_text(&rt, "vec", &unwrapped_vector(rt.alloc())?, "3 f16");
+    expect_text(&rt, "struct", &unwrapped_struct(rt.alloc())?, "S");
     Ok(())
 }
 
 /// What a texture of the type is sampled as, or the message of the refusal.
-pub fn sampled(alloc: Global, ty: &Type) -> Result<String, AllocError> {
+fn sampled(alloc: Global, ty: &Type) -> Result<String, AllocError> {
     match try_from_type(alloc, ty) {
-        Ok(sampled) => sampled.to_string(alloc),
+        Ok(sampled) => spelled(alloc, Type::from(sampled)),
         Err(refused) => message(alloc, refused),
     }
 }
 
 #[test]
 fn three_types_are_sampled(rt: HostRuntime) -> Result<(), Fail> {
-    let alloc = rt.alloc();
-    assert_eq!(rt; sampled(alloc, &Type::U32)?.as_str(), "u32");
-    assert_eq!(rt;
-        sampled(alloc, &Type::F16)?.as_str(),
-        "invalid sampled type, expected `i32`, `u32` or `f32`, got `f16`"
-    );
-    assert!(rt; Type::from(SampledType::F32) == Type::F32);
+    expect_text(&rt, "u32", &sampled(rt.alloc(), &Type::U32)?, "u32");
+    let refused = "invalid sampled type, expected `i32`, `u32` or `f32`, got `f16`";
+    expect_text(&rt, "f16", &sampled(rt.alloc(), &Type::F16)?, refused);
     Ok(())
 }
