@@ -122,7 +122,8 @@ fn expect_messages(
     Ok(())
 }
 
-const OF_TYPES: [(Error, &str); 7] = [
+/// The refusals that hold neither a name nor a type with parts, with their messages.
+const MESSAGES: [(Error, &str); 25] = [
     (
         Error::NotConstructible(Type::F16),
         "`f16` is not constructible",
@@ -148,9 +149,6 @@ const OF_TYPES: [(Error, &str); 7] = [
         Error::ParamType(Type::F32, Type::Bool),
         "invalid parameter type, expected `f32`, got `bool`",
     ),
-];
-
-const OF_MEMORY: [(Error, &str); 6] = [
     (
         Error::WriteRefType(Type::I32, Type::U32),
         "cannot write a `i32` to a reference to `u32`",
@@ -166,9 +164,6 @@ const OF_MEMORY: [(Error, &str); 6] = [
         Error::PtrVecComp,
         "cannot create a pointer to a vector component",
     ),
-];
-
-const OF_OPERATORS_AND_CALLS: [(Error, &str); 12] = [
     (
         Error::Unary(UnaryOperator::AddressOf, Type::I32),
         "cannot use unary operator `&` on type `i32`",
@@ -206,9 +201,7 @@ const OF_OPERATORS_AND_CALLS: [(Error, &str); 12] = [
 
 #[test]
 fn refusals_print_their_messages(rt: HostRuntime) -> Result<(), Fail> {
-    expect_messages(&rt, &OF_TYPES)?;
-    expect_messages(&rt, &OF_MEMORY)?;
-    expect_messages(&rt, &OF_OPERATORS_AND_CALLS)?;
+    expect_messages(&rt, &MESSAGES)?;
     Ok(())
 }
 
@@ -306,9 +299,9 @@ const REFUSED: error::Fail = error::Fail::Error(Error::NotRead);
 
 #[test]
 fn failures_print_out_of_memory_or_their_refusal(rt: HostRuntime) -> Result<(), Fail> {
-    let text = (&OUT_OF_MEMORY).to_string(rt.alloc())?;
+    let text = OUT_OF_MEMORY.to_string(rt.alloc())?;
     expect_text(&rt, "Memory", &text, "out of memory");
-    let text = (&REFUSED).to_string(rt.alloc())?;
+    let text = REFUSED.to_string(rt.alloc())?;
     expect_text(
         &rt,
         "Error",

@@ -137,30 +137,39 @@ fn kinds_of(alloc: Global, words: &str) -> Result<String, Fail> {
     Ok(text?)
 }
 
-/// The predicates that hold, each with a space before it.
+/// The predicates that hold of a type, each with a space before it.
 fn kinds(alloc: Global, ty: &Type) -> Result<String, AllocError> {
+    names_of_true(
+        alloc,
+        &[
+            (ty.is_scalar(), " scalar"),
+            (ty.is_numeric(), " numeric"),
+            (ty.is_integer(), " integer"),
+            (ty.is_float(), " float"),
+            (ty.is_abstract(), " abstract"),
+            (ty.is_concrete(), " concrete"),
+            (ty.is_storable(), " storable"),
+            (ty.is_array(), " array"),
+            (ty.is_vec(), " vec"),
+            (ty.is_mat(), " mat"),
+            (ty.is_bool(), " bool"),
+            (ty.is_i32(), " i32"),
+            (ty.is_u32(), " u32"),
+            (ty.is_f32(), " f32"),
+            (ty.is_i64(), " i64"),
+            (ty.is_u64(), " u64"),
+            (ty.is_f64(), " f64"),
+            (ty.is_abstract_int(), " abstract_int"),
+        ],
+    )
+}
+
+fn names_of_true(alloc: Global, all: &[(bool, &str)]) -> Result<String, AllocError> {
     let mut text = String::new(alloc);
-    for (holds, name) in [
-        (ty.is_scalar(), " scalar"),
-        (ty.is_numeric(), " numeric"),
-        (ty.is_integer(), " integer"),
-        (ty.is_float(), " float"),
-        (ty.is_abstract(), " abstract"),
-        (ty.is_concrete(), " concrete"),
-        (ty.is_storable(), " storable"),
-        (ty.is_array(), " array"),
-        (ty.is_vec(), " vec"),
-        (ty.is_mat(), " mat"),
-        (ty.is_bool(), " bool"),
-        (ty.is_i32(), " i32"),
-        (ty.is_u32(), " u32"),
-        (ty.is_f32(), " f32"),
-        (ty.is_i64(), " i64"),
-        (ty.is_u64(), " u64"),
-        (ty.is_f64(), " f64"),
-        (ty.is_abstract_int(), " abstract_int"),
-    ] {
-        text.push_str(if holds { name } else { "" })?;
+    for (holds, name) in all {
+        if *holds {
+            text.push_str(name)?;
+        }
     }
     Ok(text)
 }
