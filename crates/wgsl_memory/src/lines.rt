@@ -1,89 +1,124 @@
-// A call on arguments that are made for it, and the line that says how it went.
+// The lines of the program, each of a call's name and what it answered.
 use std::alloc::{AllocError, Global};
+use std::fmt::Write as _;
 use std::io::Write;
 use std::{fmt, io};
-use wgsl_types::Fail;
+use wgsl_types::builtin::Candidate;
 
-/// What the calls are handed, and where the lines go.
+/// The allocator that the calls are handed, and where the lines go. Printing doesn't allocate.
 #[derive(Drop)]
 pub struct Lines<W> {
     pub alloc: Global,
     pub output: W,
 }
 
-/// Why a call gives nothing. A closure's bound can't name `Fail`, since the borrow checker doesn't cover one whose result holds
-/// a reference, here a `&'static str`.
-pub trait Refusal: fmt::Display + Drop {
-    fn is_want_of_memory(&self) -> bool;
-}
-
-impl Refusal for Fail {
-    fn is_want_of_memory(&self) -> bool {
-        matches!(self, Fail::Memory(_))
-    }
-}
-
-/// What a call answers that may refuse.
-pub fn answered<T>(value: T) -> Result<T, Fail> {
-    Ok(value)
-}
-
-/// Whether a call wanted memory.
-fn wanted_memory<T, E: Refusal>(answer: &Result<T, E>) -> bool {
-    match answer {
-        Ok(_) => false,
-        Err(refusal) => refusal.is_want_of_memory(),
-    }
-}
-
 impl<W: Write> Lines<W> {
-    /// Makes a call, and prints how it went. It is made a second time where it wanted memory, and not at all where there is
-    /// none for its arguments. A line more says if an argument isn't what it was. Printing takes no memory.
-    pub fn call<N, A, T, E, M, C>(&mut self, name: N, make: M, call: C) -> io::Result<()>
+    /// A call that answers a value.
+    pub fn value<N, T, E>(&mut self, name: N, answer: Result<T, E>) -> io::Result<()>
     where
         N: fmt::Display + Drop,
-        A: PartialEq + Drop,
         T: fmt::Display + Drop,
-        E: Refusal,
-        M: Fn(Global) -> Result<A, AllocError> + Drop,
-        C: Fn(Global, &A) -> Result<T, E> + Drop,
-        requires make { M.IsAlwaysCallable make }
-        requires call { C.IsAlwaysCallable call }
+        E: fmt::Display + Drop,
     {
-        let Ok((arguments, copies)) = make_twice(self.alloc, make) else {
-            return writeln!(self.output, "{name}: not tried");
-        };
-        write!(self.output, "{name}: ")?;
-        let first = call(self.alloc, &arguments);
-        if wanted_memory(&first) {
-            write!(self.output, "want of memory, then ")?;
-            self.print(call(self.alloc, &arguments))?;
-        } else {
-            self.print(first)?;
+        match answer {
+            Ok(value) => writeln!(self.output, "{name}: {value}"),
+            Err(refusal) => writeln!(self.output, "{name}: {refusal}"),
         }
-        if arguments != copies {
-            writeln!(self.output, "{name}: changed")?;
+    }
+
+    /// A call that answers a value or `None`.
+    pub fn option<N, T, E>(&mut self, name: N, answer: Result<Option<T>, E>) -> io::Result<()>
+    where
+        N: fmt::Display + Drop,
+        T: fmt::Display + Drop,
+        E: fmt::Display + Drop,
+    {
+        match answer {
+            Ok(Some(value)) => writeln!(self.output, "{name}: {value}"),
+            Ok(None) => writeln!(self.output, "{name}: none"),
+            Err(refusal) => writeln!(self.output, "{name}: {refusal}"),
+        }
+    }
+
+    /// A call that answers two values or `None`.
+    pub fn pair<T, E>(&mut self, name: &str, answer: Result<Option<(T, T)>, E>) -> io::Result<()>
+    where
+        T: fmt::Display + Drop,
+        E: fmt::Display + Drop,
+    {
+        match answer {
+            Ok(Some((first, second))) => writeln!(self.output, "{name}: {first} {second}"),
+            Ok(None) => writeln!(self.output, "{name}: none"),
+            Err(refusal) => writeln!(self.output, "{name}: {refusal}"),
+        }
+    }
+
+    /// A call that answers a list of values or `None`.
+    pub fn list<T, E>(&mut self, name: &str, answer: Result<Option<Vec<T>>, E>) -> io::Result<()>
+    where
+        T: fmt::Display + Drop,
+        E: fmt::Display + Drop,
+    {
+        match answer {
+            Ok(Some(values)) => writeln!(self.output, "{name}:{}", Spaced(&values)),
+            Ok(None) => writeln!(self.output, "{name}: none"),
+            Err(refusal) => writeln!(self.output, "{name}: {refusal}"),
+        }
+    }
+
+    /// A call that answers the candidate of an operator.
+    pub fn candidate<N, E>(&mut self, name: N, answer: Result<Candidate, E>) -> io::Result<()>
+    where
+        N: fmt::Display + Drop,
+        E: fmt::Display + Drop,
+    {
+        match answer {
+            Ok(candidate) => {
+                let Candidate { lhs, rhs, result } = &candidate;
+                let written = writeln!(self.output, "{name}: ({lhs}, {rhs}) {result}");
+                drop(candidate);
+                written
+            }
+            Err(refusal) => writeln!(self.output, "{name}: {refusal}"),
+        }
+    }
+
+    /// A call that checks its arguments.
+    pub fn check<E>(&mut self, name: &str, answer: Result<(), E>) -> io::Result<()>
+    where
+        E: fmt::Display + Drop,
+    {
+        match answer {
+            Ok(()) => writeln!(self.output, "{name}: passes"),
+            Err(refusal) => writeln!(self.output, "{name}: {refusal}"),
+        }
+    }
+
+    /// A call that copies a value.
+    pub fn copy<T, E>(&mut self, name: &str, original: &T, answer: Result<T, E>) -> io::Result<()>
+    where
+        T: PartialEq + Drop,
+        E: fmt::Display + Drop,
+    {
+        match answer {
+            Ok(copy) => {
+                let state = if copy == *original { "equal" } else { "different" };
+                writeln!(self.output, "{name}: {state}")
+            }
+            Err(refusal) => writeln!(self.output, "{name}: {refusal}"),
+        }
+    }
+}
+
+/// Values, with a space before each.
+#[derive(Drop)]
+struct Spaced<'a, T>(&'a Vec<T>);
+
+impl<'a, T: fmt::Display> fmt::Display for Spaced<'a, T> {
+    fn fmt<W: fmt::Write>(&self, f: &mut fmt::Formatter<W>) -> fmt::Result {
+        for value in self.0 {
+            write!(f, " {value}")?;
         }
         Ok(())
     }
-
-    fn print<T: fmt::Display + Drop, E: Refusal>(
-        &mut self,
-        answer: Result<T, E>,
-    ) -> io::Result<()> {
-        match answer {
-            Ok(value) => writeln!(self.output, "{value}"),
-            Err(refusal) => writeln!(self.output, "{refusal}"),
-        }
-    }
-}
-
-fn make_twice<A, M>(alloc: Global, make: M) -> Result<(A, A), AllocError>
-where
-    A: Drop,
-    M: Fn(Global) -> Result<A, AllocError> + Drop,
-    requires { M.IsAlwaysCallable make }
-{
-    let arguments = make(alloc)?;
-    Ok((arguments, make(alloc)?))
 }

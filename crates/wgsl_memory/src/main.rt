@@ -1,36 +1,70 @@
-// The program: it makes each call that is handed an allocator, and prints how it went. Run with one request for memory
-// refused, it shows what the call in which it falls then answers, and that it answers as ever when it is made again.
+// The program: it makes each public call that is handed an allocator twice, on the same arguments, and prints what it
+// answered. Run with a request for memory refused, it shows that the call in which that falls reports out of memory, and that
+// all others answer as before, the same call made again among them.
 #![tactic(auto)]
 
+mod arguments;
 mod calls;
 mod lines;
-mod make;
 mod never;
 mod operators;
-mod shown;
 mod templates;
 mod types;
 
+use arguments::{Arguments, both, make_arguments};
 use lines::Lines;
+use std::alloc::AllocError;
 use std::io;
 use std::io::Write;
 use std::process::ExitCode;
+
+/// The exit status if there is no memory for the arguments.
+const NO_ARGUMENTS: u8 = 3;
 
 fn main(rt: HostRuntime) -> ExitCode {
     let mut lines = Lines {
         alloc: rt.alloc(),
         output: rt.stdout(),
     };
-    match print_all(&mut lines) {
-        Ok(()) => ExitCode::SUCCESS,
-        Err(_) => ExitCode::FAILURE,
+    let made = both(make_arguments(lines.alloc), make_arguments(lines.alloc));
+    let status = print_all(&mut lines, &made);
+    drop(made);
+    status
+}
+
+/// Prints each call twice, if there are arguments, and gives the exit status. The second arguments are as the first were made.
+fn print_all<W: Write>(
+    lines: &mut Lines<W>,
+    made: &Result<(Arguments, Arguments), AllocError>,
+) -> ExitCode {
+    match made {
+        Ok((arguments, as_made)) => match print_twice(lines, arguments, as_made) {
+            Ok(()) => ExitCode::SUCCESS,
+            Err(_) => ExitCode::FAILURE,
+        },
+        Err(_) => ExitCode::from(NO_ARGUMENTS),
     }
 }
 
-fn print_all<W: Write>(lines: &mut Lines<W>) -> io::Result<()> {
-    types::print_types(lines)?;
-    operators::print_operators(lines)?;
-    templates::print_templates(lines)?;
-    calls::print_calls(lines)?;
-    never::print_never(lines)
+fn print_twice<W: Write>(
+    lines: &mut Lines<W>,
+    arguments: &Arguments,
+    as_made: &Arguments,
+) -> io::Result<()> {
+    print_calls(lines, arguments, as_made)?;
+    print_calls(lines, arguments, as_made)
+}
+
+fn print_calls<W: Write>(
+    lines: &mut Lines<W>,
+    arguments: &Arguments,
+    as_made: &Arguments,
+) -> io::Result<()> {
+    types::print_types(lines, arguments)?;
+    operators::print_operators(lines, &arguments.types)?;
+    templates::print_templates(lines, &arguments.templates)?;
+    calls::print_calls(lines, arguments)?;
+    never::print_never(lines, arguments)?;
+    let state = if arguments == as_made { "unchanged" } else { "changed" };
+    writeln!(lines.output, "never arguments: {state}")
 }

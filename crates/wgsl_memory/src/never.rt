@@ -1,11 +1,9 @@
-// Calls that never want memory: their lines begin with the word `never`.
-use crate::lines::{Lines, answered};
-use crate::make::{
-    empty_structure, list, literal, reference, structure_and_arguments, vector, vectors,
-};
+// Calls that are never out of memory. Their lines begin with the word `never`.
+use crate::arguments::{Arguments, Structs, Types};
+use crate::lines::Lines;
 use crate::operators::{BINARY, UNARY};
-use crate::shown::{Chosen, Done, Equal, Listed, Maybe};
-use std::alloc::{AllocError, Global};
+use crate::templates::{atomic_inner, texture_channel};
+use std::alloc::AllocError;
 use std::io;
 use std::io::Write;
 use wgsl_types::Type;
@@ -14,186 +12,144 @@ use wgsl_types::builtin::{
 };
 use wgsl_types::conv::{Convert, convert_all_ty, convert_ty};
 use wgsl_types::error::Error;
-use wgsl_types::syntax::{AddressSpace, BinaryOperator, UnaryOperator};
-use wgsl_types::tplt::{AtomicTemplate, TextureTemplate, TpltParam};
+use wgsl_types::inst::{Instance, LiteralInstance};
+use wgsl_types::syntax::{BinaryOperator, UnaryOperator};
+use wgsl_types::tplt::TpltParam;
 use wgsl_types::ty::{Ty, try_from_type};
 
-pub fn print_never<W: Write>(lines: &mut Lines<W>) -> io::Result<()> {
+const UNARY_OPERANDS: [Type; 3] = [Type::Bool, Type::I32, Type::F32];
+
+const BINARY_OPERANDS: [(Type, Type); 3] = [
+    (Type::Bool, Type::Bool),
+    (Type::AbstractInt, Type::I32),
+    (Type::I32, Type::U32),
+];
+
+const SCALAR: Type = Type::AbstractFloat;
+
+/// `5lu`
+const LITERAL: Instance = Instance::Literal(LiteralInstance::U64(5));
+
+/// `<u32>`
+const OF_SCALAR: [TpltParam; 1] = [TpltParam::Ty(Type::U32)];
+
+const REFUSAL: Error = Error::Conversion(Type::I32, Type::F32);
+
+const NUMBERS: [Type; 3] = [Type::AbstractInt, Type::AbstractFloat, Type::F32];
+
+pub fn print_never<W: Write>(lines: &mut Lines<W>, arguments: &Arguments) -> io::Result<()> {
     for operator in UNARY {
-        for operand in [Type::Bool, Type::I32, Type::F32] {
+        for operand in &UNARY_OPERANDS {
             print_unary(lines, operator, operand)?;
         }
     }
     for operator in BINARY {
-        print_binary(lines, operator, Type::Bool, Type::Bool)?;
-        print_binary(lines, operator, Type::AbstractInt, Type::I32)?;
-        print_binary(lines, operator, Type::I32, Type::U32)?;
+        for (lhs, rhs) in &BINARY_OPERANDS {
+            print_binary(lines, operator, lhs, rhs)?;
+        }
     }
-    print_types(lines)?;
-    print_conversions(lines)?;
-    print_templates(lines)?;
-    print_calls(lines)?;
-    print_structs(lines)
+    print_scalars(lines)?;
+    print_literals_and_templates(lines)?;
+    print_vectors(lines, &arguments.types)?;
+    print_scalar_calls(lines)?;
+    print_vector_calls(lines, arguments)?;
+    print_structs(lines, &arguments.structs, &arguments.types.vectors)
 }
 
 fn print_unary<W: Write>(
     lines: &mut Lines<W>,
     operator: UnaryOperator,
-    operand: Type,
+    operand: &Type,
 ) -> io::Result<()> {
-    lines.call(
+    lines.value(
         format_args!("never type_unary_op {operator} {operand}"),
-        |alloc| operand.clone(alloc),
-        |alloc, operand| type_unary_op(alloc, operator, operand),
+        type_unary_op(lines.alloc, operator, operand),
     )
 }
 
 fn print_binary<W: Write>(
     lines: &mut Lines<W>,
     operator: BinaryOperator,
-    lhs: Type,
-    rhs: Type,
+    lhs: &Type,
+    rhs: &Type,
 ) -> io::Result<()> {
-    let make = |alloc| Ok((lhs.clone(alloc)?, rhs.clone(alloc)?));
-    lines.call(
+    lines.value(
         format_args!("never type_binary_op {lhs} {operator} {rhs}"),
-        make,
-        |alloc, (lhs, rhs)| type_binary_op(alloc, operator, lhs, rhs),
+        type_binary_op(lines.alloc, operator, lhs, rhs),
     )?;
-    lines.call(
+    lines.candidate(
         format_args!("never binary_candidate {lhs} {operator} {rhs}"),
-        make,
-        |alloc, (lhs, rhs)| answered(Chosen(binary_candidate(alloc, operator, lhs, rhs)?)),
+        binary_candidate(lines.alloc, operator, lhs, rhs),
     )
 }
 
-fn print_types<W: Write>(lines: &mut Lines<W>) -> io::Result<()> {
-    let scalar = |_alloc| Ok(Type::AbstractFloat);
-    lines.call(
-        "never Type::clone",
-        scalar,
-        |alloc, ty| answered(ty.clone(alloc)?),
-    )?;
-    lines.call("never concretize", scalar, |alloc, ty| {
-        answered(Type::concretize(ty, alloc)?)
-    })?;
-    lines.call(
-        "never try_from_type",
-        scalar,
-        |alloc, ty| try_from_type(alloc, ty),
-    )?;
-    lines.call(
-        "never ty",
-        literal,
-        |alloc, literal| answered(literal.ty(alloc)?),
-    )?;
-    lines.call("never inner_ty", literal, |alloc, literal| {
-        answered(literal.inner_ty(alloc)?)
-    })?;
-    let parameter = |_alloc| Ok(TpltParam::Ty(Type::F32));
-    lines.call("never TpltParam::clone", parameter, |alloc, parameter| {
-        answered(parameter.clone(alloc)?)
-    })?;
-    let refusal = |_alloc| Ok(Error::Conversion(Type::I32, Type::F32));
-    lines.call("never Error::clone", refusal, |alloc, error| {
-        answered(error.clone(alloc)?)
-    })?;
-    let in_handle = |alloc| reference(alloc, AddressSpace::Handle);
-    lines.call(
+fn print_scalars<W: Write>(lines: &mut Lines<W>) -> io::Result<()> {
+    let alloc = lines.alloc;
+    lines.value("never Type::clone", SCALAR.clone(alloc))?;
+    lines.value("never concretize", Type::concretize(&SCALAR, alloc))?;
+    lines.value("never try_from_type", try_from_type(alloc, &SCALAR))?;
+    lines.value("never Error::clone", REFUSAL.clone(alloc))?;
+    lines.option("never convert_all_ty", Ok::<_, AllocError>(convert_all_ty(&NUMBERS)))
+}
+
+fn print_literals_and_templates<W: Write>(lines: &mut Lines<W>) -> io::Result<()> {
+    let alloc = lines.alloc;
+    let [parameter] = &OF_SCALAR;
+    lines.value("never ty", LITERAL.ty(alloc))?;
+    lines.value("never inner_ty", LITERAL.inner_ty(alloc))?;
+    lines.value("never TpltParam::clone", parameter.clone(alloc))?;
+    lines.value("never AtomicTemplate::inner_ty", atomic_inner(alloc, &OF_SCALAR))?;
+    lines.value("never TextureTemplate::parse", texture_channel(alloc, &OF_SCALAR))
+}
+
+fn print_vectors<W: Write>(lines: &mut Lines<W>, types: &Types) -> io::Result<()> {
+    let alloc = lines.alloc;
+    let [first, second] = &types.vectors;
+    lines.option("never convert_to, to what it doesn't", second.convert_to(alloc, first))?;
+    lines.option("never convert_ty", Ok::<_, AllocError>(convert_ty(first, second)))?;
+    lines.value(
         "never type_unary_op & in handle",
-        in_handle,
-        |alloc, operand| { type_unary_op(alloc, UnaryOperator::AddressOf, operand) },
+        type_unary_op(alloc, UnaryOperator::AddressOf, &types.in_handle),
     )
 }
 
-fn print_conversions<W: Write>(lines: &mut Lines<W>) -> io::Result<()> {
-    let unlike = |alloc| vectors(alloc, Type::I32, Type::F32);
-    lines.call(
-        "never convert_to, to what it doesn't",
-        unlike,
-        |alloc, (from, to)| { answered(Maybe(from.convert_to(alloc, to)?)) },
-    )?;
-    let like = |alloc| vectors(alloc, Type::AbstractInt, Type::F32);
-    lines.call(
-        "never convert_ty, the second",
-        like,
-        |_alloc, (first, second)| { answered(Equal(convert_ty(first, second) == Some(second))) },
-    )?;
-    let numbers = |_alloc| Ok([Type::AbstractInt, Type::AbstractFloat, Type::F32]);
-    lines.call("never convert_all_ty, the last", numbers, |_alloc, types| {
-        answered(Equal(convert_all_ty(types) == types.last()))
-    })
+fn print_scalar_calls<W: Write>(lines: &mut Lines<W>) -> io::Result<()> {
+    print_call(lines, "storageBarrier", &[])?;
+    print_call(lines, "max", &[Type::AbstractInt, Type::F32])?;
+    print_call(lines, "min", &[Type::U32, Type::U32])?;
+    print_call(lines, "clamp", &[Type::AbstractInt, Type::F32, Type::AbstractFloat])?;
+    print_call(lines, "select", &[Type::F32, Type::AbstractInt, Type::Bool])
 }
 
-fn print_templates<W: Write>(lines: &mut Lines<W>) -> io::Result<()> {
-    let of_scalar = |_alloc| Ok([TpltParam::Ty(Type::U32)]);
-    lines.call("never AtomicTemplate::inner_ty", of_scalar, |alloc, tplt| {
-        answered(AtomicTemplate::parse(alloc, tplt)?.inner_ty(alloc)?)
-    })?;
-    lines.call("never TextureTemplate::parse", of_scalar, |alloc, tplt| {
-        let texture = TextureTemplate::parse(alloc, "texture_2d", tplt)?;
-        answered(texture.ty().channel_type())
-    })
-}
-
-fn print_calls<W: Write>(lines: &mut Lines<W>) -> io::Result<()> {
-    print_call(lines, "storageBarrier", |alloc| Ok(Vec::new(alloc)))?;
-    print_call(
-        lines,
-        "max",
-        |alloc| list(alloc, [Type::AbstractInt, Type::F32]),
-    )?;
-    print_call(lines, "min", |alloc| list(alloc, [Type::U32, Type::U32]))?;
-    print_call(lines, "clamp", |alloc| {
-        list(alloc, [Type::AbstractInt, Type::F32, Type::AbstractFloat])
-    })?;
-    print_call(lines, "select", |alloc| {
-        list(alloc, [Type::F32, Type::AbstractInt, Type::Bool])
-    })?;
-    print_call(lines, "dot", |alloc| {
-        let first = vector(alloc, 3, Type::AbstractInt)?;
-        let second = vector(alloc, 3, Type::F32)?;
-        list(alloc, [first, second])
-    })?;
-    print_call(
-        lines,
-        "length",
-        |alloc| list(alloc, [vector(alloc, 2, Type::F16)?]),
-    )?;
-    print_call(
-        lines,
-        "all",
-        |alloc| list(alloc, [vector(alloc, 2, Type::Bool)?]),
-    )
-}
-
-/// The call of a built-in function.
-fn print_call<W: Write, M>(lines: &mut Lines<W>, name: &str, make: M) -> io::Result<()>
-where
-    M: Fn(Global) -> Result<Vec<Type>, AllocError> + Drop,
-    requires { M.IsAlwaysCallable make }
-{
-    lines.call(
+fn print_call<W: Write>(lines: &mut Lines<W>, name: &str, args: &[Type]) -> io::Result<()> {
+    lines.option(
         format_args!("never type_builtin_fn {name}"),
-        make,
-        |alloc, args| answered(Maybe(type_builtin_fn(alloc, name, None, args)?)),
+        type_builtin_fn(lines.alloc, name, None, args),
     )
 }
 
-fn print_structs<W: Write>(lines: &mut Lines<W>) -> io::Result<()> {
-    lines.call(
+fn print_vector_calls<W: Write>(lines: &mut Lines<W>, arguments: &Arguments) -> io::Result<()> {
+    print_call(lines, "dot", &arguments.types.vectors)?;
+    print_call(lines, "length", &arguments.signatures.call.args)?;
+    print_call(lines, "all", &arguments.types.operands[..1])
+}
+
+fn print_structs<W: Write>(
+    lines: &mut Lines<W>,
+    structs: &Structs,
+    vectors: &[Type; 2],
+) -> io::Result<()> {
+    let alloc = lines.alloc;
+    let Structs {
+        structure, empty, ..
+    } = structs;
+    lines.check(
         "never typecheck_struct_ctor",
-        structure_and_arguments,
-        |alloc, (layout, args)| answered(Done(typecheck_struct_ctor(alloc, layout, args)?)),
+        typecheck_struct_ctor(alloc, structure, vectors),
     )?;
-    lines.call(
+    lines.check(
         "never typecheck_struct_ctor of an empty struct",
-        empty_structure,
-        |alloc, layout| answered(Done(typecheck_struct_ctor(alloc, layout, &[])?)),
+        typecheck_struct_ctor(alloc, empty, &[]),
     )?;
-    lines.call(
-        "never offsets of an empty struct",
-        empty_structure,
-        |alloc, layout| answered(Maybe(layout.offsets(alloc)?.map(|offsets| Listed(offsets)))),
-    )
+    lines.list("never offsets of an empty struct", empty.offsets(alloc))
 }

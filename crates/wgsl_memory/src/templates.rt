@@ -1,78 +1,135 @@
 // Templates: parsed, and asked for the types that they make.
-use crate::lines::{Lines, answered};
-use crate::make::{of_vector, of_vectors, vector};
+use crate::arguments::Templates;
+use crate::lines::Lines;
+use std::alloc::Global;
 use std::io;
 use std::io::Write;
-use wgsl_types::Type;
-use wgsl_types::syntax::{AddressSpace, Enumerant};
+use wgsl_types::syntax::{AccessMode, AddressSpace, Enumerant, SampledType};
 use wgsl_types::tplt::{
     ArrayTemplate, AtomicTemplate, BindingArrayTemplate, BitcastTemplate, MatTemplate, PtrTemplate,
     TextureTemplate, TpltParam, VecTemplate,
 };
+use wgsl_types::{Fail, Type};
 
-pub fn print_templates<W: Write>(lines: &mut Lines<W>) -> io::Result<()> {
-    print_arrays(lines)?;
+/// `<f32>`
+const FLOAT: [TpltParam; 1] = [TpltParam::Ty(Type::F32)];
+
+/// `<push_constant, f32>`
+const IN_PUSH_CONSTANT: [TpltParam; 2] = [
+    TpltParam::Enumerant(Enumerant::AddressSpace(AddressSpace::PushConstant)),
+    TpltParam::Ty(Type::F32),
+];
+
+pub fn print_templates<W: Write>(lines: &mut Lines<W>, templates: &Templates) -> io::Result<()> {
+    print_arrays(lines, &templates.array)?;
     print_scalars(lines)?;
-    print_pointers(lines)?;
-    lines.call("BitcastTemplate::inner_ty", of_vector, |alloc, tplt| {
-        answered(BitcastTemplate::parse(alloc, tplt)?.inner_ty(alloc)?)
-    })?;
-    lines.call("TextureTemplate::parse", of_vector, |alloc, tplt| {
-        let texture = TextureTemplate::parse(alloc, "texture_2d", tplt)?;
-        answered(texture.ty().channel_type())
-    })
+    print_pointers(lines, &templates.pointer)?;
+    let alloc = lines.alloc;
+    lines.value("BitcastTemplate::inner_ty", bitcast_inner(alloc, &templates.element))?;
+    lines.value("TextureTemplate::parse", texture_channel(alloc, &templates.element))
 }
 
-fn print_arrays<W: Write>(lines: &mut Lines<W>) -> io::Result<()> {
-    lines.call("ArrayTemplate::ty", of_vectors, |alloc, tplt| {
-        answered(ArrayTemplate::parse(alloc, tplt)?.ty(alloc)?)
-    })?;
-    lines.call("ArrayTemplate::inner_ty", of_vectors, |alloc, tplt| {
-        answered(ArrayTemplate::parse(alloc, tplt)?.inner_ty(alloc)?)
-    })?;
-    lines.call("BindingArrayTemplate::ty", of_vectors, |alloc, tplt| {
-        answered(BindingArrayTemplate::parse(alloc, tplt)?.ty(alloc)?)
-    })?;
-    lines.call(
-        "BindingArrayTemplate::inner_ty",
-        of_vectors,
-        |alloc, tplt| { answered(BindingArrayTemplate::parse(alloc, tplt)?.inner_ty(alloc)?) },
-    )
+fn print_arrays<W: Write>(lines: &mut Lines<W>, tplt: &[TpltParam]) -> io::Result<()> {
+    let alloc = lines.alloc;
+    lines.value("ArrayTemplate::ty", array_type(alloc, tplt))?;
+    lines.value("ArrayTemplate::inner_ty", array_inner(alloc, tplt))?;
+    lines.value("BindingArrayTemplate::ty", binding_array_type(alloc, tplt))?;
+    lines.value("BindingArrayTemplate::inner_ty", binding_array_inner(alloc, tplt))
 }
 
 fn print_scalars<W: Write>(lines: &mut Lines<W>) -> io::Result<()> {
-    let of_float = |_alloc| Ok([TpltParam::Ty(Type::F32)]);
-    lines.call("VecTemplate::ty", of_float, |alloc, tplt| {
-        answered(VecTemplate::parse(alloc, tplt)?.ty(alloc, 3)?)
-    })?;
-    lines.call("MatTemplate::ty", of_float, |alloc, tplt| {
-        answered(MatTemplate::parse(alloc, tplt)?.ty(alloc, 2, 3)?)
-    })?;
-    lines.call("AtomicTemplate::ty", of_float, |alloc, tplt| {
-        answered(AtomicTemplate::parse(alloc, tplt)?.ty(alloc)?)
-    })
+    let alloc = lines.alloc;
+    lines.value("VecTemplate::ty", vector_type(alloc, &FLOAT))?;
+    lines.value("MatTemplate::ty", matrix_type(alloc, &FLOAT))?;
+    lines.value("AtomicTemplate::ty", atomic_type(alloc, &FLOAT))
 }
 
-fn print_pointers<W: Write>(lines: &mut Lines<W>) -> io::Result<()> {
-    let of_vector = |alloc| {
-        let ty = TpltParam::Ty(vector(alloc, 2, Type::F32)?);
-        Ok([in_space(AddressSpace::Function), ty])
-    };
-    lines.call("PtrTemplate::parse", of_vector, |alloc, tplt| {
-        answered(PtrTemplate::parse(alloc, tplt)?.access)
-    })?;
-    lines.call("PtrTemplate::ty", of_vector, |alloc, tplt| {
-        answered(PtrTemplate::parse(alloc, tplt)?.ty(alloc)?)
-    })?;
-    let of_constant = |_alloc| Ok([
-        in_space(AddressSpace::PushConstant),
-        TpltParam::Ty(Type::F32),
-    ]);
-    lines.call("PtrTemplate::parse, refused", of_constant, |alloc, tplt| {
-        answered(PtrTemplate::parse(alloc, tplt)?.access)
-    })
+fn print_pointers<W: Write>(lines: &mut Lines<W>, tplt: &[TpltParam]) -> io::Result<()> {
+    let alloc = lines.alloc;
+    lines.value("PtrTemplate::parse", pointer_access(alloc, tplt))?;
+    lines.value("PtrTemplate::ty", pointer_type(alloc, tplt))?;
+    lines.value("PtrTemplate::parse, refused", pointer_access(alloc, &IN_PUSH_CONSTANT))
 }
 
-fn in_space(space: AddressSpace) -> TpltParam {
-    TpltParam::Enumerant(Enumerant::AddressSpace(space))
+fn array_type(alloc: Global, tplt: &[TpltParam]) -> Result<Type, Fail> {
+    let template = ArrayTemplate::parse(alloc, tplt)?;
+    let ty = template.ty(alloc);
+    drop(template);
+    Ok(ty?)
+}
+
+fn array_inner(alloc: Global, tplt: &[TpltParam]) -> Result<Type, Fail> {
+    let template = ArrayTemplate::parse(alloc, tplt)?;
+    let ty = template.inner_ty(alloc);
+    drop(template);
+    Ok(ty?)
+}
+
+fn binding_array_type(alloc: Global, tplt: &[TpltParam]) -> Result<Type, Fail> {
+    let template = BindingArrayTemplate::parse(alloc, tplt)?;
+    let ty = template.ty(alloc);
+    drop(template);
+    Ok(ty?)
+}
+
+fn binding_array_inner(alloc: Global, tplt: &[TpltParam]) -> Result<Type, Fail> {
+    let template = BindingArrayTemplate::parse(alloc, tplt)?;
+    let ty = template.inner_ty(alloc);
+    drop(template);
+    Ok(ty?)
+}
+
+fn vector_type(alloc: Global, tplt: &[TpltParam]) -> Result<Type, Fail> {
+    let template = VecTemplate::parse(alloc, tplt)?;
+    let ty = template.ty(alloc, 3);
+    drop(template);
+    Ok(ty?)
+}
+
+fn matrix_type(alloc: Global, tplt: &[TpltParam]) -> Result<Type, Fail> {
+    let template = MatTemplate::parse(alloc, tplt)?;
+    let ty = template.ty(alloc, 2, 3);
+    drop(template);
+    Ok(ty?)
+}
+
+fn atomic_type(alloc: Global, tplt: &[TpltParam]) -> Result<Type, Fail> {
+    let template = AtomicTemplate::parse(alloc, tplt)?;
+    let ty = template.ty(alloc);
+    drop(template);
+    Ok(ty?)
+}
+
+pub fn atomic_inner(alloc: Global, tplt: &[TpltParam]) -> Result<Type, Fail> {
+    let template = AtomicTemplate::parse(alloc, tplt)?;
+    let ty = template.inner_ty(alloc);
+    drop(template);
+    Ok(ty?)
+}
+
+fn pointer_access(alloc: Global, tplt: &[TpltParam]) -> Result<AccessMode, Fail> {
+    let template = PtrTemplate::parse(alloc, tplt)?;
+    let access = template.access;
+    drop(template);
+    Ok(access)
+}
+
+fn pointer_type(alloc: Global, tplt: &[TpltParam]) -> Result<Type, Fail> {
+    let template = PtrTemplate::parse(alloc, tplt)?;
+    let ty = template.ty(alloc);
+    drop(template);
+    Ok(ty?)
+}
+
+fn bitcast_inner(alloc: Global, tplt: &[TpltParam]) -> Result<Type, Fail> {
+    let template = BitcastTemplate::parse(alloc, tplt)?;
+    let ty = template.inner_ty(alloc);
+    drop(template);
+    Ok(ty?)
+}
+
+/// What is sampled from a `texture_2d` of this template.
+pub fn texture_channel(alloc: Global, tplt: &[TpltParam]) -> Result<SampledType, Fail> {
+    let template = TextureTemplate::parse(alloc, "texture_2d", tplt)?;
+    Ok(template.ty().channel_type())
 }

@@ -1,0 +1,203 @@
+// The arguments of the calls. No function returns early while it owns a type, which would be dear to prove: `both` does.
+use std::alloc::{AllocError, Global};
+use wgsl_types::error::Error;
+use wgsl_types::inst::{Instance, LiteralInstance};
+use wgsl_types::syntax::{AccessMode, AddressSpace, Enumerant};
+use wgsl_types::tplt::TpltParam;
+use wgsl_types::ty::{StructMemberType, StructType};
+use wgsl_types::{CallSignature, Type};
+
+/// What the calls are handed that lies in memory.
+#[derive(PartialEq, Drop)]
+pub struct Arguments {
+    pub types: Types,
+    pub structs: Structs,
+    pub signatures: Signatures,
+    pub templates: Templates,
+}
+
+#[derive(PartialEq, Drop)]
+pub struct Types {
+    /// `vec2<AbstractInt>` and `vec2<u32>`
+    pub vectors: [Type; 2],
+    /// `vec2<bool>`, `vec2<i32>`, `ptr<function, f32, read_write>` and `ref<function, f32, read_write>`
+    pub operands: [Type; 4],
+    /// `array<vec3<AbstractInt>, 2>`
+    pub nested: Type,
+    /// `ref<handle, f32, read_write>`
+    pub in_handle: Type,
+}
+
+#[derive(PartialEq, Drop)]
+pub struct Structs {
+    /// `a: vec2<u32>`
+    pub member: StructMemberType,
+    /// `struct S { a: vec2<u32>, b: vec2<u32> }`
+    pub structure: StructType,
+    /// The same as a type.
+    pub ty: Type,
+    /// `struct E {}`
+    pub empty: StructType,
+}
+
+#[derive(PartialEq, Drop)]
+pub struct Signatures {
+    /// `array<vec2<f16>, 2>(vec2<f16>)`
+    pub call: CallSignature,
+    /// That no overload takes it.
+    pub refusal: Error,
+}
+
+#[derive(PartialEq, Drop)]
+pub struct Templates {
+    /// `<vec2<f16>>`
+    pub element: [TpltParam; 1],
+    /// `<vec2<f16>, 2>`
+    pub array: [TpltParam; 2],
+    /// `<function, vec2<f16>>`
+    pub pointer: [TpltParam; 2],
+}
+
+pub fn make_arguments(alloc: Global) -> Result<Arguments, AllocError> {
+    let first = both(make_types(alloc), make_structs(alloc));
+    let second = both(make_signatures(alloc), make_templates(alloc));
+    let ((types, structs), (signatures, templates)) = both(first, second)?;
+    Ok(Arguments {
+        types,
+        structs,
+        signatures,
+        templates,
+    })
+}
+
+/// Two values, if there was memory for both.
+pub fn both<A: Drop, B: Drop>(
+    first: Result<A, AllocError>,
+    second: Result<B, AllocError>,
+) -> Result<(A, B), AllocError> {
+    Ok((first?, second?))
+}
+
+fn make_types(alloc: Global) -> Result<Types, AllocError> {
+    let vectors = both(vector(alloc, 2, Type::AbstractInt), vector(alloc, 2, Type::U32));
+    let others = both(nested(alloc), reference(alloc, AddressSpace::Handle));
+    let made = both(both(vectors, others), operands(alloc));
+    let (((first, second), (nested, in_handle)), operands) = made?;
+    Ok(Types {
+        vectors: [first, second],
+        operands,
+        nested,
+        in_handle,
+    })
+}
+
+fn operands(alloc: Global) -> Result<[Type; 4], AllocError> {
+    let vectors = both(vector(alloc, 2, Type::Bool), vector(alloc, 2, Type::I32));
+    let stored = both(pointer(alloc), reference(alloc, AddressSpace::Function));
+    let ((bools, integers), (pointer, reference)) = both(vectors, stored)?;
+    Ok([bools, integers, pointer, reference])
+}
+
+fn vector(alloc: Global, components: u8, component: Type) -> Result<Type, AllocError> {
+    Ok(Type::Vec(components, Box::new(alloc, component)?))
+}
+
+fn nested(alloc: Global) -> Result<Type, AllocError> {
+    let element = vector(alloc, 3, Type::AbstractInt)?;
+    Ok(Type::Array(Box::new(alloc, element)?, Some(2)))
+}
+
+fn pointer(alloc: Global) -> Result<Type, AllocError> {
+    let to = Box::new(alloc, Type::F32)?;
+    Ok(Type::Ptr(AddressSpace::Function, to, AccessMode::ReadWrite))
+}
+
+fn reference(alloc: Global, space: AddressSpace) -> Result<Type, AllocError> {
+    Ok(Type::Ref(space, Box::new(alloc, Type::F32)?, AccessMode::ReadWrite))
+}
+
+fn make_structs(alloc: Global) -> Result<Structs, AllocError> {
+    let first = both(member(alloc, "a"), structure(alloc));
+    let ((member, structure), (ty, empty)) = both(first, both(struct_type(alloc), empty(alloc)))?;
+    Ok(Structs {
+        member,
+        structure,
+        ty,
+        empty,
+    })
+}
+
+fn member(alloc: Global, name: &str) -> Result<StructMemberType, AllocError> {
+    let (name, ty) = both(String::from_str(alloc, name), vector(alloc, 2, Type::U32))?;
+    Ok(StructMemberType::new(name, ty))
+}
+
+fn structure(alloc: Global) -> Result<StructType, AllocError> {
+    let (name, members) = both(String::from_str(alloc, "S"), members(alloc))?;
+    Ok(StructType { name, members })
+}
+
+fn members(alloc: Global) -> Result<Vec<StructMemberType>, AllocError> {
+    let (first, second) = both(member(alloc, "a"), member(alloc, "b"))?;
+    Ok(Vec::from_array(alloc, [first, second])?)
+}
+
+fn struct_type(alloc: Global) -> Result<Type, AllocError> {
+    Type::from_struct(alloc, structure(alloc)?)
+}
+
+fn empty(alloc: Global) -> Result<StructType, AllocError> {
+    let name = String::from_str(alloc, "E")?;
+    let members = Vec::new(alloc);
+    Ok(StructType { name, members })
+}
+
+fn make_signatures(alloc: Global) -> Result<Signatures, AllocError> {
+    let (call, refused) = both(signature(alloc), signature(alloc))?;
+    Ok(Signatures {
+        call,
+        refusal: Error::Signature(refused),
+    })
+}
+
+fn signature(alloc: Global) -> Result<CallSignature, AllocError> {
+    let lists = both(parameters(alloc), list(alloc));
+    let (name, (parameters, args)) = both(String::from_str(alloc, "array"), lists)?;
+    Ok(CallSignature {
+        name,
+        tplt: Some(parameters),
+        args,
+    })
+}
+
+fn parameters(alloc: Global) -> Result<Vec<TpltParam>, AllocError> {
+    let parameters = element_and_count(alloc)?;
+    Ok(Vec::from_array(alloc, parameters)?)
+}
+
+fn list(alloc: Global) -> Result<Vec<Type>, AllocError> {
+    let ty = vector(alloc, 2, Type::F16)?;
+    Ok(Vec::from_array(alloc, [ty])?)
+}
+
+fn make_templates(alloc: Global) -> Result<Templates, AllocError> {
+    let arrays = both(element(alloc), element_and_count(alloc));
+    let ((element, array), to) = both(arrays, element(alloc))?;
+    let [to] = to;
+    let space = TpltParam::Enumerant(Enumerant::AddressSpace(AddressSpace::Function));
+    Ok(Templates {
+        element,
+        array,
+        pointer: [space, to],
+    })
+}
+
+fn element(alloc: Global) -> Result<[TpltParam; 1], AllocError> {
+    Ok([TpltParam::Ty(vector(alloc, 2, Type::F16)?)])
+}
+
+fn element_and_count(alloc: Global) -> Result<[TpltParam; 2], AllocError> {
+    let [element] = element(alloc)?;
+    let count = TpltParam::Instance(Instance::Literal(LiteralInstance::AbstractInt(2)));
+    Ok([element, count])
+}
