@@ -7,13 +7,26 @@ use wgsl_types::tplt::TpltParam;
 use wgsl_types::ty::{StructMemberType, StructType};
 use wgsl_types::{CallSignature, Type};
 
-/// What the calls are handed that lies in memory.
+/// What the calls are handed.
 #[derive(PartialEq, Drop)]
 pub struct Arguments {
+    pub scalars: Scalars,
     pub types: Types,
     pub structs: Structs,
-    pub signatures: Signatures,
+    /// `array<vec2<f16>, 2>(vec2<f16>)`
+    pub call: CallSignature,
+    pub refusals: Refusals,
     pub templates: Templates,
+}
+
+#[derive(PartialEq, Drop)]
+pub struct Scalars {
+    /// Operands of unary operators.
+    pub single: [Type; 3],
+    /// Operands of binary operators.
+    pub pairs: [(Type, Type); 3],
+    /// What converts to its last.
+    pub numbers: [Type; 3],
 }
 
 #[derive(PartialEq, Drop)]
@@ -41,31 +54,40 @@ pub struct Structs {
 }
 
 #[derive(PartialEq, Drop)]
-pub struct Signatures {
-    /// `array<vec2<f16>, 2>(vec2<f16>)`
-    pub call: CallSignature,
-    /// That no overload takes it.
-    pub refusal: Error,
+pub struct Refusals {
+    /// That no overload takes `array<vec2<f16>, 2>(vec2<f16>)`.
+    pub signature: Error,
+    /// That `i32` doesn't convert to `f32`.
+    pub conversion: Error,
 }
 
 #[derive(PartialEq, Drop)]
 pub struct Templates {
+    /// `<f32>`
+    pub scalar: [TpltParam; 1],
     /// `<vec2<f16>>`
     pub element: [TpltParam; 1],
     /// `<vec2<f16>, 2>`
     pub array: [TpltParam; 2],
     /// `<function, vec2<f16>>`
     pub pointer: [TpltParam; 2],
+    /// `<push_constant, f32>`
+    pub push_constant: [TpltParam; 2],
 }
 
 pub fn make_arguments(alloc: Global) -> Result<Arguments, AllocError> {
     let first = both(make_types(alloc), make_structs(alloc));
-    let second = both(make_signatures(alloc), make_templates(alloc));
-    let ((types, structs), (signatures, templates)) = both(first, second)?;
+    let second = both(
+        signature(alloc),
+        both(make_refusals(alloc), make_templates(alloc)),
+    );
+    let ((types, structs), (call, (refusals, templates))) = both(first, second)?;
     Ok(Arguments {
+        scalars: make_scalars(),
         types,
         structs,
-        signatures,
+        call,
+        refusals,
         templates,
     })
 }
@@ -78,8 +100,23 @@ pub fn both<A: Drop, B: Drop>(
     Ok((first?, second?))
 }
 
+fn make_scalars() -> Scalars {
+    Scalars {
+        single: [Type::Bool, Type::I32, Type::F32],
+        pairs: [
+            (Type::Bool, Type::Bool),
+            (Type::AbstractInt, Type::I32),
+            (Type::I32, Type::U32),
+        ],
+        numbers: [Type::AbstractFloat, Type::AbstractInt, Type::F32],
+    }
+}
+
 fn make_types(alloc: Global) -> Result<Types, AllocError> {
-    let vectors = both(vector(alloc, 2, Type::AbstractInt), vector(alloc, 2, Type::U32));
+    let vectors = both(
+        vector(alloc, 2, Type::AbstractInt),
+        vector(alloc, 2, Type::U32),
+    );
     let others = both(nested(alloc), reference(alloc, AddressSpace::Handle));
     let made = both(both(vectors, others), operands(alloc));
     let (((first, second), (nested, in_handle)), operands) = made?;
@@ -152,11 +189,10 @@ fn empty(alloc: Global) -> Result<StructType, AllocError> {
     Ok(StructType { name, members })
 }
 
-fn make_signatures(alloc: Global) -> Result<Signatures, AllocError> {
-    let (call, refused) = both(signature(alloc), signature(alloc))?;
-    Ok(Signatures {
-        call,
-        refusal: Error::Signature(refused),
+fn make_refusals(alloc: Global) -> Result<Refusals, AllocError> {
+    Ok(Refusals {
+        signature: Error::Signature(signature(alloc)?),
+        conversion: Error::Conversion(Type::I32, Type::F32),
     })
 }
 
@@ -182,14 +218,21 @@ fn list(alloc: Global) -> Result<Vec<Type>, AllocError> {
 
 fn make_templates(alloc: Global) -> Result<Templates, AllocError> {
     let arrays = both(element(alloc), element_and_count(alloc));
-    let ((element, array), to) = both(arrays, element(alloc))?;
-    let [to] = to;
-    let space = TpltParam::Enumerant(Enumerant::AddressSpace(AddressSpace::Function));
+    let ((element, array), [to]) = both(arrays, element(alloc))?;
     Ok(Templates {
+        scalar: [TpltParam::Ty(Type::F32)],
         element,
         array,
-        pointer: [space, to],
+        pointer: [in_space(AddressSpace::Function), to],
+        push_constant: [
+            in_space(AddressSpace::PushConstant),
+            TpltParam::Ty(Type::F32),
+        ],
     })
+}
+
+fn in_space(space: AddressSpace) -> TpltParam {
+    TpltParam::Enumerant(Enumerant::AddressSpace(space))
 }
 
 fn element(alloc: Global) -> Result<[TpltParam; 1], AllocError> {

@@ -17,8 +17,14 @@ fn print_constructors<W: Write>(lines: &mut Lines<W>, arguments: &Arguments) -> 
     let array = &arguments.templates.array;
     let structure = &arguments.structs.structure;
     lines.value("type_ctor vec4", type_ctor(alloc, "vec4", None, vectors))?;
-    lines.value("type_ctor vec2, refused", type_ctor(alloc, "vec2", None, vectors))?;
-    lines.value("type_ctor array", type_ctor(alloc, "array", Some(array), &[]))?;
+    lines.value(
+        "type_ctor vec3, refused",
+        type_ctor(alloc, "vec3", None, vectors),
+    )?;
+    lines.value(
+        "type_ctor array",
+        type_ctor(alloc, "array", Some(array), &[]),
+    )?;
     lines.check(
         "typecheck_struct_ctor, refused",
         typecheck_struct_ctor(alloc, structure, &[Type::F32]),
@@ -30,11 +36,17 @@ fn print_built_in_functions<W: Write>(
     arguments: &Arguments,
 ) -> io::Result<()> {
     let alloc = lines.alloc;
-    let vector = &arguments.signatures.call.args;
+    let vector = &arguments.call.args;
     let vectors = &arguments.types.vectors;
     let element = &arguments.templates.element;
-    lines.option("type_builtin_fn max", type_builtin_fn(alloc, "max", None, vectors))?;
-    lines.option("type_builtin_fn frexp", type_builtin_fn(alloc, "frexp", None, vector))?;
+    lines.option(
+        "type_builtin_fn max",
+        type_builtin_fn(alloc, "max", None, vectors),
+    )?;
+    lines.option(
+        "type_builtin_fn frexp",
+        type_builtin_fn(alloc, "frexp", None, vector),
+    )?;
     lines.option(
         "type_builtin_fn frexp, refused",
         type_builtin_fn(alloc, "frexp", None, vectors),

@@ -102,7 +102,11 @@ impl<W: Write> Lines<W> {
     {
         match answer {
             Ok(copy) => {
-                let state = if copy == *original { "equal" } else { "different" };
+                let state = if copy == *original {
+                    "equal"
+                } else {
+                    "different"
+                };
                 writeln!(self.output, "{name}: {state}")
             }
             Err(refusal) => writeln!(self.output, "{name}: {refusal}"),

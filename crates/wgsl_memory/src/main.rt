@@ -65,6 +65,10 @@ fn print_calls<W: Write>(
     templates::print_templates(lines, &arguments.templates)?;
     calls::print_calls(lines, arguments)?;
     never::print_never(lines, arguments)?;
-    let state = if arguments == as_made { "unchanged" } else { "changed" };
+    let state = if arguments == as_made {
+        "unchanged"
+    } else {
+        "changed"
+    };
     writeln!(lines.output, "never arguments: {state}")
 }

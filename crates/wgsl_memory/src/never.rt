@@ -1,5 +1,5 @@
 // Calls that are never out of memory. Their lines begin with the word `never`.
-use crate::arguments::{Arguments, Structs, Types};
+use crate::arguments::{Arguments, Scalars, Structs, Templates, Types};
 use crate::lines::Lines;
 use crate::operators::{BINARY, UNARY};
 use crate::templates::{atomic_inner, texture_channel};
@@ -11,49 +11,36 @@ use wgsl_types::builtin::{
     binary_candidate, type_binary_op, type_builtin_fn, type_unary_op, typecheck_struct_ctor,
 };
 use wgsl_types::conv::{Convert, convert_all_ty, convert_ty};
-use wgsl_types::error::Error;
 use wgsl_types::inst::{Instance, LiteralInstance};
 use wgsl_types::syntax::{BinaryOperator, UnaryOperator};
-use wgsl_types::tplt::TpltParam;
 use wgsl_types::ty::{Ty, try_from_type};
-
-const UNARY_OPERANDS: [Type; 3] = [Type::Bool, Type::I32, Type::F32];
-
-const BINARY_OPERANDS: [(Type, Type); 3] = [
-    (Type::Bool, Type::Bool),
-    (Type::AbstractInt, Type::I32),
-    (Type::I32, Type::U32),
-];
-
-const SCALAR: Type = Type::AbstractFloat;
 
 /// `5lu`
 const LITERAL: Instance = Instance::Literal(LiteralInstance::U64(5));
 
-/// `<u32>`
-const OF_SCALAR: [TpltParam; 1] = [TpltParam::Ty(Type::U32)];
-
-const REFUSAL: Error = Error::Conversion(Type::I32, Type::F32);
-
-const NUMBERS: [Type; 3] = [Type::AbstractInt, Type::AbstractFloat, Type::F32];
-
 pub fn print_never<W: Write>(lines: &mut Lines<W>, arguments: &Arguments) -> io::Result<()> {
-    for operator in UNARY {
-        for operand in &UNARY_OPERANDS {
-            print_unary(lines, operator, operand)?;
-        }
-    }
-    for operator in BINARY {
-        for (lhs, rhs) in &BINARY_OPERANDS {
-            print_binary(lines, operator, lhs, rhs)?;
-        }
-    }
-    print_scalars(lines)?;
-    print_literals_and_templates(lines)?;
+    print_operators(lines, &arguments.scalars)?;
+    print_scalars(lines, &arguments.scalars)?;
+    print_copies(lines, arguments)?;
+    print_templates(lines, &arguments.templates)?;
     print_vectors(lines, &arguments.types)?;
     print_scalar_calls(lines)?;
     print_vector_calls(lines, arguments)?;
     print_structs(lines, &arguments.structs, &arguments.types.vectors)
+}
+
+fn print_operators<W: Write>(lines: &mut Lines<W>, scalars: &Scalars) -> io::Result<()> {
+    for operator in UNARY {
+        for operand in &scalars.single {
+            print_unary(lines, operator, operand)?;
+        }
+    }
+    for operator in BINARY {
+        for (lhs, rhs) in &scalars.pairs {
+            print_binary(lines, operator, lhs, rhs)?;
+        }
+    }
+    Ok(())
 }
 
 fn print_unary<W: Write>(
@@ -83,30 +70,55 @@ fn print_binary<W: Write>(
     )
 }
 
-fn print_scalars<W: Write>(lines: &mut Lines<W>) -> io::Result<()> {
+fn print_scalars<W: Write>(lines: &mut Lines<W>, scalars: &Scalars) -> io::Result<()> {
     let alloc = lines.alloc;
-    lines.value("never Type::clone", SCALAR.clone(alloc))?;
-    lines.value("never concretize", Type::concretize(&SCALAR, alloc))?;
-    lines.value("never try_from_type", try_from_type(alloc, &SCALAR))?;
-    lines.value("never Error::clone", REFUSAL.clone(alloc))?;
-    lines.option("never convert_all_ty", Ok::<_, AllocError>(convert_all_ty(&NUMBERS)))
+    let numbers = &scalars.numbers;
+    let [scalar, ..] = numbers;
+    lines.value("never Type::clone", scalar.clone(alloc))?;
+    lines.value("never concretize", Type::concretize(scalar, alloc))?;
+    lines.value("never try_from_type", try_from_type(alloc, scalar))?;
+    lines.option(
+        "never convert_all_ty",
+        Ok::<_, AllocError>(convert_all_ty(numbers)),
+    )
 }
 
-fn print_literals_and_templates<W: Write>(lines: &mut Lines<W>) -> io::Result<()> {
+fn print_copies<W: Write>(lines: &mut Lines<W>, arguments: &Arguments) -> io::Result<()> {
     let alloc = lines.alloc;
-    let [parameter] = &OF_SCALAR;
+    let [parameter] = &arguments.templates.scalar;
     lines.value("never ty", LITERAL.ty(alloc))?;
     lines.value("never inner_ty", LITERAL.inner_ty(alloc))?;
     lines.value("never TpltParam::clone", parameter.clone(alloc))?;
-    lines.value("never AtomicTemplate::inner_ty", atomic_inner(alloc, &OF_SCALAR))?;
-    lines.value("never TextureTemplate::parse", texture_channel(alloc, &OF_SCALAR))
+    lines.value(
+        "never Error::clone",
+        arguments.refusals.conversion.clone(alloc),
+    )
+}
+
+fn print_templates<W: Write>(lines: &mut Lines<W>, templates: &Templates) -> io::Result<()> {
+    let alloc = lines.alloc;
+    let scalar = &templates.scalar;
+    lines.value(
+        "never AtomicTemplate::inner_ty",
+        atomic_inner(alloc, scalar),
+    )?;
+    lines.value(
+        "never TextureTemplate::parse",
+        texture_channel(alloc, scalar),
+    )
 }
 
 fn print_vectors<W: Write>(lines: &mut Lines<W>, types: &Types) -> io::Result<()> {
     let alloc = lines.alloc;
     let [first, second] = &types.vectors;
-    lines.option("never convert_to, to what it doesn't", second.convert_to(alloc, first))?;
-    lines.option("never convert_ty", Ok::<_, AllocError>(convert_ty(first, second)))?;
+    lines.option(
+        "never convert_to, to what it doesn't",
+        second.convert_to(alloc, first),
+    )?;
+    lines.option(
+        "never convert_ty",
+        Ok::<_, AllocError>(convert_ty(first, second)),
+    )?;
     lines.value(
         "never type_unary_op & in handle",
         type_unary_op(alloc, UnaryOperator::AddressOf, &types.in_handle),
@@ -117,7 +129,11 @@ fn print_scalar_calls<W: Write>(lines: &mut Lines<W>) -> io::Result<()> {
     print_call(lines, "storageBarrier", &[])?;
     print_call(lines, "max", &[Type::AbstractInt, Type::F32])?;
     print_call(lines, "min", &[Type::U32, Type::U32])?;
-    print_call(lines, "clamp", &[Type::AbstractInt, Type::F32, Type::AbstractFloat])?;
+    print_call(
+        lines,
+        "clamp",
+        &[Type::AbstractInt, Type::F32, Type::AbstractFloat],
+    )?;
     print_call(lines, "select", &[Type::F32, Type::AbstractInt, Type::Bool])
 }
 
@@ -130,7 +146,7 @@ fn print_call<W: Write>(lines: &mut Lines<W>, name: &str, args: &[Type]) -> io::
 
 fn print_vector_calls<W: Write>(lines: &mut Lines<W>, arguments: &Arguments) -> io::Result<()> {
     print_call(lines, "dot", &arguments.types.vectors)?;
-    print_call(lines, "length", &arguments.signatures.call.args)?;
+    print_call(lines, "length", &arguments.call.args)?;
     print_call(lines, "all", &arguments.types.operands[..1])
 }
 
@@ -141,7 +157,9 @@ fn print_structs<W: Write>(
 ) -> io::Result<()> {
     let alloc = lines.alloc;
     let Structs {
-        structure, empty, ..
+        structure,
+        empty,
+        ..
     } = structs;
     lines.check(
         "never typecheck_struct_ctor",

@@ -4,29 +4,26 @@ use crate::lines::Lines;
 use std::alloc::Global;
 use std::io;
 use std::io::Write;
-use wgsl_types::syntax::{AccessMode, AddressSpace, Enumerant, SampledType};
+use wgsl_types::syntax::{AccessMode, SampledType};
 use wgsl_types::tplt::{
     ArrayTemplate, AtomicTemplate, BindingArrayTemplate, BitcastTemplate, MatTemplate, PtrTemplate,
     TextureTemplate, TpltParam, VecTemplate,
 };
 use wgsl_types::{Fail, Type};
 
-/// `<f32>`
-const FLOAT: [TpltParam; 1] = [TpltParam::Ty(Type::F32)];
-
-/// `<push_constant, f32>`
-const IN_PUSH_CONSTANT: [TpltParam; 2] = [
-    TpltParam::Enumerant(Enumerant::AddressSpace(AddressSpace::PushConstant)),
-    TpltParam::Ty(Type::F32),
-];
-
 pub fn print_templates<W: Write>(lines: &mut Lines<W>, templates: &Templates) -> io::Result<()> {
     print_arrays(lines, &templates.array)?;
-    print_scalars(lines)?;
-    print_pointers(lines, &templates.pointer)?;
+    print_scalars(lines, &templates.scalar)?;
+    print_pointers(lines, templates)?;
     let alloc = lines.alloc;
-    lines.value("BitcastTemplate::inner_ty", bitcast_inner(alloc, &templates.element))?;
-    lines.value("TextureTemplate::parse", texture_channel(alloc, &templates.element))
+    lines.value(
+        "BitcastTemplate::inner_ty",
+        bitcast_inner(alloc, &templates.element),
+    )?;
+    lines.value(
+        "TextureTemplate::parse",
+        texture_channel(alloc, &templates.element),
+    )
 }
 
 fn print_arrays<W: Write>(lines: &mut Lines<W>, tplt: &[TpltParam]) -> io::Result<()> {
@@ -34,21 +31,32 @@ fn print_arrays<W: Write>(lines: &mut Lines<W>, tplt: &[TpltParam]) -> io::Resul
     lines.value("ArrayTemplate::ty", array_type(alloc, tplt))?;
     lines.value("ArrayTemplate::inner_ty", array_inner(alloc, tplt))?;
     lines.value("BindingArrayTemplate::ty", binding_array_type(alloc, tplt))?;
-    lines.value("BindingArrayTemplate::inner_ty", binding_array_inner(alloc, tplt))
+    lines.value(
+        "BindingArrayTemplate::inner_ty",
+        binding_array_inner(alloc, tplt),
+    )
 }
 
-fn print_scalars<W: Write>(lines: &mut Lines<W>) -> io::Result<()> {
+fn print_scalars<W: Write>(lines: &mut Lines<W>, tplt: &[TpltParam]) -> io::Result<()> {
     let alloc = lines.alloc;
-    lines.value("VecTemplate::ty", vector_type(alloc, &FLOAT))?;
-    lines.value("MatTemplate::ty", matrix_type(alloc, &FLOAT))?;
-    lines.value("AtomicTemplate::ty", atomic_type(alloc, &FLOAT))
+    lines.value("VecTemplate::ty", vector_type(alloc, tplt))?;
+    lines.value("MatTemplate::ty", matrix_type(alloc, tplt))?;
+    lines.value("AtomicTemplate::ty", atomic_type(alloc, tplt))
 }
 
-fn print_pointers<W: Write>(lines: &mut Lines<W>, tplt: &[TpltParam]) -> io::Result<()> {
+fn print_pointers<W: Write>(lines: &mut Lines<W>, templates: &Templates) -> io::Result<()> {
     let alloc = lines.alloc;
-    lines.value("PtrTemplate::parse", pointer_access(alloc, tplt))?;
-    lines.value("PtrTemplate::ty", pointer_type(alloc, tplt))?;
-    lines.value("PtrTemplate::parse, refused", pointer_access(alloc, &IN_PUSH_CONSTANT))
+    let Templates {
+        pointer,
+        push_constant,
+        ..
+    } = templates;
+    lines.value("PtrTemplate::parse", pointer_access(alloc, pointer))?;
+    lines.value("PtrTemplate::ty", pointer_type(alloc, pointer))?;
+    lines.value(
+        "PtrTemplate::parse, refused",
+        pointer_access(alloc, push_constant),
+    )
 }
 
 fn array_type(alloc: Global, tplt: &[TpltParam]) -> Result<Type, Fail> {

@@ -1,5 +1,5 @@
 // Copies, types of types, conversions, offsets.
-use crate::arguments::{Arguments, Signatures, Structs};
+use crate::arguments::{Arguments, Structs};
 use crate::lines::Lines;
 use std::alloc::{AllocError, Global};
 use std::io;
@@ -7,14 +7,12 @@ use std::io::Write;
 use wgsl_types::conv::{
     Convert, convert, convert_all, convert_all_inner_to, convert_all_to, convert_inner,
 };
-use wgsl_types::tplt::TpltParam;
 use wgsl_types::ty::{StructType, Ty, try_from_type};
 use wgsl_types::{CallSignature, Type};
 
 pub fn print_types<W: Write>(lines: &mut Lines<W>, arguments: &Arguments) -> io::Result<()> {
-    let [parameter] = &arguments.templates.element;
     print_structs(lines, &arguments.structs)?;
-    print_signatures(lines, &arguments.signatures, parameter)?;
+    print_signatures(lines, arguments)?;
     print_nested(lines, &arguments.types.nested)?;
     print_conversions(lines, &arguments.types.vectors)
 }
@@ -38,13 +36,11 @@ fn struct_as_type(alloc: Global, structure: &StructType) -> Result<Type, AllocEr
     Type::from_struct(alloc, structure.clone(alloc)?)
 }
 
-fn print_signatures<W: Write>(
-    lines: &mut Lines<W>,
-    signatures: &Signatures,
-    parameter: &TpltParam,
-) -> io::Result<()> {
+fn print_signatures<W: Write>(lines: &mut Lines<W>, arguments: &Arguments) -> io::Result<()> {
     let alloc = lines.alloc;
-    let Signatures { call, refusal } = signatures;
+    let [parameter] = &arguments.templates.element;
+    let call = &arguments.call;
+    let refusal = &arguments.refusals.signature;
     lines.copy("TpltParam::clone", parameter, parameter.clone(alloc))?;
     lines.copy("CallSignature::clone", call, call.clone(alloc))?;
     lines.value(
@@ -72,5 +68,8 @@ fn print_conversions<W: Write>(lines: &mut Lines<W>, vectors: &[Type; 2]) -> io:
     lines.pair("convert_inner", convert_inner(alloc, from, to))?;
     lines.list("convert_all", convert_all(alloc, vectors))?;
     lines.list("convert_all_to", convert_all_to(alloc, vectors, to))?;
-    lines.list("convert_all_inner_to", convert_all_inner_to(alloc, vectors, &Type::U32))
+    lines.list(
+        "convert_all_inner_to",
+        convert_all_inner_to(alloc, vectors, &Type::U32),
+    )
 }
