@@ -1,4 +1,5 @@
-// The arguments of the calls. No function returns early while it owns a type, which would be dear to prove: `both` does.
+// The arguments of the calls. Only the generic `both` returns early while it owns a value: a function that does so while
+// it owns a type takes long to prove.
 use std::alloc::{AllocError, Global};
 use wgsl_types::error::Error;
 use wgsl_types::inst::{Instance, LiteralInstance};
@@ -19,16 +20,18 @@ pub struct Arguments {
     pub templates: Templates,
 }
 
+/// Operands and arguments with which a call is never out of memory.
 #[derive(PartialEq, Drop)]
 pub struct Scalars {
     /// Operands of unary operators.
     pub single: [Type; 3],
     /// Operands of binary operators.
     pub pairs: [(Type, Type); 3],
-    /// What converts to its last.
+    /// Their common type is the last.
     pub numbers: [Type; 3],
 }
 
+/// Types in which a part lies in memory of its own.
 #[derive(PartialEq, Drop)]
 pub struct Types {
     /// `vec2<AbstractInt>` and `vec2<u32>`
@@ -41,6 +44,7 @@ pub struct Types {
     pub in_handle: Type,
 }
 
+/// Structs, and a member.
 #[derive(PartialEq, Drop)]
 pub struct Structs {
     /// `a: vec2<u32>`
@@ -53,6 +57,7 @@ pub struct Structs {
     pub empty: StructType,
 }
 
+/// Refusals that are copied.
 #[derive(PartialEq, Drop)]
 pub struct Refusals {
     /// That no overload takes `array<vec2<f16>, 2>(vec2<f16>)`.
@@ -61,6 +66,7 @@ pub struct Refusals {
     pub conversion: Error,
 }
 
+/// Template parameters.
 #[derive(PartialEq, Drop)]
 pub struct Templates {
     /// `<f32>`
@@ -75,6 +81,7 @@ pub struct Templates {
     pub push_constant: [TpltParam; 2],
 }
 
+/// The arguments, if there is memory for them.
 pub fn make_arguments(alloc: Global) -> Result<Arguments, AllocError> {
     let first = both(make_types(alloc), make_structs(alloc));
     let second = both(
@@ -155,7 +162,10 @@ fn reference(alloc: Global, space: AddressSpace) -> Result<Type, AllocError> {
 
 fn make_structs(alloc: Global) -> Result<Structs, AllocError> {
     let first = both(member(alloc, "a"), structure(alloc));
-    let ((member, structure), (ty, empty)) = both(first, both(struct_type(alloc), empty(alloc)))?;
+    let ((member, structure), (ty, empty)) = both(
+        first,
+        both(struct_type(alloc), empty_structure(alloc)),
+    )?;
     Ok(Structs {
         member,
         structure,
@@ -183,7 +193,7 @@ fn struct_type(alloc: Global) -> Result<Type, AllocError> {
     Type::from_struct(alloc, structure(alloc)?)
 }
 
-fn empty(alloc: Global) -> Result<StructType, AllocError> {
+fn empty_structure(alloc: Global) -> Result<StructType, AllocError> {
     let name = String::from_str(alloc, "E")?;
     let members = Vec::new(alloc);
     Ok(StructType { name, members })
@@ -197,7 +207,7 @@ fn make_refusals(alloc: Global) -> Result<Refusals, AllocError> {
 }
 
 fn signature(alloc: Global) -> Result<CallSignature, AllocError> {
-    let lists = both(parameters(alloc), list(alloc));
+    let lists = both(parameters(alloc), args(alloc));
     let (name, (parameters, args)) = both(String::from_str(alloc, "array"), lists)?;
     Ok(CallSignature {
         name,
@@ -211,7 +221,7 @@ fn parameters(alloc: Global) -> Result<Vec<TpltParam>, AllocError> {
     Ok(Vec::from_array(alloc, parameters)?)
 }
 
-fn list(alloc: Global) -> Result<Vec<Type>, AllocError> {
+fn args(alloc: Global) -> Result<Vec<Type>, AllocError> {
     let ty = vector(alloc, 2, Type::F16)?;
     Ok(Vec::from_array(alloc, [ty])?)
 }

@@ -5,7 +5,7 @@ use std::io::Write;
 use std::{fmt, io};
 use wgsl_types::builtin::Candidate;
 
-/// The allocator that the calls are handed, and where the lines go. Printing doesn't allocate.
+/// The allocator that the calls are handed, and the output that their lines are written to. Printing doesn't allocate.
 #[derive(Drop)]
 pub struct Lines<W> {
     pub alloc: Global,

@@ -1,6 +1,6 @@
 // The program: it makes each public call that is handed an allocator twice, on the same arguments, and prints what it
-// answered. Run with a request for memory refused, it shows that the call in which that falls reports out of memory, and that
-// all others answer as before, the same call made again among them.
+// answers. If one request for memory is refused, the call that made it reports out of memory. The same call, made the
+// other time, answers as without fault, and so do all others.
 #![tactic(auto)]
 
 mod arguments;
@@ -32,7 +32,7 @@ fn main(rt: HostRuntime) -> ExitCode {
     status
 }
 
-/// Prints each call twice, if there are arguments, and gives the exit status. The second arguments are as the first were made.
+/// Prints each call twice if there are arguments. They were made twice too: the second show whether the first change.
 fn print_all<W: Write>(
     lines: &mut Lines<W>,
     made: &Result<(Arguments, Arguments), AllocError>,

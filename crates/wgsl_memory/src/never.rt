@@ -1,25 +1,23 @@
 // Calls that are never out of memory. Their lines begin with the word `never`.
 use crate::arguments::{Arguments, Scalars, Structs, Templates, Types};
 use crate::lines::Lines;
-use crate::operators::{BINARY, UNARY};
+use crate::operators::print_scalar_operators;
 use crate::templates::{atomic_inner, texture_channel};
 use std::alloc::AllocError;
 use std::io;
 use std::io::Write;
 use wgsl_types::Type;
-use wgsl_types::builtin::{
-    binary_candidate, type_binary_op, type_builtin_fn, type_unary_op, typecheck_struct_ctor,
-};
+use wgsl_types::builtin::{type_builtin_fn, type_unary_op, typecheck_struct_ctor};
 use wgsl_types::conv::{Convert, convert_all_ty, convert_ty};
 use wgsl_types::inst::{Instance, LiteralInstance};
-use wgsl_types::syntax::{BinaryOperator, UnaryOperator};
+use wgsl_types::syntax::UnaryOperator;
 use wgsl_types::ty::{Ty, try_from_type};
 
 /// `5lu`
 const LITERAL: Instance = Instance::Literal(LiteralInstance::U64(5));
 
 pub fn print_never<W: Write>(lines: &mut Lines<W>, arguments: &Arguments) -> io::Result<()> {
-    print_operators(lines, &arguments.scalars)?;
+    print_scalar_operators(lines, &arguments.scalars)?;
     print_scalars(lines, &arguments.scalars)?;
     print_copies(lines, arguments)?;
     print_templates(lines, &arguments.templates)?;
@@ -27,47 +25,6 @@ pub fn print_never<W: Write>(lines: &mut Lines<W>, arguments: &Arguments) -> io:
     print_scalar_calls(lines)?;
     print_vector_calls(lines, arguments)?;
     print_structs(lines, &arguments.structs, &arguments.types.vectors)
-}
-
-fn print_operators<W: Write>(lines: &mut Lines<W>, scalars: &Scalars) -> io::Result<()> {
-    for operator in UNARY {
-        for operand in &scalars.single {
-            print_unary(lines, operator, operand)?;
-        }
-    }
-    for operator in BINARY {
-        for (lhs, rhs) in &scalars.pairs {
-            print_binary(lines, operator, lhs, rhs)?;
-        }
-    }
-    Ok(())
-}
-
-fn print_unary<W: Write>(
-    lines: &mut Lines<W>,
-    operator: UnaryOperator,
-    operand: &Type,
-) -> io::Result<()> {
-    lines.value(
-        format_args!("never type_unary_op {operator} {operand}"),
-        type_unary_op(lines.alloc, operator, operand),
-    )
-}
-
-fn print_binary<W: Write>(
-    lines: &mut Lines<W>,
-    operator: BinaryOperator,
-    lhs: &Type,
-    rhs: &Type,
-) -> io::Result<()> {
-    lines.value(
-        format_args!("never type_binary_op {lhs} {operator} {rhs}"),
-        type_binary_op(lines.alloc, operator, lhs, rhs),
-    )?;
-    lines.candidate(
-        format_args!("never binary_candidate {lhs} {operator} {rhs}"),
-        binary_candidate(lines.alloc, operator, lhs, rhs),
-    )
 }
 
 fn print_scalars<W: Write>(lines: &mut Lines<W>, scalars: &Scalars) -> io::Result<()> {

@@ -108,6 +108,7 @@ fn atomic_type(alloc: Global, tplt: &[TpltParam]) -> Result<Type, Fail> {
     Ok(ty?)
 }
 
+/// The type inside the atomic of this template.
 pub fn atomic_inner(alloc: Global, tplt: &[TpltParam]) -> Result<Type, Fail> {
     let template = AtomicTemplate::parse(alloc, tplt)?;
     let ty = template.inner_ty(alloc);
@@ -136,7 +137,7 @@ fn bitcast_inner(alloc: Global, tplt: &[TpltParam]) -> Result<Type, Fail> {
     Ok(ty?)
 }
 
-/// What is sampled from a `texture_2d` of this template.
+/// The type of the channels of the `texture_2d` of this template.
 pub fn texture_channel(alloc: Global, tplt: &[TpltParam]) -> Result<SampledType, Fail> {
     let template = TextureTemplate::parse(alloc, "texture_2d", tplt)?;
     Ok(template.ty().channel_type())
