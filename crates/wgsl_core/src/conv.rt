@@ -61,7 +61,7 @@ impl Type {
 }
 
 /// The rank of the conversion from `a` to `b`, and the number of single conversions back from `b` that were taken to
-/// find it.
+/// find it; without a rank that number means nothing.
 pub fn rank_steps(a: &Type, b: &Type) -> (Option<u32>, u32)
     ensures rank { (w : ℕ) → (result.0 ≡ Some w) ↔ Converts (view a.now) (view b.now) w }
     ensures few { result.1 ≤ 2 }

@@ -42,6 +42,8 @@ pub struct Types {
     pub nested: Type,
     /// `ref<handle, f32, read_write>`
     pub in_handle: Type,
+    /// `mat2x2<f32>`
+    pub square: [Type; 1],
 }
 
 /// Structs, and a member.
@@ -55,6 +57,8 @@ pub struct Structs {
     pub ty: Type,
     /// `struct E {}`
     pub empty: StructType,
+    /// Structs of one member that have no size: its type has none, its alignment is 0, and the size passes 4294967295.
+    pub without_size: [StructType; 3],
 }
 
 /// Refusals that are copied.
@@ -125,13 +129,14 @@ fn make_types(alloc: Global) -> Result<Types, AllocError> {
         vector(alloc, 2, Type::U32),
     );
     let others = both(nested(alloc), reference(alloc, AddressSpace::Handle));
-    let made = both(both(vectors, others), operands(alloc));
-    let (((first, second), (nested, in_handle)), operands) = made?;
+    let made = both(both(vectors, others), both(operands(alloc), square(alloc)));
+    let (((first, second), (nested, in_handle)), (operands, square)) = made?;
     Ok(Types {
         vectors: [first, second],
         operands,
         nested,
         in_handle,
+        square: [square],
     })
 }
 
@@ -144,6 +149,10 @@ fn operands(alloc: Global) -> Result<[Type; 4], AllocError> {
 
 fn vector(alloc: Global, components: u8, component: Type) -> Result<Type, AllocError> {
     Ok(Type::Vec(components, Box::new(alloc, component)?))
+}
+
+fn square(alloc: Global) -> Result<Type, AllocError> {
+    Ok(Type::Mat(2, 2, Box::new(alloc, Type::F32)?))
 }
 
 fn nested(alloc: Global) -> Result<Type, AllocError> {
@@ -162,16 +171,44 @@ fn reference(alloc: Global, space: AddressSpace) -> Result<Type, AllocError> {
 
 fn make_structs(alloc: Global) -> Result<Structs, AllocError> {
     let first = both(member(alloc, "a"), structure(alloc));
-    let ((member, structure), (ty, empty)) = both(
-        first,
+    let second = both(
         both(struct_type(alloc), empty_structure(alloc)),
-    )?;
+        without_size(alloc),
+    );
+    let ((member, structure), ((ty, empty), without_size)) = both(first, second)?;
     Ok(Structs {
         member,
         structure,
         ty,
         empty,
+        without_size,
     })
+}
+
+fn without_size(alloc: Global) -> Result<[StructType; 3], AllocError> {
+    let unknown = single(alloc, Type::AbstractInt, None, None);
+    let unaligned = single(alloc, Type::F32, None, Some(0));
+    let too_large = single(alloc, Type::F32, Some(u32::MAX), Some(4));
+    let (unknown, (unaligned, too_large)) = both(unknown, both(unaligned, too_large))?;
+    Ok([unknown, unaligned, too_large])
+}
+
+/// A struct of one member of a scalar type.
+fn single(
+    alloc: Global,
+    ty: Type,
+    size: Option<u32>,
+    align: Option<u32>,
+) -> Result<StructType, AllocError> {
+    let names = both(String::from_str(alloc, "S"), String::from_str(alloc, "a"));
+    let ((name, member), mut members) = both(names, Vec::with_capacity(alloc, 1))?;
+    members.push(StructMemberType {
+        name: member,
+        ty,
+        size,
+        align,
+    })?;
+    Ok(StructType { name, members })
 }
 
 fn member(alloc: Global, name: &str) -> Result<StructMemberType, AllocError> {

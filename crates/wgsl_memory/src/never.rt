@@ -73,6 +73,10 @@ fn print_vectors<W: Write>(lines: &mut Lines<W>, types: &Types) -> io::Result<()
         second.convert_to(alloc, first),
     )?;
     lines.option(
+        "never convert_inner_to, to what it doesn't",
+        second.convert_inner_to(alloc, &Type::F16),
+    )?;
+    lines.option(
         "never convert_ty",
         Ok::<_, AllocError>(convert_ty(first, second)),
     )?;
@@ -91,7 +95,8 @@ fn print_scalar_calls<W: Write>(lines: &mut Lines<W>) -> io::Result<()> {
         "clamp",
         &[Type::AbstractInt, Type::F32, Type::AbstractFloat],
     )?;
-    print_call(lines, "select", &[Type::F32, Type::AbstractInt, Type::Bool])
+    print_call(lines, "select", &[Type::F32, Type::AbstractInt, Type::Bool])?;
+    print_call(lines, "distance", &[Type::F32, Type::AbstractFloat])
 }
 
 fn print_call<W: Write>(lines: &mut Lines<W>, name: &str, args: &[Type]) -> io::Result<()> {
@@ -104,7 +109,9 @@ fn print_call<W: Write>(lines: &mut Lines<W>, name: &str, args: &[Type]) -> io::
 fn print_vector_calls<W: Write>(lines: &mut Lines<W>, arguments: &Arguments) -> io::Result<()> {
     print_call(lines, "dot", &arguments.types.vectors)?;
     print_call(lines, "length", &arguments.call.args)?;
-    print_call(lines, "all", &arguments.types.operands[..1])
+    print_call(lines, "determinant", &arguments.types.square)?;
+    print_call(lines, "all", &arguments.types.operands[..1])?;
+    print_call(lines, "any", &arguments.types.operands[..1])
 }
 
 fn print_structs<W: Write>(
@@ -116,6 +123,7 @@ fn print_structs<W: Write>(
     let Structs {
         structure,
         empty,
+        without_size,
         ..
     } = structs;
     lines.check(
@@ -126,5 +134,9 @@ fn print_structs<W: Write>(
         "never typecheck_struct_ctor of an empty struct",
         typecheck_struct_ctor(alloc, empty, &[]),
     )?;
-    lines.list("never offsets of an empty struct", empty.offsets(alloc))
+    lines.list("never offsets of an empty struct", empty.offsets(alloc))?;
+    for structure in without_size {
+        lines.list("never offsets without a size", structure.offsets(alloc))?;
+    }
+    Ok(())
 }
