@@ -18,7 +18,7 @@ fn expect_printed<T: Display>(
     rows: &[(T, &str)],
 ) -> Result<(), AllocError> {
     for (value, text) in rows {
-        expect_text(rt, text, &value.to_string(rt.alloc())?, text);
+        expect_text(rt, "to_string", text, &value.to_string(rt.alloc())?, text);
     }
     Ok(())
 }

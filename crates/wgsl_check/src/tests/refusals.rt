@@ -27,7 +27,13 @@ fn expect_literals(
     rows: &[(LiteralInstance, &str)],
 ) -> Result<(), AllocError> {
     for (literal, wanted) in rows {
-        expect_text(rt, wanted, &literal_parts(rt.alloc(), *literal)?, wanted);
+        expect_text(
+            rt,
+            "a literal",
+            wanted,
+            &literal_parts(rt.alloc(), *literal)?,
+            wanted,
+        );
     }
     Ok(())
 }
@@ -97,7 +103,8 @@ fn no_function_has_the_empty_name(rt: HostRuntime) -> Result<(), Fail> {
     let text = value_or_refusal(rt.alloc(), type_builtin_fn(rt.alloc(), "", None, &[]))?;
     expect_text(
         &rt,
-        "the empty name",
+        "type_builtin_fn",
+        "",
         &text,
         "invalid function call signature: `()`",
     );
@@ -117,7 +124,13 @@ fn expect_messages(
     rows: &[(Error, &str)],
 ) -> Result<(), AllocError> {
     for (error, wanted) in rows {
-        expect_text(rt, wanted, &copied_message(rt.alloc(), error)?, wanted);
+        expect_text(
+            rt,
+            "a copy",
+            wanted,
+            &copied_message(rt.alloc(), error)?,
+            wanted,
+        );
     }
     Ok(())
 }
@@ -251,7 +264,13 @@ fn expect_messages_of(
     rows: &[(&str, &str, &str)],
 ) -> Result<(), Fail> {
     for (kind, words, wanted) in rows {
-        expect_text(rt, kind, &message_of(rt.alloc(), kind, words)?, wanted);
+        expect_text(
+            rt,
+            kind,
+            words,
+            &message_of(rt.alloc(), kind, words)?,
+            wanted,
+        );
     }
     Ok(())
 }
@@ -300,10 +319,11 @@ const REFUSED: error::Fail = error::Fail::Error(Error::NotRead);
 #[test]
 fn failures_print_out_of_memory_or_their_refusal(rt: HostRuntime) -> Result<(), Fail> {
     let text = OUT_OF_MEMORY.to_string(rt.alloc())?;
-    expect_text(&rt, "Memory", &text, "out of memory");
+    expect_text(&rt, "to_string", "Memory", &text, "out of memory");
     let text = REFUSED.to_string(rt.alloc())?;
     expect_text(
         &rt,
+        "to_string",
         "Error",
         &text,
         "attempt to read a write-only reference",
@@ -432,6 +452,26 @@ fn structs_and_members_are_copied(rt: HostRuntime) -> Result<(), Fail> {
     Ok(())
 }
 
+fn member_parts(alloc: Global, member: &StructMemberType) -> Result<String, AllocError> {
+    let (name, ty, size, align) = (&member.name, &member.ty, member.size, member.align);
+    format!(in alloc; "{name} {ty} {size:?} {align:?}")
+}
+
+#[test]
+fn members_are_made_without_attributes(rt: HostRuntime) -> Result<(), Fail> {
+    let member = StructMemberType::new(String::from_str(rt.alloc(), "a")?, Type::F32);
+    let text = member_parts(rt.alloc(), &member);
+    drop(member);
+    expect_text(
+        &rt,
+        "StructMemberType::new",
+        "a f32",
+        &text?,
+        "a f32 None None",
+    );
+    Ok(())
+}
+
 fn unwrapped_atomic(alloc: Global) -> Result<String, Fail> {
     let inner = Type::Atomic(Box::new(alloc, Type::I32)?).unwrap_atomic();
     let text = inner.to_string(alloc);
@@ -460,9 +500,21 @@ fn unwrapped_struct(alloc: Global) -> Result<String, Fail> {
 
 #[test]
 fn types_are_taken_apart(rt: HostRuntime) -> Result<(), Fail> {
-    expect_text(&rt, "atomic", &unwrapped_atomic(rt.alloc())?, "i32");
-    expect_text(&rt, "vec", &unwrapped_vector(rt.alloc())?, "3 f16");
-    expect_text(&rt, "struct", &unwrapped_struct(rt.alloc())?, "S");
+    expect_text(
+        &rt,
+        "unwrap",
+        "atomic",
+        &unwrapped_atomic(rt.alloc())?,
+        "i32",
+    );
+    expect_text(
+        &rt,
+        "unwrap",
+        "vec",
+        &unwrapped_vector(rt.alloc())?,
+        "3 f16",
+    );
+    expect_text(&rt, "unwrap", "struct", &unwrapped_struct(rt.alloc())?, "S");
     Ok(())
 }
 
@@ -476,8 +528,20 @@ fn sampled(alloc: Global, ty: &Type) -> Result<String, AllocError> {
 
 #[test]
 fn three_types_are_sampled(rt: HostRuntime) -> Result<(), Fail> {
-    expect_text(&rt, "u32", &sampled(rt.alloc(), &Type::U32)?, "u32");
+    expect_text(
+        &rt,
+        "try_from_type",
+        "u32",
+        &sampled(rt.alloc(), &Type::U32)?,
+        "u32",
+    );
     let refused = "invalid sampled type, expected `i32`, `u32` or `f32`, got `f16`";
-    expect_text(&rt, "f16", &sampled(rt.alloc(), &Type::F16)?, refused);
+    expect_text(
+        &rt,
+        "try_from_type",
+        "f16",
+        &sampled(rt.alloc(), &Type::F16)?,
+        refused,
+    );
     Ok(())
 }

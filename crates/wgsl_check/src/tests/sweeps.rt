@@ -2,6 +2,7 @@
 use super::expect_answers;
 use super::worded::expect_replies;
 use std::test::Fail;
+use wgsl_types::conv::{convert_all_ty, convert_ty};
 use wgsl_types::laws;
 use wgsl_types::ty::Type;
 
@@ -32,6 +33,15 @@ fn laws_of_ranks_common_types_and_sizes_hold(rt: HostRuntime) -> Result<(), Fail
         ],
     )?;
     Ok(())
+}
+
+#[test]
+fn the_last_of_a_rising_list_is_its_common_type(rt: HostRuntime) {
+    let [first, second, third] = &FORWARD;
+    assert!(rt; first.is_convertible_to(second));
+    assert!(rt; !second.is_convertible_to(first));
+    assert!(rt; convert_ty(first, second) == Some(second));
+    assert!(rt; convert_all_ty(&FORWARD) == Some(third));
 }
 
 #[test]

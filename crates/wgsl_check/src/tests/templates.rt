@@ -148,7 +148,7 @@ fn expect_rows(
     rows: &[(&str, &str)],
 ) -> Result<(), Fail> {
     for (words, wanted) in rows {
-        expect_text(rt, words, &answer(rt.alloc(), name, words)?, wanted);
+        expect_text(rt, name, words, &answer(rt.alloc(), name, words)?, wanted);
     }
     Ok(())
 }
@@ -161,7 +161,7 @@ fn expect_refusal(
     message: &str,
 ) -> Result<(), Fail> {
     for words in rows {
-        expect_text(rt, words, &answer(rt.alloc(), name, words)?, message);
+        expect_text(rt, name, words, &answer(rt.alloc(), name, words)?, message);
     }
     Ok(())
 }
@@ -285,7 +285,13 @@ fn array_templates_are_made_without_parameters(rt: HostRuntime) -> Result<(), Fa
     let array = ArrayTemplate::new(Type::U64, Some(5));
     let text = array_parts(rt.alloc(), &array);
     drop(array);
-    expect_text(&rt, "an array of five", &text?, "array<u64, 5> u64 Some(5)");
+    expect_text(
+        &rt,
+        "ArrayTemplate::new",
+        "u64 5",
+        &text?,
+        "array<u64, 5> u64 Some(5)",
+    );
     Ok(())
 }
 
@@ -742,9 +748,9 @@ fn handles_have_no_pointers(rt: HostRuntime) -> Result<(), Fail> {
     let tplt = &[HANDLE, TpltParam::Ty(Type::I32), READ_WRITE];
     let refused = "cannot create a pointer in `handle` address space";
     let text = made_or_refused(rt.alloc(), "ptr", &tplt[..2])?;
-    expect_text(&rt, "handle, i32", &text, refused);
+    expect_text(&rt, "ptr", "handle, i32", &text, refused);
     let text = made_or_refused(rt.alloc(), "ptr", tplt)?;
-    expect_text(&rt, "handle, i32, read_write", &text, refused);
+    expect_text(&rt, "ptr", "handle, i32, read_write", &text, refused);
     Ok(())
 }
 
@@ -754,6 +760,7 @@ fn handles_hold_what_can_be_stored_before_all_else(rt: HostRuntime) -> Result<()
     let text = made_or_refused(rt.alloc(), "ptr", tplt)?;
     expect_text(
         &rt,
+        "ptr",
         "handle, AbstractInt",
         &text,
         "pointer type must be storable",
@@ -767,7 +774,7 @@ fn expect_textures(
     rows: &[(&str, &str, &str)],
 ) -> Result<(), Fail> {
     for (name, words, wanted) in rows {
-        expect_text(rt, name, &answer(rt.alloc(), name, words)?, wanted);
+        expect_text(rt, name, words, &answer(rt.alloc(), name, words)?, wanted);
     }
     Ok(())
 }

@@ -1,4 +1,5 @@
-// Types and templates out of the words in which the program reads them, and types as they are spelled.
+// Types and templates out of the words in which the program reads them, and what calls that no command makes give for
+// such types, as text.
 use crate::line::words;
 use crate::read::{read_type, read_types};
 use crate::template::read_template;
@@ -88,14 +89,14 @@ pub fn expect_replies(
 ) -> Result<(), Fail> {
     for (words, wanted) in rows {
         let text = reply(rt.alloc(), call, words)?;
-        expect_text(rt, words, &text, wanted);
+        expect_text(rt, call, words, &text, wanted);
     }
     Ok(())
 }
 
-/// Compares a text with the one that is wanted of what was asked.
-pub fn expect_text(rt: &impl Abort, asked: &str, text: &str, wanted: &str) {
-    assert_eq!(rt; text, wanted, "of `{asked}`");
+/// Compares what was answered to a call with these words with the text that is wanted.
+pub fn expect_text(rt: &impl Abort, call: &str, words: &str, text: &str, wanted: &str) {
+    assert_eq!(rt; text, wanted, "of {call} `{words}`");
 }
 
 fn copied(alloc: Global, words: &str) -> Result<String, Fail> {
@@ -137,29 +138,29 @@ fn kinds_of(alloc: Global, words: &str) -> Result<String, Fail> {
     Ok(text?)
 }
 
-/// The predicates that hold of a type, each with a space before it.
+/// The predicates that hold of a type.
 fn kinds(alloc: Global, ty: &Type) -> Result<String, AllocError> {
     names_of_true(
         alloc,
         &[
-            (ty.is_scalar(), " scalar"),
-            (ty.is_numeric(), " numeric"),
-            (ty.is_integer(), " integer"),
-            (ty.is_float(), " float"),
-            (ty.is_abstract(), " abstract"),
-            (ty.is_concrete(), " concrete"),
-            (ty.is_storable(), " storable"),
-            (ty.is_array(), " array"),
-            (ty.is_vec(), " vec"),
-            (ty.is_mat(), " mat"),
-            (ty.is_bool(), " bool"),
-            (ty.is_i32(), " i32"),
-            (ty.is_u32(), " u32"),
-            (ty.is_f32(), " f32"),
-            (ty.is_i64(), " i64"),
-            (ty.is_u64(), " u64"),
-            (ty.is_f64(), " f64"),
-            (ty.is_abstract_int(), " abstract_int"),
+            (ty.is_scalar(), "scalar"),
+            (ty.is_numeric(), "numeric"),
+            (ty.is_integer(), "integer"),
+            (ty.is_float(), "float"),
+            (ty.is_abstract(), "abstract"),
+            (ty.is_concrete(), "concrete"),
+            (ty.is_storable(), "storable"),
+            (ty.is_array(), "array"),
+            (ty.is_vec(), "vec"),
+            (ty.is_mat(), "mat"),
+            (ty.is_bool(), "bool"),
+            (ty.is_i32(), "i32"),
+            (ty.is_u32(), "u32"),
+            (ty.is_f32(), "f32"),
+            (ty.is_i64(), "i64"),
+            (ty.is_u64(), "u64"),
+            (ty.is_f64(), "f64"),
+            (ty.is_abstract_int(), "abstract_int"),
         ],
     )
 }
@@ -168,6 +169,7 @@ fn names_of_true(alloc: Global, all: &[(bool, &str)]) -> Result<String, AllocErr
     let mut text = String::new(alloc);
     for (holds, name) in all {
         if *holds {
+            text.push_str(if text.is_empty() { "" } else { " " })?;
             text.push_str(name)?;
         }
     }
