@@ -106,6 +106,15 @@ fn pointer(alloc: Global, tplt: &[TpltParam]) -> Result<String, error::Fail> {
     Ok(spelled(alloc, ty?)?)
 }
 
+/// The address space, the type and the access mode that a template of a pointer shows.
+fn pointer_parts(alloc: Global, tplt: &[TpltParam]) -> Result<String, error::Fail> {
+    let pointer = PtrTemplate::parse(alloc, tplt)?;
+    let (space, ty, access) = (pointer.space, &pointer.ty, pointer.access);
+    let text = format!(in alloc; "{space} {ty} {access}");
+    drop(pointer);
+    Ok(text?)
+}
+
 fn texture(alloc: Global, name: &str, tplt: &[TpltParam]) -> Result<String, error::Fail> {
     let texture = TextureTemplate::parse(alloc, name, tplt)?;
     Ok(spelled(alloc, Type::Texture(texture.ty()))?)
@@ -121,6 +130,7 @@ fn made(alloc: Global, name: &str, tplt: &[TpltParam]) -> Result<String, error::
         "bitcast" => bitcast(alloc, tplt),
         "atomic" => atomic(alloc, tplt),
         "ptr" => pointer(alloc, tplt),
+        "parts of ptr" => pointer_parts(alloc, tplt),
         _ => texture(alloc, name, tplt),
     }
 }
@@ -616,6 +626,18 @@ fn pointers_have_the_access_of_their_space(rt: HostRuntime) -> Result<(), Fail> 
             "e uniform t i32 e atomic",
         ],
         "pointer in uniform address space must have a `read` access mode",
+    )
+}
+
+#[test]
+fn pointers_show_their_parts(rt: HostRuntime) -> Result<(), Fail> {
+    expect_rows(
+        &rt,
+        "parts of ptr",
+        &[
+            ("e storage t u32 e read_write", "storage u32 read_write"),
+            ("e uniform t vec 3 f32", "uniform vec3<f32> read"),
+        ],
     )
 }
 
