@@ -9,6 +9,7 @@ use wgsl_types::builtin::{type_binary_op, type_builtin_fn, type_ctor, type_unary
 use wgsl_types::conv::conversion_rank;
 use wgsl_types::error::Fail;
 use wgsl_types::syntax::{BinaryOperator, UnaryOperator};
+use wgsl_types::tplt::TpltParam;
 use wgsl_types::ty::Type;
 
 /// The answer to the words of the line of this number, or `None` where they are no command.
@@ -22,47 +23,123 @@ pub fn answer(alloc: Global, line: u64, words: &[&str]) -> Result<Option<String>
 
 fn command(alloc: Global, line: u64, mut words: Words) -> Result<String, Unread> {
     match words.next()? {
-        "rank" => rank(alloc, words),
         "common" => common(alloc, line, words),
-        "unary" => unary(alloc, words),
-        "binary" => binary(alloc, words),
-        "size" => size(alloc, words),
-        "offsets" => offsets(alloc, words),
-        "layout" => layout(alloc, words),
-        "ctor" => ctor(alloc, words),
-        "call" => call(alloc, words),
-        _ => Err(Unread::Word),
+        word => {
+            let question = read_question(alloc, word, &mut words)?;
+            let answer = answer_to(alloc, &question, words);
+            drop(question);
+            answer
+        }
     }
-}
-
-/// `rank T U`: the rank of the conversion.
-fn rank(alloc: Global, mut words: Words) -> Result<String, Unread> {
-    let from = read_type(alloc, &mut words)?;
-    let to = read_type(alloc, &mut words)?;
-    words.end()?;
-    Ok(number_or_none(alloc, conversion_rank(&from, &to))?)
 }
 
 /// `common T..`: the common type of all.
 fn common(alloc: Global, line: u64, mut words: Words) -> Result<String, Unread> {
+    let types = read_typed(alloc, line, &mut words)?;
+    let converted = convert_to_common(alloc, &types);
+    drop(types);
+    let text = first_or_none(alloc, &converted);
+    drop(converted);
+    Ok(text?)
+}
+
+/// The types that all words that are left stand for, on the line of this number.
+fn read_typed(alloc: Global, line: u64, words: &mut Words) -> Result<Vec<Typed>, Unread> {
     let mut types = Vec::new(alloc);
-    for ty in read_types(alloc, &mut words)? {
-        types.push(Typed { ty, line }).map_err(|_e| AllocError)?;
+    for ty in read_types(alloc, words)? {
+        types.push(Typed { ty, line })?;
     }
-    if let Some(converted) = convert_to_common(alloc, &types)? {
-        if let Some(first) = converted.first() {
-            return Ok(first.ty.to_string(alloc)?);
+    Ok(types)
+}
+
+/// The spelling of the first of the types, or `none`.
+fn first_or_none(
+    alloc: Global,
+    converted: &Result<Option<Vec<Typed>>, AllocError>,
+) -> Result<String, AllocError> {
+    match converted {
+        Ok(Some(types)) => match types.first() {
+            Some(first) => first.ty.to_string(alloc),
+            None => String::from_str(alloc, "none"),
+        },
+        Ok(None) => String::from_str(alloc, "none"),
+        Err(e) => Err(*e),
+    }
+}
+
+/// What a command asks of the types after it.
+#[derive(Drop)]
+enum Question<'t> {
+    Rank,
+    Unary(UnaryOperator),
+    Binary(BinaryOperator),
+    Size,
+    Offsets,
+    Layout,
+    Ctor(&'t str, Option<Vec<TpltParam>>),
+    Call(&'t str, Option<Vec<TpltParam>>),
+}
+
+fn read_question<'t>(
+    alloc: Global,
+    word: &str,
+    words: &mut Words<'_, 't>,
+) -> Result<Question<'t>, Unread> {
+    match word {
+        "rank" => Ok(Question::Rank),
+        "unary" => Ok(Question::Unary(unary_operator(words.next()?)?)),
+        "binary" => Ok(Question::Binary(binary_operator(words.next()?)?)),
+        "size" => Ok(Question::Size),
+        "offsets" => Ok(Question::Offsets),
+        "layout" => Ok(Question::Layout),
+        "ctor" => Ok(Question::Ctor(words.next()?, read_template(alloc, words)?)),
+        "call" => Ok(Question::Call(words.next()?, read_template(alloc, words)?)),
+        _ => Err(Unread::Word),
+    }
+}
+
+/// The answer for the types that all words that are left stand for.
+fn answer_to(alloc: Global, question: &Question, mut words: Words) -> Result<String, Unread> {
+    let types = read_types(alloc, &mut words)?;
+    let answer = answer_for(alloc, question, &types);
+    drop(types);
+    answer
+}
+
+fn answer_for(alloc: Global, question: &Question, types: &[Type]) -> Result<String, Unread> {
+    match question {
+        Question::Rank => rank(alloc, types),
+        Question::Unary(operator) => unary(alloc, *operator, types),
+        Question::Binary(operator) => binary(alloc, *operator, types),
+        Question::Size => size(alloc, types),
+        Question::Offsets => offsets(alloc, types),
+        Question::Layout => layout(alloc, types),
+        Question::Ctor(name, template) => {
+            Ok(type_or_refusal(alloc, type_ctor(alloc, name, template.as_deref(), types))?)
+        }
+        Question::Call(name, template) => {
+            Ok(value_or_refusal(
+                alloc,
+                type_builtin_fn(alloc, name, template.as_deref(), types),
+            )?)
         }
     }
-    Ok(String::from_str(alloc, "none")?)
+}
+
+/// `rank T U`: the rank of the conversion.
+fn rank(alloc: Global, types: &[Type]) -> Result<String, Unread> {
+    let [from, to] = types else {
+        return Err(Unread::Word);
+    };
+    Ok(number_or_none(alloc, conversion_rank(from, to))?)
 }
 
 /// `unary OP T`: the type of the expression, or why it has none.
-fn unary(alloc: Global, mut words: Words) -> Result<String, Unread> {
-    let operator = unary_operator(words.next()?)?;
-    let operand = read_type(alloc, &mut words)?;
-    words.end()?;
-    Ok(type_or_refusal(alloc, type_unary_op(alloc, operator, &operand))?)
+fn unary(alloc: Global, operator: UnaryOperator, types: &[Type]) -> Result<String, Unread> {
+    let [operand] = types else {
+        return Err(Unread::Word);
+    };
+    Ok(type_or_refusal(alloc, type_unary_op(alloc, operator, operand))?)
 }
 
 fn unary_operator(word: &str) -> Result<UnaryOperator, Unread> {
@@ -77,12 +154,11 @@ fn unary_operator(word: &str) -> Result<UnaryOperator, Unread> {
 }
 
 /// `binary OP T U`: the type of the expression, or why it has none.
-fn binary(alloc: Global, mut words: Words) -> Result<String, Unread> {
-    let operator = binary_operator(words.next()?)?;
-    let lhs = read_type(alloc, &mut words)?;
-    let rhs = read_type(alloc, &mut words)?;
-    words.end()?;
-    Ok(type_or_refusal(alloc, type_binary_op(alloc, operator, &lhs, &rhs))?)
+fn binary(alloc: Global, operator: BinaryOperator, types: &[Type]) -> Result<String, Unread> {
+    let [lhs, rhs] = types else {
+        return Err(Unread::Word);
+    };
+    Ok(type_or_refusal(alloc, type_binary_op(alloc, operator, lhs, rhs))?)
 }
 
 fn binary_operator(word: &str) -> Result<BinaryOperator, Unread> {
@@ -110,21 +186,20 @@ fn binary_operator(word: &str) -> Result<BinaryOperator, Unread> {
 }
 
 /// `size T`: the size and the alignment.
-fn size(alloc: Global, mut words: Words) -> Result<String, Unread> {
-    let ty = read_type(alloc, &mut words)?;
-    words.end()?;
-    let mut text = number_or_none(alloc, ty.size_of())?;
-    text.push(' ')?;
-    text.push_str(&number_or_none(alloc, ty.align_of())?)?;
-    Ok(text)
+fn size(alloc: Global, types: &[Type]) -> Result<String, Unread> {
+    let [ty] = types else {
+        return Err(Unread::Word);
+    };
+    let size = number_or_none(alloc, ty.size_of())?;
+    let align = number_or_none(alloc, ty.align_of())?;
+    Ok(format!(in alloc; "{size} {align}")?)
 }
 
 /// `offsets T`, where T is a struct: the offset of each member.
-fn offsets(alloc: Global, mut words: Words) -> Result<String, Unread> {
-    let Type::Struct(read) = read_type(alloc, &mut words)? else {
+fn offsets(alloc: Global, types: &[Type]) -> Result<String, Unread> {
+    let [Type::Struct(read)] = types else {
         return Err(Unread::Word);
     };
-    words.end()?;
     match read.offsets(alloc)? {
         Some(offsets) => Ok(spaced(alloc, &offsets)?),
         None => Ok(String::from_str(alloc, "none")?),
@@ -132,40 +207,17 @@ fn offsets(alloc: Global, mut words: Words) -> Result<String, Unread> {
 }
 
 /// `layout T`, where T is a struct: a report of its members and of the whole.
-fn layout(alloc: Global, mut words: Words) -> Result<String, Unread> {
-    let ty = read_type(alloc, &mut words)?;
-    words.end()?;
-    let Type::Struct(read) = &ty else {
+fn layout(alloc: Global, types: &[Type]) -> Result<String, Unread> {
+    let [ty] = types else {
         return Err(Unread::Word);
     };
-    match layout_of(alloc, &ty, read)? {
+    let Type::Struct(read) = ty else {
+        return Err(Unread::Word);
+    };
+    match layout_of(alloc, ty, read)? {
         Some(text) => Ok(text),
         None => Ok(String::from_str(alloc, "none")?),
     }
-}
-
-/// `ctor NAME P T..`: the type that the constructor makes, or why it makes none.
-fn ctor(alloc: Global, mut words: Words) -> Result<String, Unread> {
-    let name = words.next()?;
-    let template = read_template(alloc, &mut words)?;
-    let arguments = read_types(alloc, &mut words)?;
-    let made = match &template {
-        Some(parameters) => type_ctor(alloc, name, Some(parameters.as_slice()), &arguments),
-        None => type_ctor(alloc, name, None, &arguments),
-    };
-    Ok(type_or_refusal(alloc, made)?)
-}
-
-/// `call NAME P T..`: the type of the call, or why it has none; `no value` where it gives none.
-fn call(alloc: Global, mut words: Words) -> Result<String, Unread> {
-    let name = words.next()?;
-    let template = read_template(alloc, &mut words)?;
-    let arguments = read_types(alloc, &mut words)?;
-    let answer = match &template {
-        Some(parameters) => type_builtin_fn(alloc, name, Some(parameters.as_slice()), &arguments),
-        None => type_builtin_fn(alloc, name, None, &arguments),
-    };
-    Ok(value_or_refusal(alloc, answer)?)
 }
 
 /// The spelling of the type that a call gives, `no value`, or the message of a refusal.
@@ -173,26 +225,36 @@ pub fn value_or_refusal(
     alloc: Global,
     answer: Result<Option<Type>, Fail>,
 ) -> Result<String, AllocError> {
-    match answer {
+    let text = match &answer {
         Ok(Some(ty)) => ty.to_string(alloc),
         Ok(None) => String::from_str(alloc, "no value"),
-        Err(refused) => message(alloc, refused),
-    }
+        Err(refused) => message_of(alloc, refused),
+    };
+    drop(answer);
+    text
 }
 
 /// The spelling of a type, or the message of a refusal.
 pub fn type_or_refusal(alloc: Global, answer: Result<Type, Fail>) -> Result<String, AllocError> {
-    match answer {
+    let text = match &answer {
         Ok(ty) => ty.to_string(alloc),
-        Err(refused) => message(alloc, refused),
-    }
+        Err(refused) => message_of(alloc, refused),
+    };
+    drop(answer);
+    text
 }
 
-/// The message of a refusal.
+/// The message of a refusal, which is let go.
 pub fn message(alloc: Global, refused: Fail) -> Result<String, AllocError> {
+    let text = message_of(alloc, &refused);
+    drop(refused);
+    text
+}
+
+fn message_of(alloc: Global, refused: &Fail) -> Result<String, AllocError> {
     match refused {
         Fail::Error(e) => e.to_string(alloc),
-        Fail::Memory(e) => Err(e),
+        Fail::Memory(e) => Err(*e),
     }
 }
 

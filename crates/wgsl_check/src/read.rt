@@ -14,36 +14,64 @@ use wgsl_types::ty::{SamplerType, StructMemberType, StructType, TextureType, Typ
 pub fn read_type(alloc: Global, words: &mut Words) -> Result<Type, Unread>
     ensures { GoesOn words.old words.new }
 {
-    match words.next()? {
-        "vec" => {
-            let components = words.next_small()?;
-            Ok(Type::Vec(components, read_boxed(alloc, words)?))
-        }
-        "mat" => {
-            let columns = words.next_small()?;
-            let rows = words.next_small()?;
-            Ok(Type::Mat(columns, rows, read_boxed(alloc, words)?))
-        }
-        "array" => {
-            let count = words.next_count()?;
-            Ok(Type::Array(read_boxed(alloc, words)?, count))
-        }
-        "binding_array" => {
-            let count = words.next_count()?;
-            Ok(Type::BindingArray(read_boxed(alloc, words)?, count))
-        }
-        "atomic" => Ok(Type::Atomic(read_boxed(alloc, words)?)),
+    let word = words.next()?;
+    if word == "struct" {
+        return read_struct(alloc, words);
+    }
+    match read_outer(word, words)? {
+        Some(outer) => Ok(outer.around(alloc, read_type(alloc, words)?)?),
+        None => read_flat(word, words),
+    }
+}
+
+/// What a type has around the type that it is of.
+#[derive(Clone, Copy)]
+enum Outer {
+    Vec(u8),
+    Mat(u8, u8),
+    Array(Option<usize>),
+    BindingArray(Option<usize>),
+    Atomic,
+    Ptr(AddressSpace, AccessMode),
+    Ref(AddressSpace, AccessMode),
+}
+
+impl Outer {
+    fn around(self, alloc: Global, ty: Type) -> Result<Type, AllocError> {
+        let inner = Box::new(alloc, ty)?;
+        Ok(match self {
+            Outer::Vec(components) => Type::Vec(components, inner),
+            Outer::Mat(columns, rows) => Type::Mat(columns, rows, inner),
+            Outer::Array(count) => Type::Array(inner, count),
+            Outer::BindingArray(count) => Type::BindingArray(inner, count),
+            Outer::Atomic => Type::Atomic(inner),
+            Outer::Ptr(space, access) => Type::Ptr(space, inner, access),
+            Outer::Ref(space, access) => Type::Ref(space, inner, access),
+        })
+    }
+}
+
+/// What stands in front of the type that a type is of; `None` where the word begins none of these.
+fn read_outer(word: &str, words: &mut Words) -> Result<Option<Outer>, Unread>
+    ensures { GoesOn words.old words.new }
+{
+    let outer = match word {
+        "vec" => Outer::Vec(words.next_small()?),
+        "mat" => Outer::Mat(words.next_small()?, words.next_small()?),
+        "array" => Outer::Array(words.next_count()?),
+        "binding_array" => Outer::BindingArray(words.next_count()?),
+        "atomic" => Outer::Atomic,
         "ptr" => {
             let (space, access) = read_memory(words)?;
-            Ok(Type::Ptr(space, read_boxed(alloc, words)?, access))
+            Outer::Ptr(space, access)
         }
         "ref" => {
             let (space, access) = read_memory(words)?;
-            Ok(Type::Ref(space, read_boxed(alloc, words)?, access))
+            Outer::Ref(space, access)
         }
-        "struct" => read_struct(alloc, words),
-        word => read_flat(word, words),
-    }
+        _ => return Ok(None),
+    };
+    Ok(Some(outer))
 }
 
 /// The types that all words that are left stand for.
@@ -53,18 +81,9 @@ pub fn read_types(alloc: Global, words: &mut Words) -> Result<Vec<Type>, Unread>
         if words.left() == 0 {
             break;
         }
-        let ty = read_type(alloc, words)?;
-        types.push(ty).map_err(|_e| AllocError)?;
+        types.push(read_type(alloc, words)?)?;
     }
     Ok(types)
-}
-
-#[cycle(reading)]
-fn read_boxed(alloc: Global, words: &mut Words) -> Result<Box<Type>, Unread>
-    ensures { GoesOn words.old words.new }
-{
-    let ty = read_type(alloc, words)?;
-    Ok(Box::new(alloc, ty).map_err(|_e| AllocError)?)
 }
 
 /// A struct: its name, the number of its members, and the members.
@@ -76,11 +95,9 @@ fn read_struct(alloc: Global, words: &mut Words) -> Result<Type, Unread>
     let count = words.next_number()?;
     let mut members = Vec::new(alloc);
     for _ in 0..count {
-        let member = read_member(alloc, words)?;
-        members.push(member).map_err(|_e| AllocError)?;
+        members.push(read_member(alloc, words)?)?;
     }
-    let read = StructType { name, members };
-    Ok(Type::Struct(Box::new(alloc, read).map_err(|_e| AllocError)?))
+    Ok(Type::Struct(Box::new(alloc, StructType { name, members })?))
 }
 
 /// A member: its name, its attributes size and align, and its type.

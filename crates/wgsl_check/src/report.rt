@@ -14,15 +14,28 @@ pub fn layout_of(
     let Some(offsets) = layout.offsets(alloc)? else {
         return Ok(None);
     };
+    let mut text = member_lines(alloc, &layout.members, &offsets)?;
+    text.push_str(&last_line(alloc, ty, &layout.name)?)?;
+    Ok(Some(text))
+}
+
+fn member_lines(
+    alloc: Global,
+    members: &[StructMemberType],
+    offsets: &[u32],
+) -> Result<String, AllocError> {
     let mut text = String::new(alloc);
-    for (member, offset) in layout.members.iter().zip(&offsets) {
+    for (member, offset) in members.iter().zip(offsets) {
         text.push_str(&line_of(alloc, member, *offset)?)?;
     }
+    Ok(text)
+}
+
+/// The struct's line: its size, a dash, its alignment and its name.
+fn last_line(alloc: Global, ty: &Type, name: &str) -> Result<String, AllocError> {
     let total = number_or_none(alloc, ty.size_of())?;
     let align = number_or_none(alloc, ty.align_of())?;
-    let name = &layout.name;
-    text.push_str(&format!(in alloc; "{total:>10} {:>10} {align:>10} {name}", "-")?)?;
-    Ok(Some(text))
+    format!(in alloc; "{total:>10} {:>10} {align:>10} {name}", "-")
 }
 
 /// A member's line: its offset, size and alignment, its name and its type.

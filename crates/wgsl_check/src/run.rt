@@ -21,6 +21,12 @@ pub enum RunError {
     Memory,
 }
 
+impl From<AllocError> for RunError {
+    fn from(_e: AllocError) -> RunError {
+        RunError::Memory
+    }
+}
+
 /// How many bytes are read at a time.
 const BLOCK: usize = 4096;
 
@@ -32,20 +38,20 @@ pub fn run<R: Read, W: Write>(
     input: &mut R,
     output: &mut W,
 ) -> Result<bool, RunError> {
-    let mut session = Session::new(alloc).map_err(|_e| RunError::Memory)?;
+    let mut session = Session::new(alloc)?;
     let mut block = [0u8; BLOCK];
     for _ in 0..u64::MAX {
         match input.read(&mut block) {
             Ok(0) => {
                 let ended = session.end_line();
                 session.write_answers(output)?;
-                ended.map_err(|_e| RunError::Memory)?;
+                ended?;
                 return Ok(session.all_readable);
             }
             Ok(count) => {
                 let taken = session.take(&block[..count]);
                 session.write_answers(output)?;
-                taken.map_err(|_e| RunError::Memory)?;
+                taken?;
             }
             Err(e) if e.kind() == ErrorKind::Interrupted => {}
             Err(_) => return Err(RunError::Read),

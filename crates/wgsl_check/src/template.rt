@@ -1,7 +1,7 @@
 // The template parameters that words stand for.
 use crate::read::{parsed, read_type};
 use crate::words::{Unread, Words, number};
-use std::alloc::{AllocError, Global};
+use std::alloc::Global;
 use wgsl_types::inst::{Instance, LiteralInstance};
 use wgsl_types::tplt::TpltParam;
 
@@ -14,20 +14,26 @@ pub fn read_template(alloc: Global, words: &mut Words) -> Result<Option<Vec<Tplt
     }
 }
 
-/// Parameters up to `>`: `t` and a type, `n` and a literal, or `e` and an enumerant.
+/// Parameters up to `>`.
 fn read_parameters(alloc: Global, words: &mut Words) -> Result<Vec<TpltParam>, Unread> {
     let mut parameters = Vec::new(alloc);
     for _ in 0..words.left() {
-        let parameter = match words.next()? {
+        match words.next()? {
             ">" => return Ok(parameters),
-            "t" => TpltParam::Ty(read_type(alloc, words)?),
-            "n" => TpltParam::Instance(Instance::Literal(literal(words.next()?)?)),
-            "e" => TpltParam::Enumerant(parsed(words.next()?)?),
-            _ => return Err(Unread::Word),
-        };
-        parameters.push(parameter).map_err(|_e| AllocError)?;
+            kind => parameters.push(read_parameter(alloc, kind, words)?)?,
+        }
     }
     Err(Unread::Word)
+}
+
+/// A parameter: `t` and a type, `n` and a literal, or `e` and an enumerant.
+fn read_parameter(alloc: Global, kind: &str, words: &mut Words) -> Result<TpltParam, Unread> {
+    match kind {
+        "t" => Ok(TpltParam::Ty(read_type(alloc, words)?)),
+        "n" => Ok(TpltParam::Instance(Instance::Literal(literal(words.next()?)?))),
+        "e" => Ok(TpltParam::Enumerant(parsed(words.next()?)?)),
+        _ => Err(Unread::Word),
+    }
 }
 
 /// A literal: `true`, `false`, or a number, with the suffix of its kind where it isn't abstract.
@@ -42,11 +48,9 @@ fn literal(word: &str) -> Result<LiteralInstance, Unread> {
     } else if let Some(digits) = word.strip_suffix("lu") {
         Ok(LiteralInstance::U64(number(digits)?))
     } else if let Some(digits) = word.strip_suffix("i") {
-        let value = i32::try_from(signed(digits)?).map_err(|_e| Unread::Word)?;
-        Ok(LiteralInstance::I32(value))
+        Ok(LiteralInstance::I32(i32::try_from(signed(digits)?)?))
     } else if let Some(digits) = word.strip_suffix("u") {
-        let value = u32::try_from(number(digits)?).map_err(|_e| Unread::Word)?;
-        Ok(LiteralInstance::U32(value))
+        Ok(LiteralInstance::U32(u32::try_from(number(digits)?)?))
     } else {
         Ok(LiteralInstance::AbstractInt(signed(word)?))
     }
@@ -58,5 +62,5 @@ fn signed(word: &str) -> Result<i64, Unread> {
     if !digits.bytes().all(|byte| byte.is_ascii_digit()) {
         return Err(Unread::Word);
     }
-    word.parse::<i64>().map_err(|_e| Unread::Word)
+    Ok(word.parse::<i64>()?)
 }

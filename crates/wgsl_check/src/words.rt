@@ -1,7 +1,8 @@
 // The words of a command, taken one after another.
 ghost use Rattle.std.specs.Prelude.{◌<◌, ◌≤◌, OnOk, length};
 
-use std::alloc::AllocError;
+use std::alloc::{AllocError, AllocFailed};
+use std::num::{ParseIntError, TryFromIntError};
 
 /// Why words were not read.
 #[derive(Drop)]
@@ -14,6 +15,24 @@ pub enum Unread {
 impl From<AllocError> for Unread {
     fn from(e: AllocError) -> Unread {
         Unread::Memory(e)
+    }
+}
+
+impl<T: Drop> From<AllocFailed<T>> for Unread {
+    fn from(_e: AllocFailed<T>) -> Unread {
+        Unread::Memory(AllocError)
+    }
+}
+
+impl From<TryFromIntError> for Unread {
+    fn from(_e: TryFromIntError) -> Unread {
+        Unread::Word
+    }
+}
+
+impl From<ParseIntError> for Unread {
+    fn from(_e: ParseIntError) -> Unread {
+        Unread::Word
     }
 }
 
@@ -56,7 +75,7 @@ impl<'w, 't> Words<'w, 't> {
     pub fn next_small(&mut self) -> Result<u8, Unread>
         ensures { GoesOn self.old self.new }
     {
-        u8::try_from(self.next_number()?).map_err(|_e| Unread::Word)
+        Ok(u8::try_from(self.next_number()?)?)
     }
 
     /// A number of elements, or `*` where it is not known.
@@ -67,8 +86,7 @@ impl<'w, 't> Words<'w, 't> {
         if word == "*" {
             return Ok(None);
         }
-        let count = usize::try_from(number(word)?).map_err(|_e| Unread::Word)?;
-        Ok(Some(count))
+        Ok(Some(usize::try_from(number(word)?)?))
     }
 
     /// An attribute of a member in bytes, or `-` where it has none.
@@ -79,8 +97,7 @@ impl<'w, 't> Words<'w, 't> {
         if word == "-" {
             return Ok(None);
         }
-        let bytes = u32::try_from(number(word)?).map_err(|_e| Unread::Word)?;
-        Ok(Some(bytes))
+        Ok(Some(u32::try_from(number(word)?)?))
     }
 
     /// How many words are not taken yet.
@@ -103,5 +120,5 @@ pub fn number(word: &str) -> Result<u64, Unread> {
     if !word.bytes().all(|byte| byte.is_ascii_digit()) {
         return Err(Unread::Word);
     }
-    word.parse::<u64>().map_err(|_e| Unread::Word)
+    Ok(word.parse::<u64>()?)
 }

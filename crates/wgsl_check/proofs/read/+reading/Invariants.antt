@@ -6,9 +6,6 @@ use Rattle.wgsl_check.proofs.read.+reading.Given as goal
 abbrev pub decreases-read_type : goal.decreases-read_type
 decreases-read_type l = 4 * (length l.words.now.all.now - l.words.now.taken)
 
-abbrev pub decreases-read_boxed : goal.decreases-read_boxed
-decreases-read_boxed l = 4 * (length l.words.now.all.now - l.words.now.taken) + 1
-
 abbrev pub decreases-read_struct : goal.decreases-read_struct
 decreases-read_struct l = 4 * (length l.words.now.all.now - l.words.now.taken) + 2
 
