@@ -10,8 +10,16 @@ use Rattle.wgsl_check.specs.declared.typed.Typed.{Typed}
 abbrev pub on_line : ℕ → Option WgslType → Option (WgslType × ℕ)
 on_line line o = option_map (λ t. (t, line)) o
 
+-- a type and its line, without the memory that they lie in
+abbrev pub typed : Typed → WgslType × ℕ
+typed x = (view x.ty, x.line)
+
+-- a type converted to t, on its line; none where it doesn't convert
+abbrev pub typed_to : Typed → WgslType → Option (WgslType × ℕ)
+typed_to x t = on_line x.line (converted (view x.ty) t)
+
 -- what is converted to a type has that type
-pub typed_has_type : (x : Typed) (t : WgslType) (y : Typed) → on_line x.line (converted (view x.ty) t) ≡ Some (view y.ty, y.line) → view y.ty ≡ t
+pub typed_has_type : (x : Typed) (t : WgslType) (y : Typed) → typed_to x t ≡ Some (typed y) → view y.ty ≡ t
 typed_has_type x t y h = at (converted (view x.ty) t) refl h
   where
     at : (o : Option WgslType) → converted (view x.ty) t ≡ o → on_line x.line o ≡ Some (view y.ty, y.line) → view y.ty ≡ t

@@ -225,37 +225,29 @@ pub fn value_or_refusal(
     alloc: Global,
     answer: Result<Option<Type>, Fail>,
 ) -> Result<String, AllocError> {
-    let text = match &answer {
+    match answer {
         Ok(Some(ty)) => ty.to_string(alloc),
         Ok(None) => String::from_str(alloc, "no value"),
-        Err(refused) => message_of(alloc, refused),
-    };
-    drop(answer);
-    text
+        Err(refused) => message(alloc, refused),
+    }
 }
 
 /// The spelling of a type, or the message of a refusal.
 pub fn type_or_refusal(alloc: Global, answer: Result<Type, Fail>) -> Result<String, AllocError> {
-    let text = match &answer {
+    match answer {
         Ok(ty) => ty.to_string(alloc),
-        Err(refused) => message_of(alloc, refused),
-    };
-    drop(answer);
-    text
+        Err(refused) => message(alloc, refused),
+    }
 }
 
-/// The message of a refusal, which is let go.
+/// The message of a refusal.
 pub fn message(alloc: Global, refused: Fail) -> Result<String, AllocError> {
-    let text = message_of(alloc, &refused);
-    drop(refused);
-    text
-}
-
-fn message_of(alloc: Global, refused: &Fail) -> Result<String, AllocError> {
-    match refused {
+    let text = match &refused {
         Fail::Error(e) => e.to_string(alloc),
         Fail::Memory(e) => Err(*e),
-    }
+    };
+    drop(refused);
+    text
 }
 
 /// The numbers with one space between.

@@ -1,4 +1,5 @@
 // What no clause says: which lines are answered how, and what a read or a write that fails comes to.
+mod built_ins;
 mod calls;
 mod constructors;
 mod conversion;
@@ -45,25 +46,52 @@ fn expect_whole(rt: &(impl Abort + AllocGlobal), input: &[u8], readable: bool, o
     expect(rt, source, target, Ok(readable), output);
 }
 
-/// Each line with its answer, all in one run. The answer to a line that can't be read begins `bad line`.
+/// Asks each line, all in one run, and compares what is printed for it with the answer beside it. The answer to a line that
+/// can't be read begins `bad line`.
 fn expect_answers(
     rt: &(impl Abort + AllocGlobal),
     rows: &[(&str, &str)],
 ) -> Result<(), AllocError> {
-    let mut input = String::new(rt.alloc());
-    let mut output = String::new(rt.alloc());
-    let mut readable = true;
-    for (line, answer) in rows {
+    let input = input_of(rt.alloc(), rows)?;
+    let mut source = Source::new(input.as_bytes(), WHOLE);
+    let mut target = Target::new(rt.alloc(), WHOLE);
+    let outcome = run(rt.alloc(), &mut source, &mut target);
+    expect_printed(rt, rows, std::str::from_utf8(&target.taken).unwrap_or(""));
+    assert_eq!(rt; outcome, Ok(are_readable(rows)));
+    assert_eq!(rt; target.flushed, target.taken.len());
+    Ok(())
+}
+
+/// The lines, each with its line feed.
+fn input_of(alloc: Global, rows: &[(&str, &str)]) -> Result<String, AllocError> {
+    let mut input = String::new(alloc);
+    for (line, _answer) in rows {
         input.push_str(line)?;
         input.push('\n')?;
-        output.push_str(answer)?;
-        output.push('\n')?;
+    }
+    Ok(input)
+}
+
+fn are_readable(rows: &[(&str, &str)]) -> bool {
+    for (_line, answer) in rows {
         if answer.starts_with("bad line") {
-            readable = false;
+            return false;
         }
     }
-    expect_whole(rt, input.as_bytes(), readable, &output);
-    Ok(())
+    true
+}
+
+/// Compares what is printed with the answers, line by line, and names the request whose answer differs.
+fn expect_printed(rt: &impl Abort, rows: &[(&str, &str)], printed: &str) {
+    let mut rest = printed;
+    for (line, answer) in rows {
+        for wanted in answer.split('\n') {
+            let (given, after) = rest.split_once('\n').unwrap_or(("(no line)", rest));
+            assert_eq!(rt; given, wanted, "asked `{line}`");
+            rest = after;
+        }
+    }
+    assert_eq!(rt; rest, "", "after the last answer");
 }
 
 /// A sum of two vectors of two `i32`, with zeros before the first 2 that make the line this long.
@@ -127,6 +155,7 @@ binary + mat 2 f32 i32
 binary + array 18446744073709551616 i32 i32
 binary + array ** i32 i32
 rank i32
+rank i32 i32 i32
 ",
         false,
         "bad line 1
@@ -146,19 +175,20 @@ bad line 14
 bad line 15
 bad line 16
 bad line 17
+bad line 18
 ",
     );
 }
 
 // A body of `run` that writes nothing, or that gives up at once, meets its contract.
 #[test]
-fn run_is_silent(rt: HostRuntime) {
+fn run_answers(rt: HostRuntime) {
     expect_whole(&rt, b"binary + i32 i32\n", true, "i32\n");
 }
 
-// So does a body of most calls that answers want of memory whatever it is asked.
+// A body of most calls that answers out of memory whatever it is asked meets its contract too.
 #[test]
-fn want_of_memory_always(rt: HostRuntime) {
+fn memory_is_not_always_wanted(rt: HostRuntime) {
     expect_whole(
         &rt,
         b"common vec 2 AbstractInt vec 2 f32
@@ -181,6 +211,16 @@ vec2<f32>
 vec2<f32>
 vec2<f32>
 ",
+    );
+}
+
+#[test]
+fn a_semicolon_ends_no_line(rt: HostRuntime) {
+    expect_whole(
+        &rt,
+        b"rank i32 i32; rank u32 u32\nrank i32 i32 ; rank u32 u32\nrank i32 i32\n",
+        false,
+        "bad line 1\nbad line 2\n0\n",
     );
 }
 

@@ -1,8 +1,10 @@
 // Types that remember where they were read.
-ghost use Rattle.std.specs.Prelude.{◌≡◌, ℕ, All, IfOk, IfSome, map, option_map};
+ghost use Rattle.std.specs.Prelude.{◌≡◌, ℕ, Option, All, IfOk, IfSome, map, option_and_then, option_map};
 ghost use Rattle.wgsl_rules.specs.Types.{WgslType};
+ghost use Rattle.wgsl_rules.specs.Common.{IsLeftCommon};
 ghost use Rattle.wgsl_core.specs.View.{view};
-ghost use Rattle.wgsl_check.specs.Typed.{on_line};
+ghost use Rattle.wgsl_types.specs.Family.{all_to};
+ghost use Rattle.wgsl_check.specs.Typed.{on_line, typed, typed_to};
 
 use std::alloc::{AllocError, Global};
 use wgsl_types::conv::{Convert, convert_all};
@@ -38,14 +40,14 @@ impl Convert for Typed {
     ghost use Rattle.wgsl_rules.specs.Types.{WgslType};
     ghost use Rattle.wgsl_rules.specs.Concrete.{concretized};
     ghost use Rattle.wgsl_core.specs.View.{view};
-    ghost use Rattle.wgsl_core.specs.Converted.{converted, inner_converted};
-    ghost use Rattle.wgsl_check.specs.Typed.{on_line, typed_has_type};
+    ghost use Rattle.wgsl_core.specs.Converted.{inner_converted};
+    ghost use Rattle.wgsl_check.specs.Typed.{on_line, typed, typed_to, typed_has_type};
 
     ghost Shown = { WgslType × ℕ };
 
-    ghost shown = { λ x. (view x.ty, x.line) };
+    ghost shown = { typed };
 
-    ghost to = { λ x t. on_line x.line (converted (view x.ty) t) };
+    ghost to = { typed_to };
 
     ghost inner_to = { λ x t. on_line x.line (inner_converted (view x.ty) t) };
 
@@ -71,13 +73,16 @@ impl Convert for Typed {
 }
 
 fn on_line(line: u64, ty: Option<Type>) -> Option<Typed>
-    ensures { option_map (λ x. (view x.ty, x.line)) result ≡ on_line line (option_map view ty) }
+    ensures { option_map typed result ≡ on_line line (option_map view ty) }
 {
     Some(Typed { ty: ty?, line })
 }
 
-/// All of them converted to the common type of their types, in order; None where there is none.
+/// All of them converted to the common type of their types, in order; None where there is none, as of no types, or one
+/// doesn't convert to it.
 pub fn convert_to_common(alloc: Global, values: &[Typed]) -> Result<Option<Vec<Typed>>, AllocError>
+    ensures value { IfOk result (λ r. (c : Option WgslType) × IsLeftCommon (map (λ x. view x.ty) values.now) c
+        × (option_map (λ v. map typed v.items) r ≡ option_and_then (λ t. all_to typed_to t values.now) c)) }
     ensures lines { IfOk result (λ r. IfSome r (λ v. map (λ x. x.line) v.items ≡ map (λ x. x.line) values.now)) }
     ensures one_type { IfOk result (λ r. IfSome r (λ v. (t : WgslType) × All (λ x. view x.ty ≡ t) v.items)) }
 {

@@ -2,7 +2,7 @@
 use super::expect_answers;
 use super::operators::sixty_types;
 use crate::command::value_or_refusal;
-use std::alloc::AllocError;
+use std::alloc::{AllocError, Global};
 use std::process::Abort;
 use std::test::Fail;
 use wgsl_types::builtin::{find_call, type_builtin_fn};
@@ -79,15 +79,6 @@ fn calls_of_resources_are_answered(rt: HostRuntime) -> Result<(), Fail> {
                 "call textureGather - i32 texture_2d u32 sampler vec 2 f32",
                 "vec4<u32>",
             ),
-            (
-                "call textureStore - texture_storage_2d rgba8unorm write vec 2 i32 vec 4 f32",
-                "no value",
-            ),
-            (
-                "call atomicCompareExchangeWeak - ptr storage read_write atomic u32 u32 u32",
-                "__atomic_compare_exchange_result",
-            ),
-            ("call storageBarrier -", "no value"),
             ("call subgroupBallot -", "vec4<u32>"),
             ("call bitcast < t vec 2 f16 > u32", "vec2<f16>"),
             (
@@ -124,15 +115,17 @@ fn a_user_without_fault_is_answered_line_by_line(rt: HostRuntime) -> Result<(), 
 }
 
 #[test]
-fn names_are_found_by_halves(rt: HostRuntime) {
-    for (name, place) in [
-        ("abs", Some(0)),
-        ("workgroupUniformLoad", Some(154)),
-        ("", None),
-        ("ab", None),
-        ("absA", None),
+fn names_are_found_by_binary_search(rt: HostRuntime) {
+    for (name, place, compared) in [
+        ("abs", Some(0), 8),
+        ("workgroupUniformLoad", Some(154), 7),
+        ("pack4xU8Clamp", Some(77), 1),
+        ("", None, 8),
+        ("ab", None, 8),
+        ("absA", None, 8),
+        ("zz", None, 7),
     ] {
-        assert_eq!(rt; find_call(name).0, place);
+        assert_eq!(rt; find_call(name), (place, compared), "{name}");
     }
 }
 
@@ -140,47 +133,85 @@ fn names_are_found_by_halves(rt: HostRuntime) {
 fn expect_call(
     rt: &(impl Abort + AllocGlobal),
     name: &str,
-    args: &[Type; 2],
+    args: &[Type],
     wanted: Option<&Type>,
 ) -> Result<(), AllocError> {
     let alloc = rt.alloc();
     let answer = value_or_refusal(alloc, type_builtin_fn(alloc, name, None, args))?;
-    let [lhs, rhs] = args;
-    let wanted = match wanted {
-        Some(ty) => ty.to_string(alloc)?,
-        None => format!(in alloc; "invalid function call signature: `{name}({lhs}, {rhs})`")?,
-    };
+    let wanted = wanted_text(alloc, name, args, wanted)?;
     assert_eq!(rt; answer.as_str(), wanted.as_str());
     Ok(())
 }
 
-fn is_number_or_vector(ty: &Type) -> bool {
-    match ty {
-        Type::Vec(_, component) => component.is_numeric(),
-        other => other.is_numeric(),
+fn wanted_text(
+    alloc: Global,
+    name: &str,
+    args: &[Type],
+    wanted: Option<&Type>,
+) -> Result<String, AllocError> {
+    match (wanted, args) {
+        (Some(ty), _) => ty.to_string(alloc),
+        (None, [lhs, rhs]) => {
+            format!(in alloc; "invalid function call signature: `{name}({lhs}, {rhs})`")
+        }
+        (None, _) => String::from_str(alloc, "no call of two"),
     }
 }
 
-fn numeric_component(ty: &Type) -> Option<&Type> {
-    match ty {
+/// The common type of two, where it is a number or a vector of numbers.
+fn common_number<'t>(lhs: &'t Type, rhs: &'t Type) -> Option<&'t Type> {
+    let common = convert_ty(lhs, rhs)?;
+    match common {
+        Type::Vec(_, component) if component.is_numeric() => Some(common),
+        _ if common.is_numeric() => Some(common),
+        _ => None,
+    }
+}
+
+/// What the common type of two is a vector of, where that is a number.
+fn common_component<'t>(lhs: &'t Type, rhs: &'t Type) -> Option<&'t Type> {
+    match convert_ty(lhs, rhs)? {
         Type::Vec(_, component) if component.is_numeric() => Some(component),
         _ => None,
     }
 }
 
-#[test]
-fn calls_of_two_take_the_common_type(rt: HostRuntime) -> Result<(), Fail> {
-    let alloc = rt.alloc();
-    let types = sixty_types(alloc)?;
-    for lhs in &types {
-        for rhs in &types {
-            let args = [lhs.clone(alloc)?, rhs.clone(alloc)?];
-            let common = convert_ty(lhs, rhs);
-            let number = common.filter(|ty| is_number_or_vector(ty));
-            expect_call(&rt, "min", &args, number)?;
-            expect_call(&rt, "max", &args, number)?;
-            expect_call(&rt, "dot", &args, common.and_then(numeric_component))?;
+fn expect_calls_of_two(
+    rt: &(impl Abort + AllocGlobal),
+    lhs: &Type,
+    rhs: &Type,
+    args: &[Type],
+) -> Result<(), AllocError> {
+    let number = common_number(lhs, rhs);
+    expect_call(rt, "min", args, number)?;
+    expect_call(rt, "max", args, number)?;
+    expect_call(rt, "dot", args, common_component(lhs, rhs))
+}
+
+/// Copies of two types.
+fn pair(alloc: Global, lhs: &Type, rhs: &Type) -> Result<Vec<Type>, AllocError> {
+    let mut args = Vec::new(alloc);
+    args.push(lhs.clone(alloc)?)?;
+    args.push(rhs.clone(alloc)?)?;
+    Ok(args)
+}
+
+fn expect_calls_of_all(rt: &(impl Abort + AllocGlobal), types: &[Type]) -> Result<(), AllocError> {
+    for lhs in types {
+        for rhs in types {
+            let args = pair(rt.alloc(), lhs, rhs)?;
+            let answered = expect_calls_of_two(rt, lhs, rhs, &args);
+            drop(args);
+            answered?;
         }
     }
     Ok(())
+}
+
+#[test]
+fn calls_of_two_take_the_common_type(rt: HostRuntime) -> Result<(), Fail> {
+    let types = sixty_types(rt.alloc())?;
+    let answered = expect_calls_of_all(&rt, &types);
+    drop(types);
+    Ok(answered?)
 }

@@ -2,10 +2,10 @@
 use super::expect_answers;
 use super::worded::{one_type, types};
 use crate::command::message;
-use std::alloc::{AllocError, Global};
+use std::alloc::Global;
 use std::test::Fail;
 use wgsl_types::builtin::{is_ctor, typecheck_struct_ctor};
-use wgsl_types::ty::{StructType, Type};
+use wgsl_types::ty::Type;
 
 const NAMES: [&str; 21] = [
     "array", "bool", "i32", "u32", "f32", "f16", "i64", "u64", "f64", "vec2", "vec3", "vec4",
@@ -362,19 +362,32 @@ fn templates_that_cannot_be_read_make_bad_lines(rt: HostRuntime) -> Result<(), F
 }
 
 /// `fits` where the struct is made of such arguments, or the message of the refusal.
-fn made_of(alloc: Global, made: &StructType, args: &[Type]) -> Result<String, AllocError> {
+fn made_of(alloc: Global, made: &Type, args: &[Type]) -> Result<String, Fail> {
+    let Type::Struct(made) = made else {
+        return Err("no struct".into());
+    };
     match typecheck_struct_ctor(alloc, made, args) {
-        Ok(()) => String::from_str(alloc, "fits"),
-        Err(refused) => message(alloc, refused),
+        Ok(()) => Ok(String::from_str(alloc, "fits")?),
+        Err(refused) => Ok(message(alloc, refused)?),
     }
+}
+
+fn made_of_words(alloc: Global, made: &Type, words: &str) -> Result<String, Fail> {
+    let args = types(alloc, words)?;
+    let text = made_of(alloc, made, &args);
+    drop(args);
+    text
+}
+
+fn struct_of_words(alloc: Global, words: &str) -> Result<String, Fail> {
+    let made = one_type(alloc, "struct S 2 a - - f32 b - - i32")?;
+    let text = made_of_words(alloc, &made, words);
+    drop(made);
+    text
 }
 
 #[test]
 fn structs_are_made_of_their_members(rt: HostRuntime) -> Result<(), Fail> {
-    let alloc = rt.alloc();
-    let Type::Struct(made) = one_type(alloc, "struct S 2 a - - f32 b - - i32")? else {
-        return Err("no struct".into());
-    };
     for (args, wanted) in [
         ("", "fits"),
         ("AbstractInt AbstractInt", "fits"),
@@ -391,8 +404,8 @@ fn structs_are_made_of_their_members(rt: HostRuntime) -> Result<(), Fail> {
             "invalid parameter type, expected `f32`, got `bool`",
         ),
     ] {
-        let answer = made_of(alloc, &made, &types(alloc, args)?)?;
-        assert_eq!(rt; answer.as_str(), wanted);
+        let answer = struct_of_words(rt.alloc(), args)?;
+        assert_eq!(rt; answer.as_str(), wanted, "made of `{args}`");
     }
     Ok(())
 }

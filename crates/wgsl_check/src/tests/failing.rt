@@ -38,158 +38,174 @@ fn input(alloc: Global) -> Result<String, AllocError> {
     Ok(text)
 }
 
-/// What is printed for so many of the lines.
-fn answers(alloc: Global, lines: usize) -> Result<String, AllocError> {
-    let mut text = String::new(alloc);
+/// What is left of the bytes after what is printed for so many of the lines, or `None` where they begin otherwise.
+fn after_answers(printed: &[u8], lines: usize) -> Option<&[u8]> {
+    let mut rest = printed;
     for (_line, answer) in LINES.iter().take(lines) {
-        text.push_str(answer)?;
+        rest = rest.strip_prefix(answer.as_bytes())?;
     }
-    Ok(text)
+    Some(rest)
 }
 
-/// What a run came to, and what it wrote.
-#[derive(Drop)]
-struct Ran {
-    outcome: Result<bool, RunError>,
-    text: String,
+/// Whether the bytes are what is printed for so many of the lines.
+fn are_answers(printed: &[u8], lines: usize) -> bool {
+    after_answers(printed, lines) == Some(b"")
 }
 
-fn run_over(alloc: Global, mut source: Source<'_>, mut target: Target) -> Result<Ran, Fail> {
-    let outcome = run(alloc, &mut source, &mut target);
-    match std::str::from_utf8(&target.taken) {
-        Ok(text) => Ok(Ran {
-            outcome,
-            text: String::from_str(alloc, text)?,
-        }),
-        Err(_) => Err("what is written is no text".into()),
+/// How many bytes are printed for all lines.
+fn answers_len() -> usize {
+    let mut len = 0usize;
+    for (_line, answer) in LINES {
+        len = len.saturating_add(answer.len());
     }
+    len
+}
+
+/// How many of the first bytes end a line.
+fn lines_within(input: &[u8], len: usize) -> usize {
+    let mut lines = 0usize;
+    for byte in input.iter().take(len) {
+        if *byte == b'\n' {
+            lines = lines.saturating_add(1);
+        }
+    }
+    lines
 }
 
 /// How many reads a run makes: each of them fails in a run of its own, which writes what was answered before.
 fn reads_of_a_run(
     rt: &(impl Abort + AllocGlobal),
+    input: &[u8],
     most_read: usize,
     most_written: usize,
-) -> Result<usize, Fail> {
-    let alloc = rt.alloc();
-    let input = input(alloc)?;
+) -> usize {
     for before in 0..1000usize {
-        let mut source = Source::new(input.as_bytes(), most_read);
+        let mut source = Source::new(input, most_read);
         source.fails_after = Some(before);
-        let ran = run_over(alloc, source, Target::new(alloc, most_written))?;
-        if ran.outcome == Ok(false) {
-            assert_eq!(rt; ran.text.as_str(), answers(alloc, LINES.len())?.as_str());
-            return Ok(before);
+        let mut target = Target::new(rt.alloc(), most_written);
+        let outcome = run(rt.alloc(), &mut source, &mut target);
+        if outcome == Ok(false) {
+            assert!(rt; are_answers(&target.taken, LINES.len()));
+            return before;
         }
-        assert_eq!(rt; ran.outcome, Err(RunError::Read));
-        let given = before.saturating_mul(most_read);
-        let lines = input
-            .bytes()
-            .take(given)
-            .filter(|byte| *byte == b'\n')
-            .count();
-        assert_eq!(rt; ran.text.as_str(), answers(alloc, lines)?.as_str());
+        assert_eq!(rt; outcome, Err(RunError::Read));
+        let lines = lines_within(input, before.saturating_mul(most_read));
+        assert!(rt; are_answers(&target.taken, lines), "at read {before}");
     }
-    Err("each of 1000 reads failed".into())
+    1000
 }
 
 #[test]
 fn a_run_ends_at_the_read_that_fails(rt: HostRuntime) -> Result<(), Fail> {
-    let bytes = input(rt.alloc())?.len();
+    let input = input(rt.alloc())?;
     for most_written in [1, WHOLE] {
-        assert_eq!(rt;
-            reads_of_a_run(&rt, 1, most_written)?,
-            bytes.saturating_add(1)
-        );
-        assert_eq!(rt; reads_of_a_run(&rt, 100, most_written)?, 4);
-        assert_eq!(rt; reads_of_a_run(&rt, WHOLE, most_written)?, 2);
+        for (most_read, reads) in [(1, input.len().saturating_add(1)), (100, 4), (WHOLE, 2)] {
+            let made = reads_of_a_run(&rt, input.as_bytes(), most_read, most_written);
+            assert_eq!(rt; made, reads);
+        }
     }
     Ok(())
 }
 
 #[test]
 fn an_interrupted_read_changes_nothing_anywhere(rt: HostRuntime) -> Result<(), Fail> {
-    let alloc = rt.alloc();
-    let input = input(alloc)?;
+    let input = input(rt.alloc())?;
     for before in 0..input.len() {
         let mut source = Source::new(input.as_bytes(), 1);
         source.fails_after = Some(before);
         source.failure = ErrorKind::Interrupted;
-        let ran = run_over(alloc, source, Target::new(alloc, 1))?;
-        assert_eq!(rt; ran.outcome, Ok(false));
-        assert_eq!(rt; ran.text.as_str(), answers(alloc, LINES.len())?.as_str());
+        let mut target = Target::new(rt.alloc(), 1);
+        assert_eq!(rt; run(rt.alloc(), &mut source, &mut target), Ok(false));
+        assert!(rt; are_answers(&target.taken, LINES.len()), "at read {before}");
     }
     Ok(())
+}
+
+/// Whether the answers to all lines begin with the bytes.
+fn begin_answers(printed: &[u8]) -> bool {
+    let mut rest = printed;
+    for (_line, answer) in LINES {
+        match rest.strip_prefix(answer.as_bytes()) {
+            Some(after) => rest = after,
+            None => return answer.as_bytes().starts_with(rest),
+        }
+    }
+    rest.is_empty()
 }
 
 /// How many writes a run makes: each of them fails in a run of its own, which wrote a beginning of the answers.
 fn writes_of_a_run(
     rt: &(impl Abort + AllocGlobal),
+    input: &[u8],
     most_read: usize,
     most_written: usize,
-) -> Result<usize, Fail> {
-    let alloc = rt.alloc();
-    let input = input(alloc)?;
-    let whole = answers(alloc, LINES.len())?;
+) -> usize {
     for before in 0..1000usize {
-        let mut target = Target::new(alloc, most_written);
+        let mut source = Source::new(input, most_read);
+        let mut target = Target::new(rt.alloc(), most_written);
         target.fails_after = Some(before);
-        let ran = run_over(alloc, Source::new(input.as_bytes(), most_read), target)?;
-        if ran.outcome == Ok(false) {
-            assert_eq!(rt; ran.text.as_str(), whole.as_str());
-            return Ok(before);
+        let outcome = run(rt.alloc(), &mut source, &mut target);
+        if outcome == Ok(false) {
+            assert!(rt; are_answers(&target.taken, LINES.len()));
+            return before;
         }
-        assert_eq!(rt; ran.outcome, Err(RunError::Write));
-        assert!(rt; whole.starts_with(ran.text.as_str()));
-        if most_written == 1 {
-            assert_eq!(rt; ran.text.len(), before);
-        }
+        assert_eq!(rt; outcome, Err(RunError::Write));
+        assert!(rt; begin_answers(&target.taken), "at write {before}");
+        assert!(rt; most_written > 1 || target.taken.len() == before);
     }
-    Err("each of 1000 writes failed".into())
+    1000
 }
 
 #[test]
 fn a_run_ends_at_the_write_that_fails(rt: HostRuntime) -> Result<(), Fail> {
-    let bytes = answers(rt.alloc(), LINES.len())?.len();
-    for most_read in [1, WHOLE] {
-        assert_eq!(rt; writes_of_a_run(&rt, most_read, 1)?, bytes);
+    let input = input(rt.alloc())?;
+    let bytes = answers_len();
+    for (most_read, most_written, writes) in [
+        (1, 1, bytes),
+        (WHOLE, 1, bytes),
+        (1, WHOLE, 12),
+        (WHOLE, WHOLE, 1),
+    ] {
+        let made = writes_of_a_run(&rt, input.as_bytes(), most_read, most_written);
+        assert_eq!(rt; made, writes);
     }
-    assert_eq!(rt; writes_of_a_run(&rt, 1, WHOLE)?, 12);
-    assert_eq!(rt; writes_of_a_run(&rt, WHOLE, WHOLE)?, 1);
     Ok(())
 }
 
 #[test]
 fn a_writer_that_takes_nothing_ends_every_run(rt: HostRuntime) -> Result<(), Fail> {
-    let alloc = rt.alloc();
-    let input = input(alloc)?;
+    let input = input(rt.alloc())?;
     for most_read in [1, 100, WHOLE] {
-        let source = Source::new(input.as_bytes(), most_read);
-        let ran = run_over(alloc, source, Target::new(alloc, 0))?;
-        assert_eq!(rt; ran.outcome, Err(RunError::Write));
-        assert_eq!(rt; ran.text.as_str(), "");
+        let mut source = Source::new(input.as_bytes(), most_read);
+        let mut target = Target::new(rt.alloc(), 0);
+        assert_eq!(rt;
+            run(rt.alloc(), &mut source, &mut target),
+            Err(RunError::Write)
+        );
+        assert!(rt; target.taken.is_empty());
     }
     Ok(())
 }
 
+/// Runs over the first bytes of the input: each line that ended is answered, and so is the one that hasn't.
+fn expect_part(rt: &(impl Abort + AllocGlobal), part: &[u8], most_read: usize) {
+    let mut source = Source::new(part, most_read);
+    let mut target = Target::new(rt.alloc(), 1);
+    let outcome = run(rt.alloc(), &mut source, &mut target);
+    let printed = std::str::from_utf8(&target.taken).unwrap_or("");
+    assert_eq!(rt; outcome, Ok(!printed.contains("bad line")));
+    match after_answers(&target.taken, lines_within(part, part.len())) {
+        Some(last) => assert_eq!(rt; last.is_empty(), part.ends_with(b"\n")),
+        None => panic!(rt; "a line that ended is answered otherwise"),
+    }
+}
+
 #[test]
 fn input_may_end_after_each_byte(rt: HostRuntime) -> Result<(), Fail> {
-    let alloc = rt.alloc();
+    let input = input(rt.alloc())?;
     for most_read in [1, WHOLE] {
-        let mut part = Vec::new(alloc);
-        let mut ended: usize = 0;
-        for byte in input(alloc)?.bytes() {
-            part.push(byte)?;
-            if byte == b'\n' {
-                ended = ended.saturating_add(1);
-            }
-            let ran = run_over(alloc, Source::new(&part, most_read), Target::new(alloc, 1))?;
-            assert_eq!(rt; ran.outcome, Ok(!ran.text.contains("bad line")));
-            let before = answers(alloc, ended)?;
-            let Some(last) = ran.text.strip_prefix(before.as_str()) else {
-                return Err("a line that ended is answered otherwise".into());
-            };
-            assert_eq!(rt; last.is_empty(), byte == b'\n');
+        for len in 1..=input.len() {
+            expect_part(&rt, &input.as_bytes()[..len], most_read);
         }
     }
     Ok(())

@@ -1,5 +1,6 @@
 // Sizes, alignments and offsets.
 use super::expect_answers;
+use super::worded::one_type;
 use std::alloc::{AllocError, Global};
 use std::test::Fail;
 use wgsl_types::ty::{StructMemberType, StructType, Type};
@@ -144,14 +145,22 @@ fn a_report_has_a_line_for_each_member_and_one_for_the_whole(rt: HostRuntime) ->
     Ok(())
 }
 
+/// The least size of a type, its size and its alignment.
+fn measured(alloc: Global, words: &str) -> Result<(Option<u32>, Option<u32>, Option<u32>), Fail> {
+    let ty = one_type(alloc, words)?;
+    let sizes = (ty.min_size_of(), ty.size_of(), ty.align_of());
+    drop(ty);
+    Ok(sizes)
+}
+
 #[test]
 fn the_least_size_of_an_open_array_is_its_stride(rt: HostRuntime) -> Result<(), Fail> {
-    let element = Box::new(rt.alloc(), Type::F32)?;
-    let vector = Box::new(rt.alloc(), Type::Vec(3, element))?;
-    let open = Type::Array(vector, None);
-    assert_eq!(rt; open.min_size_of(), Some(16));
-    assert_eq!(rt; open.size_of(), None);
-    assert_eq!(rt; Type::F16.min_size_of(), Some(2));
+    for (words, sizes) in [
+        ("array * vec 3 f32", (Some(16), None, Some(16))),
+        ("f16", (Some(2), Some(2), Some(2))),
+    ] {
+        assert_eq!(rt; measured(rt.alloc(), words)?, sizes, "{words}");
+    }
     Ok(())
 }
 
@@ -159,32 +168,33 @@ fn the_least_size_of_an_open_array_is_its_stride(rt: HostRuntime) -> Result<(), 
 pub fn wrapped(alloc: Global, ty: Type) -> Result<Type, AllocError> {
     let name = String::from_str(alloc, "inner")?;
     let mut members = Vec::new(alloc);
-    let member = StructMemberType {
+    members.push(StructMemberType {
         name,
         ty,
         size: None,
         align: None,
-    };
-    members.push(member).map_err(|_e| AllocError)?;
+    })?;
     let name = String::from_str(alloc, "Outer")?;
-    let outer = Box::new(alloc, StructType { name, members }).map_err(|_e| AllocError)?;
-    Ok(Type::Struct(outer))
+    Ok(Type::Struct(Box::new(alloc, StructType { name, members })?))
+}
+
+/// The last words, with so many of the first before them.
+fn nested(alloc: Global, outer: &str, depth: usize, core: &str) -> Result<String, AllocError> {
+    let mut words = String::new(alloc);
+    for _ in 0..depth {
+        words.push_str(outer)?;
+    }
+    words.push_str(core)?;
+    Ok(words)
 }
 
 #[test]
 fn structs_and_layers_may_be_nested_300_deep(rt: HostRuntime) -> Result<(), Fail> {
-    let mut ty = Type::F32;
-    for _ in 0..300 {
-        ty = wrapped(rt.alloc(), ty)?;
-    }
-    assert_eq!(rt; ty.size_of(), Some(4));
-    assert_eq!(rt; ty.align_of(), Some(4));
-    let mut line = String::new(rt.alloc());
-    line.push_str("size ")?;
-    for _ in 0..290 {
-        line.push_str("array 1 vec 1 ")?;
-    }
-    line.push_str("f32")?;
+    let structs = nested(rt.alloc(), "struct Outer 1 inner - - ", 300, "f32")?;
+    let sizes = measured(rt.alloc(), &structs)?;
+    assert_eq!(rt; sizes, (Some(4), Some(4), Some(4)));
+    let layers = nested(rt.alloc(), "array 1 vec 1 ", 290, "f32")?;
+    let line = format!(in rt.alloc(); "size {layers}")?;
     expect_answers(&rt, &[(line.as_str(), "4 4")])?;
     Ok(())
 }

@@ -1,6 +1,6 @@
 // Unary and binary operators, and the candidates that are chosen for them.
 use super::expect_answers;
-use super::worded::one_type;
+use super::worded::types;
 use crate::command::{message, type_or_refusal};
 use std::alloc::{AllocError, Global};
 use std::process::Abort;
@@ -10,17 +10,17 @@ use wgsl_types::conv::conversion_rank;
 use wgsl_types::syntax::BinaryOperator;
 use wgsl_types::ty::Type;
 
-const SCALARS: [Type; 10] = [
-    Type::Bool,
-    Type::AbstractInt,
-    Type::AbstractFloat,
-    Type::I32,
-    Type::U32,
-    Type::F32,
-    Type::F16,
-    Type::I64,
-    Type::U64,
-    Type::F64,
+const SCALARS: [&str; 10] = [
+    "bool",
+    "AbstractInt",
+    "AbstractFloat",
+    "i32",
+    "u32",
+    "f32",
+    "f16",
+    "i64",
+    "u64",
+    "f64",
 ];
 
 const OPERATORS: [BinaryOperator; 18] = [
@@ -205,7 +205,7 @@ fn unary_operators_answer_the_type_or_refuse_it(rt: HostRuntime) -> Result<(), F
     Ok(())
 }
 
-/// The candidate as it is printed, what it takes and what it gives, or the message of the refusal.
+/// The candidate, what it takes and what it gives, or the message of the refusal.
 fn chosen(
     alloc: Global,
     operator: BinaryOperator,
@@ -213,56 +213,72 @@ fn chosen(
     rhs: &Type,
 ) -> Result<String, AllocError> {
     match binary_candidate(alloc, operator, lhs, rhs) {
-        Ok(Candidate { lhs, rhs, result }) => format!(in alloc; "({lhs}, {rhs}) {result}"),
+        Ok(candidate) => {
+            let text = candidate_text(alloc, &candidate);
+            drop(candidate);
+            text
+        }
         Err(refused) => message(alloc, refused),
     }
 }
 
-/// Compares the candidate of two types in words with its text.
-fn expect_candidate(
-    rt: &(impl Abort + AllocGlobal),
+fn candidate_text(alloc: Global, candidate: &Candidate) -> Result<String, AllocError> {
+    let Candidate { lhs, rhs, result } = candidate;
+    format!(in alloc; "({lhs}, {rhs}) {result}")
+}
+
+/// What is chosen for two types in words.
+fn chosen_for(alloc: Global, operator: BinaryOperator, words: &str) -> Result<String, Fail> {
+    let operands = types(alloc, words)?;
+    let text = chosen_for_all(alloc, operator, &operands);
+    drop(operands);
+    text
+}
+
+fn chosen_for_all(
+    alloc: Global,
     operator: BinaryOperator,
-    (lhs, rhs): (&str, &str),
-    text: &str,
-) -> Result<(), Fail> {
-    let lhs = one_type(rt.alloc(), lhs)?;
-    let rhs = one_type(rt.alloc(), rhs)?;
-    assert_eq!(rt; chosen(rt.alloc(), operator, &lhs, &rhs)?.as_str(), text);
-    Ok(())
+    operands: &[Type],
+) -> Result<String, Fail> {
+    match operands {
+        [lhs, rhs] => Ok(chosen(alloc, operator, lhs, rhs)?),
+        _ => Err("not two operands".into()),
+    }
 }
 
 #[test]
 fn candidates_say_what_the_operands_convert_to(rt: HostRuntime) -> Result<(), Fail> {
-    expect_candidate(
-        &rt,
-        BinaryOperator::Addition,
-        ("AbstractInt", "AbstractFloat"),
-        "(AbstractFloat, AbstractFloat) AbstractFloat",
-    )?;
-    expect_candidate(
-        &rt,
-        BinaryOperator::Addition,
-        ("AbstractInt", "vec 3 f32"),
-        "(f32, vec3<f32>) vec3<f32>",
-    )?;
-    expect_candidate(
-        &rt,
-        BinaryOperator::ShiftLeft,
-        ("AbstractInt", "AbstractInt"),
-        "(AbstractInt, u32) AbstractInt",
-    )?;
-    expect_candidate(
-        &rt,
-        BinaryOperator::Multiplication,
-        ("mat 2 3 AbstractFloat", "vec 2 f16"),
-        "(mat2x3<f16>, vec2<f16>) vec3<f16>",
-    )?;
-    expect_candidate(
-        &rt,
-        BinaryOperator::Addition,
-        ("bool", "i32"),
-        "cannot use binary operator `+` with operands `bool` and `i32`",
-    )
+    for (operator, operands, candidate) in [
+        (
+            BinaryOperator::Addition,
+            "AbstractInt AbstractFloat",
+            "(AbstractFloat, AbstractFloat) AbstractFloat",
+        ),
+        (
+            BinaryOperator::Addition,
+            "AbstractInt vec 3 f32",
+            "(f32, vec3<f32>) vec3<f32>",
+        ),
+        (
+            BinaryOperator::ShiftLeft,
+            "AbstractInt AbstractInt",
+            "(AbstractInt, u32) AbstractInt",
+        ),
+        (
+            BinaryOperator::Multiplication,
+            "mat 2 3 AbstractFloat vec 2 f16",
+            "(mat2x3<f16>, vec2<f16>) vec3<f16>",
+        ),
+        (
+            BinaryOperator::Addition,
+            "bool i32",
+            "cannot use binary operator `+` with operands `bool` and `i32`",
+        ),
+    ] {
+        let found = chosen_for(rt.alloc(), operator, operands)?;
+        assert_eq!(rt; found.as_str(), candidate, "{operator} {operands}");
+    }
+    Ok(())
 }
 
 /// The ranks of two operands to one type.
@@ -270,68 +286,138 @@ fn ranks(lhs: &Type, rhs: &Type, to: &Type) -> Option<(u32, u32)> {
     Some((conversion_rank(lhs, to)?, conversion_rank(rhs, to)?))
 }
 
-/// Whether no other scalar takes the operands with as little rank in both: the sum of two of that scalar is the choice.
-fn is_choice(lhs: &Type, rhs: &Type, to: &Type) -> bool {
-    let Some((left, right)) = ranks(lhs, rhs, to) else {
-        return false;
-    };
-    SCALARS.iter().all(|other| match ranks(lhs, rhs, other) {
-        Some((l, r)) => other == to || (left <= l && right <= r && (left < l || right < r)),
+/// Whether the first ranks are better: no operand has a greater rank, and one a smaller.
+fn are_better(ranks: (u32, u32), others: Option<(u32, u32)>) -> bool {
+    match others {
+        Some((left, right)) => ranks.0 <= left && ranks.1 <= right && ranks != (left, right),
         None => true,
-    })
+    }
 }
 
-#[test]
-fn sums_of_scalars_are_those_that_a_search_finds(rt: HostRuntime) -> Result<(), Fail> {
-    let alloc = rt.alloc();
-    let scalars = SCALARS;
-    for lhs in &scalars {
-        for rhs in &scalars {
-            let wanted = match scalars.iter().find(|to| is_choice(lhs, rhs, to)) {
-                Some(to) => format!(in alloc; "({to}, {to}) {to}")?,
-                None => {
-                    format!(in alloc;
-                        "cannot use binary operator `+` with operands `{lhs}` and `{rhs}`"
-                    )?
-                }
-            };
-            let found = chosen(alloc, BinaryOperator::Addition, lhs, rhs)?;
+/// Whether a scalar takes the operands with better ranks than each other scalar: the sum of two of it is the choice.
+fn is_choice(lhs: &Type, rhs: &Type, to: &Type, scalars: &[Type]) -> bool {
+    let Some(best) = ranks(lhs, rhs, to) else {
+        return false;
+    };
+    for other in scalars {
+        if other != to && !are_better(best, ranks(lhs, rhs, other)) {
+            return false;
+        }
+    }
+    true
+}
+
+fn choice<'s>(lhs: &Type, rhs: &Type, scalars: &'s [Type]) -> Option<&'s Type> {
+    for to in scalars {
+        if is_choice(lhs, rhs, to, scalars) {
+            return Some(to);
+        }
+    }
+    None
+}
+
+/// What a search among the scalars finds for the sum.
+fn searched(alloc: Global, lhs: &Type, rhs: &Type, scalars: &[Type]) -> Result<String, AllocError> {
+    match choice(lhs, rhs, scalars) {
+        Some(to) => format!(in alloc; "({to}, {to}) {to}"),
+        None => {
+            format!(in alloc; "cannot use binary operator `+` with operands `{lhs}` and `{rhs}`")
+        }
+    }
+}
+
+fn expect_sums(rt: &(impl Abort + AllocGlobal), scalars: &[Type]) -> Result<(), AllocError> {
+    for lhs in scalars {
+        for rhs in scalars {
+            let found = chosen(rt.alloc(), BinaryOperator::Addition, lhs, rhs)?;
+            let wanted = searched(rt.alloc(), lhs, rhs, scalars)?;
             assert_eq!(rt; found.as_str(), wanted.as_str());
         }
     }
     Ok(())
 }
 
+/// The ten scalars, each after these words.
+fn of_each_scalar(alloc: Global, shape: &str) -> Result<String, AllocError> {
+    let mut words = String::new(alloc);
+    for scalar in SCALARS {
+        words.push_str(shape)?;
+        words.push_str(scalar)?;
+        words.push(' ')?;
+    }
+    Ok(words)
+}
+
+#[test]
+fn sums_of_scalars_are_those_that_a_search_finds(rt: HostRuntime) -> Result<(), Fail> {
+    let scalars = types(rt.alloc(), &of_each_scalar(rt.alloc(), "")?)?;
+    let compared = expect_sums(&rt, &scalars);
+    drop(scalars);
+    Ok(compared?)
+}
+
 /// What stands before a scalar in the words of its vectors of two and three, of two matrices, and of an array.
 pub const SHAPES: [&str; 6] = ["vec 2 ", "vec 3 ", "mat 2 2 ", "mat 2 3 ", "array 2 ", ""];
 
+/// The words of the ten scalars, and of what is of each.
+fn sixty_words(alloc: Global) -> Result<String, AllocError> {
+    let mut words = String::new(alloc);
+    for shape in SHAPES {
+        words.push_str(&of_each_scalar(alloc, shape)?)?;
+    }
+    Ok(words)
+}
+
 /// The ten scalars, and what is of each.
 pub fn sixty_types(alloc: Global) -> Result<Vec<Type>, Fail> {
-    let mut types = Vec::new(alloc);
-    for scalar in SCALARS {
-        for shape in SHAPES {
-            types.push(one_type(alloc, &format!(in alloc; "{shape}{scalar}")?)?)?;
+    types(alloc, &sixty_words(alloc)?)
+}
+
+/// The result of the candidate, or the message of the refusal.
+fn result_of_candidate(
+    alloc: Global,
+    operator: BinaryOperator,
+    lhs: &Type,
+    rhs: &Type,
+) -> Result<String, AllocError> {
+    match binary_candidate(alloc, operator, lhs, rhs) {
+        Ok(candidate) => {
+            let text = candidate.result.to_string(alloc);
+            drop(candidate);
+            text
+        }
+        Err(refused) => message(alloc, refused),
+    }
+}
+
+fn expect_results(
+    rt: &(impl Abort + AllocGlobal),
+    operator: BinaryOperator,
+    types: &[Type],
+) -> Result<(), AllocError> {
+    let alloc = rt.alloc();
+    for lhs in types {
+        for rhs in types {
+            let answer = type_or_refusal(alloc, type_binary_op(alloc, operator, lhs, rhs))?;
+            let result = result_of_candidate(alloc, operator, lhs, rhs)?;
+            assert_eq!(rt; answer.as_str(), result.as_str(), "{operator}");
         }
     }
-    Ok(types)
+    Ok(())
+}
+
+fn expect_all_results(rt: &(impl Abort + AllocGlobal), types: &[Type]) -> Result<(), AllocError> {
+    for operator in OPERATORS {
+        expect_results(rt, operator, types)?;
+    }
+    Ok(())
 }
 
 #[test]
 fn every_operator_gives_its_candidates_result(rt: HostRuntime) -> Result<(), Fail> {
-    let alloc = rt.alloc();
-    let types = sixty_types(alloc)?;
+    let types = sixty_types(rt.alloc())?;
     assert_eq!(rt; types.len(), 60);
-    for operator in OPERATORS {
-        for lhs in &types {
-            for rhs in &types {
-                let answer = type_or_refusal(alloc, type_binary_op(alloc, operator, lhs, rhs))?;
-                let result = match binary_candidate(alloc, operator, lhs, rhs) {
-                    Ok(candidate) => candidate.result.to_string(alloc)?,
-                    Err(refused) => message(alloc, refused)?,
-                };
-                assert_eq!(rt; answer.as_str(), result.as_str());
-            }
-        }
-    }
-    Ok(())
+    let compared = expect_all_results(&rt, &types);
+    drop(types);
+    Ok(compared?)
 }
