@@ -81,17 +81,24 @@ fn are_readable(rows: &[(&str, &str)]) -> bool {
     true
 }
 
-/// Compares what is printed with the answers, line by line, and names the request whose answer differs.
+/// Compares what is printed with the answers, line by line.
 fn expect_printed(rt: &impl Abort, rows: &[(&str, &str)], printed: &str) {
-    let mut rest = printed;
+    let mut lines = printed.split('\n');
     for (line, answer) in rows {
         for wanted in answer.split('\n') {
-            let (given, after) = rest.split_once('\n').unwrap_or(("(no line)", rest));
-            assert_eq!(rt; given, wanted, "asked `{line}`");
-            rest = after;
+            expect_text(rt, line, lines.next().unwrap_or("(no line)"), wanted);
         }
     }
-    assert_eq!(rt; rest, "", "after the last answer");
+    let ends = lines.next() == Some("") && lines.next() == None;
+    assert!(rt;
+        ends,
+        "more is printed than the answers, or the last line feed isn't"
+    );
+}
+
+/// Compares an answer with the one that is wanted. Where they differ, the message names what was asked.
+fn expect_text(rt: &impl Abort, asked: &str, given: &str, wanted: &str) {
+    assert_eq!(rt; given, wanted, "asked `{asked}`");
 }
 
 /// A sum of two vectors of two `i32`, with zeros before the first 2 that make the line this long.

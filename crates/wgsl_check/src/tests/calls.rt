@@ -1,6 +1,6 @@
 // Calls of built-in functions.
-use super::expect_answers;
 use super::operators::sixty_types;
+use super::{expect_answers, expect_text};
 use crate::command::value_or_refusal;
 use std::alloc::{AllocError, Global};
 use std::process::Abort;
@@ -139,7 +139,7 @@ fn expect_call(
     let alloc = rt.alloc();
     let answer = value_or_refusal(alloc, type_builtin_fn(alloc, name, None, args))?;
     let wanted = wanted_text(alloc, name, args, wanted)?;
-    assert_eq!(rt; answer.as_str(), wanted.as_str());
+    expect_text(rt, name, &answer, &wanted);
     Ok(())
 }
 

@@ -1,6 +1,6 @@
 // Constructors, and the templates before them.
-use super::expect_answers;
 use super::worded::{one_type, types};
+use super::{expect_answers, expect_text};
 use crate::command::message;
 use std::alloc::Global;
 use std::test::Fail;
@@ -405,7 +405,7 @@ fn structs_are_made_of_their_members(rt: HostRuntime) -> Result<(), Fail> {
         ),
     ] {
         let answer = struct_of_words(rt.alloc(), args)?;
-        assert_eq!(rt; answer.as_str(), wanted, "made of `{args}`");
+        expect_text(&rt, args, &answer, wanted);
     }
     Ok(())
 }

@@ -1,6 +1,6 @@
 // Ranks, common types, concrete types, and the generic conversions.
-use super::expect_answers;
 use super::worded::{one_type, types};
+use super::{expect_answers, expect_text};
 use std::alloc::{AllocError, Global};
 use std::process::Abort;
 use std::test::Fail;
@@ -251,7 +251,7 @@ fn abstract_types_become_concrete(rt: HostRuntime) -> Result<(), Fail> {
         ("u32", "u32, u32"),
     ] {
         let text = concrete(rt.alloc(), words)?;
-        assert_eq!(rt; text.as_str(), made, "{words}");
+        expect_text(&rt, words, &text, made);
     }
     Ok(())
 }
@@ -260,7 +260,7 @@ fn abstract_types_become_concrete(rt: HostRuntime) -> Result<(), Fail> {
 fn references_are_loaded_to_the_last(rt: HostRuntime) -> Result<(), Fail> {
     let twice = one_type(rt.alloc(), "ref private write ref function read i32")?;
     let loaded = spelled(rt.alloc(), Some(twice.loaded()))?;
-    assert_eq!(rt; loaded.as_str(), "i32");
+    expect_text(&rt, "the loads", &loaded, "i32");
     Ok(())
 }
 
@@ -307,7 +307,7 @@ fn types_convert_whole_or_inside(rt: HostRuntime) -> Result<(), Fail> {
         ("atomic i32 atomic i32", "atomic<i32>; atomic<i32>"),
     ] {
         let text = of_two(rt.alloc(), Pair::From, words)?;
-        assert_eq!(rt; text.as_str(), made, "{words}");
+        expect_text(&rt, words, &text, made);
     }
     Ok(())
 }
@@ -341,7 +341,7 @@ fn two_values_convert_to_their_common_type(rt: HostRuntime) -> Result<(), Fail> 
         ),
     ] {
         let text = of_two(rt.alloc(), Pair::Together, words)?;
-        assert_eq!(rt; text.as_str(), made, "{words}");
+        expect_text(&rt, words, &text, made);
     }
     Ok(())
 }
@@ -400,7 +400,7 @@ fn lists_convert_whole_or_not_at_all(rt: HostRuntime) -> Result<(), Fail> {
         ),
     ] {
         let text = list_converted(rt.alloc(), words)?;
-        assert_eq!(rt; text.as_str(), made, "{words}");
+        expect_text(&rt, words, &text, made);
     }
     Ok(())
 }

@@ -1,6 +1,6 @@
 // Unary and binary operators, and the candidates that are chosen for them.
-use super::expect_answers;
 use super::worded::types;
+use super::{expect_answers, expect_text};
 use crate::command::{message, type_or_refusal};
 use std::alloc::{AllocError, Global};
 use std::process::Abort;
@@ -276,7 +276,7 @@ fn candidates_say_what_the_operands_convert_to(rt: HostRuntime) -> Result<(), Fa
         ),
     ] {
         let found = chosen_for(rt.alloc(), operator, operands)?;
-        assert_eq!(rt; found.as_str(), candidate, "{operator} {operands}");
+        expect_text(&rt, operands, &found, candidate);
     }
     Ok(())
 }
@@ -326,12 +326,23 @@ fn searched(alloc: Global, lhs: &Type, rhs: &Type, scalars: &[Type]) -> Result<S
     }
 }
 
+/// What is asked, for a message.
+fn asked(
+    alloc: Global,
+    operator: BinaryOperator,
+    lhs: &Type,
+    rhs: &Type,
+) -> Result<String, AllocError> {
+    format!(in alloc; "{lhs} {operator} {rhs}")
+}
+
 fn expect_sums(rt: &(impl Abort + AllocGlobal), scalars: &[Type]) -> Result<(), AllocError> {
     for lhs in scalars {
         for rhs in scalars {
             let found = chosen(rt.alloc(), BinaryOperator::Addition, lhs, rhs)?;
             let wanted = searched(rt.alloc(), lhs, rhs, scalars)?;
-            assert_eq!(rt; found.as_str(), wanted.as_str());
+            let asked = asked(rt.alloc(), BinaryOperator::Addition, lhs, rhs)?;
+            expect_text(rt, &asked, &found, &wanted);
         }
     }
     Ok(())
@@ -400,7 +411,7 @@ fn expect_results(
         for rhs in types {
             let answer = type_or_refusal(alloc, type_binary_op(alloc, operator, lhs, rhs))?;
             let result = result_of_candidate(alloc, operator, lhs, rhs)?;
-            assert_eq!(rt; answer.as_str(), result.as_str(), "{operator}");
+            expect_text(rt, &asked(alloc, operator, lhs, rhs)?, &answer, &result);
         }
     }
     Ok(())
