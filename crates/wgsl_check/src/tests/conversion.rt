@@ -1,4 +1,5 @@
 // Ranks, common types, concrete types, and the generic conversions.
+use super::layout::nested;
 use super::worded::{one_type, types};
 use super::{expect_answers, expect_text};
 use std::alloc::{AllocError, Global};
@@ -24,73 +25,86 @@ const RANKS: [(&str, &str); 10] = [
     ("f64", "none none none none none none none none none 0"),
 ];
 
-#[test]
-fn every_pair_of_scalars_has_its_rank(rt: HostRuntime) -> Result<(), Fail> {
-    for (from, ranks) in RANKS {
-        for ((to, _ranks), rank) in RANKS.iter().zip(ranks.split(' ')) {
-            let line = format!(in rt.alloc(); "rank {from} {to}")?;
-            expect_answers(&rt, &[(line.as_str(), rank)])?;
-        }
+fn expect_rank(
+    rt: &(impl Abort + AllocGlobal),
+    from: &str,
+    to: &str,
+    rank: &str,
+) -> Result<(), AllocError> {
+    let line = format!(in rt.alloc(); "rank {from} {to}")?;
+    expect_answers(rt, &[(line.as_str(), rank)])
+}
+
+/// Compares the ranks from a scalar to each of them.
+fn expect_scalar_ranks(
+    rt: &(impl Abort + AllocGlobal),
+    from: &str,
+    ranks: &str,
+) -> Result<(), AllocError> {
+    let mut ranks = ranks.split(' ');
+    for (to, _ranks) in &RANKS {
+        expect_rank(rt, from, to, ranks.next().unwrap_or("a rank"))?;
     }
     Ok(())
 }
 
-const FUNCTIONS: [&str; 2] = ["frexp", "modf"];
-
-/// The shape in a result struct's name, and what stands before a scalar of the shape.
-const SHAPES: [(&str, &str); 4] = [
-    ("", ""),
-    ("vec2_", "vec 2 "),
-    ("vec3_", "vec 3 "),
-    ("vec4_", "vec 4 "),
-];
-
-/// The precision in its name, the float and its exponent.
-const PRECISIONS: [(&str, &str, &str); 3] = [
-    ("abstract", "AbstractFloat", "AbstractInt"),
-    ("f32", "f32", "i32"),
-    ("f16", "f16", "i32"),
-];
-
-/// The ranks from each precision to each, of the same function and shape.
-const PRECISION_RANKS: [[&str; 3]; 3] = [
-    ["0", "1", "2"],
-    ["none", "0", "none"],
-    ["none", "none", "0"],
-];
-
-fn result_struct(
-    alloc: Global,
-    function: &str,
-    (shape, words): (&str, &str),
-    (precision, float, exponent): (&str, &str, &str),
-) -> Result<String, AllocError> {
-    let (second, name) = match function {
-        "frexp" => (exponent, "exp"),
-        _ => (float, "whole"),
-    };
-    format!(in alloc;
-        "struct __{function}_result_{shape}{precision} 2 fract - - {words}{float} {name} - - {words}{second}"
-    )
+#[test]
+fn every_pair_of_scalars_has_its_rank(rt: HostRuntime) -> Result<(), Fail> {
+    for (from, ranks) in &RANKS {
+        expect_scalar_ranks(&rt, from, ranks)?;
+    }
+    Ok(())
 }
 
-/// Compares the ranks from a result struct of one function and shape to all others.
+/// The structs that calls give, in threes of one function and shape: of AbstractFloat, of f32 and of f16.
+const RESULTS: [&str; 24] = [
+    "struct __frexp_result_abstract 2 fract - - AbstractFloat exp - - AbstractInt",
+    "struct __frexp_result_f32 2 fract - - f32 exp - - i32",
+    "struct __frexp_result_f16 2 fract - - f16 exp - - i32",
+    "struct __frexp_result_vec2_abstract 2 fract - - vec 2 AbstractFloat exp - - vec 2 AbstractInt",
+    "struct __frexp_result_vec2_f32 2 fract - - vec 2 f32 exp - - vec 2 i32",
+    "struct __frexp_result_vec2_f16 2 fract - - vec 2 f16 exp - - vec 2 i32",
+    "struct __frexp_result_vec3_abstract 2 fract - - vec 3 AbstractFloat exp - - vec 3 AbstractInt",
+    "struct __frexp_result_vec3_f32 2 fract - - vec 3 f32 exp - - vec 3 i32",
+    "struct __frexp_result_vec3_f16 2 fract - - vec 3 f16 exp - - vec 3 i32",
+    "struct __frexp_result_vec4_abstract 2 fract - - vec 4 AbstractFloat exp - - vec 4 AbstractInt",
+    "struct __frexp_result_vec4_f32 2 fract - - vec 4 f32 exp - - vec 4 i32",
+    "struct __frexp_result_vec4_f16 2 fract - - vec 4 f16 exp - - vec 4 i32",
+    "struct __modf_result_abstract 2 fract - - AbstractFloat whole - - AbstractFloat",
+    "struct __modf_result_f32 2 fract - - f32 whole - - f32",
+    "struct __modf_result_f16 2 fract - - f16 whole - - f16",
+    "struct __modf_result_vec2_abstract 2 fract - - vec 2 AbstractFloat whole - - vec 2 AbstractFloat",
+    "struct __modf_result_vec2_f32 2 fract - - vec 2 f32 whole - - vec 2 f32",
+    "struct __modf_result_vec2_f16 2 fract - - vec 2 f16 whole - - vec 2 f16",
+    "struct __modf_result_vec3_abstract 2 fract - - vec 3 AbstractFloat whole - - vec 3 AbstractFloat",
+    "struct __modf_result_vec3_f32 2 fract - - vec 3 f32 whole - - vec 3 f32",
+    "struct __modf_result_vec3_f16 2 fract - - vec 3 f16 whole - - vec 3 f16",
+    "struct __modf_result_vec4_abstract 2 fract - - vec 4 AbstractFloat whole - - vec 4 AbstractFloat",
+    "struct __modf_result_vec4_f32 2 fract - - vec 4 f32 whole - - vec 4 f32",
+    "struct __modf_result_vec4_f16 2 fract - - vec 4 f16 whole - - vec 4 f16",
+];
+
+/// The rank from one of them to another.
+fn rank_of_results(from: usize, to: usize) -> &'static str {
+    if from == to {
+        "0"
+    } else if from / 3 != to / 3 || from % 3 != 0 {
+        "none"
+    } else if to % 3 == 1 {
+        "1"
+    } else {
+        "2"
+    }
+}
+
+/// Compares the ranks from one of them to each.
 fn expect_result_ranks(
     rt: &(impl Abort + AllocGlobal),
-    (function, shape): (&str, &str),
+    index: usize,
     from: &str,
-    ranks: [&str; 3],
 ) -> Result<(), AllocError> {
-    for other in FUNCTIONS {
-        for other_shape in SHAPES {
-            let is_kin = function == other && shape == other_shape.0;
-            for (target, rank) in PRECISIONS.iter().zip(ranks) {
-                let to = result_struct(rt.alloc(), other, other_shape, *target)?;
-                let line = format!(in rt.alloc(); "rank {from} {to}")?;
-                let rank = if is_kin { rank } else { "none" };
-                expect_answers(rt, &[(line.as_str(), rank)])?;
-            }
-        }
+    for (other, to) in RESULTS.iter().enumerate() {
+        expect_rank(rt, from, to, rank_of_results(index, other))?;
     }
     Ok(())
 }
@@ -99,13 +113,8 @@ fn expect_result_ranks(
 fn result_structs_convert_to_those_of_their_function_and_shape(
     rt: HostRuntime,
 ) -> Result<(), Fail> {
-    for function in FUNCTIONS {
-        for shape in SHAPES {
-            for (precision, ranks) in PRECISIONS.iter().zip(PRECISION_RANKS) {
-                let from = result_struct(rt.alloc(), function, shape, *precision)?;
-                expect_result_ranks(&rt, (function, shape.0), &from, ranks)?;
-            }
-        }
+    for (index, from) in RESULTS.iter().enumerate() {
+        expect_result_ranks(&rt, index, from)?;
     }
     Ok(())
 }
@@ -161,15 +170,9 @@ fn ranks_go_through_layers_and_loads(rt: HostRuntime) -> Result<(), Fail> {
 
 #[test]
 fn vectors_may_be_nested_300_deep(rt: HostRuntime) -> Result<(), Fail> {
-    let mut line = String::new(rt.alloc());
-    line.push_str("rank ")?;
-    for core in ["AbstractInt ", "f32"] {
-        for _ in 0..300 {
-            line.push_str("vec 2 ")?;
-        }
-        line.push_str(core)?;
-    }
-    expect_answers(&rt, &[(line.as_str(), "6")])?;
+    let from = nested(rt.alloc(), "vec 2 ", 300, "AbstractInt")?;
+    let to = nested(rt.alloc(), "vec 2 ", 300, "f32")?;
+    expect_rank(&rt, &from, &to, "6")?;
     Ok(())
 }
 

@@ -1,6 +1,6 @@
 // Readers and writers that fail at each of their calls, and input that ends after each of its bytes.
-use super::WHOLE;
 use super::streams::{Source, Target};
+use super::{WHOLE, expect};
 use crate::run::{RunError, run};
 use std::alloc::{AllocError, Global};
 use std::io::ErrorKind;
@@ -32,39 +32,25 @@ const LINES: [(&str, &str); 13] = [
 
 fn input(alloc: Global) -> Result<String, AllocError> {
     let mut text = String::new(alloc);
-    for (line, _answer) in LINES {
+    for (line, _answer) in &LINES {
         text.push_str(line)?;
     }
     Ok(text)
 }
 
-/// What is left of the bytes after what is printed for so many of the lines, or `None` where they begin otherwise.
-fn after_answers(printed: &[u8], lines: usize) -> Option<&[u8]> {
-    let mut rest = printed;
+/// What is printed for so many of the lines.
+fn answers(alloc: Global, lines: usize) -> Result<String, AllocError> {
+    let mut text = String::new(alloc);
     for (_line, answer) in LINES.iter().take(lines) {
-        rest = rest.strip_prefix(answer.as_bytes())?;
+        text.push_str(answer)?;
     }
-    Some(rest)
+    Ok(text)
 }
 
-/// Whether the bytes are what is printed for so many of the lines.
-fn are_answers(printed: &[u8], lines: usize) -> bool {
-    after_answers(printed, lines) == Some(b"")
-}
-
-/// How many bytes are printed for all lines.
-fn answers_len() -> usize {
-    let mut len = 0usize;
-    for (_line, answer) in LINES {
-        len = len.saturating_add(answer.len());
-    }
-    len
-}
-
-/// How many of the first bytes end a line.
-fn lines_within(input: &[u8], len: usize) -> usize {
+/// How many lines end in the bytes.
+fn lines_in(input: &[u8]) -> usize {
     let mut lines = 0usize;
-    for byte in input.iter().take(len) {
+    for byte in input {
         if *byte == b'\n' {
             lines = lines.saturating_add(1);
         }
@@ -72,37 +58,41 @@ fn lines_within(input: &[u8], len: usize) -> usize {
     lines
 }
 
-/// How many reads a run makes: each of them fails in a run of its own, which writes what was answered before.
-fn reads_of_a_run(
+/// The first bytes, so many of them.
+fn first(bytes: &[u8], len: usize) -> &[u8] {
+    &bytes[..len.min(bytes.len())]
+}
+
+/// Each of so many reads fails in a run of its own, which writes what was answered before. A run makes no more of them.
+fn expect_reads(
     rt: &(impl Abort + AllocGlobal),
-    input: &[u8],
-    most_read: usize,
-    most_written: usize,
-) -> usize {
-    for before in 0..1000usize {
-        let mut source = Source::new(input, most_read);
+    (most_read, most_written): (usize, usize),
+    reads: usize,
+) -> Result<(), AllocError> {
+    let input = input(rt.alloc())?;
+    for before in 0..reads {
+        let mut source = Source::new(input.as_bytes(), most_read);
         source.fails_after = Some(before);
-        let mut target = Target::new(rt.alloc(), most_written);
-        let outcome = run(rt.alloc(), &mut source, &mut target);
-        if outcome == Ok(false) {
-            assert!(rt; are_answers(&target.taken, LINES.len()));
-            return before;
-        }
-        assert_eq!(rt; outcome, Err(RunError::Read));
-        let lines = lines_within(input, before.saturating_mul(most_read));
-        assert!(rt; are_answers(&target.taken, lines), "at read {before}");
+        let target = Target::new(rt.alloc(), most_written);
+        let read = first(input.as_bytes(), before.saturating_mul(most_read));
+        let answers = answers(rt.alloc(), lines_in(read))?;
+        expect(rt, source, target, Err(RunError::Read), &answers);
     }
-    1000
+    let mut source = Source::new(input.as_bytes(), most_read);
+    source.fails_after = Some(reads);
+    let target = Target::new(rt.alloc(), most_written);
+    let answers = answers(rt.alloc(), LINES.len())?;
+    expect(rt, source, target, Ok(false), &answers);
+    Ok(())
 }
 
 #[test]
 fn a_run_ends_at_the_read_that_fails(rt: HostRuntime) -> Result<(), Fail> {
-    let input = input(rt.alloc())?;
-    for most_written in [1, WHOLE] {
-        for (most_read, reads) in [(1, input.len().saturating_add(1)), (100, 4), (WHOLE, 2)] {
-            let made = reads_of_a_run(&rt, input.as_bytes(), most_read, most_written);
-            assert_eq!(rt; made, reads);
-        }
+    let bytes = input(rt.alloc())?.len();
+    for most_written in &[1, WHOLE] {
+        expect_reads(&rt, (1, *most_written), bytes.saturating_add(1))?;
+        expect_reads(&rt, (100, *most_written), 4)?;
+        expect_reads(&rt, (WHOLE, *most_written), 2)?;
     }
     Ok(())
 }
@@ -110,103 +100,96 @@ fn a_run_ends_at_the_read_that_fails(rt: HostRuntime) -> Result<(), Fail> {
 #[test]
 fn an_interrupted_read_changes_nothing_anywhere(rt: HostRuntime) -> Result<(), Fail> {
     let input = input(rt.alloc())?;
+    let answers = answers(rt.alloc(), LINES.len())?;
     for before in 0..input.len() {
         let mut source = Source::new(input.as_bytes(), 1);
         source.fails_after = Some(before);
         source.failure = ErrorKind::Interrupted;
-        let mut target = Target::new(rt.alloc(), 1);
-        assert_eq!(rt; run(rt.alloc(), &mut source, &mut target), Ok(false));
-        assert!(rt; are_answers(&target.taken, LINES.len()), "at read {before}");
+        expect(&rt, source, Target::new(rt.alloc(), 1), Ok(false), &answers);
     }
     Ok(())
 }
 
-/// Whether the answers to all lines begin with the bytes.
-fn begin_answers(printed: &[u8]) -> bool {
-    let mut rest = printed;
-    for (_line, answer) in LINES {
-        match rest.strip_prefix(answer.as_bytes()) {
-            Some(after) => rest = after,
-            None => return answer.as_bytes().starts_with(rest),
-        }
-    }
-    rest.is_empty()
+/// The write after so many fails: the run wrote a beginning of the answers.
+fn expect_cut(
+    rt: &(impl Abort + AllocGlobal),
+    (most_read, most_written): (usize, usize),
+    (input, answers): (&str, &str),
+    before: usize,
+) {
+    let mut source = Source::new(input.as_bytes(), most_read);
+    let mut target = Target::new(rt.alloc(), most_written);
+    target.fails_after = Some(before);
+    let outcome = run(rt.alloc(), &mut source, &mut target);
+    assert_eq!(rt; outcome, Err(RunError::Write));
+    let is_beginning = answers.as_bytes().starts_with(&target.taken);
+    assert!(rt; is_beginning && (most_written > 1 || target.taken.len() == before));
 }
 
-/// How many writes a run makes: each of them fails in a run of its own, which wrote a beginning of the answers.
-fn writes_of_a_run(
+/// Each of so many writes fails in a run of its own. A run makes no more of them.
+fn expect_writes(
     rt: &(impl Abort + AllocGlobal),
-    input: &[u8],
-    most_read: usize,
-    most_written: usize,
-) -> usize {
-    for before in 0..1000usize {
-        let mut source = Source::new(input, most_read);
-        let mut target = Target::new(rt.alloc(), most_written);
-        target.fails_after = Some(before);
-        let outcome = run(rt.alloc(), &mut source, &mut target);
-        if outcome == Ok(false) {
-            assert!(rt; are_answers(&target.taken, LINES.len()));
-            return before;
-        }
-        assert_eq!(rt; outcome, Err(RunError::Write));
-        assert!(rt; begin_answers(&target.taken), "at write {before}");
-        assert!(rt; most_written > 1 || target.taken.len() == before);
+    (most_read, most_written): (usize, usize),
+    writes: usize,
+) -> Result<(), AllocError> {
+    let input = input(rt.alloc())?;
+    let answers = answers(rt.alloc(), LINES.len())?;
+    for before in 0..writes {
+        expect_cut(rt, (most_read, most_written), (&input, &answers), before);
     }
-    1000
+    let source = Source::new(input.as_bytes(), most_read);
+    let mut target = Target::new(rt.alloc(), most_written);
+    target.fails_after = Some(writes);
+    expect(rt, source, target, Ok(false), &answers);
+    Ok(())
 }
 
 #[test]
 fn a_run_ends_at_the_write_that_fails(rt: HostRuntime) -> Result<(), Fail> {
-    let input = input(rt.alloc())?;
-    let bytes = answers_len();
-    for (most_read, most_written, writes) in [
-        (1, 1, bytes),
-        (WHOLE, 1, bytes),
-        (1, WHOLE, 12),
-        (WHOLE, WHOLE, 1),
-    ] {
-        let made = writes_of_a_run(&rt, input.as_bytes(), most_read, most_written);
-        assert_eq!(rt; made, writes);
-    }
+    let bytes = answers(rt.alloc(), LINES.len())?.len();
+    expect_writes(&rt, (1, 1), bytes)?;
+    expect_writes(&rt, (WHOLE, 1), bytes)?;
+    expect_writes(&rt, (1, WHOLE), 12)?;
+    expect_writes(&rt, (WHOLE, WHOLE), 1)?;
     Ok(())
 }
 
 #[test]
 fn a_writer_that_takes_nothing_ends_every_run(rt: HostRuntime) -> Result<(), Fail> {
     let input = input(rt.alloc())?;
-    for most_read in [1, 100, WHOLE] {
-        let mut source = Source::new(input.as_bytes(), most_read);
-        let mut target = Target::new(rt.alloc(), 0);
-        assert_eq!(rt;
-            run(rt.alloc(), &mut source, &mut target),
-            Err(RunError::Write)
-        );
-        assert!(rt; target.taken.is_empty());
+    for most_read in &[1, 100, WHOLE] {
+        let source = Source::new(input.as_bytes(), *most_read);
+        let target = Target::new(rt.alloc(), 0);
+        expect(&rt, source, target, Err(RunError::Write), "");
     }
     Ok(())
 }
 
-/// Runs over the first bytes of the input: each line that ended is answered, and so is the one that hasn't.
-fn expect_part(rt: &(impl Abort + AllocGlobal), part: &[u8], most_read: usize) {
+/// Runs over the first bytes of the input. Each line that ended is answered, and so is the one that didn't end.
+fn expect_part(
+    rt: &(impl Abort + AllocGlobal),
+    part: &[u8],
+    most_read: usize,
+) -> Result<(), AllocError> {
     let mut source = Source::new(part, most_read);
     let mut target = Target::new(rt.alloc(), 1);
     let outcome = run(rt.alloc(), &mut source, &mut target);
     let printed = std::str::from_utf8(&target.taken).unwrap_or("");
+    let before = answers(rt.alloc(), lines_in(part))?;
+    let last = printed.strip_prefix(before.as_str()).unwrap_or("otherwise");
+    let ended = part.ends_with(b"\n");
     assert_eq!(rt; outcome, Ok(!printed.contains("bad line")));
-    match after_answers(&target.taken, lines_within(part, part.len())) {
-        Some(last) => assert_eq!(rt; last.is_empty(), part.ends_with(b"\n")),
-        None => panic!(rt; "a line that ended is answered otherwise"),
-    }
+    assert!(rt; last != "otherwise" && last.is_empty() == ended);
+    Ok(())
 }
 
 #[test]
 fn input_may_end_after_each_byte(rt: HostRuntime) -> Result<(), Fail> {
     let input = input(rt.alloc())?;
-    for most_read in [1, WHOLE] {
-        for len in 1..=input.len() {
-            expect_part(&rt, &input.as_bytes()[..len], most_read);
-        }
+    for len in 0..input.len() {
+        let part = first(input.as_bytes(), len.saturating_add(1));
+        expect_part(&rt, part, 1)?;
+        expect_part(&rt, part, WHOLE)?;
     }
     Ok(())
 }

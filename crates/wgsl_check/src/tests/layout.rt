@@ -179,7 +179,7 @@ pub fn wrapped(alloc: Global, ty: Type) -> Result<Type, AllocError> {
 }
 
 /// The last words, with so many of the first before them.
-fn nested(alloc: Global, outer: &str, depth: usize, core: &str) -> Result<String, AllocError> {
+pub fn nested(alloc: Global, outer: &str, depth: usize, core: &str) -> Result<String, AllocError> {
     let mut words = String::new(alloc);
     for _ in 0..depth {
         words.push_str(outer)?;
