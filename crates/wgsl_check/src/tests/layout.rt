@@ -145,22 +145,24 @@ fn a_report_has_a_line_for_each_member_and_one_for_the_whole(rt: HostRuntime) ->
     Ok(())
 }
 
-/// The least size of a type, its size and its alignment.
-fn measured(alloc: Global, words: &str) -> Result<(Option<u32>, Option<u32>, Option<u32>), Fail> {
+/// Whether the type has this least size, this size and this alignment.
+fn has_sizes(
+    alloc: Global,
+    words: &str,
+    (least, size, align): (Option<u32>, Option<u32>, Option<u32>),
+) -> Result<bool, Fail> {
     let ty = one_type(alloc, words)?;
-    let sizes = (ty.min_size_of(), ty.size_of(), ty.align_of());
+    let holds = ty.min_size_of() == least && ty.size_of() == size && ty.align_of() == align;
     drop(ty);
-    Ok(sizes)
+    Ok(holds)
 }
 
 #[test]
 fn the_least_size_of_an_open_array_is_its_stride(rt: HostRuntime) -> Result<(), Fail> {
-    for (words, sizes) in [
-        ("array * vec 3 f32", (Some(16), None, Some(16))),
-        ("f16", (Some(2), Some(2), Some(2))),
-    ] {
-        assert_eq!(rt; measured(rt.alloc(), words)?, sizes, "{words}");
-    }
+    let open = (Some(16), None, Some(16));
+    assert!(rt; has_sizes(rt.alloc(), "array * vec 3 f32", open)?);
+    let half = (Some(2), Some(2), Some(2));
+    assert!(rt; has_sizes(rt.alloc(), "f16", half)?);
     Ok(())
 }
 
@@ -189,12 +191,17 @@ pub fn nested(alloc: Global, outer: &str, depth: usize, core: &str) -> Result<St
 }
 
 #[test]
-fn structs_and_layers_may_be_nested_300_deep(rt: HostRuntime) -> Result<(), Fail> {
+fn structs_may_be_nested_300_deep(rt: HostRuntime) -> Result<(), Fail> {
     let structs = nested(rt.alloc(), "struct Outer 1 inner - - ", 300, "f32")?;
-    let sizes = measured(rt.alloc(), &structs)?;
-    assert_eq!(rt; sizes, (Some(4), Some(4), Some(4)));
-    let layers = nested(rt.alloc(), "array 1 vec 1 ", 290, "f32")?;
-    let line = format!(in rt.alloc(); "size {layers}")?;
+    let four = (Some(4), Some(4), Some(4));
+    assert!(rt; has_sizes(rt.alloc(), &structs, four)?);
+    Ok(())
+}
+
+#[test]
+fn layers_may_be_nested_580_deep(rt: HostRuntime) -> Result<(), Fail> {
+    let line = nested(rt.alloc(), "array 1 vec 1 ", 290, "f32")?;
+    let line = format!(in rt.alloc(); "size {line}")?;
     expect_answers(&rt, &[(line.as_str(), "4 4")])?;
     Ok(())
 }
