@@ -76,8 +76,15 @@ enum Question<'t> {
     Size,
     Offsets,
     Layout,
-    Ctor(&'t str, Option<Vec<TpltParam>>),
-    Call(&'t str, Option<Vec<TpltParam>>),
+    Ctor(Callee<'t>),
+    Call(Callee<'t>),
+}
+
+/// The name of a constructor or a built-in function, and the template after it.
+#[derive(Drop)]
+struct Callee<'t> {
+    name: &'t str,
+    template: Option<Vec<TpltParam>>,
 }
 
 fn read_question<'t>(
@@ -87,15 +94,21 @@ fn read_question<'t>(
 ) -> Result<Question<'t>, Unread> {
     match word {
         "rank" => Ok(Question::Rank),
-        "unary" => Ok(Question::Unary(unary_operator(words.next()?)?)),
-        "binary" => Ok(Question::Binary(binary_operator(words.next()?)?)),
+        "unary" => Ok(Question::Unary(read_unary(words)?)),
+        "binary" => Ok(Question::Binary(read_binary(words)?)),
         "size" => Ok(Question::Size),
         "offsets" => Ok(Question::Offsets),
         "layout" => Ok(Question::Layout),
-        "ctor" => Ok(Question::Ctor(words.next()?, read_template(alloc, words)?)),
-        "call" => Ok(Question::Call(words.next()?, read_template(alloc, words)?)),
+        "ctor" => Ok(Question::Ctor(read_callee(alloc, words)?)),
+        "call" => Ok(Question::Call(read_callee(alloc, words)?)),
         _ => Err(Unread::Word),
     }
+}
+
+fn read_callee<'t>(alloc: Global, words: &mut Words<'_, 't>) -> Result<Callee<'t>, Unread> {
+    let name = words.next()?;
+    let template = read_template(alloc, words)?;
+    Ok(Callee { name, template })
 }
 
 /// The answer for the types that all words that are left stand for.
@@ -114,15 +127,8 @@ fn answer_for(alloc: Global, question: &Question, types: &[Type]) -> Result<Stri
         Question::Size => size(alloc, types),
         Question::Offsets => offsets(alloc, types),
         Question::Layout => layout(alloc, types),
-        Question::Ctor(name, template) => {
-            Ok(type_or_refusal(alloc, type_ctor(alloc, name, template.as_deref(), types))?)
-        }
-        Question::Call(name, template) => {
-            Ok(value_or_refusal(
-                alloc,
-                type_builtin_fn(alloc, name, template.as_deref(), types),
-            )?)
-        }
+        Question::Ctor(callee) => ctor(alloc, callee, types),
+        Question::Call(callee) => call(alloc, callee, types),
     }
 }
 
@@ -142,8 +148,8 @@ fn unary(alloc: Global, operator: UnaryOperator, types: &[Type]) -> Result<Strin
     Ok(type_or_refusal(alloc, type_unary_op(alloc, operator, operand))?)
 }
 
-fn unary_operator(word: &str) -> Result<UnaryOperator, Unread> {
-    match word {
+fn read_unary(words: &mut Words) -> Result<UnaryOperator, Unread> {
+    match words.next()? {
         "!" => Ok(UnaryOperator::LogicalNegation),
         "-" => Ok(UnaryOperator::Negation),
         "~" => Ok(UnaryOperator::BitwiseComplement),
@@ -161,8 +167,8 @@ fn binary(alloc: Global, operator: BinaryOperator, types: &[Type]) -> Result<Str
     Ok(type_or_refusal(alloc, type_binary_op(alloc, operator, lhs, rhs))?)
 }
 
-fn binary_operator(word: &str) -> Result<BinaryOperator, Unread> {
-    match word {
+fn read_binary(words: &mut Words) -> Result<BinaryOperator, Unread> {
+    match words.next()? {
         "||" => Ok(BinaryOperator::ShortCircuitOr),
         "&&" => Ok(BinaryOperator::ShortCircuitAnd),
         "+" => Ok(BinaryOperator::Addition),
@@ -218,6 +224,18 @@ fn layout(alloc: Global, types: &[Type]) -> Result<String, Unread> {
         Some(text) => Ok(text),
         None => Ok(String::from_str(alloc, "none")?),
     }
+}
+
+/// `ctor NAME P T..`: the type that the constructor makes, or why it makes none.
+fn ctor(alloc: Global, callee: &Callee, types: &[Type]) -> Result<String, Unread> {
+    let made = type_ctor(alloc, callee.name, callee.template.as_deref(), types);
+    Ok(type_or_refusal(alloc, made)?)
+}
+
+/// `call NAME P T..`: the type of the call, or why it has none; `no value` where it gives none.
+fn call(alloc: Global, callee: &Callee, types: &[Type]) -> Result<String, Unread> {
+    let answer = type_builtin_fn(alloc, callee.name, callee.template.as_deref(), types);
+    Ok(value_or_refusal(alloc, answer)?)
 }
 
 /// The spelling of the type that a call gives, `no value`, or the message of a refusal.

@@ -38,26 +38,7 @@ pub fn run<R: Read, W: Write>(
     input: &mut R,
     output: &mut W,
 ) -> Result<bool, RunError> {
-    let mut session = Session::new(alloc)?;
-    let mut block = [0u8; BLOCK];
-    for _ in 0..u64::MAX {
-        match input.read(&mut block) {
-            Ok(0) => {
-                let ended = session.end_line();
-                session.write_answers(output)?;
-                ended?;
-                return Ok(session.all_readable);
-            }
-            Ok(count) => {
-                let taken = session.take(&block[..count]);
-                session.write_answers(output)?;
-                taken?;
-            }
-            Err(e) if e.kind() == ErrorKind::Interrupted => {}
-            Err(_) => return Err(RunError::Read),
-        }
-    }
-    Err(RunError::Read)
+    Session::new(alloc)?.answer_all(input, output)
 }
 
 /// The exit status of a run.
@@ -93,6 +74,32 @@ impl Session {
             answers: String::new(alloc),
             all_readable: true,
         })
+    }
+
+    fn answer_all<R: Read, W: Write>(
+        &mut self,
+        input: &mut R,
+        output: &mut W,
+    ) -> Result<bool, RunError> {
+        let mut block = [0u8; BLOCK];
+        for _ in 0..u64::MAX {
+            match input.read(&mut block) {
+                Ok(0) => {
+                    let ended = self.end_line();
+                    self.write_answers(output)?;
+                    ended?;
+                    return Ok(self.all_readable);
+                }
+                Ok(count) => {
+                    let taken = self.take(&block[..count]);
+                    self.write_answers(output)?;
+                    taken?;
+                }
+                Err(e) if e.kind() == ErrorKind::Interrupted => {}
+                Err(_) => return Err(RunError::Read),
+            }
+        }
+        Err(RunError::Read)
     }
 
     /// Takes the next bytes of the input, and gathers the answers to the lines that end in them.
