@@ -1,5 +1,5 @@
 // What the program answers to a command.
-use crate::read::{read_type, read_types};
+use crate::read::read_types;
 use crate::report::{layout_of, number_or_none};
 use crate::template::read_template;
 use crate::typed::{Typed, convert_to_common};
@@ -36,10 +36,8 @@ fn command(alloc: Global, line: u64, mut words: Words) -> Result<String, Unread>
 /// `common T..`: the common type of all.
 fn common(alloc: Global, line: u64, mut words: Words) -> Result<String, Unread> {
     let types = read_typed(alloc, line, &mut words)?;
-    let converted = convert_to_common(alloc, &types);
+    let text = spell_common(alloc, &types);
     drop(types);
-    let text = first_or_none(alloc, &converted);
-    drop(converted);
     Ok(text?)
 }
 
@@ -52,18 +50,22 @@ fn read_typed(alloc: Global, line: u64, words: &mut Words) -> Result<Vec<Typed>,
     Ok(types)
 }
 
-/// The spelling of the first of the types, or `none`.
-fn first_or_none(
-    alloc: Global,
-    converted: &Result<Option<Vec<Typed>>, AllocError>,
-) -> Result<String, AllocError> {
-    match converted {
-        Ok(Some(types)) => match types.first() {
-            Some(first) => first.ty.to_string(alloc),
-            None => String::from_str(alloc, "none"),
-        },
-        Ok(None) => String::from_str(alloc, "none"),
-        Err(e) => Err(*e),
+/// The spelling of the common type, or `none`.
+fn spell_common(alloc: Global, types: &[Typed]) -> Result<String, AllocError> {
+    match convert_to_common(alloc, types)? {
+        Some(converted) => {
+            let text = spell_first(alloc, &converted);
+            drop(converted);
+            text
+        }
+        None => String::from_str(alloc, "none"),
+    }
+}
+
+fn spell_first(alloc: Global, types: &[Typed]) -> Result<String, AllocError> {
+    match types.first() {
+        Some(first) => first.ty.to_string(alloc),
+        None => String::from_str(alloc, "none"),
     }
 }
 

@@ -24,7 +24,7 @@ pub fn read_type(alloc: Global, words: &mut Words) -> Result<Type, Unread>
     }
 }
 
-/// What a type has around the type that it is of.
+/// What stands around the type that a type is of.
 #[derive(Clone, Copy)]
 enum Outer {
     Vec(u8),

@@ -46,8 +46,8 @@ fn expect_whole(rt: &(impl Abort + AllocGlobal), input: &[u8], readable: bool, o
     expect(rt, source, target, Ok(readable), output);
 }
 
-/// Asks each line, all in one run, and compares what is printed for it with the answer beside it. The answer to a line that
-/// can't be read begins `bad line`.
+/// Asks each line, all in one run, and compares what is printed for it with the answer beside it. The answer to a line
+/// that can't be read begins `bad line`.
 fn expect_answers(
     rt: &(impl Abort + AllocGlobal),
     rows: &[(&str, &str)],

@@ -104,15 +104,6 @@ impl<'w, 't> Words<'w, 't> {
     pub fn left(&self) -> usize {
         self.all.len() - self.taken
     }
-
-    /// Whether every word is taken.
-    pub fn end(&self) -> Result<(), Unread> {
-        if self.left() == 0 {
-            Ok(())
-        } else {
-            Err(Unread::Word)
-        }
-    }
 }
 
 /// A number: decimal digits alone, with leading zeros or without.

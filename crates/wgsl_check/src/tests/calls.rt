@@ -129,6 +129,18 @@ fn names_are_found_by_binary_search(rt: HostRuntime) {
     }
 }
 
+#[test]
+fn the_empty_name_is_refused(rt: HostRuntime) -> Result<(), Fail> {
+    let answer = value_or_refusal(rt.alloc(), type_builtin_fn(rt.alloc(), "", None, &[]))?;
+    expect_text(
+        &rt,
+        "the empty name",
+        &answer,
+        "invalid function call signature: `()`",
+    );
+    Ok(())
+}
+
 /// What the call answers in words: the type, or without one the refusal of the call as it was given.
 fn expect_call(
     rt: &(impl Abort + AllocGlobal),
