@@ -350,7 +350,7 @@ fn two_values_convert_to_their_common_type(rt: HostRuntime) -> Result<(), Fail> 
 }
 
 /// Each type as it is spelled and a space after it, or `none`.
-pub fn listed(alloc: Global, types: Option<Vec<Type>>) -> Result<String, AllocError> {
+fn listed(alloc: Global, types: Option<Vec<Type>>) -> Result<String, AllocError> {
     match types {
         Some(types) => {
             let text = spaced(alloc, &types);

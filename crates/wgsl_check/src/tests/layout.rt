@@ -3,7 +3,6 @@ use super::expect_answers;
 use super::worded::one_type;
 use std::alloc::{AllocError, Global};
 use std::test::Fail;
-use wgsl_types::ty::{StructMemberType, StructType, Type};
 
 #[test]
 fn sizes_and_alignments_are_printed(rt: HostRuntime) -> Result<(), Fail> {
@@ -164,20 +163,6 @@ fn the_least_size_of_an_open_array_is_its_stride(rt: HostRuntime) -> Result<(), 
     let half = (Some(2), Some(2), Some(2));
     assert!(rt; has_sizes(rt.alloc(), "f16", half)?);
     Ok(())
-}
-
-/// A struct whose only member is of the type.
-pub fn wrapped(alloc: Global, ty: Type) -> Result<Type, AllocError> {
-    let name = String::from_str(alloc, "inner")?;
-    let mut members = Vec::new(alloc);
-    members.push(StructMemberType {
-        name,
-        ty,
-        size: None,
-        align: None,
-    })?;
-    let name = String::from_str(alloc, "Outer")?;
-    Ok(Type::Struct(Box::new(alloc, StructType { name, members })?))
 }
 
 /// The last words, with so many of the first before them.

@@ -368,7 +368,7 @@ fn sums_of_scalars_are_those_that_a_search_finds(rt: HostRuntime) -> Result<(), 
 }
 
 /// What stands before a scalar in the words of its vectors of two and three, of two matrices, and of an array.
-pub const SHAPES: [&str; 6] = ["vec 2 ", "vec 3 ", "mat 2 2 ", "mat 2 3 ", "array 2 ", ""];
+const SHAPES: [&str; 6] = ["vec 2 ", "vec 3 ", "mat 2 2 ", "mat 2 3 ", "array 2 ", ""];
 
 /// The words of the ten scalars, and of what is of each.
 fn sixty_words(alloc: Global) -> Result<String, AllocError> {
