@@ -2,12 +2,12 @@
 use Rattle.std.proofs.Common.{Bool, true, false, true≢false, IsTrue, ◌↔◌, ◌≡◌, ℕ, ◌+◌, ◌<◌, ◌≤◌, suc, List, [], ◌∷◌, length, drop, drop-cons, add-one, map, slice_index_or, All, Option, Some, None, option_map, refl, sym, ap, subst, ◌∙◌, inl, inr}
 use Rattle.std.proofs.lemmas.List.{drop_all, get_or-map, length-map}
 use Rattle.std.proofs.lemmas.List.Elements.{All-cons}
-use Rattle.wgsl_rules.specs.Types.{WgslType, Members, no_members, member}
-use Rattle.wgsl_rules.specs.Conversion.{ConvertsTo}
+use Rattle.wgsl_rules.specs.types.Types.{WgslType, Members, no_members, member}
+use Rattle.wgsl_rules.specs.conversion.Conversion.{ConvertsTo}
 use Rattle.std.specs.Borrow.{Bor}
-use Rattle.wgsl_rules.specs.Common.{IsLeftCommonFrom, IsLeftCommon}
-use Rattle.wgsl_rules.specs.Parts.{inner_of}
-use Rattle.wgsl_rules.specs.Constructors.{member_count, AllFit, IsFirstMisfit}
+use Rattle.wgsl_rules.specs.conversion.Common.{IsLeftCommonFrom, IsLeftCommon}
+use Rattle.wgsl_rules.specs.types.Inner.{inner_of}
+use Rattle.wgsl_rules.specs.constructors.Constructors.{member_count, AllFit, IsFirstMisfit}
 use Rattle.wgsl_core.specs.View.{view, member_view, members_view}
 use Rattle.wgsl_core.specs.declared.ty.Type.{«Type»}
 use Rattle.wgsl_core.specs.declared.ty.StructMemberType.{StructMemberType, out-StructMemberType}

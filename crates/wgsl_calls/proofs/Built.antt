@@ -5,11 +5,11 @@ use Rattle.wgsl_syntax.specs.declared.scalar.Scalar.TheVariants.{Bool, U32, F32}
 use Rattle.wgsl_syntax.specs.declared.result_struct.ResultFunction.TheVariants.{Frexp, Modf}
 use Rattle.wgsl_syntax.specs.declared.result_struct.ResultStruct.{ResultStruct}
 use Rattle.wgsl_syntax.specs.ResultStruct.{result_name, function_text, shape_text, precision_text}
-use Rattle.wgsl_rules.specs.Types.{WgslType, scalar, struct, no_members, vec, mat}
-use Rattle.wgsl_rules.specs.ResultStructs.{shaped, float_of, exponent_of, plain_member, result_members, result_struct}
-use Rattle.wgsl_rules.specs.CallResults.{exchange_struct, ray_intersection_struct}
+use Rattle.wgsl_rules.specs.types.Types.{WgslType, scalar, struct, no_members, vec, mat}
+use Rattle.wgsl_rules.specs.types.ResultStructs.{shaped, float_of, exponent_of, plain_member, result_members, result_struct}
+use Rattle.wgsl_rules.specs.calls.ResultTypes.{exchange_struct, ray_intersection_struct}
 use Rattle.wgsl_core.specs.View.{Member, view, members_of}
-use Rattle.wgsl_core.specs.Results.{plain, result_type}
+use Rattle.wgsl_core.specs.ResultStruct.{plain, result_type}
 use Rattle.wgsl_core.specs.declared.ty.Type.{«Type», the_lemmas}
 use Rattle.wgsl_core.specs.declared.ty.Type.TheVariants as v
 

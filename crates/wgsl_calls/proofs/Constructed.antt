@@ -2,25 +2,25 @@
 use Rattle.std.proofs.Common.{string_bytes, ◌≡◌, ◌≢◌, ℕ, ◌≤◌, List, [], ◌∷◌, length, map, Option, Some, Result, Ok, Err, refl, sym, ap, subst, ◌∙◌, ◌⊎◌, inl, inr}
 use native.Mathlib.Omega.{arith}
 use Rattle.std.proofs.lemmas.List.{length-map}
-use Rattle.wgsl_rules.specs.Types.{WgslType, scalar, array, vec, mat, Members, struct, atomic, pointer, reference, texture, sampler, binding_array, ray_query, acceleration_structure}
+use Rattle.wgsl_rules.specs.types.Types.{WgslType, scalar, array, vec, mat, Members, struct, atomic, pointer, reference, texture, sampler, binding_array, ray_query, acceleration_structure}
 use Rattle.wgsl_syntax.specs.declared.scalar.Scalar.{Scalar}
-use Rattle.wgsl_rules.specs.Kinds.{IsMatrix}
-use Rattle.wgsl_rules.specs.Conversion.{ConvertsTo}
-use Rattle.wgsl_rules.specs.Common.{IsLeftCommon}
-use Rattle.wgsl_rules.specs.Refusals.{Refusal, conversion, param_count, param_type}
-use Rattle.wgsl_rules.specs.VectorConstructors.{IsTypedVectorOfOne, IsTypedVectorOfSeveral, IsTypedVector, IsUntypedVectorOfSeveral, IsUntypedVector}
-use Rattle.wgsl_rules.specs.MatrixConstructors.{IsTypedMatrixOf, IsTypedMatrixOfOne, IsTypedMatrix, IsUntypedMatrixOf, IsUntypedMatrixOfOne, IsUntypedMatrix}
-use Rattle.wgsl_rules.specs.Signatures.{Signature}
-use Rattle.wgsl_rules.specs.Constructors.{Constructor, constructor_of, IsBuilt, IsConstructorAnswer, IsTypedArray, IsFilled, IsStructCall, member_count, AllFit, IsFirstMisfit}
+use Rattle.wgsl_rules.specs.types.Kinds.{IsMatrix}
+use Rattle.wgsl_rules.specs.conversion.Conversion.{ConvertsTo}
+use Rattle.wgsl_rules.specs.conversion.Common.{IsLeftCommon}
+use Rattle.wgsl_rules.specs.errors.Refusals.{Refusal, conversion, param_count, param_type}
+use Rattle.wgsl_rules.specs.constructors.Vectors.{IsTypedVectorOfOne, IsTypedVectorOfSeveral, IsTypedVector, IsUntypedVectorOfSeveral, IsUntypedVector}
+use Rattle.wgsl_rules.specs.constructors.Matrices.{IsTypedMatrixOf, IsTypedMatrixOfOne, IsTypedMatrix, IsUntypedMatrixOf, IsUntypedMatrixOfOne, IsUntypedMatrix}
+use Rattle.wgsl_rules.specs.types.Signatures.{Signature}
+use Rattle.wgsl_rules.specs.constructors.Constructors.{Constructor, constructor_of, IsBuilt, IsConstructorAnswer, IsTypedArray, IsFilled, IsStructCall, member_count, AllFit, IsFirstMisfit}
 use Rattle.wgsl_core.specs.View.{view, members_view, struct_view}
 use Rattle.wgsl_core.proofs.Recognition.{view-struct}
 use Rattle.wgsl_core.specs.declared.ty.StructType.{StructType, out-StructType}
 use Rattle.wgsl_calls.proofs.Arguments.{count_of_members, misfit_is_no_fit}
 use Rattle.std.specs.Borrow.{Bor}
-use Rattle.wgsl_core.specs.Parts.{IsNoOperand, IsSeenAs}
-use Rattle.wgsl_core.specs.declared.parts.Operand.{Operand}
-use Rattle.wgsl_core.specs.declared.parts.Operand.TheVariants as operands
-use Rattle.wgsl_core.specs.Outcome.{AnswersAs}
+use Rattle.wgsl_core.specs.Forms.{form_view}
+use Rattle.wgsl_core.specs.declared.ty.form.Form.{Form}
+use Rattle.wgsl_core.specs.declared.ty.form.Form.TheVariants as forms
+use Rattle.wgsl_core.specs.Answer.{AnswersAs}
 use Rattle.wgsl_core.specs.declared.ty.Type.{«Type»}
 use Rattle.wgsl_core.specs.declared.error.Fail.{Fail}
 use Rattle.wgsl_core.specs.declared.error.Fail.TheVariants as fails
@@ -109,30 +109,12 @@ one_untyped name c n (binding_array k e) m r h = (Some (binding_array k e), refl
 one_untyped name c n (ray_query f) m r h = (Some (ray_query f), refl, h)
 one_untyped name c n (acceleration_structure f) m r h = (Some (acceleration_structure f), refl, h)
 
-pub no_matrix : (a : WgslType) → IsNoOperand a → ¬ IsMatrix a
-no_matrix (mat d s e) o m = o
-no_matrix (array k e) o m = m
-no_matrix (vec k e) o m = m
-no_matrix (scalar s) o m = m
-no_matrix (struct s ms) o m = m
-no_matrix (atomic e) o m = m
-no_matrix (pointer s e x) o m = m
-no_matrix (reference s e x) o m = m
-no_matrix (texture x) o m = m
-no_matrix (sampler x) o m = m
-no_matrix (binding_array k e) o m = m
-no_matrix (ray_query f) o m = m
-no_matrix (acceleration_structure f) o m = m
-
--- what is seen as a scalar, a vector or another is no matrix
-pub seen_as_no_matrix : (t : WgslType) (o : Operand) → IsSeenAs t o →
-    ((s : Scalar) × (o ≡ operands.Scalar s)) ⊎ (((n : ℕ) × (e : Bor «Type») × (o ≡ operands.Vector n e)) ⊎ (o ≡ operands.Other)) → ¬ IsMatrix t
-seen_as_no_matrix t (operands.Scalar s) h k m = subst IsMatrix h m
-seen_as_no_matrix t (operands.Vector n e) h k m = subst IsMatrix h m
-seen_as_no_matrix t (operands.Matrix c r e) h (inl k) m = absurd (cc k.1)
-seen_as_no_matrix t (operands.Matrix c r e) h (inr (inl k)) m = absurd (cc k.2)
-seen_as_no_matrix t (operands.Matrix c r e) h (inr (inr k)) m = absurd (cc k)
-seen_as_no_matrix t operands.Other h k m = no_matrix t h m
+pub no_matrix : {f : Form} {a : WgslType} → form_view f ≡ a → ((c r : ℕ) (e : Bor «Type») → f ≡ forms.Matrix c r e → ⊥) → ¬ IsMatrix a
+no_matrix {f} p n = subst (λ a. ¬ IsMatrix a) p (at f n)
+  where
+    at : (f : Form) → ((c r : ℕ) (e : Bor «Type») → f ≡ forms.Matrix c r e → ⊥) → ¬ IsMatrix (form_view f)
+    at (forms.Matrix c r e) n m = n c r e refl
+    at f n m = m
 
 -- a scalar that doesn't convert
 pub scalar_refused : (n : ℕ) (a t : WgslType) (s : Scalar) (e : Refusal) → a ≡ scalar s → ¬ ConvertsTo a t → e ≡ conversion a t →

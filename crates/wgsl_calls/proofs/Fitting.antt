@@ -1,48 +1,46 @@
 -- Shapes and arguments, side by side.
 use Rattle.std.proofs.Common.{◌≡◌, ℕ, ◌+◌, ◌<◌, ◌≤◌, List, [], ◌∷◌, drop, length, get_or, map, Bool, true, Option, Some, None, is_some, option_map, refl, sym, ◌∙◌, subst, arith, drop-cons, add-one, ◌↔◌, IsTrue, drop_of_length-le}
 use Rattle.std.proofs.lemmas.List.{length-map}
-use Rattle.wgsl_rules.specs.Types.{WgslType}
-use Rattle.wgsl_rules.specs.CallShapes as shapes
-use Rattle.wgsl_rules.specs.CallShapes.{Is}
-use Rattle.wgsl_rules.specs.CallRows.{AllAre, BeginAs}
+use Rattle.wgsl_rules.specs.types.Types.{WgslType}
+use Rattle.wgsl_rules.specs.calls.Shapes.{Is}
+use Rattle.wgsl_rules.specs.calls.Rows.{AllAre, BeginAs}
 use Rattle.wgsl_core.specs.View.{view}
 use Rattle.wgsl_core.specs.declared.ty.Type.{«Type»}
-use Rattle.wgsl_calls.specs.Rows.{shape_view}
-use Rattle.wgsl_calls.specs.declared.rows.Shape.{Shape}
+use Rattle.wgsl_syntax.specs.declared.call.Shape.{Shape}
 
-pub too_many : (ss : List Shape) (ts : List «Type») → length ts < length ss → BeginAs (map shape_view ss) (map view ts) → ⊥
+pub too_many : (ss : List Shape) (ts : List «Type») → length ts < length ss → BeginAs ss (map view ts) → ⊥
 too_many [] ts l h = absurd (omega arith)
 too_many (s ∷ ss) [] l h = h
 too_many (s ∷ ss) (t ∷ ts) l h = too_many ss ts (omega arith) h.1
 
 pub one_more : (ss : List Shape) (ts : List «Type») (i : ℕ) (s : Shape) (t : «Type») → i < length ss → i < length ts → s ≡ get_or ss i s → t ≡ get_or ts i t
-    → BeginAs (map shape_view (drop i ss)) (map view (drop i ts)) ≡ (Is (shape_view s) (view t) × BeginAs (map shape_view (drop (i + 1) ss)) (map view (drop (i + 1) ts)))
+    → BeginAs (drop i ss) (map view (drop i ts)) ≡ (Is s (view t) × BeginAs (drop (i + 1) ss) (map view (drop (i + 1) ts)))
 one_more ss ts i s t hs ht es et =
     let ds : drop i ss ≡ s ∷ drop (i + 1) ss = rw (add-one, drop-cons ss i s, ← es) refl in
     let dt : drop i ts ≡ t ∷ drop (i + 1) ts = rw (add-one, drop-cons ts i t, ← et) refl in
     rw (ds, dt) refl
 
-begun : (ss : List Shape) (ts : List «Type») (i : ℕ) → length ss ≤ i → BeginAs (map shape_view (drop i ss)) (map view (drop i ts))
-begun ss ts i h = subst (λ (l : List Shape). BeginAs (map shape_view l) (map view (drop i ts))) (sym (drop_of_length-le ss h)) tt
+begun : (ss : List Shape) (ts : List «Type») (i : ℕ) → length ss ≤ i → BeginAs (drop i ss) (map view (drop i ts))
+begun ss ts i h = subst (λ (l : List Shape). BeginAs l (map view (drop i ts))) (sym (drop_of_length-le ss h)) tt
 
-pub ended : (ss : List Shape) (ts : List «Type») (i : ℕ) → length ss ≤ i → BeginAs (map shape_view ss) (map view ts) ↔ BeginAs (map shape_view (drop i ss)) (map view (drop i ts)) →
-    BeginAs (map shape_view ss) (map view ts)
+pub ended : (ss : List Shape) (ts : List «Type») (i : ℕ) → length ss ≤ i → BeginAs ss (map view ts) ↔ BeginAs (drop i ss) (map view (drop i ts)) →
+    BeginAs ss (map view ts)
 ended ss ts i h inv = inv.1 (begun ss ts i h)
 
-begins_whole : (ss : List shapes.Shape) (ts : List WgslType) → length ts ≡ length ss → BeginAs ss ts → AllAre ss ts
+begins_whole : (ss : List Shape) (ts : List WgslType) → length ts ≡ length ss → BeginAs ss ts → AllAre ss ts
 begins_whole [] [] e h = tt
 begins_whole [] (t ∷ ts) e h = absurd (omega arith)
 begins_whole (s ∷ ss) [] e h = absurd h
 begins_whole (s ∷ ss) (t ∷ ts) e h = (h.0, begins_whole ss ts (omega arith) h.1)
 
-whole_begins : (ss : List shapes.Shape) (ts : List WgslType) → AllAre ss ts → (length ts ≡ length ss) × BeginAs ss ts
+whole_begins : (ss : List Shape) (ts : List WgslType) → AllAre ss ts → (length ts ≡ length ss) × BeginAs ss ts
 whole_begins [] [] h = (refl, tt)
 whole_begins [] (t ∷ ts) h = absurd h
 whole_begins (s ∷ ss) [] h = absurd h
 whole_begins (s ∷ ss) (t ∷ ts) h = let k = whole_begins ss ts h.1 in (omega (arith, k.0), (h.0, k.1))
 
 -- all are of their shapes where they begin so and are as many
-pub as_many : (ss : List shapes.Shape) (ts : List «Type») → AllAre ss (map view ts) ↔ (length ts ≡ length ss) × BeginAs ss (map view ts)
+pub as_many : (ss : List Shape) (ts : List «Type») → AllAre ss (map view ts) ↔ (length ts ≡ length ss) × BeginAs ss (map view ts)
 as_many ss ts = (
   λ h. let k = whole_begins ss (map view ts) h in (sym (length-map ts view) ∙ k.0, k.1),
   λ h. begins_whole ss (map view ts) (length-map ts view ∙ h.0) h.1,

@@ -1,19 +1,19 @@
--- A call by its name: what it answers, the choice that this is, and that it takes no memory.
+-- A call by its name: what it answers, the choice that this is, and that it is never out of memory.
 use Rattle.std.proofs.Common.{◌≡◌, List, [], Option, Some, None, Result, Ok, Err, refl, subst, option_map}
-use Rattle.wgsl_rules.specs.Types.{WgslType}
-use Rattle.wgsl_rules.specs.Signatures.{Parameter, Signature}
-use Rattle.wgsl_rules.specs.Refusals.{Refusal, signature}
-use Rattle.wgsl_rules.specs.CallRows.{Row}
-use Rattle.wgsl_rules.specs.CallTable.{call_table, rows_named}
-use Rattle.wgsl_rules.specs.Calls.{IsAnswerOf, IsCallAnswer, IsLeastAnswer, IsFlatAnswer, IsFlatCall}
-use Rattle.wgsl_rules.proofs.OneAnswer.{answer_once}
-use Rattle.wgsl_rules.proofs.ChosenCalls.{call_is_least}
+use Rattle.wgsl_rules.specs.types.Types.{WgslType}
+use Rattle.wgsl_rules.specs.types.Signatures.{Parameter, Signature}
+use Rattle.wgsl_rules.specs.errors.Refusals.{Refusal, signature}
+use Rattle.wgsl_syntax.specs.declared.call.Row.{Row}
+use Rattle.wgsl_rules.specs.calls.Table.{call_table, rows_named}
+use Rattle.wgsl_rules.specs.calls.Answers.{IsAnswerOf, IsCallAnswer, IsLeastCallAnswer, IsLeafAnswer, IsLeafCall}
+use Rattle.wgsl_rules.proofs.calls.OneAnswer.{answer_once}
+use Rattle.wgsl_rules.proofs.calls.ChosenCalls.{call_is_least}
 use Rattle.wgsl_core.specs.View.{view}
-use Rattle.wgsl_core.specs.Outcome.{refusal, AnswersAs, IsAnswered}
+use Rattle.wgsl_core.specs.Answer.{refusal, AnswersAs, IsAnswered}
 use Rattle.wgsl_core.specs.declared.ty.Type.{«Type»}
 use Rattle.wgsl_core.specs.declared.error.Fail.{Fail}
 use Rattle.wgsl_core.specs.declared.error.Fail.TheVariants as fails
-use Rattle.wgsl_calls.specs.Answers.{MayWant, IsMet, Answered}
+use Rattle.wgsl_calls.specs.Answers.{MayBeOutOfMemory, IsMet, Answered}
 use Rattle.wgsl_calls.proofs.Wanted.{by_answer, by_other}
 
 pub by_name : (c : Signature) (rows : List Row) (p : Option (List Parameter)) (r : Result (Option «Type») Fail) → rows ≡ rows_named c.name call_table → Answered (IsAnswerOf rows c) p r →
@@ -31,12 +31,12 @@ row_answered c (Ok t) k = k
 row_answered c (Err (fails.Error e)) k = k
 row_answered c (Err (fails.Memory m)) k = tt
 
-pub least_answered : (c : Signature) (r : Result (Option «Type») Fail) → Answered (IsCallAnswer c) c.template r → AnswersAs (option_map view) (IsLeastAnswer c) r
+pub least_answered : (c : Signature) (r : Result (Option «Type») Fail) → Answered (IsCallAnswer c) c.template r → AnswersAs (option_map view) (IsLeastCallAnswer c) r
 least_answered c (Ok t) k = call_is_least c (Ok (option_map view t)) k
 least_answered c (Err (fails.Error e)) k = call_is_least c (Err (refusal e)) k
 least_answered c (Err (fails.Memory m)) k = tt
 
-never_wanted : (a : Result (Option WgslType) Refusal) → MayWant a → IsFlatAnswer a → ⊥
+never_wanted : (a : Result (Option WgslType) Refusal) → MayBeOutOfMemory a → IsLeafAnswer a → ⊥
 never_wanted (Err e) k f = f
 never_wanted (Ok None) k f = k
 never_wanted (Ok (Some t)) k f = k f
@@ -45,10 +45,10 @@ one_answer : (c : Signature) (a b : Result (Option WgslType) Refusal) → c.temp
 unfolding IsCallAnswer
 one_answer c a b n p q = answer_once (rows_named c.name call_table) c a b n p q
 
-pub flat_answered : (c : Signature) (r : Result (Option «Type») Fail) → Answered (IsCallAnswer c) c.template r → IsFlatCall c → IsAnswered r
-unfolding IsFlatCall
-flat_answered c (Ok t) k f = tt
-flat_answered c (Err (fails.Error e)) k f = tt
-flat_answered c (Err (fails.Memory m)) k f =
+pub leaf_answered : (c : Signature) (r : Result (Option «Type») Fail) → Answered (IsCallAnswer c) c.template r → IsLeafCall c → IsAnswered r
+unfolding IsLeafCall
+leaf_answered c (Ok t) k f = tt
+leaf_answered c (Err (fails.Error e)) k f = tt
+leaf_answered c (Err (fails.Memory m)) k f =
     let j = k f.0 in
-    never_wanted j.0 j.2 (subst IsFlatAnswer (one_answer c f.1 j.0 f.0 f.2 j.1) f.3)
+    never_wanted j.0 j.2 (subst IsLeafAnswer (one_answer c f.1 j.0 f.0 f.2 j.1) f.3)

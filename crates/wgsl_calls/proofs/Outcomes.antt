@@ -1,7 +1,7 @@
 -- What a call answers by another's answer.
 use Rattle.std.proofs.Common.{Result, Ok, Err}
-use Rattle.wgsl_rules.specs.Refusals.{Refusal}
-use Rattle.wgsl_core.specs.Outcome.{AnswersAs, refusal}
+use Rattle.wgsl_rules.specs.errors.Refusals.{Refusal}
+use Rattle.wgsl_core.specs.Answer.{AnswersAs, refusal}
 use Rattle.wgsl_core.specs.declared.error.Fail.{Fail}
 use Rattle.wgsl_core.specs.declared.error.Fail.TheVariants as fails
 

@@ -1,17 +1,18 @@
--- Where want of memory may stand for an answer.
+-- Where out of memory may stand for an answer.
 use Rattle.std.proofs.Common.{◌≡◌, List, [], ◌∷◌, Option, None, Result, Ok, Err, inl, inr, refl, sym, subst, Bool, true, false, cond}
 use Rattle.wgsl_syntax.specs.declared.scalar.Scalar.TheVariants.{F32}
-use Rattle.wgsl_rules.specs.Types.{Layer, array_of, vec_of, mat_of, WgslType, scalar, within}
-use Rattle.wgsl_rules.specs.Kinds.{IsFlat}
+use Rattle.wgsl_rules.specs.types.Types.{Layer, array_of, vec_of, mat_of, WgslType, scalar, within}
+use Rattle.wgsl_rules.specs.types.Kinds.{IsLeaf}
 use Rattle.wgsl_syntax.specs.declared.result_struct.ResultStruct.{ResultStruct}
-use Rattle.wgsl_rules.specs.ResultStructs.{result_struct}
-use Rattle.wgsl_rules.specs.CallResults.{exchange_struct, ray_intersection_struct}
-use Rattle.wgsl_core.specs.Results.{result_type}
-use Rattle.wgsl_rules.specs.Concrete.{is_abstract, concretized}
-use Rattle.wgsl_rules.specs.Signatures.{Parameter, Signature}
-use Rattle.wgsl_rules.specs.Refusals.{Refusal, signature}
-use Rattle.wgsl_rules.specs.CallRows.{Row, Fits, outcome_of, IsFromTemplate, IsOutcome}
-use Rattle.wgsl_rules.specs.Calls.{IsAnswerOf}
+use Rattle.wgsl_rules.specs.types.ResultStructs.{result_struct}
+use Rattle.wgsl_rules.specs.calls.ResultTypes.{exchange_struct, ray_intersection_struct}
+use Rattle.wgsl_core.specs.ResultStruct.{result_type}
+use Rattle.wgsl_rules.specs.conversion.Concrete.{is_abstract, concretized}
+use Rattle.wgsl_rules.specs.types.Signatures.{Parameter, Signature}
+use Rattle.wgsl_rules.specs.errors.Refusals.{Refusal, signature}
+use Rattle.wgsl_syntax.specs.declared.call.Row.{Row}
+use Rattle.wgsl_rules.specs.calls.Rows.{Fits, return_type_of, IsFromTemplate, IsReturnType}
+use Rattle.wgsl_rules.specs.calls.Answers.{IsAnswerOf}
 use Rattle.wgsl_core.specs.declared.ty.Type.{«Type»}
 use Rattle.wgsl_core.specs.declared.error.Fail.{Fail}
 use Rattle.wgsl_core.specs.declared.error.Fail.TheVariants as fails
@@ -32,9 +33,9 @@ by_other P Q p (Err (fails.Error x)) f k = f _ k
 by_other P Q p (Err (fails.Memory m)) f k = λ n. let j = k n in (j.0, f j.0 j.1, j.2)
 
 -- the row that takes the call answers it, or the rows after it do
-pub first_row : (row : Row) (rows : List Row) (c : Signature) (p : Option (List Parameter)) (r : Result (Option «Type») Fail) → Fits row c → Answered (IsOutcome (outcome_of row) c) p r →
+pub first_row : (row : Row) (rows : List Row) (c : Signature) (p : Option (List Parameter)) (r : Result (Option «Type») Fail) → Fits row c → Answered (IsReturnType (return_type_of row) c) p r →
     Answered (IsAnswerOf (row ∷ rows) c) p r
-first_row row rows c p r f k = by_other (IsOutcome (outcome_of row) c) (IsAnswerOf (row ∷ rows) c) p r (λ a o. inl (f, o)) k
+first_row row rows c p r f k = by_other (IsReturnType (return_type_of row) c) (IsAnswerOf (row ∷ rows) c) p r (λ a o. inl (f, o)) k
 
 pub later_row : (row : Row) (rows : List Row) (c : Signature) (p : Option (List Parameter)) (r : Result (Option «Type») Fail) → ¬ Fits row c → Answered (IsAnswerOf rows c) p r →
     Answered (IsAnswerOf (row ∷ rows) c) p r
@@ -47,27 +48,27 @@ no_row row c p r f k = by_answer (IsAnswerOf (row ∷ []) c) p (Err (signature c
 pub no_template : (c : Signature) (p : Option (List Parameter)) (r : Result (Option «Type») Fail) → p ≡ None → IsMet (Err (signature c)) r → Answered (IsFromTemplate c p) p r
 no_template c p r e k = subst (λ p. Answered (IsFromTemplate c p) p r) (sym e) (by_answer (IsFromTemplate c None) None (Err (signature c)) r refl k)
 
-matrix_before : (b : Bool) (l : Layer) (t u : WgslType) → IsFlat (cond b (within l t) (within l u)) → ⊥
+matrix_before : (b : Bool) (l : Layer) (t u : WgslType) → IsLeaf (cond b (within l t) (within l u)) → ⊥
 matrix_before true l t u h = h
 matrix_before false l t u h = h
 
--- what becomes a type without parts and name is one
-pub flat_before : (t : WgslType) → IsFlat (concretized t) → IsFlat t
-flat_before (scalar s) h = tt
-flat_before (within (mat_of c r) t) h = matrix_before (is_abstract t) (mat_of c r) (scalar F32) t h
-flat_before (within (vec_of n) t) h = h
-flat_before (within (array_of n) t) h = h
-flat_before t h = h
+-- what becomes a leaf type is one
+pub leaf_before : (t : WgslType) → IsLeaf (concretized t) → IsLeaf t
+leaf_before (scalar s) h = tt
+leaf_before (within (mat_of c r) t) h = matrix_before (is_abstract t) (mat_of c r) (scalar F32) t h
+leaf_before (within (vec_of n) t) h = h
+leaf_before (within (array_of n) t) h = h
+leaf_before t h = h
 
--- the structs that calls give have parts and names
-pub no_flat_result : (r : ResultStruct) → IsFlat (result_type r) → ⊥
+-- the structs that calls return are no leaf types
+pub no_leaf_result : (r : ResultStruct) → IsLeaf (result_type r) → ⊥
 unfolding result_struct
-no_flat_result r h = h
+no_leaf_result r h = h
 
-pub no_flat_exchange : (t : WgslType) → IsFlat (exchange_struct t) → ⊥
+pub no_leaf_exchange : (t : WgslType) → IsLeaf (exchange_struct t) → ⊥
 unfolding exchange_struct
-no_flat_exchange t h = h
+no_leaf_exchange t h = h
 
-pub no_flat_intersection : IsFlat ray_intersection_struct → ⊥
+pub no_leaf_intersection : IsLeaf ray_intersection_struct → ⊥
 unfolding ray_intersection_struct
-no_flat_intersection h = h
+no_leaf_intersection h = h

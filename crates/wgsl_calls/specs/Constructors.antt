@@ -1,10 +1,10 @@
 -- What the constructors of the code stand for, and the arguments at which they stop.
 use Rattle.std.specs.Prelude.{◌≡◌, List, Option, Some, None, Result, Ok, Err}
-use Rattle.wgsl_rules.specs.Types.{WgslType, Members}
-use Rattle.wgsl_rules.specs.Common.{Receives}
-use Rattle.wgsl_rules.specs.Refusals.{Refusal, conversion}
-use Rattle.wgsl_rules.specs.ConstructorSteps.{IsFirstStuck}
-use Rattle.wgsl_rules.specs.Constructors.{Constructor as RuleConstructor, makes_array, makes_scalar, makes_vector, makes_matrix, AllFit, IsFirstMisfit}
+use Rattle.wgsl_rules.specs.types.Types.{WgslType, Members}
+use Rattle.wgsl_rules.specs.conversion.Common.{Receives}
+use Rattle.wgsl_rules.specs.errors.Refusals.{Refusal, conversion}
+use Rattle.wgsl_rules.specs.constructors.Steps.{IsFirstStuck}
+use Rattle.wgsl_rules.specs.constructors.Constructors.{Constructor as RuleConstructor, makes_array, makes_scalar, makes_vector, makes_matrix, AllFit, IsFirstMisfit}
 use Rattle.wgsl_calls.specs.declared.constructor.Constructor.{Constructor}
 use Rattle.wgsl_calls.specs.declared.constructor.Constructor.TheVariants as kinds
 

@@ -4,23 +4,23 @@ use Rattle.wgsl_syntax.specs.declared.texel.TexelFormat.{TexelFormat}
 use Rattle.wgsl_syntax.specs.declared.texture.SampledType.{SampledType}
 use Rattle.wgsl_syntax.specs.declared.texture.TextureType.{TextureType}
 use Rattle.wgsl_syntax.specs.declared.texture.TextureType.TheVariants.{Sampled1D, Sampled1DArray, Sampled2D, Sampled2DArray, Sampled3D, SampledCube, SampledCubeArray, Multisampled2D, Multisampled2DArray, Storage1D, Storage1DArray, Storage2D, Storage2DArray, Storage3D}
-use Rattle.wgsl_rules.specs.Types.{WgslType, pointer, binding_array, array}
-use Rattle.wgsl_rules.specs.Templates.{TextureName as RuleName, sampled, stored}
+use Rattle.wgsl_rules.specs.types.Types.{WgslType, pointer, binding_array, array}
+use Rattle.wgsl_rules.specs.templates.Templates.{TextureName as RuleName, sampled, stored}
 use Rattle.wgsl_core.specs.View.{view}
-use Rattle.wgsl_calls.specs.declared.tplt.ArrayTemplate.{ArrayTemplate}
-use Rattle.wgsl_calls.specs.declared.tplt.BindingArrayTemplate.{BindingArrayTemplate}
-use Rattle.wgsl_calls.specs.declared.tplt.VecTemplate.{VecTemplate}
-use Rattle.wgsl_calls.specs.declared.tplt.MatTemplate.{MatTemplate}
-use Rattle.wgsl_calls.specs.declared.tplt.PtrTemplate.{PtrTemplate}
-use Rattle.wgsl_calls.specs.declared.tplt.BitcastTemplate.{BitcastTemplate}
-use Rattle.wgsl_calls.specs.declared.tplt.AtomicTemplate.{AtomicTemplate}
-use Rattle.wgsl_calls.specs.declared.tplt.TextureTemplate.{TextureTemplate}
-use Rattle.wgsl_calls.specs.declared.tplt.SampledTexture.{SampledTexture}
-use Rattle.wgsl_calls.specs.declared.tplt.SampledTexture.TheVariants as s
-use Rattle.wgsl_calls.specs.declared.tplt.StorageTexture.{StorageTexture}
-use Rattle.wgsl_calls.specs.declared.tplt.StorageTexture.TheVariants as t
-use Rattle.wgsl_calls.specs.declared.tplt.TextureName.{TextureName}
-use Rattle.wgsl_calls.specs.declared.tplt.TextureName.TheVariants as names
+use Rattle.wgsl_calls.specs.declared.template.array.ArrayTemplate.{ArrayTemplate}
+use Rattle.wgsl_calls.specs.declared.template.array.BindingArrayTemplate.{BindingArrayTemplate}
+use Rattle.wgsl_calls.specs.declared.template.vec.VecTemplate.{VecTemplate}
+use Rattle.wgsl_calls.specs.declared.template.mat.MatTemplate.{MatTemplate}
+use Rattle.wgsl_calls.specs.declared.template.ptr.PtrTemplate.{PtrTemplate}
+use Rattle.wgsl_calls.specs.declared.template.bitcast.BitcastTemplate.{BitcastTemplate}
+use Rattle.wgsl_calls.specs.declared.template.atomic.AtomicTemplate.{AtomicTemplate}
+use Rattle.wgsl_calls.specs.declared.template.texture.TextureTemplate.{TextureTemplate}
+use Rattle.wgsl_calls.specs.declared.template.texture.SampledTexture.{SampledTexture}
+use Rattle.wgsl_calls.specs.declared.template.texture.SampledTexture.TheVariants as s
+use Rattle.wgsl_calls.specs.declared.template.texture.StorageTexture.{StorageTexture}
+use Rattle.wgsl_calls.specs.declared.template.texture.StorageTexture.TheVariants as t
+use Rattle.wgsl_calls.specs.declared.template.texture.TextureName.{TextureName}
+use Rattle.wgsl_calls.specs.declared.template.texture.TextureName.TheVariants as names
 
 abbrev pub array_view : ArrayTemplate → WgslType
 array_view t = array t.n (view t.ty)

@@ -1,33 +1,74 @@
-// What a call of a built-in function answers.
-ghost use Rattle.std.specs.Prelude.{◌≡◌, [], ◌∷◌, Some, None, Ok, Err, option_map, map, IfOk, IsOk};
-ghost use Rattle.wgsl_rules.specs.Kinds.{IsFlat};
-ghost use Rattle.wgsl_rules.specs.Concrete.{concretized};
-ghost use Rattle.wgsl_rules.specs.Refusals.{signature};
-ghost use Rattle.wgsl_rules.specs.CallResults.{exchange_struct, ray_intersection_struct, hit_positions_type};
-ghost use Rattle.wgsl_rules.specs.CallRows.{IsResultFor, IsFromTemplate, IsOutcome, outcome_of as outcome_of_row, given as given_for};
-ghost use Rattle.wgsl_rules.specs.Templates.{IsBitcastTemplate};
-ghost use Rattle.wgsl_rules.specs.Calls.{IsAnswerOf, IsCallAnswer};
+// The types of calls of built-in functions (WGSL, "Built-in Functions").
+ghost use Rattle.std.specs.Prelude.{◌≡◌, [], ◌∷◌, Some, None, Ok, Err, option_map, map, IfOk, IsOk, All};
+ghost use Rattle.wgsl_rules.specs.types.Kinds.{IsLeaf};
+ghost use Rattle.wgsl_rules.specs.conversion.Concrete.{concretized};
+ghost use Rattle.wgsl_rules.specs.errors.Refusals.{signature};
+ghost use Rattle.wgsl_rules.specs.calls.ResultTypes.{exchange_struct, ray_intersection_struct, hit_positions_type};
+ghost use Rattle.wgsl_rules.specs.calls.Rows.{IsResultFor, IsFromTemplate, IsReturnType, return_type_of as return_type_of_row, given as given_for};
+ghost use Rattle.wgsl_rules.specs.templates.Templates.{IsBitcastTemplate};
+ghost use Rattle.wgsl_rules.specs.calls.Answers.{IsAnswerOf, IsCallAnswer, IsLeastCallAnswer, IsLeafCall};
 ghost use Rattle.wgsl_core.specs.View.{view};
-ghost use Rattle.wgsl_core.specs.Instances.{parameter_view};
-ghost use Rattle.wgsl_core.specs.Found.{element_view, planned_view};
-ghost use Rattle.wgsl_core.specs.Results.{result_type};
-ghost use Rattle.wgsl_core.specs.Outcome.{AnswersBy};
-ghost use Rattle.wgsl_calls.specs.Rows.{outcome_view, row_view, rows_view};
+ghost use Rattle.wgsl_core.specs.Instances.{parameter_view, call_view};
+ghost use Rattle.wgsl_core.specs.Resolution.{element_view, resolved_view};
+ghost use Rattle.wgsl_core.specs.ResultStruct.{result_type};
+ghost use Rattle.wgsl_core.specs.Answer.{AnswersBy, AnswersAs, IsAnswered};
+ghost use Rattle.wgsl_calls.specs.Rows.{rows_view};
 ghost use Rattle.wgsl_calls.specs.Answers.{signature_of, template_of, IsMet, Answered};
+ghost use Rattle.wgsl_rules.specs.conversion.Conversion.{IsValueType};
+ghost use Rattle.wgsl_rules.specs.operators.Candidates.{Name};
+ghost use Rattle.wgsl_rules.specs.Laws.{OneChoice};
 
-use crate::find::rows_of;
-use crate::fits::{Call, fits};
-use crate::parts::{argument, as_long, bare, in_vector, inner, part, texture_size, transposed};
-use crate::results::{exchange_result, hit_positions, ray_intersection, result_struct};
-use crate::rows::{Outcome, Row, Rows};
-use crate::tplt::BitcastTemplate;
+pub mod find;
+pub mod fit;
+mod result_type;
+pub mod rows;
+pub(crate) mod shape;
+mod source;
+mod table;
+
+use crate::call::find::rows_of;
+use crate::call::fit::{Call, fits};
+use crate::call::result_type::{exchange_result, hit_positions, ray_intersection, result_struct};
+use crate::call::rows::Rows;
+use crate::call::source::{
+    argument, as_long, bare, in_vector, inner, part, texture_size, transposed,
+};
+use crate::template::BitcastTemplate;
+pub use find::find_call;
 use std::alloc::{AllocError, Global};
-use wgsl_core::candidate::{Element, Planned};
 use wgsl_core::error::{Error, Fail};
-use wgsl_core::results::shaped_float;
+use wgsl_core::operators::resolve::{Element, ResolvedType};
 use wgsl_core::signature::{CallSignature, TpltParam};
 use wgsl_core::ty::Type;
+use wgsl_core::ty::result_struct::shaped_float;
+use wgsl_syntax::call::{ReturnType, Row};
 use wgsl_syntax::result_struct::{ResultFunction, ResultStruct};
+
+/// The type of a call of a built-in function (WGSL, "Built-in Functions"), by its name, its template where it has
+/// one, and the types of its arguments; None where it gives no value. `Signature` with all three refuses a call that
+/// no row of the table takes, and one whose arguments lack the common type that its row gives; `bitcast` refuses its
+/// template as `BitcastTemplate::parse` does.
+#[tactic(auto, using(crate::proofs::Named::row_answered, crate::proofs::Named::least_answered, wgsl_rules::proofs::Laws::one_choice))]
+pub fn type_builtin_fn(
+    alloc: Global,
+    name: &str,
+    template: Option<&[TpltParam]>,
+    args: &[Type],
+) -> Result<Option<Type>, Fail>
+    ensures row { AnswersAs (option_map view) (IsCallAnswer (call_view name.now template.entry args.now)) result }
+    ensures least { AnswersAs (option_map view) (IsLeastCallAnswer (call_view name.now template.entry args.now)) result }
+    ensures one_choice { (n : Name) → All IsValueType (map view args.now) → OneChoice n (map view args.now) }
+    ensures never_out_of_memory { IsLeafCall (call_view name.now template.entry args.now) → IsAnswered result }
+{
+    answer(
+        alloc,
+        Call {
+            name,
+            template,
+            args,
+        },
+    )
+}
 
 /// The answer of a call: by the rows under its name, or where there are none the refusal.
 pub fn answer(alloc: Global, call: Call<'_>) -> Result<Option<Type>, Fail>
@@ -47,7 +88,7 @@ fn by_rows(alloc: Global, rows: Rows, call: Call<'_>) -> Result<Option<Type>, Fa
         Rows::Only(row) => by_row(alloc, row, call),
         Rows::Either(row, other) => {
             if fits(row, call) {
-                by_outcome(alloc, outcome(row), call)
+                by_return_type(alloc, return_type(row), call)
             } else {
                 by_row(alloc, other, call)
             }
@@ -56,23 +97,23 @@ fn by_rows(alloc: Global, rows: Rows, call: Call<'_>) -> Result<Option<Type>, Fa
 }
 
 fn by_row(alloc: Global, row: Row, call: Call<'_>) -> Result<Option<Type>, Fail>
-    ensures { Answered (IsAnswerOf (row_view row ∷ []) (signature_of call.entry)) (template_of call.entry) result }
+    ensures { Answered (IsAnswerOf (row ∷ []) (signature_of call.entry)) (template_of call.entry) result }
 {
     if fits(row, call) {
-        by_outcome(alloc, outcome(row), call)
+        by_return_type(alloc, return_type(row), call)
     } else {
         refuse(alloc, call)
     }
 }
 
-fn outcome(row: Row) -> Outcome
-    ensures { outcome_view result ≡ outcome_of_row (row_view row) }
+fn return_type(row: Row) -> ReturnType
+    ensures { result ≡ return_type_of_row row }
 {
     match row {
-        Row::Takes(_, outcome) => outcome,
-        Row::TakesAndMore(_, outcome) => outcome,
-        Row::TakesWhere(_, _, outcome) => outcome,
-        Row::TakesWithTemplate(_, outcome) => outcome,
+        Row::Takes(_, return_type) => return_type,
+        Row::TakesAtLeast(_, return_type) => return_type,
+        Row::TakesWhere(_, _, return_type) => return_type,
+        Row::TakesWithTemplate(_, return_type) => return_type,
     }
 }
 
@@ -85,34 +126,42 @@ fn refuse(alloc: Global, call: Call<'_>) -> Result<Option<Type>, Fail>
 }
 
 /// What a row gives.
-fn by_outcome(alloc: Global, outcome: Outcome, call: Call<'_>) -> Result<Option<Type>, Fail>
-    ensures { Answered (IsOutcome (outcome_view outcome) (signature_of call.entry)) (template_of call.entry) result }
+fn by_return_type(
+    alloc: Global,
+    return_type: ReturnType,
+    call: Call<'_>,
+) -> Result<Option<Type>, Fail>
+    ensures { Answered (IsReturnType return_type (signature_of call.entry)) (template_of call.entry) result }
 {
-    match outcome {
-        Outcome::Of(of) => given(alloc, bare(part(of, call.args)), call),
-        Outcome::Concrete(of) => concrete(alloc, part(of, call.args), call),
-        Outcome::AsLong(of) => given(
+    match return_type {
+        ReturnType::Of(of) => given(alloc, bare(part(of, call.args)), call),
+        ReturnType::Concrete(of) => concrete(alloc, part(of, call.args), call),
+        ReturnType::AsLong(of) => given(
             alloc,
             as_long(argument(call.args, 0), part(of, call.args)),
             call,
         ),
-        Outcome::InVector(n, of) => given(alloc, in_vector(n, part(of, call.args)), call),
-        Outcome::Transposed => given(alloc, transposed(argument(call.args, 0)), call),
-        Outcome::TextureSize => given(alloc, texture_size(argument(call.args, 0)), call),
-        Outcome::ResultOf(function) => {
+        ReturnType::InVector(n, of) => given(alloc, in_vector(n, part(of, call.args)), call),
+        ReturnType::Transposed => given(alloc, transposed(argument(call.args, 0)), call),
+        ReturnType::TextureSize => given(alloc, texture_size(argument(call.args, 0)), call),
+        ReturnType::ResultOf(function) => {
             split(alloc, split_result(function, argument(call.args, 0)), call)
         }
-        Outcome::ExchangeResult => exchanged(alloc, inner(inner(argument(call.args, 0))), call),
-        Outcome::RayIntersection => intersection(alloc),
-        Outcome::HitPositions => positions(alloc),
-        Outcome::NoValue => Ok(None),
-        Outcome::ByTemplate => by_template(alloc, call),
+        ReturnType::ExchangeResult => exchanged(alloc, inner(inner(argument(call.args, 0))), call),
+        ReturnType::RayIntersection => intersection(alloc),
+        ReturnType::HitPositions => positions(alloc),
+        ReturnType::NoValue => Ok(None),
+        ReturnType::ByTemplate => by_template(alloc, call),
     }
 }
 
 /// The type that is found, or where there is none the refusal.
-fn given(alloc: Global, found: Option<Planned<'_>>, call: Call<'_>) -> Result<Option<Type>, Fail>
-    ensures { IsMet (given_for (signature_of call.entry) (option_map planned_view found.entry)) result }
+fn given(
+    alloc: Global,
+    found: Option<ResolvedType<'_>>,
+    call: Call<'_>,
+) -> Result<Option<Type>, Fail>
+    ensures { IsMet (given_for (signature_of call.entry) (option_map resolved_view found.entry)) result }
 {
     match found {
         Some(found) => Ok(Some(found.build(alloc)?)),
@@ -129,10 +178,10 @@ fn concrete(alloc: Global, found: Option<Element<'_>>, call: Call<'_>) -> Result
     }
 }
 
-#[tactic(auto, using(crate::proofs::Wanted::flat_before))]
+#[tactic(auto, using(crate::proofs::Wanted::leaf_before))]
 fn concrete_element(alloc: Global, element: Element<'_>) -> Result<Type, AllocError>
     ensures same { IfOk result (λ t. view t ≡ concretized (element_view element.entry)) }
-    ensures takes_no_memory { IsFlat (concretized (element_view element.entry)) → IsOk result }
+    ensures never_out_of_memory { IsLeaf (concretized (element_view element.entry)) → IsOk result }
 {
     match element {
         Element::Scalar(scalar) => Type::from(scalar).concretize(alloc),
@@ -153,7 +202,7 @@ fn split_result(function: ResultFunction, ty: Option<&Type>) -> Option<ResultStr
 }
 
 /// What `frexp` or `modf` gives.
-#[tactic(auto, using(crate::proofs::Wanted::no_flat_result))]
+#[tactic(auto, using(crate::proofs::Wanted::no_leaf_result))]
 fn split(alloc: Global, of: Option<ResultStruct>, call: Call<'_>) -> Result<Option<Type>, Fail>
     ensures { IsMet (given_for (signature_of call.entry) (option_map result_type of)) result }
 {
@@ -164,7 +213,7 @@ fn split(alloc: Global, of: Option<ResultStruct>, call: Call<'_>) -> Result<Opti
 }
 
 /// What an atomic exchange of a type gives.
-#[tactic(auto, using(crate::proofs::Wanted::no_flat_exchange))]
+#[tactic(auto, using(crate::proofs::Wanted::no_leaf_exchange))]
 fn exchanged(alloc: Global, ty: Option<&Type>, call: Call<'_>) -> Result<Option<Type>, Fail>
     ensures { IsMet (given_for (signature_of call.entry) (option_map exchange_struct (option_map (λ t. view t.now) ty.entry))) result }
 {
@@ -174,7 +223,7 @@ fn exchanged(alloc: Global, ty: Option<&Type>, call: Call<'_>) -> Result<Option<
     }
 }
 
-#[tactic(auto, using(crate::proofs::Wanted::no_flat_intersection))]
+#[tactic(auto, using(crate::proofs::Wanted::no_leaf_intersection))]
 fn intersection(alloc: Global) -> Result<Option<Type>, Fail>
     ensures { IsMet (Ok (Some ray_intersection_struct)) result }
 {

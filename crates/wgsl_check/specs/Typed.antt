@@ -1,7 +1,7 @@
 -- Types on their lines.
 use Rattle.std.proofs.Common.{ap, refl}
 use Rattle.std.specs.Prelude.{◌≡◌, ℕ, Option, Some, None, option_map}
-use Rattle.wgsl_rules.specs.Types.{WgslType}
+use Rattle.wgsl_rules.specs.types.Types.{WgslType}
 use Rattle.wgsl_core.specs.View.{view}
 use Rattle.wgsl_core.specs.Converted.{converted, converted_has_type}
 use Rattle.wgsl_check.specs.declared.typed.Typed.{Typed}

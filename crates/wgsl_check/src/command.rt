@@ -216,13 +216,10 @@ fn offsets(alloc: Global, types: &[Type]) -> Result<String, Unread> {
 
 /// `layout T`, where T is a struct: a report of its members and of the whole.
 fn layout(alloc: Global, types: &[Type]) -> Result<String, Unread> {
-    let [ty] = types else {
+    let [Type::Struct(read)] = types else {
         return Err(Unread::Word);
     };
-    let Type::Struct(read) = ty else {
-        return Err(Unread::Word);
-    };
-    match layout_of(alloc, ty, read)? {
+    match layout_of(alloc, read)? {
         Some(text) => Ok(text),
         None => Ok(String::from_str(alloc, "none")?),
     }

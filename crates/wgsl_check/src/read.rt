@@ -5,7 +5,7 @@ use crate::words::{Unread, Words};
 use std::alloc::{AllocError, Global};
 use std::str::FromStr;
 use wgsl_types::syntax::{
-    AccelerationStructureFlags, AccessMode, AddressSpace, SampledType, TexelFormat,
+    AccelerationStructureFlags, AccessMode, AddressSpace, SampledType, Scalar, TexelFormat,
 };
 use wgsl_types::ty::{SamplerType, StructMemberType, StructType, TextureType, Type};
 
@@ -20,7 +20,7 @@ pub fn read_type(alloc: Global, words: &mut Words) -> Result<Type, Unread>
     }
     match read_outer(word, words)? {
         Some(outer) => Ok(outer.around(alloc, read_type(alloc, words)?)?),
-        None => read_flat(word, words),
+        None => read_leaf(word, words),
     }
 }
 
@@ -128,21 +128,14 @@ fn read_memory(words: &mut Words) -> Result<(AddressSpace, AccessMode), Unread>
     Ok((space, parsed(words.next()?)?))
 }
 
-/// A type without parts: a scalar, a type of rays, a sampler or a texture.
-fn read_flat(word: &str, words: &mut Words) -> Result<Type, Unread>
+/// A leaf type: a scalar, a type of rays, a sampler or a texture.
+fn read_leaf(word: &str, words: &mut Words) -> Result<Type, Unread>
     ensures { GoesOn words.old words.new }
 {
+    if let Ok(scalar) = Scalar::from_str(word) {
+        return Ok(Type::from(scalar));
+    }
     match word {
-        "bool" => Ok(Type::Bool),
-        "AbstractInt" => Ok(Type::AbstractInt),
-        "AbstractFloat" => Ok(Type::AbstractFloat),
-        "i32" => Ok(Type::I32),
-        "u32" => Ok(Type::U32),
-        "f32" => Ok(Type::F32),
-        "f16" => Ok(Type::F16),
-        "i64" => Ok(Type::I64),
-        "u64" => Ok(Type::U64),
-        "f64" => Ok(Type::F64),
         "ray_query" => Ok(Type::RayQuery(read_flag(words)?)),
         "acceleration_structure" => Ok(Type::AccelerationStructure(read_flag(words)?)),
         _ => read_opaque(word, words),

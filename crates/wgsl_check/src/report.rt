@@ -1,21 +1,17 @@
 // The layout of a struct as a person reads it.
 use std::alloc::{AllocError, Global};
-use wgsl_types::ty::{StructMemberType, StructType, Type};
+use wgsl_types::ty::{StructMemberType, StructType};
 
 /// A line for each member and one for the struct, or `None` where it has no layout.
 ///
 /// A line begins with three columns in bytes, a member's with its offset, its size and its alignment, the last with the
 /// size of the whole, a dash and its alignment.
-pub fn layout_of(
-    alloc: Global,
-    ty: &Type,
-    layout: &StructType,
-) -> Result<Option<String>, AllocError> {
+pub fn layout_of(alloc: Global, layout: &StructType) -> Result<Option<String>, AllocError> {
     let Some(offsets) = layout.offsets(alloc)? else {
         return Ok(None);
     };
     let mut text = member_lines(alloc, &layout.members, &offsets)?;
-    text.push_str(&last_line(alloc, ty, &layout.name)?)?;
+    text.push_str(&last_line(alloc, layout)?)?;
     Ok(Some(text))
 }
 
@@ -32,9 +28,10 @@ fn member_lines(
 }
 
 /// The struct's line: its size, a dash, its alignment and its name.
-fn last_line(alloc: Global, ty: &Type, name: &str) -> Result<String, AllocError> {
-    let total = number_or_none(alloc, ty.size_of())?;
-    let align = number_or_none(alloc, ty.align_of())?;
+fn last_line(alloc: Global, layout: &StructType) -> Result<String, AllocError> {
+    let total = number_or_none(alloc, layout.size_of())?;
+    let align = number_or_none(alloc, layout.align_of())?;
+    let name = &layout.name;
     format!(in alloc; "{total:>10} {:>10} {align:>10} {name}", "-")
 }
 

@@ -1,7 +1,7 @@
 // Types that remember where they were read.
 ghost use Rattle.std.specs.Prelude.{◌≡◌, ℕ, Option, All, IfOk, IfSome, map, option_and_then, option_map};
-ghost use Rattle.wgsl_rules.specs.Types.{WgslType};
-ghost use Rattle.wgsl_rules.specs.Common.{IsLeftCommon};
+ghost use Rattle.wgsl_rules.specs.types.Types.{WgslType};
+ghost use Rattle.wgsl_rules.specs.conversion.Common.{IsLeftCommon};
 ghost use Rattle.wgsl_core.specs.View.{view};
 ghost use Rattle.wgsl_types.specs.Family.{all_to};
 ghost use Rattle.wgsl_check.specs.Typed.{on_line, typed, typed_to};
@@ -18,7 +18,7 @@ pub struct Typed {
 }
 
 impl Ty for Typed {
-    ghost use Rattle.wgsl_rules.specs.Parts.{inner_of};
+    ghost use Rattle.wgsl_rules.specs.types.Inner.{inner_of};
     ghost use Rattle.wgsl_core.specs.View.{view};
 
     ghost type_of = { λ x. view x.ty };
@@ -37,8 +37,8 @@ impl Ty for Typed {
 /// It converts as its type does, and stays on its line.
 impl Convert for Typed {
     ghost use Rattle.std.specs.Prelude.{ℕ, Some};
-    ghost use Rattle.wgsl_rules.specs.Types.{WgslType};
-    ghost use Rattle.wgsl_rules.specs.Concrete.{concretized};
+    ghost use Rattle.wgsl_rules.specs.types.Types.{WgslType};
+    ghost use Rattle.wgsl_rules.specs.conversion.Concrete.{concretized};
     ghost use Rattle.wgsl_core.specs.View.{view};
     ghost use Rattle.wgsl_core.specs.Converted.{inner_converted};
     ghost use Rattle.wgsl_check.specs.Typed.{on_line, typed, typed_to, typed_has_type};

@@ -1,10 +1,10 @@
 -- Types by what kind they are.
 use Rattle.std.proofs.Common.{◌≡◌, ◌↔◌, ℕ, Bool, false, IsTrue, Option, Some, None, List, is_some, refl, sym, subst}
 use Rattle.wgsl_syntax.specs.declared.scalar.Scalar.{Scalar}
-use Rattle.wgsl_rules.specs.Types.{WgslType, scalar, struct, atomic, Members, array, vec, mat}
-use Rattle.wgsl_rules.specs.Kinds.{IsScalar, IsIntegerScalar, IsNumericScalar, IsArray, IsVector, IsMatrix, IsStruct, IsAtomic}
-use Rattle.wgsl_rules.specs.Concrete.{IsFloat}
-use Rattle.wgsl_core.specs.Parts.{scalar_of}
+use Rattle.wgsl_rules.specs.types.Types.{WgslType, scalar, struct, atomic, Members, array, vec, mat}
+use Rattle.wgsl_rules.specs.types.Kinds.{IsScalar, IsIntegerScalar, IsNumericScalar, IsArray, IsVector, IsMatrix, IsStruct, IsAtomic}
+use Rattle.wgsl_rules.specs.conversion.Concrete.{IsFloat}
+use Rattle.wgsl_core.specs.Forms.{scalar_of}
 use Rattle.wgsl_core.proofs.Equals.{never}
 use Rattle.wgsl_core.proofs.Scalars.{scalar_is}
 

@@ -2,8 +2,8 @@
 use Rattle.std.proofs.Common.{◌≡◌, None, refl}
 use Rattle.wgsl_syntax.specs.declared.address.AddressSpace.{AddressSpace}
 use Rattle.wgsl_syntax.specs.declared.address.AccessMode.{AccessMode}
-use Rattle.wgsl_rules.specs.Types.{WgslType, within, atomic, pointer}
-use Rattle.wgsl_core.specs.Parts.{layer_of}
+use Rattle.wgsl_rules.specs.types.Types.{WgslType, within, atomic, pointer}
+use Rattle.wgsl_core.specs.Forms.{layer_of}
 use Rattle.wgsl_core.specs.Converted.{converted, inner_converted}
 
 pub as_a_whole : (t u : WgslType) → layer_of t ≡ None → ((e : WgslType) → t ≡ atomic e → ⊥) → ((s : AddressSpace) (e : WgslType) (m : AccessMode) → t ≡ pointer s e m → ⊥) →

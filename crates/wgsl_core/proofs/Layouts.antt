@@ -5,15 +5,15 @@ use Rattle.std.specs.declared.num.TryFromIntError.{TryFromIntError}
 use Rattle.std.specs.Int.{next_multiple_of}
 use Rattle.std.proofs.lemmas.List.{drop_all}
 use Rattle.std.proofs.lemmas.Option.{same_Some}
-use Rattle.wgsl_rules.specs.Types.{WgslType, struct, Members, no_members, member, array, vec, mat}
-use Rattle.wgsl_rules.specs.Layout.{IsTimes, IsStride, IsArraySize, IsVectorAlign, IsGiven, HasSize, HasAlignment, HasLeastSize, IsExactly, HaveParts, IsStructSize, AreOffsets}
-use Rattle.wgsl_rules.proofs.LayoutSteps.{times, stride, array_size, vector_align, lacks_size}
-use Rattle.wgsl_rules.proofs.StructSizes.{SizeSoFar, size_starts, size_stops, size_goes_on, size_ends, struct_size, struct_lacks}
-use Rattle.wgsl_rules.proofs.StructAligns.{AlignSoFar, align_starts, align_stops, align_goes_on, align_ends, struct_align}
-use Rattle.wgsl_rules.proofs.Offsets.{OffsetsSoFar, offsets_start, NextPart, next_part, offsets_end}
+use Rattle.wgsl_rules.specs.types.Types.{WgslType, struct, Members, no_members, member, array, vec, mat}
+use Rattle.wgsl_rules.specs.layout.Layout.{IsTimes, IsStride, IsArraySize, IsVectorAlign, IsGiven, HasSize, HasAlignment, HasLeastSize, IsExactly, HaveParts, IsStructSize, AreOffsets}
+use Rattle.wgsl_rules.proofs.layout.Steps.{times, stride, array_size, vector_align, lacks_size}
+use Rattle.wgsl_rules.proofs.layout.StructSizes.{SizeSoFar, size_starts, size_stops, size_goes_on, size_ends, struct_size, struct_lacks}
+use Rattle.wgsl_rules.proofs.layout.StructAligns.{AlignSoFar, align_starts, align_stops, align_goes_on, align_ends, struct_align}
+use Rattle.wgsl_rules.proofs.layout.Offsets.{OffsetsSoFar, offsets_start, NextPart, next_part, offsets_end}
 use Rattle.wgsl_core.specs.View.{Member, member_view, struct_view, members_view}
-use Rattle.wgsl_core.specs.Memory.{IsValue, IsSoonestEnd, IsLayout}
-use Rattle.wgsl_core.specs.declared.mem.Layout.{Layout}
+use Rattle.wgsl_core.specs.Layout.{IsValue, IsSoonestEnd, IsLayout}
+use Rattle.wgsl_core.specs.declared.layout.Layout.{Layout}
 use Rattle.wgsl_core.specs.declared.ty.Type.{the_lemmas}
 use Rattle.wgsl_core.specs.declared.ty.StructType.{StructType, out-StructType}
 use Rattle.wgsl_core.specs.declared.ty.StructMemberType.{StructMemberType}

@@ -8,7 +8,7 @@ pub mod Refused
 pub mod Layouts
 pub mod Recognition
 pub mod Ranks
-pub mod Found
+pub mod Resolution
 pub mod Unary
 pub mod Lists
 pub mod Inners

@@ -1,9 +1,9 @@
 -- Common types of what an iterator gave.
 use Rattle.std.proofs.Common.{List, [], ◌∷◌, ◌++◌, ◌≡◌, map, Option, Some, refl, sym, ap, subst}
 use Rattle.std.specs.Borrow.{Bor}
-use Rattle.wgsl_rules.specs.Types.{WgslType}
-use Rattle.wgsl_rules.specs.Common.{IsCommon, IsLeftCommonFrom}
-use Rattle.wgsl_rules.proofs.Lists.{one_more}
+use Rattle.wgsl_rules.specs.types.Types.{WgslType}
+use Rattle.wgsl_rules.specs.conversion.Common.{IsCommon, IsLeftCommonFrom}
+use Rattle.wgsl_rules.proofs.conversion.Lists.{one_more}
 use Rattle.wgsl_core.specs.View.{view}
 use Rattle.wgsl_core.specs.declared.ty.Type.{«Type»}
 

@@ -6,51 +6,54 @@ use Rattle.wgsl_syntax.specs.declared.result_struct.ResultFunction.{ResultFuncti
 use Rattle.wgsl_syntax.specs.declared.result_struct.ResultShape.{ResultShape}
 use Rattle.wgsl_syntax.specs.declared.result_struct.ResultPrecision.{ResultPrecision}
 use Rattle.wgsl_syntax.specs.declared.result_struct.ResultStruct.{ResultStruct}
-use Rattle.wgsl_rules.specs.Types.{Layer, WgslType, struct, within, reference, Members}
-use Rattle.wgsl_rules.specs.ResultStructs.{result_struct}
-use Rattle.wgsl_rules.specs.Conversion.{Converts, ConvertsIn, ConvertsTo, Load, load}
-use Rattle.wgsl_rules.specs.Places.{Place, at_scalar, at_result, type_at}
-use Rattle.wgsl_rules.proofs.Walks.{type_at_once, HaveEqualLayers, converts_places, load_bare}
-use Rattle.wgsl_rules.proofs.Order.{load_readable}
+use Rattle.wgsl_rules.specs.types.Types.{Layer, WgslType, struct, within, reference, Members}
+use Rattle.wgsl_rules.specs.types.ResultStructs.{result_struct}
+use Rattle.wgsl_rules.specs.conversion.Conversion.{Converts, ConvertsIn, ConvertsTo, Load, load}
+use Rattle.wgsl_rules.specs.conversion.Nodes.{Node, at_scalar, at_result, type_at}
+use Rattle.wgsl_rules.proofs.conversion.Walks.{type_at_once, HaveEqualLayers, converts_places, load_bare}
+use Rattle.wgsl_rules.proofs.conversion.Order.{load_readable}
 use Rattle.wgsl_syntax.specs.Address.{MayRead}
-use Rattle.wgsl_rules.proofs.Equations.{converts_same, same_rank, load_converts, load_rank, converts_within, converts_from_within}
-use Rattle.wgsl_rules.proofs.Counts.{converts_in_same, converts_in_load, converts_in_within}
+use Rattle.wgsl_rules.proofs.conversion.Equations.{converts_same, same_rank, load_converts, load_rank, converts_within, converts_from_within}
+use Rattle.wgsl_rules.proofs.conversion.Counts.{converts_in_same, converts_in_load, converts_in_within}
 use Rattle.wgsl_core.specs.View.{view, struct_view}
-use Rattle.wgsl_core.specs.Parts.{scalar_of, layer_of}
-use Rattle.wgsl_core.specs.Results.{struct_type, result_type}
+use Rattle.std.specs.Borrow.{Bor}
+use Rattle.wgsl_syntax.specs.declared.scalar.Scalar.{Scalar}
+use Rattle.wgsl_core.specs.Forms.{form_view, layer_of}
+use Rattle.wgsl_core.specs.declared.ty.form.Form.{Form}
+use Rattle.wgsl_core.specs.declared.ty.form.Form.TheVariants as forms
+use Rattle.wgsl_core.specs.ResultStruct.{struct_type, result_type}
 use Rattle.wgsl_core.specs.declared.ty.Type.{«Type»}
 use Rattle.wgsl_core.specs.declared.ty.Type.TheVariants as v
 use Rattle.wgsl_core.specs.declared.ty.StructType.{StructType}
 use Rattle.wgsl_core.proofs.Recognition.{view-struct}
 use Rattle.wgsl_core.proofs.Views.{view-Struct, view-Ref}
 
--- The place of a type
+-- The node of a type
 
-abbrev IsPlace : Option Place → WgslType → Type 0
-IsPlace o t = (p : Place) → (o ≡ Some p) ↔ (t ≡ type_at p)
+abbrev IsPlace : Option Node → WgslType → Type 0
+IsPlace o t = (p : Node) → (o ≡ Some p) ↔ (t ≡ type_at p)
 
-pub placed : (t : WgslType) (q : Place) → t ≡ type_at q → IsPlace (Some q) t
+pub placed : (t : WgslType) (q : Node) → t ≡ type_at q → IsPlace (Some q) t
 placed t q e p = (λ k. let f : q ≡ p = cc k in subst (λ p. t ≡ type_at p) f e, λ k. ap Some (type_at_once q p (sym e ∙ k)))
-
-pub struct_seen : (t : «Type») (s : Box StructType Global) (u : StructType) → t ≡ v.Struct s → u ≡ s.value → view t ≡ struct_type (struct_view u)
-struct_seen t s u e f = ap view e ∙ (view-Struct s ∙ (sym (view-struct s.value) ∙ ap (λ x. struct_type (struct_view x)) (sym f)))
 
 result_is_struct : (f : ResultFunction) (s : ResultShape) (p : ResultPrecision) → (name : List ℕ) × (ms : Members) × (result_struct f s p ≡ struct name ms)
 unfolding result_struct
 result_is_struct f s p = (_, _, refl)
 
-pub no_place : (t : WgslType) → scalar_of t ≡ None → ((name : List ℕ) (ms : Members) → t ≡ struct name ms → ⊥) → IsPlace None t
-no_place t e n p = (λ k. absurd (cc k), λ k. absurd (at p k))
+pub no_place : {f : Form} {t : WgslType} → form_view f ≡ t → ((s : Scalar) → f ≡ forms.Scalar s → ⊥) → ((s : Bor StructType) → f ≡ forms.Struct s → ⊥) → IsPlace None t
+no_place {f} e n m p = (λ k. absurd (cc k), λ k. absurd (at f n m p (e ∙ k)))
   where
-    at : (p : Place) → t ≡ type_at p → ⊥
-    at (at_scalar s) k = let m : scalar_of t ≡ Some s = ap scalar_of k in absurd (cc (sym e ∙ m))
-    at (at_result f s q) k = let m = result_is_struct f s q in n m.0 m.1 (k ∙ m.2)
+    at : (f : Form) → ((s : Scalar) → f ≡ forms.Scalar s → ⊥) → ((s : Bor StructType) → f ≡ forms.Struct s → ⊥) → (p : Node) → form_view f ≡ type_at p → ⊥
+    at (forms.Scalar s) n m p k = n s refl
+    at (forms.Struct s) n m p k = m s refl
+    at f n m (at_scalar s) k = absurd (cc k)
+    at f n m (at_result g s q) k = let r = result_is_struct g s q in absurd (cc (k ∙ r.2))
 
 pub no_result : (t : WgslType) (s : StructType) → t ≡ struct_type (struct_view s) →
     ((r : ResultStruct) → (None ≡ Some r) ↔ (struct_type (struct_view s) ≡ result_type r)) → IsPlace None t
 no_result t s e h p = (λ k. absurd (cc k), λ k. absurd (at p k))
   where
-    at : (p : Place) → t ≡ type_at p → ⊥
+    at : (p : Node) → t ≡ type_at p → ⊥
     at (at_scalar x) k = absurd (cc (sym k ∙ e))
     at (at_result f x q) k = absurd (cc ((h record { function = f; shape = x; precision = q }).1 (sym e ∙ k)))
 
@@ -82,16 +85,16 @@ unlayered (within l t) u e h = absurd (cc e)
 unlayered t u e h = h
 
 pub no_walk : (t u : WgslType) → layer_of t ≡ None → t ≢ u → ¬ Load t u →
-    ((p q : Place) → t ≡ type_at p → u ≡ type_at q → ⊥) → IsRank None t u
+    ((p q : Node) → t ≡ type_at p → u ≡ type_at q → ⊥) → IsRank None t u
 no_walk t u e d l n = no_rank t u (λ w k. let m = converts_places t u w (unlayered t u e) d l k in n m.0 m.1 m.2 m.3)
 
-pub walked_rank : (t u : WgslType) (p q : Place) (o : Option ℕ) → t ≡ type_at p → u ≡ type_at q → IsRank o (type_at p) (type_at q) → IsRank o t u
+pub walked_rank : (t u : WgslType) (p q : Node) (o : Option ℕ) → t ≡ type_at p → u ≡ type_at q → IsRank o (type_at p) (type_at q) → IsRank o t u
 walked_rank t u p q o e f h = subst (λ t. IsRank o t u) (sym e) (subst (λ u. IsRank o (type_at p) u) (sym f) h)
 
 abbrev Steps : Option ℕ → WgslType → WgslType → ℕ → Type 0
 Steps o t u n = IfSome o (λ w. ConvertsIn t u w n)
 
-pub walked_steps : (t u : WgslType) (p q : Place) (o : Option ℕ) (n : ℕ) → t ≡ type_at p → u ≡ type_at q →
+pub walked_steps : (t u : WgslType) (p q : Node) (o : Option ℕ) (n : ℕ) → t ≡ type_at p → u ≡ type_at q →
     Steps o (type_at p) (type_at q) n → Steps o t u n
 walked_steps t u p q o n e f h = subst (λ t. Steps o t u n) (sym e) (subst (λ u. Steps o (type_at p) u n) (sym f) h)
 
@@ -131,11 +134,9 @@ no_layer_rank t u l e p q =
 
 -- Loads
 
-pub load_reference : (r : Bool) (a : «Type») (s : AddressSpace) (ty : Box «Type» Global) (m : AccessMode) (t u : WgslType) → a ≡ v.Ref s ty m → view ty.value ≡ t → MayRead m →
-    IsTrue r ↔ (t ≡ u) → IsTrue r ↔ Load (view a) u
-load_reference r a s ty m t u e f may h =
-    let seen : view a ≡ reference s t m = ap view e ∙ (view-Ref s ty m ∙ ap (λ t. reference s t m) f) in
-    subst (λ a. IsTrue r ↔ Load a u) (sym seen)
+pub load_reference : (r : Bool) (s : AddressSpace) (t : WgslType) (m : AccessMode) (a u : WgslType) → reference s t m ≡ a → MayRead m → IsTrue r ↔ (t ≡ u) → IsTrue r ↔ Load a u
+load_reference r s t m a u e may h =
+    subst (λ a. IsTrue r ↔ Load a u) e
     (λ k. subst (λ u. Load (reference s t m) u) (h.0 k) (load s t m may), λ l. h.1 (load_readable l).1)
 
 pub no_load : (t u : WgslType) → layer_of t ≡ None → ((s : AddressSpace) (e : WgslType) (m : AccessMode) → t ≡ reference s e m → ⊥) → ¬ Load t u

@@ -8,13 +8,13 @@ use Rattle.wgsl_syntax.specs.declared.result_struct.ResultPrecision.{ResultPreci
 use Rattle.wgsl_syntax.specs.declared.result_struct.ResultPrecision.TheVariants as precision
 use Rattle.wgsl_syntax.specs.declared.result_struct.ResultStruct.{ResultStruct}
 use Rattle.wgsl_syntax.specs.ResultStruct.{result_name, function_text, shape_text, precision_text}
-use Rattle.wgsl_rules.specs.Types.{WgslType, scalar, struct, vec, Members, no_members, member}
-use Rattle.wgsl_rules.specs.ResultStructs.{shaped, float_of, result_struct, result_members}
-use Rattle.wgsl_rules.specs.Places.{Place, at_scalar, at_result}
-use Rattle.wgsl_rules.proofs.Walks.{type_at_once}
+use Rattle.wgsl_rules.specs.types.Types.{WgslType, scalar, struct, vec, Members, no_members, member}
+use Rattle.wgsl_rules.specs.types.ResultStructs.{shaped, float_of, result_struct, result_members}
+use Rattle.wgsl_rules.specs.conversion.Nodes.{Node, at_scalar, at_result}
+use Rattle.wgsl_rules.proofs.conversion.Walks.{type_at_once}
 use Rattle.wgsl_core.specs.View.{Member, view, struct_view, member_view, members_view}
-use Rattle.wgsl_core.specs.Parts.{scalar_of}
-use Rattle.wgsl_core.specs.Results.{struct_type, result_type, plain, second_member, IsResult, shape_in, function_at}
+use Rattle.wgsl_core.specs.Forms.{scalar_of}
+use Rattle.wgsl_core.specs.ResultStruct.{struct_type, result_type, plain, second_member, IsResult, shape_in, function_at}
 use Rattle.wgsl_core.specs.declared.ty.Type.{the_lemmas}
 use Rattle.wgsl_core.specs.declared.ty.StructType.{StructType, out-StructType}
 use Rattle.wgsl_core.specs.declared.ty.StructMemberType.{StructMemberType, out-StructMemberType}
@@ -57,7 +57,7 @@ abbrev tail : Members → Members
 tail no_members = no_members
 tail (member n t s a ms) = ms
 
--- a struct of two members is a result struct exactly if its parts are
+-- a struct of two members is a result struct exactly if its name and its members are
 pub whole : (name : List ℕ) (a b : Member) (r : ResultStruct) → IsResult name a b r ↔ (struct name (two_members a b) ≡ result_type r)
 whole name a b r = (to, from)
   where
@@ -94,15 +94,15 @@ no_shape (scalar s) e h = absurd (cc e)
 no_shape (vec n u) e h = absurd (h n u refl)
 no_shape t e h = refl
 
-abbrev function_in : Place → ResultFunction
+abbrev function_in : Node → ResultFunction
 function_in (at_result f s p) = f
 function_in (at_scalar s) = Frexp
 
-abbrev shape_at_place : Place → ResultShape
+abbrev shape_at_place : Node → ResultShape
 shape_at_place (at_result f s p) = s
 shape_at_place (at_scalar s) = shape.Scalar
 
-abbrev precision_in : Place → ResultPrecision
+abbrev precision_in : Node → ResultPrecision
 precision_in (at_result f s p) = p
 precision_in (at_scalar s) = precision.Abstract
 

@@ -3,13 +3,13 @@ use Rattle.std.proofs.Common.{◌≡◌, ℕ, List, Bor, Global, refl}
 use Rattle.std.specs.Prelude.{String}
 use Rattle.wgsl_syntax.specs.declared.operator.BinaryOperator.{BinaryOperator}
 use Rattle.wgsl_syntax.specs.declared.operator.UnaryOperator.{UnaryOperator}
-use Rattle.wgsl_rules.specs.Types.{WgslType}
-use Rattle.wgsl_rules.specs.Literals.{Literal}
-use Rattle.wgsl_rules.specs.Signatures.{Signature}
-use Rattle.wgsl_rules.specs.Refusals.{todo, not_scalar, not_constructible, sampled_type, unknown_type, unexpected_template, missing_template, write_ref_type, conversion, conv_overflow, component, not_indexable, out_of_bounds, unary, binary, compwise_binary, shl_overflow, shr_overflow, signature, builtin, template_args, param_count, param_type}
-use Rattle.wgsl_core.specs.Outcome.{refusal}
+use Rattle.wgsl_rules.specs.types.Types.{WgslType}
+use Rattle.wgsl_rules.specs.types.Literals.{Literal}
+use Rattle.wgsl_rules.specs.types.Signatures.{Signature}
+use Rattle.wgsl_rules.specs.errors.Refusals.{todo, not_scalar, not_constructible, sampled_type, unknown_type, unexpected_template, missing_template, write_ref_type, conversion, conv_overflow, component, not_indexable, out_of_bounds, unary, binary, compwise_binary, shl_overflow, shr_overflow, signature, builtin, template_args, param_count, param_type}
+use Rattle.wgsl_core.specs.Answer.{refusal}
 use Rattle.wgsl_core.specs.declared.ty.Type.{«Type»}
-use Rattle.wgsl_core.specs.declared.inst.LiteralInstance.{LiteralInstance}
+use Rattle.wgsl_core.specs.declared.literal.LiteralInstance.{LiteralInstance}
 use Rattle.wgsl_core.specs.declared.signature.CallSignature.{CallSignature}
 use Rattle.wgsl_core.specs.declared.error.Error.{Error}
 use Rattle.wgsl_core.specs.declared.error.Error.TheVariants as errors

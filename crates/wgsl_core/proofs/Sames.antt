@@ -11,11 +11,11 @@ use Rattle.wgsl_syntax.specs.contracts.enumerant.EnumerantPartialEq.TheImpl.{gho
 use Rattle.wgsl_syntax.specs.declared.attribute.AccelerationStructureFlags.TheVariants.{VertexReturn}
 use Rattle.wgsl_syntax.specs.declared.enumerant.Enumerant.{Enumerant}
 use Rattle.wgsl_syntax.specs.declared.enumerant.Enumerant.TheVariants.{AccessMode, AddressSpace, TexelFormat, AccelerationStructureFlags}
-use Rattle.wgsl_rules.specs.Literals.{Literal, bool, abstract_int, i32, u32, i64, u64}
+use Rattle.wgsl_rules.specs.types.Literals.{Literal, bool, abstract_int, i32, u32, i64, u64}
 use Rattle.wgsl_core.specs.Instances.{literal_view}
-use Rattle.wgsl_core.specs.contracts.inst.LiteralInstancePartialEq.TheImpl.{ghosts as instances}
-use Rattle.wgsl_core.specs.declared.inst.LiteralInstance.{LiteralInstance}
-use Rattle.wgsl_core.specs.declared.inst.LiteralInstance.TheVariants as literals
+use Rattle.wgsl_core.specs.contracts.literal.LiteralInstancePartialEq.TheImpl.{ghosts as instances}
+use Rattle.wgsl_core.specs.declared.literal.LiteralInstance.{LiteralInstance}
+use Rattle.wgsl_core.specs.declared.literal.LiteralInstance.TheVariants as literals
 
 one : (a b : Enumerant) → enumerants.eq a b ≡ true → a ≡ b
 one (AccessMode a) (AccessMode b) h = ap AccessMode (same_true access_type tt a b h)

@@ -8,8 +8,8 @@ use Rattle.std.specs.Borrow.{Bor}
 use Rattle.std.specs.Iterator.{DrainsIf}
 use Rattle.std.specs.Slice.Iter.{iter_rest}
 use Rattle.std.specs.declared.slice.Iter.{Iter}
-use Rattle.wgsl_rules.specs.Types.{WgslType}
-use Rattle.wgsl_rules.specs.Lists.{IsCommonOfList, IsCommonOfGiven}
+use Rattle.wgsl_rules.specs.types.Types.{WgslType}
+use Rattle.wgsl_rules.specs.conversion.Lists.{IsCommonOfList, IsCommonOfGiven}
 use Rattle.wgsl_core.specs.View.{view}
 use Rattle.wgsl_core.proofs.Lists.{seen}
 use Rattle.wgsl_core.specs.declared.ty.Type.{«Type»}

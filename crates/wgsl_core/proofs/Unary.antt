@@ -1,17 +1,18 @@
 -- What a unary operator answers, in code.
-use Rattle.std.proofs.Common.{◌≡◌, ◌≢◌, ◌↔◌, Bool, true, false, IsTrue, IsFalse, Result, Ok, Err, Box, Global, refl, sym, ap, ◌∙◌, subst, subst₂}
+use Rattle.std.proofs.Common.{◌≡◌, ◌≢◌, ◌↔◌, Bool, true, false, IsTrue, IsFalse, Result, Ok, Err, IfOk, Box, Global, refl, sym, ap, ◌∙◌, subst, subst₂}
 use Rattle.wgsl_syntax.specs.declared.address.AccessMode.{AccessMode}
 use Rattle.wgsl_syntax.specs.declared.address.AddressSpace.{AddressSpace}
 use Rattle.wgsl_syntax.specs.declared.address.AddressSpace.TheVariants.{Handle}
 use Rattle.wgsl_syntax.specs.declared.operator.UnaryOperator.TheVariants.{AddressOf, Indirection}
-use Rattle.wgsl_rules.specs.Types.{WgslType, pointer, reference}
-use Rattle.wgsl_rules.specs.Refusals.{Refusal}
-use Rattle.wgsl_rules.specs.UnaryOperators.{IsUnaryRow, address_row, indirection_row}
-use Rattle.wgsl_rules.specs.Kinds.{IsInHandleSpace}
-use Rattle.wgsl_rules.specs.Loading.{IsReference}
-use Rattle.wgsl_rules.proofs.Unary.{IsPointer, one_reference}
+use Rattle.wgsl_rules.specs.types.Types.{WgslType, pointer, reference}
+use Rattle.wgsl_rules.specs.errors.Refusals.{Refusal}
+use Rattle.wgsl_rules.specs.operators.Answers.{IsUnaryAnswer}
+use Rattle.wgsl_rules.specs.operators.UnaryRows.{IsUnaryRow, address_row, indirection_row}
+use Rattle.wgsl_rules.specs.types.Kinds.{IsInHandleSpace}
+use Rattle.wgsl_rules.specs.conversion.Loading.{IsReference}
+use Rattle.wgsl_rules.proofs.operators.Unary.{IsPointer, one_reference}
 use Rattle.wgsl_core.specs.View.{view}
-use Rattle.wgsl_core.specs.Outcome.{AnswersBy}
+use Rattle.wgsl_core.specs.Answer.{AnswersBy}
 use Rattle.wgsl_core.specs.declared.ty.Type.{«Type»}
 use Rattle.wgsl_core.specs.declared.ty.Type.TheVariants as v
 use Rattle.wgsl_core.specs.declared.error.Fail.{Fail}
@@ -41,12 +42,13 @@ pub pointer_row : {self : «Type»} {p : AddressSpace} {t : Box «Type» Global}
 pointer_row {self} {p} {t} {m} u e k n =
     subst₂ (λ a b. IsUnaryRow AddressOf a b) (sym (ap view e ∙ view-Ref p t m)) (sym (view-Ptr p u m ∙ ap (λ t. pointer p t m) k)) (address_row p (view t.value) m n)
 
--- which refers back to it
-pub gives_back : {self : «Type»} {p : AddressSpace} {t : Box «Type» Global} {m : AccessMode} (u : Box «Type» Global) → self ≡ v.Ref p t m → view u.value ≡ view t.value →
-    (r : WgslType) → IsUnaryRow Indirection (view (v.Ptr p u m)) r ↔ (r ≡ view self)
-gives_back {self} {p} {t} {m} u e k r =
-    subst₂ (λ a b. IsUnaryRow Indirection a r ↔ (r ≡ b)) (sym (view-Ptr p u m ∙ ap (λ t. pointer p t m) k)) (sym (ap view e ∙ view-Ref p t m))
-    (one_reference p (view t.value) m r, λ f. subst (λ r. IsUnaryRow Indirection (pointer p (view t.value) m) r) (sym f) (indirection_row p (view t.value) m))
+pointed_back : {a b : WgslType} → IsUnaryRow AddressOf a b → (t : WgslType) → IsUnaryRow Indirection b t ↔ (t ≡ a)
+pointed_back (address_row s u m n) t = (one_reference s u m t, λ f. subst (λ r. IsUnaryRow Indirection (pointer s u m) r) (sym f) (indirection_row s u m))
+
+-- the pointer of a reference refers back to it
+pub gives_back : (a : WgslType) (r : Result «Type» Fail) → AnswersBy (IsUnaryAnswer AddressOf a) r → IfOk r (λ p. (t : WgslType) → IsUnaryRow Indirection (view p) t ↔ (t ≡ a))
+gives_back a (Ok p) h = pointed_back h
+gives_back a (Err e) h = tt
 
 pub no_pointer : (t : WgslType) → ((s : AddressSpace) (u : WgslType) (m : AccessMode) → t ≡ pointer s u m → ⊥) → ¬ IsPointer t
 no_pointer (pointer s u m) h i = h s u m refl

@@ -3,16 +3,19 @@ use Rattle.std.proofs.Common.{◌≡◌, ◌↔◌, ℕ, Bool, true, false, IsTr
 use Rattle.wgsl_syntax.specs.declared.address.AddressSpace.{AddressSpace}
 use Rattle.wgsl_syntax.specs.declared.address.AccessMode.{AccessMode}
 use Rattle.wgsl_syntax.specs.Address.{MayRead}
-use Rattle.wgsl_rules.specs.Types.{Layer, vec_of, WgslType, within, reference, vec}
-use Rattle.wgsl_rules.specs.Conversion.{Load, load, Converts, ConvertsTo}
-use Rattle.wgsl_rules.proofs.Order.{along_above, above_to_within, load_readable}
-use Rattle.wgsl_rules.proofs.Equations.{converts_within}
+use Rattle.wgsl_rules.specs.types.Types.{Layer, vec_of, WgslType, within, reference, vec}
+use Rattle.wgsl_rules.specs.conversion.Conversion.{Load, load, Converts, ConvertsTo}
+use Rattle.wgsl_rules.proofs.conversion.Order.{along_above, above_to_within, load_readable}
+use Rattle.wgsl_rules.proofs.conversion.Equations.{converts_within}
 use Rattle.wgsl_core.specs.View.{view}
-use Rattle.wgsl_core.specs.Parts.{layer_of}
+use Rattle.wgsl_core.specs.Forms.{layer_of}
 use Rattle.wgsl_core.specs.declared.ty.Type.{«Type»}
 use Rattle.wgsl_core.specs.declared.ty.Type.TheVariants as v
 use Rattle.wgsl_core.proofs.Ranks.{no_load}
-use Rattle.wgsl_core.proofs.Views.{view-Ref}
+use Rattle.std.specs.Borrow.{Bor}
+use Rattle.wgsl_core.specs.Forms.{form_view}
+use Rattle.wgsl_core.specs.declared.ty.form.Form.{Form}
+use Rattle.wgsl_core.specs.declared.ty.form.Form.TheVariants as forms
 
 layered : (t : WgslType) (l : Layer) (e : WgslType) → layer_of t ≡ Some (l, e) → t ≡ within l e
 layered (within k f) l e h = let p : (k, f) ≡ (l, e) = cc h in ap (λ (q : Layer × WgslType). within q.0 q.1) p
@@ -41,20 +44,24 @@ no_way : (t u : WgslType) (n w : ℕ) → layer_of t ≡ None → Converts t (ve
 no_way t u n w e (inl p) = let k = above_to_within (along_above p).0 (vec_of n) u refl in let d : None ≡ Some (vec_of n, k.0) = sym e ∙ ap layer_of k.1 in absurd (cc d)
 no_way t u n w e (inr l) = l.0
 
-pub loads_vector : (a : «Type») (s : AddressSpace) (ty : Box «Type» Global) (m : AccessMode) (t : WgslType) (n : ℕ) (u : WgslType) (b : Bool) → a ≡ v.Ref s ty m → view ty.value ≡ t → MayRead m →
-    IsTrue b ↔ (t ≡ vec n u) → IsTrue b ↔ ConvertsTo (view a) (vec n u)
-loads_vector a s ty m t n u b e f may h =
-    let seen : view a ≡ reference s t m = ap view e ∙ (view-Ref s ty m ∙ ap (λ t. reference s t m) f) in
-    subst (λ a. IsTrue b ↔ ConvertsTo a (vec n u)) (sym seen) (
+pub loads_vector : (s : AddressSpace) (t : WgslType) (m : AccessMode) (a : WgslType) (n : ℕ) (u : WgslType) (b : Bool) → reference s t m ≡ a → MayRead m →
+    IsTrue b ↔ (t ≡ vec n u) → IsTrue b ↔ ConvertsTo a (vec n u)
+loads_vector s t m a n u b e may h =
+    subst (λ a. IsTrue b ↔ ConvertsTo a (vec n u)) e (
       λ k. (0, inr (subst (λ u. Load (reference s t m) u) (h.0 k) (load s t m may), refl)),
       λ k. h.1 (load_readable (no_way (reference s t m) u n k.0 refl k.1)).1,
     )
 
-pub unreadable : (a : «Type») (s : AddressSpace) (ty : Box «Type» Global) (m : AccessMode) (n : ℕ) (u : WgslType) (b : Bool) → a ≡ v.Ref s ty m → b ≡ false → (IsTrue b ↔ MayRead m) →
-    IsTrue b ↔ ConvertsTo (view a) (vec n u)
-unreadable a s ty m n u b e i may =
-    false_for b i (subst (λ a. ¬ ConvertsTo a (vec n u)) (sym (ap view e ∙ view-Ref s ty m))
-    (λ k. absurd (cc (sym (may.1 (load_readable (no_way (reference s (view ty.value) m) u n k.0 refl k.1)).0) ∙ i))))
+pub unreadable : (s : AddressSpace) (t : WgslType) (m : AccessMode) (a : WgslType) (n : ℕ) (u : WgslType) (b : Bool) → reference s t m ≡ a → b ≡ false → (IsTrue b ↔ MayRead m) →
+    IsTrue b ↔ ConvertsTo a (vec n u)
+unreadable s t m a n u b e i may =
+    false_for b i (subst (λ a. ¬ ConvertsTo a (vec n u)) e
+    (λ k. absurd (cc (sym (may.1 (load_readable (no_way (reference s t m) u n k.0 refl k.1)).0) ∙ i))))
 
-pub loads_nothing : (t : WgslType) (n : ℕ) (u : WgslType) → layer_of t ≡ None → ((s : AddressSpace) (e : WgslType) (m : AccessMode) → t ≡ reference s e m → ⊥) → IsTrue false ↔ ConvertsTo t (vec n u)
-loads_nothing t n u e no_ref = (λ h. absurd (cc h), λ k. absurd (no_load t (vec n u) e no_ref (no_way t u n k.0 e k.1)))
+pub loads_nothing : {f : Form} (t : WgslType) (n : ℕ) (u : WgslType) → layer_of t ≡ None → form_view f ≡ t → ((s : AddressSpace) (e : Bor «Type») (m : AccessMode) → f ≡ forms.Reference s e m → ⊥) →
+    IsTrue false ↔ ConvertsTo t (vec n u)
+loads_nothing {f} t n u e p no_ref = (λ h. absurd (cc h), λ k. absurd (no_load t (vec n u) e (λ s e m q. apart f no_ref s e m (p ∙ q)) (no_way t u n k.0 e k.1)))
+  where
+    apart : (f : Form) → ((s : AddressSpace) (e : Bor «Type») (m : AccessMode) → f ≡ forms.Reference s e m → ⊥) → (s : AddressSpace) (e : WgslType) (m : AccessMode) → form_view f ≡ reference s e m → ⊥
+    apart (forms.Reference s e m) n t u v k = n s e m refl
+    apart f n s e m k = absurd (cc k)

@@ -5,10 +5,10 @@ use Rattle.wgsl_syntax.specs.declared.address.AddressSpace.{AddressSpace}
 use Rattle.wgsl_syntax.specs.declared.attribute.AccelerationStructureFlags.{AccelerationStructureFlags}
 use Rattle.wgsl_syntax.specs.declared.texture.SamplerType.{SamplerType}
 use Rattle.wgsl_syntax.specs.declared.texture.TextureType.{TextureType}
-use Rattle.wgsl_rules.specs.Types.{WgslType, struct, atomic, pointer, reference, texture, sampler, binding_array, ray_query, acceleration_structure, Members, array, vec, mat}
-use Rattle.wgsl_rules.specs.Kinds.{IsStruct, IsArray, IsVector, IsMatrix, IsAtomic}
-use Rattle.wgsl_rules.specs.Loading.{IsReference}
-use Rattle.wgsl_rules.proofs.Unary.{IsPointer}
+use Rattle.wgsl_rules.specs.types.Types.{WgslType, struct, atomic, pointer, reference, texture, sampler, binding_array, ray_query, acceleration_structure, Members, array, vec, mat}
+use Rattle.wgsl_rules.specs.types.Kinds.{IsStruct, IsArray, IsVector, IsMatrix, IsAtomic}
+use Rattle.wgsl_rules.specs.conversion.Loading.{IsReference}
+use Rattle.wgsl_rules.proofs.operators.Unary.{IsPointer}
 use Rattle.wgsl_core.specs.View.{Member, Struct, view, members_view, type_step, member_step, struct_step}
 use Rattle.wgsl_core.specs.declared.ty.Type.{«Type», the_lemmas, out-Type, roll-Type, roll-out-Type, fold-roll-Type}
 use Rattle.wgsl_core.specs.declared.ty.Type.TheOpen.{Type-F}

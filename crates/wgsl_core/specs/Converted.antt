@@ -1,9 +1,9 @@
 -- What a type becomes that is converted to a type, as a whole or in what it is of (WGSL, "Conversion Rank").
 use Rattle.std.specs.Prelude.{◌≡◌, Option, Some, None, option_map, if◌then◌else◌, refl}
-use Rattle.wgsl_rules.specs.Types.{WgslType, within, atomic, pointer}
-use Rattle.wgsl_rules.specs.Kinds.{IsFlat}
-use Rattle.wgsl_rules.specs.Conversion.{ConvertsTo}
-use Rattle.wgsl_rules.proofs.Order.{dec_converts}
+use Rattle.wgsl_rules.specs.types.Types.{WgslType, within, atomic, pointer}
+use Rattle.wgsl_rules.specs.types.Kinds.{IsLeaf}
+use Rattle.wgsl_rules.specs.conversion.Conversion.{ConvertsTo}
+use Rattle.wgsl_rules.proofs.conversion.Order.{dec_converts}
 use Rattle.wgsl_core.specs.View.{view}
 use Rattle.wgsl_core.specs.Equality.{type_eq}
 use Rattle.wgsl_core.specs.declared.ty.Type.{«Type»}
@@ -44,7 +44,7 @@ inner_converted t u = converted t u
 
 -- no type, or one that is copied without memory
 abbrev pub NeedsNoMemory : Option WgslType → Type 0
-NeedsNoMemory (Some t) = IsFlat t
+NeedsNoMemory (Some t) = IsLeaf t
 NeedsNoMemory None = Unit {0}
 
 -- a type that is converted to a type has that type

@@ -6,8 +6,8 @@ use Rattle.std.specs.Ordering.{on}
 use Rattle.std.proofs.Common.{refl, ap}
 use mathlib.Core.List.{List-discrete}
 use native.Mathlib.Decide.{ℕ_discrete}
-use Rattle.wgsl_rules.specs.Types.{WgslType}
-use Rattle.wgsl_rules.proofs.Equality.{both, by, same_type, same_members, same_option}
+use Rattle.wgsl_rules.specs.types.Types.{WgslType}
+use Rattle.wgsl_rules.proofs.types.Equality.{both, by, same_type, same_members, same_option}
 use Rattle.wgsl_core.specs.View.{Member, Struct, view, member_view, struct_view}
 
 same_struct : (a b : Struct) → Dec (a ≡ b)

@@ -1,14 +1,14 @@
 -- The literals, template parameters and signatures of the rules that those of the code stand for.
 use Rattle.std.specs.Prelude.{ℕ, List, Option, map, option_map, string_bytes}
 use Rattle.std.specs.Borrow.{Bor}
-use Rattle.wgsl_rules.specs.Literals.{Literal, bool, abstract_int, i32, u32, i64, u64}
-use Rattle.wgsl_rules.specs.Signatures.{Parameter, of_type, of_literal, of_enumerant, Signature}
+use Rattle.wgsl_rules.specs.types.Literals.{Literal, bool, abstract_int, i32, u32, i64, u64}
+use Rattle.wgsl_rules.specs.types.Signatures.{Parameter, of_type, of_literal, of_enumerant, Signature}
 use Rattle.wgsl_core.specs.View.{view}
 use Rattle.wgsl_core.specs.declared.ty.Type.{«Type»}
-use Rattle.wgsl_core.specs.declared.inst.Instance.{Instance}
-use Rattle.wgsl_core.specs.declared.inst.Instance.TheVariants as instances
-use Rattle.wgsl_core.specs.declared.inst.LiteralInstance.{LiteralInstance}
-use Rattle.wgsl_core.specs.declared.inst.LiteralInstance.TheVariants as literals
+use Rattle.wgsl_core.specs.declared.literal.Instance.{Instance}
+use Rattle.wgsl_core.specs.declared.literal.Instance.TheVariants as instances
+use Rattle.wgsl_core.specs.declared.literal.LiteralInstance.{LiteralInstance}
+use Rattle.wgsl_core.specs.declared.literal.LiteralInstance.TheVariants as literals
 use Rattle.wgsl_core.specs.declared.signature.TpltParam.{TpltParam}
 use Rattle.wgsl_core.specs.declared.signature.TpltParam.TheVariants as parameters
 use Rattle.wgsl_core.specs.declared.signature.CallSignature.{CallSignature}

@@ -1,11 +1,11 @@
 pub mod View
 pub mod Instances
-pub mod Outcome
-pub mod Parts
+pub mod Answer
+pub mod Forms
 pub mod Equality
 pub mod Converted
 pub mod RefusalEquality
-pub mod Results
-pub mod Memory
-pub mod Places
-pub mod Found
+pub mod ResultStruct
+pub mod Layout
+pub mod Nodes
+pub mod Resolution

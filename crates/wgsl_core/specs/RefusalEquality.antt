@@ -15,13 +15,13 @@ use Rattle.wgsl_syntax.specs.declared.enumerant.Enumerant.{Enumerant}
 use Rattle.wgsl_syntax.specs.declared.enumerant.Enumerant.TheVariants.{AccessMode, AddressSpace, TexelFormat, AccelerationStructureFlags}
 use Rattle.wgsl_syntax.specs.declared.operator.BinaryOperator.{BinaryOperator}
 use Rattle.wgsl_syntax.specs.declared.operator.UnaryOperator.{UnaryOperator}
-use Rattle.wgsl_rules.specs.Literals.{Literal, bool, abstract_int, i32, u32, i64, u64}
-use Rattle.wgsl_rules.specs.Refusals.{Refusal, todo, not_scalar, not_constructible, sampled_type, unknown_type, unexpected_template, missing_template, write_ref_type, not_write, not_read, not_read_write, ptr_handle, ptr_vec_comp, conversion, conv_overflow, component, not_indexable, out_of_bounds, unary, binary, compwise_binary, add_overflow, sub_overflow, mul_overflow, div_by_zero, rem_zero_div, shl_overflow, shr_overflow, signature, builtin, template_args, param_count, param_type}
-use Rattle.wgsl_rules.specs.Signatures.{Parameter, of_type, of_literal, of_enumerant, Signature}
-use Rattle.wgsl_rules.proofs.Equality.{both, by, same_type, same_option}
+use Rattle.wgsl_rules.specs.types.Literals.{Literal, bool, abstract_int, i32, u32, i64, u64}
+use Rattle.wgsl_rules.specs.errors.Refusals.{Refusal, todo, not_scalar, not_constructible, sampled_type, unknown_type, unexpected_template, missing_template, write_ref_type, not_write, not_read, not_read_write, ptr_handle, ptr_vec_comp, conversion, conv_overflow, component, not_indexable, out_of_bounds, unary, binary, compwise_binary, add_overflow, sub_overflow, mul_overflow, div_by_zero, rem_zero_div, shl_overflow, shr_overflow, signature, builtin, template_args, param_count, param_type}
+use Rattle.wgsl_rules.specs.types.Signatures.{Parameter, of_type, of_literal, of_enumerant, Signature}
+use Rattle.wgsl_rules.proofs.types.Equality.{both, by, same_type, same_option}
 use Rattle.wgsl_core.specs.Equality.{is_yes, yes_decides}
 use Rattle.wgsl_core.specs.Instances.{parameter_view, signature_view}
-use Rattle.wgsl_core.specs.Outcome.{refusal}
+use Rattle.wgsl_core.specs.Answer.{refusal}
 
 by_test : {P : Type 0} (t : Bool) → (t ≡ true → P) → (t ≡ false → P → ⊥) → Dec P
 by_test true so not_so = yes (so refl)

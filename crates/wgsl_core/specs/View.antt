@@ -1,7 +1,7 @@
 -- The type of the rules that a `Type` stands for.
 use Rattle.std.specs.Prelude.{ℕ, List, [], ◌∷◌, map, Option, string_bytes}
 use Rattle.wgsl_syntax.specs.declared.scalar.Scalar.TheVariants.{Bool, AbstractInt, AbstractFloat, I32, U32, F32, F16, I64, U64, F64}
-use Rattle.wgsl_rules.specs.Types.{WgslType, scalar, struct, atomic, pointer, reference, texture, sampler, binding_array, ray_query, acceleration_structure, Members, no_members, member, array, vec, mat}
+use Rattle.wgsl_rules.specs.types.Types.{WgslType, scalar, struct, atomic, pointer, reference, texture, sampler, binding_array, ray_query, acceleration_structure, Members, no_members, member, array, vec, mat}
 use Rattle.wgsl_core.specs.declared.ty.Type.{«Type», fold-Type}
 use Rattle.wgsl_core.specs.declared.ty.Type.TheOpen.{Type-F, StructType-F, StructMemberType-F}
 use Rattle.wgsl_core.specs.declared.ty.StructType.{StructType, fold-StructType}

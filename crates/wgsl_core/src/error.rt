@@ -1,5 +1,8 @@
-// Refusals, and want of memory.
-use crate::inst::LiteralInstance;
+// Refusals, and out of memory.
+mod clone;
+mod eq;
+
+use crate::literal::LiteralInstance;
 use crate::signature::CallSignature;
 use crate::ty::Type;
 use std::alloc::AllocError;
@@ -68,7 +71,7 @@ pub enum Error {
     ParamType(Type, Type),
 }
 
-/// A refusal, or want of memory.
+/// A refusal, or out of memory.
 #[derive(Debug, Drop)]
 pub enum Fail {
     Error(Error),
@@ -99,8 +102,8 @@ impl From<Error> for Fail {
 
 impl fmt::Display for Error {
     ghost use Rattle.std.specs.Prelude.{Some};
-    ghost use Rattle.wgsl_rules.specs.Refusals.{message};
-    ghost use Rattle.wgsl_core.specs.Outcome.{refusal};
+    ghost use Rattle.wgsl_rules.specs.errors.Refusals.{message};
+    ghost use Rattle.wgsl_core.specs.Answer.{refusal};
 
     ghost output = { λ e. Some (message (refusal e)) };
 
@@ -178,7 +181,7 @@ impl fmt::Display for Error {
 
 impl fmt::Display for Fail {
     ghost use Rattle.std.specs.Prelude.{Some};
-    ghost use Rattle.wgsl_core.specs.Outcome.{fail_text};
+    ghost use Rattle.wgsl_core.specs.Answer.{fail_text};
 
     ghost output = { λ e. Some (fail_text e) };
 

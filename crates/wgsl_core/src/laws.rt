@@ -1,16 +1,16 @@
 // Laws over the rules: each function answers nothing, and its contract is the law.
 ghost use Rattle.std.specs.Prelude.{◌≡◌, ◌↔◌, ◌<◌, ℕ, All, IsPermutation, map};
 ghost use Rattle.wgsl_syntax.specs.declared.scalar.Scalar.{Scalar};
-ghost use Rattle.wgsl_rules.specs.Types.{scalar, array, vec, mat};
-ghost use Rattle.wgsl_rules.specs.Conversion.{IsValueType};
+ghost use Rattle.wgsl_rules.specs.types.Types.{scalar, array, vec, mat};
+ghost use Rattle.wgsl_rules.specs.conversion.Conversion.{IsValueType};
 ghost use Rattle.wgsl_rules.specs.Laws.{ConversionOrder, RanksAdd, TargetsComparable, RankNamesTarget, CommonAnyOrder};
-ghost use Rattle.wgsl_rules.specs.Layout.{HasSize};
+ghost use Rattle.wgsl_rules.specs.layout.Layout.{HasSize};
 ghost use Rattle.wgsl_core.specs.View.{view};
 
 use crate::ty::Type;
 
 /// On value types conversion is a partial order (WGSL, "Conversion Rank").
-#[tactic(auto, using(wgsl_rules::proofs::Lawful::order))]
+#[tactic(auto, using(wgsl_rules::proofs::Laws::order))]
 pub fn conversion_order(a: &Type, b: &Type, c: &Type)
     ensures { IsValueType (view a.now) → IsValueType (view b.now) → IsValueType (view c.now) → ConversionOrder (view a.now) (view b.now) (view c.now) }
 {}
@@ -26,13 +26,13 @@ pub fn targets_comparable(a: &Type, b: &Type, c: &Type)
 {}
 
 /// Two targets of a value type that it converts to with one rank are equal, and no rank passes 9.
-#[tactic(auto, using(wgsl_rules::proofs::Lawful::names_target))]
+#[tactic(auto, using(wgsl_rules::proofs::Laws::names_target))]
 pub fn rank_names_target(a: &Type, b: &Type, c: &Type)
     ensures { IsValueType (view a.now) → RankNamesTarget (view a.now) (view b.now) (view c.now) }
 {}
 
 /// A list of value types has the same common type in every order.
-#[tactic(auto, using(wgsl_rules::proofs::Lawful::any_order))]
+#[tactic(auto, using(wgsl_rules::proofs::Laws::any_order))]
 pub fn common_any_order(ts: &[Type], us: &[Type])
     ensures { IsPermutation (map view ts.now) (map view us.now) → All IsValueType (map view ts.now) → CommonAnyOrder (map view ts.now) (map view us.now) }
 {}

@@ -1,5 +1,8 @@
 // Template parameters, the signatures of calls, and the stages of a shader.
-use crate::inst::Instance;
+mod clone;
+pub(crate) mod eq;
+
+use crate::literal::Instance;
 use crate::ty::Type;
 use std::fmt;
 use std::fmt::Write;
@@ -33,7 +36,7 @@ pub enum ShaderStage {
 
 impl fmt::Display for TpltParam {
     ghost use Rattle.std.specs.Prelude.{Some};
-    ghost use Rattle.wgsl_rules.specs.Signatures.{parameter_text};
+    ghost use Rattle.wgsl_rules.specs.types.Signatures.{parameter_text};
     ghost use Rattle.wgsl_core.specs.Instances.{parameter_view};
 
     ghost output = { λ p. Some (parameter_text (parameter_view p)) };
@@ -55,7 +58,7 @@ impl fmt::Display for TpltParam {
 
 impl fmt::Display for CallSignature {
     ghost use Rattle.std.specs.Prelude.{Some};
-    ghost use Rattle.wgsl_rules.specs.Signatures.{signature_text};
+    ghost use Rattle.wgsl_rules.specs.types.Signatures.{signature_text};
     ghost use Rattle.wgsl_core.specs.Instances.{signature_view};
 
     ghost output = { λ c. Some (signature_text (signature_view c)) };
@@ -79,7 +82,7 @@ struct Parameters<'a>(&'a Vec<TpltParam>);
 
 impl<'a> fmt::Display for Parameters<'a> {
     ghost use Rattle.std.specs.Prelude.{Some};
-    ghost use Rattle.wgsl_rules.specs.Signatures.{listed, parameter_text};
+    ghost use Rattle.wgsl_rules.specs.types.Signatures.{listed, parameter_text};
     ghost use Rattle.wgsl_core.specs.Instances.{parameter_view};
 
     ghost output = { λ ps. Some (listed (λ p. parameter_text (parameter_view p)) (ps.0.now).items) };
@@ -101,8 +104,8 @@ struct Arguments<'a>(&'a Vec<Type>);
 
 impl<'a> fmt::Display for Arguments<'a> {
     ghost use Rattle.std.specs.Prelude.{Some};
-    ghost use Rattle.wgsl_rules.specs.Signatures.{listed};
-    ghost use Rattle.wgsl_rules.specs.Spelling.{spelling};
+    ghost use Rattle.wgsl_rules.specs.types.Signatures.{listed};
+    ghost use Rattle.wgsl_rules.specs.types.Spelling.{spelling};
     ghost use Rattle.wgsl_core.specs.View.{view};
 
     ghost output = { λ ts. Some (listed (λ t. spelling (view t)) (ts.0.now).items) };

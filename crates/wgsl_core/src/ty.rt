@@ -1,12 +1,19 @@
 // Types.
 ghost use Rattle.std.specs.Prelude.{◌≡◌, IfOk, ok_or, string_bytes};
-ghost use Rattle.wgsl_rules.specs.Types.{atomic, vec};
-ghost use Rattle.wgsl_rules.specs.Kinds.{IsAtomic, IsFlat, IsStruct, IsVector};
-ghost use Rattle.wgsl_rules.specs.Parts.{sampled_of};
-ghost use Rattle.wgsl_rules.specs.Refusals.{sampled_type};
+ghost use Rattle.wgsl_rules.specs.types.Types.{atomic, vec};
+ghost use Rattle.wgsl_rules.specs.types.Kinds.{IsAtomic, IsLeaf, IsStruct, IsVector};
+ghost use Rattle.wgsl_rules.specs.types.Inner.{sampled_of};
+ghost use Rattle.wgsl_rules.specs.errors.Refusals.{sampled_type};
 ghost use Rattle.wgsl_core.specs.View.{view, struct_view, member_view};
-ghost use Rattle.wgsl_core.specs.Results.{plain, struct_type};
-ghost use Rattle.wgsl_core.specs.Outcome.{Gives, IsAnswered};
+ghost use Rattle.wgsl_core.specs.ResultStruct.{plain, struct_type};
+ghost use Rattle.wgsl_core.specs.Answer.{Gives, IsAnswered};
+
+pub mod clone;
+mod eq;
+pub mod form;
+mod kinds;
+pub mod result_struct;
+mod show;
 
 use crate::error::{Error, Fail};
 use std::alloc::{AllocError, Global};
@@ -122,7 +129,7 @@ impl Type {
 
 impl From<Scalar> for Type {
     ghost use Rattle.std.specs.Prelude.{◌≡◌};
-    ghost use Rattle.wgsl_rules.specs.Types.{scalar};
+    ghost use Rattle.wgsl_rules.specs.types.Types.{scalar};
     ghost use Rattle.wgsl_core.specs.View.{view};
 
     ghost from_gives = { λ s t. view t ≡ scalar s };
@@ -145,8 +152,8 @@ impl From<Scalar> for Type {
 
 impl From<SampledType> for Type {
     ghost use Rattle.std.specs.Prelude.{◌≡◌};
-    ghost use Rattle.wgsl_rules.specs.Types.{scalar};
-    ghost use Rattle.wgsl_rules.specs.Parts.{sampled_scalar};
+    ghost use Rattle.wgsl_rules.specs.types.Types.{scalar};
+    ghost use Rattle.wgsl_rules.specs.types.Inner.{sampled_scalar};
     ghost use Rattle.wgsl_core.specs.View.{view};
 
     ghost from_gives = { λ s t. view t ≡ scalar (sampled_scalar s) };
@@ -163,7 +170,7 @@ impl From<SampledType> for Type {
 /// What a texture of such texels is sampled as (WGSL, "Sampled Texture Types"), or `SampledType` with the type.
 pub fn try_from_type(alloc: Global, ty: &Type) -> Result<SampledType, Fail>
     ensures row { Gives (ok_or (sampled_of (view ty.now)) (sampled_type (view ty.now))) result }
-    ensures takes_no_memory { IsFlat (view ty.now) → IsAnswered result }
+    ensures never_out_of_memory { IsLeaf (view ty.now) → IsAnswered result }
 {
     match sampled(ty) {
         Some(sampled) => Ok(sampled),

@@ -6,17 +6,17 @@ use Rattle.wgsl_syntax.specs.declared.address.AccessMode.TheVariants.{Read, Writ
 use Rattle.wgsl_syntax.specs.declared.result_struct.ResultFunction.TheVariants.{Frexp}
 use Rattle.wgsl_syntax.specs.declared.result_struct.ResultShape.TheVariants as shape
 use Rattle.wgsl_syntax.specs.declared.result_struct.ResultPrecision.TheVariants as precision
-use Rattle.wgsl_rules.specs.Types.{array_of, vec_of, WgslType, scalar, reference, struct, no_members, vec, mat, array}
-use Rattle.wgsl_rules.specs.ResultStructs.{plain_member, result_struct}
-use Rattle.wgsl_rules.specs.Conversion.{Converts, load, load_inside, result_to_f32, base}
+use Rattle.wgsl_rules.specs.types.Types.{array_of, vec_of, WgslType, scalar, reference, struct, no_members, vec, mat, array}
+use Rattle.wgsl_rules.specs.types.ResultStructs.{plain_member, result_struct}
+use Rattle.wgsl_rules.specs.conversion.Conversion.{Converts, load, load_inside, result_to_f32, base}
 use Rattle.wgsl_syntax.specs.declared.operator.BinaryOperator.TheVariants.{Addition, ShiftLeft, Multiplication}
-use Rattle.wgsl_rules.specs.Candidates.{operator}
-use Rattle.wgsl_rules.specs.Choice.{IsChoice}
-use Rattle.wgsl_rules.specs.Operators.{scalar_row, scalar_vector_row, matrix_vector_row, shift_row}
-use Rattle.wgsl_rules.specs.Concrete.{concretized}
-use Rattle.wgsl_rules.proofs.Order.{Above, here, further}
-use Rattle.wgsl_rules.proofs.Equations.{converts_scalar, converts_inside, converts_within, converts_reference}
-use Rattle.wgsl_rules.proofs.Rowed.{row_chosen}
+use Rattle.wgsl_rules.specs.operators.Candidates.{operator}
+use Rattle.wgsl_rules.specs.operators.Choice.{IsChoice}
+use Rattle.wgsl_rules.specs.operators.Rows.{scalar_row, scalar_vector_row, matrix_vector_row, shift_row}
+use Rattle.wgsl_rules.specs.conversion.Concrete.{concretized}
+use Rattle.wgsl_rules.proofs.conversion.Order.{Above, here, further}
+use Rattle.wgsl_rules.proofs.conversion.Equations.{converts_scalar, converts_inside, converts_within, converts_reference}
+use Rattle.wgsl_rules.proofs.operators.ChosenRows.{row_chosen}
 
 -- ranks
 int_to_half : Converts (scalar AbstractInt) (scalar F16) 7

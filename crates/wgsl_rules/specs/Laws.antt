@@ -1,12 +1,12 @@
 -- The laws that follow from the definitions: of conversion, of common types and of the choice.
 use Rattle.std.specs.Prelude.{ℕ, List, [], ◌∷◌, ◌≡◌, ◌≢◌, ◌+◌, ◌≤◌, ◌⊎◌, ◌↔◌, Option, Some, None}
-use Rattle.wgsl_rules.specs.Types.{WgslType}
-use Rattle.wgsl_rules.specs.Conversion.{Converts, ConvertsTo}
+use Rattle.wgsl_rules.specs.types.Types.{WgslType}
+use Rattle.wgsl_rules.specs.conversion.Conversion.{Converts, ConvertsTo}
 use Rattle.wgsl_syntax.specs.declared.operator.BinaryOperator.{BinaryOperator}
-use Rattle.wgsl_rules.specs.Candidates.{Name, operator, IsCandidate}
-use Rattle.wgsl_rules.specs.Choice.{Takes, IsChoice}
-use Rattle.wgsl_rules.specs.Operators.{IsRow, IsCallRow}
-use Rattle.wgsl_rules.specs.Common.{IsCommon, IsLeftCommon, Receives, IsLeastCommon}
+use Rattle.wgsl_rules.specs.operators.Candidates.{Name, operator, IsCandidate}
+use Rattle.wgsl_rules.specs.operators.Choice.{Takes, IsChoice}
+use Rattle.wgsl_rules.specs.operators.Rows.{IsRow, IsCallRow}
+use Rattle.wgsl_rules.specs.conversion.Common.{IsCommon, IsLeftCommon, Receives, IsLeastCommon}
 
 -- On value types conversion is a partial order.
 pub record ConversionOrder (a b c : WgslType) : Type 0 where

@@ -3,7 +3,9 @@
 
 pub mod address;
 pub mod attribute;
+pub mod call;
 pub mod enumerant;
+pub mod layer;
 pub mod names;
 pub mod operator;
 pub mod result_struct;

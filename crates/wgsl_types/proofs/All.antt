@@ -4,7 +4,7 @@ use Rattle.std.specs.Prelude.{Result, IfOk, IfSome, option_and_then, option_map}
 use Rattle.std.proofs.lemmas.Option.{IfSome_then}
 use Rattle.std.proofs.lemmas.Result.{IfOk-weaker}
 use Rattle.std.proofs.lemmas.List.{take_more, take-append-drop}
-use Rattle.wgsl_rules.specs.Types.{WgslType}
+use Rattle.wgsl_rules.specs.types.Types.{WgslType}
 use Rattle.wgsl_types.specs.Family.{all_to}
 
 module _ {T V : Type 0} (to : T → WgslType → Option V) (t : WgslType) where

@@ -1,6 +1,6 @@
 -- What the conversions of two values and of many give (WGSL, "Overload Resolution").
 use Rattle.std.specs.Prelude.{Option, Some, option_and_then, option_map, List, [], ◌∷◌}
-use Rattle.wgsl_rules.specs.Types.{WgslType}
+use Rattle.wgsl_rules.specs.types.Types.{WgslType}
 
 -- both converted to a type, or none where one isn't
 abbrev pub both_to : {T U V W : Type 0} → (T → WgslType → Option V) → (U → WgslType → Option W) → T → U → WgslType → Option (V × W)

@@ -1,17 +1,17 @@
 //! Conversion of types and of what has a type (WGSL, "Conversion Rank").
 ghost use Rattle.std.specs.Prelude.{◌≡◌, Option, IfOk, IfSome, All, option_map, option_and_then, map};
-ghost use Rattle.wgsl_rules.specs.Types.{WgslType};
-ghost use Rattle.wgsl_rules.specs.Common.{IsCommon, IsLeftCommon};
+ghost use Rattle.wgsl_rules.specs.types.Types.{WgslType};
+ghost use Rattle.wgsl_rules.specs.conversion.Common.{IsCommon, IsLeftCommon};
 ghost use Rattle.wgsl_core.specs.View.{view};
 ghost use Rattle.wgsl_types.specs.Family.{both_to, all_to};
 
 use std::alloc::{AllocError, Global};
-use wgsl_core::common::common_of;
-pub use wgsl_core::common::convert_all_ty;
-pub use wgsl_core::conv::{conversion_rank, convert_ty, rank_steps};
-pub use wgsl_core::convert::Convert;
+use wgsl_core::conversion::lists::common_of;
+pub use wgsl_core::conversion::lists::convert_all_ty;
+use wgsl_core::conversion::typed::Ty;
+pub use wgsl_core::conversion::value::Convert;
+pub use wgsl_core::conversion::{conversion_rank, convert_ty, rank_steps};
 use wgsl_core::ty::Type;
-use wgsl_core::typed::Ty;
 
 /// Both values converted to the common type of their types; None where there is none, or one of them doesn't convert.
 pub fn convert<T: Convert>(alloc: Global, a: &T, b: &T) -> Result<Option<(T, T)>, AllocError>

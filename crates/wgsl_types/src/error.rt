@@ -1,2 +1,2 @@
-//! Refusals, and want of memory.
+//! Refusals, and out of memory.
 pub use wgsl_core::error::{Error, Fail};

@@ -1,2 +1,2 @@
 //! Instances: literals, as far as their types and their texts go.
-pub use wgsl_core::inst::{Instance, LiteralInstance};
+pub use wgsl_core::literal::{Instance, LiteralInstance};

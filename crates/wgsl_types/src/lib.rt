@@ -10,7 +10,7 @@ pub mod tplt;
 pub mod ty;
 
 pub use wgsl_core::error::{Error, Fail};
-pub use wgsl_core::inst::Instance;
+pub use wgsl_core::literal::Instance;
 pub use wgsl_core::signature::{CallSignature, ShaderStage};
 pub use wgsl_core::ty::Type;
-pub use wgsl_core::{laws, mem};
+pub use wgsl_core::{laws, layout as mem};

@@ -1,5 +1,5 @@
 //! Templates and their parameters (WGSL, "Template Lists").
-pub use wgsl_calls::tplt::{
+pub use wgsl_calls::template::{
     ArrayTemplate, AtomicTemplate, BindingArrayTemplate, BitcastTemplate, MatTemplate, PtrTemplate,
     TextureTemplate, VecTemplate,
 };

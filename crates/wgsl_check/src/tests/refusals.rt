@@ -135,7 +135,7 @@ fn expect_messages(
     Ok(())
 }
 
-/// The refusals that hold neither a name nor a type with parts, with their messages.
+/// The refusals that hold no name and at most leaf types, with their messages.
 const MESSAGES: [(Error, &str); 25] = [
     (
         Error::NotConstructible(Type::F16),

@@ -2,18 +2,18 @@ use Rattle.wgsl_core.specs.View.{view}
 use Rattle.wgsl_core.proofs.Layouts.{vector_layout, matrix_layout, array_layout, layout_starts, layout_stops, layout_goes_on, layout_ends}
 use Rattle.wgsl_core.proofs.+layout.Goals as goal
 
-pub mem::vector_layout-returns : goal.mem::vector_layout-returns
-mem::vector_layout-returns t c =
+pub layout::vector_layout-returns : goal.layout::vector_layout-returns
+layout::vector_layout-returns t c =
     vector_layout c.args.n c.from.result (view c.args.ty.now) c.layout-component.result c.times.result c.vector_align.result
     c.from.ensures c.layout-component.ensures c.times.ensures c.vector_align.ensures
 
-pub mem::matrix_layout-returns : goal.mem::matrix_layout-returns
-mem::matrix_layout-returns t c =
+pub layout::matrix_layout-returns : goal.layout::matrix_layout-returns
+layout::matrix_layout-returns t c =
     matrix_layout c.args.columns c.args.rows c.from.result (view c.args.ty.now) c.layout-component.result c.times.result c.vector_align-align.result
     c.from.ensures c.layout-component.ensures c.times.ensures c.vector_align-align.ensures
 
-pub mem::array_layout-returns : goal.mem::array_layout-returns
-mem::array_layout-returns t c =
+pub layout::array_layout-returns : goal.layout::array_layout-returns
+layout::array_layout-returns t c =
     array_layout c.args.count (view c.args.ty.now) c.layout-element.result c.rounded_up.result c.array_size.result
     c.layout-element.ensures c.rounded_up.ensures c.array_size.ensures
 

@@ -1,8 +1,8 @@
 use Rattle.std.proofs.Common.{◌≡◌, Some, None, Err, ap, sym, ◌∙◌, map, option_map}
-use Rattle.wgsl_rules.specs.Refusals.{signature}
-use Rattle.wgsl_rules.specs.VectorConstructors.{IsVectorCall}
-use Rattle.wgsl_rules.specs.MatrixConstructors.{IsMatrixCall}
-use Rattle.wgsl_rules.specs.Constructors.{makes_array, makes_scalar, makes_vector, makes_matrix, IsConstructorAnswer, IsArrayCall, scalar_call}
+use Rattle.wgsl_rules.specs.errors.Refusals.{signature}
+use Rattle.wgsl_rules.specs.constructors.Vectors.{IsVectorCall}
+use Rattle.wgsl_rules.specs.constructors.Matrices.{IsMatrixCall}
+use Rattle.wgsl_rules.specs.constructors.Constructors.{makes_array, makes_scalar, makes_vector, makes_matrix, IsConstructorAnswer, IsArrayCall, scalar_call}
 use Rattle.wgsl_core.specs.View.{view}
 use Rattle.wgsl_core.specs.Instances.{parameter_view, call_view}
 use Rattle.wgsl_calls.specs.Constructors.{constructor_view}
@@ -13,26 +13,26 @@ use Rattle.wgsl_calls.proofs.constructor.type_ctor.Goals as goal
 pub returns-in-Some-Array-clause-row : goal.returns-in-Some-Array-clause-row
 returns-in-Some-Array-clause-row c =
     let call = call_view c.args.name.now c.args.tplt c.args.args.now in
-    answers view (IsArrayCall (option_map (λ ps. map parameter_view ps.now) c.args.tplt) (map view c.args.args.now)) (IsConstructorAnswer call) c.array.result
-    (built (Some makes_array) call (sym (ap (λ k. Some (constructor_view k)) c.in-Some-Array.field-0-is) ∙ c.in-Some-Array.ensures)) c.array.ensures
+    answers view (IsArrayCall (option_map (λ ps. map parameter_view ps.now) c.args.tplt) (map view c.args.args.now)) (IsConstructorAnswer call) c.array_type.result
+    (built (Some makes_array) call (sym (ap (λ k. Some (constructor_view k)) c.in-Some-Array.field-0-is) ∙ c.in-Some-Array.ensures)) c.array_type.ensures
 
 pub returns-in-Some-Scalar-clause-row : goal.returns-in-Some-Scalar-clause-row
 returns-in-Some-Scalar-clause-row c =
     let call = call_view c.args.name.now c.args.tplt c.args.args.now in
-    answers view (λ r. r ≡ scalar_call c.in-Some-Scalar.scalar (option_map (λ ps. map parameter_view ps.now) c.args.tplt) (map view c.args.args.now) (signature (call_view c.args.name.now c.args.tplt c.args.args.now))) (IsConstructorAnswer call) c.scalar_of.result
-    (built (Some (makes_scalar c.in-Some-Scalar.scalar)) call (sym (ap (λ k. Some (constructor_view k)) c.in-Some-Scalar.field-0-is) ∙ c.in-Some-Scalar.ensures)) c.scalar_of.ensures
+    answers view (λ r. r ≡ scalar_call c.in-Some-Scalar.scalar (option_map (λ ps. map parameter_view ps.now) c.args.tplt) (map view c.args.args.now) (signature (call_view c.args.name.now c.args.tplt c.args.args.now))) (IsConstructorAnswer call) c.scalar_type.result
+    (built (Some (makes_scalar c.in-Some-Scalar.scalar)) call (sym (ap (λ k. Some (constructor_view k)) c.in-Some-Scalar.field-0-is) ∙ c.in-Some-Scalar.ensures)) c.scalar_type.ensures
 
 pub returns-in-Some-Vec-clause-row : goal.returns-in-Some-Vec-clause-row
 returns-in-Some-Vec-clause-row c =
     let call = call_view c.args.name.now c.args.tplt c.args.args.now in
-    answers view (IsVectorCall c.args.name.now c.in-Some-Vec.n (option_map (λ ps. map parameter_view ps.now) c.args.tplt) (map view c.args.args.now)) (IsConstructorAnswer call) c.vector.result
-    (built (Some (makes_vector c.in-Some-Vec.n)) call (sym (ap (λ k. Some (constructor_view k)) c.in-Some-Vec.field-0-is) ∙ c.in-Some-Vec.ensures)) c.vector.ensures
+    answers view (IsVectorCall c.args.name.now c.in-Some-Vec.n (option_map (λ ps. map parameter_view ps.now) c.args.tplt) (map view c.args.args.now)) (IsConstructorAnswer call) c.vector_type.result
+    (built (Some (makes_vector c.in-Some-Vec.n)) call (sym (ap (λ k. Some (constructor_view k)) c.in-Some-Vec.field-0-is) ∙ c.in-Some-Vec.ensures)) c.vector_type.ensures
 
 pub returns-in-Some-Mat-clause-row : goal.returns-in-Some-Mat-clause-row
 returns-in-Some-Mat-clause-row c =
     let call = call_view c.args.name.now c.args.tplt c.args.args.now in
-    answers view (IsMatrixCall c.args.name.now c.in-Some-Mat.c c.in-Some-Mat.r (option_map (λ ps. map parameter_view ps.now) c.args.tplt) (map view c.args.args.now)) (IsConstructorAnswer call) c.matrix.result
-    (built (Some (makes_matrix c.in-Some-Mat.c c.in-Some-Mat.r)) call (sym (ap (λ k. Some (constructor_view k)) c.in-Some-Mat.field-0-is) ∙ c.in-Some-Mat.ensures)) c.matrix.ensures
+    answers view (IsMatrixCall c.args.name.now c.in-Some-Mat.c c.in-Some-Mat.r (option_map (λ ps. map parameter_view ps.now) c.args.tplt) (map view c.args.args.now)) (IsConstructorAnswer call) c.matrix_type.result
+    (built (Some (makes_matrix c.in-Some-Mat.c c.in-Some-Mat.r)) call (sym (ap (λ k. Some (constructor_view k)) c.in-Some-Mat.field-0-is) ∙ c.in-Some-Mat.ensures)) c.matrix_type.ensures
 
 pub returns-in_ok-refuse_call-in-None-clause-row : goal.returns-in_ok-refuse_call-in-None-clause-row
 returns-in_ok-refuse_call-in-None-clause-row c =

@@ -1,7 +1,7 @@
 use Rattle.std.proofs.Common.{◌≡◌, ℕ, List, [], ◌∷◌, ◌++◌, All, IsUtf8, ap, sym, subst, map, append_assoc, ◌∙◌}
 use Rattle.std.proofs.lemmas.List.Elements.{All-head, All-tail, All-same, All-push}
 use Rattle.std.proofs.lemmas.List.{append-nil, map-append}
-use Rattle.wgsl_check.proofs.line.words.Invariants.{Found}
+use Rattle.wgsl_check.proofs.line.words.Invariants.{Resolution}
 use Rattle.wgsl_check.proofs.line.words.Goals as goal
 
 -- what holds of each element holds of one in the middle
@@ -22,18 +22,18 @@ returns-in_default-from_utf8-clause-words c =
 
 -- one more word
 found_more : {A : Type 0} (text : A → List ℕ) (line rest after : List (List ℕ)) (bytes : List ℕ) (words more : List A) (word : A)
-    → Found line (map text words) rest → rest ≡ bytes ∷ after → more ≡ words ++ word ∷ []
-    → (text word ≡ bytes) × IsUtf8 bytes → Found line (map text more) after
+    → Resolution line (map text words) rest → rest ≡ bytes ∷ after → more ≡ words ++ word ∷ []
+    → (text word ≡ bytes) × IsUtf8 bytes → Resolution line (map text more) after
 found_more text line rest after bytes words more word found next pushed read =
     let is : map text more ≡ map text words ++ bytes ∷ [] =
     ap (map text) pushed ∙ (map-append text words (word ∷ []) ∙ ap (λ w. map text words ++ w ∷ []) read.0) in
-    subst (λ ws. Found line ws after) (sym is) (record {
+    subst (λ ws. Resolution line ws after) (sym is) (record {
       parts = found.parts ∙ (ap (λ r. map text words ++ r) next ∙ sym (append_assoc (map text words) (bytes ∷ []) after));
       text = All-push IsUtf8 (map text words) bytes found.text read.1;
     })
 
 -- no word is left
-found_all : (line words rest : List (List ℕ)) → Found line words rest → rest ≡ [] → All IsUtf8 line
+found_all : (line words rest : List (List ℕ)) → Resolution line words rest → rest ≡ [] → All IsUtf8 line
 found_all line words rest found none =
     All-same IsUtf8 line words (found.parts ∙ (ap (λ r. words ++ r) none ∙ append-nil words)) found.text
 

@@ -1,7 +1,7 @@
 use Rattle.std.proofs.Common.{◌↔◌, Some, sym, subst, arith}
-use Rattle.wgsl_rules.specs.Types.{WgslType, array, vec, mat}
-use Rattle.wgsl_rules.specs.Layout.{HasSize}
-use Rattle.wgsl_rules.proofs.MatrixColumns.{columns_law}
+use Rattle.wgsl_rules.specs.types.Types.{WgslType, array, vec, mat}
+use Rattle.wgsl_rules.specs.layout.Layout.{HasSize}
+use Rattle.wgsl_rules.proofs.layout.MatrixColumns.{columns_law}
 use Rattle.wgsl_core.proofs.laws.matrix_columns.Goals as goal
 
 pub returns : goal.returns

@@ -1,4 +1,4 @@
-use Rattle.wgsl_rules.proofs.Lawful.{adds}
+use Rattle.wgsl_rules.proofs.Laws.{adds}
 use Rattle.wgsl_core.proofs.laws.rank_adds.Goals as goal
 
 pub returns : goal.returns

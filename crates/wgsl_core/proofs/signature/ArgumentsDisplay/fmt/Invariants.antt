@@ -1,6 +1,6 @@
 use Rattle.std.proofs.Common.{take, ◌++◌, codes, flat_map}
 use Rattle.std.specs.Fmt.{HasWritten, IsPlainFormatter}
-use Rattle.wgsl_rules.specs.Spelling.{spelling}
+use Rattle.wgsl_rules.specs.types.Spelling.{spelling}
 use Rattle.wgsl_core.specs.View.{view}
 use Rattle.wgsl_core.proofs.signature.ArgumentsDisplay.fmt.Given as goal
 

@@ -1,4 +1,4 @@
-use Rattle.wgsl_rules.proofs.LayoutSteps.{least_is_size}
+use Rattle.wgsl_rules.proofs.layout.Steps.{least_is_size}
 use Rattle.wgsl_core.specs.View.{view}
 use Rattle.wgsl_core.proofs.Views.{not_array}
 use Rattle.wgsl_core.proofs.ty.Type.min_size_of.Goals as goal

@@ -1,8 +1,0 @@
-use Rattle.std.proofs.Common.{All, drop, map}
-use Rattle.wgsl_rules.specs.VectorConstructors.{BringsComponents}
-use Rattle.wgsl_core.specs.View.{view}
-use Rattle.wgsl_calls.proofs.constructor.all_bring_components.Given as goal
-
-abbrev pub invariant-loop-arg : goal.invariant-loop-arg
-invariant-loop-arg l =
-    All (BringsComponents (view l.ty)) (map view (drop l.arg-index l.args)) → All (BringsComponents (view l.ty)) (map view l.args)

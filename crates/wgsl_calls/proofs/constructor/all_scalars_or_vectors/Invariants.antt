@@ -1,7 +1,0 @@
-use Rattle.std.proofs.Common.{All, drop, map}
-use Rattle.wgsl_rules.specs.Kinds.{IsScalarOrVector}
-use Rattle.wgsl_core.specs.View.{view}
-use Rattle.wgsl_calls.proofs.constructor.all_scalars_or_vectors.Given as goal
-
-abbrev pub invariant-loop-arg : goal.invariant-loop-arg
-invariant-loop-arg l = All IsScalarOrVector (map view (drop l.arg-index l.args)) → All IsScalarOrVector (map view l.args)

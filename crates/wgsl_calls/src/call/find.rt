@@ -1,0 +1,54 @@
+// Where a built-in function stands among all.
+ghost use Rattle.std.specs.Prelude.{◌≡◌, ◌↔◌, ◌≤◌, ℕ, Some};
+ghost use Rattle.wgsl_rules.specs.calls.Names.{IsNameAt, IsRising, call_names};
+ghost use Rattle.wgsl_rules.specs.calls.Table.{call_table, rows_named};
+ghost use Rattle.wgsl_rules.specs.calls.Answers.{NamesMatchTable};
+ghost use Rattle.wgsl_calls.specs.Rows.{found_rows};
+
+use crate::call::rows::Rows;
+use crate::call::table::built_ins;
+use std::cmp::Ordering;
+
+/// The names of the built-in functions are sorted by their bytes, and distinct.
+#[tactic(auto, using(wgsl_rules::proofs::calls::RisingNames::names_rise))]
+pub fn names_rise()
+    ensures { IsRising call_names }
+{}
+
+/// Each name is in exactly one part of the table, and the table has no other names.
+#[tactic(auto, using(wgsl_rules::proofs::calls::NamedRows::names_match))]
+pub fn names_match_table()
+    ensures { NamesMatchTable }
+{}
+
+/// The index of a built-in function (WGSL, "Built-in Functions") among their names in the order of the bytes, and the
+/// number of names that were compared with it.
+pub fn find_call(name: &str) -> (Option<usize>, u32)
+    ensures place { (i : ℕ) → (result.0 ≡ Some i) ↔ IsNameAt call_names i name.now }
+    ensures few { result.1 ≤ 8 }
+{
+    let built_ins = built_ins();
+    let mut low = 0;
+    let mut high = built_ins.len();
+    let mut compared = 0;
+    while low < high {
+        let middle = low + (high - low) / 2;
+        compared += 1;
+        match name.cmp(built_ins[middle].0) {
+            Ordering::Equal => return (Some(middle), compared),
+            Ordering::Less => high = middle,
+            Ordering::Greater => low = middle + 1,
+        }
+    }
+    (None, compared)
+}
+
+/// The rows under a name.
+pub fn rows_of(name: &str) -> Option<Rows>
+    ensures { found_rows result ≡ rows_named name.now call_table }
+{
+    match find_call(name).0 {
+        Some(place) => Some(built_ins()[place].1),
+        None => None,
+    }
+}

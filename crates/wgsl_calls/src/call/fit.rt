@@ -1,0 +1,118 @@
+// Whether a row takes a call.
+ghost use Rattle.std.specs.Prelude.{◌≡◌, ◌↔◌, IsTrue, IsSome, None, length, map};
+ghost use Rattle.wgsl_rules.specs.calls.Rows.{shapes_of, AllAre, BeginAs, HaveSameAbstractness, HaveEqualLengths, Holds, Fits};
+ghost use Rattle.wgsl_core.specs.View.{view};
+ghost use Rattle.wgsl_calls.specs.Answers.{signature_of, template_of};
+
+use crate::call::shape::is;
+use wgsl_core::signature::TpltParam;
+use wgsl_core::ty::Type;
+use wgsl_core::ty::form::Form;
+use wgsl_syntax::call::{Arguments, Condition, Row, Shape};
+
+/// A call: its name, its template parameters where it has a template, and the types of its arguments.
+#[derive(Clone, Copy)]
+pub struct Call<'a> {
+    pub name: &'a str,
+    pub template: Option<&'a [TpltParam]>,
+    pub args: &'a [Type],
+}
+
+/// Whether the row takes the call.
+pub fn fits(row: Row, call: Call<'_>) -> bool
+    ensures { IsTrue result ↔ Fits row (signature_of call.entry) }
+{
+    match row {
+        Row::Takes(arguments, _) => !has_template(call) && are(arguments, call.args),
+        Row::TakesAtLeast(arguments, _) => !has_template(call) && begin_as(arguments, call.args),
+        Row::TakesWhere(arguments, condition, _) => {
+            !has_template(call) && are(arguments, call.args) && holds(condition, call.args)
+        }
+        Row::TakesWithTemplate(arguments, _) => has_template(call) && are(arguments, call.args),
+    }
+}
+
+#[tactic(auto, using(crate::proofs::Fitting::none_or_some))]
+fn has_template(call: Call<'_>) -> bool
+    ensures some { IsTrue result ↔ IsSome (template_of call.entry) }
+    ensures none { ¬ IsTrue result ↔ (template_of call.entry ≡ None) }
+{
+    call.template.is_some()
+}
+
+/// Whether there are as many arguments, and each is what is asked for.
+#[tactic(auto, using(crate::proofs::Fitting::as_many))]
+fn are(arguments: Arguments, args: &[Type]) -> bool
+    ensures { IsTrue result ↔ AllAre (shapes_of arguments) (map view args.now) }
+{
+    args.len() == count(arguments) && begin_as(arguments, args)
+}
+
+fn count(arguments: Arguments) -> usize
+    ensures { result ≡ length (shapes_of arguments) }
+{
+    match arguments {
+        Arguments::Nothing => 0,
+        Arguments::One(_) => 1,
+        Arguments::Two(_, _) => 2,
+        Arguments::Three(_, _, _) => 3,
+        Arguments::Four(_, _, _, _) => 4,
+    }
+}
+
+/// Whether the first arguments are what is asked for.
+fn begin_as(arguments: Arguments, args: &[Type]) -> bool
+    ensures { IsTrue result ↔ BeginAs (shapes_of arguments) (map view args.now) }
+{
+    match arguments {
+        Arguments::Nothing => true,
+        Arguments::One(first) => first_are(&[first], args),
+        Arguments::Two(first, second) => first_are(&[first, second], args),
+        Arguments::Three(first, second, third) => first_are(&[first, second, third], args),
+        Arguments::Four(first, second, third, fourth) => {
+            first_are(&[first, second, third, fourth], args)
+        }
+    }
+}
+
+fn first_are(shapes: &[Shape], args: &[Type]) -> bool
+    ensures { IsTrue result ↔ BeginAs shapes.now (map view args.now) }
+{
+    if shapes.len() > args.len() {
+        return false;
+    }
+    for i in 0..shapes.len() {
+        if !is(shapes[i], &args[i]) {
+            return false;
+        }
+    }
+    true
+}
+
+/// Whether the first two arguments meet the condition.
+fn holds(condition: Condition, args: &[Type]) -> bool
+    ensures { IsTrue result ↔ Holds condition (map view args.now) }
+{
+    if args.len() < 2 {
+        return false;
+    }
+    match condition {
+        Condition::EqualLengths => have_equal_lengths(&args[0], &args[1]),
+        Condition::SameAbstractness => have_same_abstractness(&args[0], &args[1]),
+    }
+}
+
+fn have_equal_lengths(first: &Type, second: &Type) -> bool
+    ensures { IsTrue result ↔ HaveEqualLengths (view first.now) (view second.now) }
+{
+    match (first.form(), second.form()) {
+        (Form::Vector(n, _), Form::Vector(m, _)) => n == m,
+        _ => false,
+    }
+}
+
+fn have_same_abstractness(first: &Type, second: &Type) -> bool
+    ensures { IsTrue result ↔ HaveSameAbstractness (view first.now) (view second.now) }
+{
+    first.is_abstract() == second.is_abstract()
+}

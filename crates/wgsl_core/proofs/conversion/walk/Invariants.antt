@@ -1,0 +1,15 @@
+use Rattle.std.proofs.Common.{ℕ}
+use Rattle.wgsl_rules.specs.conversion.Nodes.{rank_from_root}
+use Rattle.wgsl_rules.proofs.conversion.Walks.{Ancestor}
+use Rattle.wgsl_core.specs.Nodes.{node_view}
+use Rattle.wgsl_core.proofs.conversion.walk.Given as goal
+
+-- what was met is as many parents above the target, and the source stands above it, if it does above the target
+abbrev pub invariant-loop-met : goal.invariant-loop-met
+invariant-loop-met l = record {
+  climbed : Ancestor (node_view l.met) (node_view l.target) l.steps;
+  kept : (n : ℕ) → Ancestor (node_view l.source) (node_view l.target) n → (m : ℕ) × Ancestor (node_view l.source) (node_view l.met) m;
+}
+
+abbrev pub decreases-loop-met : goal.decreases-loop-met
+decreases-loop-met l = rank_from_root (node_view l.met)

@@ -1,0 +1,7 @@
+use Rattle.wgsl_rules.proofs.layout.Steps.{other_align}
+use Rattle.wgsl_core.specs.View.{view}
+use Rattle.wgsl_core.specs.Layout.{IsValue}
+use Rattle.wgsl_core.proofs.layout.vector_align.Goals as goal
+
+pub returns-else-n-eq3 : goal.returns-else-n-eq3
+returns-else-n-eq3 c = other_align c.args.n c.from.result (view c.args.ty.now) c.times.result (IsValue c.args.size) c.if-n-eq3.false c.from.ensures c.times.ensures

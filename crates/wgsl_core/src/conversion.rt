@@ -1,0 +1,218 @@
+// Conversion of types.
+ghost use Rattle.std.specs.Prelude.{◌≡◌, ◌≤◌, ◌↔◌, ℕ, IsTrue, IfSome, IfNone, Some, None, option_map};
+ghost use Rattle.wgsl_syntax.specs.declared.result_struct.ResultStruct.{ResultStruct as ResultName};
+ghost use Rattle.wgsl_rules.specs.types.Types.{scalar, vec};
+ghost use Rattle.wgsl_rules.specs.conversion.Conversion.{Converts, ConvertsIn, ConvertsTo, Load};
+ghost use Rattle.wgsl_rules.specs.conversion.Common.{IsCommon};
+ghost use Rattle.wgsl_rules.specs.Laws.{CommonSymmetric};
+ghost use Rattle.wgsl_rules.specs.conversion.Nodes.{Node as RuleNode, type_at, parent_of, rank_from_root};
+ghost use Rattle.wgsl_core.specs.View.{view};
+ghost use Rattle.wgsl_core.specs.Forms.{layer_of};
+ghost use Rattle.wgsl_core.specs.Nodes.{node_view};
+
+mod concrete;
+pub mod lists;
+pub mod typed;
+pub mod value;
+
+use crate::ty::Type;
+use crate::ty::form::Form;
+use crate::ty::result_struct::is_vector_of;
+use wgsl_syntax::layer::Layer;
+use wgsl_syntax::result_struct::{ResultPrecision, ResultStruct};
+use wgsl_syntax::scalar::Scalar;
+
+/// The rank of the conversion from `a` to `b` (WGSL, "Conversion Rank"), or None where `a` doesn't convert to `b`.
+pub fn conversion_rank(a: &Type, b: &Type) -> Option<u32>
+    ensures { (w : ℕ) → (result ≡ Some w) ↔ Converts (view a.now) (view b.now) w }
+{
+    rank_steps(a, b).0
+}
+
+/// The common type of two types (WGSL, "Overload Resolution"): `b` where `a` converts to it, else `a` where `b` converts
+/// to it, else None.
+#[tactic(auto, using(wgsl_rules::proofs::Laws::symmetric))]
+pub fn convert_ty<'a>(a: &'a Type, b: &'a Type) -> Option<&'a Type>
+    ensures common { IsCommon (view a.now) (view b.now) (option_map (λ t. view t.now) result) }
+    ensures symmetric { CommonSymmetric (view a.now) (view b.now) }
+{
+    if a.is_convertible_to(b) {
+        Some(b)
+    } else if b.is_convertible_to(a) {
+        Some(a)
+    } else {
+        None
+    }
+}
+
+impl Type {
+    /// Whether the type converts to `ty`.
+    pub fn is_convertible_to(&self, ty: &Type) -> bool
+        ensures { IsTrue result ↔ ConvertsTo (view self.now) (view ty.now) }
+    {
+        conversion_rank(self, ty).is_some()
+    }
+
+    /// Whether the type converts to a vector of so many components of a scalar.
+    pub fn is_convertible_to_vector(&self, components: u8, of: Scalar) -> bool
+        ensures { IsTrue result ↔ ConvertsTo (view self.now) (vec components (scalar of)) }
+    {
+        match self.layer() {
+            Some((layer, element)) => {
+                layer.is(Layer::Vec(components)) && element.is_convertible_to(&Type::from(of))
+            }
+            None => loads_vector(self, components, of),
+        }
+    }
+}
+
+/// The rank of the conversion from `a` to `b`, and the number of single conversions back from `b` that were taken to
+/// find it; without a rank that number means nothing.
+pub fn rank_steps(a: &Type, b: &Type) -> (Option<u32>, u32)
+    ensures rank { (w : ℕ) → (result.0 ≡ Some w) ↔ Converts (view a.now) (view b.now) w }
+    ensures few { result.1 ≤ 2 }
+    ensures steps { IfSome result.0 (λ w. ConvertsIn (view a.now) (view b.now) w result.1) }
+{
+    match a.layer() {
+        Some((source, element)) => match b.layer() {
+            Some((target, target_element)) => {
+                if source.is(target) {
+                    rank_steps(element, target_element)
+                } else {
+                    (None, 0)
+                }
+            }
+            None => (None, 0),
+        },
+        None => rank_below_layers(a, b),
+    }
+}
+
+fn rank_below_layers(a: &Type, b: &Type) -> (Option<u32>, u32)
+    requires { layer_of (view a.now) ≡ None }
+    ensures rank { (w : ℕ) → (result.0 ≡ Some w) ↔ Converts (view a.now) (view b.now) w }
+    ensures few { result.1 ≤ 2 }
+    ensures steps { IfSome result.0 (λ w. ConvertsIn (view a.now) (view b.now) w result.1) }
+{
+    if a == b || loads(a, b) {
+        return (Some(0), 0);
+    }
+    match node_of(a) {
+        Some(source) => match node_of(b) {
+            Some(target) => walk(source, target),
+            None => (None, 0),
+        },
+        None => (None, 0),
+    }
+}
+
+#[tactic(auto, using(crate::specs::Equality::type_eq_decides))]
+fn loads(a: &Type, b: &Type) -> bool
+    requires { layer_of (view a.now) ≡ None }
+    ensures { IsTrue result ↔ Load (view a.now) (view b.now) }
+{
+    match a.form() {
+        Form::Reference(_, target, access) => access.is_read() && *target == *b,
+        _ => false,
+    }
+}
+
+fn loads_vector(ty: &Type, components: u8, of: Scalar) -> bool
+    requires { layer_of (view ty.now) ≡ None }
+    ensures { IsTrue result ↔ ConvertsTo (view ty.now) (vec components (scalar of)) }
+{
+    match ty.form() {
+        Form::Reference(_, target, access) => access.is_read()
+            && is_vector_of(target, components, of),
+        _ => false,
+    }
+}
+
+/// A type that takes part in single conversions.
+#[derive(Clone, Copy, PartialEq, Eq, Debug)]
+enum Node {
+    Scalar(Scalar),
+    Result(ResultStruct),
+}
+
+fn node_of(ty: &Type) -> Option<Node>
+    ensures { (p : RuleNode) → (option_map node_view result ≡ Some p) ↔ (view ty.now ≡ type_at p) }
+{
+    match ty.form() {
+        Form::Scalar(scalar) => Some(Node::Scalar(scalar)),
+        Form::Struct(s) => Some(Node::Result(s.result_struct()?)),
+        _ => None,
+    }
+}
+
+/// The node from which a single conversion leads to this one.
+fn parent(place: Node) -> Option<Node>
+    ensures { option_map node_view result ≡ parent_of (node_view place) }
+{
+    match place {
+        Node::Scalar(scalar) => match scalar {
+            Scalar::I32 | Scalar::U32 | Scalar::AbstractFloat | Scalar::I64 | Scalar::U64 => {
+                Some(Node::Scalar(Scalar::AbstractInt))
+            }
+            Scalar::F32 | Scalar::F16 => Some(Node::Scalar(Scalar::AbstractFloat)),
+            Scalar::Bool | Scalar::AbstractInt | Scalar::F64 => None,
+        },
+        Node::Result(result_struct) => match result_struct.precision {
+            ResultPrecision::Abstract => None,
+            ResultPrecision::F32 | ResultPrecision::F16 => Some(Node::Result(ResultStruct {
+                function: result_struct.function,
+                shape: result_struct.shape,
+                precision: ResultPrecision::Abstract,
+            })),
+        },
+    }
+}
+
+/// The weight of the single conversions that lead to the node from the one that has no parent.
+fn rank_from_root(place: Node) -> u32
+    ensures { result ≡ rank_from_root (node_view place) }
+{
+    match place {
+        Node::Scalar(scalar) => match scalar {
+            Scalar::I32 => 3,
+            Scalar::U32 => 4,
+            Scalar::AbstractFloat => 5,
+            Scalar::F32 => 6,
+            Scalar::F16 => 7,
+            Scalar::I64 => 8,
+            Scalar::U64 => 9,
+            Scalar::Bool | Scalar::AbstractInt | Scalar::F64 => 0,
+        },
+        Node::Result(result_struct) => match result_struct.precision {
+            ResultPrecision::Abstract => 0,
+            ResultPrecision::F32 => 1,
+            ResultPrecision::F16 => 2,
+        },
+    }
+}
+
+fn is_same(a: Node, b: Node) -> bool
+    ensures { IsTrue result ↔ (node_view a ≡ node_view b) }
+{
+    a == b
+}
+
+/// Walks from the target to its parents until it meets the source.
+fn walk(source: Node, target: Node) -> (Option<u32>, u32)
+    ensures rank { (w : ℕ) → (result.0 ≡ Some w) ↔ Converts (type_at (node_view source)) (type_at (node_view target)) w }
+    ensures few { result.1 ≤ 2 }
+    ensures steps { IfSome result.0 (λ w. ConvertsIn (type_at (node_view source)) (type_at (node_view target)) w result.1) }
+{
+    let mut met = target;
+    let mut steps = 0;
+    while !is_same(met, source) {
+        match parent(met) {
+            Some(above) => {
+                met = above;
+                steps += 1;
+            }
+            None => return (None, steps),
+        }
+    }
+    (Some(rank_from_root(target) - rank_from_root(source)), steps)
+}

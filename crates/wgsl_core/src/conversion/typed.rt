@@ -1,0 +1,82 @@
+// What has a type.
+ghost use Rattle.std.specs.Prelude.{◌≡◌, IfOk};
+ghost use Rattle.wgsl_rules.specs.types.Types.{WgslType};
+ghost use Rattle.wgsl_core.specs.View.{view};
+
+use crate::literal::{Instance, LiteralInstance};
+use crate::ty::Type;
+use std::alloc::{AllocError, Global};
+
+/// What has a type, and a type inside that.
+pub trait Ty {
+    ghost type_of: { Self → WgslType };
+
+    ghost inner_type_of: { Self → WgslType };
+
+    /// Its type.
+    fn ty(&self, alloc: Global) -> Result<Type, AllocError>
+        ensures { IfOk result (λ t. view t ≡ type_of self.now) };
+
+    /// The type inside its type, or its type where nothing is inside.
+    fn inner_ty(&self, alloc: Global) -> Result<Type, AllocError>
+        ensures { IfOk result (λ t. view t ≡ inner_type_of self.now) };
+}
+
+/// A type has itself as its type. Inside it is what an array, a vector, a matrix, an atomic, a pointer, a reference or a
+/// binding array is of.
+impl Ty for Type {
+    ghost use Rattle.wgsl_rules.specs.types.Inner.{inner_of};
+    ghost use Rattle.wgsl_core.specs.View.{view};
+
+    ghost type_of = { view };
+
+    ghost inner_type_of = { λ t. inner_of (view t) };
+
+    fn ty(&self, alloc: Global) -> Result<Type, AllocError> {
+        self.clone(alloc)
+    }
+
+    fn inner_ty(&self, alloc: Global) -> Result<Type, AllocError> {
+        self.inner().clone(alloc)
+    }
+}
+
+impl Ty for LiteralInstance {
+    ghost use Rattle.wgsl_rules.specs.types.Types.{scalar};
+    ghost use Rattle.wgsl_rules.specs.types.Literals.{literal_scalar};
+    ghost use Rattle.wgsl_core.specs.Instances.{literal_view};
+
+    ghost type_of = { λ l. scalar (literal_scalar (literal_view l)) };
+
+    ghost inner_type_of = { λ l. scalar (literal_scalar (literal_view l)) };
+
+    fn ty(&self, _alloc: Global) -> Result<Type, AllocError> {
+        Ok(self.scalar_type())
+    }
+
+    fn inner_ty(&self, _alloc: Global) -> Result<Type, AllocError> {
+        Ok(self.scalar_type())
+    }
+}
+
+impl Ty for Instance {
+    ghost use Rattle.wgsl_rules.specs.types.Types.{scalar};
+    ghost use Rattle.wgsl_rules.specs.types.Literals.{literal_scalar};
+    ghost use Rattle.wgsl_core.specs.Instances.{instance_view};
+
+    ghost type_of = { λ x. scalar (literal_scalar (instance_view x)) };
+
+    ghost inner_type_of = { λ x. scalar (literal_scalar (instance_view x)) };
+
+    fn ty(&self, alloc: Global) -> Result<Type, AllocError> {
+        match self {
+            Instance::Literal(literal) => literal.ty(alloc),
+        }
+    }
+
+    fn inner_ty(&self, alloc: Global) -> Result<Type, AllocError> {
+        match self {
+            Instance::Literal(literal) => literal.inner_ty(alloc),
+        }
+    }
+}

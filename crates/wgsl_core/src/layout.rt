@@ -1,0 +1,280 @@
+// Sizes, alignments and offsets in memory.
+ghost use Rattle.std.specs.Prelude.{◌≡◌, ◌↔◌, IfOk, IfSome};
+ghost use Rattle.wgsl_rules.specs.types.Types.{struct, array, vec, mat};
+ghost use Rattle.wgsl_rules.specs.layout.Layout.{IsAtomicSize, IsTimes, IsStride, IsArraySize, IsAlignOfThree, IsVectorAlign, IsGiven, HasSize, HasAlignment, HasLeastSize, IsStructSize, IsStructAlign, HaveParts, HaveAligns, IsExactly, HasNoSize, LacksSize, AreOffsets};
+ghost use Rattle.wgsl_core.specs.View.{view, struct_view, member_view};
+ghost use Rattle.wgsl_core.specs.Layout.{IsValue, IsSoonestEnd, IsLayout};
+
+use crate::ty::{StructMemberType, StructType, Type};
+use std::alloc::{AllocError, Global};
+
+/// The size and the alignment of a type, where it has them. They come from one walk over the type.
+#[derive(Clone, Copy)]
+struct Layout {
+    size: Option<u32>,
+    align: Option<u32>,
+}
+
+impl Type {
+    /// The size in bytes (WGSL, "Alignment and Size"); an atomic has one, whatever it is of.
+    ///
+    /// None for an abstract number, a pointer, a reference, a texture, a sampler, a binding array, a ray query and an
+    /// acceleration structure; for a vector of a type without a size; for a matrix without an alignment; for an array
+    /// whose number of elements isn't known or passes 4294967295, or whose element has no size, no alignment or the
+    /// alignment 0; for a struct without members, or with a member whose size or alignment comes neither from an
+    /// attribute nor from its type, or whose alignment is 0; and where the size, or an array's stride, passes
+    /// 4294967295.
+    pub fn size_of(&self) -> Option<u32>
+        ensures exact { IsExactly result (HasSize (view self.now)) }
+        ensures none { (result ≡ None) ↔ LacksSize (view self.now) }
+    {
+        self.layout().size
+    }
+
+    /// The least size in bytes: the stride of a runtime-sized array, and the size of every
+    /// other type (WGSL, "Alignment and Size").
+    ///
+    /// None where that stride or size is.
+    pub fn min_size_of(&self) -> Option<u32>
+        ensures { IsExactly result (HasLeastSize (view self.now)) }
+    {
+        match self {
+            Type::Array(ty, count) => least_array_size(ty, *count),
+            _ => self.size_of(),
+        }
+    }
+
+    /// The alignment in bytes, `Some(0)` for a struct without members (WGSL, "Alignment and Size"); an atomic has one,
+    /// whatever it is of.
+    ///
+    /// None for an abstract number, a pointer, a reference, a texture, a sampler, a binding array, a ray query and an
+    /// acceleration structure; for a vector of three, or a matrix of three rows, whose components are not `i32`, `u32`,
+    /// `f32` or `f16`; for any other vector or matrix whose components have no size; for an array of a type without an
+    /// alignment; for a struct with a member whose alignment comes neither from an attribute nor from its type; and
+    /// where it passes 4294967295.
+    pub fn align_of(&self) -> Option<u32>
+        ensures { IsExactly result (HasAlignment (view self.now)) }
+    {
+        self.layout().align
+    }
+
+    #[cycle(layout)]
+    fn layout(&self) -> Layout
+        ensures { IsLayout (view self.now) result }
+    {
+        match self {
+            Type::Bool | Type::I32 | Type::U32 | Type::F32 => layout_of_size(4),
+            Type::F16 => layout_of_size(2),
+            Type::I64 | Type::U64 | Type::F64 => layout_of_size(8),
+            Type::Vec(n, ty) => vector_layout(*n, ty),
+            Type::Mat(c, r, ty) => matrix_layout(*c, *r, ty),
+            Type::Array(ty, count) => array_layout(ty, *count),
+            Type::Atomic(ty) => layout_of_size(atomic_size(ty)),
+            Type::Struct(s) => s.layout(),
+            Type::AbstractInt
+            | Type::AbstractFloat
+            | Type::Ptr(_, _, _)
+            | Type::Ref(_, _, _)
+            | Type::Texture(_)
+            | Type::Sampler(_)
+            | Type::BindingArray(_, _)
+            | Type::RayQuery(_)
+            | Type::AccelerationStructure(_) => Layout {
+                size: None,
+                align: None,
+            },
+        }
+    }
+}
+
+fn layout_of_size(size: u32) -> Layout
+    ensures { result ≡ record { size = Some size; align = Some size } }
+{
+    Layout {
+        size: Some(size),
+        align: Some(size),
+    }
+}
+
+fn atomic_size(ty: &Type) -> u32
+    ensures { IsAtomicSize (view ty.now) result }
+{
+    match ty {
+        Type::I64 | Type::U64 => 8,
+        _ => 4,
+    }
+}
+
+#[cycle(layout)]
+fn vector_layout(n: u8, ty: &Type) -> Layout
+    ensures { IsLayout (vec n (view ty.now)) result }
+{
+    let component = ty.layout();
+    Layout {
+        size: times(u32::from(n), component.size),
+        align: vector_align(n, ty, component.size),
+    }
+}
+
+#[cycle(layout)]
+fn matrix_layout(columns: u8, rows: u8, ty: &Type) -> Layout
+    ensures { IsLayout (mat columns rows (view ty.now)) result }
+{
+    let component = ty.layout();
+    let align = vector_align(rows, ty, component.size);
+    Layout {
+        size: times(u32::from(columns), align),
+        align,
+    }
+}
+
+#[cycle(layout)]
+fn array_layout(ty: &Type, count: Option<usize>) -> Layout
+    ensures { IsLayout (array count (view ty.now)) result }
+{
+    let element = ty.layout();
+    Layout {
+        size: array_size(count, rounded_up(element.size, element.align)),
+        align: element.align,
+    }
+}
+
+fn least_array_size(ty: &Type, count: Option<usize>) -> Option<u32>
+    ensures { IsExactly result (HasLeastSize (array count (view ty.now))) }
+{
+    let element = ty.layout();
+    let stride = rounded_up(element.size, element.align);
+    match count {
+        None => stride,
+        Some(_) => array_size(count, stride),
+    }
+}
+
+fn array_size(count: Option<usize>, stride: Option<u32>) -> Option<u32>
+    ensures { IsExactly result (IsArraySize count (IsValue stride)) }
+{
+    let count = u32::try_from(count?).ok()?;
+    times(count, stride)
+}
+
+fn vector_align(n: u8, ty: &Type, size: Option<u32>) -> Option<u32>
+    ensures { IsExactly result (IsVectorAlign n (view ty.now) (IsValue size)) }
+{
+    if n == 3 {
+        align_of_three(ty)
+    } else {
+        times(u32::from(n), size)
+    }
+}
+
+fn align_of_three(ty: &Type) -> Option<u32>
+    ensures { IsExactly result (IsAlignOfThree (view ty.now)) }
+{
+    match ty {
+        Type::I32 | Type::U32 | Type::F32 => Some(16),
+        Type::F16 => Some(8),
+        _ => None,
+    }
+}
+
+fn times(count: u32, size: Option<u32>) -> Option<u32>
+    ensures { IsExactly result (IsTimes count (IsValue size)) }
+{
+    count.checked_mul(size?)
+}
+
+fn rounded_up(size: Option<u32>, align: Option<u32>) -> Option<u32>
+    ensures { IsExactly result (IsStride (IsValue size) (IsValue align)) }
+{
+    size?.checked_next_multiple_of(align?)
+}
+
+impl StructType {
+    /// The size in bytes (WGSL, "Structure Member Layout"): the smallest that any placement of the members has.
+    ///
+    /// None for the causes for which `offsets` gives none.
+    pub fn size_of(&self) -> Option<u32>
+        ensures exact { IsExactly result (IsStructSize (HaveParts (struct_view self.now).members)) }
+        ensures none { (result ≡ None) ↔ HasNoSize (struct_view self.now).members }
+    {
+        let layout = self.layout();
+        layout.size
+    }
+
+    /// The alignment in bytes (WGSL, "Structure Member Layout"): the greatest of the members, 0 without members.
+    ///
+    /// None for a member whose alignment comes neither from an attribute nor from its type.
+    pub fn align_of(&self) -> Option<u32>
+        ensures { IsExactly result (IsStructAlign (HaveAligns (struct_view self.now).members)) }
+    {
+        let layout = self.layout();
+        layout.align
+    }
+
+    /// The offset of each member in bytes: no placement has a smaller one (WGSL, "Structure Member Layout").
+    ///
+    /// None exactly where the struct has no size: where there is no member; where a member's size or alignment comes
+    /// neither from an attribute nor from its type, or its alignment is 0; and where the size passes 4294967295.
+    pub fn offsets(&self, alloc: Global) -> Result<Option<Vec<u32>>, AllocError>
+        ensures none { HasNoSize (struct_view self.now).members ↔ (result ≡ Ok None) }
+        ensures offsets { IfOk result (λ answer. IfSome answer (λ offsets. AreOffsets (struct_view self.now).members offsets.items)) }
+    {
+        if self.layout().size.is_none() {
+            return Ok(None);
+        }
+        let mut offsets = Vec::with_capacity(alloc, self.members.len())?;
+        let mut end: u32 = 0;
+        for member in &self.members {
+            let layout = member.layout();
+            let size = layout.size.unwrap();
+            let align = layout.align.unwrap();
+            let offset = end.next_multiple_of(align);
+            offsets.push(offset)?;
+            end = offset + size;
+        }
+        Ok(Some(offsets))
+    }
+
+    #[cycle(layout)]
+    fn layout(&self) -> Layout
+        ensures { IsLayout (struct (struct_view self.now).name (struct_view self.now).members) result }
+    {
+        let mut end = Some(0);
+        let mut greatest: u32 = 0;
+        for member in &self.members {
+            let layout = member.layout();
+            let Some(align) = layout.align else {
+                return Layout {
+                    size: None,
+                    align: None,
+                };
+            };
+            end = end_of_member(end, layout.size, align);
+            greatest = greatest.max(align);
+        }
+        Layout {
+            size: rounded_up(end, Some(greatest)),
+            align: Some(greatest),
+        }
+    }
+}
+
+fn end_of_member(end: Option<u32>, size: Option<u32>, align: u32) -> Option<u32>
+    ensures { IsExactly result (IsSoonestEnd end size align) }
+{
+    end?.checked_next_multiple_of(align)?.checked_add(size?)
+}
+
+impl StructMemberType {
+    #[cycle(layout)]
+    fn layout(&self) -> Layout
+        ensures size { let m = member_view self.now in IsExactly result.size (IsGiven m.size (HasSize m.ty)) }
+        ensures align { let m = member_view self.now in IsExactly result.align (IsGiven m.align (HasAlignment m.ty)) }
+    {
+        let ty = self.ty.layout();
+        Layout {
+            size: self.size.or(ty.size),
+            align: self.align.or(ty.align),
+        }
+    }
+}

@@ -1,9 +1,0 @@
--- How the names stand in the table, computed.
-use Rattle.std.proofs.Common.{refl}
-use Rattle.wgsl_rules.specs.CallNames.{call_names}
-use Rattle.wgsl_rules.specs.CallTable.{call_table}
-use Rattle.wgsl_rules.specs.Calls.{NamesMatchTable}
-
-pub names_match : NamesMatchTable
-unfolding call_names call_table
-names_match = record { in_one_part = refl; in_list = refl }

@@ -1,0 +1,7 @@
+pub mod ChosenRows
+pub mod RisingNames
+pub mod UnlistedNames
+pub mod NamedRows
+pub mod Fractions
+pub mod OneAnswer
+pub mod ChosenCalls

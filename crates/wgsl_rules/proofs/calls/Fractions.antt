@@ -1,0 +1,56 @@
+-- What `frexp` and `modf` take is of one shape and one precision.
+use Rattle.std.proofs.Common.{◌≡◌, ℕ, zero, suc, refl, sym, ap, ◌∙◌}
+use Rattle.wgsl_syntax.specs.declared.scalar.Scalar.{Scalar}
+use Rattle.wgsl_syntax.specs.declared.scalar.Scalar.TheVariants.{Bool, F32, F16}
+use Rattle.wgsl_syntax.specs.declared.result_struct.ResultShape.{ResultShape}
+use Rattle.wgsl_syntax.specs.declared.result_struct.ResultShape.TheVariants as shape
+use Rattle.wgsl_syntax.specs.declared.result_struct.ResultPrecision.{ResultPrecision}
+use Rattle.wgsl_syntax.specs.declared.result_struct.ResultPrecision.TheVariants as precision
+use Rattle.wgsl_rules.specs.types.Types.{vec_of, WgslType, scalar, within}
+use Rattle.wgsl_rules.specs.types.ResultStructs.{shaped, float_of}
+
+components : WgslType → ℕ
+components (within (vec_of n) t) = n
+components t = zero
+
+component : WgslType → Scalar
+component (scalar s) = s
+component (within (vec_of n) (scalar s)) = s
+component t = Bool
+
+shape_at : ℕ → ResultShape
+shape_at (suc (suc zero)) = shape.Vec2
+shape_at (suc (suc (suc zero))) = shape.Vec3
+shape_at (suc (suc (suc (suc zero)))) = shape.Vec4
+shape_at n = shape.Scalar
+
+precision_at : Scalar → ResultPrecision
+precision_at F32 = precision.F32
+precision_at F16 = precision.F16
+precision_at s = precision.Abstract
+
+its_shape : (s : ResultShape) (a : Scalar) → shape_at (components (shaped s (scalar a))) ≡ s
+unfolding shape_at components
+its_shape shape.Scalar a = refl
+its_shape shape.Vec2 a = refl
+its_shape shape.Vec3 a = refl
+its_shape shape.Vec4 a = refl
+
+its_component : (s : ResultShape) (a : Scalar) → component (shaped s (scalar a)) ≡ a
+unfolding component
+its_component shape.Scalar a = refl
+its_component shape.Vec2 a = refl
+its_component shape.Vec3 a = refl
+its_component shape.Vec4 a = refl
+
+its_precision : (p : ResultPrecision) → precision_at (float_of p) ≡ p
+unfolding precision_at
+its_precision precision.Abstract = refl
+its_precision precision.F32 = refl
+its_precision precision.F16 = refl
+
+pub one_fraction : (s r : ResultShape) (p q : ResultPrecision) → shaped s (scalar (float_of p)) ≡ shaped r (scalar (float_of q)) → (s ≡ r) × (p ≡ q)
+one_fraction s r p q e = (
+  sym (its_shape s (float_of p)) ∙ (ap (λ t. shape_at (components t)) e ∙ its_shape r (float_of q)),
+  sym (its_precision p) ∙ (ap precision_at (sym (its_component s (float_of p)) ∙ (ap component e ∙ its_component r (float_of q))) ∙ its_precision q),
+)

@@ -1,0 +1,79 @@
+-- A call without a template has one answer.
+use Rattle.std.proofs.Common.{◌≡◌, List, [], ◌∷◌, Option, None, Some, Result, inl, inr, refl, sym, ap, subst, ◌∙◌, option_map}
+use Rattle.std.specs.Option.{option_and_then}
+use Rattle.wgsl_syntax.specs.declared.result_struct.ResultFunction.{ResultFunction}
+use Rattle.wgsl_rules.specs.types.Types.{WgslType, vec}
+use Rattle.wgsl_rules.specs.types.Inner.{inner_of}
+use Rattle.wgsl_rules.specs.conversion.Concrete.{concretized}
+use Rattle.wgsl_rules.specs.types.ResultStructs.{result_struct}
+use Rattle.wgsl_rules.specs.types.Signatures.{Signature}
+use Rattle.wgsl_rules.specs.errors.Refusals.{Refusal}
+use Rattle.wgsl_rules.specs.calls.ResultTypes.{IsResultOf}
+use Rattle.wgsl_syntax.specs.declared.call.Source.{Source}
+use Rattle.wgsl_syntax.specs.declared.call.ReturnType.{ReturnType}
+use Rattle.wgsl_syntax.specs.declared.call.Source.TheVariants.{Argument, Inner, InnerOfInner, Common, InnerOfCommon, CommonOfThree, CommonOfInner, The, SampledAs, Channel}
+use Rattle.wgsl_syntax.specs.declared.call.ReturnType.TheVariants.{Of, Concrete, AsLong, InVector, Transposed, TextureSize, ResultOf, ExchangeResult, RayIntersection, HitPositions, NoValue, ByTemplate}
+use Rattle.wgsl_syntax.specs.declared.call.Row.{Row}
+use Rattle.wgsl_rules.specs.calls.Rows.{return_type_of, first, second, third, IsCommonOf, IsSource, vector_like, IsResultFor, given, IsFromTemplate, IsReturnType}
+use Rattle.wgsl_rules.specs.calls.Answers.{IsAnswerOf}
+use Rattle.wgsl_rules.proofs.conversion.Commons.{common_once}
+use Rattle.wgsl_rules.proofs.calls.Fractions.{one_fraction}
+
+abbrev Answer : Type 0
+Answer = Result (Option WgslType) Refusal
+
+common_of_once : (t u c d : Option WgslType) → IsCommonOf t u c → IsCommonOf t u d → c ≡ d
+common_of_once (Some t) (Some u) c d p q = common_once t u c d p q
+common_of_once (Some t) None c d p q = p ∙ sym q
+common_of_once None u c d p q = p ∙ sym q
+
+then_once : (t u v c d x y : Option WgslType) → IsCommonOf t u c → IsCommonOf t u d → IsCommonOf c v x → IsCommonOf d v y → x ≡ y
+then_once t u v c d x y p q h k =
+    common_of_once d v x y (subst (λ e. IsCommonOf e v x) (common_of_once t u c d p q) h) k
+
+part_once : (p : Source) (ts : List WgslType) (c d : Option WgslType) → IsSource p ts c → IsSource p ts d → c ≡ d
+part_once Argument ts c d p q = p ∙ sym q
+part_once Inner ts c d p q = p ∙ sym q
+part_once InnerOfInner ts c d p q = p ∙ sym q
+part_once Common ts c d p q = common_of_once (first ts) (second ts) c d p q
+part_once InnerOfCommon ts c d p q = p.2 ∙ (ap (option_map inner_of) (common_of_once (first ts) (second ts) p.0 q.0 p.1 q.1) ∙ sym q.2)
+part_once CommonOfThree ts c d p q = then_once (first ts) (second ts) (third ts) p.0 q.0 c d p.1 q.1 p.2 q.2
+part_once CommonOfInner ts c d p q = then_once (option_map inner_of (first ts)) (option_map inner_of (second ts)) (third ts) p.0 q.0 c d p.1 q.1 p.2 q.2
+part_once (The s) ts c d p q = p ∙ sym q
+part_once SampledAs ts c d p q = p ∙ sym q
+part_once Channel ts c d p q = p ∙ sym q
+
+result_once : (f : ResultFunction) (t : WgslType) (c d : Option WgslType) → IsResultOf f t c → IsResultOf f t d → c ≡ d
+result_once f t None None p q = refl
+result_once f t None (Some v) p q = absurd (p q.0 q.1 q.2)
+result_once f t (Some u) None p q = absurd (q p.0 p.1 p.2)
+result_once f t (Some u) (Some v) p q =
+    let e = one_fraction p.0 q.0 p.1 q.1 (sym p.2 ∙ q.2) in
+    ap Some (p.3 ∙ ((λ i. result_struct f (e.0 i) (e.1 i)) ∙ sym q.3))
+
+result_for_once : (f : ResultFunction) (t c d : Option WgslType) → IsResultFor f t c → IsResultFor f t d → c ≡ d
+result_for_once f None c d p q = p ∙ sym q
+result_for_once f (Some t) c d p q = result_once f t c d p q
+
+outcome_once : (o : ReturnType) (c : Signature) (a b : Answer) → c.template ≡ None → IsReturnType o c a → IsReturnType o c b → a ≡ b
+outcome_once (Of x) c a b n p q = p.2 ∙ (ap (given c) (part_once x c.arguments p.0 q.0 p.1 q.1) ∙ sym q.2)
+outcome_once (Concrete x) c a b n p q = p.2 ∙ (ap (λ t. given c (option_map concretized t)) (part_once x c.arguments p.0 q.0 p.1 q.1) ∙ sym q.2)
+outcome_once (AsLong x) c a b n p q =
+    p.2 ∙ (ap (λ t. given c (option_and_then (λ f. option_and_then (vector_like f) t) (first c.arguments))) (part_once x c.arguments p.0 q.0 p.1 q.1) ∙ sym q.2)
+outcome_once (InVector k x) c a b n p q = p.2 ∙ (ap (λ t. given c (option_map (vec k) t)) (part_once x c.arguments p.0 q.0 p.1 q.1) ∙ sym q.2)
+outcome_once Transposed c a b n p q = p ∙ sym q
+outcome_once TextureSize c a b n p q = p ∙ sym q
+outcome_once (ResultOf f) c a b n p q = p.2 ∙ (ap (given c) (result_for_once f (first c.arguments) p.0 q.0 p.1 q.1) ∙ sym q.2)
+outcome_once ExchangeResult c a b n p q = p ∙ sym q
+outcome_once RayIntersection c a b n p q = p ∙ sym q
+outcome_once HitPositions c a b n p q = p ∙ sym q
+outcome_once NoValue c a b n p q = p ∙ sym q
+outcome_once ByTemplate c a b n p q =
+    subst (λ t. IsFromTemplate c t a) n p ∙ sym (subst (λ t. IsFromTemplate c t b) n q)
+
+pub answer_once : (rs : List Row) (c : Signature) (a b : Answer) → c.template ≡ None → IsAnswerOf rs c a → IsAnswerOf rs c b → a ≡ b
+answer_once [] c a b n p q = p ∙ sym q
+answer_once (r ∷ rs) c a b n (inl p) (inl q) = outcome_once (return_type_of r) c a b n p.1 q.1
+answer_once (r ∷ rs) c a b n (inl p) (inr q) = absurd (q.0 p.0)
+answer_once (r ∷ rs) c a b n (inr p) (inl q) = absurd (p.0 q.0)
+answer_once (r ∷ rs) c a b n (inr p) (inr q) = answer_once rs c a b n p.1 q.1

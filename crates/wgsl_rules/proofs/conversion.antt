@@ -1,0 +1,9 @@
+pub mod Steps
+pub mod Order
+pub mod Equations
+pub mod Counts
+pub mod Walks
+pub mod Loading
+pub mod Commons
+pub mod Lists
+pub mod Concretes

@@ -1,0 +1,61 @@
+-- Common types of lists, one type after another.
+use Rattle.std.proofs.Common.{◌≡◌, ◌≢◌, ◌⊎◌, List, [], ◌∷◌, ◌++◌, Option, Some, None, refl, sym, subst, inl, inr}
+use Rattle.wgsl_rules.specs.types.Types.{WgslType}
+use Rattle.wgsl_rules.specs.conversion.Common.{IsCommon, IsLeftCommonFrom, IsLeftCommon, Receives, IsLeastCommon}
+use Rattle.wgsl_rules.specs.Laws.{LeftCommonIsLeast}
+use Rattle.wgsl_rules.specs.conversion.Lists.{IsLeastCommonAnswer, IsCommonOfList, IsCommonOfGiven}
+use Rattle.wgsl_rules.proofs.Laws.{left_is_least}
+
+-- What the left common is
+
+least_is_given : (ts : List WgslType) (r : Option WgslType) → IsLeftCommon ts r → LeftCommonIsLeast ts → IsLeastCommonAnswer ts r
+least_is_given ts r h l = record { some = λ u. (some_to u, λ p. l.one r (Some u) h (l.least_is_left p.0 u p.1)); none = (none_to ts r h l, none_from ts r h l) }
+  where
+    not_empty : (ts : List WgslType) (u : WgslType) → IsLeftCommon ts (Some u) → ts ≢ []
+    not_empty [] u h e = absurd (cc h)
+    not_empty (t ∷ ts) u h e = absurd (cc e)
+
+    some_to : (u : WgslType) → r ≡ Some u → (ts ≢ []) × IsLeastCommon u ts
+    some_to u e = let k = subst (λ r. IsLeftCommon ts r) e h in (not_empty ts u k, l.some u k)
+
+    none_to : (ts : List WgslType) (r : Option WgslType) → IsLeftCommon ts r → LeftCommonIsLeast ts → r ≡ None →
+        (ts ≡ []) ⊎ ((u : WgslType) → ¬ Receives u ts)
+    none_to [] r h l e = inl refl
+    none_to (t ∷ ts) r h l e = inr (l.none (λ q. absurd (cc q)) (subst (λ r. IsLeftCommon (t ∷ ts) r) e h))
+
+    none_from : (ts : List WgslType) (r : Option WgslType) → IsLeftCommon ts r → LeftCommonIsLeast ts →
+        (ts ≡ []) ⊎ ((u : WgslType) → ¬ Receives u ts) → r ≡ None
+    none_from ts None h l p = refl
+    none_from ts (Some u) h l (inl e) = absurd (not_empty ts u h e)
+    none_from ts (Some u) h l (inr n) = absurd (n u (l.some u h).0)
+
+pub common_of_list : (ts : List WgslType) (r : Option WgslType) → IsLeftCommon ts r → IsCommonOfList ts r
+common_of_list ts r h = record { left = h; least = λ vs. least_is_given ts r h (left_is_least ts vs) }
+
+-- One more type
+
+pub one_more : (c : Option WgslType) (ts : List WgslType) (d t : WgslType) (r : Option WgslType) → IsLeftCommonFrom c ts (Some d) → IsCommon d t r →
+    IsLeftCommonFrom c (ts ++ t ∷ []) r
+one_more c [] d t r h k = subst (λ c. IsLeftCommonFrom c (t ∷ []) r) (sym h) (r, k, refl)
+one_more None (u ∷ us) d t r h k = absurd (cc h)
+one_more (Some c) (u ∷ us) d t r h k = (h.0, h.1, one_more h.0 us d t r h.2 k)
+
+-- A list that has none
+
+none_stays : (ts : List WgslType) → IsLeftCommonFrom None ts None
+none_stays [] = refl
+none_stays (t ∷ ts) = refl
+
+none_follows : (c : Option WgslType) (ts more : List WgslType) → IsLeftCommonFrom c ts None → IsLeftCommonFrom c (ts ++ more) None
+none_follows c [] more h = subst (λ c. IsLeftCommonFrom c more None) (sym h) (none_stays more)
+none_follows None (t ∷ ts) more h = refl
+none_follows (Some c) (t ∷ ts) more h = (h.0, h.1, none_follows h.0 ts more h.2)
+
+pub common_of_given : (ts : List WgslType) (r : Option WgslType) → IsLeftCommon ts r → IsCommonOfGiven ts r
+common_of_given ts r h = record { given = common_of_list ts r h; whatever_follows = follows ts r h }
+  where
+    follows : (ts : List WgslType) (r : Option WgslType) → IsLeftCommon ts r → ts ≢ [] → r ≡ None → (more : List WgslType) → IsCommonOfList (ts ++ more) r
+    follows [] r h n e more = absurd (n refl)
+    follows (t ∷ ts) r h n e more =
+        subst (λ r. IsCommonOfList (t ∷ ts ++ more) r) (sym e)
+        (common_of_list (t ∷ (ts ++ more)) None (none_follows (Some t) ts more (subst (λ r. IsLeftCommon (t ∷ ts) r) e h)))

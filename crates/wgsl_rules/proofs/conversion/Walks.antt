@@ -1,0 +1,300 @@
+-- Between nodes a conversion is a walk from the target to its parents, until it meets the source.
+use Rattle.std.proofs.Common.{◌≡◌, ◌≢◌, ℕ, ◌+◌, ◌-◌, ◌<◌, ◌≤◌, ◌⊎◌, ◌↔◌, Some, None, cond, eqb, refl, sym, ◌∙◌, ap, subst, subst₂, inl, inr, arith}
+use Rattle.wgsl_syntax.specs.declared.scalar.Scalar.{Scalar}
+use Rattle.wgsl_syntax.specs.declared.scalar.Scalar.TheVariants.{Bool, AbstractInt, AbstractFloat, I32, U32, F32, F16, I64, U64, F64}
+use Rattle.wgsl_syntax.specs.declared.address.AddressSpace.{AddressSpace}
+use Rattle.wgsl_syntax.specs.declared.address.AccessMode.{AccessMode}
+use Rattle.wgsl_syntax.specs.declared.result_struct.ResultFunction.{ResultFunction}
+use Rattle.wgsl_syntax.specs.declared.result_struct.ResultShape.{ResultShape}
+use Rattle.wgsl_syntax.specs.declared.result_struct.ResultPrecision.{ResultPrecision}
+use Rattle.wgsl_syntax.specs.declared.result_struct.ResultPrecision.TheVariants as precision
+use Rattle.wgsl_rules.specs.types.Types.{WgslType, scalar, within, reference}
+use Rattle.wgsl_rules.specs.types.ResultStructs.{float_of, result_struct}
+use Rattle.wgsl_syntax.specs.Address.{MayRead}
+use Rattle.wgsl_rules.specs.conversion.Conversion.{BaseStep, int_to_float, int_to_i32, int_to_u32, int_to_i64, int_to_u64, float_to_f32, float_to_f16, result_to_f32, result_to_f16, Step, base, inside, Path, PathOf, Load, load, load_inside, Converts, ConvertsIn}
+use Rattle.wgsl_rules.specs.conversion.Nodes.{Node, at_scalar, at_result, type_at, parent_of, rank_from_root}
+use Rattle.wgsl_rules.proofs.conversion.Steps.{float_depth, depth, depth-result_struct, height, height_small, step_height, function_of, function_of-result_struct, shape_of, shape_of-result_struct, precision_at, IsLeaf, result_leaf}
+use Rattle.wgsl_rules.proofs.conversion.Order.{Above, here, further, above_to_within, along_above}
+use Rattle.wgsl_rules.proofs.conversion.Counts.{counted_above, above_counted, counted_converts}
+
+-- Nodes
+
+abbrev precision_in : ℕ → ResultPrecision
+precision_in d = cond (eqb d 0) precision.Abstract (precision_at d)
+
+precision_in-depth : (p : ResultPrecision) → precision_in (float_depth (float_of p)) ≡ p
+precision_in-depth precision.Abstract = refl
+precision_in-depth precision.F32 = refl
+precision_in-depth precision.F16 = refl
+
+scalar_no_result : (r : Scalar) (f : ResultFunction) (s : ResultShape) (p : ResultPrecision) → scalar r ≡ result_struct f s p → ⊥
+unfolding result_struct
+scalar_no_result r f s p e = cc e
+
+-- one node has one type
+pub type_at_once : (p q : Node) → type_at p ≡ type_at q → p ≡ q
+type_at_once (at_scalar s) (at_scalar r) e = let k : s ≡ r = cc e in ap at_scalar k
+type_at_once (at_scalar r) (at_result f s p) e = absurd (scalar_no_result r f s p e)
+type_at_once (at_result f s p) (at_scalar r) e = absurd (scalar_no_result r f s p (sym e))
+type_at_once (at_result f s p) (at_result g r q) e =
+    let ef : f ≡ g = sym (function_of-result_struct f s p) ∙ ap function_of e ∙ function_of-result_struct g r q in
+    let es : s ≡ r = sym (shape_of-result_struct f s p) ∙ ap shape_of e ∙ shape_of-result_struct g r q in
+    let ed : float_depth (float_of p) ≡ float_depth (float_of q) = sym (depth-result_struct f s p) ∙ ap depth e ∙ depth-result_struct g r q in
+    let ep : p ≡ q = sym (precision_in-depth p) ∙ ap precision_in ed ∙ precision_in-depth q in
+    cc (ef, es, ep)
+
+pub depth-type_at : (p : Node) → depth (type_at p) ≡ rank_from_root p
+depth-type_at (at_scalar Bool) = refl
+depth-type_at (at_scalar AbstractInt) = refl
+depth-type_at (at_scalar AbstractFloat) = refl
+depth-type_at (at_scalar I32) = refl
+depth-type_at (at_scalar U32) = refl
+depth-type_at (at_scalar F32) = refl
+depth-type_at (at_scalar F16) = refl
+depth-type_at (at_scalar I64) = refl
+depth-type_at (at_scalar U64) = refl
+depth-type_at (at_scalar F64) = refl
+depth-type_at (at_result f s precision.Abstract) = depth-result_struct f s precision.Abstract
+depth-type_at (at_result f s precision.F32) = depth-result_struct f s precision.F32
+depth-type_at (at_result f s precision.F16) = depth-result_struct f s precision.F16
+
+place_leaf : (p : Node) → IsLeaf (type_at p)
+place_leaf (at_scalar s) = tt
+place_leaf (at_result f s p) = result_leaf f s p
+
+-- Steps lead from a parent to its child
+
+-- the nodes that a step is between
+record Between (t u : WgslType) (w : ℕ) : Type 0 where
+  from : Node
+  to : Node
+  begins : t ≡ type_at from
+  ends : u ≡ type_at to
+  parent : parent_of to ≡ Some from
+  weighs : rank_from_root to ≡ rank_from_root from + w
+
+base_between : {t u : WgslType} {w : ℕ} → BaseStep t u w → Between t u w
+base_between int_to_float = record { from = at_scalar AbstractInt; to = at_scalar AbstractFloat; begins = refl; ends = refl; parent = refl; weighs = refl }
+base_between int_to_i32 = record { from = at_scalar AbstractInt; to = at_scalar I32; begins = refl; ends = refl; parent = refl; weighs = refl }
+base_between int_to_u32 = record { from = at_scalar AbstractInt; to = at_scalar U32; begins = refl; ends = refl; parent = refl; weighs = refl }
+base_between int_to_i64 = record { from = at_scalar AbstractInt; to = at_scalar I64; begins = refl; ends = refl; parent = refl; weighs = refl }
+base_between int_to_u64 = record { from = at_scalar AbstractInt; to = at_scalar U64; begins = refl; ends = refl; parent = refl; weighs = refl }
+base_between float_to_f32 = record { from = at_scalar AbstractFloat; to = at_scalar F32; begins = refl; ends = refl; parent = refl; weighs = refl }
+base_between float_to_f16 = record { from = at_scalar AbstractFloat; to = at_scalar F16; begins = refl; ends = refl; parent = refl; weighs = refl }
+base_between (result_to_f32 f s) = record { from = at_result f s precision.Abstract; to = at_result f s precision.F32; begins = refl; ends = refl; parent = refl; weighs = refl }
+base_between (result_to_f16 f s) = record { from = at_result f s precision.Abstract; to = at_result f s precision.F16; begins = refl; ends = refl; parent = refl; weighs = refl }
+
+pub parent_below : (p q : Node) → parent_of p ≡ Some q → rank_from_root q < rank_from_root p
+parent_below (at_scalar I32) q e = let k : at_scalar AbstractInt ≡ q = cc e in subst (λ q. rank_from_root q < 3) k (omega arith)
+parent_below (at_scalar U32) q e = let k : at_scalar AbstractInt ≡ q = cc e in subst (λ q. rank_from_root q < 4) k (omega arith)
+parent_below (at_scalar I64) q e = let k : at_scalar AbstractInt ≡ q = cc e in subst (λ q. rank_from_root q < 8) k (omega arith)
+parent_below (at_scalar U64) q e = let k : at_scalar AbstractInt ≡ q = cc e in subst (λ q. rank_from_root q < 9) k (omega arith)
+parent_below (at_scalar AbstractFloat) q e = let k : at_scalar AbstractInt ≡ q = cc e in subst (λ q. rank_from_root q < 5) k (omega arith)
+parent_below (at_scalar F32) q e = let k : at_scalar AbstractFloat ≡ q = cc e in subst (λ q. rank_from_root q < 6) k (omega arith)
+parent_below (at_scalar F16) q e = let k : at_scalar AbstractFloat ≡ q = cc e in subst (λ q. rank_from_root q < 7) k (omega arith)
+parent_below (at_scalar s) q e = absurd (cc e)
+parent_below (at_result f s precision.F32) q e = let k : at_result f s precision.Abstract ≡ q = cc e in subst (λ q. rank_from_root q < 1) k (omega arith)
+parent_below (at_result f s precision.F16) q e = let k : at_result f s precision.Abstract ≡ q = cc e in subst (λ q. rank_from_root q < 2) k (omega arith)
+parent_below (at_result f s precision.Abstract) q e = absurd (cc e)
+
+abbrev ParentStep : Node → Node → Type 0
+ParentStep p q = Step (type_at q) (type_at p) (rank_from_root p - rank_from_root q)
+
+pub parent_step : (p q : Node) → parent_of p ≡ Some q → Step (type_at q) (type_at p) (rank_from_root p - rank_from_root q)
+parent_step (at_scalar I32) q e = let k : at_scalar AbstractInt ≡ q = cc e in subst (λ q. ParentStep (at_scalar I32) q) k (base int_to_i32)
+parent_step (at_scalar U32) q e = let k : at_scalar AbstractInt ≡ q = cc e in subst (λ q. ParentStep (at_scalar U32) q) k (base int_to_u32)
+parent_step (at_scalar I64) q e = let k : at_scalar AbstractInt ≡ q = cc e in subst (λ q. ParentStep (at_scalar I64) q) k (base int_to_i64)
+parent_step (at_scalar U64) q e = let k : at_scalar AbstractInt ≡ q = cc e in subst (λ q. ParentStep (at_scalar U64) q) k (base int_to_u64)
+parent_step (at_scalar AbstractFloat) q e = let k : at_scalar AbstractInt ≡ q = cc e in subst (λ q. ParentStep (at_scalar AbstractFloat) q) k (base int_to_float)
+parent_step (at_scalar F32) q e = let k : at_scalar AbstractFloat ≡ q = cc e in subst (λ q. ParentStep (at_scalar F32) q) k (base float_to_f32)
+parent_step (at_scalar F16) q e = let k : at_scalar AbstractFloat ≡ q = cc e in subst (λ q. ParentStep (at_scalar F16) q) k (base float_to_f16)
+parent_step (at_scalar s) q e = absurd (cc e)
+parent_step (at_result f s precision.F32) q e = let k : at_result f s precision.Abstract ≡ q = cc e in subst (λ q. ParentStep (at_result f s precision.F32) q) k (base (result_to_f32 f s))
+parent_step (at_result f s precision.F16) q e = let k : at_result f s precision.Abstract ≡ q = cc e in subst (λ q. ParentStep (at_result f s precision.F16) q) k (base (result_to_f16 f s))
+parent_step (at_result f s precision.Abstract) q e = absurd (cc e)
+
+-- a step to a node is one from its parent
+pub step_to_place : {t u : WgslType} {w : ℕ} → Step t u w → (p : Node) → u ≡ type_at p →
+    (q : Node) × (t ≡ type_at q) × (parent_of p ≡ Some q) × (rank_from_root p ≡ rank_from_root q + w)
+step_to_place {t} {u} {w} (base b) p e =
+    let k = base_between b in
+    let m : p ≡ k.to = type_at_once p k.to (sym e ∙ k.ends) in
+    (k.from, k.begins, ap parent_of m ∙ k.parent, ap rank_from_root m ∙ k.weighs)
+step_to_place (inside l s) p e = absurd (subst IsLeaf (sym e) (place_leaf p))
+
+-- none leads to a node without a parent
+pub no_step_to_root : (p : Node) → parent_of p ≡ None → (t : WgslType) (w : ℕ) → ¬ Step t (type_at p) w
+no_step_to_root p e t w s = let k = step_to_place s p refl in let d : None ≡ Some k.0 = sym e ∙ k.2 in cc d
+
+-- Ancestors
+
+-- the n-fold parent of the second node is the first
+pub data Ancestor : Node → Node → ℕ → Type 0 where
+  itself : {p : Node} → Ancestor p p 0
+  past : {p q r : Node} {n : ℕ} → Ancestor p q n → parent_of r ≡ Some q → Ancestor p r (n + 1)
+
+-- a parent of the first node is one more away
+pub ancestor_up : {o p q : Node} {n : ℕ} → parent_of p ≡ Some o → Ancestor p q n → Ancestor o q (n + 1)
+ancestor_up e itself = past itself e
+ancestor_up e (past a f) = past (ancestor_up e a) f
+
+pub ancestor_trans : {p q r : Node} {n m : ℕ} → Ancestor p q n → Ancestor q r m → Ancestor p r (m + n)
+ancestor_trans {p} {q} {n = n} a itself = let e : n ≡ 0 + n = omega arith in subst (λ n. Ancestor p q n) e a
+ancestor_trans {p} {n = n} a (past {r = r} {n = m} b e) =
+    let k : (m + n) + 1 ≡ (m + 1) + n = omega arith in
+    subst (λ n. Ancestor p r n) k (past (ancestor_trans a b) e)
+
+pub ancestor_above : {p q : Node} {n : ℕ} → Ancestor p q n → Above (type_at p) (type_at q)
+ancestor_above itself = here
+ancestor_above (past {q = q} {r = r} a e) = further (ancestor_above a) (parent_step r q e)
+
+ancestor_height : {p q : Node} {n : ℕ} → Ancestor p q n → height (type_at q) ≡ height (type_at p) + n
+ancestor_height itself = omega arith
+ancestor_height (past {q = q} {r = r} a e) = omega (arith, ancestor_height a, step_height (parent_step r q e))
+
+pub ancestor_depth : {p q : Node} {n : ℕ} → Ancestor p q n → rank_from_root p ≤ rank_from_root q
+ancestor_depth itself = omega arith
+ancestor_depth (past {q = q} {r = r} a e) = omega (arith, ancestor_depth a, parent_below r q e)
+
+pub ancestor_short : {p q : Node} {n : ℕ} → Ancestor p q n → n ≤ 2
+ancestor_short {p} {q} a = omega (arith, ancestor_height a, height_small (type_at q))
+
+pub ancestor_once : {p q : Node} {n m : ℕ} → Ancestor p q n → Ancestor p q m → n ≡ m
+ancestor_once a b = omega (arith, ancestor_height a, ancestor_height b)
+
+-- what is above a node is a node
+pub above_place : {t u : WgslType} → Above t u → (q : Node) → u ≡ type_at q → (p : Node) × (n : ℕ) × (t ≡ type_at p) × Ancestor p q n
+above_place here q e = (q, 0, e, itself)
+above_place (further a s) q e =
+    let k = step_to_place s q e in
+    let m = above_place a k.0 k.1 in
+    (m.0, m.1 + 1, m.2, past m.3 k.2)
+
+pub above_ancestor : (p q : Node) → Above (type_at p) (type_at q) → (n : ℕ) × Ancestor p q n
+above_ancestor p q a =
+    let k = above_place a q refl in
+    (k.1, subst (λ p. Ancestor p q k.1) (sym (type_at_once p k.0 k.2)) k.3)
+
+-- The walk, one parent at a time
+
+pub ancestor_here : {p : Node} {n : ℕ} → Ancestor p p n → n ≡ 0
+ancestor_here a = ancestor_once a itself
+
+pub ancestor_parent : {p q r : Node} {n : ℕ} → p ≢ q → parent_of q ≡ Some r → Ancestor p q n → (m : ℕ) × (n ≡ m + 1) × Ancestor p r m
+ancestor_parent d e itself = absurd (d refl)
+ancestor_parent {p} d e (past {q = q} {n = n} a f) = (n, refl, let k : Some q ≡ _ = sym f ∙ e in subst (λ q. Ancestor p q n) (cc k) a)
+
+pub ancestor_root : {p q : Node} {n : ℕ} → p ≢ q → parent_of q ≡ None → ¬ Ancestor p q n
+ancestor_root d e itself = d refl
+ancestor_root d e (past {q = q} a f) = let k : None ≡ Some q = sym e ∙ f in cc k
+
+-- Conversion between nodes
+
+load_to_leaf : {t u : WgslType} → Load t u → IsLeaf t → ⊥
+load_to_leaf (load s t m h) k = k
+load_to_leaf (load_inside l h) k = k
+
+pub ancestor_path : {p q : Node} {n : ℕ} → Ancestor p q n → PathOf (type_at p) (type_at q) (rank_from_root q - rank_from_root p) n
+ancestor_path {p} {q} a = above_counted (ancestor_above a) (omega (arith, depth-type_at p, depth-type_at q, ancestor_depth a)) (ancestor_height a)
+
+pub converts_ancestor : (p q : Node) (w : ℕ) → Converts (type_at p) (type_at q) w ↔ ((n : ℕ) × Ancestor p q n) × (w ≡ rank_from_root q - rank_from_root p)
+converts_ancestor p q w = (to, back)
+  where
+    to : Converts (type_at p) (type_at q) w → ((n : ℕ) × Ancestor p q n) × (w ≡ rank_from_root q - rank_from_root p)
+    to (inl a) =
+        let k = along_above a in
+        (above_ancestor p q k.0, omega (arith, k.1, depth-type_at p, depth-type_at q))
+    to (inr h) = absurd (load_to_leaf h.0 (place_leaf p))
+
+    back : ((n : ℕ) × Ancestor p q n) × (w ≡ rank_from_root q - rank_from_root p) → Converts (type_at p) (type_at q) w
+    back h = inl (subst (λ w. Path (type_at p) (type_at q) w) (sym h.1) (ancestor_path h.0.1).path)
+
+pub converts_in_ancestor : (p q : Node) (w n : ℕ) → ConvertsIn (type_at p) (type_at q) w n ↔ Ancestor p q n × (w ≡ rank_from_root q - rank_from_root p)
+converts_in_ancestor p q w n = (to, back)
+  where
+    to : ConvertsIn (type_at p) (type_at q) w n → Ancestor p q n × (w ≡ rank_from_root q - rank_from_root p)
+    to (inl a) =
+        let k = (converts_ancestor p q w).0 (inl a.path) in
+        let m : k.0.0 ≡ n = omega (arith, (counted_above a).2, ancestor_height k.0.1) in
+        (subst (λ n. Ancestor p q n) m k.0.1, k.1)
+    to (inr h) = absurd (load_to_leaf h.0 (place_leaf p))
+
+    back : Ancestor p q n × (w ≡ rank_from_root q - rank_from_root p) → ConvertsIn (type_at p) (type_at q) w n
+    back h = inl (subst (λ w. PathOf (type_at p) (type_at q) w n) (sym h.1) (ancestor_path h.0))
+
+-- the walk: a node that isn't the target converts to it through the target's parent
+pub converts_in_parent : (p q r : Node) (w n : ℕ) → p ≢ q → parent_of q ≡ Some r →
+    ConvertsIn (type_at p) (type_at q) w n ↔ (v : ℕ) × (m : ℕ) × ConvertsIn (type_at p) (type_at r) v m × (w ≡ v + (rank_from_root q - rank_from_root r)) × (n ≡ m + 1)
+converts_in_parent p q r w n d e = (to, back)
+  where
+    to : ConvertsIn (type_at p) (type_at q) w n → (v : ℕ) × (m : ℕ) × ConvertsIn (type_at p) (type_at r) v m × (w ≡ v + (rank_from_root q - rank_from_root r)) × (n ≡ m + 1)
+    to h =
+        let k = (converts_in_ancestor p q w n).0 h in
+        let m = ancestor_parent d e k.0 in (
+          rank_from_root r - rank_from_root p,
+          m.0,
+          (converts_in_ancestor p r (rank_from_root r - rank_from_root p) m.0).1 (m.2, refl),
+          omega (arith, k.1, ancestor_depth m.2, parent_below q r e),
+          m.1,
+        )
+
+    back : ((v : ℕ) × (m : ℕ) × ConvertsIn (type_at p) (type_at r) v m × (w ≡ v + (rank_from_root q - rank_from_root r)) × (n ≡ m + 1)) → ConvertsIn (type_at p) (type_at q) w n
+    back h =
+        let k = (converts_in_ancestor p r h.0 h.1).0 h.2 in
+        (converts_in_ancestor p q w n).1 (
+          subst (λ n. Ancestor p q n) (sym h.4) (past k.0 e),
+          omega (arith, k.1, h.3, ancestor_depth k.0, parent_below q r e),
+        )
+
+-- and not at all to one without a parent
+pub converts_in_root : (p q : Node) (w n : ℕ) → p ≢ q → parent_of q ≡ None → ¬ ConvertsIn (type_at p) (type_at q) w n
+converts_in_root p q w n d e h = ancestor_root d e ((converts_in_ancestor p q w n).0 h).0
+
+-- What is left once equal layers are off
+
+abbrev pub HaveEqualLayers : WgslType → WgslType → Type 0
+HaveEqualLayers (within l t) (within k u) = l ≡ k
+HaveEqualLayers t u = ⊥
+
+abbrev ArePlaces : WgslType → WgslType → Type 0
+ArePlaces t u = (p : Node) × (q : Node) × (t ≡ type_at p) × (u ≡ type_at q)
+
+above_places : {t u : WgslType} → Above t u → ¬ HaveEqualLayers t u → t ≢ u → ArePlaces t u
+above_places here n d = absurd (d refl)
+above_places (further a (base b)) n d =
+    let k = base_between b in
+    let m = above_place (further a (base b)) k.to k.ends in
+    (m.0, k.to, m.2, k.ends)
+above_places {t} (further a (inside {u = u} l s)) n d =
+    let k = above_to_within (further a (inside l s)) l u refl in
+    absurd (n (subst (λ t. HaveEqualLayers t (within l u)) (sym k.1) refl))
+
+pub converts_places : (t u : WgslType) (w : ℕ) → ¬ HaveEqualLayers t u → t ≢ u → ¬ Load t u → Converts t u w →
+    (p : Node) × (q : Node) × (t ≡ type_at p) × (u ≡ type_at q)
+converts_places t u w n d m (inl a) = above_places (along_above a).0 n d
+converts_places t u w n d m (inr h) = absurd (m h.0)
+
+pub converts_in_places : (t u : WgslType) (w n : ℕ) → ¬ HaveEqualLayers t u → t ≢ u → ¬ Load t u → ConvertsIn t u w n →
+    (p : Node) × (q : Node) × (t ≡ type_at p) × (u ≡ type_at q)
+converts_in_places t u w n e d m h = converts_places t u w e d m (counted_converts h)
+
+-- where there is no equal layer left, a load is one of a reference
+pub load_bare : {t u : WgslType} → ¬ HaveEqualLayers t u → Load t u → (s : AddressSpace) × (m : AccessMode) × (t ≡ reference s u m) × MayRead m
+load_bare n (load s t m h) = (s, m, refl, h)
+load_bare n (load_inside l h) = absurd (n refl)
+
+-- without equal layers two types are one, or a load leads from the one to the other, or the walk between their nodes
+pub converts_in_bare : (t u : WgslType) (w n : ℕ) → ¬ HaveEqualLayers t u → t ≢ u → ConvertsIn t u w n ↔
+    (Load t u × (w ≡ 0) × (n ≡ 0) ⊎ ((p : Node) × (q : Node) × (t ≡ type_at p) × (u ≡ type_at q) × Ancestor p q n × (w ≡ rank_from_root q - rank_from_root p)))
+converts_in_bare t u w n e d = (to, back)
+  where
+    to : ConvertsIn t u w n → Load t u × (w ≡ 0) × (n ≡ 0) ⊎ ((p : Node) × (q : Node) × (t ≡ type_at p) × (u ≡ type_at q) × Ancestor p q n × (w ≡ rank_from_root q - rank_from_root p))
+    to (inl a) =
+        let k = above_places (counted_above a).0 e d in
+        let m = (converts_in_ancestor k.0 k.1 w n).0 (inl (subst₂ (λ t u. PathOf t u w n) k.2 k.3 a)) in
+        inr (k.0, k.1, k.2, k.3, m.0, m.1)
+    to (inr h) = inl h
+
+    back : (Load t u × (w ≡ 0) × (n ≡ 0) ⊎ ((p : Node) × (q : Node) × (t ≡ type_at p) × (u ≡ type_at q) × Ancestor p q n × (w ≡ rank_from_root q - rank_from_root p))) → ConvertsIn t u w n
+    back (inl h) = inr h
+    back (inr h) = subst₂ (λ t u. ConvertsIn t u w n) (sym h.2) (sym h.3) ((converts_in_ancestor h.0 h.1 w n).1 (h.4, h.5))

@@ -1,0 +1,7 @@
+pub mod Steps
+pub mod Placing
+pub mod OneSize
+pub mod StructSizes
+pub mod StructAligns
+pub mod Offsets
+pub mod MatrixColumns

@@ -1,0 +1,7 @@
+pub mod Families
+pub mod Forms
+pub mod Choices
+pub mod Groups
+pub mod Rows
+pub mod ChosenRows
+pub mod Unary

@@ -1,0 +1,219 @@
+-- The choice among the candidates of a name: there is one wherever some candidate takes the operands, and never two.
+use Rattle.std.proofs.Common.{◌≡◌, ℕ, ◌⊎◌, List, [], ◌∷◌, Some, None, All, refl, sym, ◌∙◌, ap, subst, inl, inr, arith}
+use Rattle.wgsl_syntax.specs.declared.scalar.Scalar.{Scalar}
+use Rattle.wgsl_syntax.specs.declared.scalar.Scalar.TheVariants.{Bool}
+use Rattle.wgsl_rules.specs.types.Types.{vec_of, WgslType, scalar, within, vec, mat}
+use Rattle.wgsl_rules.specs.conversion.Conversion.{IsValueType}
+use Rattle.wgsl_rules.specs.conversion.Common.{IsLeftCommon}
+use Rattle.wgsl_syntax.specs.declared.operator.BinaryOperator.{BinaryOperator}
+use Rattle.wgsl_syntax.specs.declared.operator.BinaryOperator.TheVariants.{ShortCircuitOr, ShortCircuitAnd, Addition, Subtraction, Multiplication, Division, Remainder, Equality, Inequality, LessThan, LessThanEqual, GreaterThan, GreaterThanEqual, BitwiseOr, BitwiseAnd, BitwiseXor, ShiftLeft, ShiftRight}
+use Rattle.wgsl_rules.specs.operators.Candidates.{Name, operator, min, max, clamp, select, IsArithmetic, IsSum, IsComparison, IsLogical, IsBitwise, IsOrAnd, IsShift, IsMinMax, IsCandidate, scalars, vectors, scalar_vector, vector_scalar, matrices, scalar_matrix, matrix_scalar, vector_matrix, matrix_vector, matrix_matrix, compared, compared_vectors, logical, bits, bits_vectors, bools_vectors, shifted, shifted_vectors, of_two, of_three, products, either, each_either}
+use Rattle.wgsl_rules.specs.types.Kinds.{IsInteger, IsNumericOrVector, IsScalarOrVector}
+use Rattle.wgsl_rules.specs.operators.Choice.{HasRanks, Takes, IsNowhereMore, IsSomewhereLess, IsChoice}
+use Rattle.wgsl_rules.proofs.operators.Families.{fill, fill_all, IsPut, IsLeastOf, least_of, none_of, least_of_taken, taken_puts}
+use Rattle.wgsl_rules.proofs.operators.Forms.{Admits, above_admits, Outer, plain, layer, outers, ranked_outers, Form, arithmetic, sums, matrix_products, comparisons, shifts, or_else, form_of}
+
+pub record Belongs (n : Name) (us : List WgslType) (r : WgslType) : Type 0 where
+  pub form : Form n
+  pub at : WgslType
+  pub known : form_of n (outers us) ≡ Some form
+  pub operands : us ≡ fill_all form.slots at
+  pub result : r ≡ fill form.gives at
+  pub admitted : Admits form.kind at
+
+pub arithmetic_form : (o : BinaryOperator) (h : IsArithmetic o) (os : List Outer) (f : Form (operator o)) → arithmetic o h os ≡ Some f → form_of (operator o) os ≡ Some f
+arithmetic_form Addition h os f e = ap (λ a. or_else a (sums Addition tt os)) e
+arithmetic_form Subtraction h os f e = ap (λ a. or_else a (sums Subtraction tt os)) e
+arithmetic_form Multiplication h os f e = ap (λ a. or_else a (matrix_products os)) e
+arithmetic_form Division h os f e = e
+arithmetic_form Remainder h os f e = e
+arithmetic_form o h os f e = absurd h
+
+pub comparison_form : (o : BinaryOperator) (h : IsComparison o) (os : List Outer) (f : Form (operator o)) → comparisons o h os ≡ Some f → form_of (operator o) os ≡ Some f
+comparison_form Equality h os f e = e
+comparison_form Inequality h os f e = e
+comparison_form LessThan h os f e = e
+comparison_form LessThanEqual h os f e = e
+comparison_form GreaterThan h os f e = e
+comparison_form GreaterThanEqual h os f e = e
+comparison_form o h os f e = absurd h
+
+pub shift_form : (o : BinaryOperator) (h : IsShift o) (os : List Outer) (f : Form (operator o)) → shifts o h os ≡ Some f → form_of (operator o) os ≡ Some f
+shift_form ShiftLeft h os f e = e
+shift_form ShiftRight h os f e = e
+shift_form o h os f e = absurd h
+
+belongs : {n : Name} {us : List WgslType} {r : WgslType} → IsCandidate n us r → Belongs n us r
+belongs (scalars o h s) = record { form = _; at = scalar s; known = arithmetic_form o h (plain ∷ plain ∷ []) _ refl; operands = refl; result = refl; admitted = tt }
+belongs (vectors o h n e) = record { form = _; at = e; known = arithmetic_form o h (layer (vec_of n) ∷ layer (vec_of n) ∷ []) _ refl; operands = refl; result = refl; admitted = tt }
+belongs (scalar_vector o h s n) = record { form = _; at = scalar s; known = arithmetic_form o h (plain ∷ layer (vec_of n) ∷ []) _ refl; operands = refl; result = refl; admitted = tt }
+belongs (vector_scalar o h s n) = record { form = _; at = scalar s; known = arithmetic_form o h (layer (vec_of n) ∷ plain ∷ []) _ refl; operands = refl; result = refl; admitted = tt }
+belongs (matrices o h c r e) = sums_belong o h c r e
+  where
+    sums_belong : (o : BinaryOperator) → IsSum o → (c r : ℕ) (e : WgslType) → Belongs (operator o) (mat c r e ∷ mat c r e ∷ []) (mat c r e)
+    sums_belong Addition h c r e = record { form = _; at = e; known = refl; operands = refl; result = refl; admitted = tt }
+    sums_belong Subtraction h c r e = record { form = _; at = e; known = refl; operands = refl; result = refl; admitted = tt }
+    sums_belong o h c r e = absurd h
+belongs (scalar_matrix s c r) = record { form = _; at = scalar s; known = refl; operands = refl; result = refl; admitted = tt }
+belongs (matrix_scalar s c r) = record { form = _; at = scalar s; known = refl; operands = refl; result = refl; admitted = tt }
+belongs (vector_matrix c r e) = record { form = _; at = e; known = refl; operands = refl; result = refl; admitted = tt }
+belongs (matrix_vector c r e) = record { form = _; at = e; known = refl; operands = refl; result = refl; admitted = tt }
+belongs (matrix_matrix k c r e) = record { form = _; at = e; known = refl; operands = refl; result = refl; admitted = tt }
+belongs (compared o h s) = record { form = _; at = scalar s; known = comparison_form o h (plain ∷ plain ∷ []) _ refl; operands = refl; result = refl; admitted = tt }
+belongs (compared_vectors o h n e) = record { form = _; at = e; known = comparison_form o h (layer (vec_of n) ∷ layer (vec_of n) ∷ []) _ refl; operands = refl; result = refl; admitted = tt }
+belongs (logical o h) = logical_belongs o h
+  where
+    logical_belongs : (o : BinaryOperator) → IsLogical o → Belongs (operator o) (scalar Bool ∷ scalar Bool ∷ []) (scalar Bool)
+    logical_belongs ShortCircuitOr h = record { form = _; at = scalar Bool; known = refl; operands = refl; result = refl; admitted = tt }
+    logical_belongs ShortCircuitAnd h = record { form = _; at = scalar Bool; known = refl; operands = refl; result = refl; admitted = tt }
+    logical_belongs o h = absurd h
+belongs (bits o h i k) = bits_belong o h i k
+  where
+    bits_belong : (o : BinaryOperator) → IsBitwise o → (i : Scalar) → IsInteger i → Belongs (operator o) (scalar i ∷ scalar i ∷ []) (scalar i)
+    bits_belong BitwiseOr h i k = record { form = _; at = scalar i; known = refl; operands = refl; result = refl; admitted = k }
+    bits_belong BitwiseAnd h i k = record { form = _; at = scalar i; known = refl; operands = refl; result = refl; admitted = k }
+    bits_belong BitwiseXor h i k = record { form = _; at = scalar i; known = refl; operands = refl; result = refl; admitted = k }
+    bits_belong o h i k = absurd h
+belongs (bits_vectors o h n i k) = bits_vectors_belong o h n i k
+  where
+    bits_vectors_belong : (o : BinaryOperator) → IsBitwise o → (n : ℕ) (i : Scalar) → IsInteger i → Belongs (operator o) (vec n (scalar i) ∷ vec n (scalar i) ∷ []) (vec n (scalar i))
+    bits_vectors_belong BitwiseOr h n i k = record { form = _; at = scalar i; known = refl; operands = refl; result = refl; admitted = inl k }
+    bits_vectors_belong BitwiseAnd h n i k = record { form = _; at = scalar i; known = refl; operands = refl; result = refl; admitted = inl k }
+    bits_vectors_belong BitwiseXor h n i k = record { form = _; at = scalar i; known = refl; operands = refl; result = refl; admitted = k }
+    bits_vectors_belong o h n i k = absurd h
+belongs (bools_vectors o h n) = bools_belong o h n
+  where
+    bools_belong : (o : BinaryOperator) → IsOrAnd o → (n : ℕ) → Belongs (operator o) (vec n (scalar Bool) ∷ vec n (scalar Bool) ∷ []) (vec n (scalar Bool))
+    bools_belong BitwiseOr h n = record { form = _; at = scalar Bool; known = refl; operands = refl; result = refl; admitted = inr tt }
+    bools_belong BitwiseAnd h n = record { form = _; at = scalar Bool; known = refl; operands = refl; result = refl; admitted = inr tt }
+    bools_belong o h n = absurd h
+belongs (shifted o h i k) = record { form = _; at = scalar i; known = shift_form o h (plain ∷ plain ∷ []) _ refl; operands = refl; result = refl; admitted = k }
+belongs (shifted_vectors o h n i k) = record { form = _; at = scalar i; known = shift_form o h (layer (vec_of n) ∷ layer (vec_of n) ∷ []) _ refl; operands = refl; result = refl; admitted = k }
+belongs (of_two n h t k) = two_belong n h t k
+  where
+    two_belong : (n : Name) → IsMinMax n → (t : WgslType) → IsNumericOrVector t → Belongs n (t ∷ t ∷ []) t
+    two_belong min h (scalar s) k = record { form = _; at = scalar s; known = refl; operands = refl; result = refl; admitted = k }
+    two_belong min h (within (vec_of n) (scalar s)) k = record { form = _; at = scalar s; known = refl; operands = refl; result = refl; admitted = k }
+    two_belong min h t k = absurd k
+    two_belong max h (scalar s) k = record { form = _; at = scalar s; known = refl; operands = refl; result = refl; admitted = k }
+    two_belong max h (within (vec_of n) (scalar s)) k = record { form = _; at = scalar s; known = refl; operands = refl; result = refl; admitted = k }
+    two_belong max h t k = absurd k
+    two_belong n h t k = absurd h
+belongs (of_three t k) = three_belong t k
+  where
+    three_belong : (t : WgslType) → IsNumericOrVector t → Belongs clamp (t ∷ t ∷ t ∷ []) t
+    three_belong (scalar s) k = record { form = _; at = scalar s; known = refl; operands = refl; result = refl; admitted = k }
+    three_belong (within (vec_of n) (scalar s)) k = record { form = _; at = scalar s; known = refl; operands = refl; result = refl; admitted = k }
+    three_belong t k = absurd k
+belongs (products n s k) = record { form = _; at = scalar s; known = refl; operands = refl; result = refl; admitted = k }
+belongs (either t k) = either_belong t k
+  where
+    either_belong : (t : WgslType) → IsScalarOrVector t → Belongs select (t ∷ t ∷ scalar Bool ∷ []) t
+    either_belong (scalar s) k = record { form = _; at = scalar s; known = refl; operands = refl; result = refl; admitted = tt }
+    either_belong (within (vec_of n) t) k = record { form = _; at = t; known = refl; operands = refl; result = refl; admitted = tt }
+    either_belong t k = absurd k
+belongs (each_either n m e) = record { form = _; at = e; known = refl; operands = refl; result = refl; admitted = tt }
+
+-- all that take the operands are of one family
+same_form : (n : Name) (ts us vs : List WgslType) (r s : WgslType) (vs' : List ℕ) (ws : List ℕ) → All IsValueType ts →
+    (a : Belongs n us r) (b : Belongs n vs s) → HasRanks ts us vs' → HasRanks ts vs ws → a.form ≡ b.form
+same_form n ts us vs r s ks ws va a b h k =
+    let eu = ap (λ os. form_of n os) (ranked_outers ts us ks va h) ∙ a.known in
+    let ev = ap (λ os. form_of n os) (ranked_outers ts vs ws va k) ∙ b.known in
+    let e : Some a.form ≡ Some b.form = sym eu ∙ ev in
+    cc e
+
+choice_of : (n : Name) (ts : List WgslType) (f : Form n) (b : WgslType) → All IsValueType ts → form_of n (outers ts) ≡ Some f → Admits f.kind b →
+    IsLeastOf f.slots ts b → IsChoice n ts (fill_all f.slots b) (fill f.gives b)
+choice_of n ts f b va e h k = record {
+  candidate = f.sound b h;
+  ranks = k.ranks;
+  takes = k.takes;
+  least = λ vs s ws q r. against vs s ws (belongs q) r;
+}
+  where
+    family : (g : Form n) → f ≡ g → (c : WgslType) (vs : List WgslType) (s : WgslType) (ws : List ℕ) → vs ≡ fill_all g.slots c → s ≡ fill g.gives c → HasRanks ts vs ws →
+        (vs ≡ fill_all f.slots b) × (s ≡ fill f.gives b) ⊎ IsNowhereMore k.ranks ws × IsSomewhereLess k.ranks ws
+    family g p c vs s ws ev es r =
+        let ev' : vs ≡ fill_all f.slots c = ev ∙ ap (λ (g : Form n). fill_all g.slots c) (sym p) in
+        let es' : s ≡ fill f.gives c = es ∙ ap (λ (g : Form n). fill g.gives c) (sym p) in
+        elim (k.least c ws (subst (λ vs. HasRanks ts vs ws) ev' r)).1 [
+          | inl q ↦ inl (ev' ∙ ap (λ c. fill_all f.slots c) q, es' ∙ ap (λ c. fill f.gives c) q)
+          | inr q ↦ inr q
+        ]
+
+    against : (vs : List WgslType) (s : WgslType) (ws : List ℕ) → Belongs n vs s → HasRanks ts vs ws →
+        (vs ≡ fill_all f.slots b) × (s ≡ fill f.gives b) ⊎ IsNowhereMore k.ranks ws × IsSomewhereLess k.ranks ws
+    against vs s ws q r =
+        let d : Some f ≡ Some q.form = sym e ∙ ap (λ os. form_of n os) (ranked_outers ts vs ws va r) ∙ q.known in
+        family q.form (cc d) q.at vs s ws q.operands q.result r
+
+pub some_choice : (n : Name) (ts us : List WgslType) (r : WgslType) → All IsValueType ts → IsCandidate n us r → Takes us ts →
+    (vs : List WgslType) × (s : WgslType) × IsChoice n ts vs s
+some_choice n ts us r va q h =
+    let m = belongs q in
+    let e = ap (λ os. form_of n os) (ranked_outers ts us h.0 va h.1) ∙ m.known in
+    let h' : Takes (fill_all m.form.slots m.at) ts = (h.0, subst (λ us. HasRanks ts us h.0) m.operands h.1) in
+    let k = least_of_taken m.form.slots ts m.at m.form.opens va h' in
+    let a = above_admits (k.1.least m.at h'.0 h'.1).0 m.form.kind m.admitted in
+    (fill_all m.form.slots k.0, fill m.form.gives k.0, choice_of n ts m.form k.0 va e a k.1)
+
+contrary : (vs ws : List ℕ) → IsNowhereMore vs ws → IsSomewhereLess ws vs → ⊥
+contrary [] [] h k = k
+contrary [] (w ∷ ws) h k = h
+contrary (v ∷ vs) [] h k = h
+contrary (v ∷ vs) (w ∷ ws) h (inl k) = omega (arith, h.0, k)
+contrary (v ∷ vs) (w ∷ ws) h (inr k) = contrary vs ws h.1 k
+
+pub choice_once : (n : Name) (ts us vs : List WgslType) (r s : WgslType) → IsChoice n ts us r → IsChoice n ts vs s → (us ≡ vs) × (r ≡ s)
+choice_once n ts us vs r s a b =
+    elim (b.least us r a.ranks a.candidate a.takes) [
+      | inl e ↦ e
+      | inr p ↦ elim (a.least vs s b.ranks b.candidate b.takes) [
+        | inl e ↦ (sym e.0, sym e.1)
+        | inr q ↦ absurd (contrary a.ranks b.ranks q.0 p.1)
+      ]
+    ]
+
+-- For the functions: a family's row, with the common type of what the operands put, gives the choice; without a common
+-- type, or where it isn't admitted, no candidate takes the operands; nor where there is no row.
+
+pub row_choice : (n : Name) (ts es : List WgslType) (f : Form n) (b : WgslType) → All IsValueType ts → All IsValueType es → form_of n (outers ts) ≡ Some f →
+    IsPut f.slots ts es → IsLeftCommon es (Some b) → Admits f.kind b → IsChoice n ts (fill_all f.slots b) (fill f.gives b)
+row_choice n ts es f b va ve e p h a = choice_of n ts f b va e a (least_of f.slots ts es b f.opens va ve p h)
+
+pub row_none : (n : Name) (ts : List WgslType) → All IsValueType ts → form_of n (outers ts) ≡ None → (us : List WgslType) (r : WgslType) → IsCandidate n us r → ¬ Takes us ts
+row_none n ts va e us r q h =
+    let m = belongs q in
+    let d : None ≡ Some m.form = sym e ∙ ap (λ os. form_of n os) (ranked_outers ts us h.0 va h.1) ∙ m.known in
+    cc d
+
+of_row : (n : Name) (ts us : List WgslType) (r : WgslType) (f : Form n) → All IsValueType ts → form_of n (outers ts) ≡ Some f → Belongs n us r → Takes us ts →
+    (c : WgslType) × Takes (fill_all f.slots c) ts × Admits f.kind c
+of_row n ts us r f va e m h =
+    let d : Some m.form ≡ Some f = sym (ap (λ os. form_of n os) (ranked_outers ts us h.0 va h.1) ∙ m.known) ∙ e in
+    let q : m.form ≡ f = cc d in (
+      m.at,
+      (h.0, subst (λ us. HasRanks ts us h.0) (m.operands ∙ ap (λ (g : Form n). fill_all g.slots m.at) q) h.1),
+      subst (λ (g : Form n). Admits g.kind m.at) q m.admitted,
+    )
+
+pub row_no_common : (n : Name) (ts es : List WgslType) (f : Form n) → All IsValueType ts → All IsValueType es → form_of n (outers ts) ≡ Some f →
+    IsPut f.slots ts es → IsLeftCommon es None → (us : List WgslType) (r : WgslType) → IsCandidate n us r → ¬ Takes us ts
+row_no_common n ts es f va ve e p h us r q t =
+    let k = of_row n ts us r f va e (belongs q) t in
+    none_of f.slots ts es k.0 f.opens va ve p h k.1
+
+pub row_not_admitted : (n : Name) (ts es : List WgslType) (f : Form n) (b : WgslType) → All IsValueType ts → All IsValueType es → form_of n (outers ts) ≡ Some f →
+    IsPut f.slots ts es → IsLeftCommon es (Some b) → ¬ Admits f.kind b → (us : List WgslType) (r : WgslType) → IsCandidate n us r → ¬ Takes us ts
+row_not_admitted n ts es f b va ve e p h a us r q t =
+    let k = of_row n ts us r f va e (belongs q) t in
+    let m = (least_of f.slots ts es b f.opens va ve p h).least k.0 k.1.0 k.1.1 in
+    a (above_admits m.0 f.kind k.2)
+
+pub row_not_put : (n : Name) (ts : List WgslType) (f : Form n) → All IsValueType ts → form_of n (outers ts) ≡ Some f →
+    ((es : List WgslType) → ¬ IsPut f.slots ts es) → (us : List WgslType) (r : WgslType) → IsCandidate n us r → ¬ Takes us ts
+row_not_put n ts f va e p us r q t =
+    let k = of_row n ts us r f va e (belongs q) t in
+    let m = taken_puts f.slots k.0 ts k.1.0 va k.1.1 in
+    p m.types m.put

@@ -1,0 +1,65 @@
+-- What a call of a built-in function answers (WGSL, "Built-in Functions" and "Overload Resolution").
+use Rattle.std.specs.Prelude.{ℕ, ◌≡◌, ◌==◌, ◌⊎◌, List, [], ◌∷◌, Option, Some, None, Result, Ok, Err, All, codes, IsTrue, Bool, bytes_eq, count_by}
+use Rattle.std.specs.List.{list_all, list_any}
+use Rattle.wgsl_rules.specs.types.Types.{WgslType}
+use Rattle.wgsl_rules.specs.types.Kinds.{IsLeaf}
+use Rattle.wgsl_rules.specs.conversion.Conversion.{IsValueType}
+use Rattle.wgsl_rules.specs.operators.Candidates.{Name, operator, min, max, clamp, dot, select, IsCandidate}
+use Rattle.wgsl_rules.specs.operators.Choice.{Takes, IsChoice}
+use Rattle.wgsl_rules.specs.Laws.{IsCallName}
+use Rattle.wgsl_rules.specs.types.Signatures.{Signature}
+use Rattle.wgsl_rules.specs.errors.Refusals.{Refusal, signature}
+use Rattle.wgsl_syntax.specs.declared.call.Row.{Row}
+use Rattle.wgsl_rules.specs.calls.Rows.{return_type_of, Fits, IsReturnType}
+use Rattle.wgsl_rules.specs.calls.Names.{call_names}
+use Rattle.wgsl_rules.specs.calls.Table.{Line, maths_of_one, maths_of_several, bits_and_subgroups, derivatives_and_packing, textures, atomics, barriers_and_rays, call_table, rows_named}
+
+-- The answer of the first row that takes the call; without one the call is refused.
+abbrev pub IsAnswerOf : List Row → Signature → Result (Option WgslType) Refusal → Type 0
+IsAnswerOf [] c a = a ≡ Err (signature c)
+IsAnswerOf (r ∷ rs) c a = (Fits r c × IsReturnType (return_type_of r) c a) ⊎ (¬ Fits r c × IsAnswerOf rs c a)
+
+-- A call is answered by the rows under its name.
+unfoldable pub IsCallAnswer : Signature → Result (Option WgslType) Refusal → Type 0
+IsCallAnswer c a = IsAnswerOf (rows_named c.name call_table) c a
+
+-- The names of the five functions that candidates are written for.
+abbrev pub name_of : Name → List ℕ
+name_of (operator o) = []
+name_of min = codes "min"
+name_of max = codes "max"
+name_of clamp = codes "clamp"
+name_of dot = codes "dot"
+name_of select = codes "select"
+
+-- The answer is the result of the choice among the candidates; the call is refused exactly where none takes its arguments.
+abbrev pub IsChosenCall : Name → Signature → Result (Option WgslType) Refusal → Type 0
+IsChosenCall n c (Ok (Some t)) = (us : List WgslType) × IsChoice n c.arguments us t
+IsChosenCall n c (Ok None) = ⊥
+IsChosenCall n c (Err e) = (e ≡ signature c) × ((us : List WgslType) (t : WgslType) → IsCandidate n us t → ¬ Takes us c.arguments)
+
+-- So are the five functions answered on value types, without a template.
+unfoldable pub IsLeastCallAnswer : Signature → Result (Option WgslType) Refusal → Type 0
+IsLeastCallAnswer c a = (n : Name) → IsCallName n → c.name ≡ name_of n → c.template ≡ None → All IsValueType c.arguments → IsChosenCall n c a
+
+-- The answer is a leaf type, or no value.
+abbrev pub IsLeafAnswer : Result (Option WgslType) Refusal → Type 0
+IsLeafAnswer (Ok None) = Unit {0}
+IsLeafAnswer (Ok (Some t)) = IsLeaf t
+IsLeafAnswer (Err e) = ⊥
+
+-- The call has no template, and the row that takes it gives such an answer.
+unfoldable pub IsLeafCall : Signature → Type 0
+IsLeafCall c = (c.template ≡ None) × (a : Result (Option WgslType) Refusal) × IsCallAnswer c a × IsLeafAnswer a
+
+abbrev pub parts : List (List Line)
+parts = maths_of_one ∷ maths_of_several ∷ bits_and_subgroups ∷ derivatives_and_packing ∷ textures ∷ atomics ∷ barriers_and_rays ∷ []
+
+-- Some line has the name.
+abbrev pub has : List ℕ → List Line → Bool
+has name ls = list_any (λ l. list_any (bytes_eq name) l.names) ls
+
+-- Each name is in exactly one part, and each line has names of the list alone.
+pub record NamesMatchTable : Type 0 where
+  pub in_one_part : IsTrue (list_all (λ n. count_by (has n) parts == 1) call_names)
+  pub in_list : IsTrue (list_all (λ l. list_all (λ w. list_any (bytes_eq w) call_names) l.names) call_table)

@@ -1,0 +1,4 @@
+pub mod Steps
+pub mod Vectors
+pub mod Matrices
+pub mod Constructors

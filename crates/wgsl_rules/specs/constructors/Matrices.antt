@@ -1,0 +1,76 @@
+-- What the constructors of matrices make of their arguments (WGSL, "Value Constructor Built-in Functions").
+use Rattle.std.specs.Prelude.{ℕ, ◌*◌, List, [], ◌∷◌, ◌≡◌, Option, Some, None, Result, Ok, Err, codes, length}
+use Rattle.wgsl_syntax.specs.declared.scalar.Scalar.TheVariants.{AbstractInt, F32}
+use Rattle.wgsl_rules.specs.types.Types.{WgslType, scalar, within, vec, mat}
+use Rattle.wgsl_rules.specs.conversion.Conversion.{ConvertsTo}
+use Rattle.wgsl_rules.specs.conversion.Concrete.{IsFloat}
+use Rattle.wgsl_rules.specs.types.Inner.{inner_of}
+use Rattle.wgsl_rules.specs.types.Signatures.{Parameter}
+use Rattle.wgsl_rules.specs.errors.Refusals.{Refusal, conversion, builtin}
+use Rattle.wgsl_rules.specs.templates.Templates.{IsMatTemplate}
+use Rattle.wgsl_rules.specs.constructors.Steps.{Either, Then, ThenCommon, IsCounted}
+
+abbrev pub no_columns : Refusal
+no_columns = builtin (codes "matrix constructor expects float or vector of float arguments")
+
+-- A matrix of c columns and r rows of t, out of so many arguments of a common type: vectors for its columns, floats or
+-- abstract integers for its components.
+abbrev pub IsMatrixOf : List ℕ → ℕ → ℕ → ℕ → WgslType → WgslType → Result WgslType Refusal → Type 0
+IsMatrixOf name c r number t (vec n e) q = IsCounted name c number (mat c r t) q
+IsMatrixOf name c r number t (scalar s) q = IsCounted name (c * r) number (mat c r t) q
+IsMatrixOf name c r number t u q = q ≡ Err no_columns
+
+-- A type converts to another inside: an array, a vector or a matrix in its element, all else as a whole.
+abbrev pub ConvertsInside : WgslType → WgslType → Type 0
+ConvertsInside (within l e) t = ConvertsTo e t
+ConvertsInside u t = ConvertsTo u t
+
+-- what it becomes
+abbrev pub converted_inside : WgslType → WgslType → WgslType
+converted_inside (within l e) t = within l t
+converted_inside u t = t
+
+abbrev pub incompatible_matrix : List ℕ
+incompatible_matrix = codes "matrix components are incompatible"
+
+-- A matrix of a template's type, out of so many arguments of a common type.
+abbrev pub IsTypedMatrixOf : List ℕ → ℕ → ℕ → ℕ → WgslType → WgslType → Result WgslType Refusal → Type 0
+IsTypedMatrixOf name c r number t u q =
+    Either (ConvertsInside u t) (IsMatrixOf name c r number t (converted_inside u t) q) (q ≡ Err (conversion (inner_of u) t))
+
+-- out of one argument: a matrix of the same shape, or as of any other number
+abbrev pub IsTypedMatrixOfOne : List ℕ → ℕ → ℕ → WgslType → WgslType → Result WgslType Refusal → Type 0
+IsTypedMatrixOfOne name c r (mat d s e) t q =
+    Either ((d ≡ c) × (s ≡ r)) (q ≡ Ok (mat c r t)) (q ≡ Err (conversion (mat d s e) (mat c r t)))
+IsTypedMatrixOfOne name c r a t q = ThenCommon (a ∷ []) incompatible_matrix (IsTypedMatrixOf name c r 1 t) q
+
+-- Matrices of a template's type.
+abbrev pub IsTypedMatrix : List ℕ → ℕ → ℕ → List WgslType → WgslType → Result WgslType Refusal → Type 0
+IsTypedMatrix name c r [] t q = q ≡ Ok (mat c r t)
+IsTypedMatrix name c r (a ∷ []) t q = IsTypedMatrixOfOne name c r a t q
+IsTypedMatrix name c r args t q = ThenCommon args incompatible_matrix (IsTypedMatrixOf name c r (length args) t) q
+
+-- the type of a matrix's components, where an abstract integer counts as `f32`
+abbrev pub component_of : WgslType → WgslType
+component_of (scalar AbstractInt) = scalar F32
+component_of t = t
+
+-- A matrix of the type that so many arguments have in common.
+abbrev pub IsUntypedMatrixOf : List ℕ → ℕ → ℕ → ℕ → WgslType → Result WgslType Refusal → Type 0
+IsUntypedMatrixOf name c r number u q =
+    Either (IsFloat (component_of (inner_of u))) (IsMatrixOf name c r number (component_of (inner_of u)) u q) (q ≡ Err no_columns)
+
+-- out of one argument: a matrix of the same shape, which stays, or as of any other number
+abbrev pub IsUntypedMatrixOfOne : List ℕ → ℕ → ℕ → WgslType → Result WgslType Refusal → Type 0
+IsUntypedMatrixOfOne name c r (mat d s e) q =
+    Either ((d ≡ c) × (s ≡ r)) (q ≡ Ok (mat d s e)) (q ≡ Err (conversion (mat d s e) (mat c r e)))
+IsUntypedMatrixOfOne name c r a q = ThenCommon (a ∷ []) incompatible_matrix (IsUntypedMatrixOf name c r 1) q
+
+-- Matrices of the type that the arguments have in common.
+abbrev pub IsUntypedMatrix : List ℕ → ℕ → ℕ → List WgslType → Result WgslType Refusal → Type 0
+IsUntypedMatrix name c r (a ∷ []) q = IsUntypedMatrixOfOne name c r a q
+IsUntypedMatrix name c r args q = ThenCommon args incompatible_matrix (IsUntypedMatrixOf name c r (length args)) q
+
+abbrev pub IsMatrixCall : List ℕ → ℕ → ℕ → Option (List Parameter) → List WgslType → Result WgslType Refusal → Type 0
+IsMatrixCall name c r (Some ps) args q = (s : Result WgslType Refusal) × IsMatTemplate ps s × Then s (IsTypedMatrix name c r args) q
+IsMatrixCall name c r None args q = IsUntypedMatrix name c r args q

@@ -1,0 +1,77 @@
+-- What the constructors of vectors make of their arguments (WGSL, "Value Constructor Built-in Functions").
+use Rattle.std.specs.Prelude.{ℕ, ◌+◌, List, [], ◌∷◌, ◌≡◌, Option, Some, None, Result, Ok, Err, All, codes, length, map}
+use Rattle.wgsl_syntax.specs.declared.scalar.Scalar.TheVariants.{AbstractInt}
+use Rattle.wgsl_rules.specs.types.Types.{WgslType, scalar, vec}
+use Rattle.wgsl_rules.specs.types.Kinds.{IsScalarOrVector}
+use Rattle.wgsl_rules.specs.conversion.Conversion.{ConvertsTo}
+use Rattle.wgsl_rules.specs.types.Inner.{inner_of}
+use Rattle.wgsl_rules.specs.types.Signatures.{Parameter}
+use Rattle.wgsl_rules.specs.errors.Refusals.{Refusal, conversion, builtin, param_count}
+use Rattle.wgsl_rules.specs.templates.Templates.{IsVecTemplate}
+use Rattle.wgsl_rules.specs.constructors.Steps.{Either, Then, ThenCommon}
+
+-- the components that a scalar or a vector brings
+abbrev pub components : WgslType → ℕ
+components (scalar s) = 1
+components (vec n t) = n
+components t = 0
+
+-- the components of all in total, without overflow
+abbrev pub all_components : List WgslType → ℕ
+all_components [] = 0
+all_components (t ∷ ts) = components t + all_components ts
+
+-- A scalar that converts to a type, or a vector of such.
+abbrev pub BringsComponents : WgslType → WgslType → Type 0
+BringsComponents t (scalar s) = ConvertsTo (scalar s) t
+BringsComponents t (vec n e) = ConvertsTo e t
+BringsComponents t a = ⊥
+
+abbrev pub no_components : Refusal
+no_components = builtin (codes "vector constructor expects scalar or vector arguments")
+
+-- A vector of n components of a template's type, out of one argument.
+abbrev pub IsTypedVectorOfOne : ℕ → WgslType → WgslType → Result WgslType Refusal → Type 0
+-- a scalar, which is each component
+IsTypedVectorOfOne n (scalar s) t r = Either (ConvertsTo (scalar s) t) (r ≡ Ok (vec n t)) (r ≡ Err (conversion (scalar s) t))
+-- a vector of as many components
+IsTypedVectorOfOne n (vec m e) t r = Either (m ≡ n) (r ≡ Ok (vec n t)) (r ≡ Err (conversion (vec m e) (vec n t)))
+IsTypedVectorOfOne n a t r = r ≡ Err (conversion a t)
+
+-- Out of several, which bring as many components together.
+abbrev pub IsTypedVectorOfSeveral : List ℕ → ℕ → List WgslType → WgslType → Result WgslType Refusal → Type 0
+IsTypedVectorOfSeveral name n args t r =
+    Either (All (BringsComponents t) args)
+    (Either (all_components args ≡ n) (r ≡ Ok (vec n t)) (r ≡ Err (param_count name n (length args))))
+    (r ≡ Err no_components)
+
+-- Vectors of n components of a template's type.
+abbrev pub IsTypedVector : List ℕ → ℕ → List WgslType → WgslType → Result WgslType Refusal → Type 0
+IsTypedVector name n [] t r = r ≡ Ok (vec n t)
+IsTypedVector name n (a ∷ []) t r = IsTypedVectorOfOne n a t r
+IsTypedVector name n args t r = IsTypedVectorOfSeveral name n args t r
+
+-- A vector of n components, out of one argument.
+abbrev pub IsUntypedVectorOfOne : ℕ → WgslType → Result WgslType Refusal → Type 0
+IsUntypedVectorOfOne n (scalar s) r = r ≡ Ok (vec n (scalar s))
+IsUntypedVectorOfOne n (vec m e) r = Either (m ≡ n) (r ≡ Ok (vec n e)) (r ≡ Err (conversion (vec m e) (vec n e)))
+IsUntypedVectorOfOne n a r = r ≡ Err no_components
+
+-- Out of several, which bring as many components together: of the common type of what they bring.
+abbrev pub IsUntypedVectorOfSeveral : List ℕ → ℕ → List WgslType → Result WgslType Refusal → Type 0
+IsUntypedVectorOfSeveral name n args r =
+    Either (All IsScalarOrVector args)
+    (Either (all_components args ≡ n)
+    (ThenCommon (map inner_of args) (codes "vector components are incompatible") (λ c q. q ≡ Ok (vec n c)) r)
+    (r ≡ Err (param_count name n (length args))))
+    (r ≡ Err no_components)
+
+-- Vectors of n components of the arguments' own types.
+abbrev pub IsUntypedVector : List ℕ → ℕ → List WgslType → Result WgslType Refusal → Type 0
+IsUntypedVector name n [] r = r ≡ Ok (vec n (scalar AbstractInt))
+IsUntypedVector name n (a ∷ []) r = IsUntypedVectorOfOne n a r
+IsUntypedVector name n args r = IsUntypedVectorOfSeveral name n args r
+
+abbrev pub IsVectorCall : List ℕ → ℕ → Option (List Parameter) → List WgslType → Result WgslType Refusal → Type 0
+IsVectorCall name n (Some ps) args r = (q : Result WgslType Refusal) × IsVecTemplate ps q × Then q (IsTypedVector name n args) r
+IsVectorCall name n None args r = IsUntypedVector name n args r

@@ -1,0 +1,31 @@
+-- The common type of two types and of a list (WGSL, "Conversion Rank" and "Overload Resolution").
+use Rattle.std.specs.Prelude.{List, [], ◌∷◌, ◌≡◌, ◌⊎◌, Option, Some, None, All}
+use Rattle.wgsl_rules.specs.types.Types.{WgslType}
+use Rattle.wgsl_rules.specs.conversion.Conversion.{ConvertsTo}
+
+-- The common type of a and b: b where a converts to b, else a where b converts to a, else none.
+abbrev pub IsCommon : WgslType → WgslType → Option WgslType → Type 0
+IsCommon a b (Some c) = (ConvertsTo a b × (c ≡ b)) ⊎ (¬ ConvertsTo a b × ConvertsTo b a × (c ≡ a))
+IsCommon a b None = ¬ ConvertsTo a b × ¬ ConvertsTo b a
+
+-- The common type so far, taken on with each of the list in turn.
+abbrev pub IsLeftCommonFrom : Option WgslType → List WgslType → Option WgslType → Type 0
+-- at the end of the list it is the answer
+IsLeftCommonFrom c [] r = c ≡ r
+-- without one there is none
+IsLeftCommonFrom None (t ∷ ts) r = r ≡ None
+-- else it is taken on with the next type
+IsLeftCommonFrom (Some c) (t ∷ ts) r = (d : Option WgslType) × IsCommon c t d × IsLeftCommonFrom d ts r
+
+-- The common type of a list, taken from left to right: none of the empty list.
+abbrev pub IsLeftCommon : List WgslType → Option WgslType → Type 0
+IsLeftCommon [] r = r ≡ None
+IsLeftCommon (t ∷ ts) r = IsLeftCommonFrom (Some t) ts r
+
+-- Each type of the list converts to u.
+abbrev pub Receives : WgslType → List WgslType → Type 0
+Receives u ts = All (λ t. ConvertsTo t u) ts
+
+-- u receives the list, and converts to each type that receives it.
+abbrev pub IsLeastCommon : WgslType → List WgslType → Type 0
+IsLeastCommon u ts = Receives u ts × ((v : WgslType) → Receives v ts → ConvertsTo u v)

@@ -1,0 +1,51 @@
+-- Abstract types, and what concrete type stands for one (WGSL, "Abstract Numeric Types" and "Conversion Rank").
+use Rattle.std.specs.Prelude.{ℕ, Bool, true, false, cond, ◌≡◌, ◌<◌, ◌⊎◌, IsTrue}
+use Rattle.wgsl_syntax.specs.declared.scalar.Scalar.TheVariants.{AbstractInt, AbstractFloat, I32, F32, F16, F64}
+use Rattle.wgsl_rules.specs.types.Types.{mat_of, WgslType, scalar, within}
+use Rattle.wgsl_rules.specs.types.Kinds.{IsPlain}
+use Rattle.wgsl_rules.specs.conversion.Conversion.{Converts}
+
+-- An abstract number, or an array, a vector or a matrix of an abstract type.
+abbrev pub is_abstract : WgslType → Bool
+is_abstract (scalar AbstractInt) = true
+is_abstract (scalar AbstractFloat) = true
+is_abstract (within l t) = is_abstract t
+is_abstract t = false
+
+abbrev pub IsAbstract : WgslType → Type 0
+IsAbstract t = IsTrue (is_abstract t)
+
+-- A concrete plain type (WGSL, "Storable Types", of which the handles are left out).
+abbrev pub IsStorable : WgslType → Type 0
+IsStorable t = (¬ IsAbstract t) × IsPlain t
+
+abbrev pub IsFloat : WgslType → Type 0
+IsFloat (scalar AbstractFloat) = Unit {0}
+IsFloat (scalar F32) = Unit {0}
+IsFloat (scalar F16) = Unit {0}
+IsFloat (scalar F64) = Unit {0}
+IsFloat t = ⊥
+
+-- Each matrix reached through arrays, vectors and matrices is of floats.
+abbrev pub HasFloatMatrices : WgslType → Type 0
+HasFloatMatrices (within (mat_of c r) t) = IsFloat t
+HasFloatMatrices (within l t) = HasFloatMatrices t
+HasFloatMatrices t = Unit {0}
+
+-- u is concrete, t converts to it, and to any other concrete type with more rank.
+pub record IsLeastConcrete (t u : WgslType) : Type 0 where
+  pub concrete : ¬ IsAbstract u
+  pub rank : ℕ
+  pub converts : Converts t u rank
+  pub least : (v : WgslType) (w : ℕ) → ¬ IsAbstract v → Converts t v w → (v ≡ u) ⊎ (rank < w)
+
+-- The concrete type that stands for a type.
+abbrev pub concretized : WgslType → WgslType
+concretized (scalar AbstractInt) = scalar I32
+concretized (scalar AbstractFloat) = scalar F32
+-- a matrix of an abstract type becomes one of `f32`
+concretized (within (mat_of c r) t) = cond (is_abstract t) (within (mat_of c r) (scalar F32)) (within (mat_of c r) t)
+-- an array or a vector that of its element's
+concretized (within l t) = within l (concretized t)
+-- all else stays
+concretized t = t

@@ -1,0 +1,48 @@
+-- The types that take part in single conversions, and which of them each comes from (WGSL, "Conversion Rank").
+use Rattle.std.specs.Prelude.{ℕ, Option, Some, None}
+use Rattle.wgsl_syntax.specs.declared.scalar.Scalar.{Scalar}
+use Rattle.wgsl_syntax.specs.declared.scalar.Scalar.TheVariants.{AbstractInt, AbstractFloat, I32, U32, F32, F16, I64, U64}
+use Rattle.wgsl_syntax.specs.declared.result_struct.ResultFunction.{ResultFunction}
+use Rattle.wgsl_syntax.specs.declared.result_struct.ResultShape.{ResultShape}
+use Rattle.wgsl_syntax.specs.declared.result_struct.ResultPrecision.{ResultPrecision}
+use Rattle.wgsl_syntax.specs.declared.result_struct.ResultPrecision.TheVariants as precision
+use Rattle.wgsl_rules.specs.types.Types.{WgslType, scalar}
+use Rattle.wgsl_rules.specs.types.ResultStructs.{result_struct}
+
+-- A scalar, or what `frexp` or `modf` gives.
+pub data Node : Type 0 where
+  at_scalar : Scalar → Node
+  at_result : ResultFunction → ResultShape → ResultPrecision → Node
+
+-- The type that stands there.
+abbrev pub type_at : Node → WgslType
+type_at (at_scalar s) = scalar s
+type_at (at_result f s p) = result_struct f s p
+
+-- The node from which a single conversion leads to this one.
+abbrev pub parent_of : Node → Option Node
+parent_of (at_scalar I32) = Some (at_scalar AbstractInt)
+parent_of (at_scalar U32) = Some (at_scalar AbstractInt)
+parent_of (at_scalar I64) = Some (at_scalar AbstractInt)
+parent_of (at_scalar U64) = Some (at_scalar AbstractInt)
+parent_of (at_scalar AbstractFloat) = Some (at_scalar AbstractInt)
+parent_of (at_scalar F32) = Some (at_scalar AbstractFloat)
+parent_of (at_scalar F16) = Some (at_scalar AbstractFloat)
+parent_of (at_scalar s) = None
+parent_of (at_result f s precision.F32) = Some (at_result f s precision.Abstract)
+parent_of (at_result f s precision.F16) = Some (at_result f s precision.Abstract)
+parent_of (at_result f s precision.Abstract) = None
+
+-- The weight of the path to it from the node that has no parent.
+abbrev pub rank_from_root : Node → ℕ
+rank_from_root (at_scalar I32) = 3
+rank_from_root (at_scalar U32) = 4
+rank_from_root (at_scalar AbstractFloat) = 5
+rank_from_root (at_scalar F32) = 6
+rank_from_root (at_scalar F16) = 7
+rank_from_root (at_scalar I64) = 8
+rank_from_root (at_scalar U64) = 9
+rank_from_root (at_scalar s) = 0
+rank_from_root (at_result f s precision.Abstract) = 0
+rank_from_root (at_result f s precision.F32) = 1
+rank_from_root (at_result f s precision.F16) = 2

@@ -1,0 +1,31 @@
+-- How the members of a struct lie in memory, in every way that their alignments allow (WGSL, "Structure Member Layout").
+use Rattle.std.specs.Prelude.{ℕ, ◌+◌, ◌≤◌, max, List, [], ◌∷◌, map}
+use Rattle.std.specs.Int.{◌∣◌}
+
+-- what a member takes up
+pub record MemberLayout : Type 0 where
+  pub size : ℕ
+  pub align : ℕ
+
+-- Each member lies at its offset, a multiple of its alignment and not before the end of the one before (the first not
+-- before `start`); the total isn't before the end of the last.
+abbrev pub AreLaid : ℕ → List MemberLayout → List ℕ → ℕ → Type 0
+AreLaid start [] [] total = start ≤ total
+AreLaid start (part ∷ parts) (offset ∷ offsets) total = (part.align ∣ offset) × (start ≤ offset) × AreLaid (offset + part.size) parts offsets total
+AreLaid start parts offsets total = ⊥
+
+-- the greatest of the numbers, 0 without one
+abbrev pub greatest : List ℕ → ℕ
+greatest [] = 0
+greatest (n ∷ ns) = max n (greatest ns)
+
+abbrev pub greatest_align : List MemberLayout → ℕ
+greatest_align parts = greatest (map (λ part. part.align) parts)
+
+-- one offset per member, and a total that is a multiple of the greatest alignment
+abbrev pub IsPlacement : List MemberLayout → List ℕ → ℕ → Type 0
+IsPlacement parts offsets total = AreLaid 0 parts offsets total × (greatest_align parts ∣ total)
+
+-- some placement has this total, and none has a smaller one
+abbrev pub IsLeastTotal : List MemberLayout → ℕ → Type 0
+IsLeastTotal parts total = ((offsets : List ℕ) × IsPlacement parts offsets total) × ((others : List ℕ) (more : ℕ) → IsPlacement parts others more → total ≤ more)

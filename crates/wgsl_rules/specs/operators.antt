@@ -1,0 +1,5 @@
+pub mod Candidates
+pub mod Choice
+pub mod Rows
+pub mod UnaryRows
+pub mod Answers

@@ -1,0 +1,135 @@
+-- What the binary operators and five of the calls can take, and what they give for it (WGSL, "Logical Expressions" to
+-- "Bit Expressions", and "Built-in Functions").
+use Rattle.std.specs.Prelude.{ℕ, List, [], ◌∷◌}
+use Rattle.wgsl_syntax.specs.declared.scalar.Scalar.{Scalar}
+use Rattle.wgsl_syntax.specs.declared.scalar.Scalar.TheVariants.{Bool, U32}
+use Rattle.wgsl_syntax.specs.declared.operator.BinaryOperator.{BinaryOperator}
+use Rattle.wgsl_syntax.specs.declared.operator.BinaryOperator.TheVariants.{ShortCircuitOr, ShortCircuitAnd, Addition, Subtraction, Multiplication, Division, Remainder, Equality, Inequality, LessThan, LessThanEqual, GreaterThan, GreaterThanEqual, BitwiseOr, BitwiseAnd, BitwiseXor, ShiftLeft, ShiftRight}
+use Rattle.wgsl_rules.specs.types.Types.{WgslType, scalar, vec, mat}
+use Rattle.wgsl_rules.specs.types.Kinds.{IsInteger, IsNumeric, IsNumericOrVector, IsScalarOrVector}
+
+-- The short-circuit operators, `||` and `&&`.
+abbrev pub IsLogical : BinaryOperator → Type 0
+IsLogical ShortCircuitOr = Unit {0}
+IsLogical ShortCircuitAnd = Unit {0}
+IsLogical o = ⊥
+
+-- `+`, `-`, `*`, `/` and `%`.
+abbrev pub IsArithmetic : BinaryOperator → Type 0
+IsArithmetic Addition = Unit {0}
+IsArithmetic Subtraction = Unit {0}
+IsArithmetic Multiplication = Unit {0}
+IsArithmetic Division = Unit {0}
+IsArithmetic Remainder = Unit {0}
+IsArithmetic o = ⊥
+
+-- `+` and `-`, which take two matrices member by member.
+abbrev pub IsSum : BinaryOperator → Type 0
+IsSum Addition = Unit {0}
+IsSum Subtraction = Unit {0}
+IsSum o = ⊥
+
+-- `==`, `!=`, `<`, `<=`, `>` and `>=`.
+abbrev pub IsComparison : BinaryOperator → Type 0
+IsComparison Equality = Unit {0}
+IsComparison Inequality = Unit {0}
+IsComparison LessThan = Unit {0}
+IsComparison LessThanEqual = Unit {0}
+IsComparison GreaterThan = Unit {0}
+IsComparison GreaterThanEqual = Unit {0}
+IsComparison o = ⊥
+
+-- `|`, `&` and `^`.
+abbrev pub IsBitwise : BinaryOperator → Type 0
+IsBitwise BitwiseOr = Unit {0}
+IsBitwise BitwiseAnd = Unit {0}
+IsBitwise BitwiseXor = Unit {0}
+IsBitwise o = ⊥
+
+-- `|` and `&`, which take vectors of `bool` too.
+abbrev pub IsOrAnd : BinaryOperator → Type 0
+IsOrAnd BitwiseOr = Unit {0}
+IsOrAnd BitwiseAnd = Unit {0}
+IsOrAnd o = ⊥
+
+-- `<<` and `>>`.
+abbrev pub IsShift : BinaryOperator → Type 0
+IsShift ShiftLeft = Unit {0}
+IsShift ShiftRight = Unit {0}
+IsShift o = ⊥
+
+-- What takes the operands: a binary operator, or one of five calls.
+pub data Name : Type 0 where
+  operator : BinaryOperator → Name
+  min max clamp dot select : Name
+
+abbrev pub IsMinMax : Name → Type 0
+IsMinMax min = Unit {0}
+IsMinMax max = Unit {0}
+IsMinMax n = ⊥
+
+-- A candidate: a name, the types that it takes, and the type that it then gives. No common type is spoken of here; what
+-- the operands have to do with the types taken is the choice's matter.
+pub data IsCandidate : Name → List WgslType → WgslType → Type 0 where
+  -- arithmetic of two scalars of one type
+  scalars : (o : BinaryOperator) → IsArithmetic o → (s : Scalar) →
+      IsCandidate (operator o) (scalar s ∷ scalar s ∷ []) (scalar s)
+  -- of two vectors of one type
+  vectors : (o : BinaryOperator) → IsArithmetic o → (n : ℕ) (e : WgslType) →
+      IsCandidate (operator o) (vec n e ∷ vec n e ∷ []) (vec n e)
+  -- of a scalar and a vector of it, in either order
+  scalar_vector : (o : BinaryOperator) → IsArithmetic o → (s : Scalar) (n : ℕ) →
+      IsCandidate (operator o) (scalar s ∷ vec n (scalar s) ∷ []) (vec n (scalar s))
+  vector_scalar : (o : BinaryOperator) → IsArithmetic o → (s : Scalar) (n : ℕ) →
+      IsCandidate (operator o) (vec n (scalar s) ∷ scalar s ∷ []) (vec n (scalar s))
+  -- the sum or difference of two matrices of one type
+  matrices : (o : BinaryOperator) → IsSum o → (c r : ℕ) (e : WgslType) →
+      IsCandidate (operator o) (mat c r e ∷ mat c r e ∷ []) (mat c r e)
+  -- the product of a scalar and a matrix of it, in either order
+  scalar_matrix : (s : Scalar) (c r : ℕ) →
+      IsCandidate (operator Multiplication) (scalar s ∷ mat c r (scalar s) ∷ []) (mat c r (scalar s))
+  matrix_scalar : (s : Scalar) (c r : ℕ) →
+      IsCandidate (operator Multiplication) (mat c r (scalar s) ∷ scalar s ∷ []) (mat c r (scalar s))
+  -- of a vector with as many components as the matrix has rows: one component a column
+  vector_matrix : (c r : ℕ) (e : WgslType) →
+      IsCandidate (operator Multiplication) (vec r e ∷ mat c r e ∷ []) (vec c e)
+  -- of a matrix and a vector with as many components as it has columns: one component a row
+  matrix_vector : (c r : ℕ) (e : WgslType) →
+      IsCandidate (operator Multiplication) (mat c r e ∷ vec c e ∷ []) (vec r e)
+  -- of two matrices, where the first has as many columns as the second has rows
+  matrix_matrix : (k c r : ℕ) (e : WgslType) →
+      IsCandidate (operator Multiplication) (mat k r e ∷ mat c k e ∷ []) (mat c r e)
+  -- comparison of two scalars of one type
+  compared : (o : BinaryOperator) → IsComparison o → (s : Scalar) →
+      IsCandidate (operator o) (scalar s ∷ scalar s ∷ []) (scalar Bool)
+  -- of two vectors of one type, component by component
+  compared_vectors : (o : BinaryOperator) → IsComparison o → (n : ℕ) (e : WgslType) →
+      IsCandidate (operator o) (vec n e ∷ vec n e ∷ []) (vec n (scalar Bool))
+  -- the short-circuit operators, `||` and `&&`, of two `bool`
+  logical : (o : BinaryOperator) → IsLogical o →
+      IsCandidate (operator o) (scalar Bool ∷ scalar Bool ∷ []) (scalar Bool)
+  -- bits of two integers of one type
+  bits : (o : BinaryOperator) → IsBitwise o → (i : Scalar) → IsInteger i →
+      IsCandidate (operator o) (scalar i ∷ scalar i ∷ []) (scalar i)
+  -- of two vectors of integers of one type
+  bits_vectors : (o : BinaryOperator) → IsBitwise o → (n : ℕ) (i : Scalar) → IsInteger i →
+      IsCandidate (operator o) (vec n (scalar i) ∷ vec n (scalar i) ∷ []) (vec n (scalar i))
+  -- of two vectors of `bool`
+  bools_vectors : (o : BinaryOperator) → IsOrAnd o → (n : ℕ) →
+      IsCandidate (operator o) (vec n (scalar Bool) ∷ vec n (scalar Bool) ∷ []) (vec n (scalar Bool))
+  -- an integer shifted by a `u32`
+  shifted : (o : BinaryOperator) → IsShift o → (i : Scalar) → IsInteger i →
+      IsCandidate (operator o) (scalar i ∷ scalar U32 ∷ []) (scalar i)
+  -- a vector of integers, component by component
+  shifted_vectors : (o : BinaryOperator) → IsShift o → (n : ℕ) (i : Scalar) → IsInteger i →
+      IsCandidate (operator o) (vec n (scalar i) ∷ vec n (scalar U32) ∷ []) (vec n (scalar i))
+  -- `min` and `max` of two numbers, or two vectors of numbers, of one type
+  of_two : (n : Name) → IsMinMax n → (t : WgslType) → IsNumericOrVector t → IsCandidate n (t ∷ t ∷ []) t
+  -- `clamp` of three
+  of_three : (t : WgslType) → IsNumericOrVector t → IsCandidate clamp (t ∷ t ∷ t ∷ []) t
+  -- the dot product of two vectors of numbers of one type
+  products : (n : ℕ) (s : Scalar) → IsNumeric s → IsCandidate dot (vec n (scalar s) ∷ vec n (scalar s) ∷ []) (scalar s)
+  -- `select` of one of two scalars or vectors by a `bool`
+  either : (t : WgslType) → IsScalarOrVector t → IsCandidate select (t ∷ t ∷ scalar Bool ∷ []) t
+  -- of the components of one of two vectors, each by a `bool` of its own
+  each_either : (n m : ℕ) (e : WgslType) → IsCandidate select (vec n e ∷ vec n e ∷ vec m (scalar Bool) ∷ []) (vec n e)

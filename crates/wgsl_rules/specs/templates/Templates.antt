@@ -1,0 +1,179 @@
+-- What template parameters make of the name before them (WGSL, "Template Lists", and the types of "Types" that take them).
+use Rattle.std.specs.Prelude.{ℕ, zero, suc, ℤ, pos, negsuc, List, [], ◌∷◌, ◌≡◌, ◌⊎◌, Option, Some, None, Result, Ok, Err, codes, option_map, ok_or}
+use Rattle.wgsl_syntax.specs.Names.{named}
+use Rattle.wgsl_syntax.specs.declared.scalar.Scalar.TheVariants.{I32, U32, F32, I64, U64}
+use Rattle.wgsl_syntax.specs.declared.address.AddressSpace.{AddressSpace}
+use Rattle.wgsl_syntax.specs.declared.address.AddressSpace.TheVariants.{Function, Private, Workgroup, Uniform, Storage, Handle, PushConstant}
+use Rattle.wgsl_syntax.specs.declared.address.AccessMode.{AccessMode}
+use Rattle.wgsl_syntax.specs.declared.address.AccessMode.TheVariants.{Read, ReadWrite}
+use Rattle.wgsl_syntax.specs.declared.texel.TexelFormat.{TexelFormat}
+use Rattle.wgsl_syntax.specs.declared.texture.SampledType.{SampledType}
+use Rattle.wgsl_syntax.specs.declared.texture.TextureType.{TextureType}
+use Rattle.wgsl_syntax.specs.declared.texture.TextureType.TheVariants.{Sampled1D, Sampled2D, Sampled2DArray, Sampled3D, SampledCube, SampledCubeArray, Sampled1DArray, Multisampled2D, Multisampled2DArray, Storage1D, Storage1DArray, Storage2D, Storage2DArray, Storage3D}
+use Rattle.wgsl_syntax.specs.declared.enumerant.Enumerant.TheVariants as enumerants
+use Rattle.wgsl_rules.specs.types.Types.{WgslType, scalar, array, binding_array, pointer}
+use Rattle.wgsl_rules.specs.types.Kinds.{IsScalar, IsNumericOrVector}
+use Rattle.wgsl_rules.specs.conversion.Concrete.{IsAbstract, IsFloat, IsStorable}
+use Rattle.wgsl_rules.specs.types.Inner.{sampled_of}
+use Rattle.wgsl_rules.specs.types.Literals.{Literal, bool, abstract_int, i32, u32, i64, u64}
+use Rattle.wgsl_rules.specs.types.Signatures.{Parameter, of_type, of_literal, of_enumerant}
+use Rattle.wgsl_rules.specs.errors.Refusals.{Refusal, todo, ptr_handle, sampled_type, builtin, template_args}
+
+-- a whole number above 0
+abbrev pub above_zero : ℤ → Option ℕ
+above_zero (pos zero) = None
+above_zero (pos (suc n)) = Some (suc n)
+above_zero (negsuc n) = None
+
+-- the number of elements that a literal stands for: a whole number above 0
+abbrev pub count_of : Literal → Option ℕ
+count_of (bool b) = None
+count_of (abstract_int n) = above_zero n
+count_of (i32 n) = above_zero n
+count_of (u32 n) = above_zero (pos n)
+count_of (i64 n) = above_zero n
+count_of (u64 n) = above_zero (pos n)
+
+-- What is made of parameters that fit; else their refusal.
+abbrev pub made : {A B : Type 0} → (A → B) → Result A Refusal → Result B Refusal
+made make (Ok a) = Ok (make a)
+made make (Err e) = Err e
+
+-- One type, or a type and the number of elements. Else the refusal: of the shape, which names the template, then of the
+-- number, with its message.
+abbrev pub element_and_count : List ℕ → List ℕ → List Parameter → Result (WgslType × Option ℕ) Refusal
+element_and_count name message (of_type t ∷ []) = Ok (t, None)
+element_and_count name message (of_type t ∷ of_literal l ∷ []) = ok_or (option_map (λ n. (t, Some n)) (count_of l)) (builtin message)
+element_and_count name message ps = Err (template_args name)
+
+abbrev pub array_template : List Parameter → Result WgslType Refusal
+array_template ps = made (λ p. array p.1 p.0)
+    (element_and_count (codes "array") (codes "the array element count must evaluate to a `u32` or a `i32` greater than `0`") ps)
+
+abbrev pub binding_array_template : List Parameter → Result WgslType Refusal
+binding_array_template ps = made (λ p. binding_array p.1 p.0)
+    (element_and_count (codes "binding_array") (codes "the binding_array element count must evaluate to a `u32` or a `i32` greater than `0`") ps)
+
+-- One type, of which P holds. Else the refusal: of the shape, which names the template, then of the type, with its message.
+abbrev pub IsTemplateOf : (WgslType → Type 0) → List ℕ → List ℕ → List Parameter → Result WgslType Refusal → Type 0
+IsTemplateOf P name message (of_type t ∷ []) (Ok u) = P t × (u ≡ t)
+IsTemplateOf P name message (of_type t ∷ []) (Err e) = (¬ P t) × (e ≡ builtin message)
+IsTemplateOf P name message ps r = r ≡ Err (template_args name)
+
+abbrev pub IsVecTemplate : List Parameter → Result WgslType Refusal → Type 0
+IsVecTemplate = IsTemplateOf (λ t. IsScalar t × ¬ IsAbstract t) (codes "vector") (codes "vector template type must be a scalar")
+
+abbrev pub IsMatTemplate : List Parameter → Result WgslType Refusal → Type 0
+IsMatTemplate = IsTemplateOf IsFloat (codes "matrix") (codes "matrix template type must be f32 or f16")
+
+-- the scalars that an atomic may be of
+abbrev pub IsAtomicScalar : WgslType → Type 0
+IsAtomicScalar (scalar F32) = Unit {0}
+IsAtomicScalar (scalar I64) = Unit {0}
+IsAtomicScalar (scalar U64) = Unit {0}
+IsAtomicScalar (scalar I32) = Unit {0}
+IsAtomicScalar (scalar U32) = Unit {0}
+IsAtomicScalar t = ⊥
+
+abbrev pub IsAtomicTemplate : List Parameter → Result WgslType Refusal → Type 0
+IsAtomicTemplate = IsTemplateOf IsAtomicScalar (codes "atomic") (codes "atomic template type must be an integer")
+
+abbrev pub IsBitcastTemplate : List Parameter → Result WgslType Refusal → Type 0
+IsBitcastTemplate =
+    IsTemplateOf IsNumericOrVector (codes "bitcast") (codes "bitcast template type must be a numeric scalar or numeric vector")
+
+-- What a pointer's template names: the address space, the type, and the access mode where it is given.
+pub record PointerParameters : Type 0 where
+  pub space : AddressSpace
+  pub ty : WgslType
+  pub access : Option AccessMode
+
+-- the access mode that a parameter is
+abbrev pub access_of : Parameter → Option AccessMode
+access_of (of_enumerant (enumerants.AccessMode m)) = Some m
+access_of p = None
+
+-- the texel format that a parameter is
+abbrev pub format_of : Parameter → Option TexelFormat
+format_of (of_enumerant (enumerants.TexelFormat f)) = Some f
+format_of p = None
+
+-- an address space and a type, and at most one parameter more, which counts as absent where it is no access mode
+abbrev pub pointer_parameters : List Parameter → Option PointerParameters
+pointer_parameters (of_enumerant (enumerants.AddressSpace s) ∷ of_type t ∷ []) = Some (record { space = s; ty = t; access = None })
+pointer_parameters (of_enumerant (enumerants.AddressSpace s) ∷ of_type t ∷ p ∷ []) = Some (record { space = s; ty = t; access = access_of p })
+pointer_parameters ps = None
+
+-- the given access mode, or without one the space's own
+abbrev pub given_or : Option AccessMode → AccessMode → AccessMode
+given_or (Some m) default = m
+given_or None default = default
+
+-- The access mode of a pointer in a space, or why there is no such pointer.
+abbrev pub pointer_access : AddressSpace → Option AccessMode → Result AccessMode Refusal
+pointer_access Function m = Ok (given_or m ReadWrite)
+pointer_access Private m = Ok (given_or m ReadWrite)
+pointer_access Workgroup m = Ok (given_or m ReadWrite)
+pointer_access Storage m = Ok (given_or m Read)
+pointer_access Uniform None = Ok Read
+pointer_access Uniform (Some Read) = Ok Read
+pointer_access Uniform (Some m) = Err (builtin (codes "pointer in uniform address space must have a `read` access mode"))
+pointer_access Handle m = Err ptr_handle
+pointer_access PushConstant m = Err (todo (codes "push_constant"))
+
+-- The shape first; then the type has to be storable; then the space and the access mode have to fit.
+abbrev pub IsPointerOf : Option PointerParameters → Result WgslType Refusal → Type 0
+IsPointerOf None r = r ≡ Err (template_args (codes "pointer"))
+IsPointerOf (Some p) r =
+    IsStorable p.ty × (r ≡ made (λ m. pointer p.space p.ty m) (pointer_access p.space p.access))
+    ⊎ (¬ IsStorable p.ty) × (r ≡ Err (builtin (codes "pointer type must be storable")))
+
+abbrev pub IsPtrTemplate : List Parameter → Result WgslType Refusal → Type 0
+IsPtrTemplate ps r = IsPointerOf (pointer_parameters ps) r
+
+-- The type that a texture is sampled as.
+abbrev pub sampled_parameter : List Parameter → Result SampledType Refusal
+sampled_parameter (of_type t ∷ []) = ok_or (sampled_of t) (sampled_type t)
+sampled_parameter (p ∷ []) = Err (builtin (codes "texture sampled type must be `i32`, `u32` or `f32`"))
+sampled_parameter ps = Err (builtin (codes "sampled texture types take a single template parameter"))
+
+abbrev pub both : Option TexelFormat → Option AccessMode → Result (TexelFormat × AccessMode) Refusal
+both (Some f) (Some m) = Ok (f, m)
+both f m = Err (builtin (codes "storage texture types take two template parameters"))
+
+-- The format of a texture's texels, and how they are accessed.
+abbrev pub storage_parameters : List Parameter → Result (TexelFormat × AccessMode) Refusal
+storage_parameters (p ∷ q ∷ []) = both (format_of p) (access_of q)
+storage_parameters ps = both None None
+
+-- What a texture's name takes: the one or the other.
+pub data TextureName : Type 0 where
+  sampled : (SampledType → TextureType) → TextureName
+  stored : (TexelFormat → AccessMode → TextureType) → TextureName
+
+abbrev pub texture_names : List (TextureName × List ℕ)
+texture_names =
+    (sampled Sampled1D, codes "texture_1d")
+    ∷ (sampled Sampled1DArray, codes "texture_1d_array")
+    ∷ (sampled Sampled2D, codes "texture_2d")
+    ∷ (sampled Sampled2DArray, codes "texture_2d_array")
+    ∷ (sampled Sampled3D, codes "texture_3d")
+    ∷ (sampled SampledCube, codes "texture_cube")
+    ∷ (sampled SampledCubeArray, codes "texture_cube_array")
+    ∷ (sampled Multisampled2D, codes "texture_multisampled_2d")
+    ∷ (sampled Multisampled2DArray, codes "texture_multisampled_2d_array")
+    ∷ (stored Storage1D, codes "texture_storage_1d")
+    ∷ (stored Storage1DArray, codes "texture_storage_1d_array")
+    ∷ (stored Storage2D, codes "texture_storage_2d")
+    ∷ (stored Storage2DArray, codes "texture_storage_2d_array")
+    ∷ (stored Storage3D, codes "texture_storage_3d")
+    ∷ []
+
+abbrev pub texture_of : Option TextureName → List Parameter → Result TextureType Refusal
+texture_of (Some (sampled make)) ps = made make (sampled_parameter ps)
+texture_of (Some (stored make)) ps = made (λ p. make p.0 p.1) (storage_parameters ps)
+texture_of None ps = Err (builtin (codes "not a templated texture type"))
+
+-- The texture of a name, with its parameters.
+abbrev pub texture_template : List ℕ → List Parameter → Result TextureType Refusal
+texture_template name ps = texture_of (named texture_names name) ps

@@ -1,0 +1,7 @@
+pub mod Types
+pub mod Kinds
+pub mod Inner
+pub mod Spelling
+pub mod Literals
+pub mod Signatures
+pub mod ResultStructs

@@ -1,0 +1,94 @@
+-- Which scalars are integers or numbers, and which types are made of them (WGSL, "Plain Types").
+use Rattle.wgsl_syntax.specs.declared.scalar.Scalar.{Scalar}
+use Rattle.wgsl_syntax.specs.declared.scalar.Scalar.TheVariants.{Bool, AbstractInt, I32, U32, I64, U64}
+use Rattle.wgsl_syntax.specs.declared.address.AddressSpace.TheVariants.{Handle}
+use Rattle.wgsl_rules.specs.types.Types.{array_of, vec_of, mat_of, WgslType, scalar, within, struct, atomic, reference, texture, sampler, ray_query, acceleration_structure}
+
+abbrev pub IsInteger : Scalar → Type 0
+IsInteger AbstractInt = Unit {0}
+IsInteger I32 = Unit {0}
+IsInteger U32 = Unit {0}
+IsInteger I64 = Unit {0}
+IsInteger U64 = Unit {0}
+IsInteger s = ⊥
+
+-- An integer or a float.
+abbrev pub IsNumeric : Scalar → Type 0
+IsNumeric Bool = ⊥
+IsNumeric s = Unit {0}
+
+-- An integer, or a vector of integers.
+abbrev pub IsIntegerOrVector : WgslType → Type 0
+IsIntegerOrVector (scalar s) = IsInteger s
+IsIntegerOrVector (within (vec_of n) (scalar s)) = IsInteger s
+IsIntegerOrVector t = ⊥
+
+-- A number, or a vector of numbers.
+abbrev pub IsNumericOrVector : WgslType → Type 0
+IsNumericOrVector (scalar s) = IsNumeric s
+IsNumericOrVector (within (vec_of n) (scalar s)) = IsNumeric s
+IsNumericOrVector t = ⊥
+
+-- A scalar, or a vector of whatever type.
+abbrev pub IsScalarOrVector : WgslType → Type 0
+IsScalarOrVector (scalar s) = Unit {0}
+IsScalarOrVector (within (vec_of n) t) = Unit {0}
+IsScalarOrVector t = ⊥
+
+-- One of the scalars.
+abbrev pub IsScalar : WgslType → Type 0
+IsScalar (scalar s) = Unit {0}
+IsScalar t = ⊥
+
+-- A scalar that is an integer.
+abbrev pub IsIntegerScalar : WgslType → Type 0
+IsIntegerScalar (scalar s) = IsInteger s
+IsIntegerScalar t = ⊥
+
+-- A scalar that is a number.
+abbrev pub IsNumericScalar : WgslType → Type 0
+IsNumericScalar (scalar s) = IsNumeric s
+IsNumericScalar t = ⊥
+
+abbrev pub IsArray : WgslType → Type 0
+IsArray (within (array_of n) t) = Unit {0}
+IsArray t = ⊥
+
+abbrev pub IsVector : WgslType → Type 0
+IsVector (within (vec_of n) t) = Unit {0}
+IsVector t = ⊥
+
+abbrev pub IsMatrix : WgslType → Type 0
+IsMatrix (within (mat_of c r) t) = Unit {0}
+IsMatrix t = ⊥
+
+abbrev pub IsStruct : WgslType → Type 0
+IsStruct (struct name ms) = Unit {0}
+IsStruct t = ⊥
+
+abbrev pub IsAtomic : WgslType → Type 0
+IsAtomic (atomic t) = Unit {0}
+IsAtomic t = ⊥
+
+-- A scalar, an atomic, or a composite type (WGSL, "Plain Types").
+abbrev pub IsPlain : WgslType → Type 0
+IsPlain (scalar s) = Unit {0}
+IsPlain (within l t) = Unit {0}
+IsPlain (struct name ms) = Unit {0}
+IsPlain (atomic t) = Unit {0}
+IsPlain t = ⊥
+
+-- A leaf type is made of no other type and has no name: a scalar, a texture, a sampler, a ray query or an acceleration
+-- structure.
+abbrev pub IsLeaf : WgslType → Type 0
+IsLeaf (scalar s) = Unit {0}
+IsLeaf (texture t) = Unit {0}
+IsLeaf (sampler s) = Unit {0}
+IsLeaf (ray_query f) = Unit {0}
+IsLeaf (acceleration_structure f) = Unit {0}
+IsLeaf t = ⊥
+
+-- A reference in the handle space, of which there are no pointers.
+abbrev pub IsInHandleSpace : WgslType → Type 0
+IsInHandleSpace (reference Handle t m) = Unit {0}
+IsInHandleSpace t = ⊥
