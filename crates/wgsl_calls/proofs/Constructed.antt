@@ -1,5 +1,5 @@
 -- What is made of one argument and of several, as the answers of the calls below it say.
-use Rattle.std.proofs.Common.{string_bytes, ◌≡◌, ◌≢◌, ℕ, ◌≤◌, List, [], ◌∷◌, length, map, Option, Some, Result, Ok, Err, refl, sym, ap, subst, ◌∙◌, ◌⊎◌, inl, inr}
+use Rattle.std.proofs.Common.{string_bytes, ◌≡◌, ◌≢◌, ℕ, ◌≤◌, List, [], ◌∷◌, length, map, Option, Some, Result, Ok, Err, refl, sym, ap, subst, ◌∙◌, inl, inr}
 use native.Mathlib.Omega.{arith}
 use Rattle.std.proofs.lemmas.List.{length-map}
 use Rattle.wgsl_rules.specs.types.Types.{WgslType, scalar, array, vec, mat, Members, struct, atomic, pointer, reference, texture, sampler, binding_array, ray_query, acceleration_structure}

@@ -1,7 +1,7 @@
 -- What the constructors of the code stand for, and the arguments at which they stop.
 use Rattle.std.specs.Prelude.{◌≡◌, List, Option, Some, None, Result, Ok, Err}
 use Rattle.wgsl_rules.specs.types.Types.{WgslType, Members}
-use Rattle.wgsl_rules.specs.conversion.Common.{Receives}
+use Rattle.wgsl_rules.specs.Headline.{Receives}
 use Rattle.wgsl_rules.specs.errors.Refusals.{Refusal, conversion}
 use Rattle.wgsl_rules.specs.constructors.Steps.{IsFirstStuck}
 use Rattle.wgsl_rules.specs.constructors.Constructors.{Constructor as RuleConstructor, makes_array, makes_scalar, makes_vector, makes_matrix, AllFit, IsFirstMisfit}

@@ -1,5 +1,5 @@
 -- Conversion of the types of code.
-use Rattle.std.proofs.Common.{◌≡◌, ◌≢◌, ◌↔◌, ℕ, is_some, Bool, List, Option, Some, None, Box, Global, IsTrue, IfSome, refl, sym, ap, ◌∙◌, subst}
+use Rattle.std.proofs.Common.{◌≡◌, ◌≢◌, ◌↔◌, ℕ, is_some, Bool, List, Option, Some, None, IsTrue, IfSome, refl, sym, ap, ◌∙◌, subst}
 use Rattle.wgsl_syntax.specs.declared.address.AddressSpace.{AddressSpace}
 use Rattle.wgsl_syntax.specs.declared.address.AccessMode.{AccessMode}
 use Rattle.wgsl_syntax.specs.declared.result_struct.ResultFunction.{ResultFunction}
@@ -15,18 +15,14 @@ use Rattle.wgsl_rules.proofs.conversion.Order.{load_readable}
 use Rattle.wgsl_syntax.specs.Address.{MayRead}
 use Rattle.wgsl_rules.proofs.conversion.Equations.{converts_same, same_rank, load_converts, load_rank, converts_within, converts_from_within}
 use Rattle.wgsl_rules.proofs.conversion.Counts.{converts_in_same, converts_in_load, converts_in_within}
-use Rattle.wgsl_core.specs.View.{view, struct_view}
+use Rattle.wgsl_core.specs.View.{struct_view}
 use Rattle.std.specs.Borrow.{Bor}
 use Rattle.wgsl_syntax.specs.declared.scalar.Scalar.{Scalar}
 use Rattle.wgsl_core.specs.Forms.{form_view, layer_of}
 use Rattle.wgsl_core.specs.declared.ty.form.Form.{Form}
 use Rattle.wgsl_core.specs.declared.ty.form.Form.TheVariants as forms
 use Rattle.wgsl_core.specs.ResultStruct.{struct_type, result_type}
-use Rattle.wgsl_core.specs.declared.ty.Type.{«Type»}
-use Rattle.wgsl_core.specs.declared.ty.Type.TheVariants as v
 use Rattle.wgsl_core.specs.declared.ty.StructType.{StructType}
-use Rattle.wgsl_core.proofs.Recognition.{view-struct}
-use Rattle.wgsl_core.proofs.Views.{view-Struct, view-Ref}
 
 -- The node of a type
 

@@ -10,11 +10,11 @@ use Rattle.wgsl_rules.specs.conversion.Conversion.{ConvertsTo}
 use Rattle.wgsl_rules.specs.conversion.Common.{IsCommon}
 use Rattle.wgsl_rules.specs.operators.Candidates.{operator, IsArithmetic, IsSum, IsComparison, IsLogical, IsBitwise, IsOrAnd, IsShift}
 use Rattle.wgsl_rules.specs.operators.Rows.{scalar_row, vector_row, scalar_vector_row, vector_scalar_row, matrix_row, scalar_matrix_row, matrix_scalar_row, vector_matrix_row, matrix_vector_row, matrix_matrix_row, comparison_row, comparison_vector_row, logical_row, bools_row, bit_row, shift_row, shift_vector_row}
-use Rattle.wgsl_rules.specs.operators.Choice.{IsChoice}
+use Rattle.wgsl_rules.specs.Headline.{IsChosenAnswer}
 use Rattle.wgsl_rules.specs.errors.Refusals.{Refusal, binary}
 use Rattle.wgsl_rules.specs.operators.Answers.{BinaryCandidate, HasCandidate, IsChosenResult, IsChosenCandidate}
 use Rattle.wgsl_rules.proofs.operators.Groups.{Fits, IsShifted}
-use Rattle.wgsl_rules.proofs.operators.Rows.{unfit, elements_apart, not_compared, not_shifted, chosen, nothing_takes}
+use Rattle.wgsl_rules.proofs.operators.Rows.{unfit, elements_apart, not_compared, not_shifted, chosen, result_chosen, nothing_chosen}
 use Rattle.std.specs.Borrow.{Bor}
 use Rattle.wgsl_core.specs.declared.ty.Type.{«Type»}
 use Rattle.wgsl_core.specs.Forms.{form_view}
@@ -235,8 +235,7 @@ vector_by_other {e = e} {n} {f} p q v o h = by_forms (λ a b. HasCandidate o a b
 
 pub chosen_result : {o : BinaryOperator} {a b t : WgslType} {found : BinaryCandidate} → HasCandidate o a b (Some found) → t ≡ found.result → IsChosenResult o a b (Ok t)
 unfolding IsChosenResult
-chosen_result {o} {a} {b} {t} {found} k e va vb =
-    (found.lhs ∷ found.rhs ∷ [], subst (λ t. IsChoice (operator o) (a ∷ b ∷ []) (found.lhs ∷ found.rhs ∷ []) t) (sym e) (chosen found k va vb))
+chosen_result {o} {a} {b} {t} {found} k e va vb = subst (λ t. IsChosenAnswer (operator o) (a ∷ b ∷ []) (Some t)) (sym e) (result_chosen found k va vb)
 
 pub chosen_candidate : {o : BinaryOperator} {a b : WgslType} {found : BinaryCandidate} (c : BinaryCandidate) → HasCandidate o a b (Some found) → c ≡ found → IsChosenCandidate o a b (Ok c)
 unfolding IsChosenCandidate
@@ -244,11 +243,11 @@ chosen_candidate {o} {a} {b} {found} c k e = subst (λ c. IsChosenCandidate o a 
 
 pub refused_result : {o : BinaryOperator} {a b : WgslType} {e : Refusal} → HasCandidate o a b None → e ≡ binary o a b → IsChosenResult o a b (Err e)
 unfolding IsChosenResult
-refused_result {o} {a} {b} k e va vb = (e, nothing_takes o a b k va vb)
+refused_result k e va vb = (e, nothing_chosen k va vb)
 
 pub refused_candidate : {o : BinaryOperator} {a b : WgslType} {e : Refusal} → HasCandidate o a b None → e ≡ binary o a b → IsChosenCandidate o a b (Err e)
 unfolding IsChosenCandidate
-refused_candidate {o} {a} {b} k e va vb = (e, nothing_takes o a b k va vb)
+refused_candidate k e va vb = (e, nothing_chosen k va vb)
 
 -- what is of another form than these is no operand of arithmetic
 pub no_operand : {f : Form} {t : WgslType} → form_view f ≡ t → ((s : Scalar) → f ≡ forms.Scalar s → ⊥) → ((n : ℕ) (e : Bor «Type») → f ≡ forms.Vector n e → ⊥) →

@@ -1,5 +1,5 @@
 -- Conversion to a vector of a scalar.
-use Rattle.std.proofs.Common.{◌≡◌, ◌↔◌, ℕ, Bool, true, false, IsTrue, Some, None, Box, Global, inl, inr, refl, sym, ap, subst, ◌∙◌}
+use Rattle.std.proofs.Common.{◌≡◌, ◌↔◌, ℕ, Bool, true, false, IsTrue, Some, None, inl, inr, refl, sym, ap, subst, ◌∙◌}
 use Rattle.wgsl_syntax.specs.declared.address.AddressSpace.{AddressSpace}
 use Rattle.wgsl_syntax.specs.declared.address.AccessMode.{AccessMode}
 use Rattle.wgsl_syntax.specs.Address.{MayRead}
@@ -7,10 +7,8 @@ use Rattle.wgsl_rules.specs.types.Types.{Layer, vec_of, WgslType, within, refere
 use Rattle.wgsl_rules.specs.conversion.Conversion.{Load, load, Converts, ConvertsTo}
 use Rattle.wgsl_rules.proofs.conversion.Order.{along_above, above_to_within, load_readable}
 use Rattle.wgsl_rules.proofs.conversion.Equations.{converts_within}
-use Rattle.wgsl_core.specs.View.{view}
 use Rattle.wgsl_core.specs.Forms.{layer_of}
 use Rattle.wgsl_core.specs.declared.ty.Type.{«Type»}
-use Rattle.wgsl_core.specs.declared.ty.Type.TheVariants as v
 use Rattle.wgsl_core.proofs.Ranks.{no_load}
 use Rattle.std.specs.Borrow.{Bor}
 use Rattle.wgsl_core.specs.Forms.{form_view}

@@ -1,7 +1,8 @@
 // Sizes, alignments and offsets in memory.
 ghost use Rattle.std.specs.Prelude.{◌≡◌, ◌↔◌, IfOk, IfSome};
 ghost use Rattle.wgsl_rules.specs.types.Types.{struct, array, vec, mat};
-ghost use Rattle.wgsl_rules.specs.layout.Layout.{IsAtomicSize, IsTimes, IsStride, IsArraySize, IsAlignOfThree, IsVectorAlign, IsGiven, HasSize, HasAlignment, HasLeastSize, IsStructSize, IsStructAlign, HaveParts, HaveAligns, IsExactly, HasNoSize, LacksSize, AreOffsets};
+ghost use Rattle.wgsl_rules.specs.layout.Layout.{IsAtomicSize, IsTimes, IsStride, IsArraySize, IsAlignOfThree, IsVectorAlign, IsGiven, HasSize, HasAlignment, HasLeastSize, IsStructAlign, HaveAligns, IsExactly, HasNoSize, LacksSize, AreOffsets};
+ghost use Rattle.wgsl_rules.specs.Headline.{IsLeastPlacedSize};
 ghost use Rattle.wgsl_core.specs.View.{view, struct_view, member_view};
 ghost use Rattle.wgsl_core.specs.Layout.{IsValue, IsSoonestEnd, IsLayout};
 
@@ -194,8 +195,7 @@ impl StructType {
     ///
     /// None for the causes for which `offsets` gives none.
     pub fn size_of(&self) -> Option<u32>
-        ensures exact { IsExactly result (IsStructSize (HaveParts (struct_view self.now).members)) }
-        ensures none { (result ≡ None) ↔ HasNoSize (struct_view self.now).members }
+        ensures { IsLeastPlacedSize (struct_view self.now).members result }
     {
         let layout = self.layout();
         layout.size

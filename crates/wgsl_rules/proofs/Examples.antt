@@ -11,7 +11,7 @@ use Rattle.wgsl_rules.specs.types.ResultStructs.{plain_member, result_struct}
 use Rattle.wgsl_rules.specs.conversion.Conversion.{Converts, load, load_inside, result_to_f32, base}
 use Rattle.wgsl_syntax.specs.declared.operator.BinaryOperator.TheVariants.{Addition, ShiftLeft, Multiplication}
 use Rattle.wgsl_rules.specs.operators.Candidates.{operator}
-use Rattle.wgsl_rules.specs.operators.Choice.{IsChoice}
+use Rattle.wgsl_rules.specs.Headline.{IsLeastCandidate}
 use Rattle.wgsl_rules.specs.operators.Rows.{scalar_row, scalar_vector_row, matrix_vector_row, shift_row}
 use Rattle.wgsl_rules.specs.conversion.Concrete.{concretized}
 use Rattle.wgsl_rules.proofs.conversion.Order.{Above, here, further}
@@ -70,16 +70,16 @@ unfolding result_struct
 frexp_struct = refl
 
 -- choices
-int_plus_float : IsChoice (operator Addition) (scalar AbstractInt ∷ scalar AbstractFloat ∷ []) (scalar AbstractFloat ∷ scalar AbstractFloat ∷ []) (scalar AbstractFloat)
+int_plus_float : IsLeastCandidate (operator Addition) (scalar AbstractInt ∷ scalar AbstractFloat ∷ []) (scalar AbstractFloat ∷ scalar AbstractFloat ∷ []) (scalar AbstractFloat)
 int_plus_float = row_chosen (scalar_row Addition tt AbstractInt AbstractFloat (scalar AbstractFloat) (inl ((5, (converts_scalar AbstractInt AbstractFloat 5).1 refl), refl))) tt tt
 
-int_plus_vector : IsChoice (operator Addition) (scalar AbstractInt ∷ vec 3 (scalar F32) ∷ []) (scalar F32 ∷ vec 3 (scalar F32) ∷ []) (vec 3 (scalar F32))
+int_plus_vector : IsLeastCandidate (operator Addition) (scalar AbstractInt ∷ vec 3 (scalar F32) ∷ []) (scalar F32 ∷ vec 3 (scalar F32) ∷ []) (vec 3 (scalar F32))
 int_plus_vector = row_chosen (scalar_vector_row Addition tt AbstractInt 3 (scalar F32) (scalar F32) (inl ((6, (converts_scalar AbstractInt F32 6).1 refl), refl))) tt tt
 
-int_shift_int : IsChoice (operator ShiftLeft) (scalar AbstractInt ∷ scalar AbstractInt ∷ []) (scalar AbstractInt ∷ scalar U32 ∷ []) (scalar AbstractInt)
+int_shift_int : IsLeastCandidate (operator ShiftLeft) (scalar AbstractInt ∷ scalar AbstractInt ∷ []) (scalar AbstractInt ∷ scalar U32 ∷ []) (scalar AbstractInt)
 int_shift_int = row_chosen (shift_row ShiftLeft tt AbstractInt tt (scalar AbstractInt) (4, (converts_scalar AbstractInt U32 4).1 refl)) tt tt
 
-matrix_vector_half : IsChoice (operator Multiplication) (mat 2 3 (scalar AbstractFloat) ∷ vec 2 (scalar F16) ∷ []) (mat 2 3 (scalar F16) ∷ vec 2 (scalar F16) ∷ []) (vec 3 (scalar F16))
+matrix_vector_half : IsLeastCandidate (operator Multiplication) (mat 2 3 (scalar AbstractFloat) ∷ vec 2 (scalar F16) ∷ []) (mat 2 3 (scalar F16) ∷ vec 2 (scalar F16) ∷ []) (vec 3 (scalar F16))
 matrix_vector_half = row_chosen (matrix_vector_row 2 3 (scalar AbstractFloat) (scalar F16) (scalar F16) (inl ((2, (converts_scalar AbstractFloat F16 2).1 refl), refl))) tt tt
 
 -- concrete types

@@ -2,7 +2,8 @@
 use Rattle.std.proofs.Common.{◌≢◌, List, [], ◌∷◌, Option, Some, None, All, IsPermutation, refl, sym, ◌∙◌, ap, subst, inl, inr, arith}
 use Rattle.wgsl_rules.specs.types.Types.{WgslType}
 use Rattle.wgsl_rules.specs.conversion.Conversion.{IsValueType, ConvertsTo}
-use Rattle.wgsl_rules.specs.conversion.Common.{IsLeftCommon, Receives, IsLeastCommon}
+use Rattle.wgsl_rules.specs.conversion.Common.{IsLeftCommon}
+use Rattle.wgsl_rules.specs.Headline.{Receives, IsLeastCommon}
 use Rattle.wgsl_rules.specs.Laws.{ConversionOrder, RanksAdd, TargetsComparable, RankNamesTarget, CommonAnyOrder, LeftCommonIsLeast, CommonSymmetric, OneChoice, RowIsChoice, IsCallName, CallRowIsChoice}
 use Rattle.wgsl_rules.proofs.calls.ChosenRows.{call_chosen, call_refused}
 use Rattle.wgsl_rules.proofs.operators.ChosenRows.{two_values, row_chosen, row_refused}

@@ -4,9 +4,10 @@ use Rattle.wgsl_rules.specs.types.Types.{WgslType}
 use Rattle.wgsl_rules.specs.conversion.Conversion.{Converts, ConvertsTo}
 use Rattle.wgsl_syntax.specs.declared.operator.BinaryOperator.{BinaryOperator}
 use Rattle.wgsl_rules.specs.operators.Candidates.{Name, operator, IsCandidate}
-use Rattle.wgsl_rules.specs.operators.Choice.{Takes, IsChoice}
+use Rattle.wgsl_rules.specs.operators.Choice.{Takes}
 use Rattle.wgsl_rules.specs.operators.Rows.{IsRow, IsCallRow}
-use Rattle.wgsl_rules.specs.conversion.Common.{IsCommon, IsLeftCommon, Receives, IsLeastCommon}
+use Rattle.wgsl_rules.specs.conversion.Common.{IsCommon, IsLeftCommon}
+use Rattle.wgsl_rules.specs.Headline.{IsLeastCandidate, Receives, IsLeastCommon}
 
 -- On value types conversion is a partial order.
 pub record ConversionOrder (a b c : WgslType) : Type 0 where
@@ -45,12 +46,14 @@ CommonSymmetric a b = (r : Option WgslType) → IsCommon a b r ↔ IsCommon b a 
 
 -- Where a candidate takes the operands there is one choice.
 pub record OneChoice (n : Name) (ts : List WgslType) : Type 0 where
-  pub exists : (us : List WgslType) (r : WgslType) → IsCandidate n us r → Takes us ts → (vs : List WgslType) × (s : WgslType) × IsChoice n ts vs s
-  pub one : (us vs : List WgslType) (r s : WgslType) → IsChoice n ts us r → IsChoice n ts vs s → (us ≡ vs) × (r ≡ s)
+  pub exists : (us : List WgslType) (r : WgslType) → IsCandidate n us r → Takes us ts →
+      (vs : List WgslType) × (s : WgslType) × IsLeastCandidate n ts vs s
+  pub one : (us vs : List WgslType) (r s : WgslType) → IsLeastCandidate n ts us r → IsLeastCandidate n ts vs s →
+      (us ≡ vs) × (r ≡ s)
 
 -- A row is the choice, and without a row no candidate takes the operands.
 pub record RowIsChoice (o : BinaryOperator) (a b : WgslType) : Type 0 where
-  pub chosen : (l r s : WgslType) → IsRow o a b l r s → IsChoice (operator o) (a ∷ b ∷ []) (l ∷ r ∷ []) s
+  pub chosen : (l r s : WgslType) → IsRow o a b l r s → IsLeastCandidate (operator o) (a ∷ b ∷ []) (l ∷ r ∷ []) s
   pub refused : ((l r s : WgslType) → ¬ IsRow o a b l r s) → (us : List WgslType) (r : WgslType) → IsCandidate (operator o) us r → ¬ Takes us (a ∷ b ∷ [])
 
 -- The five calls.
@@ -59,5 +62,5 @@ IsCallName (operator o) = ⊥
 IsCallName n = Unit {0}
 
 pub record CallRowIsChoice (n : Name) (ts : List WgslType) : Type 0 where
-  pub chosen : (r : WgslType) → IsCallRow n ts r → (us : List WgslType) × IsChoice n ts us r
+  pub chosen : (r : WgslType) → IsCallRow n ts r → (us : List WgslType) × IsLeastCandidate n ts us r
   pub refused : ((r : WgslType) → ¬ IsCallRow n ts r) → (us : List WgslType) (r : WgslType) → IsCandidate n us r → ¬ Takes us ts

@@ -1,3 +1,4 @@
+pub mod Headline
 pub mod types
 pub mod errors
 pub mod conversion

@@ -3,7 +3,8 @@ ghost use Rattle.std.specs.Prelude.{◌≡◌, ◌≢◌, ◌↔◌, IfOk, IsOk}
 ghost use Rattle.wgsl_rules.specs.types.Kinds.{IsLeaf};
 ghost use Rattle.wgsl_rules.specs.conversion.Conversion.{IsValueType};
 ghost use Rattle.wgsl_rules.specs.conversion.Loading.{IsReference, loaded_of};
-ghost use Rattle.wgsl_rules.specs.conversion.Concrete.{IsAbstract, HasFloatMatrices, IsLeastConcrete, concretized};
+ghost use Rattle.wgsl_rules.specs.conversion.Concrete.{IsAbstract, HasFloatMatrices, concretized};
+ghost use Rattle.wgsl_rules.specs.Headline.{IsLeastConcrete};
 ghost use Rattle.wgsl_core.specs.View.{view};
 
 use crate::ty::Type;

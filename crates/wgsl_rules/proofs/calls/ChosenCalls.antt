@@ -26,6 +26,7 @@ use Rattle.wgsl_rules.specs.calls.Table.{call_table, rows_named}
 use Rattle.wgsl_rules.specs.calls.Answers.{IsAnswerOf, IsCallAnswer, name_of, IsChosenCall, IsLeastCallAnswer}
 use Rattle.wgsl_rules.proofs.conversion.Order.{above_from_within}
 use Rattle.wgsl_rules.proofs.conversion.Commons.{common_join, values_head, values_tail}
+use Rattle.wgsl_rules.proofs.operators.Choices.{chosen_answer, refused_answer}
 use Rattle.wgsl_rules.proofs.Laws.{call_row_is_choice}
 use Rattle.wgsl_rules.proofs.calls.OneAnswer.{answer_once}
 
@@ -267,12 +268,13 @@ row_answers (select_each_row n j e b c m) =
 
 chosen : (n : Name) → IsCallName n → (ts : List WgslType) → All IsValueType ts → (a : Answer) → IsAnswerOf (rows_named (name_of n) call_table) (call (name_of n) None ts) a → IsRowOf n ts a →
     IsChosenCall n (call (name_of n) None ts) a
-chosen n h ts v (Ok (Some t)) k r = (call_row_is_choice n h ts v).chosen t r
+chosen n h ts v (Ok (Some t)) k r = chosen_answer ((call_row_is_choice n h ts v).chosen t r).1
 chosen n h ts v (Ok None) k r = absurd r
 chosen n h ts v (Err e) k r = (
   r,
-  (call_row_is_choice n h ts v).refused
-      (λ t q. absurd (cc (answer_once (rows_named (name_of n) call_table) (call (name_of n) None ts) (Err e) (Ok (Some t)) refl k (row_answers q)))),
+  refused_answer
+      ((call_row_is_choice n h ts v).refused
+      (λ t q. absurd (cc (answer_once (rows_named (name_of n) call_table) (call (name_of n) None ts) (Err e) (Ok (Some t)) refl k (row_answers q))))),
 )
 
 -- What a call answers is the result of the choice.

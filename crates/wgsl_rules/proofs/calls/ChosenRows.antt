@@ -10,10 +10,11 @@ use Rattle.wgsl_syntax.specs.declared.result_struct.ResultPrecision.{ResultPreci
 use Rattle.wgsl_rules.specs.types.Types.{Layer, vec_of, WgslType, scalar, within, vec}
 use Rattle.wgsl_rules.specs.types.ResultStructs.{result_struct}
 use Rattle.wgsl_rules.specs.conversion.Conversion.{BaseStep, int_to_float, int_to_i32, int_to_u32, int_to_i64, int_to_u64, float_to_f32, float_to_f16, result_to_f32, result_to_f16, Step, base, inside, IsValueType, ConvertsTo}
-use Rattle.wgsl_rules.specs.conversion.Common.{IsCommon, IsLeftCommon, Receives, IsLeastCommon}
+use Rattle.wgsl_rules.specs.conversion.Common.{IsCommon, IsLeftCommon}
 use Rattle.wgsl_rules.specs.operators.Candidates.{Name, min, max, clamp, dot, select, IsMinMax, IsCandidate, of_two, of_three, products, either, each_either}
 use Rattle.wgsl_rules.specs.types.Kinds.{IsNumeric, IsNumericOrVector, IsScalarOrVector}
-use Rattle.wgsl_rules.specs.operators.Choice.{HasRanks, Takes, IsChoice}
+use Rattle.wgsl_rules.specs.operators.Choice.{HasRanks, Takes}
+use Rattle.wgsl_rules.specs.Headline.{Receives, IsLeastCommon, IsLeastCandidate}
 use Rattle.wgsl_rules.specs.operators.Rows.{IsCallRow, two_row, clamp_row, dot_row, select_row, select_each_row}
 use Rattle.wgsl_rules.specs.Laws.{IsCallName}
 use Rattle.wgsl_rules.proofs.conversion.Order.{Above, here, further, above_inside, above_to_within, above_from_within, above_converts, above_values, value_converts}
@@ -57,7 +58,7 @@ three_values a b c va vb vc = All-cons IsValueType a (b ∷ c ∷ []) va (two_va
 -- min and max
 
 two_form : (n : Name) → IsMinMax n → (a b c : WgslType) → IsNumericOrVector a → IsCommon a b (Some c) → IsValueType a → IsValueType b →
-    IsChoice n (a ∷ b ∷ []) (c ∷ c ∷ []) c
+    IsLeastCandidate n (a ∷ b ∷ []) (c ∷ c ∷ []) c
 two_form min h (scalar s) b c k m va vb =
     let j = common_join (scalar s) b c va vb m in
     both_plain min _ (scalar s) b c va vb (sym (above_outer j.left)) refl refl m (number_up j.left k)
@@ -67,12 +68,12 @@ two_form max h (scalar s) b c k m va vb =
 two_form min h (within (vec_of n) (scalar s)) b c k m va vb =
     let j = common_join (vec n (scalar s)) b c va vb m in
     let x = above_from_within j.left (vec_of n) (scalar s) refl in
-    subst (λ c. IsChoice min (vec n (scalar s) ∷ b ∷ []) (c ∷ c ∷ []) c) (sym x.1)
+    subst (λ c. IsLeastCandidate min (vec n (scalar s) ∷ b ∷ []) (c ∷ c ∷ []) c) (sym x.1)
     (layered_common min _ n (vec n (scalar s)) b x.0 va vb refl refl (subst (λ c. IsCommon (vec n (scalar s)) b (Some c)) x.1 m) (number_up x.2 k))
 two_form max h (within (vec_of n) (scalar s)) b c k m va vb =
     let j = common_join (vec n (scalar s)) b c va vb m in
     let x = above_from_within j.left (vec_of n) (scalar s) refl in
-    subst (λ c. IsChoice max (vec n (scalar s) ∷ b ∷ []) (c ∷ c ∷ []) c) (sym x.1)
+    subst (λ c. IsLeastCandidate max (vec n (scalar s) ∷ b ∷ []) (c ∷ c ∷ []) c) (sym x.1)
     (layered_common max _ n (vec n (scalar s)) b x.0 va vb refl refl (subst (λ c. IsCommon (vec n (scalar s)) b (Some c)) x.1 m) (number_up x.2 k))
 two_form min h a b c k m va vb = absurd k
 two_form max h a b c k m va vb = absurd k
@@ -139,7 +140,7 @@ first_above a b c d v h =
     )
 
 clamp_form : (a b c d : WgslType) → IsNumericOrVector a → IsLeftCommon (a ∷ b ∷ c ∷ []) (Some d) → IsValueType a → IsValueType b → IsValueType c →
-    IsChoice clamp (a ∷ b ∷ c ∷ []) (d ∷ d ∷ d ∷ []) d
+    IsLeastCandidate clamp (a ∷ b ∷ c ∷ []) (d ∷ d ∷ d ∷ []) d
 clamp_form (scalar s) b c d k h va vb vc =
     let ts = scalar s ∷ b ∷ c ∷ [] in
     let v = three_values (scalar s) b c va vb vc in
@@ -158,7 +159,7 @@ clamp_form (within (vec_of n) (scalar s)) b c d k h va vb vc =
     let et : ts ≡ Under (vec_of n) (scalar s ∷ y.0 ∷ z.0 ∷ []) = cc (y.1, z.1) in
     let h' = left_inside (vec_of n) (scalar s) (y.0 ∷ z.0 ∷ []) x.0 ve
     (subst₂ (λ ts d. IsLeftCommon ts (Some d)) et x.1 h) in
-    subst₂ (λ ts d. IsChoice clamp ts (d ∷ d ∷ d ∷ []) d) (sym et) (sym x.1)
+    subst₂ (λ ts d. IsLeastCandidate clamp ts (d ∷ d ∷ d ∷ []) d) (sym et) (sym x.1)
     (row_choice clamp (Under (vec_of n) (scalar s ∷ y.0 ∷ z.0 ∷ [])) (scalar s ∷ y.0 ∷ z.0 ∷ []) _ x.0 (values_under (vec_of n) (scalar s ∷ y.0 ∷ z.0 ∷ []) ve) ve refl
     (scalar s, y.0 ∷ z.0 ∷ [], refl, refl, (y.0, z.0 ∷ [], refl, refl, (z.0, [], refl, refl, refl))) h' (number_up x.2 k))
 clamp_form a b c d k h va vb vc = absurd k
@@ -166,7 +167,7 @@ clamp_form a b c d k h va vb vc = absurd k
 -- dot
 
 dot_form : (n : ℕ) (s : Scalar) → IsNumeric s → (b d : WgslType) → IsCommon (vec n (scalar s)) b (Some (vec n d)) → IsValueType b →
-    IsChoice dot (vec n (scalar s) ∷ b ∷ []) (vec n d ∷ vec n d ∷ []) d
+    IsLeastCandidate dot (vec n (scalar s) ∷ b ∷ []) (vec n d ∷ vec n d ∷ []) d
 dot_form n s k b d m vb =
     let j = common_join (vec n (scalar s)) b (vec n d) tt vb m in
     let x = above_from_within j.left (vec_of n) (scalar s) refl in
@@ -178,7 +179,7 @@ dot_form n s k b d m vb =
 self_converts : (t : WgslType) → ConvertsTo t t
 self_converts t = above_converts here
 
-select_plain : (s : Scalar) (b c : WgslType) → IsCommon (scalar s) b (Some c) → IsValueType b → IsChoice select (scalar s ∷ b ∷ scalar Bool ∷ []) (c ∷ c ∷ scalar Bool ∷ []) c
+select_plain : (s : Scalar) (b c : WgslType) → IsCommon (scalar s) b (Some c) → IsValueType b → IsLeastCandidate select (scalar s ∷ b ∷ scalar Bool ∷ []) (c ∷ c ∷ scalar Bool ∷ []) c
 select_plain s b c m vb =
     let ts = scalar s ∷ b ∷ scalar Bool ∷ [] in
     let j = common_join (scalar s) b c tt vb m in
@@ -189,16 +190,16 @@ select_plain s b c m vb =
 
 select_vectors : (n : ℕ) (e f t u d : WgslType) → (form : Form select) → form.slots ≡ inner (vec_of n) ∷ inner (vec_of n) ∷ fixed u ∷ [] → form.gives ≡ inner (vec_of n) → Admits form.kind d →
     form_of select (layer (vec_of n) ∷ layer (vec_of n) ∷ outer t ∷ []) ≡ Some form → IsCommon e f (Some d) → ConvertsTo t u → IsValueType e → IsValueType f → IsValueType t →
-    IsChoice select (vec n e ∷ vec n f ∷ t ∷ []) (vec n d ∷ vec n d ∷ u ∷ []) (vec n d)
+    IsLeastCandidate select (vec n e ∷ vec n f ∷ t ∷ []) (vec n d ∷ vec n d ∷ u ∷ []) (vec n d)
 select_vectors n e f t u d form p g k q m h ve vf vt =
     let ts = vec n e ∷ vec n f ∷ t ∷ [] in
-    subst₂ (λ us r. IsChoice select ts us r) (ap (λ ss. fill_all ss d) p) (ap (λ s. fill s d) g)
+    subst₂ (λ us r. IsLeastCandidate select ts us r) (ap (λ ss. fill_all ss d) p) (ap (λ s. fill s d) g)
     (row_choice select ts (e ∷ f ∷ []) form d (three_values (vec n e) (vec n f) t ve vf vt) (two_values e f ve vf) q
     (subst (λ ss. IsPut ss ts (e ∷ f ∷ [])) (sym p) (e, f ∷ [], refl, refl, (f, [], refl, refl, (h, refl)))) (Some d, m, refl) k)
 
 select_within : (n : ℕ) (e b t u c : WgslType) → (form : Form select) → form.slots ≡ inner (vec_of n) ∷ inner (vec_of n) ∷ fixed u ∷ [] → form.gives ≡ inner (vec_of n) → ((d : WgslType) → Admits form.kind d) →
     form_of select (layer (vec_of n) ∷ layer (vec_of n) ∷ outer t ∷ []) ≡ Some form → IsCommon (vec n e) b (Some c) → ConvertsTo t u → IsValueType e → IsValueType b → IsValueType t →
-    IsChoice select (vec n e ∷ b ∷ t ∷ []) (c ∷ c ∷ u ∷ []) c
+    IsLeastCandidate select (vec n e ∷ b ∷ t ∷ []) (c ∷ c ∷ u ∷ []) c
 select_within n e b t u c form p g k q m h ve vb vt =
     let j = common_join (vec n e) b c ve vb m in
     let x = above_from_within j.left (vec_of n) e refl in
@@ -208,21 +209,21 @@ select_within n e b t u c form p g k q m h ve vb vt =
     let z = common_within (vec_of n) (vec_of n) e y.0 (vec n x.0) ve vf m' in
     let ez : z.0 ≡ x.0 = cc (z.2) in
     let w = select_vectors n e y.0 t u x.0 form p g (k x.0) q (subst (λ d. IsCommon e y.0 (Some d)) ez z.3) h ve vf vt in
-    subst₂ (λ b c. IsChoice select (vec n e ∷ b ∷ t ∷ []) (c ∷ c ∷ u ∷ []) c) (sym y.1) (sym x.1) w
+    subst₂ (λ b c. IsLeastCandidate select (vec n e ∷ b ∷ t ∷ []) (c ∷ c ∷ u ∷ []) c) (sym y.1) (sym x.1) w
 
 select_form : (a b c : WgslType) → IsScalarOrVector a → IsCommon a b (Some c) → IsValueType a → IsValueType b →
-    IsChoice select (a ∷ b ∷ scalar Bool ∷ []) (c ∷ c ∷ scalar Bool ∷ []) c
+    IsLeastCandidate select (a ∷ b ∷ scalar Bool ∷ []) (c ∷ c ∷ scalar Bool ∷ []) c
 select_form (scalar s) b c k m va vb = select_plain s b c m vb
 select_form (within (vec_of n) e) b c k m va vb =
     select_within n e b (scalar Bool) (scalar Bool) c _ refl refl (λ d. tt) refl m (self_converts (scalar Bool)) va vb tt
 select_form a b c k m va vb = absurd k
 
 select_each_form : (n m : ℕ) (e b c : WgslType) → IsCommon (vec n e) b (Some c) → IsValueType e → IsValueType b →
-    IsChoice select (vec n e ∷ b ∷ vec m (scalar Bool) ∷ []) (c ∷ c ∷ vec m (scalar Bool) ∷ []) c
+    IsLeastCandidate select (vec n e ∷ b ∷ vec m (scalar Bool) ∷ []) (c ∷ c ∷ vec m (scalar Bool) ∷ []) c
 select_each_form n m e b c k ve vb =
     select_within n e b (vec m (scalar Bool)) (vec m (scalar Bool)) c _ refl refl (λ d. tt) refl k (self_converts (vec m (scalar Bool))) ve vb tt
 
-pub call_chosen : {n : Name} {ts : List WgslType} {r : WgslType} → IsCallRow n ts r → All IsValueType ts → (us : List WgslType) × IsChoice n ts us r
+pub call_chosen : {n : Name} {ts : List WgslType} {r : WgslType} → IsCallRow n ts r → All IsValueType ts → (us : List WgslType) × IsLeastCandidate n ts us r
 call_chosen (two_row n h a b c k m) v =
     (c ∷ c ∷ [], two_form n h a b c k m (values_head a (b ∷ []) v) (values_head b [] (values_tail a (b ∷ []) v)))
 call_chosen (clamp_row a b c d k m) v =

@@ -4,7 +4,8 @@ use Rattle.std.proofs.lemmas.List.Elements.{All-nil, All-cons, All-head, All-tai
 use Rattle.std.proofs.lemmas.List.Sorted.{All-permutation, length_permutation, IsPermutation-sym}
 use Rattle.wgsl_rules.specs.types.Types.{WgslType}
 use Rattle.wgsl_rules.specs.conversion.Conversion.{IsValueType, ConvertsTo}
-use Rattle.wgsl_rules.specs.conversion.Common.{IsCommon, IsLeftCommonFrom, IsLeftCommon, Receives, IsLeastCommon}
+use Rattle.wgsl_rules.specs.conversion.Common.{IsCommon, IsLeftCommonFrom, IsLeftCommon}
+use Rattle.wgsl_rules.specs.Headline.{Receives, IsLeastCommon}
 use Rattle.wgsl_rules.proofs.conversion.Order.{Above, here, above_trans, above_chain, above_values, above_converts, value_converts, dec_converts, converts_antisym}
 
 -- of two
@@ -157,6 +158,12 @@ least_common_once ts u v h k = converts_antisym (h.1 v k.0) (k.1 u h.0)
 pub receives_permuted : (u : WgslType) (ts us : List WgslType) → IsPermutation ts us → Receives u ts → Receives u us
 receives_permuted u = All-permutation (λ t. ConvertsTo t u)
 
+pub least_permuted : (u : WgslType) (ts us : List WgslType) → IsPermutation ts us → IsLeastCommon u ts → IsLeastCommon u us
+least_permuted u ts us p h = (
+  receives_permuted u ts us p h.0,
+  λ v g. h.1 v (receives_permuted v us ts (IsPermutation-sym ts us p) g),
+)
+
 pub common_any_order_lem : (ts us : List WgslType) (r s : Option WgslType) → IsPermutation ts us → All IsValueType ts →
     IsLeftCommon ts r → IsLeftCommon us s → r ≡ s
 common_any_order_lem [] [] r s p vs h k = h ∙ sym k
@@ -170,5 +177,4 @@ common_any_order_lem (t ∷ ts) (u ∷ us) (Some c) None p vs h k =
 common_any_order_lem (t ∷ ts) (u ∷ us) (Some c) (Some d) p vs h k =
     let a = left_common_least (t ∷ ts) c vs h in
     let b = left_common_least (u ∷ us) d (All-permutation IsValueType (t ∷ ts) (u ∷ us) p vs) k in
-    let q = IsPermutation-sym (t ∷ ts) (u ∷ us) p in
-    ap Some (least_common_once (t ∷ ts) c d a (receives_permuted d (u ∷ us) (t ∷ ts) q b.0, λ v g. b.1 v (receives_permuted v (t ∷ ts) (u ∷ us) p g)))
+    ap Some (least_common_once (t ∷ ts) c d a (least_permuted d (u ∷ us) (t ∷ ts) (IsPermutation-sym (t ∷ ts) (u ∷ us) p) b))

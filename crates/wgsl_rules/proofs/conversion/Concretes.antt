@@ -5,7 +5,8 @@ use Rattle.wgsl_syntax.specs.declared.scalar.Scalar.{Scalar}
 use Rattle.wgsl_syntax.specs.declared.scalar.Scalar.TheVariants.{AbstractInt, AbstractFloat, I32, U32, F32, F16, I64, U64, F64}
 use Rattle.wgsl_rules.specs.types.Types.{Layer, array_of, vec_of, mat_of, WgslType, scalar, within}
 use Rattle.wgsl_rules.specs.conversion.Conversion.{int_to_i32, float_to_f32, base, IsValueType}
-use Rattle.wgsl_rules.specs.conversion.Concrete.{is_abstract, IsAbstract, IsFloat, HasFloatMatrices, IsLeastConcrete, concretized}
+use Rattle.wgsl_rules.specs.conversion.Concrete.{is_abstract, IsAbstract, IsFloat, HasFloatMatrices, concretized}
+use Rattle.wgsl_rules.specs.Headline.{IsLeastConcrete}
 use Rattle.wgsl_rules.proofs.conversion.Steps.{depth}
 use Rattle.wgsl_rules.proofs.conversion.Order.{Above, here, further, above_depth, above_level, above_inside, above_from_within, above_converts, value_converts}
 use Rattle.wgsl_rules.proofs.conversion.Equations.{above_plain, IsPlainScalar, scalar_rank, converts_scalar}

@@ -1,15 +1,17 @@
 -- Common types of lists, one type after another.
 use Rattle.std.proofs.Common.{◌≡◌, ◌≢◌, ◌⊎◌, List, [], ◌∷◌, ◌++◌, Option, Some, None, refl, sym, subst, inl, inr}
 use Rattle.wgsl_rules.specs.types.Types.{WgslType}
-use Rattle.wgsl_rules.specs.conversion.Common.{IsCommon, IsLeftCommonFrom, IsLeftCommon, Receives, IsLeastCommon}
+use Rattle.wgsl_rules.specs.conversion.Common.{IsCommon, IsLeftCommonFrom, IsLeftCommon}
 use Rattle.wgsl_rules.specs.Laws.{LeftCommonIsLeast}
-use Rattle.wgsl_rules.specs.conversion.Lists.{IsLeastCommonAnswer, IsCommonOfList, IsCommonOfGiven}
+use Rattle.wgsl_rules.specs.conversion.Lists.{IsCommonOfList, IsCommonOfGiven}
+use Rattle.wgsl_rules.specs.Headline.{Receives, IsLeastCommon, IsLeastCommonAnswer}
+use Rattle.wgsl_rules.proofs.conversion.Commons.{least_permuted}
 use Rattle.wgsl_rules.proofs.Laws.{left_is_least}
 
 -- What the left common is
 
 least_is_given : (ts : List WgslType) (r : Option WgslType) → IsLeftCommon ts r → LeftCommonIsLeast ts → IsLeastCommonAnswer ts r
-least_is_given ts r h l = record { some = λ u. (some_to u, λ p. l.one r (Some u) h (l.least_is_left p.0 u p.1)); none = (none_to ts r h l, none_from ts r h l) }
+least_is_given ts r h l = record { some = λ u. (some_to u, λ p. l.one r (Some u) h (l.least_is_left p.0 u p.1)); none = (none_to ts r h l, none_from ts r h l); any_order = λ us u p e. least_permuted u ts us p (some_to u e).1 }
   where
     not_empty : (ts : List WgslType) (u : WgslType) → IsLeftCommon ts (Some u) → ts ≢ []
     not_empty [] u h e = absurd (cc h)

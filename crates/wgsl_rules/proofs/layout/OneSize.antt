@@ -1,10 +1,11 @@
 -- A type has at most one size and one alignment.
-use Rattle.std.proofs.Common.{◌≡◌, ℕ, ◌*◌, ◌≤◌, inl, inr, List, [], ◌∷◌, Option, Some, None, refl, sym, ap, subst, ◌∙◌, arith}
+use Rattle.std.proofs.Common.{◌≡◌, ℕ, ◌*◌, ◌≤◌, ◌↔◌, inl, inr, List, [], ◌∷◌, Option, Some, None, refl, sym, ap, subst, ◌∙◌, arith}
 use Rattle.wgsl_syntax.specs.declared.scalar.Scalar.{Scalar}
 use Rattle.wgsl_syntax.specs.declared.scalar.Scalar.TheVariants.{AbstractInt, AbstractFloat, I32, U32, F32, F16, I64, U64}
 use Rattle.wgsl_rules.specs.types.Types.{WgslType, scalar, struct, atomic, Members, no_members, member, array, vec, mat}
 use Rattle.wgsl_rules.specs.layout.Placement.{MemberLayout, IsLeastTotal, greatest}
-use Rattle.wgsl_rules.specs.layout.Layout.{IsScalarSize, IsAtomicSize, IsTimes, IsRoundedUp, IsStride, IsArraySize, IsAlignOfThree, IsVectorAlign, IsGiven, IsStructSize, IsStructAlign, HasSize, HasAlignment, HaveParts, HaveAligns}
+use Rattle.wgsl_rules.specs.Headline.{IsLeastPlacedSize}
+use Rattle.wgsl_rules.specs.layout.Layout.{IsScalarSize, IsAtomicSize, IsTimes, IsRoundedUp, IsStride, IsArraySize, IsAlignOfThree, IsVectorAlign, IsGiven, IsStructSize, IsStructAlign, HasSize, HasAlignment, HaveParts, HaveAligns, IsExactly, HasNoSize}
 use Rattle.wgsl_rules.proofs.layout.Placing.{same_least}
 
 abbrev pub IsOne : (ℕ → Type 0) → Type 0
@@ -101,3 +102,10 @@ mutual
   one_aligns (member name t size align ms) (x ∷ xs) [] a b = absurd b
   one_aligns (member name t size align ms) (x ∷ xs) (y ∷ ys) a b =
       ap (λ z. z ∷ xs) (one_given align (HasAlignment t) (one_align t) x y a.0 b.0) ∙ ap (λ zs. y ∷ zs) (one_aligns ms xs ys a.1 b.1)
+
+-- A struct's size is the least total of every list of sizes and alignments that its members have, since there is one.
+pub least_placed : (ms : Members) (r : Option ℕ) → IsExactly r (IsStructSize (HaveParts ms)) → (r ≡ None) ↔ HasNoSize ms → IsLeastPlacedSize ms r
+least_placed ms r is lacks = record { exact = is; least = of_parts; none = lacks }
+  where
+    of_parts : (n : ℕ) (parts : List MemberLayout) → r ≡ Some n → HaveParts ms parts → IsLeastTotal parts n
+    of_parts n parts e k = let s = (is n).0 e in subst (λ ps. IsLeastTotal ps n) (one_parts ms s.parts parts s.known k) s.least

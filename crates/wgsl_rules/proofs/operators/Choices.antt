@@ -9,7 +9,8 @@ use Rattle.wgsl_syntax.specs.declared.operator.BinaryOperator.{BinaryOperator}
 use Rattle.wgsl_syntax.specs.declared.operator.BinaryOperator.TheVariants.{ShortCircuitOr, ShortCircuitAnd, Addition, Subtraction, Multiplication, Division, Remainder, Equality, Inequality, LessThan, LessThanEqual, GreaterThan, GreaterThanEqual, BitwiseOr, BitwiseAnd, BitwiseXor, ShiftLeft, ShiftRight}
 use Rattle.wgsl_rules.specs.operators.Candidates.{Name, operator, min, max, clamp, select, IsArithmetic, IsSum, IsComparison, IsLogical, IsBitwise, IsOrAnd, IsShift, IsMinMax, IsCandidate, scalars, vectors, scalar_vector, vector_scalar, matrices, scalar_matrix, matrix_scalar, vector_matrix, matrix_vector, matrix_matrix, compared, compared_vectors, logical, bits, bits_vectors, bools_vectors, shifted, shifted_vectors, of_two, of_three, products, either, each_either}
 use Rattle.wgsl_rules.specs.types.Kinds.{IsInteger, IsNumericOrVector, IsScalarOrVector}
-use Rattle.wgsl_rules.specs.operators.Choice.{HasRanks, Takes, IsNowhereMore, IsSomewhereLess, IsChoice}
+use Rattle.wgsl_rules.specs.operators.Choice.{HasRanks, Takes, IsNowhereMore, IsSomewhereLess}
+use Rattle.wgsl_rules.specs.Headline.{IsLeastCandidate, IsChosenAnswer}
 use Rattle.wgsl_rules.proofs.operators.Families.{fill, fill_all, IsPut, IsLeastOf, least_of, none_of, least_of_taken, taken_puts}
 use Rattle.wgsl_rules.proofs.operators.Forms.{Admits, above_admits, Outer, plain, layer, outers, ranked_outers, Form, arithmetic, sums, matrix_products, comparisons, shifts, or_else, form_of}
 
@@ -124,7 +125,7 @@ same_form n ts us vs r s ks ws va a b h k =
     cc e
 
 choice_of : (n : Name) (ts : List WgslType) (f : Form n) (b : WgslType) → All IsValueType ts → form_of n (outers ts) ≡ Some f → Admits f.kind b →
-    IsLeastOf f.slots ts b → IsChoice n ts (fill_all f.slots b) (fill f.gives b)
+    IsLeastOf f.slots ts b → IsLeastCandidate n ts (fill_all f.slots b) (fill f.gives b)
 choice_of n ts f b va e h k = record {
   candidate = f.sound b h;
   ranks = k.ranks;
@@ -149,7 +150,7 @@ choice_of n ts f b va e h k = record {
         family q.form (cc d) q.at vs s ws q.operands q.result r
 
 pub some_choice : (n : Name) (ts us : List WgslType) (r : WgslType) → All IsValueType ts → IsCandidate n us r → Takes us ts →
-    (vs : List WgslType) × (s : WgslType) × IsChoice n ts vs s
+    (vs : List WgslType) × (s : WgslType) × IsLeastCandidate n ts vs s
 some_choice n ts us r va q h =
     let m = belongs q in
     let e = ap (λ os. form_of n os) (ranked_outers ts us h.0 va h.1) ∙ m.known in
@@ -165,7 +166,7 @@ contrary (v ∷ vs) [] h k = h
 contrary (v ∷ vs) (w ∷ ws) h (inl k) = omega (arith, h.0, k)
 contrary (v ∷ vs) (w ∷ ws) h (inr k) = contrary vs ws h.1 k
 
-pub choice_once : (n : Name) (ts us vs : List WgslType) (r s : WgslType) → IsChoice n ts us r → IsChoice n ts vs s → (us ≡ vs) × (r ≡ s)
+pub choice_once : (n : Name) (ts us vs : List WgslType) (r s : WgslType) → IsLeastCandidate n ts us r → IsLeastCandidate n ts vs s → (us ≡ vs) × (r ≡ s)
 choice_once n ts us vs r s a b =
     elim (b.least us r a.ranks a.candidate a.takes) [
       | inl e ↦ e
@@ -175,11 +176,25 @@ choice_once n ts us vs r s a b =
       ]
     ]
 
+-- The answer: the result of the choice, or none where no candidate takes the operands.
+
+pub chosen_answer : {n : Name} {ts us : List WgslType} {t : WgslType} → IsLeastCandidate n ts us t → IsChosenAnswer n ts (Some t)
+chosen_answer {n} {ts} {us} {t} h = record {
+  some = λ s. (λ e. (us, subst (λ s. IsLeastCandidate n ts us s) (cc e) h), λ k. ap Some (choice_once n ts us k.0 t s h k.1).1);
+  none = (λ e. absurd (cc e), λ f. absurd (f us t h.candidate (h.ranks, h.takes)));
+}
+
+pub refused_answer : {n : Name} {ts : List WgslType} → ((us : List WgslType) (t : WgslType) → IsCandidate n us t → ¬ Takes us ts) → IsChosenAnswer n ts None
+refused_answer {n} {ts} f = record {
+  some = λ t. (λ e. absurd (cc e), λ k. absurd (f k.0 t k.1.candidate (k.1.ranks, k.1.takes)));
+  none = (λ e. f, λ f. refl);
+}
+
 -- For the functions: a family's row, with the common type of what the operands put, gives the choice; without a common
 -- type, or where it isn't admitted, no candidate takes the operands; nor where there is no row.
 
 pub row_choice : (n : Name) (ts es : List WgslType) (f : Form n) (b : WgslType) → All IsValueType ts → All IsValueType es → form_of n (outers ts) ≡ Some f →
-    IsPut f.slots ts es → IsLeftCommon es (Some b) → Admits f.kind b → IsChoice n ts (fill_all f.slots b) (fill f.gives b)
+    IsPut f.slots ts es → IsLeftCommon es (Some b) → Admits f.kind b → IsLeastCandidate n ts (fill_all f.slots b) (fill f.gives b)
 row_choice n ts es f b va ve e p h a = choice_of n ts f b va e a (least_of f.slots ts es b f.opens va ve p h)
 
 pub row_none : (n : Name) (ts : List WgslType) → All IsValueType ts → form_of n (outers ts) ≡ None → (us : List WgslType) (r : WgslType) → IsCandidate n us r → ¬ Takes us ts

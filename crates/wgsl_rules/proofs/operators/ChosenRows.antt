@@ -11,7 +11,8 @@ use Rattle.wgsl_syntax.specs.declared.operator.BinaryOperator.{BinaryOperator}
 use Rattle.wgsl_syntax.specs.declared.operator.BinaryOperator.TheVariants.{ShortCircuitOr, ShortCircuitAnd, Addition, Subtraction, Multiplication, BitwiseOr, BitwiseAnd, BitwiseXor}
 use Rattle.wgsl_rules.specs.operators.Candidates.{Name, operator, IsArithmetic, IsSum, IsComparison, IsLogical, IsBitwise, IsOrAnd, IsShift, IsCandidate, scalars, vectors, scalar_vector, vector_scalar, matrices, scalar_matrix, matrix_scalar, vector_matrix, matrix_vector, matrix_matrix, compared, compared_vectors, logical, bits, bits_vectors, bools_vectors, shifted, shifted_vectors, of_two}
 use Rattle.wgsl_rules.specs.types.Kinds.{IsInteger, IsIntegerOrVector}
-use Rattle.wgsl_rules.specs.operators.Choice.{HasRanks, Takes, IsChoice}
+use Rattle.wgsl_rules.specs.operators.Choice.{HasRanks, Takes}
+use Rattle.wgsl_rules.specs.Headline.{IsLeastCandidate}
 use Rattle.wgsl_rules.specs.operators.Rows.{IsRow, scalar_row, vector_row, scalar_vector_row, vector_scalar_row, matrix_row, scalar_matrix_row, matrix_scalar_row, vector_matrix_row, matrix_vector_row, matrix_matrix_row, comparison_row, comparison_vector_row, logical_row, bools_row, bit_row, shift_row, shift_vector_row}
 use Rattle.wgsl_rules.proofs.conversion.Order.{Above, here, above_inside, above_to_within, above_from_within, above_converts, value_converts}
 use Rattle.wgsl_rules.proofs.conversion.Commons.{value_above, common_join, no_common, some_common, common_symmetric}
@@ -70,46 +71,46 @@ vector_of n a c v h = above_to_within h (vec_of n) c refl
 
 pub both_plain : (o : Name) (f : Form o) (a b c : WgslType) → IsValueType a → IsValueType b → outer c ≡ plain → f.slots ≡ whole ∷ whole ∷ [] →
     form_of o (plain ∷ plain ∷ []) ≡ Some f → IsCommon a b (Some c) → Admits f.kind c →
-    IsChoice o (a ∷ b ∷ []) (c ∷ c ∷ []) (fill f.gives c)
+    IsLeastCandidate o (a ∷ b ∷ []) (c ∷ c ∷ []) (fill f.gives c)
 both_plain o f a b c va vb p q e k h =
     let m = common_outers a b c va vb k in
     let os : outers (a ∷ b ∷ []) ≡ plain ∷ plain ∷ [] = cc (m.0, m.1, p) in
     let ts = two_values a b va vb in
-    subst (λ us. IsChoice o (a ∷ b ∷ []) us (fill f.gives c)) (ap (λ ss. fill_all ss c) q)
+    subst (λ us. IsLeastCandidate o (a ∷ b ∷ []) us (fill f.gives c)) (ap (λ ss. fill_all ss c) q)
     (row_choice o (a ∷ b ∷ []) (a ∷ b ∷ []) f c ts ts (ap (λ os. form_of o os) os ∙ e)
     (subst (λ ss. IsPut ss (a ∷ b ∷ []) (a ∷ b ∷ [])) (sym q) (b ∷ [], refl, ([], refl, refl))) (left_of_two a b c k) h)
 
 pub both_layered : (o : Name) (f : Form o) (l k : Layer) (a b c : WgslType) → IsValueType a → IsValueType b → f.slots ≡ inner l ∷ inner k ∷ [] →
     form_of o (layer l ∷ layer k ∷ []) ≡ Some f → IsCommon a b (Some c) → Admits f.kind c →
-    IsChoice o (within l a ∷ within k b ∷ []) (within l c ∷ within k c ∷ []) (fill f.gives c)
+    IsLeastCandidate o (within l a ∷ within k b ∷ []) (within l c ∷ within k c ∷ []) (fill f.gives c)
 both_layered o f l k a b c va vb q e m h =
     let xs = within l a ∷ within k b ∷ [] in
-    subst (λ us. IsChoice o xs us (fill f.gives c)) (ap (λ ss. fill_all ss c) q)
+    subst (λ us. IsLeastCandidate o xs us (fill f.gives c)) (ap (λ ss. fill_all ss c) q)
     (row_choice o xs (a ∷ b ∷ []) f c (two_values (within l a) (within k b) va vb) (two_values a b va vb) e
     (subst (λ ss. IsPut ss xs (a ∷ b ∷ [])) (sym q) (a, b ∷ [], refl, refl, (b, [], refl, refl, refl))) (left_of_two a b c m) h)
 
 left_layered : (o : Name) (f : Form o) (l : Layer) (a : WgslType) (s : Scalar) (c : WgslType) → IsValueType a → f.slots ≡ inner l ∷ whole ∷ [] →
     form_of o (layer l ∷ plain ∷ []) ≡ Some f → IsCommon a (scalar s) (Some c) → Admits f.kind c →
-    IsChoice o (within l a ∷ scalar s ∷ []) (within l c ∷ c ∷ []) (fill f.gives c)
+    IsLeastCandidate o (within l a ∷ scalar s ∷ []) (within l c ∷ c ∷ []) (fill f.gives c)
 left_layered o f l a s c va q e m h =
     let xs = within l a ∷ scalar s ∷ [] in
-    subst (λ us. IsChoice o xs us (fill f.gives c)) (ap (λ ss. fill_all ss c) q)
+    subst (λ us. IsLeastCandidate o xs us (fill f.gives c)) (ap (λ ss. fill_all ss c) q)
     (row_choice o xs (a ∷ scalar s ∷ []) f c (two_values (within l a) (scalar s) va tt) (two_values a (scalar s) va tt) e
     (subst (λ ss. IsPut ss xs (a ∷ scalar s ∷ [])) (sym q) (a, scalar s ∷ [], refl, refl, ([], refl, refl))) (left_of_two a (scalar s) c m) h)
 
 right_layered : (o : Name) (f : Form o) (s : Scalar) (k : Layer) (b c : WgslType) → IsValueType b → f.slots ≡ whole ∷ inner k ∷ [] →
     form_of o (plain ∷ layer k ∷ []) ≡ Some f → IsCommon (scalar s) b (Some c) → Admits f.kind c →
-    IsChoice o (scalar s ∷ within k b ∷ []) (c ∷ within k c ∷ []) (fill f.gives c)
+    IsLeastCandidate o (scalar s ∷ within k b ∷ []) (c ∷ within k c ∷ []) (fill f.gives c)
 right_layered o f s k b c vb q e m h =
     let xs = scalar s ∷ within k b ∷ [] in
-    subst (λ us. IsChoice o xs us (fill f.gives c)) (ap (λ ss. fill_all ss c) q)
+    subst (λ us. IsLeastCandidate o xs us (fill f.gives c)) (ap (λ ss. fill_all ss c) q)
     (row_choice o xs (scalar s ∷ b ∷ []) f c (two_values (scalar s) (within k b) tt vb) (two_values (scalar s) b tt vb) e
     (subst (λ ss. IsPut ss xs (scalar s ∷ b ∷ [])) (sym q) (b ∷ [], refl, (b, [], refl, refl, refl))) (left_of_two (scalar s) b c m) h)
 
 -- a common type under vectors: the operands are such vectors
 pub layered_common : (o : Name) (f : Form o) (n : ℕ) (a b c : WgslType) → IsValueType a → IsValueType b → f.slots ≡ inner (vec_of n) ∷ inner (vec_of n) ∷ [] →
     form_of o (layer (vec_of n) ∷ layer (vec_of n) ∷ []) ≡ Some f → IsCommon a b (Some (vec n c)) → Admits f.kind c →
-    IsChoice o (a ∷ b ∷ []) (vec n c ∷ vec n c ∷ []) (fill f.gives c)
+    IsLeastCandidate o (a ∷ b ∷ []) (vec n c ∷ vec n c ∷ []) (fill f.gives c)
 layered_common o f n a b c va vb q e m h =
     let j = common_join a b (vec n c) va vb m in
     let x = vector_of n a c va j.left in
@@ -119,25 +120,25 @@ layered_common o f n a b c va vb q e m h =
     let m' = subst₂ (λ a b. IsCommon a b (Some (vec n c))) x.1 y.1 m in
     let d = common_within (vec_of n) (vec_of n) x.0 y.0 (vec n c) vx vy m' in
     let ec : d.0 ≡ c = cc (d.2) in
-    subst₂ (λ a b. IsChoice o (a ∷ b ∷ []) (vec n c ∷ vec n c ∷ []) (fill f.gives c)) (sym x.1) (sym y.1)
+    subst₂ (λ a b. IsLeastCandidate o (a ∷ b ∷ []) (vec n c ∷ vec n c ∷ []) (fill f.gives c)) (sym x.1) (sym y.1)
     (both_layered o f (vec_of n) (vec_of n) x.0 y.0 c vx vy q e (subst (λ d. IsCommon x.0 y.0 (Some d)) ec d.3) h)
 
 vectors_chosen : (o : BinaryOperator) → IsArithmetic o → (n m : ℕ) (e f c : WgslType) → IsCommon (vec n e) (vec m f) (Some c) → IsValueType e → IsValueType f →
-    IsChoice (operator o) (vec n e ∷ vec m f ∷ []) (c ∷ c ∷ []) c
+    IsLeastCandidate (operator o) (vec n e ∷ vec m f ∷ []) (c ∷ c ∷ []) c
 vectors_chosen o h n m e f c k ve vf =
     let d = common_within (vec_of n) (vec_of m) e f c ve vf k in
-    subst (λ c. IsChoice (operator o) (vec n e ∷ vec m f ∷ []) (c ∷ c ∷ []) c) (sym d.2)
+    subst (λ c. IsLeastCandidate (operator o) (vec n e ∷ vec m f ∷ []) (c ∷ c ∷ []) c) (sym d.2)
     (layered_common (operator o) _ n (vec n e) (vec m f) d.0 ve vf refl (arithmetic_form o h (layer (vec_of n) ∷ layer (vec_of n) ∷ []) _ refl)
     (subst (λ c. IsCommon (vec n e) (vec m f) (Some c)) d.2 k) tt)
 
 matrices_chosen : (o : BinaryOperator) → IsSum o → (c r : ℕ) (e f d : WgslType) → IsCommon e f (Some d) → IsValueType e → IsValueType f →
-    IsChoice (operator o) (mat c r e ∷ mat c r f ∷ []) (mat c r d ∷ mat c r d ∷ []) (mat c r d)
+    IsLeastCandidate (operator o) (mat c r e ∷ mat c r f ∷ []) (mat c r d ∷ mat c r d ∷ []) (mat c r d)
 matrices_chosen Addition h c r e f d k ve vf = both_layered (operator Addition) _ (mat_of c r) (mat_of c r) e f d ve vf refl refl k tt
 matrices_chosen Subtraction h c r e f d k ve vf = both_layered (operator Subtraction) _ (mat_of c r) (mat_of c r) e f d ve vf refl refl k tt
 matrices_chosen o h c r e f d k ve vf = absurd h
 
 bits_chosen : (o : BinaryOperator) → IsBitwise o → (a b c : WgslType) → IsCommon a b (Some c) → IsIntegerOrVector c → IsValueType a → IsValueType b →
-    IsChoice (operator o) (a ∷ b ∷ []) (c ∷ c ∷ []) c
+    IsLeastCandidate (operator o) (a ∷ b ∷ []) (c ∷ c ∷ []) c
 bits_chosen BitwiseOr h a b (scalar s) k i va vb = both_plain (operator BitwiseOr) _ a b (scalar s) va vb refl refl refl k i
 bits_chosen BitwiseOr h a b (within (vec_of n) (scalar s)) k i va vb = layered_common (operator BitwiseOr) _ n a b (scalar s) va vb refl refl k (inl i)
 bits_chosen BitwiseOr h a b c k i va vb = absurd i
@@ -152,26 +153,26 @@ bits_chosen o h a b c k i va vb = absurd h
 self_common : (a : WgslType) → IsCommon a a (Some a)
 self_common a = inl (above_converts here, refl)
 
-logical_chosen : (o : BinaryOperator) → IsLogical o → IsChoice (operator o) (scalar Bool ∷ scalar Bool ∷ []) (scalar Bool ∷ scalar Bool ∷ []) (scalar Bool)
+logical_chosen : (o : BinaryOperator) → IsLogical o → IsLeastCandidate (operator o) (scalar Bool ∷ scalar Bool ∷ []) (scalar Bool ∷ scalar Bool ∷ []) (scalar Bool)
 logical_chosen ShortCircuitOr h = both_plain (operator ShortCircuitOr) _ (scalar Bool) (scalar Bool) (scalar Bool) tt tt refl refl refl (self_common (scalar Bool)) tt
 logical_chosen ShortCircuitAnd h = both_plain (operator ShortCircuitAnd) _ (scalar Bool) (scalar Bool) (scalar Bool) tt tt refl refl refl (self_common (scalar Bool)) tt
 logical_chosen o h = absurd h
 
 bools_chosen : (o : BinaryOperator) → IsOrAnd o → (n : ℕ) (a b : WgslType) → IsCommon a b (Some (vec n (scalar Bool))) → IsValueType a → IsValueType b →
-    IsChoice (operator o) (a ∷ b ∷ []) (vec n (scalar Bool) ∷ vec n (scalar Bool) ∷ []) (vec n (scalar Bool))
+    IsLeastCandidate (operator o) (a ∷ b ∷ []) (vec n (scalar Bool) ∷ vec n (scalar Bool) ∷ []) (vec n (scalar Bool))
 bools_chosen BitwiseOr h n a b k va vb = layered_common (operator BitwiseOr) _ n a b (scalar Bool) va vb refl refl k (inr tt)
 bools_chosen BitwiseAnd h n a b k va vb = layered_common (operator BitwiseAnd) _ n a b (scalar Bool) va vb refl refl k (inr tt)
 bools_chosen o h n a b k va vb = absurd h
 
 shift_chosen : (o : BinaryOperator) → IsShift o → (i : Scalar) → IsInteger i → (t : WgslType) → IsValueType t → ConvertsTo t (scalar U32) →
-    IsChoice (operator o) (scalar i ∷ t ∷ []) (scalar i ∷ scalar U32 ∷ []) (scalar i)
+    IsLeastCandidate (operator o) (scalar i ∷ t ∷ []) (scalar i ∷ scalar U32 ∷ []) (scalar i)
 shift_chosen o h i k t v m =
     let os : outers (scalar i ∷ t ∷ []) ≡ plain ∷ plain ∷ [] = ap (λ x. plain ∷ x ∷ []) (outer_of t (scalar U32) v m) in
     row_choice (operator o) (scalar i ∷ t ∷ []) (scalar i ∷ []) _ (scalar i) (two_values (scalar i) t tt v) (All-cons IsValueType (scalar i) [] tt (All-nil IsValueType))
     (ap (λ os. form_of (operator o) os) os ∙ shift_form o h (plain ∷ plain ∷ []) _ refl) ([], refl, (m, refl)) refl k
 
 shift_vectors_chosen : (o : BinaryOperator) → IsShift o → (n : ℕ) (i : Scalar) → IsInteger i → (t : WgslType) → IsValueType t → ConvertsTo t (scalar U32) →
-    IsChoice (operator o) (vec n (scalar i) ∷ vec n t ∷ []) (vec n (scalar i) ∷ vec n (scalar U32) ∷ []) (vec n (scalar i))
+    IsLeastCandidate (operator o) (vec n (scalar i) ∷ vec n t ∷ []) (vec n (scalar i) ∷ vec n (scalar U32) ∷ []) (vec n (scalar i))
 shift_vectors_chosen o h n i k t v m =
     row_choice (operator o) (vec n (scalar i) ∷ vec n t ∷ []) (scalar i ∷ []) _ (scalar i) (two_values (vec n (scalar i)) (vec n t) tt v) (All-cons IsValueType (scalar i) [] tt (All-nil IsValueType))
     (shift_form o h (layer (vec_of n) ∷ layer (vec_of n) ∷ []) _ refl)
@@ -188,7 +189,7 @@ plain_admits c h = absurd h
 pub common_scalar : (s : Scalar) (e c : WgslType) → IsValueType e → IsCommon (scalar s) e (Some c) → Admits any_scalar c
 common_scalar s e c ve k = plain_admits c (above_plain (common_join (scalar s) e c tt ve k).left tt)
 
-pub row_chosen : {o : BinaryOperator} {a b l r s : WgslType} → IsRow o a b l r s → IsValueType a → IsValueType b → IsChoice (operator o) (a ∷ b ∷ []) (l ∷ r ∷ []) s
+pub row_chosen : {o : BinaryOperator} {a b l r s : WgslType} → IsRow o a b l r s → IsValueType a → IsValueType b → IsLeastCandidate (operator o) (a ∷ b ∷ []) (l ∷ r ∷ []) s
 row_chosen (scalar_row o h x y c k) va vb =
     both_plain (operator o) _ (scalar x) (scalar y) c tt tt (scalar_common x y c k) refl (arithmetic_form o h (plain ∷ plain ∷ []) _ refl) k
     (common_has (λ c. Admits any_scalar c) (scalar x) (scalar y) c tt tt k)

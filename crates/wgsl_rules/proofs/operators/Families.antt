@@ -5,7 +5,8 @@ use Rattle.std.proofs.lemmas.List.Elements.{All-nil, All-cons}
 use native.Mathlib.Decide.{ℕ_discrete}
 use Rattle.wgsl_rules.specs.types.Types.{Layer, WgslType, within}
 use Rattle.wgsl_rules.specs.conversion.Conversion.{IsValueType, ConvertsTo}
-use Rattle.wgsl_rules.specs.conversion.Common.{IsLeftCommon, Receives}
+use Rattle.wgsl_rules.specs.conversion.Common.{IsLeftCommon}
+use Rattle.wgsl_rules.specs.Headline.{Receives}
 use Rattle.wgsl_rules.specs.operators.Choice.{HasRanks, Takes, IsNowhereMore, IsSomewhereLess}
 use Rattle.wgsl_rules.proofs.conversion.Steps.{depth}
 use Rattle.wgsl_rules.proofs.conversion.Order.{Above, above_depth, above_level, above_converts, above_values, above_inside, above_to_within, value_converts}

@@ -7,11 +7,12 @@ use Rattle.wgsl_rules.specs.types.Kinds.{IsIntegerOrVector, IsScalar, IsVector, 
 use Rattle.wgsl_rules.specs.conversion.Conversion.{IsValueType}
 use Rattle.wgsl_rules.specs.conversion.Common.{IsCommon}
 use Rattle.wgsl_rules.specs.operators.Candidates.{operator, IsArithmetic, IsComparison, IsLogical, IsBitwise, IsOrAnd, IsShift}
-use Rattle.wgsl_rules.specs.operators.Choice.{IsChoice}
+use Rattle.wgsl_rules.specs.Headline.{IsLeastCandidate, IsChosenAnswer}
 use Rattle.wgsl_rules.specs.operators.Rows.{IsRow, scalar_row, vector_row, scalar_vector_row, vector_scalar_row, matrix_row, scalar_matrix_row, matrix_scalar_row, vector_matrix_row, matrix_vector_row, matrix_matrix_row, comparison_row, comparison_vector_row, logical_row, bools_row, bit_row, shift_row, shift_vector_row}
-use Rattle.wgsl_rules.specs.operators.Answers.{BinaryCandidate, HasCandidate, NothingTakes}
+use Rattle.wgsl_rules.specs.operators.Answers.{BinaryCandidate, HasCandidate}
 use Rattle.wgsl_rules.proofs.conversion.Commons.{common_once}
 use Rattle.wgsl_rules.proofs.operators.Groups.{elements, Fits, IsShifted, arithmetic_needs, comparison_needs, logical_needs, bits_needs, shift_needs}
+use Rattle.wgsl_rules.proofs.operators.Choices.{chosen_answer, refused_answer}
 use Rattle.wgsl_rules.proofs.operators.ChosenRows.{row_chosen, row_refused}
 
 -- two types that have no common type have none
@@ -55,12 +56,15 @@ not_shifted n h l r t k = n (shift_needs h k)
 
 -- on value types a row is the choice, and without one nothing takes the operands
 pub chosen : {o : BinaryOperator} {a b : WgslType} (c : BinaryCandidate) → HasCandidate o a b (Some c) → IsValueType a → IsValueType b →
-    IsChoice (operator o) (a ∷ b ∷ []) (c.lhs ∷ c.rhs ∷ []) c.result
+    IsLeastCandidate (operator o) (a ∷ b ∷ []) (c.lhs ∷ c.rhs ∷ []) c.result
 chosen c k va vb = row_chosen k va vb
 
-pub nothing_takes : (o : BinaryOperator) (a b : WgslType) → HasCandidate o a b None → IsValueType a → IsValueType b → NothingTakes o a b
-unfolding NothingTakes
-nothing_takes o a b n va vb = row_refused o a b va vb n
+pub result_chosen : {o : BinaryOperator} {a b : WgslType} (c : BinaryCandidate) → HasCandidate o a b (Some c) → IsValueType a → IsValueType b →
+    IsChosenAnswer (operator o) (a ∷ b ∷ []) (Some c.result)
+result_chosen c k va vb = chosen_answer (row_chosen k va vb)
+
+pub nothing_chosen : {o : BinaryOperator} {a b : WgslType} → HasCandidate o a b None → IsValueType a → IsValueType b → IsChosenAnswer (operator o) (a ∷ b ∷ []) None
+nothing_chosen {o} {a} {b} n va vb = refused_answer (row_refused o a b va vb n)
 
 -- of two scalars all are leaf types
 

@@ -4,8 +4,8 @@ use Rattle.std.specs.List.{list_all, list_any}
 use Rattle.wgsl_rules.specs.types.Types.{WgslType}
 use Rattle.wgsl_rules.specs.types.Kinds.{IsLeaf}
 use Rattle.wgsl_rules.specs.conversion.Conversion.{IsValueType}
-use Rattle.wgsl_rules.specs.operators.Candidates.{Name, operator, min, max, clamp, dot, select, IsCandidate}
-use Rattle.wgsl_rules.specs.operators.Choice.{Takes, IsChoice}
+use Rattle.wgsl_rules.specs.operators.Candidates.{Name, operator, min, max, clamp, dot, select}
+use Rattle.wgsl_rules.specs.Headline.{IsChosenAnswer}
 use Rattle.wgsl_rules.specs.Laws.{IsCallName}
 use Rattle.wgsl_rules.specs.types.Signatures.{Signature}
 use Rattle.wgsl_rules.specs.errors.Refusals.{Refusal, signature}
@@ -34,9 +34,9 @@ name_of select = codes "select"
 
 -- The answer is the result of the choice among the candidates; the call is refused exactly where none takes its arguments.
 abbrev pub IsChosenCall : Name → Signature → Result (Option WgslType) Refusal → Type 0
-IsChosenCall n c (Ok (Some t)) = (us : List WgslType) × IsChoice n c.arguments us t
+IsChosenCall n c (Ok (Some t)) = IsChosenAnswer n c.arguments (Some t)
 IsChosenCall n c (Ok None) = ⊥
-IsChosenCall n c (Err e) = (e ≡ signature c) × ((us : List WgslType) (t : WgslType) → IsCandidate n us t → ¬ Takes us c.arguments)
+IsChosenCall n c (Err e) = (e ≡ signature c) × IsChosenAnswer n c.arguments None
 
 -- So are the five functions answered on value types, without a template.
 unfoldable pub IsLeastCallAnswer : Signature → Result (Option WgslType) Refusal → Type 0

@@ -1,6 +1,5 @@
 -- What a row of the table of built-in functions takes, and what it then gives (WGSL, "Built-in Functions").
-use Rattle.std.specs.Prelude.{ℕ, List, [], ◌∷◌, ◌≡◌, Option, Some, None, IsSome, Result, Ok, Err, slice_get, option_map, option_and_then}
-use Rattle.wgsl_syntax.specs.declared.scalar.Scalar.{Scalar}
+use Rattle.std.specs.Prelude.{List, [], ◌∷◌, ◌≡◌, Option, Some, None, IsSome, Result, Ok, Err, slice_get, option_map, option_and_then}
 use Rattle.wgsl_syntax.specs.declared.result_struct.ResultFunction.{ResultFunction}
 use Rattle.wgsl_syntax.specs.declared.texture.TextureType.{TextureType}
 use Rattle.wgsl_syntax.specs.declared.call.Shape.{Shape}

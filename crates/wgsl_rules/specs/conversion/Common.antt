@@ -1,5 +1,5 @@
 -- The common type of two types and of a list (WGSL, "Conversion Rank" and "Overload Resolution").
-use Rattle.std.specs.Prelude.{List, [], ◌∷◌, ◌≡◌, ◌⊎◌, Option, Some, None, All}
+use Rattle.std.specs.Prelude.{List, [], ◌∷◌, ◌≡◌, ◌⊎◌, Option, Some, None}
 use Rattle.wgsl_rules.specs.types.Types.{WgslType}
 use Rattle.wgsl_rules.specs.conversion.Conversion.{ConvertsTo}
 
@@ -21,11 +21,3 @@ IsLeftCommonFrom (Some c) (t ∷ ts) r = (d : Option WgslType) × IsCommon c t d
 abbrev pub IsLeftCommon : List WgslType → Option WgslType → Type 0
 IsLeftCommon [] r = r ≡ None
 IsLeftCommon (t ∷ ts) r = IsLeftCommonFrom (Some t) ts r
-
--- Each type of the list converts to u.
-abbrev pub Receives : WgslType → List WgslType → Type 0
-Receives u ts = All (λ t. ConvertsTo t u) ts
-
--- u receives the list, and converts to each type that receives it.
-abbrev pub IsLeastCommon : WgslType → List WgslType → Type 0
-IsLeastCommon u ts = Receives u ts × ((v : WgslType) → Receives v ts → ConvertsTo u v)

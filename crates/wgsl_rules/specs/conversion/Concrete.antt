@@ -1,9 +1,8 @@
--- Abstract types, and what concrete type stands for one (WGSL, "Abstract Numeric Types" and "Conversion Rank").
-use Rattle.std.specs.Prelude.{ℕ, Bool, true, false, cond, ◌≡◌, ◌<◌, ◌⊎◌, IsTrue}
+-- Abstract types, and what concrete type stands for one (WGSL, "Abstract Numeric Types").
+use Rattle.std.specs.Prelude.{Bool, true, false, cond, IsTrue}
 use Rattle.wgsl_syntax.specs.declared.scalar.Scalar.TheVariants.{AbstractInt, AbstractFloat, I32, F32, F16, F64}
 use Rattle.wgsl_rules.specs.types.Types.{mat_of, WgslType, scalar, within}
 use Rattle.wgsl_rules.specs.types.Kinds.{IsPlain}
-use Rattle.wgsl_rules.specs.conversion.Conversion.{Converts}
 
 -- An abstract number, or an array, a vector or a matrix of an abstract type.
 abbrev pub is_abstract : WgslType → Bool
@@ -31,13 +30,6 @@ abbrev pub HasFloatMatrices : WgslType → Type 0
 HasFloatMatrices (within (mat_of c r) t) = IsFloat t
 HasFloatMatrices (within l t) = HasFloatMatrices t
 HasFloatMatrices t = Unit {0}
-
--- u is concrete, t converts to it, and to any other concrete type with more rank.
-pub record IsLeastConcrete (t u : WgslType) : Type 0 where
-  pub concrete : ¬ IsAbstract u
-  pub rank : ℕ
-  pub converts : Converts t u rank
-  pub least : (v : WgslType) (w : ℕ) → ¬ IsAbstract v → Converts t v w → (v ≡ u) ⊎ (rank < w)
 
 -- The concrete type that stands for a type.
 abbrev pub concretized : WgslType → WgslType

@@ -1,14 +1,9 @@
 -- The common type of a list whose types are given one after another (WGSL, "Overload Resolution").
-use Rattle.std.specs.Prelude.{List, [], ◌++◌, ◌≡◌, ◌≢◌, ◌⊎◌, ◌↔◌, Option, Some, None, All}
+use Rattle.std.specs.Prelude.{List, [], ◌++◌, ◌≡◌, ◌≢◌, Option, None, All}
 use Rattle.wgsl_rules.specs.types.Types.{WgslType}
 use Rattle.wgsl_rules.specs.conversion.Conversion.{IsValueType}
-use Rattle.wgsl_rules.specs.conversion.Common.{IsLeftCommon, Receives, IsLeastCommon}
-
--- The answer is a type exactly where that is the least common type of a list that isn't empty, and none exactly where no
--- type receives the list or it is empty.
-pub record IsLeastCommonAnswer (ts : List WgslType) (r : Option WgslType) : Type 0 where
-  pub some : (u : WgslType) → (r ≡ Some u) ↔ ((ts ≢ []) × IsLeastCommon u ts)
-  pub none : (r ≡ None) ↔ ((ts ≡ []) ⊎ ((u : WgslType) → ¬ Receives u ts))
+use Rattle.wgsl_rules.specs.conversion.Common.{IsLeftCommon}
+use Rattle.wgsl_rules.specs.Headline.{IsLeastCommonAnswer}
 
 -- The common type of a list, from left to right; of value types it is the least.
 pub record IsCommonOfList (ts : List WgslType) (r : Option WgslType) : Type 0 where

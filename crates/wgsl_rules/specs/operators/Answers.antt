@@ -1,12 +1,12 @@
 -- What the operators answer for their operands (WGSL, "Logical Expressions" to "Indirection Expression", and "Overload
 -- Resolution").
-use Rattle.std.specs.Prelude.{◌≡◌, List, [], ◌∷◌, Option, Some, None, Result, Ok, Err}
+use Rattle.std.specs.Prelude.{◌≡◌, [], ◌∷◌, Option, Some, None, Result, Ok, Err}
 use Rattle.wgsl_syntax.specs.declared.operator.BinaryOperator.{BinaryOperator}
 use Rattle.wgsl_syntax.specs.declared.operator.UnaryOperator.{UnaryOperator}
 use Rattle.wgsl_rules.specs.types.Types.{WgslType}
 use Rattle.wgsl_rules.specs.conversion.Conversion.{IsValueType}
-use Rattle.wgsl_rules.specs.operators.Candidates.{operator, IsCandidate}
-use Rattle.wgsl_rules.specs.operators.Choice.{Takes, IsChoice}
+use Rattle.wgsl_rules.specs.operators.Candidates.{operator}
+use Rattle.wgsl_rules.specs.Headline.{IsLeastCandidate, IsChosenAnswer}
 use Rattle.wgsl_rules.specs.operators.Rows.{IsRow}
 use Rattle.wgsl_rules.specs.operators.UnaryRows.{IsUnaryRow, unary_refusal}
 use Rattle.wgsl_rules.specs.errors.Refusals.{Refusal, binary}
@@ -22,19 +22,16 @@ abbrev pub HasCandidate : BinaryOperator → WgslType → WgslType → Option Bi
 HasCandidate o a b (Some c) = IsRow o a b c.lhs c.rhs c.result
 HasCandidate o a b None = (l r t : WgslType) → ¬ IsRow o a b l r t
 
--- No candidate takes the operands.
-unfoldable pub NothingTakes : BinaryOperator → WgslType → WgslType → Type 0
-NothingTakes o a b = (us : List WgslType) (t : WgslType) → IsCandidate (operator o) us t → ¬ Takes us (a ∷ b ∷ [])
-
 -- A binary operator answers the result of a row, or where there is none the refusal that names it and its operands.
 abbrev pub IsOperatorAnswer : BinaryOperator → WgslType → WgslType → Result WgslType Refusal → Type 0
 IsOperatorAnswer o a b (Ok t) = (l : WgslType) × (r : WgslType) × IsRow o a b l r t
 IsOperatorAnswer o a b (Err e) = (e ≡ binary o a b) × HasCandidate o a b None
 
--- On value types that is the result of the choice; it refuses exactly where no candidate takes the operands.
+-- On value types that is the result of the choice, the least candidate; it refuses exactly where none takes the operands.
 unfoldable pub IsChosenResult : BinaryOperator → WgslType → WgslType → Result WgslType Refusal → Type 0
-IsChosenResult o a b (Ok t) = IsValueType a → IsValueType b → (us : List WgslType) × IsChoice (operator o) (a ∷ b ∷ []) us t
-IsChosenResult o a b (Err e) = IsValueType a → IsValueType b → (e ≡ binary o a b) × NothingTakes o a b
+IsChosenResult o a b (Ok t) = IsValueType a → IsValueType b → IsChosenAnswer (operator o) (a ∷ b ∷ []) (Some t)
+IsChosenResult o a b (Err e) = IsValueType a → IsValueType b →
+    (e ≡ binary o a b) × IsChosenAnswer (operator o) (a ∷ b ∷ []) None
 
 -- The same of the whole candidate: the row, or the refusal.
 abbrev pub IsCandidateAnswer : BinaryOperator → WgslType → WgslType → Result BinaryCandidate Refusal → Type 0
@@ -43,8 +40,10 @@ IsCandidateAnswer o a b (Err e) = (e ≡ binary o a b) × HasCandidate o a b Non
 
 -- On value types it is the choice.
 unfoldable pub IsChosenCandidate : BinaryOperator → WgslType → WgslType → Result BinaryCandidate Refusal → Type 0
-IsChosenCandidate o a b (Ok c) = IsValueType a → IsValueType b → IsChoice (operator o) (a ∷ b ∷ []) (c.lhs ∷ c.rhs ∷ []) c.result
-IsChosenCandidate o a b (Err e) = IsValueType a → IsValueType b → (e ≡ binary o a b) × NothingTakes o a b
+IsChosenCandidate o a b (Ok c) = IsValueType a → IsValueType b →
+    IsLeastCandidate (operator o) (a ∷ b ∷ []) (c.lhs ∷ c.rhs ∷ []) c.result
+IsChosenCandidate o a b (Err e) = IsValueType a → IsValueType b →
+    (e ≡ binary o a b) × IsChosenAnswer (operator o) (a ∷ b ∷ []) None
 
 -- A unary operator answers the result of its row, or where there is none its refusal.
 abbrev pub IsUnaryAnswer : UnaryOperator → WgslType → Result WgslType Refusal → Type 0
