@@ -1,6 +1,6 @@
 // What the program answers to a command.
 use crate::read::read_types;
-use crate::report::{layout_of, number_or_none};
+use crate::report::layout_of;
 use crate::template::read_template;
 use crate::typed::{Typed, convert_to_common};
 use crate::words::{Unread, Words};
@@ -265,6 +265,14 @@ pub fn message(alloc: Global, refused: Fail) -> Result<String, AllocError> {
     };
     drop(refused);
     text
+}
+
+/// A number, or `none`.
+pub fn number_or_none(alloc: Global, number: Option<u32>) -> Result<String, AllocError> {
+    match number {
+        Some(number) => number.to_string(alloc),
+        None => String::from_str(alloc, "none"),
+    }
 }
 
 /// The numbers with one space between.

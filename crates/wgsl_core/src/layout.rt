@@ -1,17 +1,36 @@
 // Sizes, alignments and offsets in memory.
-ghost use Rattle.std.specs.Prelude.{◌≡◌, ◌↔◌, IfOk, IfSome};
+ghost use Rattle.std.specs.Prelude.{◌≡◌, ◌↔◌, ◌+◌, ◌<◌, ◌^◌, IfOk, IfSome, SomeIff};
+ghost use Rattle.std.specs.Int.{next_multiple_of};
 ghost use Rattle.wgsl_rules.specs.types.Types.{struct, array, vec, mat};
-ghost use Rattle.wgsl_rules.specs.layout.Layout.{IsAtomicSize, IsTimes, IsStride, IsArraySize, IsAlignOfThree, IsVectorAlign, IsGiven, HasSize, HasAlignment, HasLeastSize, IsStructAlign, HaveAligns, IsExactly, HasNoSize, LacksSize, AreOffsets};
+ghost use Rattle.wgsl_rules.specs.layout.Layout.{IsAtomicSize, IsTimes, IsStride, IsArraySize, IsAlignOfThree, IsVectorAlign, IsGiven, HasSize, HasAlignment, HasLeastSize, IsStructAlign, HaveAlignments, IsExactly, HasNoSize, LacksSize, AreOffsets};
 ghost use Rattle.wgsl_rules.specs.Headline.{IsLeastPlacedSize};
 ghost use Rattle.wgsl_core.specs.View.{view, struct_view, member_view};
-ghost use Rattle.wgsl_core.specs.Layout.{IsValue, IsSoonestEnd, IsLayout};
+ghost use Rattle.wgsl_core.specs.Layout.{IsValue, IsSoonestEnd, IsMeasure, IsLayoutOf, HasSomeSize, ArePlaced, offsets_of};
 
+use crate::ty::form::Form;
 use crate::ty::{StructMemberType, StructType, Type};
 use std::alloc::{AllocError, Global};
 
+/// How a struct lies in memory (WGSL, "Structure Member Layout"), in bytes.
+#[derive(Debug, PartialEq, Drop)]
+pub struct StructLayout {
+    /// One for each member, in their order.
+    pub members: Vec<PlacedMember>,
+    pub size: u32,
+    pub align: u32,
+}
+
+/// How a member lies in its struct, in bytes.
+#[derive(Clone, Copy, Debug, PartialEq, Eq)]
+pub struct PlacedMember {
+    pub offset: u32,
+    pub size: u32,
+    pub align: u32,
+}
+
 /// The size and the alignment of a type, where it has them. They come from one walk over the type.
 #[derive(Clone, Copy)]
-struct Layout {
+struct Measure {
     size: Option<u32>,
     align: Option<u32>,
 }
@@ -29,7 +48,7 @@ impl Type {
         ensures exact { IsExactly result (HasSize (view self.now)) }
         ensures none { (result ≡ None) ↔ LacksSize (view self.now) }
     {
-        self.layout().size
+        self.measure().size
     }
 
     /// The least size in bytes: the stride of a runtime-sized array, and the size of every
@@ -39,8 +58,8 @@ impl Type {
     pub fn min_size_of(&self) -> Option<u32>
         ensures { IsExactly result (HasLeastSize (view self.now)) }
     {
-        match self {
-            Type::Array(ty, count) => least_array_size(ty, *count),
+        match self.form() {
+            Form::Array(count, element) => least_array_size(element, count),
             _ => self.size_of(),
         }
     }
@@ -56,22 +75,22 @@ impl Type {
     pub fn align_of(&self) -> Option<u32>
         ensures { IsExactly result (HasAlignment (view self.now)) }
     {
-        self.layout().align
+        self.measure().align
     }
 
-    #[cycle(layout)]
-    fn layout(&self) -> Layout
-        ensures { IsLayout (view self.now) result }
+    #[cycle(measure)]
+    fn measure(&self) -> Measure
+        ensures { IsMeasure (view self.now) result }
     {
         match self {
-            Type::Bool | Type::I32 | Type::U32 | Type::F32 => layout_of_size(4),
-            Type::F16 => layout_of_size(2),
-            Type::I64 | Type::U64 | Type::F64 => layout_of_size(8),
-            Type::Vec(n, ty) => vector_layout(*n, ty),
-            Type::Mat(c, r, ty) => matrix_layout(*c, *r, ty),
-            Type::Array(ty, count) => array_layout(ty, *count),
-            Type::Atomic(ty) => layout_of_size(atomic_size(ty)),
-            Type::Struct(s) => s.layout(),
+            Type::Bool | Type::I32 | Type::U32 | Type::F32 => measure_of_size(4),
+            Type::F16 => measure_of_size(2),
+            Type::I64 | Type::U64 | Type::F64 => measure_of_size(8),
+            Type::Vec(n, ty) => vector_measure(*n, ty),
+            Type::Mat(c, r, ty) => matrix_measure(*c, *r, ty),
+            Type::Array(ty, count) => array_measure(ty, *count),
+            Type::Atomic(ty) => measure_of_size(atomic_size(ty)),
+            Type::Struct(s) => s.measure(),
             Type::AbstractInt
             | Type::AbstractFloat
             | Type::Ptr(_, _, _)
@@ -80,7 +99,7 @@ impl Type {
             | Type::Sampler(_)
             | Type::BindingArray(_, _)
             | Type::RayQuery(_)
-            | Type::AccelerationStructure(_) => Layout {
+            | Type::AccelerationStructure(_) => Measure {
                 size: None,
                 align: None,
             },
@@ -88,10 +107,10 @@ impl Type {
     }
 }
 
-fn layout_of_size(size: u32) -> Layout
+fn measure_of_size(size: u32) -> Measure
     ensures { result ≡ record { size = Some size; align = Some size } }
 {
-    Layout {
+    Measure {
         size: Some(size),
         align: Some(size),
     }
@@ -106,35 +125,35 @@ fn atomic_size(ty: &Type) -> u32
     }
 }
 
-#[cycle(layout)]
-fn vector_layout(n: u8, ty: &Type) -> Layout
-    ensures { IsLayout (vec n (view ty.now)) result }
+#[cycle(measure)]
+fn vector_measure(n: u8, ty: &Type) -> Measure
+    ensures { IsMeasure (vec n (view ty.now)) result }
 {
-    let component = ty.layout();
-    Layout {
+    let component = ty.measure();
+    Measure {
         size: times(u32::from(n), component.size),
         align: vector_align(n, ty, component.size),
     }
 }
 
-#[cycle(layout)]
-fn matrix_layout(columns: u8, rows: u8, ty: &Type) -> Layout
-    ensures { IsLayout (mat columns rows (view ty.now)) result }
+#[cycle(measure)]
+fn matrix_measure(columns: u8, rows: u8, ty: &Type) -> Measure
+    ensures { IsMeasure (mat columns rows (view ty.now)) result }
 {
-    let component = ty.layout();
+    let component = ty.measure();
     let align = vector_align(rows, ty, component.size);
-    Layout {
+    Measure {
         size: times(u32::from(columns), align),
         align,
     }
 }
 
-#[cycle(layout)]
-fn array_layout(ty: &Type, count: Option<usize>) -> Layout
-    ensures { IsLayout (array count (view ty.now)) result }
+#[cycle(measure)]
+fn array_measure(ty: &Type, count: Option<usize>) -> Measure
+    ensures { IsMeasure (array count (view ty.now)) result }
 {
-    let element = ty.layout();
-    Layout {
+    let element = ty.measure();
+    Measure {
         size: array_size(count, rounded_up(element.size, element.align)),
         align: element.align,
     }
@@ -143,7 +162,7 @@ fn array_layout(ty: &Type, count: Option<usize>) -> Layout
 fn least_array_size(ty: &Type, count: Option<usize>) -> Option<u32>
     ensures { IsExactly result (HasLeastSize (array count (view ty.now))) }
 {
-    let element = ty.layout();
+    let element = ty.measure();
     let stride = rounded_up(element.size, element.align);
     match count {
         None => stride,
@@ -193,86 +212,144 @@ fn rounded_up(size: Option<u32>, align: Option<u32>) -> Option<u32>
 impl StructType {
     /// The size in bytes (WGSL, "Structure Member Layout"): the smallest that any placement of the members has.
     ///
-    /// None for the causes for which `offsets` gives none.
+    /// None for the causes for which `layout` gives none.
     pub fn size_of(&self) -> Option<u32>
         ensures { IsLeastPlacedSize (struct_view self.now).members result }
     {
-        let layout = self.layout();
-        layout.size
+        let measure = self.measure();
+        measure.size
     }
 
     /// The alignment in bytes (WGSL, "Structure Member Layout"): the greatest of the members, 0 without members.
     ///
     /// None for a member whose alignment comes neither from an attribute nor from its type.
     pub fn align_of(&self) -> Option<u32>
-        ensures { IsExactly result (IsStructAlign (HaveAligns (struct_view self.now).members)) }
+        ensures { let ms = (struct_view self.now).members in
+            IsExactly result (IsStructAlign (HaveAlignments ms)) }
     {
-        let layout = self.layout();
-        layout.align
+        let measure = self.measure();
+        measure.align
+    }
+
+    /// How the struct lies in memory: each member at the least offset that any placement gives it, and the least size
+    /// (WGSL, "Structure Member Layout").
+    ///
+    /// None exactly where the struct has no size: where there is no member; where a member's size or alignment comes
+    /// neither from an attribute nor from its type, or its alignment is 0; and where the size passes 4294967295.
+    pub fn layout(&self, alloc: Global) -> Result<Option<StructLayout>, AllocError>
+        ensures none { HasNoSize (struct_view self.now).members ↔ (result ≡ Ok None) }
+        ensures layout { IfOk result (λ answer.
+            IfSome answer (IsLayoutOf (struct_view self.now).members)) }
+    {
+        let whole = self.measure();
+        let Some(size) = whole.size else {
+            return Ok(None);
+        };
+        let align = whole.align.unwrap();
+        let members = self.placed_members(alloc)?;
+        Ok(Some(StructLayout {
+            members,
+            size,
+            align,
+        }))
     }
 
     /// The offset of each member in bytes: no placement has a smaller one (WGSL, "Structure Member Layout").
     ///
-    /// None exactly where the struct has no size: where there is no member; where a member's size or alignment comes
-    /// neither from an attribute nor from its type, or its alignment is 0; and where the size passes 4294967295.
+    /// None for the causes for which `layout` gives none.
     pub fn offsets(&self, alloc: Global) -> Result<Option<Vec<u32>>, AllocError>
         ensures none { HasNoSize (struct_view self.now).members ↔ (result ≡ Ok None) }
-        ensures offsets { IfOk result (λ answer. IfSome answer (λ offsets. AreOffsets (struct_view self.now).members offsets.items)) }
+        ensures offsets { IfOk result (λ answer. IfSome answer (λ offsets.
+            AreOffsets (struct_view self.now).members offsets.items)) }
     {
-        if self.layout().size.is_none() {
+        let Some(layout) = self.layout(alloc)? else {
             return Ok(None);
-        }
-        let mut offsets = Vec::with_capacity(alloc, self.members.len())?;
-        let mut end: u32 = 0;
-        for member in &self.members {
-            let layout = member.layout();
-            let size = layout.size.unwrap();
-            let align = layout.align.unwrap();
-            let offset = end.next_multiple_of(align);
-            offsets.push(offset)?;
-            end = offset + size;
-        }
-        Ok(Some(offsets))
+        };
+        Ok(Some(member_offsets(alloc, &layout.members)?))
     }
 
-    #[cycle(layout)]
-    fn layout(&self) -> Layout
-        ensures { IsLayout (struct (struct_view self.now).name (struct_view self.now).members) result }
+    /// Each member at its least offset.
+    fn placed_members(&self, alloc: Global) -> Result<Vec<PlacedMember>, AllocError>
+        requires { HasSomeSize (struct_view self.now).members }
+        ensures { IfOk result (λ members. ArePlaced (struct_view self.now).members members.items) }
+    {
+        let mut members = Vec::with_capacity(alloc, self.members.len())?;
+        let mut end: u32 = 0;
+        for member in &self.members {
+            let measure = member.measure();
+            let size = measure.size.unwrap();
+            let align = measure.align.unwrap();
+            let (offset, after) = place(end, size, align).unwrap();
+            members.push(PlacedMember {
+                offset,
+                size,
+                align,
+            })?;
+            end = after;
+        }
+        Ok(members)
+    }
+
+    #[cycle(measure)]
+    fn measure(&self) -> Measure
+        ensures { let s = struct_view self.now in IsMeasure (struct s.name s.members) result }
     {
         let mut end = Some(0);
         let mut greatest: u32 = 0;
         for member in &self.members {
-            let layout = member.layout();
-            let Some(align) = layout.align else {
-                return Layout {
+            let measure = member.measure();
+            let Some(align) = measure.align else {
+                return Measure {
                     size: None,
                     align: None,
                 };
             };
-            end = end_of_member(end, layout.size, align);
+            end = end_of_member(end, measure.size, align);
             greatest = greatest.max(align);
         }
-        Layout {
+        Measure {
             size: rounded_up(end, Some(greatest)),
             align: Some(greatest),
         }
     }
 }
 
+fn member_offsets(alloc: Global, members: &[PlacedMember]) -> Result<Vec<u32>, AllocError>
+    ensures { IfOk result (λ offsets. offsets.items ≡ offsets_of members.now) }
+{
+    let mut offsets = Vec::with_capacity(alloc, members.len())?;
+    for member in members {
+        offsets.push(member.offset)?;
+    }
+    Ok(offsets)
+}
+
 fn end_of_member(end: Option<u32>, size: Option<u32>, align: u32) -> Option<u32>
     ensures { IsExactly result (IsSoonestEnd end size align) }
 {
-    end?.checked_next_multiple_of(align)?.checked_add(size?)
+    let (_, end) = place(end?, size?, align)?;
+    Some(end)
+}
+
+/// The least offset of a member after what ends at `end`, and where the member ends.
+fn place(end: u32, size: u32, align: u32) -> Option<(u32, u32)>
+    ensures { let offset = next_multiple_of end align in
+        SomeIff result ((0 < align) × (offset + size < 2 ^ 32)) (offset, offset + size) }
+{
+    let offset = end.checked_next_multiple_of(align)?;
+    Some((offset, offset.checked_add(size)?))
 }
 
 impl StructMemberType {
-    #[cycle(layout)]
-    fn layout(&self) -> Layout
-        ensures size { let m = member_view self.now in IsExactly result.size (IsGiven m.size (HasSize m.ty)) }
-        ensures align { let m = member_view self.now in IsExactly result.align (IsGiven m.align (HasAlignment m.ty)) }
+    #[cycle(measure)]
+    fn measure(&self) -> Measure
+        ensures size { let m = member_view self.now in
+            IsExactly result.size (IsGiven m.size (HasSize m.ty)) }
+        ensures align { let m = member_view self.now in
+            IsExactly result.align (IsGiven m.align (HasAlignment m.ty)) }
     {
-        let ty = self.ty.layout();
-        Layout {
+        let ty = self.ty.measure();
+        Measure {
             size: self.size.or(ty.size),
             align: self.align.or(ty.align),
         }

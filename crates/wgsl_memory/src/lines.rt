@@ -4,6 +4,7 @@ use std::fmt::Write as _;
 use std::io::Write;
 use std::{fmt, io};
 use wgsl_types::builtin::Candidate;
+use wgsl_types::mem::{PlacedMember, StructLayout};
 
 /// The allocator that the calls are handed, and the output that their lines are written to. Printing doesn't allocate.
 #[derive(Drop)]
@@ -66,6 +67,30 @@ impl<W: Write> Lines<W> {
         }
     }
 
+    /// A call that answers the layout of a struct or `None`: offset, size and alignment of each member, then size and
+    /// alignment of the whole.
+    pub fn layout<E>(
+        &mut self,
+        name: &str,
+        answer: Result<Option<StructLayout>, E>,
+    ) -> io::Result<()>
+    where
+        E: fmt::Display + Drop,
+    {
+        match answer {
+            Ok(Some(layout)) => {
+                let StructLayout {
+                    members,
+                    size,
+                    align,
+                } = &layout;
+                writeln!(self.output, "{name}:{} {size} {align}", Placed(members))
+            }
+            Ok(None) => writeln!(self.output, "{name}: none"),
+            Err(refusal) => writeln!(self.output, "{name}: {refusal}"),
+        }
+    }
+
     /// A call that answers the candidate of an operator.
     pub fn candidate<N, E>(&mut self, name: N, answer: Result<Candidate, E>) -> io::Result<()>
     where
@@ -122,6 +147,24 @@ impl<'a, T: fmt::Display> fmt::Display for Spaced<'a, T> {
     fn fmt<W: fmt::Write>(&self, f: &mut fmt::Formatter<W>) -> fmt::Result {
         for value in self.0 {
             write!(f, " {value}")?;
+        }
+        Ok(())
+    }
+}
+
+/// Members of a struct, each with its offset, its size and its alignment.
+#[derive(Drop)]
+struct Placed<'a>(&'a Vec<PlacedMember>);
+
+impl<'a> fmt::Display for Placed<'a> {
+    fn fmt<W: fmt::Write>(&self, f: &mut fmt::Formatter<W>) -> fmt::Result {
+        for member in self.0 {
+            let PlacedMember {
+                offset,
+                size,
+                align,
+            } = member;
+            write!(f, " ({offset}, {size}, {align})")?;
         }
         Ok(())
     }

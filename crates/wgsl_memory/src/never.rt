@@ -134,8 +134,10 @@ fn print_structs<W: Write>(
         "never typecheck_struct_ctor of an empty struct",
         typecheck_struct_ctor(alloc, empty, &[]),
     )?;
+    lines.layout("never layout of an empty struct", empty.layout(alloc))?;
     lines.list("never offsets of an empty struct", empty.offsets(alloc))?;
     for structure in without_size {
+        lines.layout("never layout without a size", structure.layout(alloc))?;
         lines.list("never offsets without a size", structure.offsets(alloc))?;
     }
     Ok(())

@@ -1,4 +1,4 @@
-// Copies, types of types, conversions, offsets.
+// Copies, types of types, conversions, layouts.
 use crate::arguments::{Arguments, Structs};
 use crate::lines::Lines;
 use std::alloc::{AllocError, Global};
@@ -29,6 +29,7 @@ fn print_structs<W: Write>(lines: &mut Lines<W>, structs: &Structs) -> io::Resul
     lines.copy("StructType::clone", structure, structure.clone(alloc))?;
     lines.copy("StructMemberType::clone", member, member.clone(alloc))?;
     lines.value("Type::from_struct", struct_as_type(alloc, structure))?;
+    lines.layout("layout", structure.layout(alloc))?;
     lines.list("offsets", structure.offsets(alloc))
 }
 

@@ -7,7 +7,7 @@ use Rattle.wgsl_rules.specs.types.Types.{WgslType, Members}
 use Rattle.wgsl_rules.specs.conversion.Conversion.{Converts, ConvertsTo}
 use Rattle.wgsl_rules.specs.conversion.Concrete.{IsAbstract}
 use Rattle.wgsl_rules.specs.layout.Placement.{MemberLayout, IsLeastTotal}
-use Rattle.wgsl_rules.specs.layout.Layout.{HaveParts, IsStructSize, HasNoSize}
+use Rattle.wgsl_rules.specs.layout.Layout.{HaveLayouts, IsStructSize, HasNoSize}
 use Rattle.wgsl_rules.specs.operators.Candidates.{Name, IsCandidate}
 use Rattle.wgsl_rules.specs.operators.Choice.{HasRanks, Takes, IsNowhereMore, IsSomewhereLess}
 
@@ -53,7 +53,7 @@ pub record IsLeastConcrete (t u : WgslType) : Type 0 where
 -- A struct's `size_of` is the total of the least placement of its members, each at a multiple of
 -- its alignment and after the one before, and None exactly for the causes that `HasNoSize` lists.
 pub record IsLeastPlacedSize (ms : Members) (r : Option ℕ) : Type 0 where
-  pub exact : (n : ℕ) → (r ≡ Some n) ↔ IsStructSize (HaveParts ms) n
-  pub least : (n : ℕ) (parts : List MemberLayout) → r ≡ Some n → HaveParts ms parts →
-      IsLeastTotal parts n
+  pub exact : (n : ℕ) → (r ≡ Some n) ↔ IsStructSize (HaveLayouts ms) n
+  pub least : (n : ℕ) (layouts : List MemberLayout) → r ≡ Some n → HaveLayouts ms layouts →
+      IsLeastTotal layouts n
   pub none : (r ≡ None) ↔ HasNoSize ms

@@ -1,6 +1,6 @@
 // Types that no program would write: the kinds that they are of, what is made of them, and nests of 300 layers.
 use super::worded::{expect_replies, expect_text, types};
-use crate::report::number_or_none;
+use crate::command::number_or_none;
 use std::alloc::{AllocError, Global};
 use std::process::Abort;
 use std::test::Fail;

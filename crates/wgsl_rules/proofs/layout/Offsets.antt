@@ -1,23 +1,24 @@
--- The offsets of a struct's members, member by member.
+-- The members of a struct at their least offsets, member by member.
 use Rattle.std.proofs.Common.{◌≡◌, ℕ, ◌+◌, ◌<◌, ◌≤◌, ◌^◌, List, [], ◌∷◌, ◌++◌, get_or, Option, refl, sym, ap, subst, ◌∙◌, append_assoc, arith}
 use Rattle.std.specs.Int.{next_multiple_of}
 use Rattle.std.proofs.lemmas.List.{append-nil}
 use Rattle.wgsl_rules.specs.types.Types.{WgslType, Members, no_members, member}
 use Rattle.wgsl_rules.specs.layout.Placement.{MemberLayout, AreLaid}
-use Rattle.wgsl_rules.specs.layout.Layout.{IsGiven, HasSize, HasAlignment, HaveParts, IsStructSize, AreOffsets}
+use Rattle.wgsl_rules.specs.layout.Layout.{IsGiven, HasSize, HasAlignment, HaveLayouts, IsStructSize, AreOffsets}
 use Rattle.wgsl_rules.proofs.layout.Placing.{Aligned, end_of, starts, laid, no_less, no_earlier, next_ge}
-use Rattle.wgsl_rules.proofs.layout.OneSize.{one_parts}
+use Rattle.wgsl_rules.proofs.layout.OneSize.{one_layouts}
 use Rattle.wgsl_rules.proofs.layout.StructSizes.{all_aligned}
 
--- The offsets of the members before the rest, which end at `e`: those of the rest complete them
-pub record OffsetsSoFar (ms rest : Members) (offsets : List ℕ) (e : ℕ) : Type 0 where
-  pub parts : List MemberLayout
-  pub known : HaveParts ms parts
+-- the layouts and the offsets of the members before the rest, which end at `e`: those of the rest complete them
+pub record PlacedSoFar (ms rest : Members) (before : List MemberLayout) (offsets : List ℕ) (e : ℕ) : Type 0 where
+  pub layouts : List MemberLayout
+  pub known : HaveLayouts ms layouts
   pub left : List MemberLayout
-  pub left_known : HaveParts rest left
+  pub left_known : HaveLayouts rest left
   pub left_aligned : Aligned left
   pub fits : end_of e left < 2 ^ 32
-  pub together : offsets ++ starts e left ≡ starts 0 parts
+  pub all_layouts : before ++ left ≡ layouts
+  pub all_offsets : offsets ++ starts e left ≡ starts 0 layouts
 
 end_ge : (e : ℕ) (ps : List MemberLayout) → e ≤ end_of e ps
 end_ge e [] = omega arith
@@ -25,31 +26,31 @@ end_ge e (p ∷ ps) =
     let h : next_multiple_of e p.align + p.size ≤ end_of (next_multiple_of e p.align + p.size) ps = end_ge (next_multiple_of e p.align + p.size) ps in
     omega (arith, next_ge e p.align)
 
-pub offsets_start : (ms : Members) (n : ℕ) → IsStructSize (HaveParts ms) n → OffsetsSoFar ms ms [] 0
-offsets_start ms n h =
-    let al : Aligned h.parts = all_aligned h.parts h.aligned in
-    let below : end_of 0 h.parts ≤ n = no_less 0 0 h.parts h.least.0.0 n al (let z : 0 ≤ 0 = omega arith in z) h.least.0.1.0 in
+pub none_placed : (ms : Members) (n : ℕ) → IsStructSize (HaveLayouts ms) n → PlacedSoFar ms ms [] [] 0
+none_placed ms n h =
+    let al : Aligned h.layouts = all_aligned h.layouts h.aligned in
+    let below : end_of 0 h.layouts ≤ n = no_less 0 0 h.layouts h.least.0.0 n al (let z : 0 ≤ 0 = omega arith in z) h.least.0.1.0 in
     let small : n < 2 ^ 32 = h.fits in
-    record { parts = h.parts; known = h.known; left = h.parts; left_known = h.known; left_aligned = al; fits = omega arith; together = refl }
+    record { layouts = h.layouts; known = h.known; left = h.layouts; left_known = h.known; left_aligned = al; fits = omega arith; all_layouts = refl; all_offsets = refl }
 
--- the next member's part, and what the offsets are after it
-pub record NextPart (ms rest : Members) (offsets : List ℕ) (e : ℕ) (IsSize IsAlign : ℕ → Type 0) : Type 0 where
+-- the next member's layout, and what is placed with it
+pub record NextMember (ms rest : Members) (before : List MemberLayout) (offsets : List ℕ) (e : ℕ) (IsSize IsAlign : ℕ → Type 0) : Type 0 where
   pub size : ℕ
   pub align : ℕ
   pub is_size : IsSize size
   pub is_align : IsAlign align
   pub positive : 0 < align
   pub fits : next_multiple_of e align + size < 2 ^ 32
-  pub after : OffsetsSoFar ms rest (offsets ++ next_multiple_of e align ∷ []) (next_multiple_of e align + size)
+  pub after : PlacedSoFar ms rest (before ++ record { size = size; align = align } ∷ []) (offsets ++ next_multiple_of e align ∷ []) (next_multiple_of e align + size)
 
-pub next_part : (name : List ℕ) (t : WgslType) (size align : Option ℕ) (ms rest : Members) (offsets : List ℕ) (e : ℕ)
-    → OffsetsSoFar ms (member name t size align rest) offsets e → NextPart ms rest offsets e (IsGiven size (HasSize t)) (IsGiven align (HasAlignment t))
-next_part name t size align ms rest offsets e h = first h.left h.left_known h.left_aligned h.fits h.together
+pub next_member : (name : List ℕ) (t : WgslType) (size align : Option ℕ) (ms rest : Members) (before : List MemberLayout) (offsets : List ℕ) (e : ℕ)
+    → PlacedSoFar ms (member name t size align rest) before offsets e → NextMember ms rest before offsets e (IsGiven size (HasSize t)) (IsGiven align (HasAlignment t))
+next_member name t size align ms rest before offsets e h = first h.left h.left_known h.left_aligned h.fits h.all_layouts h.all_offsets
   where
-    first : (left : List MemberLayout) → HaveParts (member name t size align rest) left → Aligned left → end_of e left < 2 ^ 32 → offsets ++ starts e left ≡ starts 0 h.parts
-        → NextPart ms rest offsets e (IsGiven size (HasSize t)) (IsGiven align (HasAlignment t))
-    first [] known al small is = absurd known
-    first (p ∷ left) known al small is =
+    first : (left : List MemberLayout) → HaveLayouts (member name t size align rest) left → Aligned left → end_of e left < 2 ^ 32 → before ++ left ≡ h.layouts
+        → offsets ++ starts e left ≡ starts 0 h.layouts → NextMember ms rest before offsets e (IsGiven size (HasSize t)) (IsGiven align (HasAlignment t))
+    first [] known al small layouts_are offsets_are = absurd known
+    first (p ∷ left) known al small layouts_are offsets_are =
         let at = next_multiple_of e p.align in
         let ge : at + p.size ≤ end_of (at + p.size) left = end_ge (at + p.size) left in
         record {
@@ -60,29 +61,37 @@ next_part name t size align ms rest offsets e h = first h.left h.left_known h.le
           positive = al.0;
           fits = omega arith;
           after = record {
-            parts = h.parts;
+            layouts = h.layouts;
             known = h.known;
             left = left;
             left_known = known.2;
             left_aligned = al.1;
             fits = small;
-            together = append_assoc offsets (at ∷ []) (starts (at + p.size) left) ∙ is;
+            all_layouts = append_assoc before (p ∷ []) left ∙ layouts_are;
+            all_offsets = append_assoc offsets (at ∷ []) (starts (at + p.size) left) ∙ offsets_are;
           };
         }
 
-pub offsets_end : (ms : Members) (offsets : List ℕ) (e n : ℕ) → IsStructSize (HaveParts ms) n → OffsetsSoFar ms no_members offsets e → AreOffsets ms offsets
-offsets_end ms offsets e n s h =
-    let al : Aligned s.parts = all_aligned s.parts s.aligned in
-    let same : h.parts ≡ s.parts = one_parts ms h.parts s.parts h.known s.known in
-    let is : offsets ≡ starts 0 s.parts = all h.left h.left_known h.together ∙ ap (starts 0) same in
-    let z : 0 ≤ 0 = omega arith in
-    record {
-      total = n;
-      sized = s;
-      placed = (subst (λ xs. AreLaid 0 s.parts xs n) (sym is) (laid 0 s.parts n al (no_less 0 0 s.parts s.least.0.0 n al z s.least.0.1.0)), s.least.0.1.1);
-      least = λ others more placement k. subst (λ xs. get_or xs k 0 ≤ get_or others k 0) (sym is) (no_earlier 0 0 s.parts others more al z placement.0 k);
-    }
+pub all_placed : (ms : Members) (before : List MemberLayout) (offsets : List ℕ) (e n : ℕ) → IsStructSize (HaveLayouts ms) n → PlacedSoFar ms no_members before offsets e
+    → HaveLayouts ms before × AreOffsets ms offsets
+all_placed ms before offsets e n s h =
+    let al : Aligned s.layouts = all_aligned s.layouts s.aligned in
+    let same : h.layouts ≡ s.layouts = one_layouts ms h.layouts s.layouts h.known s.known in
+    let is : offsets ≡ starts 0 s.layouts = whole_offsets h.left h.left_known h.all_offsets ∙ ap (starts 0) same in
+    let z : 0 ≤ 0 = omega arith in (
+      subst (HaveLayouts ms) (sym (whole_layouts h.left h.left_known h.all_layouts)) h.known,
+      record {
+        total = n;
+        sized = s;
+        placed = (subst (λ xs. AreLaid 0 s.layouts xs n) (sym is) (laid 0 s.layouts n al (no_less 0 0 s.layouts s.least.0.0 n al z s.least.0.1.0)), s.least.0.1.1);
+        least = λ others more placement k. subst (λ xs. get_or xs k 0 ≤ get_or others k 0) (sym is) (no_earlier 0 0 s.layouts others more al z placement.0 k);
+      },
+    )
   where
-    all : (left : List MemberLayout) → HaveParts no_members left → offsets ++ starts e left ≡ starts 0 h.parts → offsets ≡ starts 0 h.parts
-    all [] known is = sym (append-nil offsets) ∙ is
-    all (p ∷ left) known is = absurd known
+    whole_layouts : (left : List MemberLayout) → HaveLayouts no_members left → before ++ left ≡ h.layouts → before ≡ h.layouts
+    whole_layouts [] known is = sym (append-nil before) ∙ is
+    whole_layouts (p ∷ left) known is = absurd known
+
+    whole_offsets : (left : List MemberLayout) → HaveLayouts no_members left → offsets ++ starts e left ≡ starts 0 h.layouts → offsets ≡ starts 0 h.layouts
+    whole_offsets [] known is = sym (append-nil offsets) ∙ is
+    whole_offsets (p ∷ left) known is = absurd known

@@ -5,7 +5,7 @@ use Rattle.wgsl_syntax.specs.declared.scalar.Scalar.TheVariants.{AbstractInt, Ab
 use Rattle.wgsl_rules.specs.types.Types.{WgslType, scalar, struct, atomic, Members, no_members, member, array, vec, mat}
 use Rattle.wgsl_rules.specs.layout.Placement.{MemberLayout, IsLeastTotal, greatest}
 use Rattle.wgsl_rules.specs.Headline.{IsLeastPlacedSize}
-use Rattle.wgsl_rules.specs.layout.Layout.{IsScalarSize, IsAtomicSize, IsTimes, IsRoundedUp, IsStride, IsArraySize, IsAlignOfThree, IsVectorAlign, IsGiven, IsStructSize, IsStructAlign, HasSize, HasAlignment, HaveParts, HaveAligns, IsExactly, HasNoSize}
+use Rattle.wgsl_rules.specs.layout.Layout.{IsScalarSize, IsAtomicSize, IsTimes, IsRoundedUp, IsStride, IsArraySize, IsAlignOfThree, IsVectorAlign, IsGiven, IsStructSize, IsStructAlign, HasSize, HasAlignment, HaveLayouts, HaveAlignments, IsExactly, HasNoSize}
 use Rattle.wgsl_rules.proofs.layout.Placing.{same_least}
 
 abbrev pub IsOne : (ℕ → Type 0) → Type 0
@@ -56,14 +56,14 @@ one_given None P one m n a b = one m n a b
 
 one_struct : (P : List MemberLayout → Type 0) → ((ps qs : List MemberLayout) → P ps → P qs → ps ≡ qs) → IsOne (IsStructSize P)
 one_struct P one m n a b =
-    let e : a.parts ≡ b.parts = one a.parts b.parts a.known b.known in
-    same_least b.parts m n (subst (λ ps. IsLeastTotal ps m) e a.least) b.least
+    let e : a.layouts ≡ b.layouts = one a.layouts b.layouts a.known b.known in
+    same_least b.layouts m n (subst (λ ps. IsLeastTotal ps m) e a.least) b.least
 
 one_greatest : (A : List ℕ → Type 0) → ((xs ys : List ℕ) → A xs → A ys → xs ≡ ys) → IsOne (IsStructAlign A)
 one_greatest A one m n a b = a.2 ∙ ap greatest (one a.0 b.0 a.1 b.1) ∙ sym b.2
 
-same_part : (p q : MemberLayout) → p.size ≡ q.size → p.align ≡ q.align → p ≡ q
-same_part p q s a = ap (λ x. record { size = x; align = p.align }) s ∙ ap (λ x. record { size = q.size; align = x }) a
+same_layout : (p q : MemberLayout) → p.size ≡ q.size → p.align ≡ q.align → p ≡ q
+same_layout p q s a = ap (λ x. record { size = x; align = p.align }) s ∙ ap (λ x. record { size = q.size; align = x }) a
 
 mutual
   pub one_size : (t : WgslType) (m n : ℕ) → HasSize t m → HasSize t n → m ≡ n
@@ -72,7 +72,7 @@ mutual
   one_size (mat c r t) m n a b = one_times c (IsVectorAlign r t (HasSize t)) (one_vector_align r t (HasSize t) (one_size t)) m n a b
   one_size (array k t) m n a b = one_array k (IsStride (HasSize t) (HasAlignment t)) (one_stride (HasSize t) (HasAlignment t) (one_size t) (one_align t)) m n a b
   one_size (atomic t) m n a b = one_atomic t m n a b
-  one_size (struct name ms) m n a b = one_struct (HaveParts ms) (one_parts ms) m n a b
+  one_size (struct name ms) m n a b = one_struct (HaveLayouts ms) (one_layouts ms) m n a b
   one_size t m n a b = absurd a
 
   pub one_align : (t : WgslType) (m n : ℕ) → HasAlignment t m → HasAlignment t n → m ≡ n
@@ -81,20 +81,20 @@ mutual
   one_align (mat c r t) m n a b = one_vector_align r t (HasSize t) (one_size t) m n a b
   one_align (array k t) m n a b = one_align t m n a b
   one_align (atomic t) m n a b = one_atomic t m n a b
-  one_align (struct name ms) m n a b = one_greatest (HaveAligns ms) (one_aligns ms) m n a b
+  one_align (struct name ms) m n a b = one_greatest (HaveAlignments ms) (one_aligns ms) m n a b
   one_align t m n a b = absurd a
 
-  pub one_parts : (ms : Members) (ps qs : List MemberLayout) → HaveParts ms ps → HaveParts ms qs → ps ≡ qs
-  one_parts no_members [] [] a b = refl
-  one_parts no_members [] (q ∷ qs) a b = absurd b
-  one_parts no_members (p ∷ ps) qs a b = absurd a
-  one_parts (member name t size align ms) [] qs a b = absurd a
-  one_parts (member name t size align ms) (p ∷ ps) [] a b = absurd b
-  one_parts (member name t size align ms) (p ∷ ps) (q ∷ qs) a b =
-      ap (λ x. x ∷ ps) (same_part p q (one_given size (HasSize t) (one_size t) p.size q.size a.0 b.0) (one_given align (HasAlignment t) (one_align t) p.align q.align a.1 b.1))
-      ∙ ap (λ xs. q ∷ xs) (one_parts ms ps qs a.2 b.2)
+  pub one_layouts : (ms : Members) (ps qs : List MemberLayout) → HaveLayouts ms ps → HaveLayouts ms qs → ps ≡ qs
+  one_layouts no_members [] [] a b = refl
+  one_layouts no_members [] (q ∷ qs) a b = absurd b
+  one_layouts no_members (p ∷ ps) qs a b = absurd a
+  one_layouts (member name t size align ms) [] qs a b = absurd a
+  one_layouts (member name t size align ms) (p ∷ ps) [] a b = absurd b
+  one_layouts (member name t size align ms) (p ∷ ps) (q ∷ qs) a b =
+      ap (λ x. x ∷ ps) (same_layout p q (one_given size (HasSize t) (one_size t) p.size q.size a.0 b.0) (one_given align (HasAlignment t) (one_align t) p.align q.align a.1 b.1))
+      ∙ ap (λ xs. q ∷ xs) (one_layouts ms ps qs a.2 b.2)
 
-  one_aligns : (ms : Members) (xs ys : List ℕ) → HaveAligns ms xs → HaveAligns ms ys → xs ≡ ys
+  one_aligns : (ms : Members) (xs ys : List ℕ) → HaveAlignments ms xs → HaveAlignments ms ys → xs ≡ ys
   one_aligns no_members [] [] a b = refl
   one_aligns no_members [] (y ∷ ys) a b = absurd b
   one_aligns no_members (x ∷ xs) ys a b = absurd a
@@ -104,8 +104,8 @@ mutual
       ap (λ z. z ∷ xs) (one_given align (HasAlignment t) (one_align t) x y a.0 b.0) ∙ ap (λ zs. y ∷ zs) (one_aligns ms xs ys a.1 b.1)
 
 -- A struct's size is the least total of every list of sizes and alignments that its members have, since there is one.
-pub least_placed : (ms : Members) (r : Option ℕ) → IsExactly r (IsStructSize (HaveParts ms)) → (r ≡ None) ↔ HasNoSize ms → IsLeastPlacedSize ms r
-least_placed ms r is lacks = record { exact = is; least = of_parts; none = lacks }
+pub least_placed : (ms : Members) (r : Option ℕ) → IsExactly r (IsStructSize (HaveLayouts ms)) → (r ≡ None) ↔ HasNoSize ms → IsLeastPlacedSize ms r
+least_placed ms r is lacks = record { exact = is; least = of_layouts; none = lacks }
   where
-    of_parts : (n : ℕ) (parts : List MemberLayout) → r ≡ Some n → HaveParts ms parts → IsLeastTotal parts n
-    of_parts n parts e k = let s = (is n).0 e in subst (λ ps. IsLeastTotal ps n) (one_parts ms s.parts parts s.known k) s.least
+    of_layouts : (n : ℕ) (layouts : List MemberLayout) → r ≡ Some n → HaveLayouts ms layouts → IsLeastTotal layouts n
+    of_layouts n layouts e k = let s = (is n).0 e in subst (λ ps. IsLeastTotal ps n) (one_layouts ms s.layouts layouts s.known k) s.least

@@ -7,13 +7,13 @@ use Rattle.std.proofs.lemmas.Bool.{cases_lt}
 use Rattle.std.proofs.lemmas.Option.{same_Some}
 use Rattle.wgsl_rules.specs.types.Types.{WgslType, struct, Members, no_members, member}
 use Rattle.wgsl_rules.specs.layout.Placement.{MemberLayout, AreLaid, greatest_align, IsLeastTotal}
-use Rattle.wgsl_rules.specs.layout.Layout.{IsGiven, HasSize, HasAlignment, HaveParts, IsRoundedUp, IsStride, IsStructSize, IsExactly, SomeUnknown, SomeZeroAlign, HasNoSize, unknown, zero_align, empty, too_large}
+use Rattle.wgsl_rules.specs.layout.Layout.{IsGiven, HasSize, HasAlignment, HaveLayouts, IsRoundedUp, IsStride, IsStructSize, IsExactly, SomeUnknown, SomeZeroAlign, HasNoSize, unknown, zero_align, empty, too_large}
 use Rattle.wgsl_rules.proofs.layout.Placing.{Aligned, end_of, laid_sooner, laid_before, next_least, least_total}
 use Rattle.wgsl_rules.proofs.layout.OneSize.{one_size, one_align, one_given}
 use Rattle.wgsl_rules.proofs.layout.Steps.{rounded_up, one_rounded}
 
 abbrev pub TooLarge : ℕ → ℕ → Members → Type 0
-TooLarge e g ms = (ps : List MemberLayout) (os : List ℕ) (total : ℕ) → HaveParts ms ps → AreLaid e ps os total → max g (greatest_align ps) ∣ total → 2 ^ 32 ≤ total
+TooLarge e g ms = (ps : List MemberLayout) (os : List ℕ) (total : ℕ) → HaveLayouts ms ps → AreLaid e ps os total → max g (greatest_align ps) ∣ total → 2 ^ 32 ≤ total
 
 -- why there is no size, from here on
 pub data NoFrom (e g : ℕ) (ms : Members) : Type 0 where
@@ -24,11 +24,11 @@ pub data NoFrom (e g : ℕ) (ms : Members) : Type 0 where
 
 -- the size, from here on
 pub record IsFrom (e g : ℕ) (ms : Members) (n : ℕ) : Type 0 where
-  pub parts : List MemberLayout
-  pub known : HaveParts ms parts
-  pub aligned : Aligned parts
-  pub positive : 0 < max g (greatest_align parts)
-  pub is : n ≡ next_multiple_of (end_of e parts) (max g (greatest_align parts))
+  pub layouts : List MemberLayout
+  pub known : HaveLayouts ms layouts
+  pub aligned : Aligned layouts
+  pub positive : 0 < max g (greatest_align layouts)
+  pub is : n ≡ next_multiple_of (end_of e layouts) (max g (greatest_align layouts))
   pub fits : n < 2 ^ 32
 
 abbrev pub SizeFrom : ℕ → ℕ → Members → Option ℕ → Type 0
@@ -86,13 +86,13 @@ on_none e g a s name t size align ms ea es pos (from_large h) = from_large (on_l
 on_some : (e g a s : ℕ) (name : List ℕ) (t : WgslType) (size align : Option ℕ) (ms : Members) (n : ℕ) → IsGiven align (HasAlignment t) a → IsGiven size (HasSize t) s
     → 0 < a → IsFrom (next_multiple_of e a + s) (max g a) ms n → IsFrom e g (member name t size align ms) n
 on_some e g a s name t size align ms n ea es pos h =
-    let all : max (max g a) (greatest_align h.parts) ≡ max g (max a (greatest_align h.parts)) = omega arith in
+    let all : max (max g a) (greatest_align h.layouts) ≡ max g (max a (greatest_align h.layouts)) = omega arith in
     record {
-      parts = record { size = s; align = a } ∷ h.parts;
+      layouts = record { size = s; align = a } ∷ h.layouts;
       known = (es, ea, h.known);
       aligned = (pos, h.aligned);
-      positive = let was : 0 < max (max g a) (greatest_align h.parts) = h.positive in omega arith;
-      is = h.is ∙ ap (λ x. next_multiple_of (end_of (next_multiple_of e a + s) h.parts) x) all;
+      positive = let was : 0 < max (max g a) (greatest_align h.layouts) = h.positive in omega arith;
+      is = h.is ∙ ap (λ x. next_multiple_of (end_of (next_multiple_of e a + s) h.layouts) x) all;
       fits = h.fits;
     }
 
@@ -106,7 +106,7 @@ one_more e g a s name t size align ms (Some n) ea es pos h = on_some e g a s nam
 all_some : (e g : ℕ) → 0 < g → next_multiple_of e g < 2 ^ 32 → IsFrom e g no_members (next_multiple_of e g)
 all_some e g pos fits =
     let m : max g 0 ≡ g = omega arith in
-    record { parts = []; known = tt; aligned = tt; positive = omega arith; is = ap (λ x. next_multiple_of e x) (sym m); fits = fits }
+    record { layouts = []; known = tt; aligned = tt; positive = omega arith; is = ap (λ x. next_multiple_of e x) (sym m); fits = fits }
 
 all_large : (e g : ℕ) → 0 < g → 2 ^ 32 ≤ next_multiple_of e g → TooLarge e g no_members
 all_large e g pos big [] [] total known l d =
@@ -187,17 +187,17 @@ greatest_some : (ps : List MemberLayout) → 0 < max 0 (greatest_align ps) → 0
 greatest_some [] h = absurd (omega arith)
 greatest_some (p ∷ ps) h = omega arith
 
-size_is : (ms : Members) (n : ℕ) → IsFrom 0 0 ms n → IsStructSize (HaveParts ms) n
+size_is : (ms : Members) (n : ℕ) → IsFrom 0 0 ms n → IsStructSize (HaveLayouts ms) n
 size_is ms n h =
-    let g : max 0 (greatest_align h.parts) ≡ greatest_align h.parts = omega arith in
-    let pos : 0 < greatest_align h.parts = let was : 0 < max 0 (greatest_align h.parts) = h.positive in omega arith in
-    let is : n ≡ next_multiple_of (end_of 0 h.parts) (greatest_align h.parts) = h.is ∙ ap (λ x. next_multiple_of (end_of 0 h.parts) x) g in
+    let g : max 0 (greatest_align h.layouts) ≡ greatest_align h.layouts = omega arith in
+    let pos : 0 < greatest_align h.layouts = let was : 0 < max 0 (greatest_align h.layouts) = h.positive in omega arith in
+    let is : n ≡ next_multiple_of (end_of 0 h.layouts) (greatest_align h.layouts) = h.is ∙ ap (λ x. next_multiple_of (end_of 0 h.layouts) x) g in
     record {
-      parts = h.parts;
+      layouts = h.layouts;
       known = h.known;
-      some_member = greatest_some h.parts h.positive;
-      aligned = aligned_all h.parts h.aligned;
-      least = subst (λ (x : ℕ). IsLeastTotal h.parts x) (sym is) (least_total h.parts h.aligned pos);
+      some_member = greatest_some h.layouts h.positive;
+      aligned = aligned_all h.layouts h.aligned;
+      least = subst (λ (x : ℕ). IsLeastTotal h.layouts x) (sym is) (least_total h.layouts h.aligned pos);
       fits = h.fits;
     }
 
@@ -209,14 +209,14 @@ no_size ms (from_large h) = too_large (λ ps os total known placed.
     let g : greatest_align ps ≡ max 0 (greatest_align ps) = omega arith in
     h ps os total known placed.0 (subst (λ (x : ℕ). x ∣ total) g placed.1))
 
-not_unknown : (ms : Members) (ps : List MemberLayout) → HaveParts ms ps → SomeUnknown ms → ⊥
+not_unknown : (ms : Members) (ps : List MemberLayout) → HaveLayouts ms ps → SomeUnknown ms → ⊥
 not_unknown no_members ps known h = h
 not_unknown (member name t size align ms) [] known h = known
 not_unknown (member name t size align ms) (p ∷ ps) known (inl h) = h p.size known.0
 not_unknown (member name t size align ms) (p ∷ ps) known (inr (inl h)) = h p.align known.1
 not_unknown (member name t size align ms) (p ∷ ps) known (inr (inr h)) = not_unknown ms ps known.2 h
 
-not_zero : (ms : Members) (ps : List MemberLayout) → HaveParts ms ps → Aligned ps → SomeZeroAlign ms → ⊥
+not_zero : (ms : Members) (ps : List MemberLayout) → HaveLayouts ms ps → Aligned ps → SomeZeroAlign ms → ⊥
 not_zero no_members ps known al h = h
 not_zero (member name t size align ms) [] known al h = known
 not_zero (member name t size align ms) (p ∷ ps) known al (inl h) =
@@ -225,24 +225,24 @@ not_zero (member name t size align ms) (p ∷ ps) known al (inl h) =
     omega arith
 not_zero (member name t size align ms) (p ∷ ps) known al (inr h) = not_zero ms ps known.2 al.1 h
 
-not_empty : (ms : Members) (ps : List MemberLayout) → ms ≡ no_members → HaveParts ms ps → 0 < length ps → ⊥
+not_empty : (ms : Members) (ps : List MemberLayout) → ms ≡ no_members → HaveLayouts ms ps → 0 < length ps → ⊥
 not_empty no_members [] e known h = omega arith
 not_empty no_members (p ∷ ps) e known h = known
 not_empty (member name t size align ms) ps e known h = cc
 
-never_both : (ms : Members) (n : ℕ) → IsStructSize (HaveParts ms) n → HasNoSize ms → ⊥
-never_both ms n h (unknown u) = not_unknown ms h.parts h.known u
-never_both ms n h (zero_align u) = not_zero ms h.parts h.known (all_aligned h.parts h.aligned) u
-never_both ms n h (empty e) = not_empty ms h.parts e h.known h.some_member
+never_both : (ms : Members) (n : ℕ) → IsStructSize (HaveLayouts ms) n → HasNoSize ms → ⊥
+never_both ms n h (unknown u) = not_unknown ms h.layouts h.known u
+never_both ms n h (zero_align u) = not_zero ms h.layouts h.known (all_aligned h.layouts h.aligned) u
+never_both ms n h (empty e) = not_empty ms h.layouts e h.known h.some_member
 never_both ms n h (too_large large) =
-    let big : 2 ^ 32 ≤ n = large h.parts h.least.0.0 n h.known h.least.0.1 in
+    let big : 2 ^ 32 ≤ n = large h.layouts h.least.0.0 n h.known h.least.0.1 in
     let fits : n < 2 ^ 32 = h.fits in
     omega arith
 
 pub struct_size : (name : List ℕ) (ms : Members) (r : Option ℕ) → SizeFrom 0 0 ms r → IsExactly r (HasSize (struct name ms))
 struct_size name ms None h n = (λ e. absurd (cc), λ s. absurd (never_both ms n s (no_size ms h)))
 struct_size name ms (Some m) h n = (
-  λ e. subst (λ (x : ℕ). IsStructSize (HaveParts ms) x) (same_Some m n e) (size_is ms m h),
+  λ e. subst (λ (x : ℕ). IsStructSize (HaveLayouts ms) x) (same_Some m n e) (size_is ms m h),
   λ s. ap Some (one_size (struct name ms) m n (size_is ms m h) s),
 )
 

@@ -61,12 +61,12 @@ IsGiven (Some x) OfType n = n ≡ x
 IsGiven None OfType n = OfType n
 
 -- the size of a struct: the least total of a placement of its members
-pub record IsStructSize (AreParts : List MemberLayout → Type 0) (size : ℕ) : Type 0 where
-  pub parts : List MemberLayout
-  pub known : AreParts parts
-  pub some_member : 0 < length parts
-  pub aligned : All (λ part. 0 < part.align) parts
-  pub least : IsLeastTotal parts size
+pub record IsStructSize (AreLayouts : List MemberLayout → Type 0) (size : ℕ) : Type 0 where
+  pub layouts : List MemberLayout
+  pub known : AreLayouts layouts
+  pub some_member : 0 < length layouts
+  pub aligned : All (λ layout. 0 < layout.align) layouts
+  pub least : IsLeastTotal layouts size
   pub fits : size < 2 ^ 32
 
 -- the alignment of a struct: the greatest of its members, 0 without one
@@ -80,7 +80,7 @@ abbrev mutual
   HasSize (mat c r t) n = IsTimes c (IsVectorAlign r t (HasSize t)) n
   HasSize (array k t) n = IsArraySize k (IsStride (HasSize t) (HasAlignment t)) n
   HasSize (atomic t) n = IsAtomicSize t n
-  HasSize (struct name ms) n = IsStructSize (HaveParts ms) n
+  HasSize (struct name ms) n = IsStructSize (HaveLayouts ms) n
   HasSize t n = ⊥
 
   pub HasAlignment : WgslType → ℕ → Type 0
@@ -89,19 +89,19 @@ abbrev mutual
   HasAlignment (mat c r t) a = IsVectorAlign r t (HasSize t) a
   HasAlignment (array k t) a = HasAlignment t a
   HasAlignment (atomic t) a = IsAtomicSize t a
-  HasAlignment (struct name ms) a = IsStructAlign (HaveAligns ms) a
+  HasAlignment (struct name ms) a = IsStructAlign (HaveAlignments ms) a
   HasAlignment t a = ⊥
 
   -- the members have these sizes and alignments
-  pub HaveParts : Members → List MemberLayout → Type 0
-  HaveParts no_members [] = Unit {0}
-  HaveParts (member name t size align ms) (part ∷ parts) = IsGiven size (HasSize t) part.size × IsGiven align (HasAlignment t) part.align × HaveParts ms parts
-  HaveParts ms parts = ⊥
+  pub HaveLayouts : Members → List MemberLayout → Type 0
+  HaveLayouts no_members [] = Unit {0}
+  HaveLayouts (member name t size align ms) (layout ∷ layouts) = IsGiven size (HasSize t) layout.size × IsGiven align (HasAlignment t) layout.align × HaveLayouts ms layouts
+  HaveLayouts ms layouts = ⊥
 
-  pub HaveAligns : Members → List ℕ → Type 0
-  HaveAligns no_members [] = Unit {0}
-  HaveAligns (member name t size align ms) (a ∷ aligns) = IsGiven align (HasAlignment t) a × HaveAligns ms aligns
-  HaveAligns ms aligns = ⊥
+  pub HaveAlignments : Members → List ℕ → Type 0
+  HaveAlignments no_members [] = Unit {0}
+  HaveAlignments (member name t size align ms) (a ∷ aligns) = IsGiven align (HasAlignment t) a × HaveAlignments ms aligns
+  HaveAlignments ms aligns = ⊥
 
 -- the least size: a runtime-sized array counts as one element
 abbrev pub HasLeastSize : WgslType → ℕ → Type 0
@@ -127,7 +127,7 @@ pub data HasNoSize (ms : Members) : Type 0 where
   unknown : SomeUnknown ms → HasNoSize ms
   zero_align : SomeZeroAlign ms → HasNoSize ms
   empty : ms ≡ no_members → HasNoSize ms
-  too_large : ((parts : List MemberLayout) (offsets : List ℕ) (total : ℕ) → HaveParts ms parts → IsPlacement parts offsets total → 2 ^ 32 ≤ total) → HasNoSize ms
+  too_large : ((layouts : List MemberLayout) (offsets : List ℕ) (total : ℕ) → HaveLayouts ms layouts → IsPlacement layouts offsets total → 2 ^ 32 ≤ total) → HasNoSize ms
 
 -- the type has no size: a struct for one of the four causes
 abbrev pub LacksSize : WgslType → Type 0
@@ -137,6 +137,13 @@ LacksSize t = (n : ℕ) → ¬ (HasSize t n)
 -- with the struct's size these offsets are a placement, and in each member no placement has a smaller offset
 pub record AreOffsets (ms : Members) (offsets : List ℕ) : Type 0 where
   pub total : ℕ
-  pub sized : IsStructSize (HaveParts ms) total
-  pub placed : IsPlacement sized.parts offsets total
-  pub least : (others : List ℕ) (more : ℕ) → IsPlacement sized.parts others more → (k : ℕ) → slice_index offsets k ≤ slice_index others k
+  pub sized : IsStructSize (HaveLayouts ms) total
+  pub placed : IsPlacement sized.layouts offsets total
+  pub least : (others : List ℕ) (more : ℕ) → IsPlacement sized.layouts others more → (k : ℕ) → slice_index offsets k ≤ slice_index others k
+
+-- a struct's layout: the sizes and alignments of its members, their offsets, and its own size and alignment
+pub record IsStructLayout (ms : Members) (layouts : List MemberLayout) (offsets : List ℕ) (size align : ℕ) : Type 0 where
+  pub members : HaveLayouts ms layouts
+  pub placed : AreOffsets ms offsets
+  pub sized : IsStructSize (HaveLayouts ms) size
+  pub aligned : IsStructAlign (HaveAlignments ms) align

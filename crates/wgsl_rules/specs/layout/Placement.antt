@@ -11,8 +11,8 @@ pub record MemberLayout : Type 0 where
 -- before `start`); the total isn't before the end of the last.
 abbrev pub AreLaid : ℕ → List MemberLayout → List ℕ → ℕ → Type 0
 AreLaid start [] [] total = start ≤ total
-AreLaid start (part ∷ parts) (offset ∷ offsets) total = (part.align ∣ offset) × (start ≤ offset) × AreLaid (offset + part.size) parts offsets total
-AreLaid start parts offsets total = ⊥
+AreLaid start (layout ∷ layouts) (offset ∷ offsets) total = (layout.align ∣ offset) × (start ≤ offset) × AreLaid (offset + layout.size) layouts offsets total
+AreLaid start layouts offsets total = ⊥
 
 -- the greatest of the numbers, 0 without one
 abbrev pub greatest : List ℕ → ℕ
@@ -20,12 +20,12 @@ greatest [] = 0
 greatest (n ∷ ns) = max n (greatest ns)
 
 abbrev pub greatest_align : List MemberLayout → ℕ
-greatest_align parts = greatest (map (λ part. part.align) parts)
+greatest_align layouts = greatest (map (λ layout. layout.align) layouts)
 
 -- one offset per member, and a total that is a multiple of the greatest alignment
 abbrev pub IsPlacement : List MemberLayout → List ℕ → ℕ → Type 0
-IsPlacement parts offsets total = AreLaid 0 parts offsets total × (greatest_align parts ∣ total)
+IsPlacement layouts offsets total = AreLaid 0 layouts offsets total × (greatest_align layouts ∣ total)
 
 -- some placement has this total, and none has a smaller one
 abbrev pub IsLeastTotal : List MemberLayout → ℕ → Type 0
-IsLeastTotal parts total = ((offsets : List ℕ) × IsPlacement parts offsets total) × ((others : List ℕ) (more : ℕ) → IsPlacement parts others more → total ≤ more)
+IsLeastTotal layouts total = ((offsets : List ℕ) × IsPlacement layouts offsets total) × ((others : List ℕ) (more : ℕ) → IsPlacement layouts others more → total ≤ more)

@@ -1,0 +1,41 @@
+use Rattle.wgsl_core.specs.View.{view}
+use Rattle.wgsl_core.proofs.Layouts.{vector_measure, matrix_measure, array_measure, measure_starts, measure_stops, measure_goes_on, measure_ends}
+use Rattle.wgsl_core.proofs.+measure.Goals as goal
+
+pub layout::vector_measure-returns : goal.layout::vector_measure-returns
+layout::vector_measure-returns t c =
+    vector_measure c.args.n c.from.result (view c.args.ty.now) c.measure-component.result c.times.result c.vector_align.result
+    c.from.ensures c.measure-component.ensures c.times.ensures c.vector_align.ensures
+
+pub layout::matrix_measure-returns : goal.layout::matrix_measure-returns
+layout::matrix_measure-returns t c =
+    matrix_measure c.args.columns c.args.rows c.from.result (view c.args.ty.now) c.measure-component.result c.times.result c.vector_align-align.result
+    c.from.ensures c.measure-component.ensures c.times.ensures c.vector_align-align.ensures
+
+pub layout::array_measure-returns : goal.layout::array_measure-returns
+layout::array_measure-returns t c =
+    array_measure c.args.count (view c.args.ty.now) c.measure-element.result c.rounded_up.result c.array_size.result
+    c.measure-element.ensures c.rounded_up.ensures c.array_size.ensures
+
+pub ty::StructType::measure-loop-member-init : goal.ty::StructType::measure-loop-member-init
+ty::StructType::measure-loop-member-init t c = measure_starts c.deref-member-items.result.now
+
+pub ty::StructType::measure-returns-in_default : goal.ty::StructType::measure-returns-in_default
+ty::StructType::measure-returns-in_default t c =
+    let l = c.loop-member in
+    measure_stops c.args.self.now l.end c.measure-measure.result.align l.greatest c.deref-member-items.result.now l.member-index c.member-item.result
+    c.deref-member-items.ensures.value c.loop-member-test.true c.member-item.is c.in_default.not-Some c.measure-measure.ensures.align l.invariant
+
+pub ty::StructType::measure-loop-member-preserved :
+    goal.ty::StructType::measure-loop-member-preserved
+ty::StructType::measure-loop-member-preserved t c =
+    let l = c.loop-member in
+    measure_goes_on l.end c.measure-measure.result.size c.measure-measure.result.align c.end_of_member-end.result l.greatest c.in-Some.align c.max-greatest.result
+    c.deref-member-items.result.now l.member-index c.member-item.result
+    c.loop-member-test.true c.member-item.is c.measure-measure.ensures.size c.in-Some.is c.measure-measure.ensures.align c.end_of_member-end.ensures c.max-greatest.ensures l.invariant
+
+pub ty::StructType::measure-returns : goal.ty::StructType::measure-returns
+ty::StructType::measure-returns t c =
+    let l = c.loop-member in
+    measure_ends c.args.self.now l.end c.rounded_up.result l.greatest c.deref-member-items.result.now l.member-index
+    c.deref-member-items.ensures.value c.loop-member-test.false c.rounded_up.ensures l.invariant
