@@ -109,8 +109,8 @@ one_untyped name c n (binding_array k e) m r h = (Some (binding_array k e), refl
 one_untyped name c n (ray_query f) m r h = (Some (ray_query f), refl, h)
 one_untyped name c n (acceleration_structure f) m r h = (Some (acceleration_structure f), refl, h)
 
-pub no_matrix : {f : Form} {a : WgslType} → form_view f ≡ a → ((c r : ℕ) (e : Bor «Type») → f ≡ forms.Matrix c r e → ⊥) → ¬ IsMatrix a
-no_matrix {f} p n = subst (λ a. ¬ IsMatrix a) p (at f n)
+pub no_matrix : {f : Form} {a : WgslType} → a ≡ form_view f → ((c r : ℕ) (e : Bor «Type») → f ≡ forms.Matrix c r e → ⊥) → ¬ IsMatrix a
+no_matrix {f} p n = subst (λ a. ¬ IsMatrix a) (sym p) (at f n)
   where
     at : (f : Form) → ((c r : ℕ) (e : Bor «Type») → f ≡ forms.Matrix c r e → ⊥) → ¬ IsMatrix (form_view f)
     at (forms.Matrix c r e) n m = n c r e refl

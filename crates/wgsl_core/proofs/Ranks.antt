@@ -36,8 +36,8 @@ result_is_struct : (f : ResultFunction) (s : ResultShape) (p : ResultPrecision) 
 unfolding result_struct
 result_is_struct f s p = (_, _, refl)
 
-pub no_place : {f : Form} {t : WgslType} → form_view f ≡ t → ((s : Scalar) → f ≡ forms.Scalar s → ⊥) → ((s : Bor StructType) → f ≡ forms.Struct s → ⊥) → IsPlace None t
-no_place {f} e n m p = (λ k. absurd (cc k), λ k. absurd (at f n m p (e ∙ k)))
+pub no_place : {f : Form} {t : WgslType} → t ≡ form_view f → ((s : Scalar) → f ≡ forms.Scalar s → ⊥) → ((s : Bor StructType) → f ≡ forms.Struct s → ⊥) → IsPlace None t
+no_place {f} e n m p = (λ k. absurd (cc k), λ k. absurd (at f n m p (sym e ∙ k)))
   where
     at : (f : Form) → ((s : Scalar) → f ≡ forms.Scalar s → ⊥) → ((s : Bor StructType) → f ≡ forms.Struct s → ⊥) → (p : Node) → form_view f ≡ type_at p → ⊥
     at (forms.Scalar s) n m p k = n s refl
@@ -130,9 +130,9 @@ no_layer_rank t u l e p q =
 
 -- Loads
 
-pub load_reference : (r : Bool) (s : AddressSpace) (t : WgslType) (m : AccessMode) (a u : WgslType) → reference s t m ≡ a → MayRead m → IsTrue r ↔ (t ≡ u) → IsTrue r ↔ Load a u
+pub load_reference : (r : Bool) (s : AddressSpace) (t : WgslType) (m : AccessMode) (a u : WgslType) → a ≡ reference s t m → MayRead m → IsTrue r ↔ (t ≡ u) → IsTrue r ↔ Load a u
 load_reference r s t m a u e may h =
-    subst (λ a. IsTrue r ↔ Load a u) e
+    subst (λ a. IsTrue r ↔ Load a u) (sym e)
     (λ k. subst (λ u. Load (reference s t m) u) (h.0 k) (load s t m may), λ l. h.1 (load_readable l).1)
 
 pub no_load : (t u : WgslType) → layer_of t ≡ None → ((s : AddressSpace) (e : WgslType) (m : AccessMode) → t ≡ reference s e m → ⊥) → ¬ Load t u

@@ -159,9 +159,9 @@ compared_vectors {a} {b} {c} {e} {n} q p k o h =
     subst (λ f. HasCandidate o a b (Some f)) (sym (q ∙ ap (λ c. compared_at c (Some (vec_of n))) p))
     (comparison_vector_row o h a b n e (subst (λ c. IsCommon a b (Some c)) p k))
 
-pub form_not_compared : {a b c : WgslType} {f : Form} → form_view f ≡ c → ((s : Scalar) → f ≡ forms.Scalar s → ⊥) → ((n : ℕ) (e : Bor «Type») → f ≡ forms.Vector n e → ⊥) →
+pub form_not_compared : {a b c : WgslType} {f : Form} → c ≡ form_view f → ((s : Scalar) → f ≡ forms.Scalar s → ⊥) → ((n : ℕ) (e : Bor «Type») → f ≡ forms.Vector n e → ⊥) →
     IsCommon a b (Some c) → (o : BinaryOperator) → IsComparison o → HasCandidate o a b None
-form_not_compared {f = f} p s v k o h = not_compared k (subst (λ c. ¬ (IsScalar c ⊎ IsVector c)) p (neither f s v)) h
+form_not_compared {f = f} p s v k o h = not_compared k (subst (λ c. ¬ (IsScalar c ⊎ IsVector c)) (sym p) (neither f s v)) h
   where
     neither : (f : Form) → ((s : Scalar) → f ≡ forms.Scalar s → ⊥) → ((n : ℕ) (e : Bor «Type») → f ≡ forms.Vector n e → ⊥) → ¬ (IsScalar (form_view f) ⊎ IsVector (form_view f))
     neither (forms.Scalar x) s v y = s x refl
@@ -222,9 +222,9 @@ vectors_not_shifted {e = e} {f} {n} {m} p r k o h = by_forms (λ a b. HasCandida
     refused (scalar i) k x = k x
     refused e k x = x
 
-pub vector_by_other : {a b e : WgslType} {n : ℕ} {f : Form} → a ≡ vec n e → form_view f ≡ b → ((m : ℕ) (t : Bor «Type») → f ≡ forms.Vector m t → ⊥) →
+pub vector_by_other : {a b e : WgslType} {n : ℕ} {f : Form} → a ≡ vec n e → b ≡ form_view f → ((m : ℕ) (t : Bor «Type») → f ≡ forms.Vector m t → ⊥) →
     (o : BinaryOperator) → IsShift o → HasCandidate o a b None
-vector_by_other {e = e} {n} {f} p q v o h = by_forms (λ a b. HasCandidate o a b None) p (sym q) (not_shifted (apart e f v) h)
+vector_by_other {e = e} {n} {f} p q v o h = by_forms (λ a b. HasCandidate o a b None) p q (not_shifted (apart e f v) h)
   where
     apart : (e : WgslType) (f : Form) → ((m : ℕ) (t : Bor «Type») → f ≡ forms.Vector m t → ⊥) → ¬ IsShifted (vec n e) (form_view f)
     apart (scalar i) (forms.Vector m t) v x = v m t refl
@@ -250,9 +250,9 @@ unfolding IsChosenCandidate
 refused_candidate k e va vb = (e, nothing_chosen k va vb)
 
 -- what is of another form than these is no operand of arithmetic
-pub no_operand : {f : Form} {t : WgslType} → form_view f ≡ t → ((s : Scalar) → f ≡ forms.Scalar s → ⊥) → ((n : ℕ) (e : Bor «Type») → f ≡ forms.Vector n e → ⊥) →
+pub no_operand : {f : Form} {t : WgslType} → t ≡ form_view f → ((s : Scalar) → f ≡ forms.Scalar s → ⊥) → ((n : ℕ) (e : Bor «Type») → f ≡ forms.Vector n e → ⊥) →
     ((c r : ℕ) (e : Bor «Type») → f ≡ forms.Matrix c r e → ⊥) → IsNoOperand t
-no_operand {f} p a b m = subst IsNoOperand p (at f a b m)
+no_operand {f} p a b m = subst IsNoOperand (sym p) (at f a b m)
   where
     at : (f : Form) → ((s : Scalar) → f ≡ forms.Scalar s → ⊥) → ((n : ℕ) (e : Bor «Type») → f ≡ forms.Vector n e → ⊥) → ((c r : ℕ) (e : Bor «Type») → f ≡ forms.Matrix c r e → ⊥) → IsNoOperand (form_view f)
     at (forms.Scalar s) a b m = a s refl

@@ -42,23 +42,23 @@ no_way : (t u : WgslType) (n w : ℕ) → layer_of t ≡ None → Converts t (ve
 no_way t u n w e (inl p) = let k = above_to_within (along_above p).0 (vec_of n) u refl in let d : None ≡ Some (vec_of n, k.0) = sym e ∙ ap layer_of k.1 in absurd (cc d)
 no_way t u n w e (inr l) = l.0
 
-pub loads_vector : (s : AddressSpace) (t : WgslType) (m : AccessMode) (a : WgslType) (n : ℕ) (u : WgslType) (b : Bool) → reference s t m ≡ a → MayRead m →
+pub loads_vector : (s : AddressSpace) (t : WgslType) (m : AccessMode) (a : WgslType) (n : ℕ) (u : WgslType) (b : Bool) → a ≡ reference s t m → MayRead m →
     IsTrue b ↔ (t ≡ vec n u) → IsTrue b ↔ ConvertsTo a (vec n u)
 loads_vector s t m a n u b e may h =
-    subst (λ a. IsTrue b ↔ ConvertsTo a (vec n u)) e (
+    subst (λ a. IsTrue b ↔ ConvertsTo a (vec n u)) (sym e) (
       λ k. (0, inr (subst (λ u. Load (reference s t m) u) (h.0 k) (load s t m may), refl)),
       λ k. h.1 (load_readable (no_way (reference s t m) u n k.0 refl k.1)).1,
     )
 
-pub unreadable : (s : AddressSpace) (t : WgslType) (m : AccessMode) (a : WgslType) (n : ℕ) (u : WgslType) (b : Bool) → reference s t m ≡ a → b ≡ false → (IsTrue b ↔ MayRead m) →
+pub unreadable : (s : AddressSpace) (t : WgslType) (m : AccessMode) (a : WgslType) (n : ℕ) (u : WgslType) (b : Bool) → a ≡ reference s t m → b ≡ false → (IsTrue b ↔ MayRead m) →
     IsTrue b ↔ ConvertsTo a (vec n u)
 unreadable s t m a n u b e i may =
-    false_for b i (subst (λ a. ¬ ConvertsTo a (vec n u)) e
+    false_for b i (subst (λ a. ¬ ConvertsTo a (vec n u)) (sym e)
     (λ k. absurd (cc (sym (may.1 (load_readable (no_way (reference s t m) u n k.0 refl k.1)).0) ∙ i))))
 
-pub loads_nothing : {f : Form} (t : WgslType) (n : ℕ) (u : WgslType) → layer_of t ≡ None → form_view f ≡ t → ((s : AddressSpace) (e : Bor «Type») (m : AccessMode) → f ≡ forms.Reference s e m → ⊥) →
+pub loads_nothing : {f : Form} (t : WgslType) (n : ℕ) (u : WgslType) → layer_of t ≡ None → t ≡ form_view f → ((s : AddressSpace) (e : Bor «Type») (m : AccessMode) → f ≡ forms.Reference s e m → ⊥) →
     IsTrue false ↔ ConvertsTo t (vec n u)
-loads_nothing {f} t n u e p no_ref = (λ h. absurd (cc h), λ k. absurd (no_load t (vec n u) e (λ s e m q. apart f no_ref s e m (p ∙ q)) (no_way t u n k.0 e k.1)))
+loads_nothing {f} t n u e p no_ref = (λ h. absurd (cc h), λ k. absurd (no_load t (vec n u) e (λ s e m q. apart f no_ref s e m (sym p ∙ q)) (no_way t u n k.0 e k.1)))
   where
     apart : (f : Form) → ((s : AddressSpace) (e : Bor «Type») (m : AccessMode) → f ≡ forms.Reference s e m → ⊥) → (s : AddressSpace) (e : WgslType) (m : AccessMode) → form_view f ≡ reference s e m → ⊥
     apart (forms.Reference s e m) n t u v k = n s e m refl

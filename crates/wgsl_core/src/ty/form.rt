@@ -37,7 +37,7 @@ pub enum Form<'a> {
 impl Type {
     /// What the type is made of.
     pub fn form(&self) -> Form<'_>
-        ensures { form_view result ≡ view self.now }
+        ensures { view self.now ≡ form_view result }
     {
         match self {
             Type::Bool => Form::Scalar(Scalar::Bool),

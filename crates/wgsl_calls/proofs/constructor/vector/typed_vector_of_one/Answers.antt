@@ -1,4 +1,3 @@
-use Rattle.std.proofs.Common.{sym}
 use Rattle.wgsl_core.specs.View.{view}
 use Rattle.wgsl_calls.proofs.Arguments.{fails}
 use Rattle.wgsl_calls.proofs.Constructed.{scalar_refused}
@@ -6,5 +5,5 @@ use Rattle.wgsl_calls.proofs.constructor.vector.typed_vector_of_one.Goals as goa
 
 pub returns-in_ok-refuse_conversion-in-Scalar : goal.returns-in_ok-refuse_conversion-in-Scalar
 returns-in_ok-refuse_conversion-in-Scalar c =
-    scalar_refused c.args.n (view c.args.arg.now) (view c.args.ty.now) c.in-Scalar.field-0 _ (sym c.in-Scalar.ensures)
+    scalar_refused c.args.n (view c.args.arg.now) (view c.args.ty.now) c.in-Scalar.field-0 _ c.in-Scalar.ensures
     (fails c.is_convertible_to.ensures c.if-is_convertible_to.false) c.in_ok-refuse_conversion-in-Scalar.ensures
