@@ -1,15 +1,16 @@
 -- What is made of one argument and of several, as the answers of the calls below it say.
-use Rattle.std.proofs.Common.{string_bytes, ◌≡◌, ◌≢◌, ℕ, ◌≤◌, List, [], ◌∷◌, length, map, Option, Some, Result, Ok, Err, refl, sym, ap, subst, ◌∙◌, inl, inr}
+use Rattle.std.proofs.Common.{string_bytes, ◌≡◌, ◌≢◌, ℕ, ◌≤◌, List, [], ◌∷◌, length, map, Option, Some, None, Result, Ok, Err, Bool, IsTrue, ◌↔◌, refl, sym, ap, subst, ◌∙◌, inl, inr}
 use native.Mathlib.Omega.{arith}
 use Rattle.std.proofs.lemmas.List.{length-map}
-use Rattle.wgsl_rules.specs.types.Types.{WgslType, scalar, array, vec, mat, Members, struct, atomic, pointer, reference, texture, sampler, binding_array, ray_query, acceleration_structure}
+use Rattle.wgsl_rules.specs.types.Types.{Layer, array_of, vec_of, mat_of, WgslType, scalar, within, array, vec, mat, Members, struct, atomic, pointer, reference, texture, sampler, binding_array, ray_query, acceleration_structure}
 use Rattle.wgsl_syntax.specs.declared.scalar.Scalar.{Scalar}
 use Rattle.wgsl_rules.specs.types.Kinds.{IsMatrix}
 use Rattle.wgsl_rules.specs.conversion.Conversion.{ConvertsTo}
+use Rattle.wgsl_rules.specs.conversion.Converted.{IsConvertedInside}
 use Rattle.wgsl_rules.specs.conversion.Common.{IsLeftCommon}
 use Rattle.wgsl_rules.specs.errors.Refusals.{Refusal, conversion, param_count, param_type}
 use Rattle.wgsl_rules.specs.constructors.Vectors.{IsTypedVectorOfOne, IsTypedVectorOfSeveral, IsTypedVector, IsUntypedVectorOfSeveral, IsUntypedVector}
-use Rattle.wgsl_rules.specs.constructors.Matrices.{IsTypedMatrixOf, IsTypedMatrixOfOne, IsTypedMatrix, IsUntypedMatrixOf, IsUntypedMatrixOfOne, IsUntypedMatrix}
+use Rattle.wgsl_rules.specs.constructors.Matrices.{IsMatrixOf, IsTypedMatrixOf, IsTypedMatrixOfOne, IsTypedMatrix, IsUntypedMatrixOf, IsUntypedMatrixOfOne, IsUntypedMatrix}
 use Rattle.wgsl_rules.specs.types.Signatures.{Signature}
 use Rattle.wgsl_rules.specs.constructors.Constructors.{Constructor, constructor_of, IsBuilt, IsConstructorAnswer, IsTypedArray, IsFilled, IsStructCall, member_count, AllFit, IsFirstMisfit}
 use Rattle.wgsl_core.specs.View.{view, members_view, struct_view}
@@ -17,23 +18,23 @@ use Rattle.wgsl_core.proofs.Recognition.{view-struct}
 use Rattle.wgsl_core.specs.declared.ty.StructType.{StructType, out-StructType}
 use Rattle.wgsl_calls.proofs.Arguments.{count_of_members, misfit_is_no_fit}
 use Rattle.std.specs.Borrow.{Bor}
-use Rattle.wgsl_core.specs.Forms.{form_view}
+use Rattle.wgsl_core.specs.Forms.{form_view, layer_of}
 use Rattle.wgsl_core.specs.declared.ty.form.Form.{Form}
 use Rattle.wgsl_core.specs.declared.ty.form.Form.TheVariants as forms
 use Rattle.wgsl_core.specs.Answer.{AnswersAs}
 use Rattle.wgsl_core.specs.declared.ty.Type.{«Type»}
 use Rattle.wgsl_core.specs.declared.error.Fail.{Fail}
 use Rattle.wgsl_core.specs.declared.error.Fail.TheVariants as fails
-use Rattle.wgsl_calls.specs.Constructors.{IsConverted}
+use Rattle.wgsl_calls.specs.Constructors.{AllConverted}
 
 -- arrays: the elements are checked
 pub of_elements : (args : List «Type») (n : Option ℕ) (k : ℕ) (t e : WgslType) → 1 ≤ length args → n ≡ Some k → e ≡ t → (r : Result (Unit {0}) Fail) →
-    AnswersAs (λ u. u) (IsConverted e (map view args)) r → AnswersAs (λ u. array n t) (IsTypedArray (map view args) (array n t)) r
+    AnswersAs (λ u. u) (AllConverted e (map view args)) r → AnswersAs (λ u. array n t) (IsTypedArray (map view args) (array n t)) r
 of_elements [] n k t e le p q r h = absurd (omega arith)
 of_elements (a ∷ args) n k t e le p q r h =
-    subst (λ m. AnswersAs (λ u. array m t) (IsTypedArray (map view (a ∷ args)) (array m t)) r) (sym p) (at r (subst (λ u. AnswersAs (λ x. x) (IsConverted u (map view (a ∷ args))) r) q h))
+    subst (λ m. AnswersAs (λ u. array m t) (IsTypedArray (map view (a ∷ args)) (array m t)) r) (sym p) (at r (subst (λ u. AnswersAs (λ x. x) (AllConverted u (map view (a ∷ args))) r) q h))
   where
-    at : (r : Result (Unit {0}) Fail) → AnswersAs (λ u. u) (IsConverted t (map view (a ∷ args))) r →
+    at : (r : Result (Unit {0}) Fail) → AnswersAs (λ u. u) (AllConverted t (map view (a ∷ args))) r →
         AnswersAs (λ u. array (Some k) t) (IsTypedArray (map view (a ∷ args)) (array (Some k) t)) r
     at (Ok u) h = inl (h, refl)
     at (Err (fails.Error x)) h = inr (h.0, h.1, ap Err h.2)
@@ -115,6 +116,45 @@ no_matrix {f} p n = subst (λ a. ¬ IsMatrix a) (sym p) (at f n)
     at : (f : Form) → ((c r : ℕ) (e : Bor «Type») → f ≡ forms.Matrix c r e → ⊥) → ¬ IsMatrix (form_view f)
     at (forms.Matrix c r e) n m = n c r e refl
     at f n m = m
+
+-- the common type of a matrix's arguments, converted inside
+abbrev ConvertsInside : WgslType → WgslType → Type 0
+ConvertsInside u t = (v : WgslType) × IsConvertedInside u t (Some v)
+
+pub inside_element : {b : Bool} (u t : WgslType) (l : Layer) (e : WgslType) → layer_of u ≡ Some (l, e) → IsTrue b ↔ ConvertsTo e t → IsTrue b ↔ ConvertsInside u t
+inside_element {b} (within k f) t l e p i = (λ h. (within k t, (Some t, (j.0 h, refl), refl)), back)
+  where
+    j : IsTrue b ↔ ConvertsTo f t
+    j = let q : ◌≡◌ {A = Layer × WgslType} (k, f) (l, e) = cc p in subst (λ e. IsTrue b ↔ ConvertsTo e t) (sym (ap (λ (q : Layer × WgslType). q.1) q)) i
+
+    back : ConvertsInside (within k f) t → IsTrue b
+    back (v, (Some w, c, r)) = j.1 c.0
+    back (v, (None, c, r)) = absurd (cc r)
+inside_element u t l e p i = absurd (cc p)
+
+pub inside_whole : {b : Bool} (u t : WgslType) → layer_of u ≡ None → IsTrue b ↔ ConvertsTo u t → IsTrue b ↔ ConvertsInside u t
+inside_whole (within l e) t p i = absurd (cc p)
+inside_whole u t p i = (λ h. (t, (i.0 h, refl)), λ k. i.1 k.1.0)
+
+pub not_inside : (u t : WgslType) → ¬ ConvertsInside u t → IsConvertedInside u t None
+not_inside (within l e) t n = (None, λ c. n (within l t, (Some t, (c, refl), refl)), refl)
+not_inside u t n = λ c. n (t, (c, refl))
+
+pub typed_element : (name : List ℕ) (c n k : ℕ) (u t : WgslType) (l : Layer) (e : WgslType) → layer_of u ≡ Some (l, e) → ConvertsInside u t → (q : Result WgslType Refusal) →
+    IsMatrixOf name c n k t u q → IsTypedMatrixOf name c n k t u q
+typed_element name c n k (within m f) t l e p (v, (Some w, h, r)) q made = (Some (within m t), (Some t, (h.0, refl), refl), shaped m made)
+  where
+    shaped : (m : Layer) → IsMatrixOf name c n k t (within m f) q → IsMatrixOf name c n k t (within m t) q
+    shaped (array_of i) x = x
+    shaped (vec_of i) x = x
+    shaped (mat_of i j) x = x
+typed_element name c n k (within m f) t l e p (v, (None, h, r)) q made = absurd (cc r)
+typed_element name c n k u t l e p h q made = absurd (cc p)
+
+pub typed_whole : (name : List ℕ) (c n k : ℕ) (u t : WgslType) → layer_of u ≡ None → ConvertsInside u t → (q : Result WgslType Refusal) →
+    IsMatrixOf name c n k t t q → IsTypedMatrixOf name c n k t u q
+typed_whole name c n k (within l e) t p h q made = absurd (cc p)
+typed_whole name c n k u t p h q made = (Some t, (h.1.0, refl), made)
 
 -- a scalar that doesn't convert
 pub scalar_refused : (n : ℕ) (a t : WgslType) (s : Scalar) (e : Refusal) → a ≡ scalar s → ¬ ConvertsTo a t → e ≡ conversion a t →

@@ -20,9 +20,9 @@ IsStuckAt t ts (Some a) = IsFirstStuck t ts a
 IsStuckAt t ts None = Receives t ts
 
 -- all convert to a type, or the refusal of the first that doesn't
-abbrev pub IsConverted : WgslType → List WgslType → Result (Unit {0}) Refusal → Type 0
-IsConverted t ts (Ok u) = Receives t ts
-IsConverted t ts (Err e) = (a : WgslType) × IsFirstStuck t ts a × (e ≡ conversion a t)
+abbrev pub AllConverted : WgslType → List WgslType → Result (Unit {0}) Refusal → Type 0
+AllConverted t ts (Ok u) = Receives t ts
+AllConverted t ts (Err e) = (a : WgslType) × IsFirstStuck t ts a × (e ≡ conversion a t)
 
 -- the first argument that doesn't convert to its member's type, after that type, or none where all do
 abbrev pub IsMisfitAt : Members → List WgslType → Option (WgslType × WgslType) → Type 0

@@ -4,7 +4,7 @@ use Rattle.std.specs.Prelude.{IfSome, map, option_and_then, option_map}
 use Rattle.wgsl_rules.specs.types.Types.{WgslType}
 use Rattle.wgsl_core.specs.View.{view}
 use Rattle.wgsl_core.specs.Converted.{converted}
-use Rattle.wgsl_types.specs.Family.{all_to}
+use Rattle.wgsl_rules.specs.conversion.Converted.{all_to}
 use Rattle.wgsl_check.specs.Typed.{on_line, typed, typed_to}
 use Rattle.wgsl_check.specs.declared.typed.Typed.{Typed}
 

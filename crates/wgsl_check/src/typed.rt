@@ -3,7 +3,7 @@ ghost use Rattle.std.specs.Prelude.{◌≡◌, ℕ, Option, All, IfOk, IfSome, m
 ghost use Rattle.wgsl_rules.specs.types.Types.{WgslType};
 ghost use Rattle.wgsl_rules.specs.conversion.Common.{IsLeftCommon};
 ghost use Rattle.wgsl_core.specs.View.{view};
-ghost use Rattle.wgsl_types.specs.Family.{all_to};
+ghost use Rattle.wgsl_rules.specs.conversion.Converted.{all_to};
 ghost use Rattle.wgsl_check.specs.Typed.{on_line, typed, typed_to};
 
 use std::alloc::{AllocError, Global};

@@ -11,6 +11,6 @@ pub mod Ranks
 pub mod Resolution
 pub mod Unary
 pub mod Lists
-pub mod Inners
+pub mod Converted
 pub mod Slices
 pub mod Vectors

@@ -8,9 +8,7 @@ use Rattle.wgsl_rules.specs.types.Types.{WgslType, pointer, reference}
 use Rattle.wgsl_rules.specs.errors.Refusals.{Refusal}
 use Rattle.wgsl_rules.specs.operators.Answers.{IsUnaryAnswer}
 use Rattle.wgsl_rules.specs.operators.UnaryRows.{IsUnaryRow, address_row, indirection_row}
-use Rattle.wgsl_rules.specs.types.Kinds.{IsInHandleSpace}
-use Rattle.wgsl_rules.specs.conversion.Loading.{IsReference}
-use Rattle.wgsl_rules.proofs.operators.Unary.{IsPointer, one_reference}
+use Rattle.wgsl_rules.proofs.operators.Unary.{one_reference}
 use Rattle.wgsl_core.specs.View.{view}
 use Rattle.wgsl_core.specs.Answer.{AnswersBy}
 use Rattle.wgsl_core.specs.declared.ty.Type.{«Type»}
@@ -31,16 +29,16 @@ own_or_refused P {t} {e} true r own refused p q = answers P (Ok t) r (own refl) 
 own_or_refused P {t} {e} false r own refused p q = answers P (Err e) r (refused refl) (q (λ h. cc h))
 
 -- the reference of a pointer
-pub reference_row : {self : «Type»} {p : AddressSpace} {t : Box «Type» Global} {m : AccessMode} (u : Box «Type» Global) → self ≡ v.Ptr p t m → view u.value ≡ view t.value →
-    IsUnaryRow Indirection (view self) (view (v.Ref p u m))
-reference_row {self} {p} {t} {m} u e k =
-    subst₂ (λ a b. IsUnaryRow Indirection a b) (sym (ap view e ∙ view-Ptr p t m)) (sym (view-Ref p u m ∙ ap (λ t. reference p t m) k)) (indirection_row p (view t.value) m)
+pub reference_row : {a t : WgslType} {s : AddressSpace} {m : AccessMode} (u : Box «Type» Global) → a ≡ pointer s t m → view u.value ≡ t →
+    IsUnaryRow Indirection a (view (v.Ref s u m))
+reference_row {a} {t} {s} {m} u e k =
+    subst₂ (λ a b. IsUnaryRow Indirection a b) (sym e) (sym (view-Ref s u m ∙ ap (λ t. reference s t m) k)) (indirection_row s t m)
 
 -- the pointer of a reference
-pub pointer_row : {self : «Type»} {p : AddressSpace} {t : Box «Type» Global} {m : AccessMode} (u : Box «Type» Global) → self ≡ v.Ref p t m → view u.value ≡ view t.value → p ≢ Handle →
-    IsUnaryRow AddressOf (view self) (view (v.Ptr p u m))
-pointer_row {self} {p} {t} {m} u e k n =
-    subst₂ (λ a b. IsUnaryRow AddressOf a b) (sym (ap view e ∙ view-Ref p t m)) (sym (view-Ptr p u m ∙ ap (λ t. pointer p t m) k)) (address_row p (view t.value) m n)
+pub pointer_row : {a t : WgslType} {s : AddressSpace} {m : AccessMode} (u : Box «Type» Global) → a ≡ reference s t m → view u.value ≡ t → s ≢ Handle →
+    IsUnaryRow AddressOf a (view (v.Ptr s u m))
+pointer_row {a} {t} {s} {m} u e k n =
+    subst₂ (λ a b. IsUnaryRow AddressOf a b) (sym e) (sym (view-Ptr s u m ∙ ap (λ t. pointer s t m) k)) (address_row s t m n)
 
 pointed_back : {a b : WgslType} → IsUnaryRow AddressOf a b → (t : WgslType) → IsUnaryRow Indirection b t ↔ (t ≡ a)
 pointed_back (address_row s u m n) t = (one_reference s u m t, λ f. subst (λ r. IsUnaryRow Indirection (pointer s u m) r) (sym f) (indirection_row s u m))
@@ -49,15 +47,3 @@ pointed_back (address_row s u m n) t = (one_reference s u m t, λ f. subst (λ r
 pub gives_back : (a : WgslType) (r : Result «Type» Fail) → AnswersBy (IsUnaryAnswer AddressOf a) r → IfOk r (λ p. (t : WgslType) → IsUnaryRow Indirection (view p) t ↔ (t ≡ a))
 gives_back a (Ok p) h = pointed_back h
 gives_back a (Err e) h = tt
-
-pub no_pointer : (t : WgslType) → ((s : AddressSpace) (u : WgslType) (m : AccessMode) → t ≡ pointer s u m → ⊥) → ¬ IsPointer t
-no_pointer (pointer s u m) h i = h s u m refl
-no_pointer t h i = i
-
-pub no_reference : (t : WgslType) → ((s : AddressSpace) (u : WgslType) (m : AccessMode) → t ≡ reference s u m → ⊥) → ¬ IsReference t
-no_reference (reference s u m) h i = h s u m refl
-no_reference t h i = i
-
-pub no_handle_reference : (t : WgslType) → ((s : AddressSpace) (u : WgslType) (m : AccessMode) → t ≡ reference s u m → ⊥) → ¬ IsInHandleSpace t
-no_handle_reference (reference s u m) h i = h s u m refl
-no_handle_reference t h i = i

@@ -21,6 +21,7 @@ use crate::error::{Error, Fail};
 use crate::operators::resolve::{Resolution, resolve_operator};
 use crate::ty::Type;
 use crate::ty::clone::boxed_copy;
+use crate::ty::form::Form;
 use std::alloc::{AllocError, Global};
 use wgsl_syntax::address::AddressSpace;
 use wgsl_syntax::operator::{BinaryOperator, UnaryOperator};
@@ -321,12 +322,13 @@ fn complement(alloc: Global, operand: &Type) -> Result<Type, Fail>
 fn address_of(alloc: Global, operand: &Type) -> Result<Type, Fail>
     ensures row { AnswersBy (IsUnaryAnswer AddressOf (view operand.now)) result }
     ensures never_out_of_memory { IsLeaf (view operand.now) → IsAnswered result }
-    ensures never_out_of_memory_on_handles { IsInHandleSpace (view operand.now) → IsAnswered result }
+    ensures never_out_of_memory_on_handles { IsInHandleSpace (view operand.now)
+        → IsAnswered result }
 {
-    match operand {
-        Type::Ref(space, ty, access) => match space {
+    match operand.form() {
+        Form::Reference(space, ty, access) => match space {
             AddressSpace::Handle => Err(Fail::Error(Error::PtrHandle)),
-            _ => Ok(Type::Ptr(*space, boxed_copy(alloc, ty)?, *access)),
+            _ => Ok(Type::Ptr(space, boxed_copy(alloc, ty)?, access)),
         },
         _ => Err(Fail::Error(refuse_unary(alloc, UnaryOperator::AddressOf, operand)?)),
     }
@@ -337,8 +339,8 @@ fn indirection(alloc: Global, operand: &Type) -> Result<Type, Fail>
     ensures row { AnswersBy (IsUnaryAnswer Indirection (view operand.now)) result }
     ensures never_out_of_memory { IsLeaf (view operand.now) → IsAnswered result }
 {
-    match operand {
-        Type::Ptr(space, ty, access) => Ok(Type::Ref(*space, boxed_copy(alloc, ty)?, *access)),
+    match operand.form() {
+        Form::Pointer(space, ty, access) => Ok(Type::Ref(space, boxed_copy(alloc, ty)?, access)),
         _ => Err(Fail::Error(refuse_unary(alloc, UnaryOperator::Indirection, operand)?)),
     }
 }

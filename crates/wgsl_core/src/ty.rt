@@ -16,6 +16,7 @@ pub mod result_struct;
 mod show;
 
 use crate::error::{Error, Fail};
+use crate::ty::form::Form;
 use std::alloc::{AllocError, Global};
 use wgsl_syntax::address::{AccessMode, AddressSpace};
 use wgsl_syntax::attribute::AccelerationStructureFlags;
@@ -181,28 +182,10 @@ pub fn try_from_type(alloc: Global, ty: &Type) -> Result<SampledType, Fail>
 fn sampled(ty: &Type) -> Option<SampledType>
     ensures { result ≡ sampled_of (view ty.now) }
 {
-    match ty {
-        Type::I32 => Some(SampledType::I32),
-        Type::U32 => Some(SampledType::U32),
-        Type::F32 => Some(SampledType::F32),
-        Type::Bool
-        | Type::AbstractInt
-        | Type::AbstractFloat
-        | Type::F16
-        | Type::Struct(_)
-        | Type::Array(_, _)
-        | Type::Vec(_, _)
-        | Type::Mat(_, _, _)
-        | Type::Atomic(_)
-        | Type::Ptr(_, _, _)
-        | Type::Ref(_, _, _)
-        | Type::Texture(_)
-        | Type::Sampler(_)
-        | Type::I64
-        | Type::U64
-        | Type::F64
-        | Type::BindingArray(_, _)
-        | Type::RayQuery(_)
-        | Type::AccelerationStructure(_) => None,
+    match ty.form() {
+        Form::Scalar(Scalar::I32) => Some(SampledType::I32),
+        Form::Scalar(Scalar::U32) => Some(SampledType::U32),
+        Form::Scalar(Scalar::F32) => Some(SampledType::F32),
+        _ => None,
     }
 }

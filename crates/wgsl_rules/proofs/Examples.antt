@@ -1,21 +1,24 @@
 -- Worked cases of the definitions.
 use Rattle.std.proofs.Common.{◌≡◌, ℕ, [], ◌∷◌, Some, None, codes, refl, inl, inr, arith}
 use Rattle.wgsl_syntax.specs.declared.scalar.Scalar.TheVariants.{AbstractInt, AbstractFloat, I32, U32, F32, F16}
+use Rattle.wgsl_syntax.specs.declared.address.AddressSpace.{AddressSpace}
 use Rattle.wgsl_syntax.specs.declared.address.AddressSpace.TheVariants.{Private}
+use Rattle.wgsl_syntax.specs.declared.address.AccessMode.{AccessMode}
 use Rattle.wgsl_syntax.specs.declared.address.AccessMode.TheVariants.{Read, Write, ReadWrite}
 use Rattle.wgsl_syntax.specs.declared.result_struct.ResultFunction.TheVariants.{Frexp}
 use Rattle.wgsl_syntax.specs.declared.result_struct.ResultShape.TheVariants as shape
 use Rattle.wgsl_syntax.specs.declared.result_struct.ResultPrecision.TheVariants as precision
-use Rattle.wgsl_rules.specs.types.Types.{array_of, vec_of, WgslType, scalar, reference, struct, no_members, vec, mat, array}
+use Rattle.wgsl_rules.specs.types.Types.{array_of, vec_of, WgslType, scalar, atomic, pointer, reference, struct, no_members, vec, mat, array}
 use Rattle.wgsl_rules.specs.types.ResultStructs.{plain_member, result_struct}
 use Rattle.wgsl_rules.specs.conversion.Conversion.{Converts, load, load_inside, result_to_f32, base}
+use Rattle.wgsl_rules.specs.conversion.Converted.{IsConvertedInside}
 use Rattle.wgsl_syntax.specs.declared.operator.BinaryOperator.TheVariants.{Addition, ShiftLeft, Multiplication}
 use Rattle.wgsl_rules.specs.operators.Candidates.{operator}
 use Rattle.wgsl_rules.specs.Headline.{IsLeastCandidate}
 use Rattle.wgsl_rules.specs.operators.Rows.{scalar_row, scalar_vector_row, matrix_vector_row, shift_row}
 use Rattle.wgsl_rules.specs.conversion.Concrete.{concretized}
 use Rattle.wgsl_rules.proofs.conversion.Order.{Above, here, further}
-use Rattle.wgsl_rules.proofs.conversion.Equations.{converts_scalar, converts_inside, converts_within, converts_reference}
+use Rattle.wgsl_rules.proofs.conversion.Equations.{converts_scalar, converts_inside, converts_within, converts_reference, converts_alone}
 use Rattle.wgsl_rules.proofs.operators.ChosenRows.{row_chosen}
 
 -- ranks
@@ -52,6 +55,13 @@ load_no_step w h = elim ((converts_reference Private (scalar AbstractInt) Read (
 
 array_loaded : Converts (array (Some 2) (reference Private (scalar I32) Read)) (array (Some 2) (scalar I32)) 0
 array_loaded = inr (load_inside (array_of (Some 2)) (load Private (scalar I32) Read (inl refl)), refl)
+
+-- an atomic and a pointer become nothing but themselves
+atomic_inside : (t u v : WgslType) → IsConvertedInside (atomic t) u (Some v) → atomic t ≡ u
+atomic_inside t u v h = ((converts_alone (atomic t) u _ tt).0 h.0.1).1
+
+pointer_inside : (s : AddressSpace) (t : WgslType) (m : AccessMode) (u v : WgslType) → IsConvertedInside (pointer s t m) u (Some v) → pointer s t m ≡ u
+pointer_inside s t m u v h = ((converts_alone (pointer s t m) u _ tt).0 h.0.1).1
 
 frexp_single : Converts (result_struct Frexp shape.Scalar precision.Abstract) (result_struct Frexp shape.Scalar precision.F32) 1
 frexp_single = (above_converts_at (further here (base (result_to_f32 Frexp shape.Scalar))))

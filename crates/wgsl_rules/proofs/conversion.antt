@@ -7,3 +7,4 @@ pub mod Loading
 pub mod Commons
 pub mod Lists
 pub mod Concretes
+pub mod Converted

@@ -4,3 +4,4 @@ pub mod Common
 pub mod Lists
 pub mod Concrete
 pub mod Nodes
+pub mod Converted

@@ -5,7 +5,7 @@ use Rattle.std.proofs.lemmas.Option.{IfSome_then}
 use Rattle.std.proofs.lemmas.Result.{IfOk-weaker}
 use Rattle.std.proofs.lemmas.List.{take_more, take-append-drop}
 use Rattle.wgsl_rules.specs.types.Types.{WgslType}
-use Rattle.wgsl_types.specs.Family.{all_to}
+use Rattle.wgsl_rules.specs.conversion.Converted.{all_to}
 
 module _ {T V : Type 0} (to : T → WgslType → Option V) (t : WgslType) where
   put : V → Option (List V) → Option (List V)

@@ -3,7 +3,7 @@ ghost use Rattle.std.specs.Prelude.{◌≡◌, Option, IfOk, IfSome, All, option
 ghost use Rattle.wgsl_rules.specs.types.Types.{WgslType};
 ghost use Rattle.wgsl_rules.specs.conversion.Common.{IsCommon, IsLeftCommon};
 ghost use Rattle.wgsl_core.specs.View.{view};
-ghost use Rattle.wgsl_types.specs.Family.{both_to, all_to};
+ghost use Rattle.wgsl_rules.specs.conversion.Converted.{both_to, all_to};
 
 use std::alloc::{AllocError, Global};
 use wgsl_core::conversion::lists::common_of;
@@ -17,8 +17,10 @@ use wgsl_core::ty::Type;
 pub fn convert<T: Convert>(alloc: Global, a: &T, b: &T) -> Result<Option<(T, T)>, AllocError>
 where
     T: Drop,
-    ensures value { IfOk result (λ p. (c : Option WgslType) × IsCommon (T.type_of a.now) (T.type_of b.now) c
-        × (option_map (λ q. (T.shown q.0, T.shown q.1)) p ≡ option_and_then (both_to T.to T.to a.now b.now) c)) }
+    ensures value { IfOk result (λ p. (c : Option WgslType)
+        × IsCommon (T.type_of a.now) (T.type_of b.now) c
+        × (option_map (λ q. (T.shown q.0, T.shown q.1)) p
+        ≡ option_and_then (both_to T.to T.to a.now b.now) c)) }
     ensures one_type { IfOk result (λ p. IfSome p (λ q. T.type_of q.0 ≡ T.type_of q.1)) }
 {
     let a_type = a.ty(alloc)?;
@@ -36,8 +38,10 @@ fn convert_with_type<T: Convert>(
 ) -> Result<Option<(T, T)>, AllocError>
 where
     T: Drop,
-    ensures value { IfOk result (λ p. (c : Option WgslType) × IsCommon (view a_type.now) (T.type_of b.now) c
-        × (option_map (λ q. (T.shown q.0, T.shown q.1)) p ≡ option_and_then (both_to T.to T.to a.now b.now) c)) }
+    ensures value { IfOk result (λ p. (c : Option WgslType)
+        × IsCommon (view a_type.now) (T.type_of b.now) c
+        × (option_map (λ q. (T.shown q.0, T.shown q.1)) p
+        ≡ option_and_then (both_to T.to T.to a.now b.now) c)) }
     ensures one_type { IfOk result (λ p. IfSome p (λ q. T.type_of q.0 ≡ T.type_of q.1)) }
 {
     let b_type = b.ty(alloc)?;
@@ -56,7 +60,8 @@ fn convert_both_to<T: Convert>(
 where
     T: Drop,
     ensures value { IfOk result (λ p. option_map (λ q. (T.shown q.0, T.shown q.1)) p
-        ≡ option_and_then (both_to T.to T.to a.now b.now) (option_map (λ t. view t.now) ty.entry)) }
+        ≡ option_and_then (both_to T.to T.to a.now b.now)
+        (option_map (λ t. view t.now) ty.entry)) }
     ensures one_type { IfOk result (λ p. IfSome p (λ q. T.type_of q.0 ≡ T.type_of q.1)) }
 {
     let Some(ty) = ty else {
@@ -81,8 +86,10 @@ pub fn convert_inner<T: Convert, U: Convert>(
 where
     T: Drop,
     U: Drop,
-    ensures { IfOk result (λ p. (c : Option WgslType) × IsCommon (T.inner_type_of a.now) (U.inner_type_of b.now) c
-        × (option_map (λ q. (T.shown q.0, U.shown q.1)) p ≡ option_and_then (both_to T.inner_to U.inner_to a.now b.now) c)) }
+    ensures { IfOk result (λ p. (c : Option WgslType)
+        × IsCommon (T.inner_type_of a.now) (U.inner_type_of b.now) c
+        × (option_map (λ q. (T.shown q.0, U.shown q.1)) p
+        ≡ option_and_then (both_to T.inner_to U.inner_to a.now b.now) c)) }
 {
     let a_type = a.inner_ty(alloc)?;
     let both = convert_inner_with_type(alloc, a, &a_type, b);
@@ -100,8 +107,10 @@ fn convert_inner_with_type<T: Convert, U: Convert>(
 where
     T: Drop,
     U: Drop,
-    ensures { IfOk result (λ p. (c : Option WgslType) × IsCommon (view a_type.now) (U.inner_type_of b.now) c
-        × (option_map (λ q. (T.shown q.0, U.shown q.1)) p ≡ option_and_then (both_to T.inner_to U.inner_to a.now b.now) c)) }
+    ensures { IfOk result (λ p. (c : Option WgslType)
+        × IsCommon (view a_type.now) (U.inner_type_of b.now) c
+        × (option_map (λ q. (T.shown q.0, U.shown q.1)) p
+        ≡ option_and_then (both_to T.inner_to U.inner_to a.now b.now) c)) }
 {
     let b_type = b.inner_ty(alloc)?;
     let both = convert_both_inner_to(alloc, a, b, convert_ty(a_type, &b_type));
@@ -120,7 +129,8 @@ where
     T: Drop,
     U: Drop,
     ensures { IfOk result (λ p. option_map (λ q. (T.shown q.0, U.shown q.1)) p
-        ≡ option_and_then (both_to T.inner_to U.inner_to a.now b.now) (option_map (λ t. view t.now) ty.entry)) }
+        ≡ option_and_then (both_to T.inner_to U.inner_to a.now b.now)
+        (option_map (λ t. view t.now) ty.entry)) }
 {
     let Some(ty) = ty else {
         return Ok(None);
@@ -142,8 +152,10 @@ pub fn convert_all_to<T: Convert>(
 ) -> Result<Option<Vec<T>>, AllocError>
 where
     T: Drop,
-    ensures value { IfOk result (λ r. option_map (λ v. map T.shown v.items) r ≡ all_to T.to (view ty.now) values.now) }
-    ensures one_type { IfOk result (λ r. IfSome r (λ v. All (λ x. T.type_of x ≡ view ty.now) v.items)) }
+    ensures value { IfOk result (λ r. option_map (λ v. map T.shown v.items) r
+        ≡ all_to T.to (view ty.now) values.now) }
+    ensures one_type { IfOk result (λ r. IfSome r (λ v.
+        All (λ x. T.type_of x ≡ view ty.now) v.items)) }
 {
     let mut converted = Vec::new(alloc);
     for value in values {
@@ -163,7 +175,8 @@ pub fn convert_all_inner_to<T: Convert>(
 ) -> Result<Option<Vec<T>>, AllocError>
 where
     T: Drop,
-    ensures { IfOk result (λ r. option_map (λ v. map T.shown v.items) r ≡ all_to T.inner_to (view ty.now) values.now) }
+    ensures { IfOk result (λ r. option_map (λ v. map T.shown v.items) r
+        ≡ all_to T.inner_to (view ty.now) values.now) }
 {
     let mut converted = Vec::new(alloc);
     for value in values {
@@ -180,9 +193,12 @@ where
 pub fn convert_all<T: Convert>(alloc: Global, values: &[T]) -> Result<Option<Vec<T>>, AllocError>
 where
     T: Drop,
-    ensures value { IfOk result (λ r. (c : Option WgslType) × IsLeftCommon (map T.type_of values.now) c
-        × (option_map (λ v. map T.shown v.items) r ≡ option_and_then (λ t. all_to T.to t values.now) c)) }
-    ensures one_type { IfOk result (λ r. IfSome r (λ v. (t : WgslType) × All (λ x. T.type_of x ≡ t) v.items)) }
+    ensures value { IfOk result (λ r. (c : Option WgslType)
+        × IsLeftCommon (map T.type_of values.now) c
+        × (option_map (λ v. map T.shown v.items) r
+        ≡ option_and_then (λ t. all_to T.to t values.now) c)) }
+    ensures one_type { IfOk result (λ r. IfSome r (λ v.
+        (t : WgslType) × All (λ x. T.type_of x ≡ t) v.items)) }
 {
     let types = types_of(alloc, values)?;
     let Some(ty) = common_of(&types) else {

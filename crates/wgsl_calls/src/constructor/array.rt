@@ -6,7 +6,7 @@ ghost use Rattle.wgsl_rules.specs.constructors.Constructors.{IsTypedArray, IsArr
 ghost use Rattle.wgsl_core.specs.View.{view};
 ghost use Rattle.wgsl_core.specs.Instances.{parameter_view};
 ghost use Rattle.wgsl_core.specs.Answer.{AnswersAs, AnswersBy};
-ghost use Rattle.wgsl_calls.specs.Constructors.{IsConverted};
+ghost use Rattle.wgsl_calls.specs.Constructors.{AllConverted};
 ghost use Rattle.wgsl_calls.specs.Templates.{array_view};
 
 use crate::constructor::{first_stuck, refuse_conversion};
@@ -59,7 +59,7 @@ fn check_elements(alloc: Global, template: &ArrayTemplate, args: &[Type]) -> Res
 }
 
 fn check_conversions(alloc: Global, args: &[Type], ty: &Type) -> Result<(), Fail>
-    ensures { AnswersAs (λ u. u) (IsConverted (view ty.now) (map view args.now)) result }
+    ensures { AnswersAs (λ u. u) (AllConverted (view ty.now) (map view args.now)) result }
 {
     match first_stuck(args, ty) {
         Some(stuck) => Err(Fail::Error(refuse_conversion(alloc, stuck, ty)?)),

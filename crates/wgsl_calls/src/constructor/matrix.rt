@@ -1,9 +1,10 @@
 // Constructors of matrices.
-ghost use Rattle.std.specs.Prelude.{◌≡◌, ◌↔◌, Err, IfOk, IsTrue, None, Ok, map, option_map};
+ghost use Rattle.std.specs.Prelude.{◌≡◌, ◌↔◌, Err, IfOk, IsTrue, None, Ok, Some, map, option_map};
 ghost use Rattle.wgsl_syntax.specs.declared.scalar.Scalar.{Scalar};
-ghost use Rattle.wgsl_rules.specs.types.Types.{mat};
+ghost use Rattle.wgsl_rules.specs.types.Types.{WgslType, mat};
+ghost use Rattle.wgsl_rules.specs.conversion.Converted.{IsConvertedInside};
 ghost use Rattle.wgsl_rules.specs.constructors.Vectors.{components};
-ghost use Rattle.wgsl_rules.specs.constructors.Matrices.{ConvertsInside, no_columns, IsMatrixOf, IsTypedMatrixOf, IsTypedMatrixOfOne, IsTypedMatrix, IsUntypedMatrixOf, IsUntypedMatrixOfOne, IsUntypedMatrix, IsMatrixCall};
+ghost use Rattle.wgsl_rules.specs.constructors.Matrices.{no_columns, IsMatrixOf, IsTypedMatrixOf, IsTypedMatrixOfOne, IsTypedMatrix, IsUntypedMatrixOf, IsUntypedMatrixOfOne, IsUntypedMatrix, IsMatrixCall};
 ghost use Rattle.wgsl_core.specs.View.{view};
 ghost use Rattle.wgsl_core.specs.Instances.{parameter_view};
 ghost use Rattle.wgsl_core.specs.Answer.{AnswersBy, refusal};
@@ -103,7 +104,8 @@ fn typed_matrix_of_common(
 }
 
 fn converts_inside(from: &Type, to: &Type) -> bool
-    ensures { IsTrue result ↔ ConvertsInside (view from.now) (view to.now) }
+    ensures { IsTrue result
+        ↔ (t : WgslType) × IsConvertedInside (view from.now) (view to.now) (Some t) }
 {
     match from.layer() {
         Some((_, element)) => element.is_convertible_to(to),

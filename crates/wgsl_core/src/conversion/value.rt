@@ -38,7 +38,8 @@ pub trait Convert: Sized + Ty {
         ensures value { IfOk result (λ y. option_map shown y ≡ concrete self.now) };
 
     /// What is converted to a type has that type.
-    ghost to_has_type: { (x : Self) (t : WgslType) (y : Self) → to x t ≡ Some (shown y) → Self.Ty.type_of y ≡ t };
+    ghost to_has_type: { (x : Self) (t : WgslType) (y : Self) → to x t ≡ Some (shown y)
+        → Self.Ty.type_of y ≡ t };
 }
 
 impl Convert for Type {
@@ -60,24 +61,25 @@ impl Convert for Type {
 
     ghost to_has_type = { converted_has_type };
 
-    #[tactic(auto, using(crate::specs::Converted::converted_some, crate::specs::Converted::converted_none))]
+    #[tactic(auto, using(crate::proofs::Converted::converted_some, crate::proofs::Converted::converted_none))]
     fn convert_to(&self, alloc: Global, ty: &Type) -> Result<Option<Type>, AllocError>
-        ensures value { IfOk result (λ y. option_map view y ≡ converted (view self.now) (view ty.now)) }
-        ensures never_out_of_memory { NeedsNoMemory (converted (view self.now) (view ty.now)) → IsOk result }
+        ensures value { IfOk result (λ y. option_map view y
+            ≡ converted (view self.now) (view ty.now)) }
+        ensures never_out_of_memory { NeedsNoMemory (converted (view self.now) (view ty.now))
+            → IsOk result }
     {
         copy_if(alloc, self.is_convertible_to(ty), ty)
     }
 
     fn convert_inner_to(&self, alloc: Global, ty: &Type) -> Result<Option<Type>, AllocError>
-        ensures value { IfOk result (λ y. option_map view y ≡ inner_converted (view self.now) (view ty.now)) }
-        ensures never_out_of_memory { NeedsNoMemory (inner_converted (view self.now) (view ty.now)) → IsOk result }
+        ensures value { IfOk result (λ y. option_map view y
+            ≡ inner_converted (view self.now) (view ty.now)) }
+        ensures never_out_of_memory { NeedsNoMemory (inner_converted (view self.now) (view ty.now))
+            → IsOk result }
     {
         match self.layer() {
             Some((layer, element)) => around_converted(alloc, layer, element, ty),
-            None => match self {
-                Type::Atomic(_) | Type::Ptr(_, _, _) => copy_if(alloc, self == ty, ty),
-                _ => self.convert_to(alloc, ty),
-            },
+            None => self.convert_to(alloc, ty),
         }
     }
 
@@ -90,8 +92,10 @@ impl Convert for Type {
 }
 
 fn copy_if(alloc: Global, holds: bool, ty: &Type) -> Result<Option<Type>, AllocError>
-    ensures value { IfOk result (λ y. option_map view y ≡ (if holds then Some (view ty.now) else None)) }
-    ensures never_out_of_memory { NeedsNoMemory (if holds then Some (view ty.now) else None) → IsOk result }
+    ensures value { IfOk result (λ y. option_map view y
+        ≡ (if holds then Some (view ty.now) else None)) }
+    ensures never_out_of_memory { NeedsNoMemory (if holds then Some (view ty.now) else None)
+        → IsOk result }
 {
     if holds {
         Ok(Some(ty.clone(alloc)?))
@@ -106,8 +110,11 @@ fn around_converted(
     element: &Type,
     ty: &Type,
 ) -> Result<Option<Type>, AllocError>
-    ensures value { IfOk result (λ y. option_map view y ≡ option_map (λ t. within layer t) (converted (view element.now) (view ty.now))) }
-    ensures never_out_of_memory { NeedsNoMemory (option_map (λ t. within layer t) (converted (view element.now) (view ty.now))) → IsOk result }
+    ensures value { IfOk result (λ y. option_map view y
+        ≡ option_map (λ t. within layer t) (converted (view element.now) (view ty.now))) }
+    ensures never_out_of_memory { NeedsNoMemory
+        (option_map (λ t. within layer t) (converted (view element.now) (view ty.now)))
+        → IsOk result }
 {
     match element.convert_to(alloc, ty)? {
         Some(converted) => Ok(Some(around(alloc, layer, converted)?)),

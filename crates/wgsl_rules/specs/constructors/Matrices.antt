@@ -1,8 +1,8 @@
 -- What the constructors of matrices make of their arguments (WGSL, "Value Constructor Built-in Functions").
-use Rattle.std.specs.Prelude.{ℕ, ◌*◌, List, [], ◌∷◌, ◌≡◌, Option, Some, None, Result, Ok, Err, codes, length}
+use Rattle.std.specs.Prelude.{ℕ, ◌*◌, List, [], ◌∷◌, ◌≡◌, Option, Some, None, Result, Ok, Err, codes, length, ok_or}
 use Rattle.wgsl_syntax.specs.declared.scalar.Scalar.TheVariants.{AbstractInt, F32}
-use Rattle.wgsl_rules.specs.types.Types.{WgslType, scalar, within, vec, mat}
-use Rattle.wgsl_rules.specs.conversion.Conversion.{ConvertsTo}
+use Rattle.wgsl_rules.specs.types.Types.{WgslType, scalar, vec, mat}
+use Rattle.wgsl_rules.specs.conversion.Converted.{IsConvertedInside}
 use Rattle.wgsl_rules.specs.conversion.Concrete.{IsFloat}
 use Rattle.wgsl_rules.specs.types.Inner.{inner_of}
 use Rattle.wgsl_rules.specs.types.Signatures.{Parameter}
@@ -20,23 +20,13 @@ IsMatrixOf name c r number t (vec n e) q = IsCounted name c number (mat c r t) q
 IsMatrixOf name c r number t (scalar s) q = IsCounted name (c * r) number (mat c r t) q
 IsMatrixOf name c r number t u q = q ≡ Err no_columns
 
--- A type converts to another inside: an array, a vector or a matrix in its element, all else as a whole.
-abbrev pub ConvertsInside : WgslType → WgslType → Type 0
-ConvertsInside (within l e) t = ConvertsTo e t
-ConvertsInside u t = ConvertsTo u t
-
--- what it becomes
-abbrev pub converted_inside : WgslType → WgslType → WgslType
-converted_inside (within l e) t = within l t
-converted_inside u t = t
-
 abbrev pub incompatible_matrix : List ℕ
 incompatible_matrix = codes "matrix components are incompatible"
 
--- A matrix of a template's type, out of so many arguments of a common type.
+-- A matrix of a template's type, out of so many arguments of a common type, which is converted inside to the template's.
 abbrev pub IsTypedMatrixOf : List ℕ → ℕ → ℕ → ℕ → WgslType → WgslType → Result WgslType Refusal → Type 0
 IsTypedMatrixOf name c r number t u q =
-    Either (ConvertsInside u t) (IsMatrixOf name c r number t (converted_inside u t) q) (q ≡ Err (conversion (inner_of u) t))
+    (v : Option WgslType) × IsConvertedInside u t v × Then (ok_or v (conversion (inner_of u) t)) (IsMatrixOf name c r number t) q
 
 -- out of one argument: a matrix of the same shape, or as of any other number
 abbrev pub IsTypedMatrixOfOne : List ℕ → ℕ → ℕ → WgslType → WgslType → Result WgslType Refusal → Type 0

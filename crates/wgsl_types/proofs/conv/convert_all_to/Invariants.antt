@@ -1,5 +1,5 @@
 use Rattle.std.proofs.Common.{◌≡◌, All, take, map, Some}
-use Rattle.wgsl_types.specs.Family.{all_to}
+use Rattle.wgsl_rules.specs.conversion.Converted.{all_to}
 use Rattle.wgsl_core.specs.View.{view}
 use Rattle.wgsl_types.proofs.conv.convert_all_to.Given as goal
 

@@ -1,6 +1,6 @@
 use Rattle.std.proofs.Common.{◌≡◌, option_map}
 use Rattle.std.specs.Prelude.{option_and_then}
-use Rattle.wgsl_types.specs.Family.{both_to}
+use Rattle.wgsl_rules.specs.conversion.Converted.{both_to}
 use Rattle.wgsl_types.proofs.Pairs.{of_common}
 use Rattle.wgsl_types.proofs.conv.convert_inner_with_type.Goals as goal
 
