@@ -1,8 +1,8 @@
-pub mod Outcomes
+pub mod AnswersAs
 pub mod Arguments
 pub mod Constructed
 pub mod Fractions
 pub mod Fitting
-pub mod Wanted
+pub mod OutOfMemory
 pub mod Built
 pub mod Named

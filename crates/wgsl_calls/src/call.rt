@@ -31,7 +31,7 @@ use crate::call::fit::{Call, fits};
 use crate::call::result_type::{exchange_result, hit_positions, ray_intersection, result_struct};
 use crate::call::rows::Rows;
 use crate::call::source::{
-    argument, as_long, bare, in_vector, inner, part, texture_size, transposed,
+    argument, as_long, bare, in_vector, inner, texture_size, transposed, type_of_source,
 };
 use crate::template::BitcastTemplate;
 pub use find::find_call;
@@ -55,10 +55,14 @@ pub fn type_builtin_fn(
     template: Option<&[TpltParam]>,
     args: &[Type],
 ) -> Result<Option<Type>, Fail>
-    ensures row { AnswersAs (option_map view) (IsCallAnswer (call_view name.now template.entry args.now)) result }
-    ensures least { AnswersAs (option_map view) (IsLeastCallAnswer (call_view name.now template.entry args.now)) result }
-    ensures one_choice { (n : Name) → All IsValueType (map view args.now) → OneChoice n (map view args.now) }
-    ensures never_out_of_memory { IsLeafCall (call_view name.now template.entry args.now) → IsAnswered result }
+    ensures row { AnswersAs (option_map view)
+        (IsCallAnswer (call_view name.now template.entry args.now)) result }
+    ensures least { AnswersAs (option_map view)
+        (IsLeastCallAnswer (call_view name.now template.entry args.now)) result }
+    ensures one_choice { (n : Name) → All IsValueType (map view args.now)
+        → OneChoice n (map view args.now) }
+    ensures never_out_of_memory { IsLeafCall (call_view name.now template.entry args.now)
+        → IsAnswered result }
 {
     answer(
         alloc,
@@ -82,7 +86,8 @@ pub fn answer(alloc: Global, call: Call<'_>) -> Result<Option<Type>, Fail>
 
 /// The answer by the rows under a name: of the first that takes the call.
 fn by_rows(alloc: Global, rows: Rows, call: Call<'_>) -> Result<Option<Type>, Fail>
-    ensures { Answered (IsAnswerOf (rows_view rows) (signature_of call.entry)) (template_of call.entry) result }
+    ensures { Answered (IsAnswerOf (rows_view rows) (signature_of call.entry))
+        (template_of call.entry) result }
 {
     match rows {
         Rows::Only(row) => by_row(alloc, row, call),
@@ -97,7 +102,8 @@ fn by_rows(alloc: Global, rows: Rows, call: Call<'_>) -> Result<Option<Type>, Fa
 }
 
 fn by_row(alloc: Global, row: Row, call: Call<'_>) -> Result<Option<Type>, Fail>
-    ensures { Answered (IsAnswerOf (row ∷ []) (signature_of call.entry)) (template_of call.entry) result }
+    ensures { Answered (IsAnswerOf (row ∷ []) (signature_of call.entry))
+        (template_of call.entry) result }
 {
     if fits(row, call) {
         by_return_type(alloc, return_type(row), call)
@@ -131,17 +137,22 @@ fn by_return_type(
     return_type: ReturnType,
     call: Call<'_>,
 ) -> Result<Option<Type>, Fail>
-    ensures { Answered (IsReturnType return_type (signature_of call.entry)) (template_of call.entry) result }
+    ensures { Answered (IsReturnType return_type (signature_of call.entry))
+        (template_of call.entry) result }
 {
     match return_type {
-        ReturnType::Of(of) => given(alloc, bare(part(of, call.args)), call),
-        ReturnType::Concrete(of) => concrete(alloc, part(of, call.args), call),
+        ReturnType::Of(of) => given(alloc, bare(type_of_source(of, call.args)), call),
+        ReturnType::Concrete(of) => concrete(alloc, type_of_source(of, call.args), call),
         ReturnType::AsLong(of) => given(
             alloc,
-            as_long(argument(call.args, 0), part(of, call.args)),
+            as_long(argument(call.args, 0), type_of_source(of, call.args)),
             call,
         ),
-        ReturnType::InVector(n, of) => given(alloc, in_vector(n, part(of, call.args)), call),
+        ReturnType::InVector(n, of) => given(
+            alloc,
+            in_vector(n, type_of_source(of, call.args)),
+            call,
+        ),
         ReturnType::Transposed => given(alloc, transposed(argument(call.args, 0)), call),
         ReturnType::TextureSize => given(alloc, texture_size(argument(call.args, 0)), call),
         ReturnType::ResultOf(function) => {
@@ -161,7 +172,8 @@ fn given(
     found: Option<ResolvedType<'_>>,
     call: Call<'_>,
 ) -> Result<Option<Type>, Fail>
-    ensures { IsMet (given_for (signature_of call.entry) (option_map resolved_view found.entry)) result }
+    ensures { IsMet (given_for (signature_of call.entry)
+        (option_map resolved_view found.entry)) result }
 {
     match found {
         Some(found) => Ok(Some(found.build(alloc)?)),
@@ -170,7 +182,8 @@ fn given(
 }
 
 fn concrete(alloc: Global, found: Option<Element<'_>>, call: Call<'_>) -> Result<Option<Type>, Fail>
-    ensures { IsMet (given_for (signature_of call.entry) (option_map concretized (option_map element_view found.entry))) result }
+    ensures { IsMet (given_for (signature_of call.entry)
+        (option_map concretized (option_map element_view found.entry))) result }
 {
     match found {
         Some(found) => Ok(Some(concrete_element(alloc, found)?)),
@@ -178,7 +191,7 @@ fn concrete(alloc: Global, found: Option<Element<'_>>, call: Call<'_>) -> Result
     }
 }
 
-#[tactic(auto, using(crate::proofs::Wanted::leaf_before))]
+#[tactic(auto, using(crate::proofs::OutOfMemory::leaf_before))]
 fn concrete_element(alloc: Global, element: Element<'_>) -> Result<Type, AllocError>
     ensures same { IfOk result (λ t. view t ≡ concretized (element_view element.entry)) }
     ensures never_out_of_memory { IsLeaf (concretized (element_view element.entry)) → IsOk result }
@@ -191,7 +204,8 @@ fn concrete_element(alloc: Global, element: Element<'_>) -> Result<Type, AllocEr
 
 /// The struct that `frexp` or `modf` gives for a type, where it takes that.
 fn split_result(function: ResultFunction, ty: Option<&Type>) -> Option<ResultStruct>
-    ensures { IsResultFor function (option_map (λ t. view t.now) ty.entry) (option_map result_type result) }
+    ensures { IsResultFor function (option_map (λ t. view t.now) ty.entry)
+        (option_map result_type result) }
 {
     let (shape, precision) = shaped_float(ty?)?;
     Some(ResultStruct {
@@ -202,7 +216,7 @@ fn split_result(function: ResultFunction, ty: Option<&Type>) -> Option<ResultStr
 }
 
 /// What `frexp` or `modf` gives.
-#[tactic(auto, using(crate::proofs::Wanted::no_leaf_result))]
+#[tactic(auto, using(crate::proofs::OutOfMemory::no_leaf_result))]
 fn split(alloc: Global, of: Option<ResultStruct>, call: Call<'_>) -> Result<Option<Type>, Fail>
     ensures { IsMet (given_for (signature_of call.entry) (option_map result_type of)) result }
 {
@@ -213,9 +227,10 @@ fn split(alloc: Global, of: Option<ResultStruct>, call: Call<'_>) -> Result<Opti
 }
 
 /// What an atomic exchange of a type gives.
-#[tactic(auto, using(crate::proofs::Wanted::no_leaf_exchange))]
+#[tactic(auto, using(crate::proofs::OutOfMemory::no_leaf_exchange))]
 fn exchanged(alloc: Global, ty: Option<&Type>, call: Call<'_>) -> Result<Option<Type>, Fail>
-    ensures { IsMet (given_for (signature_of call.entry) (option_map exchange_struct (option_map (λ t. view t.now) ty.entry))) result }
+    ensures { IsMet (given_for (signature_of call.entry)
+        (option_map exchange_struct (option_map (λ t. view t.now) ty.entry))) result }
 {
     match ty {
         Some(ty) => Ok(Some(exchange_result(alloc, ty)?)),
@@ -223,7 +238,7 @@ fn exchanged(alloc: Global, ty: Option<&Type>, call: Call<'_>) -> Result<Option<
     }
 }
 
-#[tactic(auto, using(crate::proofs::Wanted::no_leaf_intersection))]
+#[tactic(auto, using(crate::proofs::OutOfMemory::no_leaf_intersection))]
 fn intersection(alloc: Global) -> Result<Option<Type>, Fail>
     ensures { IsMet (Ok (Some ray_intersection_struct)) result }
 {
@@ -238,7 +253,8 @@ fn positions(alloc: Global) -> Result<Option<Type>, Fail>
 
 /// What `bitcast` takes its argument's bits as.
 fn by_template(alloc: Global, call: Call<'_>) -> Result<Option<Type>, Fail>
-    ensures { Answered (IsFromTemplate (signature_of call.entry) (template_of call.entry)) (template_of call.entry) result }
+    ensures { Answered (IsFromTemplate (signature_of call.entry) (template_of call.entry))
+        (template_of call.entry) result }
 {
     match call.template {
         Some(parameters) => Ok(Some(bitcast(alloc, parameters)?)),

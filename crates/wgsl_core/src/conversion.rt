@@ -146,10 +146,10 @@ fn node_of(ty: &Type) -> Option<Node>
 }
 
 /// The node from which a single conversion leads to this one.
-fn parent(place: Node) -> Option<Node>
-    ensures { option_map node_view result ≡ parent_of (node_view place) }
+fn parent(node: Node) -> Option<Node>
+    ensures { option_map node_view result ≡ parent_of (node_view node) }
 {
-    match place {
+    match node {
         Node::Scalar(scalar) => match scalar {
             Scalar::I32 | Scalar::U32 | Scalar::AbstractFloat | Scalar::I64 | Scalar::U64 => {
                 Some(Node::Scalar(Scalar::AbstractInt))
@@ -169,10 +169,10 @@ fn parent(place: Node) -> Option<Node>
 }
 
 /// The weight of the single conversions that lead to the node from the one that has no parent.
-fn rank_from_root(place: Node) -> u32
-    ensures { result ≡ rank_from_root (node_view place) }
+fn rank_from_root(node: Node) -> u32
+    ensures { result ≡ rank_from_root (node_view node) }
 {
-    match place {
+    match node {
         Node::Scalar(scalar) => match scalar {
             Scalar::I32 => 3,
             Scalar::U32 => 4,
@@ -199,9 +199,11 @@ fn is_same(a: Node, b: Node) -> bool
 
 /// Walks from the target to its parents until it meets the source.
 fn walk(source: Node, target: Node) -> (Option<u32>, u32)
-    ensures rank { (w : ℕ) → (result.0 ≡ Some w) ↔ Converts (type_at (node_view source)) (type_at (node_view target)) w }
+    ensures rank { (w : ℕ) → (result.0 ≡ Some w)
+        ↔ Converts (type_at (node_view source)) (type_at (node_view target)) w }
     ensures few { result.1 ≤ 2 }
-    ensures steps { IfSome result.0 (λ w. ConvertsIn (type_at (node_view source)) (type_at (node_view target)) w result.1) }
+    ensures steps { IfSome result.0 (λ w.
+        ConvertsIn (type_at (node_view source)) (type_at (node_view target)) w result.1) }
 {
     let mut met = target;
     let mut steps = 0;

@@ -153,18 +153,14 @@ impl From<Scalar> for Type {
 
 impl From<SampledType> for Type {
     ghost use Rattle.std.specs.Prelude.{◌≡◌};
+    ghost use Rattle.wgsl_syntax.specs.TextureKind.{sampled_scalar};
     ghost use Rattle.wgsl_rules.specs.types.Types.{scalar};
-    ghost use Rattle.wgsl_rules.specs.types.Inner.{sampled_scalar};
     ghost use Rattle.wgsl_core.specs.View.{view};
 
     ghost from_gives = { λ s t. view t ≡ scalar (sampled_scalar s) };
 
     fn from(sampled: SampledType) -> Type {
-        match sampled {
-            SampledType::I32 => Type::I32,
-            SampledType::U32 => Type::U32,
-            SampledType::F32 => Type::F32,
-        }
+        Type::from(Scalar::from(sampled))
     }
 }
 

@@ -1,5 +1,5 @@
 pub mod ChosenRows
-pub mod RisingNames
+pub mod SortedNames
 pub mod UnlistedNames
 pub mod NamedRows
 pub mod Fractions

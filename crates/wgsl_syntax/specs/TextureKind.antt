@@ -1,8 +1,10 @@
 -- What kind of texture one is, and what it holds (WGSL, "Texture and Sampler Types").
 use Rattle.std.specs.Prelude.{Option, Some, None, ⊤}
 use Rattle.wgsl_syntax.specs.Texel.{channel_type}
+use Rattle.wgsl_syntax.specs.declared.scalar.Scalar.{Scalar}
+use Rattle.wgsl_syntax.specs.declared.scalar.Scalar.TheVariants as scalars
 use Rattle.wgsl_syntax.specs.declared.texture.SampledType.{SampledType}
-use Rattle.wgsl_syntax.specs.declared.texture.SampledType.TheVariants.{F32}
+use Rattle.wgsl_syntax.specs.declared.texture.SampledType.TheVariants.{I32, U32, F32}
 use Rattle.wgsl_syntax.specs.declared.texture.TextureDimensions.{TextureDimensions}
 use Rattle.wgsl_syntax.specs.declared.texture.TextureDimensions.TheVariants.{D1, D2, D3}
 use Rattle.wgsl_syntax.specs.declared.texture.TextureType.{TextureType}
@@ -27,6 +29,11 @@ sampled_type (SampledCube sampled) = Some sampled
 sampled_type (SampledCubeArray sampled) = Some sampled
 sampled_type (Multisampled2DArray sampled) = Some sampled
 sampled_type _ = None
+
+abbrev pub sampled_scalar : SampledType → Scalar
+sampled_scalar I32 = scalars.I32
+sampled_scalar U32 = scalars.U32
+sampled_scalar F32 = scalars.F32
 
 -- what a texture's channels are read as: depths and external textures are floats
 abbrev pub texture_channel : TextureType → SampledType

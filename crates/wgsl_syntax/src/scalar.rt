@@ -1,8 +1,9 @@
-// Scalar types, by name.
-ghost use Rattle.std.specs.Prelude.{◌≡◌};
+// Scalar types: their names, and which of them are integers, floats and numbers.
+ghost use Rattle.std.specs.Prelude.{◌≡◌, ◌↔◌, IsTrue};
 ghost use Rattle.wgsl_syntax.specs.Names.{named, table, Reads};
-ghost use Rattle.wgsl_syntax.specs.Scalar.{scalar_text, scalars};
+ghost use Rattle.wgsl_syntax.specs.Scalar.{scalar_text, scalars, IsInteger, IsFloat, IsNumeric};
 
+use crate::texture::SampledType;
 use std::fmt;
 use std::fmt::Write;
 use std::str::FromStr;
@@ -68,5 +69,49 @@ impl FromStr for Scalar {
 
     fn from_str(s: &str) -> Result<Scalar, ()> {
         scalar_named(s).ok_or(())
+    }
+}
+
+impl From<SampledType> for Scalar {
+    ghost use Rattle.std.specs.Prelude.{◌≡◌};
+    ghost use Rattle.wgsl_syntax.specs.TextureKind.{sampled_scalar};
+
+    ghost from_gives = { λ sampled scalar. scalar ≡ sampled_scalar sampled };
+
+    fn from(sampled: SampledType) -> Scalar {
+        match sampled {
+            SampledType::I32 => Scalar::I32,
+            SampledType::U32 => Scalar::U32,
+            SampledType::F32 => Scalar::F32,
+        }
+    }
+}
+
+impl Scalar {
+    /// Whether it is an integer (WGSL, "Integer Types"), also an abstract one.
+    pub fn is_integer(self) -> bool
+        ensures { IsTrue result ↔ IsInteger self }
+    {
+        matches!(
+            self,
+            Scalar::AbstractInt | Scalar::I32 | Scalar::U32 | Scalar::I64 | Scalar::U64
+        )
+    }
+
+    /// Whether it is a float (WGSL, "Floating Point Types"), also an abstract one.
+    pub fn is_float(self) -> bool
+        ensures { IsTrue result ↔ IsFloat self }
+    {
+        matches!(
+            self,
+            Scalar::AbstractFloat | Scalar::F32 | Scalar::F16 | Scalar::F64
+        )
+    }
+
+    /// Whether it is a number: an integer or a float.
+    pub fn is_numeric(self) -> bool
+        ensures { IsTrue result ↔ IsNumeric self }
+    {
+        !matches!(self, Scalar::Bool)
     }
 }

@@ -1,5 +1,5 @@
-// Where a built-in function stands among all.
-ghost use Rattle.std.specs.Prelude.{◌≡◌, ◌↔◌, ◌≤◌, ℕ, Some};
+// Where a built-in function stands among all, and its rows.
+ghost use Rattle.std.specs.Prelude.{◌≡◌, ◌↔◌, ◌≤◌, ℕ, Some, option_map};
 ghost use Rattle.wgsl_rules.specs.calls.Names.{IsNameAt, IsRising, call_names};
 ghost use Rattle.wgsl_rules.specs.calls.Table.{call_table, rows_named};
 ghost use Rattle.wgsl_rules.specs.calls.Answers.{NamesMatchTable};
@@ -10,7 +10,7 @@ use crate::call::table::built_ins;
 use std::cmp::Ordering;
 
 /// The names of the built-in functions are sorted by their bytes, and distinct.
-#[tactic(auto, using(wgsl_rules::proofs::calls::RisingNames::names_rise))]
+#[tactic(auto, using(wgsl_rules::proofs::calls::SortedNames::names_rise))]
 pub fn names_rise()
     ensures { IsRising call_names }
 {}
@@ -24,7 +24,31 @@ pub fn names_match_table()
 /// The index of a built-in function (WGSL, "Built-in Functions") among their names in the order of the bytes, and the
 /// number of names that were compared with it.
 pub fn find_call(name: &str) -> (Option<usize>, u32)
-    ensures place { (i : ℕ) → (result.0 ≡ Some i) ↔ IsNameAt call_names i name.now }
+    ensures index { (i : ℕ) → (result.0 ≡ Some i) ↔ IsNameAt call_names i name.now }
+    ensures few { result.1 ≤ 8 }
+{
+    let (found, compared) = search(name);
+    match found {
+        Some((index, _)) => (Some(index), compared),
+        None => (None, compared),
+    }
+}
+
+/// The rows under a name.
+pub fn rows_of(name: &str) -> Option<Rows>
+    ensures { found_rows result ≡ rows_named name.now call_table }
+{
+    match search(name).0 {
+        Some((_, rows)) => Some(rows),
+        None => None,
+    }
+}
+
+/// The index of a name with the rows under it, and the number of names that were compared with it.
+fn search(name: &str) -> (Option<(usize, Rows)>, u32)
+    ensures index { (i : ℕ) → (option_map (λ f. f.0) result.0 ≡ Some i)
+        ↔ IsNameAt call_names i name.now }
+    ensures rows { found_rows (option_map (λ f. f.1) result.0) ≡ rows_named name.now call_table }
     ensures few { result.1 ≤ 8 }
 {
     let built_ins = built_ins();
@@ -35,20 +59,10 @@ pub fn find_call(name: &str) -> (Option<usize>, u32)
         let middle = low + (high - low) / 2;
         compared += 1;
         match name.cmp(built_ins[middle].0) {
-            Ordering::Equal => return (Some(middle), compared),
+            Ordering::Equal => return (Some((middle, built_ins[middle].1)), compared),
             Ordering::Less => high = middle,
             Ordering::Greater => low = middle + 1,
         }
     }
     (None, compared)
-}
-
-/// The rows under a name.
-pub fn rows_of(name: &str) -> Option<Rows>
-    ensures { found_rows result ≡ rows_named name.now call_table }
-{
-    match find_call(name).0 {
-        Some(place) => Some(built_ins()[place].1),
-        None => None,
-    }
 }

@@ -1,6 +1,5 @@
 // Whether an argument is what a built-in function asks for.
 ghost use Rattle.std.specs.Prelude.{◌≡◌, ◌↔◌, IsTrue};
-ghost use Rattle.wgsl_rules.specs.types.Types.{scalar};
 ghost use Rattle.wgsl_rules.specs.types.Kinds.{IsScalarOrVector, IsStruct, IsAtomic};
 ghost use Rattle.wgsl_rules.specs.calls.Shapes.{IsOfKind, IsTextureOf, IsScalarOf, IsVectorOf, IsScalarOrVectorOf, IsSquareMatrix, IsFraction, IsTextureTypeOf, IsPointerToAtomic, IsPointerInWorkgroup, IsQuery, IsAccelerationStructure, Is};
 ghost use Rattle.wgsl_core.specs.View.{view};
@@ -43,16 +42,10 @@ fn is_of_kind(kind: ScalarKind, scalar: Scalar) -> bool
 {
     match kind {
         ScalarKind::Boolean => matches!(scalar, Scalar::Bool),
-        ScalarKind::Number => !matches!(scalar, Scalar::Bool),
-        ScalarKind::NumberButU32 => !matches!(scalar, Scalar::Bool | Scalar::U32),
-        ScalarKind::Integer => matches!(
-            scalar,
-            Scalar::AbstractInt | Scalar::I32 | Scalar::U32 | Scalar::I64 | Scalar::U64
-        ),
-        ScalarKind::Float => matches!(
-            scalar,
-            Scalar::AbstractFloat | Scalar::F32 | Scalar::F16 | Scalar::F64
-        ),
+        ScalarKind::Number => scalar.is_numeric(),
+        ScalarKind::NumberButU32 => scalar.is_numeric() && scalar != Scalar::U32,
+        ScalarKind::Integer => scalar.is_integer(),
+        ScalarKind::Float => scalar.is_float(),
         ScalarKind::F32OrAbstract => matches!(scalar, Scalar::AbstractFloat | Scalar::F32),
         ScalarKind::I32OrAbstract => matches!(scalar, Scalar::AbstractInt | Scalar::I32),
     }

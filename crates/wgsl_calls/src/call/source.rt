@@ -2,7 +2,7 @@
 ghost use Rattle.std.specs.Prelude.{◌≡◌, map, option_map, option_and_then, slice_get};
 ghost use Rattle.wgsl_syntax.specs.TextureKind.{dimensions};
 ghost use Rattle.wgsl_rules.specs.types.Types.{vec};
-ghost use Rattle.wgsl_rules.specs.types.Inner.{inner_of, sampled_scalar};
+ghost use Rattle.wgsl_rules.specs.types.Inner.{inner_of};
 ghost use Rattle.wgsl_rules.specs.calls.ResultTypes.{transposed_of, size_type};
 ghost use Rattle.wgsl_rules.specs.calls.Rows.{IsSource, IsCommonOf, texture_in, sampled_in, channel_in, vector_like};
 ghost use Rattle.wgsl_core.specs.View.{view};
@@ -15,13 +15,13 @@ use wgsl_core::ty::form::Form;
 use wgsl_syntax::call::Source;
 use wgsl_syntax::layer::Layer;
 use wgsl_syntax::scalar::Scalar;
-use wgsl_syntax::texture::{SampledType, TextureDimensions, TextureType};
+use wgsl_syntax::texture::{TextureDimensions, TextureType};
 
 /// The type that the source names, if the arguments give one.
-pub fn part(part: Source, args: &[Type]) -> Option<Element<'_>>
-    ensures { IsSource part (map view args.now) (option_map element_view result) }
+pub fn type_of_source(source: Source, args: &[Type]) -> Option<Element<'_>>
+    ensures { IsSource source (map view args.now) (option_map element_view result) }
 {
-    match part {
+    match source {
         Source::Argument => as_element(argument(args, 0)),
         Source::Inner => as_element(inner(argument(args, 0))),
         Source::InnerOfInner => as_element(inner(inner(argument(args, 0)))),
@@ -51,15 +51,16 @@ fn as_element(ty: Option<&Type>) -> Option<Element<'_>>
 }
 
 /// An argument, where there are so many.
-pub fn argument(args: &[Type], place: usize) -> Option<&Type>
-    ensures { option_map (λ t. view t.now) result ≡ slice_get (map view args.now) place }
+pub fn argument(args: &[Type], index: usize) -> Option<&Type>
+    ensures { option_map (λ t. view t.now) result ≡ slice_get (map view args.now) index }
 {
-    args.get(place)
+    args.get(index)
 }
 
 /// What is inside a type.
 pub fn inner(ty: Option<&Type>) -> Option<&Type>
-    ensures { option_map (λ t. view t.now) result ≡ option_map inner_of (option_map (λ t. view t.now) ty.entry) }
+    ensures { option_map (λ t. view t.now) result
+        ≡ option_map inner_of (option_map (λ t. view t.now) ty.entry) }
 {
     match ty {
         Some(ty) => Some(ty.inner()),
@@ -68,7 +69,8 @@ pub fn inner(ty: Option<&Type>) -> Option<&Type>
 }
 
 fn common<'a>(a: Option<&'a Type>, b: Option<&'a Type>) -> Option<&'a Type>
-    ensures { IsCommonOf (option_map (λ t. view t.now) a.entry) (option_map (λ t. view t.now) b.entry) (option_map (λ t. view t.now) result) }
+    ensures { IsCommonOf (option_map (λ t. view t.now) a.entry) (option_map (λ t. view t.now) b.entry)
+        (option_map (λ t. view t.now) result) }
 {
     match a {
         Some(a) => match b {
@@ -88,30 +90,22 @@ fn texture(ty: &Type) -> Option<TextureType>
     }
 }
 
-fn scalar_of(sampled: SampledType) -> Scalar
-    ensures { result ≡ sampled_scalar sampled }
-{
-    match sampled {
-        SampledType::I32 => Scalar::I32,
-        SampledType::U32 => Scalar::U32,
-        SampledType::F32 => Scalar::F32,
-    }
-}
-
 /// The scalar that a texture is sampled as.
 fn sampled<'a>(ty: Option<&'a Type>) -> Option<Element<'a>>
-    ensures { option_map element_view result ≡ option_and_then sampled_in (option_map (λ t. view t.now) ty.entry) }
+    ensures { option_map element_view result
+        ≡ option_and_then sampled_in (option_map (λ t. view t.now) ty.entry) }
 {
     let sampled = texture(ty?)?.sampled_type()?;
-    Some(Element::Scalar(scalar_of(sampled)))
+    Some(Element::Scalar(Scalar::from(sampled)))
 }
 
 /// The scalar that the channels of a texture are read as.
 fn channel<'a>(ty: Option<&'a Type>) -> Option<Element<'a>>
-    ensures { option_map element_view result ≡ option_and_then channel_in (option_map (λ t. view t.now) ty.entry) }
+    ensures { option_map element_view result
+        ≡ option_and_then channel_in (option_map (λ t. view t.now) ty.entry) }
 {
     let texture = texture(ty?)?;
-    Some(Element::Scalar(scalar_of(texture.channel_type())))
+    Some(Element::Scalar(Scalar::from(texture.channel_type())))
 }
 
 /// The element itself.
@@ -126,7 +120,8 @@ pub fn bare(element: Option<Element<'_>>) -> Option<ResolvedType<'_>>
 
 /// A vector of the element.
 pub fn in_vector(components: u8, element: Option<Element<'_>>) -> Option<ResolvedType<'_>>
-    ensures { option_map resolved_view result ≡ option_map (vec components) (option_map element_view element.entry) }
+    ensures { option_map resolved_view result
+        ≡ option_map (vec components) (option_map element_view element.entry) }
 {
     Some(ResolvedType {
         layer: Some(Layer::Vec(components)),
@@ -136,7 +131,9 @@ pub fn in_vector(components: u8, element: Option<Element<'_>>) -> Option<Resolve
 
 /// A vector of the element, as long as another.
 pub fn as_long<'a>(like: Option<&Type>, element: Option<Element<'a>>) -> Option<ResolvedType<'a>>
-    ensures { option_map resolved_view result ≡ option_and_then (λ l. option_and_then (vector_like l) (option_map element_view element.entry)) (option_map (λ t. view t.now) like.entry) }
+    ensures { option_map resolved_view result
+        ≡ option_and_then (λ l. option_and_then (vector_like l) (option_map element_view element.entry))
+        (option_map (λ t. view t.now) like.entry) }
 {
     match like?.form() {
         Form::Vector(components, _) => in_vector(components, element),
@@ -146,7 +143,8 @@ pub fn as_long<'a>(like: Option<&Type>, element: Option<Element<'a>>) -> Option<
 
 /// A matrix with columns and rows exchanged.
 pub fn transposed(ty: Option<&Type>) -> Option<ResolvedType<'_>>
-    ensures { option_map resolved_view result ≡ option_and_then transposed_of (option_map (λ t. view t.now) ty.entry) }
+    ensures { option_map resolved_view result
+        ≡ option_and_then transposed_of (option_map (λ t. view t.now) ty.entry) }
 {
     match ty?.form() {
         Form::Matrix(columns, rows, component) => Some(ResolvedType {
@@ -159,7 +157,8 @@ pub fn transposed(ty: Option<&Type>) -> Option<ResolvedType<'_>>
 
 /// The size of a texture.
 pub fn texture_size<'a>(ty: Option<&'a Type>) -> Option<ResolvedType<'a>>
-    ensures { option_map resolved_view result ≡ option_map (λ x. size_type (dimensions x)) (option_and_then texture_in (option_map (λ t. view t.now) ty.entry)) }
+    ensures { option_map resolved_view result ≡ option_map (λ x. size_type (dimensions x))
+        (option_and_then texture_in (option_map (λ t. view t.now) ty.entry)) }
 {
     let layer = match texture(ty?)?.dimensions() {
         TextureDimensions::D1 => None,

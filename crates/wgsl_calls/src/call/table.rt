@@ -4,13 +4,18 @@ ghost use Rattle.wgsl_rules.specs.calls.Names.{call_names};
 ghost use Rattle.wgsl_rules.specs.calls.Table.{call_table, rows_named};
 ghost use Rattle.wgsl_calls.specs.Rows.{rows_view};
 
-use crate::call::rows::Rows;
 use crate::call::rows::Rows::{Either, Only};
+use crate::call::rows::{
+    ATOMIC_UPDATE, BARE_STATEMENT, BIT_FUNCTION, COMPARE_DEPTH, DERIVATIVE, EXTREME,
+    FLOAT_FUNCTION, FLOAT_PAIR, FLOAT_TRIPLE, HIT_VERTICES, INTERSECTION, PACK_FOUR, PACK_TWO,
+    Rows, SAMPLE, SAMPLE_COLOR, SHUFFLE, SUBGROUP_NUMBER, TEST, UNPACK_FOUR, UNPACK_TWO,
+    VECTOR_PAIR, VOTE,
+};
 use wgsl_syntax::call::Arguments::{Four, Nothing, One, Three, Two};
 use wgsl_syntax::call::Condition::{EqualLengths, SameAbstractness};
 use wgsl_syntax::call::ReturnType::{
-    AsLong, ByTemplate, Concrete, ExchangeResult, HitPositions, InVector, NoValue, Of,
-    RayIntersection, ResultOf, TextureSize, Transposed,
+    AsLong, ByTemplate, Concrete, ExchangeResult, InVector, NoValue, Of, ResultOf, TextureSize,
+    Transposed,
 };
 use wgsl_syntax::call::Row::{Takes, TakesAtLeast, TakesWhere, TakesWithTemplate};
 use wgsl_syntax::call::ScalarKind::{
@@ -35,86 +40,12 @@ use wgsl_syntax::scalar::Scalar::{Bool, F32, I32, U32};
 /// The built-in functions (WGSL, "Built-in Functions"), in the order of the bytes of their names, each with its rows.
 pub fn built_ins() -> &'static [(&'static str, Rows)]
     ensures names { map (λ b. (b.0).now) result.now ≡ call_names }
-    ensures rows { map (λ b. rows_view b.1) result.now ≡ map (λ n. rows_named n call_table) call_names }
+    ensures rows { map (λ b. rows_view b.1) result.now
+        ≡ map (λ n. rows_named n call_table) call_names }
     ensures many { length result.now ≡ 155 }
 {
     &BUILT_INS
 }
-
-/// A float function of one argument.
-const FLOAT_FUNCTION: Rows = Only(Takes(One(ScalarOrVectorOf(Float)), Of(Argument)));
-
-/// A test of all components.
-const TEST: Rows = Only(Takes(One(Any), Of(The(Bool))));
-
-/// A float function of two arguments.
-const FLOAT_PAIR: Rows = Only(Takes(Two(ScalarOrVectorOf(Float), Any), Of(Common)));
-
-/// An update of an atomic.
-const ATOMIC_UPDATE: Rows = Only(Takes(Two(PointerToAtomic, Any), Of(InnerOfInner)));
-
-/// A function of bits.
-const BIT_FUNCTION: Rows = Only(Takes(One(ScalarOrVectorOf(Integer)), Concrete(Argument)));
-
-/// A function of two vectors of floats.
-const VECTOR_PAIR: Rows = Only(Takes(Two(VectorOf(Float), Any), Of(Common)));
-
-/// A derivative.
-const DERIVATIVE: Rows = Either(
-    Takes(One(ScalarOf(F32OrAbstract)), Of(The(F32))),
-    Takes(One(VectorOf(F32OrAbstract)), AsLong(The(F32))),
-);
-
-/// A float function of three arguments.
-const FLOAT_TRIPLE: Rows = Only(Takes(Three(ScalarOrVectorOf(Float), Any, Any), Of(CommonOfThree)));
-
-/// The corners of the triangle that a ray hit.
-const HIT_VERTICES: Rows = Only(Takes(One(Query), HitPositions));
-
-/// The greater or the less of two numbers.
-const EXTREME: Rows = Only(Takes(Two(ScalarOrVectorOf(Number), Any), Of(Common)));
-
-/// Two floats packed.
-const PACK_TWO: Rows = Only(Takes(One(ToVector(2, F32)), Of(The(U32))));
-
-/// Four floats packed.
-const PACK_FOUR: Rows = Only(Takes(One(ToVector(4, F32)), Of(The(U32))));
-
-/// A number from another invocation.
-const SHUFFLE: Rows = Only(Takes(
-    Two(ScalarOrVectorOf(Number), ScalarOf(Integer)),
-    Concrete(Argument),
-));
-
-/// A number from all invocations.
-const SUBGROUP_NUMBER: Rows = Only(Takes(One(ScalarOrVectorOf(Number)), Concrete(Argument)));
-
-/// No arguments and no value.
-const BARE_STATEMENT: Rows = Only(Takes(Nothing, NoValue));
-
-/// An intersection of a ray.
-const INTERSECTION: Rows = Only(Takes(One(Query), RayIntersection));
-
-/// A vote of all invocations.
-const VOTE: Rows = Only(Takes(One(ScalarOf(Boolean)), Of(The(Bool))));
-
-/// A sample of a color or a depth.
-const SAMPLE: Rows = Either(
-    TakesAtLeast(One(TextureOf(Sampled)), InVector(4, The(F32))),
-    TakesAtLeast(One(TextureOf(Depth)), Of(The(F32))),
-);
-
-/// A sample of a color.
-const SAMPLE_COLOR: Rows = Only(TakesAtLeast(One(TextureOf(Sampled)), InVector(4, The(F32))));
-
-/// A sample that is compared with a depth.
-const COMPARE_DEPTH: Rows = Only(TakesAtLeast(One(TextureOf(Depth)), Of(The(F32))));
-
-/// Two floats unpacked.
-const UNPACK_TWO: Rows = Only(Takes(One(To(U32)), InVector(2, The(F32))));
-
-/// Four floats unpacked.
-const UNPACK_FOUR: Rows = Only(Takes(One(To(U32)), InVector(4, The(F32))));
 
 static BUILT_INS: [(&str, Rows); 155] = [
     (

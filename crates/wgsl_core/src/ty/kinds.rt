@@ -2,13 +2,12 @@
 ghost use Rattle.std.specs.Prelude.{◌≡◌, ◌↔◌, IsTrue};
 ghost use Rattle.wgsl_syntax.specs.declared.scalar.Scalar.TheVariants.{Bool, AbstractInt, I32, U32, F32, I64, U64, F64};
 ghost use Rattle.wgsl_rules.specs.types.Types.{scalar};
-ghost use Rattle.wgsl_rules.specs.types.Kinds.{IsScalar, IsInteger, IsIntegerScalar, IsIntegerOrVector, IsNumeric, IsNumericScalar, IsArray, IsVector, IsMatrix};
-ghost use Rattle.wgsl_rules.specs.conversion.Concrete.{IsAbstract, IsFloat, IsStorable};
+ghost use Rattle.wgsl_rules.specs.types.Kinds.{IsScalar, IsIntegerScalar, IsIntegerOrVector, IsFloatScalar, IsNumericScalar, IsArray, IsVector, IsMatrix};
+ghost use Rattle.wgsl_rules.specs.conversion.Concrete.{IsAbstract, IsStorable};
 ghost use Rattle.wgsl_core.specs.View.{view};
 
 use crate::ty::Type;
 use crate::ty::form::Form;
-use wgsl_syntax::scalar::Scalar;
 
 impl Type {
     /// Whether it is one of the scalars (WGSL, "Scalar Types").
@@ -22,21 +21,21 @@ impl Type {
     pub fn is_numeric(&self) -> bool
         ensures { IsTrue result ↔ IsNumericScalar (view self.now) }
     {
-        matches!(self.form(), Form::Scalar(scalar) if is_numeric_scalar(scalar))
+        matches!(self.form(), Form::Scalar(scalar) if scalar.is_numeric())
     }
 
     /// Whether it is a scalar that is an integer (WGSL, "Integer Types"), also an abstract one.
     pub fn is_integer(&self) -> bool
         ensures { IsTrue result ↔ IsIntegerScalar (view self.now) }
     {
-        matches!(self.form(), Form::Scalar(scalar) if is_integer_scalar(scalar))
+        matches!(self.form(), Form::Scalar(scalar) if scalar.is_integer())
     }
 
     /// Whether it is a scalar that is a float (WGSL, "Floating Point Types"), also an abstract one.
     pub fn is_float(&self) -> bool
-        ensures { IsTrue result ↔ IsFloat (view self.now) }
+        ensures { IsTrue result ↔ IsFloatScalar (view self.now) }
     {
-        matches!(self.form(), Form::Scalar(scalar) if is_float_scalar(scalar))
+        matches!(self.form(), Form::Scalar(scalar) if scalar.is_float())
     }
 
     /// Whether it is an integer or a vector of integers.
@@ -178,28 +177,4 @@ impl Type {
     {
         matches!(self, Type::AbstractInt)
     }
-}
-
-fn is_numeric_scalar(scalar: Scalar) -> bool
-    ensures { IsTrue result ↔ IsNumeric scalar }
-{
-    !matches!(scalar, Scalar::Bool)
-}
-
-fn is_integer_scalar(scalar: Scalar) -> bool
-    ensures { IsTrue result ↔ IsInteger scalar }
-{
-    matches!(
-        scalar,
-        Scalar::AbstractInt | Scalar::I32 | Scalar::U32 | Scalar::I64 | Scalar::U64
-    )
-}
-
-fn is_float_scalar(of: Scalar) -> bool
-    ensures { IsTrue result ↔ IsFloat (scalar of) }
-{
-    matches!(
-        of,
-        Scalar::AbstractFloat | Scalar::F32 | Scalar::F16 | Scalar::F64
-    )
 }

@@ -31,17 +31,17 @@ then_once : (t u v c d x y : Option WgslType) → IsCommonOf t u c → IsCommonO
 then_once t u v c d x y p q h k =
     common_of_once d v x y (subst (λ e. IsCommonOf e v x) (common_of_once t u c d p q) h) k
 
-part_once : (p : Source) (ts : List WgslType) (c d : Option WgslType) → IsSource p ts c → IsSource p ts d → c ≡ d
-part_once Argument ts c d p q = p ∙ sym q
-part_once Inner ts c d p q = p ∙ sym q
-part_once InnerOfInner ts c d p q = p ∙ sym q
-part_once Common ts c d p q = common_of_once (first ts) (second ts) c d p q
-part_once InnerOfCommon ts c d p q = p.2 ∙ (ap (option_map inner_of) (common_of_once (first ts) (second ts) p.0 q.0 p.1 q.1) ∙ sym q.2)
-part_once CommonOfThree ts c d p q = then_once (first ts) (second ts) (third ts) p.0 q.0 c d p.1 q.1 p.2 q.2
-part_once CommonOfInner ts c d p q = then_once (option_map inner_of (first ts)) (option_map inner_of (second ts)) (third ts) p.0 q.0 c d p.1 q.1 p.2 q.2
-part_once (The s) ts c d p q = p ∙ sym q
-part_once SampledAs ts c d p q = p ∙ sym q
-part_once Channel ts c d p q = p ∙ sym q
+source_once : (p : Source) (ts : List WgslType) (c d : Option WgslType) → IsSource p ts c → IsSource p ts d → c ≡ d
+source_once Argument ts c d p q = p ∙ sym q
+source_once Inner ts c d p q = p ∙ sym q
+source_once InnerOfInner ts c d p q = p ∙ sym q
+source_once Common ts c d p q = common_of_once (first ts) (second ts) c d p q
+source_once InnerOfCommon ts c d p q = p.2 ∙ (ap (option_map inner_of) (common_of_once (first ts) (second ts) p.0 q.0 p.1 q.1) ∙ sym q.2)
+source_once CommonOfThree ts c d p q = then_once (first ts) (second ts) (third ts) p.0 q.0 c d p.1 q.1 p.2 q.2
+source_once CommonOfInner ts c d p q = then_once (option_map inner_of (first ts)) (option_map inner_of (second ts)) (third ts) p.0 q.0 c d p.1 q.1 p.2 q.2
+source_once (The s) ts c d p q = p ∙ sym q
+source_once SampledAs ts c d p q = p ∙ sym q
+source_once Channel ts c d p q = p ∙ sym q
 
 result_once : (f : ResultFunction) (t : WgslType) (c d : Option WgslType) → IsResultOf f t c → IsResultOf f t d → c ≡ d
 result_once f t None None p q = refl
@@ -55,25 +55,25 @@ result_for_once : (f : ResultFunction) (t c d : Option WgslType) → IsResultFor
 result_for_once f None c d p q = p ∙ sym q
 result_for_once f (Some t) c d p q = result_once f t c d p q
 
-outcome_once : (o : ReturnType) (c : Signature) (a b : Answer) → c.template ≡ None → IsReturnType o c a → IsReturnType o c b → a ≡ b
-outcome_once (Of x) c a b n p q = p.2 ∙ (ap (given c) (part_once x c.arguments p.0 q.0 p.1 q.1) ∙ sym q.2)
-outcome_once (Concrete x) c a b n p q = p.2 ∙ (ap (λ t. given c (option_map concretized t)) (part_once x c.arguments p.0 q.0 p.1 q.1) ∙ sym q.2)
-outcome_once (AsLong x) c a b n p q =
-    p.2 ∙ (ap (λ t. given c (option_and_then (λ f. option_and_then (vector_like f) t) (first c.arguments))) (part_once x c.arguments p.0 q.0 p.1 q.1) ∙ sym q.2)
-outcome_once (InVector k x) c a b n p q = p.2 ∙ (ap (λ t. given c (option_map (vec k) t)) (part_once x c.arguments p.0 q.0 p.1 q.1) ∙ sym q.2)
-outcome_once Transposed c a b n p q = p ∙ sym q
-outcome_once TextureSize c a b n p q = p ∙ sym q
-outcome_once (ResultOf f) c a b n p q = p.2 ∙ (ap (given c) (result_for_once f (first c.arguments) p.0 q.0 p.1 q.1) ∙ sym q.2)
-outcome_once ExchangeResult c a b n p q = p ∙ sym q
-outcome_once RayIntersection c a b n p q = p ∙ sym q
-outcome_once HitPositions c a b n p q = p ∙ sym q
-outcome_once NoValue c a b n p q = p ∙ sym q
-outcome_once ByTemplate c a b n p q =
+return_type_once : (o : ReturnType) (c : Signature) (a b : Answer) → c.template ≡ None → IsReturnType o c a → IsReturnType o c b → a ≡ b
+return_type_once (Of x) c a b n p q = p.2 ∙ (ap (given c) (source_once x c.arguments p.0 q.0 p.1 q.1) ∙ sym q.2)
+return_type_once (Concrete x) c a b n p q = p.2 ∙ (ap (λ t. given c (option_map concretized t)) (source_once x c.arguments p.0 q.0 p.1 q.1) ∙ sym q.2)
+return_type_once (AsLong x) c a b n p q =
+    p.2 ∙ (ap (λ t. given c (option_and_then (λ f. option_and_then (vector_like f) t) (first c.arguments))) (source_once x c.arguments p.0 q.0 p.1 q.1) ∙ sym q.2)
+return_type_once (InVector k x) c a b n p q = p.2 ∙ (ap (λ t. given c (option_map (vec k) t)) (source_once x c.arguments p.0 q.0 p.1 q.1) ∙ sym q.2)
+return_type_once Transposed c a b n p q = p ∙ sym q
+return_type_once TextureSize c a b n p q = p ∙ sym q
+return_type_once (ResultOf f) c a b n p q = p.2 ∙ (ap (given c) (result_for_once f (first c.arguments) p.0 q.0 p.1 q.1) ∙ sym q.2)
+return_type_once ExchangeResult c a b n p q = p ∙ sym q
+return_type_once RayIntersection c a b n p q = p ∙ sym q
+return_type_once HitPositions c a b n p q = p ∙ sym q
+return_type_once NoValue c a b n p q = p ∙ sym q
+return_type_once ByTemplate c a b n p q =
     subst (λ t. IsFromTemplate c t a) n p ∙ sym (subst (λ t. IsFromTemplate c t b) n q)
 
 pub answer_once : (rs : List Row) (c : Signature) (a b : Answer) → c.template ≡ None → IsAnswerOf rs c a → IsAnswerOf rs c b → a ≡ b
 answer_once [] c a b n p q = p ∙ sym q
-answer_once (r ∷ rs) c a b n (inl p) (inl q) = outcome_once (return_type_of r) c a b n p.1 q.1
+answer_once (r ∷ rs) c a b n (inl p) (inl q) = return_type_once (return_type_of r) c a b n p.1 q.1
 answer_once (r ∷ rs) c a b n (inl p) (inr q) = absurd (q.0 p.0)
 answer_once (r ∷ rs) c a b n (inr p) (inl q) = absurd (p.0 q.0)
 answer_once (r ∷ rs) c a b n (inr p) (inr q) = answer_once rs c a b n p.1 q.1

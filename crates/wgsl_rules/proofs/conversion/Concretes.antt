@@ -5,7 +5,8 @@ use Rattle.wgsl_syntax.specs.declared.scalar.Scalar.{Scalar}
 use Rattle.wgsl_syntax.specs.declared.scalar.Scalar.TheVariants.{AbstractInt, AbstractFloat, I32, U32, F32, F16, I64, U64, F64}
 use Rattle.wgsl_rules.specs.types.Types.{Layer, array_of, vec_of, mat_of, WgslType, scalar, within}
 use Rattle.wgsl_rules.specs.conversion.Conversion.{int_to_i32, float_to_f32, base, IsValueType}
-use Rattle.wgsl_rules.specs.conversion.Concrete.{is_abstract, IsAbstract, IsFloat, HasFloatMatrices, concretized}
+use Rattle.wgsl_rules.specs.types.Kinds.{IsFloatScalar}
+use Rattle.wgsl_rules.specs.conversion.Concrete.{is_abstract, IsAbstract, HasFloatMatrices, concretized}
 use Rattle.wgsl_rules.specs.Headline.{IsLeastConcrete}
 use Rattle.wgsl_rules.proofs.conversion.Steps.{depth}
 use Rattle.wgsl_rules.proofs.conversion.Order.{Above, here, further, above_depth, above_level, above_inside, above_from_within, above_converts, value_converts}
@@ -76,7 +77,7 @@ int_least = plain_least AbstractInt I32 (further here (base int_to_i32)) (λ e. 
 float_least : Least (scalar AbstractFloat) (scalar F32)
 float_least = plain_least AbstractFloat F32 (further here (base float_to_f32)) (λ e. cc e) float_targets
 
-matrix_least : (c r : ℕ) (t : WgslType) → IsFloat t → Least (within (mat_of c r) t) (concretized (within (mat_of c r) t))
+matrix_least : (c r : ℕ) (t : WgslType) → IsFloatScalar t → Least (within (mat_of c r) t) (concretized (within (mat_of c r) t))
 matrix_least c r (scalar AbstractFloat) h = within_layer (mat_of c r) (scalar AbstractFloat) (scalar F32) float_least
 matrix_least c r (scalar F32) h = itself (within (mat_of c r) (scalar F32)) (λ e. cc e)
 matrix_least c r (scalar F16) h = itself (within (mat_of c r) (scalar F16)) (λ e. cc e)

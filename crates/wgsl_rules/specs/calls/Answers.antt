@@ -52,8 +52,8 @@ IsLeafAnswer (Err e) = ⊥
 unfoldable pub IsLeafCall : Signature → Type 0
 IsLeafCall c = (c.template ≡ None) × (a : Result (Option WgslType) Refusal) × IsCallAnswer c a × IsLeafAnswer a
 
-abbrev pub parts : List (List Line)
-parts = maths_of_one ∷ maths_of_several ∷ bits_and_subgroups ∷ derivatives_and_packing ∷ textures ∷ atomics ∷ barriers_and_rays ∷ []
+abbrev pub table_parts : List (List Line)
+table_parts = maths_of_one ∷ maths_of_several ∷ bits_and_subgroups ∷ derivatives_and_packing ∷ textures ∷ atomics ∷ barriers_and_rays ∷ []
 
 -- Some line has the name.
 abbrev pub has : List ℕ → List Line → Bool
@@ -61,5 +61,5 @@ has name ls = list_any (λ l. list_any (bytes_eq name) l.names) ls
 
 -- Each name is in exactly one part, and each line has names of the list alone.
 pub record NamesMatchTable : Type 0 where
-  pub in_one_part : IsTrue (list_all (λ n. count_by (has n) parts == 1) call_names)
+  pub in_one_part : IsTrue (list_all (λ n. count_by (has n) table_parts == 1) call_names)
   pub in_list : IsTrue (list_all (λ l. list_all (λ w. list_any (bytes_eq w) call_names) l.names) call_table)

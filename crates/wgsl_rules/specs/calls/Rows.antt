@@ -13,9 +13,9 @@ use Rattle.wgsl_syntax.specs.declared.call.ReturnType.{ReturnType}
 use Rattle.wgsl_syntax.specs.declared.call.Condition.TheVariants.{EqualLengths, SameAbstractness}
 use Rattle.wgsl_syntax.specs.declared.call.Source.TheVariants.{Argument, Inner, InnerOfInner, Common, InnerOfCommon, CommonOfThree, CommonOfInner, The, SampledAs, Channel}
 use Rattle.wgsl_syntax.specs.declared.call.ReturnType.TheVariants.{Of, Concrete, AsLong, InVector, Transposed, TextureSize, ResultOf, ExchangeResult, RayIntersection, HitPositions, NoValue, ByTemplate}
-use Rattle.wgsl_syntax.specs.TextureKind.{dimensions, sampled_type, texture_channel}
+use Rattle.wgsl_syntax.specs.TextureKind.{dimensions, sampled_type, sampled_scalar, texture_channel}
 use Rattle.wgsl_rules.specs.types.Types.{vec_of, WgslType, scalar, within, texture, vec}
-use Rattle.wgsl_rules.specs.types.Inner.{inner_of, sampled_scalar}
+use Rattle.wgsl_rules.specs.types.Inner.{inner_of}
 use Rattle.wgsl_rules.specs.conversion.Common.{IsCommon}
 use Rattle.wgsl_rules.specs.conversion.Concrete.{is_abstract, concretized}
 use Rattle.wgsl_rules.specs.types.Signatures.{Parameter, Signature}

@@ -16,8 +16,7 @@ use Rattle.wgsl_syntax.specs.declared.call.TextureKind.TheVariants.{AnyTexture, 
 use Rattle.wgsl_syntax.specs.declared.call.Shape.TheVariants.{Any, ScalarOf, VectorOf, ScalarOrVectorOf, Vector, ScalarOrVector, Matrix, SquareMatrix, Fraction, TextureOf, PointerToAtomic, PointerInWorkgroup, Query, Acceleration, Structure, To, ToVector}
 use Rattle.wgsl_syntax.specs.TextureKind.{IsDepth, IsStorage, IsSampled, IsArrayed, IsMultisampled}
 use Rattle.wgsl_rules.specs.types.Types.{vec_of, mat_of, WgslType, scalar, within, pointer, texture, acceleration_structure, vec}
-use Rattle.wgsl_rules.specs.types.Kinds.{IsInteger, IsNumeric, IsScalarOrVector, IsVector, IsMatrix, IsStruct, IsAtomic}
-use Rattle.wgsl_rules.specs.conversion.Concrete.{IsFloat}
+use Rattle.wgsl_rules.specs.types.Kinds.{IsInteger, IsFloat, IsNumeric, IsScalarOrVector, IsVector, IsMatrix, IsStruct, IsAtomic}
 use Rattle.wgsl_rules.specs.conversion.Conversion.{ConvertsTo}
 use Rattle.wgsl_rules.specs.types.ResultStructs.{shaped, float_of}
 
@@ -27,7 +26,7 @@ IsOfKind Number s = IsNumeric s
 IsOfKind NumberButU32 U32 = ⊥
 IsOfKind NumberButU32 s = IsNumeric s
 IsOfKind Integer s = IsInteger s
-IsOfKind Float s = IsFloat (scalar s)
+IsOfKind Float s = IsFloat s
 IsOfKind F32OrAbstract AbstractFloat = Unit {0}
 IsOfKind F32OrAbstract F32 = Unit {0}
 IsOfKind I32OrAbstract AbstractInt = Unit {0}

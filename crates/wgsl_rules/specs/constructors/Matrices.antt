@@ -3,7 +3,7 @@ use Rattle.std.specs.Prelude.{ℕ, ◌*◌, List, [], ◌∷◌, ◌≡◌, Opti
 use Rattle.wgsl_syntax.specs.declared.scalar.Scalar.TheVariants.{AbstractInt, F32}
 use Rattle.wgsl_rules.specs.types.Types.{WgslType, scalar, vec, mat}
 use Rattle.wgsl_rules.specs.conversion.Converted.{IsConvertedInside}
-use Rattle.wgsl_rules.specs.conversion.Concrete.{IsFloat}
+use Rattle.wgsl_rules.specs.types.Kinds.{IsFloatScalar}
 use Rattle.wgsl_rules.specs.types.Inner.{inner_of}
 use Rattle.wgsl_rules.specs.types.Signatures.{Parameter}
 use Rattle.wgsl_rules.specs.errors.Refusals.{Refusal, conversion, builtin}
@@ -48,7 +48,7 @@ component_of t = t
 -- A matrix of the type that so many arguments have in common.
 abbrev pub IsUntypedMatrixOf : List ℕ → ℕ → ℕ → ℕ → WgslType → Result WgslType Refusal → Type 0
 IsUntypedMatrixOf name c r number u q =
-    Either (IsFloat (component_of (inner_of u))) (IsMatrixOf name c r number (component_of (inner_of u)) u q) (q ≡ Err no_columns)
+    Either (IsFloatScalar (component_of (inner_of u))) (IsMatrixOf name c r number (component_of (inner_of u)) u q) (q ≡ Err no_columns)
 
 -- out of one argument: a matrix of the same shape, which stays, or as of any other number
 abbrev pub IsUntypedMatrixOfOne : List ℕ → ℕ → ℕ → WgslType → Result WgslType Refusal → Type 0

@@ -1,8 +1,8 @@
 -- Abstract types, and what concrete type stands for one (WGSL, "Abstract Numeric Types").
 use Rattle.std.specs.Prelude.{Bool, true, false, cond, IsTrue}
-use Rattle.wgsl_syntax.specs.declared.scalar.Scalar.TheVariants.{AbstractInt, AbstractFloat, I32, F32, F16, F64}
+use Rattle.wgsl_syntax.specs.declared.scalar.Scalar.TheVariants.{AbstractInt, AbstractFloat, I32, F32}
 use Rattle.wgsl_rules.specs.types.Types.{mat_of, WgslType, scalar, within}
-use Rattle.wgsl_rules.specs.types.Kinds.{IsPlain}
+use Rattle.wgsl_rules.specs.types.Kinds.{IsFloatScalar, IsPlain}
 
 -- An abstract number, or an array, a vector or a matrix of an abstract type.
 abbrev pub is_abstract : WgslType → Bool
@@ -18,16 +18,9 @@ IsAbstract t = IsTrue (is_abstract t)
 abbrev pub IsStorable : WgslType → Type 0
 IsStorable t = (¬ IsAbstract t) × IsPlain t
 
-abbrev pub IsFloat : WgslType → Type 0
-IsFloat (scalar AbstractFloat) = Unit {0}
-IsFloat (scalar F32) = Unit {0}
-IsFloat (scalar F16) = Unit {0}
-IsFloat (scalar F64) = Unit {0}
-IsFloat t = ⊥
-
 -- Each matrix reached through arrays, vectors and matrices is of floats.
 abbrev pub HasFloatMatrices : WgslType → Type 0
-HasFloatMatrices (within (mat_of c r) t) = IsFloat t
+HasFloatMatrices (within (mat_of c r) t) = IsFloatScalar t
 HasFloatMatrices (within l t) = HasFloatMatrices t
 HasFloatMatrices t = Unit {0}
 

@@ -12,8 +12,8 @@ use Rattle.wgsl_syntax.specs.declared.texture.TextureType.{TextureType}
 use Rattle.wgsl_syntax.specs.declared.texture.TextureType.TheVariants.{Sampled1D, Sampled2D, Sampled2DArray, Sampled3D, SampledCube, SampledCubeArray, Sampled1DArray, Multisampled2D, Multisampled2DArray, Storage1D, Storage1DArray, Storage2D, Storage2DArray, Storage3D}
 use Rattle.wgsl_syntax.specs.declared.enumerant.Enumerant.TheVariants as enumerants
 use Rattle.wgsl_rules.specs.types.Types.{WgslType, scalar, array, binding_array, pointer}
-use Rattle.wgsl_rules.specs.types.Kinds.{IsScalar, IsNumericOrVector}
-use Rattle.wgsl_rules.specs.conversion.Concrete.{IsAbstract, IsFloat, IsStorable}
+use Rattle.wgsl_rules.specs.types.Kinds.{IsScalar, IsFloatScalar, IsNumericOrVector}
+use Rattle.wgsl_rules.specs.conversion.Concrete.{IsAbstract, IsStorable}
 use Rattle.wgsl_rules.specs.types.Inner.{sampled_of}
 use Rattle.wgsl_rules.specs.types.Literals.{Literal, bool, abstract_int, i32, u32, i64, u64}
 use Rattle.wgsl_rules.specs.types.Signatures.{Parameter, of_type, of_literal, of_enumerant}
@@ -64,7 +64,7 @@ abbrev pub IsVecTemplate : List Parameter → Result WgslType Refusal → Type 0
 IsVecTemplate = IsTemplateOf (λ t. IsScalar t × ¬ IsAbstract t) (codes "vector") (codes "vector template type must be a scalar")
 
 abbrev pub IsMatTemplate : List Parameter → Result WgslType Refusal → Type 0
-IsMatTemplate = IsTemplateOf IsFloat (codes "matrix") (codes "matrix template type must be f32 or f16")
+IsMatTemplate = IsTemplateOf IsFloatScalar (codes "matrix") (codes "matrix template type must be f32 or f16")
 
 -- the scalars that an atomic may be of
 abbrev pub IsAtomicScalar : WgslType → Type 0

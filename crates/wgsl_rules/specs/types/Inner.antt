@@ -1,7 +1,6 @@
 -- The type inside a type, and the types that textures are sampled as (WGSL, "Composite Types", "Memory Views" and
 -- "Sampled Texture Types").
 use Rattle.std.specs.Prelude.{Option, Some, None}
-use Rattle.wgsl_syntax.specs.declared.scalar.Scalar.{Scalar}
 use Rattle.wgsl_syntax.specs.declared.scalar.Scalar.TheVariants as scalars
 use Rattle.wgsl_syntax.specs.declared.texture.SampledType.{SampledType}
 use Rattle.wgsl_syntax.specs.declared.texture.SampledType.TheVariants.{I32, U32, F32}
@@ -16,11 +15,6 @@ inner_of (reference s t m) = t
 inner_of (binding_array n t) = t
 -- all else is its own
 inner_of t = t
-
-abbrev pub sampled_scalar : SampledType → Scalar
-sampled_scalar I32 = scalars.I32
-sampled_scalar U32 = scalars.U32
-sampled_scalar F32 = scalars.F32
 
 -- what a texture of such texels is sampled as
 abbrev pub sampled_of : WgslType → Option SampledType

@@ -1,21 +1,7 @@
--- Which scalars are integers or numbers, and which types are made of them (WGSL, "Plain Types").
-use Rattle.wgsl_syntax.specs.declared.scalar.Scalar.{Scalar}
-use Rattle.wgsl_syntax.specs.declared.scalar.Scalar.TheVariants.{Bool, AbstractInt, I32, U32, I64, U64}
+-- Which types are made of integers, floats or numbers, and other kinds of types (WGSL, "Plain Types").
+pub use Rattle.wgsl_syntax.specs.Scalar.{IsInteger, IsFloat, IsNumeric}
 use Rattle.wgsl_syntax.specs.declared.address.AddressSpace.TheVariants.{Handle}
 use Rattle.wgsl_rules.specs.types.Types.{array_of, vec_of, mat_of, WgslType, scalar, within, struct, atomic, reference, texture, sampler, ray_query, acceleration_structure}
-
-abbrev pub IsInteger : Scalar → Type 0
-IsInteger AbstractInt = Unit {0}
-IsInteger I32 = Unit {0}
-IsInteger U32 = Unit {0}
-IsInteger I64 = Unit {0}
-IsInteger U64 = Unit {0}
-IsInteger s = ⊥
-
--- An integer or a float.
-abbrev pub IsNumeric : Scalar → Type 0
-IsNumeric Bool = ⊥
-IsNumeric s = Unit {0}
 
 -- An integer, or a vector of integers.
 abbrev pub IsIntegerOrVector : WgslType → Type 0
@@ -44,6 +30,11 @@ IsScalar t = ⊥
 abbrev pub IsIntegerScalar : WgslType → Type 0
 IsIntegerScalar (scalar s) = IsInteger s
 IsIntegerScalar t = ⊥
+
+-- A scalar that is a float.
+abbrev pub IsFloatScalar : WgslType → Type 0
+IsFloatScalar (scalar s) = IsFloat s
+IsFloatScalar t = ⊥
 
 -- A scalar that is a number.
 abbrev pub IsNumericScalar : WgslType → Type 0

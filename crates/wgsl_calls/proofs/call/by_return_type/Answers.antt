@@ -2,7 +2,7 @@ use Rattle.std.proofs.Common.{refl}
 use Rattle.wgsl_syntax.specs.declared.call.ReturnType.TheVariants.{RayIntersection, HitPositions}
 use Rattle.wgsl_rules.specs.calls.Rows.{IsReturnType}
 use Rattle.wgsl_calls.specs.Answers.{signature_of}
-use Rattle.wgsl_calls.proofs.Wanted.{by_answer}
+use Rattle.wgsl_calls.proofs.OutOfMemory.{by_answer}
 use Rattle.wgsl_calls.proofs.call.by_return_type.Goals as goal
 
 pub returns-in-RayIntersection : goal.returns-in-RayIntersection

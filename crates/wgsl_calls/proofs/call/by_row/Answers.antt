@@ -1,5 +1,5 @@
 use Rattle.std.proofs.Common.{◌∙◌, sym}
-use Rattle.wgsl_calls.proofs.Wanted.{no_row}
+use Rattle.wgsl_calls.proofs.OutOfMemory.{no_row}
 use Rattle.wgsl_calls.proofs.call.by_row.Goals as goal
 
 pub returns-else-fits : goal.returns-else-fits

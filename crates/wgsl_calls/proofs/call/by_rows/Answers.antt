@@ -1,6 +1,6 @@
 use Rattle.std.proofs.Common.{[], ◌∷◌, ◌∙◌, sym}
 use Rattle.wgsl_calls.specs.Answers.{signature_of}
-use Rattle.wgsl_calls.proofs.Wanted.{later_row}
+use Rattle.wgsl_calls.proofs.OutOfMemory.{later_row}
 use Rattle.wgsl_calls.proofs.call.by_rows.Goals as goal
 
 pub returns-else-fits : goal.returns-else-fits

@@ -1,5 +1,5 @@
 use Rattle.std.proofs.Common.{ap, option_map}
-use Rattle.wgsl_calls.proofs.Wanted.{no_template}
+use Rattle.wgsl_calls.proofs.OutOfMemory.{no_template}
 use Rattle.wgsl_calls.proofs.call.by_template.Goals as goal
 
 pub returns-in-None : goal.returns-in-None

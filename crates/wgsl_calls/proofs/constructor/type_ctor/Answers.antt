@@ -6,7 +6,7 @@ use Rattle.wgsl_rules.specs.constructors.Constructors.{makes_array, makes_scalar
 use Rattle.wgsl_core.specs.View.{view}
 use Rattle.wgsl_core.specs.Instances.{parameter_view, call_view}
 use Rattle.wgsl_calls.specs.Constructors.{constructor_view}
-use Rattle.wgsl_calls.proofs.Outcomes.{answers}
+use Rattle.wgsl_calls.proofs.AnswersAs.{answers}
 use Rattle.wgsl_calls.proofs.Constructed.{built}
 use Rattle.wgsl_calls.proofs.constructor.type_ctor.Goals as goal
 

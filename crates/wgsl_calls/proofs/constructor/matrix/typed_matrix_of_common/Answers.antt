@@ -3,7 +3,7 @@ use Rattle.wgsl_rules.specs.constructors.Matrices.{IsMatrixOf, IsTypedMatrixOf}
 use Rattle.wgsl_rules.specs.errors.Refusals.{conversion}
 use Rattle.wgsl_core.specs.View.{view}
 use Rattle.wgsl_calls.proofs.Arguments.{fails, holds}
-use Rattle.wgsl_calls.proofs.Outcomes.{answers}
+use Rattle.wgsl_calls.proofs.AnswersAs.{answers}
 use Rattle.wgsl_calls.proofs.Constructed.{not_inside, typed_element, typed_whole}
 use Rattle.wgsl_calls.proofs.constructor.matrix.typed_matrix_of_common.Goals as goal
 

@@ -3,7 +3,7 @@ use Rattle.std.specs.Cmp.Lexicographic.{slice_cmp}
 use Rattle.std.specs.Ordering.{nat_cmp}
 use Rattle.std.specs.declared.cmp.Ordering.TheVariants.{Less, Greater}
 use Rattle.wgsl_rules.specs.calls.Names.{name_at, call_names}
-use Rattle.wgsl_calls.proofs.call.find.find_call.Given as goal
+use Rattle.wgsl_calls.proofs.call.find.search.Given as goal
 
 abbrev pub invariant-loop-low : goal.invariant-loop-low
 invariant-loop-low l = record {

@@ -11,9 +11,3 @@ pub answers : {A B : Type 0} (seen : A → B) (P Q : Result B Refusal → Type 0
 answers seen P Q (Ok a) f h = f (Ok (seen a)) h
 answers seen P Q (Err (fails.Error e)) f h = f (Err (refusal e)) h
 answers seen P Q (Err (fails.Memory e)) f h = h
-
--- a refusal that is handed on
-pub refuses : {A B C D : Type 0} (seen : A → B) (shown : C → D) (P : Result B Refusal → Type 0) (Q : Result D Refusal → Type 0) (e : Fail) →
-    ((q : Refusal) → P (Err q) → Q (Err q)) → AnswersAs seen P (Err e) → AnswersAs shown Q (Err e)
-refuses seen shown P Q (fails.Error e) f h = f (refusal e) h
-refuses seen shown P Q (fails.Memory e) f h = h

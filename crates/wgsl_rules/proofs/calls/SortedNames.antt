@@ -109,13 +109,13 @@ at_name f xs e k d b x o h = ap (order x) (sym (named f xs e k d b)) ∙ sym h
 
 -- ---- what was found
 
-one_place : (i j : ℕ) → i < 155 → j < 155 → name_at call_names i ≡ name_at call_names j → (i ≡ j) ⊎ (i < j) → i ≡ j
-one_place i j bi bj e (inl p) = p
-one_place i j bi bj e (inr l) = absurd (cc (rise i j l bj, ap (λ x. order (name_at call_names i) x) e, itself (name_at call_names i)))
+one_index_upwards : (i j : ℕ) → i < 155 → j < 155 → name_at call_names i ≡ name_at call_names j → (i ≡ j) ⊎ (i < j) → i ≡ j
+one_index_upwards i j bi bj e (inl p) = p
+one_index_upwards i j bi bj e (inr l) = absurd (cc (rise i j l bj, ap (λ x. order (name_at call_names i) x) e, itself (name_at call_names i)))
 
-places : (i j : ℕ) → i < 155 → j < 155 → name_at call_names i ≡ name_at call_names j → (i ≤ j) ⊎ (j < i) → i ≡ j
-places i j bi bj e (inl l) = one_place i j bi bj e (eq-or-lt_of_le l)
-places i j bi bj e (inr l) = sym (one_place j i bj bi (sym e) (inr l))
+one_index : (i j : ℕ) → i < 155 → j < 155 → name_at call_names i ≡ name_at call_names j → (i ≤ j) ⊎ (j < i) → i ≡ j
+one_index i j bi bj e (inl l) = one_index_upwards i j bi bj e (eq-or-lt_of_le l)
+one_index i j bi bj e (inr l) = sym (one_index_upwards j i bj bi (sym e) (inr l))
 
 swap_cases : {A B : Type 0} → A ⊎ B → B ⊎ A
 swap_cases (inl a) = inr a
@@ -124,7 +124,7 @@ swap_cases (inr b) = inl b
 pub found : (x : List ℕ) (m : ℕ) → m < 155 → order x (name_at call_names m) ≡ Equal → (i : ℕ) → (Some m ≡ Some i) ↔ IsNameAt call_names i x
 found x m b h i = (
   λ e. let p : m ≡ i = cc in subst (λ j. IsNameAt call_names j x) p (omega (arith, names_many), sym (same x (name_at call_names m) h)),
-  λ n. ap Some (places m i b (omega (arith, names_many, n.0)) (sym (same x (name_at call_names m) h) ∙ sym n.1) (split m i)),
+  λ n. ap Some (one_index m i b (omega (arith, names_many, n.0)) (sym (same x (name_at call_names m) h) ∙ sym n.1) (split m i)),
 )
   where
     split : (i j : ℕ) → (i ≤ j) ⊎ (j < i)
