@@ -3,4 +3,3 @@ pub mod Session
 pub mod Status
 pub mod Words
 pub mod Taken
-pub mod Typed

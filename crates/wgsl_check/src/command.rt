@@ -2,9 +2,9 @@
 use crate::read::read_types;
 use crate::report::layout_of;
 use crate::template::read_template;
-use crate::typed::{Typed, convert_to_common};
 use crate::words::{Unread, Words};
 use std::alloc::{AllocError, Global};
+use wgsl_typed::typed::{Typed, convert_to_common};
 use wgsl_types::builtin::{type_binary_op, type_builtin_fn, type_ctor, type_unary_op};
 use wgsl_types::conv::conversion_rank;
 use wgsl_types::error::Fail;

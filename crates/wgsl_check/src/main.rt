@@ -9,7 +9,6 @@ mod run;
 mod template;
 #[cfg(test)]
 mod tests;
-mod typed;
 mod words;
 
 use run::{run, status};

@@ -1,6 +1,7 @@
 // The arguments of the calls. Only the generic `both` returns early while it owns a value: a function that does so while
 // it owns a type takes long to prove.
 use std::alloc::{AllocError, Global};
+use wgsl_typed::typed::Typed;
 use wgsl_types::error::Error;
 use wgsl_types::inst::{Instance, LiteralInstance};
 use wgsl_types::syntax::{AccessMode, AddressSpace, Enumerant};
@@ -40,6 +41,8 @@ pub struct Types {
     pub operands: [Type; 4],
     /// `array<vec3<AbstractInt>, 2>`
     pub nested: Type,
+    /// The same with a line.
+    pub typed: Typed,
     /// `ref<handle, f32, read_write>`
     pub in_handle: Type,
     /// `mat2x2<f32>`
@@ -128,13 +131,15 @@ fn make_types(alloc: Global) -> Result<Types, AllocError> {
         vector(alloc, 2, Type::AbstractInt),
         vector(alloc, 2, Type::U32),
     );
-    let others = both(nested(alloc), reference(alloc, AddressSpace::Handle));
+    let layers = both(nested(alloc), typed(alloc));
+    let others = both(layers, reference(alloc, AddressSpace::Handle));
     let made = both(both(vectors, others), both(operands(alloc), square(alloc)));
-    let (((first, second), (nested, in_handle)), (operands, square)) = made?;
+    let (((first, second), ((nested, typed), in_handle)), (operands, square)) = made?;
     Ok(Types {
         vectors: [first, second],
         operands,
         nested,
+        typed,
         in_handle,
         square: [square],
     })
@@ -158,6 +163,11 @@ fn square(alloc: Global) -> Result<Type, AllocError> {
 fn nested(alloc: Global) -> Result<Type, AllocError> {
     let element = vector(alloc, 3, Type::AbstractInt)?;
     Ok(Type::Array(Box::new(alloc, element)?, Some(2)))
+}
+
+fn typed(alloc: Global) -> Result<Typed, AllocError> {
+    let ty = nested(alloc)?;
+    Ok(Typed { ty, line: 7 })
 }
 
 fn pointer(alloc: Global) -> Result<Type, AllocError> {

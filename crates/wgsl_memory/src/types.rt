@@ -4,6 +4,7 @@ use crate::lines::Lines;
 use std::alloc::{AllocError, Global};
 use std::io;
 use std::io::Write;
+use wgsl_typed::typed::Typed;
 use wgsl_types::conv::{
     Convert, convert, convert_all, convert_all_inner_to, convert_all_to, convert_inner,
 };
@@ -14,6 +15,7 @@ pub fn print_types<W: Write>(lines: &mut Lines<W>, arguments: &Arguments) -> io:
     print_structs(lines, &arguments.structs)?;
     print_signatures(lines, arguments)?;
     print_nested(lines, &arguments.types.nested)?;
+    print_typed(lines, &arguments.types.typed)?;
     print_conversions(lines, &arguments.types.vectors)
 }
 
@@ -58,6 +60,25 @@ fn print_nested<W: Write>(lines: &mut Lines<W>, nested: &Type) -> io::Result<()>
     lines.value("try_from_type", try_from_type(alloc, nested))?;
     lines.value("concretize", Type::concretize(nested, alloc))?;
     lines.option("Convert::concretize", Convert::concretize(nested, alloc))
+}
+
+fn print_typed<W: Write>(lines: &mut Lines<W>, typed: &Typed) -> io::Result<()> {
+    let alloc = lines.alloc;
+    let element = typed.ty.inner();
+    lines.value("Typed::inner_ty", typed.inner_ty(alloc))?;
+    lines.option(
+        "Typed::convert_inner_to",
+        type_of(typed.convert_inner_to(alloc, element)),
+    )?;
+    lines.option("Typed::concretize", type_of(typed.concretize(alloc)))
+}
+
+/// The answer without its line.
+fn type_of(answer: Result<Option<Typed>, AllocError>) -> Result<Option<Type>, AllocError> {
+    match answer? {
+        Some(typed) => Ok(Some(typed.ty)),
+        None => Ok(None),
+    }
 }
 
 fn print_conversions<W: Write>(lines: &mut Lines<W>, vectors: &[Type; 2]) -> io::Result<()> {

@@ -4,14 +4,14 @@ ghost use Rattle.wgsl_rules.specs.types.Types.{WgslType};
 ghost use Rattle.wgsl_rules.specs.conversion.Common.{IsLeftCommon};
 ghost use Rattle.wgsl_core.specs.View.{view};
 ghost use Rattle.wgsl_rules.specs.conversion.Converted.{all_to};
-ghost use Rattle.wgsl_check.specs.Typed.{on_line, typed, typed_to};
+ghost use Rattle.wgsl_typed.specs.Typed.{on_line, typed, typed_to};
 
 use std::alloc::{AllocError, Global};
 use wgsl_types::conv::{Convert, convert_all};
 use wgsl_types::ty::{Ty, Type};
 
 /// A type with the number of its input line.
-#[derive(Drop)]
+#[derive(PartialEq, Drop)]
 pub struct Typed {
     pub ty: Type,
     pub line: u64,
@@ -41,7 +41,7 @@ impl Convert for Typed {
     ghost use Rattle.wgsl_rules.specs.conversion.Concrete.{concretized};
     ghost use Rattle.wgsl_core.specs.View.{view};
     ghost use Rattle.wgsl_core.specs.Converted.{inner_converted};
-    ghost use Rattle.wgsl_check.specs.Typed.{on_line, typed, typed_to, typed_has_type};
+    ghost use Rattle.wgsl_typed.specs.Typed.{on_line, typed, typed_to, typed_has_type};
 
     ghost Shown = { WgslType × ℕ };
 
@@ -81,10 +81,14 @@ fn on_line(line: u64, ty: Option<Type>) -> Option<Typed>
 /// All of them converted to the common type of their types, in order; None where there is none, as of no types, or one
 /// doesn't convert to it.
 pub fn convert_to_common(alloc: Global, values: &[Typed]) -> Result<Option<Vec<Typed>>, AllocError>
-    ensures value { IfOk result (λ r. (c : Option WgslType) × IsLeftCommon (map (λ x. view x.ty) values.now) c
-        × (option_map (λ v. map typed v.items) r ≡ option_and_then (λ t. all_to typed_to t values.now) c)) }
-    ensures lines { IfOk result (λ r. IfSome r (λ v. map (λ x. x.line) v.items ≡ map (λ x. x.line) values.now)) }
-    ensures one_type { IfOk result (λ r. IfSome r (λ v. (t : WgslType) × All (λ x. view x.ty ≡ t) v.items)) }
+    ensures value { IfOk result (λ r. (c : Option WgslType)
+        × IsLeftCommon (map (λ x. view x.ty) values.now) c
+        × (option_map (λ v. map typed v.items) r
+            ≡ option_and_then (λ t. all_to typed_to t values.now) c)) }
+    ensures lines { IfOk result (λ r. IfSome r (λ v.
+        map (λ x. x.line) v.items ≡ map (λ x. x.line) values.now)) }
+    ensures one_type { IfOk result (λ r. IfSome r (λ v.
+        (t : WgslType) × All (λ x. view x.ty ≡ t) v.items)) }
 {
     convert_all(alloc, values)
 }

@@ -4,7 +4,7 @@ use Rattle.std.specs.Prelude.{◌≡◌, ℕ, Option, Some, None, option_map}
 use Rattle.wgsl_rules.specs.types.Types.{WgslType}
 use Rattle.wgsl_core.specs.View.{view}
 use Rattle.wgsl_core.specs.Converted.{converted, converted_has_type}
-use Rattle.wgsl_check.specs.declared.typed.Typed.{Typed}
+use Rattle.wgsl_typed.specs.declared.typed.Typed.{Typed}
 
 -- what was converted stays on its line
 abbrev pub on_line : ℕ → Option WgslType → Option (WgslType × ℕ)

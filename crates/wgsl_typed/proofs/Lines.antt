@@ -5,8 +5,8 @@ use Rattle.wgsl_rules.specs.types.Types.{WgslType}
 use Rattle.wgsl_core.specs.View.{view}
 use Rattle.wgsl_core.specs.Converted.{converted}
 use Rattle.wgsl_rules.specs.conversion.Converted.{all_to}
-use Rattle.wgsl_check.specs.Typed.{on_line, typed, typed_to}
-use Rattle.wgsl_check.specs.declared.typed.Typed.{Typed}
+use Rattle.wgsl_typed.specs.Typed.{on_line, typed, typed_to}
+use Rattle.wgsl_typed.specs.declared.typed.Typed.{Typed}
 
 abbrev line_of : WgslType × ℕ → ℕ
 line_of p = p.1

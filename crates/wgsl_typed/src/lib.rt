@@ -1,0 +1,4 @@
+//! Types that remember where they were read.
+#![tactic(auto)]
+
+pub mod typed;
