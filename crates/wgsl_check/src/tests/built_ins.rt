@@ -1,5 +1,5 @@
 // Each built-in function called once with arguments that fit and once with some that don't.
-use super::expect_answers;
+use super::support::expect_answers;
 use std::alloc::AllocError;
 use std::process::Abort;
 use std::test::Fail;

@@ -1,6 +1,6 @@
 // Calls of built-in functions.
-use super::operators::sixty_types;
-use super::{expect_answers, expect_text};
+use super::support::sixty::sixty_types;
+use super::support::{expect_answers, expect_text};
 use crate::command::value_or_refusal;
 use std::alloc::{AllocError, Global};
 use std::process::Abort;
@@ -116,7 +116,7 @@ fn a_user_without_fault_is_answered_line_by_line(rt: HostRuntime) -> Result<(), 
 
 #[test]
 fn names_are_found_by_binary_search(rt: HostRuntime) {
-    for (name, place, compared) in [
+    for (name, index, compared) in [
         ("abs", Some(0), 8),
         ("workgroupUniformLoad", Some(154), 7),
         ("pack4xU8Clamp", Some(77), 1),
@@ -125,7 +125,7 @@ fn names_are_found_by_binary_search(rt: HostRuntime) {
         ("absA", None, 8),
         ("zz", None, 7),
     ] {
-        assert_eq!(rt; find_call(name), (place, compared), "{name}");
+        assert_eq!(rt; find_call(name), (index, compared), "{name}");
     }
 }
 

@@ -1,6 +1,6 @@
 // Readers and writers that fail at each of their calls, and input that ends after each of its bytes.
-use super::streams::{Source, Target};
-use super::{WHOLE, expect};
+use super::support::streams::{Source, Target};
+use super::support::{WHOLE, expect};
 use crate::run::{RunError, run};
 use std::alloc::{AllocError, Global};
 use std::io::ErrorKind;

@@ -1,5 +1,5 @@
 // Types that no program would write: the kinds that they are of, what is made of them, and nests of 300 layers.
-use super::worded::{expect_replies, expect_text, types};
+use super::support::{expect_replies, expect_reply, types};
 use crate::command::number_or_none;
 use std::alloc::{AllocError, Global};
 use std::process::Abort;
@@ -153,7 +153,7 @@ fn strange_types_equal_themselves_alone(rt: HostRuntime) -> Result<(), Fail> {
     let strange = types(rt.alloc(), STRANGE)?;
     let text = wrongly_equal(rt.alloc(), &strange);
     drop(strange);
-    expect_text(&rt, "==", "strange types", &text?, "");
+    expect_reply(&rt, "==", "strange types", &text?, "");
     Ok(())
 }
 
@@ -196,7 +196,7 @@ fn expect_ranks_and_layouts(
     rows: &[(&str, &str)],
 ) -> Result<(), Fail> {
     for (layer, numbers) in rows {
-        expect_text(rt, "300 of", layer, &nests(rt.alloc(), layer)?, numbers);
+        expect_reply(rt, "300 of", layer, &nests(rt.alloc(), layer)?, numbers);
     }
     Ok(())
 }

@@ -1,5 +1,5 @@
 // Lists of 300 values, arguments and members.
-use super::expect_answers;
+use super::support::expect_answers;
 use std::alloc::{AllocError, Global};
 use std::process::Abort;
 use std::test::Fail;

@@ -1,7 +1,6 @@
 // Sizes, alignments and offsets.
-use super::expect_answers;
-use super::worded::one_type;
-use std::alloc::{AllocError, Global};
+use super::support::{expect_answers, nested, one_type};
+use std::alloc::Global;
 use std::test::Fail;
 
 #[test]
@@ -163,16 +162,6 @@ fn the_least_size_of_an_open_array_is_its_stride(rt: HostRuntime) -> Result<(), 
     let half = (Some(2), Some(2), Some(2));
     assert!(rt; has_sizes(rt.alloc(), "f16", half)?);
     Ok(())
-}
-
-/// The last words, with so many of the first before them.
-pub fn nested(alloc: Global, outer: &str, depth: usize, core: &str) -> Result<String, AllocError> {
-    let mut words = String::new(alloc);
-    for _ in 0..depth {
-        words.push_str(outer)?;
-    }
-    words.push_str(core)?;
-    Ok(words)
 }
 
 #[test]

@@ -1,5 +1,5 @@
 // Names read and printed, and what textures and formats answer.
-use super::worded::expect_text;
+use super::support::expect_reply;
 use std::alloc::AllocError;
 use std::fmt::Display;
 use std::process::Abort;
@@ -18,7 +18,7 @@ fn expect_printed<T: Display>(
     rows: &[(T, &str)],
 ) -> Result<(), AllocError> {
     for (value, text) in rows {
-        expect_text(rt, "to_string", text, &value.to_string(rt.alloc())?, text);
+        expect_reply(rt, "to_string", text, &value.to_string(rt.alloc())?, text);
     }
     Ok(())
 }

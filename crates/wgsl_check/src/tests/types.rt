@@ -1,5 +1,5 @@
 // The words of types, read and spelled again in the message of a sum that has no type.
-use super::expect_answers;
+use super::support::expect_answers;
 use std::test::Fail;
 
 #[test]

@@ -1,14 +1,98 @@
-// Types and templates out of the words in which the program reads them, and what calls that no command makes give for
-// such types, as text.
+// What tests share: lines that the program is asked, types and templates out of the words in which it reads them, and
+// what calls that no command makes give for such types, as text.
+pub mod sixty;
+pub mod streams;
+
 use crate::line::words;
 use crate::read::{read_type, read_types};
+use crate::run::{RunError, run};
 use crate::template::read_template;
 use crate::words::{Unread, Words};
 use std::alloc::{AllocError, Global};
 use std::process::Abort;
 use std::test::Fail;
+use streams::{Source, Target};
+use wgsl_types::CallSignature;
 use wgsl_types::tplt::TpltParam;
 use wgsl_types::ty::{Ty, Type};
+
+/// More bytes than a test reads or writes.
+pub const WHOLE: usize = 1 << 20;
+
+/// Runs, and compares the outcome and what was written.
+pub fn expect(
+    rt: &(impl Abort + AllocGlobal),
+    mut source: Source<'_>,
+    mut target: Target,
+    outcome: Result<bool, RunError>,
+    output: &str,
+) {
+    assert_eq!(rt; run(rt.alloc(), &mut source, &mut target), outcome);
+    assert_eq!(rt; target.taken.as_slice(), output.as_bytes());
+    assert_eq!(rt; target.flushed, target.taken.len());
+}
+
+/// The same, with whole reads and writes.
+pub fn expect_whole(rt: &(impl Abort + AllocGlobal), input: &[u8], readable: bool, output: &str) {
+    let source = Source::new(input, WHOLE);
+    let target = Target::new(rt.alloc(), WHOLE);
+    expect(rt, source, target, Ok(readable), output);
+}
+
+/// Asks each line, all in one run, and compares what is printed for it with the answer beside it. The answer to a line
+/// that can't be read begins `bad line`.
+pub fn expect_answers(
+    rt: &(impl Abort + AllocGlobal),
+    rows: &[(&str, &str)],
+) -> Result<(), AllocError> {
+    let input = input_of(rt.alloc(), rows)?;
+    let mut source = Source::new(input.as_bytes(), WHOLE);
+    let mut target = Target::new(rt.alloc(), WHOLE);
+    let outcome = run(rt.alloc(), &mut source, &mut target);
+    expect_printed(rt, rows, std::str::from_utf8(&target.taken).unwrap_or(""));
+    assert_eq!(rt; outcome, Ok(are_readable(rows)));
+    assert_eq!(rt; target.flushed, target.taken.len());
+    Ok(())
+}
+
+/// The lines, each with its line feed.
+fn input_of(alloc: Global, rows: &[(&str, &str)]) -> Result<String, AllocError> {
+    let mut input = String::new(alloc);
+    for (line, _answer) in rows {
+        input.push_str(line)?;
+        input.push('\n')?;
+    }
+    Ok(input)
+}
+
+fn are_readable(rows: &[(&str, &str)]) -> bool {
+    for (_line, answer) in rows {
+        if answer.starts_with("bad line") {
+            return false;
+        }
+    }
+    true
+}
+
+/// Compares what is printed with the answers, line by line.
+fn expect_printed(rt: &impl Abort, rows: &[(&str, &str)], printed: &str) {
+    let mut lines = printed.split('\n');
+    for (line, answer) in rows {
+        for wanted in answer.split('\n') {
+            expect_text(rt, line, lines.next().unwrap_or("(no line)"), wanted);
+        }
+    }
+    let ends = lines.next() == Some("") && lines.next() == None;
+    assert!(rt;
+        ends,
+        "more is printed than the answers, or the last line feed isn't"
+    );
+}
+
+/// Compares an answer with the one that is wanted. Where they differ, the message names what was asked.
+pub fn expect_text(rt: &impl Abort, asked: &str, given: &str, wanted: &str) {
+    assert_eq!(rt; given, wanted, "asked `{asked}`");
+}
 
 /// The types that the words stand for.
 pub fn types(alloc: Global, text: &str) -> Result<Vec<Type>, Fail> {
@@ -61,6 +145,28 @@ fn failure(unread: Unread) -> Fail {
     }
 }
 
+/// The call of `array` with `f32` and 3 as its template, and an `i32`.
+pub fn signature(alloc: Global) -> Result<CallSignature, Fail> {
+    let tplt = template(alloc, "< t f32 n 3 >")?;
+    let args = types(alloc, "i32")?;
+    let name = String::from_str(alloc, "array")?;
+    Ok(CallSignature {
+        name,
+        tplt: Some(tplt),
+        args,
+    })
+}
+
+/// The last words, with so many of the first before them.
+pub fn nested(alloc: Global, outer: &str, depth: usize, core: &str) -> Result<String, AllocError> {
+    let mut words = String::new(alloc);
+    for _ in 0..depth {
+        words.push_str(outer)?;
+    }
+    words.push_str(core)?;
+    Ok(words)
+}
+
 /// The spelling of a type that is let go.
 pub fn spelled(alloc: Global, ty: Type) -> Result<String, AllocError> {
     let text = ty.to_string(alloc);
@@ -89,13 +195,13 @@ pub fn expect_replies(
 ) -> Result<(), Fail> {
     for (words, wanted) in rows {
         let text = reply(rt.alloc(), call, words)?;
-        expect_text(rt, call, words, &text, wanted);
+        expect_reply(rt, call, words, &text, wanted);
     }
     Ok(())
 }
 
 /// Compares what was answered to a call with these words with the text that is wanted.
-pub fn expect_text(rt: &impl Abort, call: &str, words: &str, text: &str, wanted: &str) {
+pub fn expect_reply(rt: &impl Abort, call: &str, words: &str, text: &str, wanted: &str) {
     assert_eq!(rt; text, wanted, "of {call} `{words}`");
 }
 
