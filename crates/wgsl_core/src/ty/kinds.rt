@@ -8,6 +8,7 @@ ghost use Rattle.wgsl_core.specs.View.{view};
 
 use crate::ty::Type;
 use crate::ty::form::Form;
+use wgsl_syntax::scalar::Scalar;
 
 impl Type {
     /// Whether it is one of the scalars (WGSL, "Scalar Types").
@@ -53,28 +54,12 @@ impl Type {
     pub fn is_abstract(&self) -> bool
         ensures { IsTrue result ↔ IsAbstract (view self.now) }
     {
-        match self {
-            Type::AbstractInt | Type::AbstractFloat => true,
-            Type::Array(t, _) => t.is_abstract(),
-            Type::Vec(_, t) => t.is_abstract(),
-            Type::Mat(_, _, t) => t.is_abstract(),
-            Type::Bool
-            | Type::I32
-            | Type::U32
-            | Type::F32
-            | Type::F16
-            | Type::I64
-            | Type::U64
-            | Type::F64
-            | Type::Struct(_)
-            | Type::Atomic(_)
-            | Type::Ptr(_, _, _)
-            | Type::Ref(_, _, _)
-            | Type::Texture(_)
-            | Type::Sampler(_)
-            | Type::BindingArray(_, _)
-            | Type::RayQuery(_)
-            | Type::AccelerationStructure(_) => false,
+        match self.form() {
+            Form::Scalar(Scalar::AbstractInt | Scalar::AbstractFloat) => true,
+            Form::Array(_, element) | Form::Vector(_, element) | Form::Matrix(_, _, element) => {
+                element.is_abstract()
+            }
+            _ => false,
         }
     }
 
