@@ -128,8 +128,8 @@ fn make_scalars() -> Scalars {
 
 fn make_types(alloc: Global) -> Result<Types, AllocError> {
     let vectors = both(
-        vector(alloc, 2, Type::AbstractInt),
-        vector(alloc, 2, Type::U32),
+        Type::vector(alloc, 2, Type::AbstractInt),
+        Type::vector(alloc, 2, Type::U32),
     );
     let layers = both(nested(alloc), typed(alloc));
     let others = both(layers, reference(alloc, AddressSpace::Handle));
@@ -146,23 +146,19 @@ fn make_types(alloc: Global) -> Result<Types, AllocError> {
 }
 
 fn operands(alloc: Global) -> Result<[Type; 4], AllocError> {
-    let vectors = both(vector(alloc, 2, Type::Bool), vector(alloc, 2, Type::I32));
+    let vectors = both(Type::vector(alloc, 2, Type::Bool), Type::vector(alloc, 2, Type::I32));
     let stored = both(pointer(alloc), reference(alloc, AddressSpace::Function));
     let ((bools, integers), (pointer, reference)) = both(vectors, stored)?;
     Ok([bools, integers, pointer, reference])
 }
 
-fn vector(alloc: Global, components: u8, component: Type) -> Result<Type, AllocError> {
-    Ok(Type::Vec(components, Box::new(alloc, component)?))
-}
-
 fn square(alloc: Global) -> Result<Type, AllocError> {
-    Ok(Type::Mat(2, 2, Box::new(alloc, Type::F32)?))
+    Type::matrix(alloc, 2, 2, Type::F32)
 }
 
 fn nested(alloc: Global) -> Result<Type, AllocError> {
-    let element = vector(alloc, 3, Type::AbstractInt)?;
-    Ok(Type::Array(Box::new(alloc, element)?, Some(2)))
+    let element = Type::vector(alloc, 3, Type::AbstractInt)?;
+    Type::array(alloc, Some(2), element)
 }
 
 fn typed(alloc: Global) -> Result<Typed, AllocError> {
@@ -222,7 +218,7 @@ fn single(
 }
 
 fn member(alloc: Global, name: &str) -> Result<StructMemberType, AllocError> {
-    let (name, ty) = both(String::from_str(alloc, name), vector(alloc, 2, Type::U32))?;
+    let (name, ty) = both(String::from_str(alloc, name), Type::vector(alloc, 2, Type::U32))?;
     Ok(StructMemberType::new(name, ty))
 }
 
@@ -269,7 +265,7 @@ fn parameters(alloc: Global) -> Result<Vec<TpltParam>, AllocError> {
 }
 
 fn args(alloc: Global) -> Result<Vec<Type>, AllocError> {
-    let ty = vector(alloc, 2, Type::F16)?;
+    let ty = Type::vector(alloc, 2, Type::F16)?;
     Ok(Vec::from_array(alloc, [ty])?)
 }
 
@@ -293,7 +289,7 @@ fn in_space(space: AddressSpace) -> TpltParam {
 }
 
 fn element(alloc: Global) -> Result<[TpltParam; 1], AllocError> {
-    Ok([TpltParam::Ty(vector(alloc, 2, Type::F16)?)])
+    Ok([TpltParam::Ty(Type::vector(alloc, 2, Type::F16)?)])
 }
 
 fn element_and_count(alloc: Global) -> Result<[TpltParam; 2], AllocError> {

@@ -1,5 +1,5 @@
-// Copies, types of types, conversions, layouts.
-use crate::arguments::{Arguments, Structs};
+// Copies, built types, types of types, conversions, layouts.
+use crate::arguments::{Arguments, Structs, both};
 use crate::lines::Lines;
 use std::alloc::{AllocError, Global};
 use std::io;
@@ -13,6 +13,7 @@ use wgsl_types::{CallSignature, Type};
 
 pub fn print_types<W: Write>(lines: &mut Lines<W>, arguments: &Arguments) -> io::Result<()> {
     print_structs(lines, &arguments.structs)?;
+    print_built(lines, &arguments.structs.structure)?;
     print_signatures(lines, arguments)?;
     print_nested(lines, &arguments.types.nested)?;
     print_typed(lines, &arguments.types.typed)?;
@@ -33,6 +34,24 @@ fn print_structs<W: Write>(lines: &mut Lines<W>, structs: &Structs) -> io::Resul
     lines.value("Type::from_struct", struct_as_type(alloc, structure))?;
     lines.layout("layout", structure.layout(alloc))?;
     lines.list("offsets", structure.offsets(alloc))
+}
+
+fn print_built<W: Write>(lines: &mut Lines<W>, structure: &StructType) -> io::Result<()> {
+    let alloc = lines.alloc;
+    lines.value("Type::vector", Type::vector(alloc, 3, Type::F16))?;
+    lines.value("Type::matrix", Type::matrix(alloc, 2, 3, Type::F16))?;
+    lines.value("Type::array", Type::array(alloc, Some(4), Type::F16))?;
+    lines.copy("StructType::new", structure, two_vectors(alloc))
+}
+
+/// `struct S { a: vec2<u32>, b: vec2<u32> }`
+fn two_vectors(alloc: Global) -> Result<StructType, AllocError> {
+    let (a, b) = both(
+        Type::vector(alloc, 2, Type::U32),
+        Type::vector(alloc, 2, Type::U32),
+    )?;
+    let members = vec![in alloc; ("a", a), ("b", b)]?;
+    StructType::new(alloc, "S", members)
 }
 
 fn struct_as_type(alloc: Global, structure: &StructType) -> Result<Type, AllocError> {
