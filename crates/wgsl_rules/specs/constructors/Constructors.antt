@@ -51,13 +51,17 @@ constructor_of name = named constructors name
 
 -- Scalars: no template, and no argument or one scalar; anything else has the refusal of the call.
 abbrev pub scalar_call : Scalar → Option (List Parameter) → List WgslType → Refusal → Result WgslType Refusal
+-- f32() : f32
 scalar_call s None [] refused = Ok (scalar s)
+-- i32(f32) : i32
 scalar_call s None (scalar t ∷ []) refused = Ok (scalar s)
 scalar_call s template args refused = Err refused
 
 -- Arrays of a template's type: without arguments that type; else it has a count, and each argument converts to its element.
 abbrev pub IsTypedArray : List WgslType → WgslType → Result WgslType Refusal → Type 0
+-- array<f32, 3>() : array<f32, 3>
 IsTypedArray [] t r = r ≡ Ok t
+-- array<f32, 3>(AbstractInt, f32, f32) : array<f32, 3>
 IsTypedArray (a ∷ args) (array (Some n) t) r =
     Receives t (a ∷ args) × (r ≡ Ok (array (Some n) t))
     ⊎ ((b : WgslType) × IsFirstStuck t (a ∷ args) b × (r ≡ Err (conversion b t)))
@@ -66,6 +70,7 @@ IsTypedArray (a ∷ args) t r = r ≡ Err (template_args (codes "array"))
 -- Arrays: with a template, or of the common type of the arguments, as many as there are.
 abbrev pub IsArrayCall : Option (List Parameter) → List WgslType → Result WgslType Refusal → Type 0
 IsArrayCall (Some ps) args r = Then (array_template ps) (IsTypedArray args) r
+-- array(AbstractInt, f32) : array<f32, 2>
 IsArrayCall None args r =
     ThenCommon args (codes "array elements are incompatible") (λ c q. q ≡ Ok (array (Some (length args)) c)) r
 

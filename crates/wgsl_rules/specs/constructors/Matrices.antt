@@ -16,7 +16,9 @@ no_columns = builtin (codes "matrix constructor expects float or vector of float
 -- A matrix of c columns and r rows of t, out of so many arguments of a common type: vectors for its columns, floats or
 -- abstract integers for its components.
 abbrev pub IsMatrixOf : List ℕ → ℕ → ℕ → ℕ → WgslType → WgslType → Result WgslType Refusal → Type 0
+-- mat2x2<f32>(vec2<f32>, vec2<AbstractInt>) : mat2x2<f32>
 IsMatrixOf name c r number t (vec n e) q = IsCounted name c number (mat c r t) q
+-- mat2x2<f32>(AbstractInt, f32, f32, f32) : mat2x2<f32>
 IsMatrixOf name c r number t (scalar s) q = IsCounted name (c * r) number (mat c r t) q
 IsMatrixOf name c r number t u q = q ≡ Err no_columns
 
@@ -30,12 +32,14 @@ IsTypedMatrixOf name c r number t u q =
 
 -- out of one argument: a matrix of the same shape, or as of any other number
 abbrev pub IsTypedMatrixOfOne : List ℕ → ℕ → ℕ → WgslType → WgslType → Result WgslType Refusal → Type 0
+-- mat2x2<f16>(mat2x2<f32>) : mat2x2<f16>
 IsTypedMatrixOfOne name c r (mat d s e) t q =
     Either ((d ≡ c) × (s ≡ r)) (q ≡ Ok (mat c r t)) (q ≡ Err (conversion (mat d s e) (mat c r t)))
 IsTypedMatrixOfOne name c r a t q = ThenCommon (a ∷ []) incompatible_matrix (IsTypedMatrixOf name c r 1 t) q
 
 -- Matrices of a template's type.
 abbrev pub IsTypedMatrix : List ℕ → ℕ → ℕ → List WgslType → WgslType → Result WgslType Refusal → Type 0
+-- mat2x3<f32>() : mat2x3<f32>
 IsTypedMatrix name c r [] t q = q ≡ Ok (mat c r t)
 IsTypedMatrix name c r (a ∷ []) t q = IsTypedMatrixOfOne name c r a t q
 IsTypedMatrix name c r args t q = ThenCommon args incompatible_matrix (IsTypedMatrixOf name c r (length args) t) q
@@ -52,6 +56,7 @@ IsUntypedMatrixOf name c r number u q =
 
 -- out of one argument: a matrix of the same shape, which stays, or as of any other number
 abbrev pub IsUntypedMatrixOfOne : List ℕ → ℕ → ℕ → WgslType → Result WgslType Refusal → Type 0
+-- mat2x2(mat2x2<f32>) : mat2x2<f32>
 IsUntypedMatrixOfOne name c r (mat d s e) q =
     Either ((d ≡ c) × (s ≡ r)) (q ≡ Ok (mat d s e)) (q ≡ Err (conversion (mat d s e) (mat c r e)))
 IsUntypedMatrixOfOne name c r a q = ThenCommon (a ∷ []) incompatible_matrix (IsUntypedMatrixOf name c r 1) q
@@ -59,6 +64,8 @@ IsUntypedMatrixOfOne name c r a q = ThenCommon (a ∷ []) incompatible_matrix (I
 -- Matrices of the type that the arguments have in common.
 abbrev pub IsUntypedMatrix : List ℕ → ℕ → ℕ → List WgslType → Result WgslType Refusal → Type 0
 IsUntypedMatrix name c r (a ∷ []) q = IsUntypedMatrixOfOne name c r a q
+-- mat2x2(vec2<f32>, vec2<AbstractFloat>) : mat2x2<f32>
+-- mat2x2(AbstractInt, AbstractInt, AbstractInt, AbstractInt) : mat2x2<f32>
 IsUntypedMatrix name c r args q = ThenCommon args incompatible_matrix (IsUntypedMatrixOf name c r (length args)) q
 
 abbrev pub IsMatrixCall : List ℕ → ℕ → ℕ → Option (List Parameter) → List WgslType → Result WgslType Refusal → Type 0

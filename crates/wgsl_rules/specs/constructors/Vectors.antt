@@ -33,8 +33,10 @@ no_components = builtin (codes "vector constructor expects scalar or vector argu
 -- A vector of n components of a template's type, out of one argument.
 abbrev pub IsTypedVectorOfOne : ℕ → WgslType → WgslType → Result WgslType Refusal → Type 0
 -- a scalar, which is each component
+-- vec3<f32>(AbstractInt) : vec3<f32>
 IsTypedVectorOfOne n (scalar s) t r = Either (ConvertsTo (scalar s) t) (r ≡ Ok (vec n t)) (r ≡ Err (conversion (scalar s) t))
 -- a vector of as many components
+-- vec3<f32>(vec3<u32>) : vec3<f32>
 IsTypedVectorOfOne n (vec m e) t r = Either (m ≡ n) (r ≡ Ok (vec n t)) (r ≡ Err (conversion (vec m e) (vec n t)))
 IsTypedVectorOfOne n a t r = r ≡ Err (conversion a t)
 
@@ -47,13 +49,17 @@ IsTypedVectorOfSeveral name n args t r =
 
 -- Vectors of n components of a template's type.
 abbrev pub IsTypedVector : List ℕ → ℕ → List WgslType → WgslType → Result WgslType Refusal → Type 0
+-- vec3<f32>() : vec3<f32>
 IsTypedVector name n [] t r = r ≡ Ok (vec n t)
 IsTypedVector name n (a ∷ []) t r = IsTypedVectorOfOne n a t r
+-- vec4<f32>(vec2<f32>, AbstractInt, f32) : vec4<f32>
 IsTypedVector name n args t r = IsTypedVectorOfSeveral name n args t r
 
 -- A vector of n components, out of one argument.
 abbrev pub IsUntypedVectorOfOne : ℕ → WgslType → Result WgslType Refusal → Type 0
+-- vec3(f32) : vec3<f32>
 IsUntypedVectorOfOne n (scalar s) r = r ≡ Ok (vec n (scalar s))
+-- vec3(vec3<u32>) : vec3<u32>
 IsUntypedVectorOfOne n (vec m e) r = Either (m ≡ n) (r ≡ Ok (vec n e)) (r ≡ Err (conversion (vec m e) (vec n e)))
 IsUntypedVectorOfOne n a r = r ≡ Err no_components
 
@@ -68,8 +74,10 @@ IsUntypedVectorOfSeveral name n args r =
 
 -- Vectors of n components of the arguments' own types.
 abbrev pub IsUntypedVector : List ℕ → ℕ → List WgslType → Result WgslType Refusal → Type 0
+-- vec3() : vec3<AbstractInt>
 IsUntypedVector name n [] r = r ≡ Ok (vec n (scalar AbstractInt))
 IsUntypedVector name n (a ∷ []) r = IsUntypedVectorOfOne n a r
+-- vec4(vec2<f32>, AbstractInt, AbstractInt) : vec4<f32>
 IsUntypedVector name n args r = IsUntypedVectorOfSeveral name n args r
 
 abbrev pub IsVectorCall : List ℕ → ℕ → Option (List Parameter) → List WgslType → Result WgslType Refusal → Type 0

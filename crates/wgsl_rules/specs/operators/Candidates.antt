@@ -72,64 +72,87 @@ IsMinMax n = ⊥
 -- the operands have to do with the types taken is the choice's matter.
 pub data IsCandidate : Name → List WgslType → WgslType → Type 0 where
   -- arithmetic of two scalars of one type
+  -- f32 + f32 : f32
   scalars : (o : BinaryOperator) → IsArithmetic o → (s : Scalar) →
       IsCandidate (operator o) (scalar s ∷ scalar s ∷ []) (scalar s)
   -- of two vectors of one type
+  -- vec3<f32> * vec3<f32> : vec3<f32>
   vectors : (o : BinaryOperator) → IsArithmetic o → (n : ℕ) (e : WgslType) →
       IsCandidate (operator o) (vec n e ∷ vec n e ∷ []) (vec n e)
   -- of a scalar and a vector of it, in either order
+  -- f32 + vec3<f32> : vec3<f32>
   scalar_vector : (o : BinaryOperator) → IsArithmetic o → (s : Scalar) (n : ℕ) →
       IsCandidate (operator o) (scalar s ∷ vec n (scalar s) ∷ []) (vec n (scalar s))
+  -- vec2<f32> / f32 : vec2<f32>
   vector_scalar : (o : BinaryOperator) → IsArithmetic o → (s : Scalar) (n : ℕ) →
       IsCandidate (operator o) (vec n (scalar s) ∷ scalar s ∷ []) (vec n (scalar s))
   -- the sum or difference of two matrices of one type
+  -- mat2x3<f16> - mat2x3<f16> : mat2x3<f16>
   matrices : (o : BinaryOperator) → IsSum o → (c r : ℕ) (e : WgslType) →
       IsCandidate (operator o) (mat c r e ∷ mat c r e ∷ []) (mat c r e)
   -- the product of a scalar and a matrix of it, in either order
+  -- f32 * mat2x3<f32> : mat2x3<f32>
   scalar_matrix : (s : Scalar) (c r : ℕ) →
       IsCandidate (operator Multiplication) (scalar s ∷ mat c r (scalar s) ∷ []) (mat c r (scalar s))
+  -- mat2x3<f16> * f16 : mat2x3<f16>
   matrix_scalar : (s : Scalar) (c r : ℕ) →
       IsCandidate (operator Multiplication) (mat c r (scalar s) ∷ scalar s ∷ []) (mat c r (scalar s))
   -- of a vector with as many components as the matrix has rows: one component a column
+  -- vec3<f32> * mat2x3<f32> : vec2<f32>
   vector_matrix : (c r : ℕ) (e : WgslType) →
       IsCandidate (operator Multiplication) (vec r e ∷ mat c r e ∷ []) (vec c e)
   -- of a matrix and a vector with as many components as it has columns: one component a row
+  -- mat2x3<f32> * vec2<f32> : vec3<f32>
   matrix_vector : (c r : ℕ) (e : WgslType) →
       IsCandidate (operator Multiplication) (mat c r e ∷ vec c e ∷ []) (vec r e)
   -- of two matrices, where the first has as many columns as the second has rows
+  -- mat2x3<f32> * mat4x2<f32> : mat4x3<f32>
   matrix_matrix : (k c r : ℕ) (e : WgslType) →
       IsCandidate (operator Multiplication) (mat k r e ∷ mat c k e ∷ []) (mat c r e)
   -- comparison of two scalars of one type
+  -- f32 < f32 : bool
   compared : (o : BinaryOperator) → IsComparison o → (s : Scalar) →
       IsCandidate (operator o) (scalar s ∷ scalar s ∷ []) (scalar Bool)
   -- of two vectors of one type, component by component
+  -- vec3<f32> == vec3<f32> : vec3<bool>
   compared_vectors : (o : BinaryOperator) → IsComparison o → (n : ℕ) (e : WgslType) →
       IsCandidate (operator o) (vec n e ∷ vec n e ∷ []) (vec n (scalar Bool))
   -- the short-circuit operators, `||` and `&&`, of two `bool`
+  -- bool && bool : bool
   logical : (o : BinaryOperator) → IsLogical o →
       IsCandidate (operator o) (scalar Bool ∷ scalar Bool ∷ []) (scalar Bool)
   -- bits of two integers of one type
+  -- u32 ^ u32 : u32
   bits : (o : BinaryOperator) → IsBitwise o → (i : Scalar) → IsInteger i →
       IsCandidate (operator o) (scalar i ∷ scalar i ∷ []) (scalar i)
   -- of two vectors of integers of one type
+  -- vec2<i32> & vec2<i32> : vec2<i32>
   bits_vectors : (o : BinaryOperator) → IsBitwise o → (n : ℕ) (i : Scalar) → IsInteger i →
       IsCandidate (operator o) (vec n (scalar i) ∷ vec n (scalar i) ∷ []) (vec n (scalar i))
   -- of two vectors of `bool`
+  -- vec2<bool> | vec2<bool> : vec2<bool>
   bools_vectors : (o : BinaryOperator) → IsOrAnd o → (n : ℕ) →
       IsCandidate (operator o) (vec n (scalar Bool) ∷ vec n (scalar Bool) ∷ []) (vec n (scalar Bool))
   -- an integer shifted by a `u32`
+  -- i32 << u32 : i32
   shifted : (o : BinaryOperator) → IsShift o → (i : Scalar) → IsInteger i →
       IsCandidate (operator o) (scalar i ∷ scalar U32 ∷ []) (scalar i)
   -- a vector of integers, component by component
+  -- vec3<i32> >> vec3<u32> : vec3<i32>
   shifted_vectors : (o : BinaryOperator) → IsShift o → (n : ℕ) (i : Scalar) → IsInteger i →
       IsCandidate (operator o) (vec n (scalar i) ∷ vec n (scalar U32) ∷ []) (vec n (scalar i))
   -- `min` and `max` of two numbers, or two vectors of numbers, of one type
+  -- min(f32, f32) : f32
   of_two : (n : Name) → IsMinMax n → (t : WgslType) → IsNumericOrVector t → IsCandidate n (t ∷ t ∷ []) t
   -- `clamp` of three
+  -- clamp(u32, u32, u32) : u32
   of_three : (t : WgslType) → IsNumericOrVector t → IsCandidate clamp (t ∷ t ∷ t ∷ []) t
   -- the dot product of two vectors of numbers of one type
+  -- dot(vec3<u32>, vec3<u32>) : u32
   products : (n : ℕ) (s : Scalar) → IsNumeric s → IsCandidate dot (vec n (scalar s) ∷ vec n (scalar s) ∷ []) (scalar s)
   -- `select` of one of two scalars or vectors by a `bool`
+  -- select(f32, f32, bool) : f32
   either : (t : WgslType) → IsScalarOrVector t → IsCandidate select (t ∷ t ∷ scalar Bool ∷ []) t
   -- of the components of one of two vectors, each by a `bool` of its own
+  -- select(vec2<f32>, vec2<f32>, vec2<bool>) : vec2<f32>
   each_either : (n m : ℕ) (e : WgslType) → IsCandidate select (vec n e ∷ vec n e ∷ vec m (scalar Bool) ∷ []) (vec n e)

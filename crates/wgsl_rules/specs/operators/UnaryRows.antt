@@ -15,17 +15,23 @@ use Rattle.wgsl_rules.specs.errors.Refusals.{Refusal, unary, ptr_handle}
 -- An operator, its operand, and the result.
 pub data IsUnaryRow : UnaryOperator → WgslType → WgslType → Type 0 where
   -- `!` of a `bool`
+  -- !bool : bool
   not_row : IsUnaryRow LogicalNegation (scalar Bool) (scalar Bool)
   -- of a vector of whatever type
+  -- !vec3<bool> : vec3<bool>
   not_vector_row : (n : ℕ) (t : WgslType) → IsUnaryRow LogicalNegation (vec n t) (vec n t)
   -- `-` of a scalar of whatever type
+  -- -f32 : f32
   negation_row : (s : Scalar) → IsUnaryRow Negation (scalar s) (scalar s)
   -- `~` of an integer or a vector of integers
+  -- ~vec2<u32> : vec2<u32>
   complement_row : (t : WgslType) → IsIntegerOrVector t → IsUnaryRow BitwiseComplement t t
   -- `&` of a reference that isn't in the handle space: the pointer
+  -- &ref<function, f32, read_write> : ptr<function, f32, read_write>
   address_row : (s : AddressSpace) (t : WgslType) (m : AccessMode) → s ≢ Handle →
       IsUnaryRow AddressOf (reference s t m) (pointer s t m)
   -- `*` of a pointer: the reference
+  -- *ptr<function, f32, read_write> : ref<function, f32, read_write>
   indirection_row : (s : AddressSpace) (t : WgslType) (m : AccessMode) → IsUnaryRow Indirection (pointer s t m) (reference s t m)
 
 -- Why an operand has no row: of the handle space there are no pointers; else the refusal names operator and operand.

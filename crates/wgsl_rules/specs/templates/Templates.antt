@@ -19,13 +19,13 @@ use Rattle.wgsl_rules.specs.types.Literals.{Literal, bool, abstract_int, i32, u3
 use Rattle.wgsl_rules.specs.types.Signatures.{Parameter, of_type, of_literal, of_enumerant}
 use Rattle.wgsl_rules.specs.errors.Refusals.{Refusal, todo, ptr_handle, sampled_type, builtin, template_args}
 
--- a whole number above 0
+-- an integer above 0
 abbrev pub above_zero : ℤ → Option ℕ
 above_zero (pos zero) = None
 above_zero (pos (suc n)) = Some (suc n)
 above_zero (negsuc n) = None
 
--- the number of elements that a literal stands for: a whole number above 0
+-- the number of elements that a literal stands for: an integer above 0
 abbrev pub count_of : Literal → Option ℕ
 count_of (bool b) = None
 count_of (abstract_int n) = above_zero n
@@ -46,10 +46,12 @@ element_and_count name message (of_type t ∷ []) = Ok (t, None)
 element_and_count name message (of_type t ∷ of_literal l ∷ []) = ok_or (option_map (λ n. (t, Some n)) (count_of l)) (builtin message)
 element_and_count name message ps = Err (template_args name)
 
+-- `array<f32>` and `array<f32, 4>`; refused: `array<f32, 0>`
 abbrev pub array_template : List Parameter → Result WgslType Refusal
 array_template ps = made (λ p. array p.1 p.0)
     (element_and_count (codes "array") (codes "the array element count must evaluate to a `u32` or a `i32` greater than `0`") ps)
 
+-- `binding_array<texture_2d<f32>, 4>`
 abbrev pub binding_array_template : List Parameter → Result WgslType Refusal
 binding_array_template ps = made (λ p. binding_array p.1 p.0)
     (element_and_count (codes "binding_array") (codes "the binding_array element count must evaluate to a `u32` or a `i32` greater than `0`") ps)
@@ -60,9 +62,11 @@ IsTemplateOf P name message (of_type t ∷ []) (Ok u) = P t × (u ≡ t)
 IsTemplateOf P name message (of_type t ∷ []) (Err e) = (¬ P t) × (e ≡ builtin message)
 IsTemplateOf P name message ps r = r ≡ Err (template_args name)
 
+-- `vec3<f32>`; refused: `vec3<AbstractInt>`
 abbrev pub IsVecTemplate : List Parameter → Result WgslType Refusal → Type 0
 IsVecTemplate = IsTemplateOf (λ t. IsScalar t × ¬ IsAbstract t) (codes "vector") (codes "vector template type must be a scalar")
 
+-- `mat2x3<f16>`; refused: `mat2x3<i32>`
 abbrev pub IsMatTemplate : List Parameter → Result WgslType Refusal → Type 0
 IsMatTemplate = IsTemplateOf IsFloatScalar (codes "matrix") (codes "matrix template type must be f32 or f16")
 
@@ -75,9 +79,11 @@ IsAtomicScalar (scalar I32) = Unit {0}
 IsAtomicScalar (scalar U32) = Unit {0}
 IsAtomicScalar t = ⊥
 
+-- `atomic<u32>`; refused: `atomic<bool>`
 abbrev pub IsAtomicTemplate : List Parameter → Result WgslType Refusal → Type 0
 IsAtomicTemplate = IsTemplateOf IsAtomicScalar (codes "atomic") (codes "atomic template type must be an integer")
 
+-- `bitcast<vec2<f32>>`; refused: `bitcast<bool>`
 abbrev pub IsBitcastTemplate : List Parameter → Result WgslType Refusal → Type 0
 IsBitcastTemplate =
     IsTemplateOf IsNumericOrVector (codes "bitcast") (codes "bitcast template type must be a numeric scalar or numeric vector")
@@ -128,6 +134,7 @@ IsPointerOf (Some p) r =
     IsStorable p.ty × (r ≡ made (λ m. pointer p.space p.ty m) (pointer_access p.space p.access))
     ⊎ (¬ IsStorable p.ty) × (r ≡ Err (builtin (codes "pointer type must be storable")))
 
+-- `ptr<function, f32>` and `ptr<storage, f32, read_write>`; refused: `ptr<uniform, f32, write>`
 abbrev pub IsPtrTemplate : List Parameter → Result WgslType Refusal → Type 0
 IsPtrTemplate ps r = IsPointerOf (pointer_parameters ps) r
 
@@ -174,6 +181,6 @@ texture_of (Some (sampled make)) ps = made make (sampled_parameter ps)
 texture_of (Some (stored make)) ps = made (λ p. make p.0 p.1) (storage_parameters ps)
 texture_of None ps = Err (builtin (codes "not a templated texture type"))
 
--- The texture of a name, with its parameters.
+-- The texture of a name, with its parameters: `texture_2d<f32>`, `texture_storage_2d<rgba8unorm, write>`.
 abbrev pub texture_template : List ℕ → List Parameter → Result TextureType Refusal
 texture_template name ps = texture_of (named texture_names name) ps
