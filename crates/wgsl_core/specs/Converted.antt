@@ -1,6 +1,6 @@
 -- What becomes of a type that is converted, as functions: the one answer that the relations of the rules have.
-use Rattle.std.proofs.Common.{subst}
-use Rattle.std.specs.Prelude.{◌≡◌, Option, Some, None}
+use Rattle.std.proofs.Common.{ap, refl, subst}
+use Rattle.std.specs.Prelude.{◌≡◌, Option, Some, None, option_map}
 use Rattle.wgsl_rules.specs.types.Types.{WgslType}
 use Rattle.wgsl_rules.specs.types.Kinds.{IsLeaf}
 use Rattle.wgsl_rules.specs.conversion.Converted.{IsConverted}
@@ -23,3 +23,13 @@ NeedsNoMemory None = Unit {0}
 pub converted_has_type : (x : «Type») (t : WgslType) (y : «Type») → converted (view x) t ≡ Some (view y) → view y ≡ t
 unfolding converted
 converted_has_type x t y h = (subst (λ r. IsConverted (view x) t r) h (what_converted (view x) t).1).1
+
+-- and so has a type with something beside it, which stays
+pub paired_has_type : {A : Type 0} (a b : A) (x y : «Type») (t : WgslType) → option_map (λ u. (u, a)) (converted (view x) t) ≡ Some (view y, b) → view y ≡ t
+paired_has_type {A} a b x y t h = at (converted (view x) t) refl h
+  where
+    at : (o : Option WgslType) → converted (view x) t ≡ o → option_map (λ u. (u, a)) o ≡ Some (view y, b) → view y ≡ t
+    at None e h = absurd (cc h)
+    at (Some u) e h =
+        let k : (u, a) ≡ (view y, b) = cc h in
+        converted_has_type x t y (rw e (ap (λ (p : WgslType × A). Some p.0) k))

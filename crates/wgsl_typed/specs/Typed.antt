@@ -1,9 +1,8 @@
 -- Types on their lines.
-use Rattle.std.proofs.Common.{ap, refl}
-use Rattle.std.specs.Prelude.{◌≡◌, ℕ, Option, Some, None, option_map}
+use Rattle.std.specs.Prelude.{◌≡◌, ℕ, Option, Some, option_map}
 use Rattle.wgsl_rules.specs.types.Types.{WgslType}
 use Rattle.wgsl_core.specs.View.{view}
-use Rattle.wgsl_core.specs.Converted.{converted, converted_has_type}
+use Rattle.wgsl_core.specs.Converted.{converted, paired_has_type}
 use Rattle.wgsl_typed.specs.declared.typed.Typed.{Typed}
 
 -- what was converted stays on its line
@@ -20,10 +19,4 @@ typed_to x t = on_line x.line (converted (view x.ty) t)
 
 -- what is converted to a type has that type
 pub typed_has_type : (x : Typed) (t : WgslType) (y : Typed) → typed_to x t ≡ Some (typed y) → view y.ty ≡ t
-typed_has_type x t y h = at (converted (view x.ty) t) refl h
-  where
-    at : (o : Option WgslType) → converted (view x.ty) t ≡ o → on_line x.line o ≡ Some (view y.ty, y.line) → view y.ty ≡ t
-    at None e h = absurd (cc h)
-    at (Some u) e h =
-        let k : (u, x.line) ≡ (view y.ty, y.line) = cc h in
-        converted_has_type x.ty t y.ty (rw e (ap (λ (p : WgslType × ℕ). Some p.0) k))
+typed_has_type x t y h = paired_has_type x.line y.line x.ty y.ty t h
