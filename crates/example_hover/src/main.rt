@@ -42,7 +42,11 @@ fn show_products<W: Write>(alloc: Global, output: &mut W) -> io::Result<()> {
 fn show_calls<W: Write>(alloc: Global, output: &mut W) -> io::Result<()> {
     let numbers = [Type::AbstractInt, Type::F32, Type::AbstractFloat];
     let mixed = [Type::I32, Type::U32];
-    writeln!(output, "clamp(1, x, 2.5): {}", hover_call(alloc, "clamp", &numbers)?)?;
+    writeln!(
+        output,
+        "clamp(1, x, 2.5): {}",
+        hover_call(alloc, "clamp", &numbers)?
+    )?;
     writeln!(output, "max(i, u): {}", hover_call(alloc, "max", &mixed)?)
 }
 

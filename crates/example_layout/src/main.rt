@@ -27,7 +27,11 @@ fn show<W: Write>(alloc: Global, output: &mut W, buffer: &StructType) -> io::Res
     for (member, placed) in buffer.members.iter().zip(&layout.members) {
         let name = &member.name;
         let offset = placed.offset;
-        writeln!(output, "{offset:>4} {name}: {} (packed: {packed})", member.ty)?;
+        writeln!(
+            output,
+            "{offset:>4} {name}: {} (packed: {packed})",
+            member.ty
+        )?;
         packed = packed.saturating_add(u64::from(placed.size));
     }
     let size = layout.size;

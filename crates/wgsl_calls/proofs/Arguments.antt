@@ -8,11 +8,12 @@ use Rattle.std.specs.Borrow.{Bor}
 use Rattle.wgsl_rules.specs.conversion.Common.{IsLeftCommonFrom, IsLeftCommon}
 use Rattle.wgsl_rules.specs.types.Inner.{inner_of}
 use Rattle.wgsl_rules.specs.constructors.Constructors.{member_count, AllFit, IsFirstMisfit}
-use Rattle.wgsl_core.specs.View.{view, member_view, members_view}
+use Rattle.wgsl_core.specs.View.{view, member_view}
+use Rattle.wgsl_core.specs.internal.View.{members_view}
 use Rattle.wgsl_core.specs.declared.ty.Type.{«Type»}
 use Rattle.wgsl_core.specs.declared.ty.StructMemberType.{StructMemberType, out-StructMemberType}
 use Rattle.wgsl_core.proofs.Recognition.{view-ty}
-use Rattle.wgsl_calls.specs.Constructors.{IsStuckAt, IsMisfitAt}
+use Rattle.wgsl_calls.specs.internal.Constructors.{IsStuckAt, IsMisfitAt}
 
 pub from_argument : List «Type» → ℕ → List WgslType
 from_argument args i = map view (drop i args)

@@ -13,7 +13,8 @@ use Rattle.wgsl_rules.specs.constructors.Vectors.{IsTypedVectorOfOne, IsTypedVec
 use Rattle.wgsl_rules.specs.constructors.Matrices.{IsMatrixOf, IsTypedMatrixOf, IsTypedMatrixOfOne, IsTypedMatrix, IsUntypedMatrixOf, IsUntypedMatrixOfOne, IsUntypedMatrix}
 use Rattle.wgsl_rules.specs.types.Signatures.{Signature}
 use Rattle.wgsl_rules.specs.constructors.Constructors.{Constructor, constructor_of, IsBuilt, IsConstructorAnswer, IsTypedArray, IsFilled, IsStructCall, member_count, AllFit, IsFirstMisfit}
-use Rattle.wgsl_core.specs.View.{view, members_view, struct_view}
+use Rattle.wgsl_core.specs.View.{view, struct_view}
+use Rattle.wgsl_core.specs.internal.View.{members_view}
 use Rattle.wgsl_core.proofs.Recognition.{view-struct}
 use Rattle.wgsl_core.specs.declared.ty.StructType.{StructType, out-StructType}
 use Rattle.wgsl_calls.proofs.Arguments.{count_of_members, misfit_is_no_fit}
@@ -25,7 +26,7 @@ use Rattle.wgsl_core.specs.Answer.{AnswersAs}
 use Rattle.wgsl_core.specs.declared.ty.Type.{«Type»}
 use Rattle.wgsl_core.specs.declared.error.Fail.{Fail}
 use Rattle.wgsl_core.specs.declared.error.Fail.TheVariants as fails
-use Rattle.wgsl_calls.specs.Constructors.{AllConverted}
+use Rattle.wgsl_calls.specs.internal.Constructors.{AllConverted}
 
 -- arrays: the elements are checked
 pub of_elements : (args : List «Type») (n : Option ℕ) (k : ℕ) (t e : WgslType) → 1 ≤ length args → n ≡ Some k → e ≡ t → (r : Result (Unit {0}) Fail) →

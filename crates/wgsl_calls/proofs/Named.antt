@@ -13,7 +13,7 @@ use Rattle.wgsl_core.specs.Answer.{refusal, AnswersAs, IsAnswered}
 use Rattle.wgsl_core.specs.declared.ty.Type.{«Type»}
 use Rattle.wgsl_core.specs.declared.error.Fail.{Fail}
 use Rattle.wgsl_core.specs.declared.error.Fail.TheVariants as fails
-use Rattle.wgsl_calls.specs.Answers.{MayBeOutOfMemory, IsMet, Answered}
+use Rattle.wgsl_calls.specs.internal.Answers.{MayBeOutOfMemory, IsMet, Answered}
 use Rattle.wgsl_calls.proofs.OutOfMemory.{by_answer, by_other}
 
 pub by_name : (c : Signature) (rows : List Row) (p : Option (List Parameter)) (r : Result (Option «Type») Fail) → rows ≡ rows_named c.name call_table → Answered (IsAnswerOf rows c) p r →

@@ -16,7 +16,7 @@ use Rattle.wgsl_rules.specs.calls.Answers.{IsAnswerOf}
 use Rattle.wgsl_core.specs.declared.ty.Type.{«Type»}
 use Rattle.wgsl_core.specs.declared.error.Fail.{Fail}
 use Rattle.wgsl_core.specs.declared.error.Fail.TheVariants as fails
-use Rattle.wgsl_calls.specs.Answers.{IsMet, Answered}
+use Rattle.wgsl_calls.specs.internal.Answers.{IsMet, Answered}
 
 abbrev Answer : Type 0
 Answer = Result (Option WgslType) Refusal

@@ -1,4 +1,2 @@
 pub mod Templates
-pub mod Constructors
-pub mod Rows
-pub mod Answers
+pub mod internal

@@ -9,7 +9,7 @@ ghost use Rattle.wgsl_rules.specs.constructors.Constructors.{constructor_of, IsC
 ghost use Rattle.wgsl_core.specs.View.{view};
 ghost use Rattle.wgsl_core.specs.Instances.{call_view};
 ghost use Rattle.wgsl_core.specs.Answer.{AnswersBy, refusal};
-ghost use Rattle.wgsl_calls.specs.Constructors.{constructor_view, IsStuckAt};
+ghost use Rattle.wgsl_calls.specs.internal.Constructors.{constructor_view, IsStuckAt};
 
 mod array;
 mod matrix;

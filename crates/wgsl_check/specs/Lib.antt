@@ -2,4 +2,4 @@ pub mod Output
 pub mod Session
 pub mod Status
 pub mod Words
-pub mod Taken
+pub mod internal

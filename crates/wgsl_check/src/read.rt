@@ -1,5 +1,5 @@
 // The types that words stand for.
-ghost use Rattle.wgsl_check.specs.Taken.{GoesOn};
+ghost use Rattle.wgsl_check.specs.internal.Taken.{GoesOn};
 
 use crate::words::{Unread, Words};
 use std::alloc::{AllocError, Global};

@@ -45,7 +45,7 @@ pub struct Words<'w, 't> {
 }
 
 impl<'w, 't> Words<'w, 't> {
-    ghost use Rattle.wgsl_check.specs.Taken.{GoesOn};
+    ghost use Rattle.wgsl_check.specs.internal.Taken.{GoesOn};
 
     pub fn new(all: &'w [&'t str]) -> Words<'w, 't> {
         Words { all, taken: 0 }

@@ -2,7 +2,7 @@
 use Rattle.std.proofs.Common.{◌≡◌, ◌↔◌, ℕ, suc, List, [], ◌∷◌, length, map, IsTrue, false, refl, sym, ap, ◌∙◌}
 use Rattle.std.proofs.lemmas.List.{length-map}
 use Rattle.wgsl_rules.specs.types.Types.{Members, no_members, member}
-use Rattle.wgsl_core.specs.View.{members_view}
+use Rattle.wgsl_core.specs.internal.View.{members_view}
 use Rattle.wgsl_core.specs.declared.ty.StructMemberType.{StructMemberType}
 
 pub never : {P : Type 0} → (P → ⊥) → IsTrue false ↔ P

@@ -13,8 +13,10 @@ use Rattle.wgsl_rules.proofs.layout.Steps.{times, stride, array_size, vector_ali
 use Rattle.wgsl_rules.proofs.layout.StructSizes.{SizeSoFar, size_starts, size_stops, size_goes_on, size_ends, struct_size, struct_lacks}
 use Rattle.wgsl_rules.proofs.layout.StructAligns.{AlignSoFar, align_starts, align_stops, align_goes_on, align_ends, struct_align, sized_is_aligned}
 use Rattle.wgsl_rules.proofs.layout.Offsets.{PlacedSoFar, none_placed, NextMember, next_member, all_placed}
-use Rattle.wgsl_core.specs.View.{Member, member_view, struct_view, members_view}
-use Rattle.wgsl_core.specs.Layout.{IsValue, IsSoonestEnd, IsMeasure, HasSomeSize, ArePlaced, layouts_of, offsets_of}
+use Rattle.wgsl_core.specs.View.{Member, member_view, struct_view}
+use Rattle.wgsl_core.specs.internal.View.{members_view}
+use Rattle.wgsl_core.specs.Layout.{layouts_of, offsets_of}
+use Rattle.wgsl_core.specs.internal.Layout.{IsMeasure, IsValue, IsSoonestEnd, HasSomeSize, ArePlaced}
 use Rattle.wgsl_core.specs.declared.layout.Measure.{Measure}
 use Rattle.wgsl_core.specs.declared.layout.PlacedMember.{PlacedMember}
 use Rattle.wgsl_core.specs.Forms.{form_view}

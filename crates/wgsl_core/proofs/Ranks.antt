@@ -9,7 +9,7 @@ use Rattle.wgsl_syntax.specs.declared.result_struct.ResultStruct.{ResultStruct}
 use Rattle.wgsl_rules.specs.types.Types.{Layer, WgslType, struct, within, reference, Members}
 use Rattle.wgsl_rules.specs.types.ResultStructs.{result_struct}
 use Rattle.wgsl_rules.specs.conversion.Conversion.{Converts, ConvertsIn, ConvertsTo, Load, load}
-use Rattle.wgsl_rules.specs.conversion.Nodes.{Node, at_scalar, at_result, type_at}
+use Rattle.wgsl_rules.specs.internal.Nodes.{Node, at_scalar, at_result, type_at}
 use Rattle.wgsl_rules.proofs.conversion.Walks.{type_at_once, HaveEqualLayers, converts_places, load_bare}
 use Rattle.wgsl_rules.proofs.conversion.Order.{load_readable}
 use Rattle.wgsl_syntax.specs.Address.{MayRead}

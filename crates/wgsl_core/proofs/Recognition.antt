@@ -10,11 +10,13 @@ use Rattle.wgsl_syntax.specs.declared.result_struct.ResultStruct.{ResultStruct}
 use Rattle.wgsl_syntax.specs.ResultStruct.{result_name, function_text, shape_text, precision_text}
 use Rattle.wgsl_rules.specs.types.Types.{WgslType, scalar, struct, vec, Members, no_members, member}
 use Rattle.wgsl_rules.specs.types.ResultStructs.{shaped, float_of, result_struct, result_members}
-use Rattle.wgsl_rules.specs.conversion.Nodes.{Node, at_scalar, at_result}
+use Rattle.wgsl_rules.specs.internal.Nodes.{Node, at_scalar, at_result}
 use Rattle.wgsl_rules.proofs.conversion.Walks.{type_at_once}
-use Rattle.wgsl_core.specs.View.{Member, view, struct_view, member_view, members_view}
+use Rattle.wgsl_core.specs.View.{Member, view, struct_view, member_view}
+use Rattle.wgsl_core.specs.internal.View.{members_view}
 use Rattle.wgsl_core.specs.Forms.{scalar_of}
-use Rattle.wgsl_core.specs.ResultStruct.{struct_type, result_type, plain, second_member, IsResult, shape_in, function_at}
+use Rattle.wgsl_core.specs.ResultStruct.{struct_type, result_type, plain}
+use Rattle.wgsl_core.specs.internal.ResultStruct.{second_member, IsResult, shape_in, function_at}
 use Rattle.wgsl_core.specs.declared.ty.Type.{the_lemmas}
 use Rattle.wgsl_core.specs.declared.ty.StructType.{StructType, out-StructType}
 use Rattle.wgsl_core.specs.declared.ty.StructMemberType.{StructMemberType, out-StructMemberType}

@@ -20,7 +20,7 @@ use Rattle.wgsl_core.specs.declared.ty.Type.{«Type»}
 use Rattle.wgsl_core.specs.Forms.{form_view}
 use Rattle.wgsl_core.specs.declared.ty.form.Form.{Form}
 use Rattle.wgsl_core.specs.declared.ty.form.Form.TheVariants as forms
-use Rattle.wgsl_core.specs.Resolution.{in_layers, IsInLayers, compared_at, shifted_at}
+use Rattle.wgsl_core.specs.internal.Resolution.{in_layers, IsInLayers, compared_at, shifted_at}
 
 -- neither a scalar nor a vector nor a matrix
 abbrev pub IsNoOperand : WgslType → Type 0

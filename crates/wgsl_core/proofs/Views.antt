@@ -9,7 +9,8 @@ use Rattle.wgsl_rules.specs.types.Types.{WgslType, struct, atomic, pointer, refe
 use Rattle.wgsl_rules.specs.types.Kinds.{IsStruct, IsArray, IsVector, IsMatrix, IsAtomic}
 use Rattle.wgsl_rules.specs.conversion.Loading.{IsReference}
 use Rattle.wgsl_rules.proofs.operators.Unary.{IsPointer}
-use Rattle.wgsl_core.specs.View.{Member, Struct, view, members_view, type_step, member_step, struct_step}
+use Rattle.wgsl_core.specs.View.{Member, Struct, view, type_step, member_step, struct_step}
+use Rattle.wgsl_core.specs.internal.View.{members_view}
 use Rattle.wgsl_core.specs.declared.ty.Type.{«Type», the_lemmas, out-Type, roll-Type, roll-out-Type, fold-roll-Type}
 use Rattle.wgsl_core.specs.declared.ty.Type.TheOpen.{Type-F}
 use Rattle.wgsl_core.specs.declared.ty.Type.TheVariants as v

@@ -25,10 +25,10 @@ unfolding converted
 converted_has_type x t y h = (subst (λ r. IsConverted (view x) t r) h (what_converted (view x) t).1).1
 
 -- and so has a type with something beside it, which stays
-pub paired_has_type : {A : Type 0} (a b : A) (x y : «Type») (t : WgslType) → option_map (λ u. (u, a)) (converted (view x) t) ≡ Some (view y, b) → view y ≡ t
+pub paired_has_type : {A : Type 0} (a b : A) (x y : «Type») (t : WgslType) → option_map {U = WgslType × A} (λ u. (u, a)) (converted (view x) t) ≡ Some (view y, b) → view y ≡ t
 paired_has_type {A} a b x y t h = at (converted (view x) t) refl h
   where
-    at : (o : Option WgslType) → converted (view x) t ≡ o → option_map (λ u. (u, a)) o ≡ Some (view y, b) → view y ≡ t
+    at : (o : Option WgslType) → converted (view x) t ≡ o → option_map {U = WgslType × A} (λ u. (u, a)) o ≡ Some (view y, b) → view y ≡ t
     at None e h = absurd (cc h)
     at (Some u) e h =
         let k : (u, a) ≡ (view y, b) = cc h in

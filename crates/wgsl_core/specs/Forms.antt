@@ -1,5 +1,5 @@
 -- What a form says of a type, and the scalar and the layer of a type.
-use Rattle.std.specs.Prelude.{ℕ, suc, Option, Some, None}
+use Rattle.std.specs.Prelude.{Option, Some, None}
 use Rattle.wgsl_syntax.specs.declared.scalar.Scalar.{Scalar}
 use Rattle.wgsl_rules.specs.types.Types.{Layer, WgslType, scalar, within, struct, atomic, pointer, reference, texture, sampler, binding_array, ray_query, acceleration_structure, array, vec, mat}
 use Rattle.wgsl_core.specs.View.{view, struct_view}
@@ -13,11 +13,6 @@ scalar_of t = None
 abbrev pub layer_of : WgslType → Option (Layer × WgslType)
 layer_of (within l t) = Some (l, t)
 layer_of t = None
-
--- how many arrays, vectors and matrices lie around the innermost element
-abbrev pub layers : WgslType → ℕ
-layers (within l t) = suc (layers t)
-layers t = 0
 
 -- the type that a form stands for
 abbrev pub form_view : Form → WgslType

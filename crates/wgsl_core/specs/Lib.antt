@@ -7,5 +7,5 @@ pub mod Converted
 pub mod RefusalEquality
 pub mod ResultStruct
 pub mod Layout
-pub mod Nodes
 pub mod Resolution
+pub mod internal

@@ -1,50 +1,7 @@
--- The candidate that is found, as it will be once it is built.
-use Rattle.std.specs.Prelude.{◌≡◌, Option, Some, None, option_map}
-use Rattle.wgsl_syntax.specs.declared.scalar.Scalar.TheVariants.{Bool, U32}
-use Rattle.wgsl_rules.specs.types.Types.{Layer, WgslType, scalar, within}
-use Rattle.wgsl_rules.specs.types.Kinds.{IsLeaf}
-use Rattle.wgsl_rules.specs.conversion.Common.{IsCommon}
+-- The candidate of the rules that one of the code stands for.
 use Rattle.wgsl_rules.specs.operators.Answers.{BinaryCandidate}
 use Rattle.wgsl_core.specs.View.{view}
 use Rattle.wgsl_core.specs.declared.operators.Candidate.{Candidate}
-use Rattle.wgsl_core.specs.declared.operators.resolve.Element.{Element}
-use Rattle.wgsl_core.specs.declared.operators.resolve.Element.TheVariants as elements
-use Rattle.wgsl_core.specs.declared.operators.resolve.ResolvedType.{ResolvedType}
-use Rattle.wgsl_core.specs.declared.operators.resolve.Resolution.{Resolution}
-
-abbrev pub around : Option Layer → WgslType → WgslType
-around None t = t
-around (Some l) t = within l t
-
-abbrev pub element_view : Element → WgslType
-element_view (elements.Scalar s) = scalar s
-element_view (elements.Type t) = view t.now
-
-abbrev pub resolved_view : ResolvedType → WgslType
-resolved_view p = around (p.layer) (element_view p.element)
-
-abbrev pub resolution_view : Resolution → BinaryCandidate
-resolution_view f = record { lhs = resolved_view f.lhs; rhs = resolved_view f.rhs; result = resolved_view f.result }
 
 abbrev pub candidate_view : Candidate → BinaryCandidate
 candidate_view c = record { lhs = view c.lhs; rhs = view c.rhs; result = view c.result }
-
--- each of its types is a leaf type
-abbrev pub IsLeafCandidate : BinaryCandidate → Type 0
-IsLeafCandidate c = IsLeaf c.lhs × IsLeaf c.rhs × IsLeaf c.result
-
--- a type in each of three layers, where there is one
-abbrev pub in_layers : Option Layer → Option Layer → Option Layer → WgslType → BinaryCandidate
-in_layers l m k t = record { lhs = around l t; rhs = around m t; result = around k t }
-
--- the common type of two types in each of three layers, or none
-abbrev pub IsInLayers : Option Layer → Option Layer → Option Layer → WgslType → WgslType → Option BinaryCandidate → Type 0
-IsInLayers l m k a b r = (c : Option WgslType) × IsCommon a b c × (r ≡ option_map (in_layers l m k) c)
-
--- two operands of a type are compared
-abbrev pub compared_at : WgslType → Option Layer → BinaryCandidate
-compared_at t l = record { lhs = t; rhs = t; result = around l (scalar Bool) }
-
--- a type is shifted by `u32`
-abbrev pub shifted_at : WgslType → Option Layer → BinaryCandidate
-shifted_at t l = record { lhs = t; rhs = around l (scalar U32); result = t }

@@ -1,5 +1,5 @@
 -- The type of the rules that a `Type` stands for.
-use Rattle.std.specs.Prelude.{ℕ, List, [], ◌∷◌, map, Option, string_bytes}
+use Rattle.std.specs.Prelude.{ℕ, List, [], ◌∷◌, Option, string_bytes}
 use Rattle.wgsl_syntax.specs.declared.scalar.Scalar.TheVariants.{Bool, AbstractInt, AbstractFloat, I32, U32, F32, F16, I64, U64, F64}
 use Rattle.wgsl_rules.specs.types.Types.{WgslType, scalar, struct, atomic, pointer, reference, texture, sampler, binding_array, ray_query, acceleration_structure, Members, no_members, member, array, vec, mat}
 use Rattle.wgsl_core.specs.declared.ty.Type.{«Type», fold-Type}
@@ -62,6 +62,3 @@ member_view = fold-StructMemberType WgslType Member Struct type_step member_step
 
 abbrev pub struct_view : StructType → Struct
 struct_view = fold-StructType WgslType Member Struct type_step member_step struct_step
-
-abbrev pub members_view : List StructMemberType → Members
-members_view ms = members_of (map member_view ms)

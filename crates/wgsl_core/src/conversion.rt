@@ -5,10 +5,10 @@ ghost use Rattle.wgsl_rules.specs.types.Types.{scalar, vec};
 ghost use Rattle.wgsl_rules.specs.conversion.Conversion.{Converts, ConvertsIn, ConvertsTo, Load};
 ghost use Rattle.wgsl_rules.specs.conversion.Common.{IsCommon};
 ghost use Rattle.wgsl_rules.specs.Laws.{CommonSymmetric};
-ghost use Rattle.wgsl_rules.specs.conversion.Nodes.{Node as RuleNode, type_at, parent_of, rank_from_root};
+ghost use Rattle.wgsl_rules.specs.internal.Nodes.{Node as RuleNode, type_at, parent_of, rank_from_root};
 ghost use Rattle.wgsl_core.specs.View.{view};
 ghost use Rattle.wgsl_core.specs.Forms.{layer_of};
-ghost use Rattle.wgsl_core.specs.Nodes.{node_view};
+ghost use Rattle.wgsl_core.specs.internal.Nodes.{node_view};
 
 mod concrete;
 pub mod lists;

@@ -5,7 +5,8 @@ ghost use Rattle.wgsl_rules.specs.types.Types.{struct, array, vec, mat};
 ghost use Rattle.wgsl_rules.specs.layout.Layout.{IsAtomicSize, IsTimes, IsStride, IsArraySize, IsAlignOfThree, IsVectorAlign, IsGiven, HasSize, HasAlignment, HasLeastSize, IsStructAlign, HaveAlignments, IsExactly, HasNoSize, LacksSize, AreOffsets};
 ghost use Rattle.wgsl_rules.specs.Headline.{IsLeastPlacedSize};
 ghost use Rattle.wgsl_core.specs.View.{view, struct_view, member_view};
-ghost use Rattle.wgsl_core.specs.Layout.{IsValue, IsSoonestEnd, IsMeasure, IsLayoutOf, HasSomeSize, ArePlaced, offsets_of};
+ghost use Rattle.wgsl_core.specs.Layout.{IsLayoutOf, offsets_of};
+ghost use Rattle.wgsl_core.specs.internal.Layout.{IsMeasure, IsValue, IsSoonestEnd, HasSomeSize, ArePlaced};
 
 use crate::ty::form::Form;
 use crate::ty::{StructMemberType, StructType, Type};

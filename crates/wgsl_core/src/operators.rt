@@ -12,7 +12,8 @@ ghost use Rattle.wgsl_rules.specs.Laws.{OneChoice};
 ghost use Rattle.wgsl_rules.specs.operators.UnaryRows.{IsUnaryRow};
 ghost use Rattle.wgsl_rules.specs.operators.Answers.{IsCandidateAnswer, IsChosenCandidate, IsUnaryAnswer};
 ghost use Rattle.wgsl_core.specs.View.{view};
-ghost use Rattle.wgsl_core.specs.Resolution.{candidate_view, resolution_view, IsLeafCandidate};
+ghost use Rattle.wgsl_core.specs.Resolution.{candidate_view};
+ghost use Rattle.wgsl_core.specs.internal.Resolution.{resolution_view, IsLeafCandidate};
 ghost use Rattle.wgsl_core.specs.Answer.{AnswersAs, AnswersBy, IsAnswered, IsTypeOfBinary, refusal};
 
 pub mod resolve;

@@ -146,7 +146,10 @@ fn make_types(alloc: Global) -> Result<Types, AllocError> {
 }
 
 fn operands(alloc: Global) -> Result<[Type; 4], AllocError> {
-    let vectors = both(Type::vector(alloc, 2, Type::Bool), Type::vector(alloc, 2, Type::I32));
+    let vectors = both(
+        Type::vector(alloc, 2, Type::Bool),
+        Type::vector(alloc, 2, Type::I32),
+    );
     let stored = both(pointer(alloc), reference(alloc, AddressSpace::Function));
     let ((bools, integers), (pointer, reference)) = both(vectors, stored)?;
     Ok([bools, integers, pointer, reference])
@@ -218,7 +221,10 @@ fn single(
 }
 
 fn member(alloc: Global, name: &str) -> Result<StructMemberType, AllocError> {
-    let (name, ty) = both(String::from_str(alloc, name), Type::vector(alloc, 2, Type::U32))?;
+    let (name, ty) = both(
+        String::from_str(alloc, name),
+        Type::vector(alloc, 2, Type::U32),
+    )?;
     Ok(StructMemberType::new(name, ty))
 }
 

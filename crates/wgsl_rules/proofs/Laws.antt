@@ -4,7 +4,8 @@ use Rattle.wgsl_rules.specs.types.Types.{WgslType}
 use Rattle.wgsl_rules.specs.conversion.Conversion.{IsValueType, ConvertsTo}
 use Rattle.wgsl_rules.specs.conversion.Common.{IsLeftCommon}
 use Rattle.wgsl_rules.specs.Headline.{Receives, IsLeastCommon}
-use Rattle.wgsl_rules.specs.Laws.{ConversionOrder, RanksAdd, TargetsComparable, RankNamesTarget, CommonAnyOrder, LeftCommonIsLeast, CommonSymmetric, OneChoice, RowIsChoice, IsCallName, CallRowIsChoice}
+use Rattle.wgsl_rules.specs.Laws.{ConversionOrder, RanksAdd, TargetsComparable, RankNamesTarget, CommonAnyOrder, LeftCommonIsLeast, CommonSymmetric, OneChoice, IsCallName}
+use Rattle.wgsl_rules.specs.internal.Laws.{RowIsChoice, CallRowIsChoice}
 use Rattle.wgsl_rules.proofs.calls.ChosenRows.{call_chosen, call_refused}
 use Rattle.wgsl_rules.proofs.operators.ChosenRows.{two_values, row_chosen, row_refused}
 use Rattle.wgsl_syntax.specs.declared.operator.BinaryOperator.{BinaryOperator}

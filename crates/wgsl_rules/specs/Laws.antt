@@ -1,11 +1,9 @@
 -- The laws that follow from the definitions: of conversion, of common types and of the choice.
-use Rattle.std.specs.Prelude.{ℕ, List, [], ◌∷◌, ◌≡◌, ◌≢◌, ◌+◌, ◌≤◌, ◌⊎◌, ◌↔◌, Option, Some, None}
+use Rattle.std.specs.Prelude.{ℕ, List, [], ◌≡◌, ◌≢◌, ◌+◌, ◌≤◌, ◌⊎◌, ◌↔◌, Option, Some, None}
 use Rattle.wgsl_rules.specs.types.Types.{WgslType}
 use Rattle.wgsl_rules.specs.conversion.Conversion.{Converts, ConvertsTo}
-use Rattle.wgsl_syntax.specs.declared.operator.BinaryOperator.{BinaryOperator}
 use Rattle.wgsl_rules.specs.operators.Candidates.{Name, operator, IsCandidate}
 use Rattle.wgsl_rules.specs.operators.Choice.{Takes}
-use Rattle.wgsl_rules.specs.operators.Rows.{IsRow, IsCallRow}
 use Rattle.wgsl_rules.specs.conversion.Common.{IsCommon, IsLeftCommon}
 use Rattle.wgsl_rules.specs.Headline.{IsLeastCandidate, Receives, IsLeastCommon}
 
@@ -51,16 +49,7 @@ pub record OneChoice (n : Name) (ts : List WgslType) : Type 0 where
   pub one : (us vs : List WgslType) (r s : WgslType) → IsLeastCandidate n ts us r → IsLeastCandidate n ts vs s →
       (us ≡ vs) × (r ≡ s)
 
--- A row is the choice, and without a row no candidate takes the operands.
-pub record RowIsChoice (o : BinaryOperator) (a b : WgslType) : Type 0 where
-  pub chosen : (l r s : WgslType) → IsRow o a b l r s → IsLeastCandidate (operator o) (a ∷ b ∷ []) (l ∷ r ∷ []) s
-  pub refused : ((l r s : WgslType) → ¬ IsRow o a b l r s) → (us : List WgslType) (r : WgslType) → IsCandidate (operator o) us r → ¬ Takes us (a ∷ b ∷ [])
-
 -- The five calls.
 abbrev pub IsCallName : Name → Type 0
 IsCallName (operator o) = ⊥
 IsCallName n = Unit {0}
-
-pub record CallRowIsChoice (n : Name) (ts : List WgslType) : Type 0 where
-  pub chosen : (r : WgslType) → IsCallRow n ts r → (us : List WgslType) × IsLeastCandidate n ts us r
-  pub refused : ((r : WgslType) → ¬ IsCallRow n ts r) → (us : List WgslType) (r : WgslType) → IsCandidate n us r → ¬ Takes us ts

@@ -8,3 +8,4 @@ pub mod templates
 pub mod constructors
 pub mod calls
 pub mod Laws
+pub mod internal

@@ -3,5 +3,4 @@ pub mod Loading
 pub mod Common
 pub mod Lists
 pub mod Concrete
-pub mod Nodes
 pub mod Converted

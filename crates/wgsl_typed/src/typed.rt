@@ -84,7 +84,7 @@ pub fn convert_to_common(alloc: Global, values: &[Typed]) -> Result<Option<Vec<T
     ensures value { IfOk result (λ r. (c : Option WgslType)
         × IsLeftCommon (map (λ x. view x.ty) values.now) c
         × (option_map (λ v. map typed v.items) r
-            ≡ option_and_then (λ t. all_to typed_to t values.now) c)) }
+        ≡ option_and_then (λ t. all_to typed_to t values.now) c)) }
     ensures lines { IfOk result (λ r. IfSome r (λ v.
         map (λ x. x.line) v.items ≡ map (λ x. x.line) values.now)) }
     ensures one_type { IfOk result (λ r. IfSome r (λ v.

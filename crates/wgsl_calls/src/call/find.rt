@@ -3,7 +3,7 @@ ghost use Rattle.std.specs.Prelude.{◌≡◌, ◌↔◌, ◌≤◌, ℕ, Some, 
 ghost use Rattle.wgsl_rules.specs.calls.Names.{IsNameAt, IsRising, call_names};
 ghost use Rattle.wgsl_rules.specs.calls.Table.{call_table, rows_named};
 ghost use Rattle.wgsl_rules.specs.calls.Answers.{NamesMatchTable};
-ghost use Rattle.wgsl_calls.specs.Rows.{found_rows};
+ghost use Rattle.wgsl_calls.specs.internal.Rows.{found_rows};
 
 use crate::call::rows::Rows;
 use crate::call::table::built_ins;

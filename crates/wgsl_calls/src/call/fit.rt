@@ -2,7 +2,7 @@
 ghost use Rattle.std.specs.Prelude.{◌≡◌, ◌↔◌, IsTrue, IsSome, None, length, map};
 ghost use Rattle.wgsl_rules.specs.calls.Rows.{shapes_of, AllAre, BeginAs, HaveSameAbstractness, HaveEqualLengths, Holds, Fits};
 ghost use Rattle.wgsl_core.specs.View.{view};
-ghost use Rattle.wgsl_calls.specs.Answers.{signature_of, template_of};
+ghost use Rattle.wgsl_calls.specs.internal.Answers.{signature_of, template_of};
 
 use crate::call::shape::is;
 use wgsl_core::signature::TpltParam;

@@ -6,7 +6,7 @@ ghost use Rattle.wgsl_rules.specs.types.Inner.{inner_of};
 ghost use Rattle.wgsl_rules.specs.calls.ResultTypes.{transposed_of, size_type};
 ghost use Rattle.wgsl_rules.specs.calls.Rows.{IsSource, IsCommonOf, texture_in, sampled_in, channel_in, vector_like};
 ghost use Rattle.wgsl_core.specs.View.{view};
-ghost use Rattle.wgsl_core.specs.Resolution.{element_view, resolved_view};
+ghost use Rattle.wgsl_core.specs.internal.Resolution.{element_view, resolved_view};
 
 use wgsl_core::conversion::convert_ty;
 use wgsl_core::operators::resolve::{Element, ResolvedType};

@@ -2,7 +2,7 @@
 ghost use Rattle.std.specs.Prelude.{◌≡◌, map, length};
 ghost use Rattle.wgsl_rules.specs.calls.Names.{call_names};
 ghost use Rattle.wgsl_rules.specs.calls.Table.{call_table, rows_named};
-ghost use Rattle.wgsl_calls.specs.Rows.{rows_view};
+ghost use Rattle.wgsl_calls.specs.internal.Rows.{rows_view};
 
 use crate::call::rows::Rows::{Either, Only};
 use crate::call::rows::{

@@ -6,7 +6,7 @@ ghost use Rattle.wgsl_rules.specs.constructors.Constructors.{IsTypedArray, IsArr
 ghost use Rattle.wgsl_core.specs.View.{view};
 ghost use Rattle.wgsl_core.specs.Instances.{parameter_view};
 ghost use Rattle.wgsl_core.specs.Answer.{AnswersAs, AnswersBy};
-ghost use Rattle.wgsl_calls.specs.Constructors.{AllConverted};
+ghost use Rattle.wgsl_calls.specs.internal.Constructors.{AllConverted};
 ghost use Rattle.wgsl_calls.specs.Templates.{array_view};
 
 use crate::constructor::{first_stuck, refuse_conversion};

@@ -1,9 +1,10 @@
 // Constructors of structs.
 ghost use Rattle.std.specs.Prelude.{◌≡◌, Err, None, Ok, length, map, option_map};
 ghost use Rattle.wgsl_rules.specs.constructors.Constructors.{IsFilled, IsStructCall};
-ghost use Rattle.wgsl_core.specs.View.{view, members_view, struct_view};
+ghost use Rattle.wgsl_core.specs.View.{view, struct_view};
+ghost use Rattle.wgsl_core.specs.internal.View.{members_view};
 ghost use Rattle.wgsl_core.specs.Answer.{AnswersAs, IsAnswered};
-ghost use Rattle.wgsl_calls.specs.Constructors.{IsMisfitAt};
+ghost use Rattle.wgsl_calls.specs.internal.Constructors.{IsMisfitAt};
 
 use crate::constructor::{refuse_count, refuse_parameter};
 use std::alloc::Global;

@@ -4,7 +4,8 @@ ghost use Rattle.wgsl_syntax.specs.Names.{named};
 ghost use Rattle.wgsl_rules.specs.templates.Templates.{format_of, sampled_parameter, storage_parameters, texture_names, texture_template};
 ghost use Rattle.wgsl_core.specs.Instances.{parameter_view};
 ghost use Rattle.wgsl_core.specs.Answer.{AnswersAs, Gives};
-ghost use Rattle.wgsl_calls.specs.Templates.{texture_view, sampled_view, storage_view, name_view};
+ghost use Rattle.wgsl_calls.specs.Templates.{texture_view};
+ghost use Rattle.wgsl_calls.specs.internal.Templates.{sampled_view, storage_view, name_view};
 
 use crate::template::ptr::access_mode;
 use std::alloc::Global;

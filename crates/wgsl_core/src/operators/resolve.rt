@@ -8,7 +8,7 @@ ghost use Rattle.wgsl_rules.specs.conversion.Conversion.{ConvertsTo};
 ghost use Rattle.wgsl_rules.specs.operators.Candidates.{IsArithmetic, IsSum, IsComparison, IsLogical, IsBitwise, IsOrAnd, IsShift};
 ghost use Rattle.wgsl_rules.specs.operators.Answers.{HasCandidate};
 ghost use Rattle.wgsl_core.specs.View.{view};
-ghost use Rattle.wgsl_core.specs.Resolution.{around, resolved_view, resolution_view, IsInLayers, compared_at, shifted_at};
+ghost use Rattle.wgsl_core.specs.internal.Resolution.{around, resolved_view, resolution_view, IsInLayers, compared_at, shifted_at};
 
 use crate::conversion::convert_ty;
 use crate::ty::Type;

@@ -1,7 +1,8 @@
 // Copies of types.
 ghost use Rattle.std.specs.Prelude.{◌≡◌, IfOk, IsOk};
 ghost use Rattle.wgsl_rules.specs.types.Kinds.{IsLeaf};
-ghost use Rattle.wgsl_core.specs.View.{view, struct_view, member_view, members_view};
+ghost use Rattle.wgsl_core.specs.View.{view, struct_view, member_view};
+ghost use Rattle.wgsl_core.specs.internal.View.{members_view};
 
 use crate::ty::{StructMemberType, StructType, Type};
 use std::alloc::{AllocError, Global};

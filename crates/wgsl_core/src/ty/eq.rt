@@ -1,6 +1,7 @@
 // Equality of types.
 ghost use Rattle.std.specs.Prelude.{◌≡◌, ◌↔◌, IsTrue};
-ghost use Rattle.wgsl_core.specs.View.{view, struct_view, member_view, members_view};
+ghost use Rattle.wgsl_core.specs.View.{view, struct_view, member_view};
+ghost use Rattle.wgsl_core.specs.internal.View.{members_view};
 
 use crate::ty::{StructMemberType, StructType, Type};
 use wgsl_syntax::texture::TextureType;

@@ -4,7 +4,8 @@ ghost use Rattle.wgsl_syntax.specs.declared.result_struct.ResultStruct.{ResultSt
 ghost use Rattle.wgsl_rules.specs.types.Types.{scalar, vec};
 ghost use Rattle.wgsl_rules.specs.types.ResultStructs.{shaped, float_of, exponent_of};
 ghost use Rattle.wgsl_core.specs.View.{view, struct_view, member_view};
-ghost use Rattle.wgsl_core.specs.ResultStruct.{plain, IsResult, struct_type, result_type, precision_at, shape_at, shape_in, function_at, second_member};
+ghost use Rattle.wgsl_core.specs.ResultStruct.{plain, struct_type, result_type};
+ghost use Rattle.wgsl_core.specs.internal.ResultStruct.{IsResult, precision_at, shape_at, shape_in, function_at, second_member};
 
 use crate::ty::form::Form;
 use crate::ty::{StructMemberType, StructType, Type};

@@ -8,7 +8,7 @@ use Rattle.wgsl_rules.specs.conversion.Conversion.{IsValueType}
 use Rattle.wgsl_rules.specs.conversion.Common.{IsCommon, IsLeftCommon}
 use Rattle.wgsl_rules.specs.types.Inner.{inner_of}
 use Rattle.wgsl_rules.specs.operators.Candidates.{Name, operator, min, max, clamp, dot, select, IsMinMax}
-use Rattle.wgsl_rules.specs.operators.Rows.{IsCallRow, two_row, clamp_row, dot_row, select_row, select_each_row}
+use Rattle.wgsl_rules.specs.internal.Rows.{IsCallRow, two_row, clamp_row, dot_row, select_row, select_each_row}
 use Rattle.wgsl_rules.specs.Laws.{IsCallName}
 use Rattle.wgsl_rules.specs.types.Signatures.{Parameter, Signature}
 use Rattle.wgsl_rules.specs.errors.Refusals.{Refusal, signature}

@@ -15,7 +15,7 @@ use Rattle.wgsl_rules.specs.operators.Candidates.{Name, min, max, clamp, dot, se
 use Rattle.wgsl_rules.specs.types.Kinds.{IsNumeric, IsNumericOrVector, IsScalarOrVector}
 use Rattle.wgsl_rules.specs.operators.Choice.{HasRanks, Takes}
 use Rattle.wgsl_rules.specs.Headline.{Receives, IsLeastCommon, IsLeastCandidate}
-use Rattle.wgsl_rules.specs.operators.Rows.{IsCallRow, two_row, clamp_row, dot_row, select_row, select_each_row}
+use Rattle.wgsl_rules.specs.internal.Rows.{IsCallRow, two_row, clamp_row, dot_row, select_row, select_each_row}
 use Rattle.wgsl_rules.specs.Laws.{IsCallName}
 use Rattle.wgsl_rules.proofs.conversion.Order.{Above, here, further, above_inside, above_to_within, above_from_within, above_converts, above_values, value_converts}
 use Rattle.wgsl_rules.proofs.conversion.Commons.{value_above, common_join, receives_nil, receives_cons, receives_head, receives_tail, values_head, values_tail, left_common_least, left_common_none, some_left_common, least_common_once}

@@ -12,7 +12,7 @@ use Rattle.wgsl_rules.specs.types.Types.{WgslType, scalar, within, reference}
 use Rattle.wgsl_rules.specs.types.ResultStructs.{float_of, result_struct}
 use Rattle.wgsl_syntax.specs.Address.{MayRead}
 use Rattle.wgsl_rules.specs.conversion.Conversion.{BaseStep, int_to_float, int_to_i32, int_to_u32, int_to_i64, int_to_u64, float_to_f32, float_to_f16, result_to_f32, result_to_f16, Step, base, inside, Path, PathOf, Load, load, load_inside, Converts, ConvertsIn}
-use Rattle.wgsl_rules.specs.conversion.Nodes.{Node, at_scalar, at_result, type_at, parent_of, rank_from_root}
+use Rattle.wgsl_rules.specs.internal.Nodes.{Node, at_scalar, at_result, type_at, parent_of, rank_from_root}
 use Rattle.wgsl_rules.proofs.conversion.Steps.{float_depth, depth, depth-result_struct, height, height_small, step_height, function_of, function_of-result_struct, shape_of, shape_of-result_struct, precision_at, IsLeaf, result_leaf}
 use Rattle.wgsl_rules.proofs.conversion.Order.{Above, here, further, above_to_within, along_above}
 use Rattle.wgsl_rules.proofs.conversion.Counts.{counted_above, above_counted, counted_converts}

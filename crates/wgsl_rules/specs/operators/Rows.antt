@@ -1,15 +1,15 @@
 -- What the binary operators and five of the calls answer, row by row, by the common type of two types (WGSL, "Logical
 -- Expressions" to "Bit Expressions", and "Built-in Functions").
-use Rattle.std.specs.Prelude.{ℕ, List, [], ◌∷◌, Some}
+use Rattle.std.specs.Prelude.{ℕ, Some}
 use Rattle.wgsl_syntax.specs.declared.scalar.Scalar.{Scalar}
 use Rattle.wgsl_syntax.specs.declared.scalar.Scalar.TheVariants.{Bool, U32}
 use Rattle.wgsl_syntax.specs.declared.operator.BinaryOperator.{BinaryOperator}
 use Rattle.wgsl_syntax.specs.declared.operator.BinaryOperator.TheVariants.{Multiplication}
 use Rattle.wgsl_rules.specs.types.Types.{WgslType, scalar, vec, mat}
-use Rattle.wgsl_rules.specs.types.Kinds.{IsInteger, IsNumeric, IsIntegerOrVector, IsNumericOrVector, IsScalarOrVector}
+use Rattle.wgsl_rules.specs.types.Kinds.{IsInteger, IsIntegerOrVector}
 use Rattle.wgsl_rules.specs.conversion.Conversion.{ConvertsTo}
-use Rattle.wgsl_rules.specs.conversion.Common.{IsCommon, IsLeftCommon}
-use Rattle.wgsl_rules.specs.operators.Candidates.{Name, clamp, dot, select, IsMinMax, IsArithmetic, IsSum, IsComparison, IsLogical, IsBitwise, IsOrAnd, IsShift}
+use Rattle.wgsl_rules.specs.conversion.Common.{IsCommon}
+use Rattle.wgsl_rules.specs.operators.Candidates.{IsArithmetic, IsSum, IsComparison, IsLogical, IsBitwise, IsOrAnd, IsShift}
 
 -- An operator and its two operands; then the two types that they convert to, and the result.
 pub data IsRow : BinaryOperator → WgslType → WgslType → WgslType → WgslType → WgslType → Type 0 where
@@ -78,26 +78,3 @@ pub data IsRow : BinaryOperator → WgslType → WgslType → WgslType → WgslT
   -- vec3<i32> >> vec3<AbstractInt> : vec3<i32>
   shift_vector_row : (o : BinaryOperator) → IsShift o → (n : ℕ) (i : Scalar) → IsInteger i → (t : WgslType) → ConvertsTo t (scalar U32) →
       IsRow o (vec n (scalar i)) (vec n t) (vec n (scalar i)) (vec n (scalar U32)) (vec n (scalar i))
-
--- One of the five calls, its arguments, and the result.
-pub data IsCallRow : Name → List WgslType → WgslType → Type 0 where
-  -- `min` and `max`: the common type of both arguments
-  -- min(AbstractInt, f32) : f32
-  two_row : (n : Name) → IsMinMax n → (a b c : WgslType) → IsNumericOrVector a → IsCommon a b (Some c) →
-      IsCallRow n (a ∷ b ∷ []) c
-  -- `clamp`: the common type of all three
-  -- clamp(AbstractInt, f32, AbstractFloat) : f32
-  clamp_row : (a b c d : WgslType) → IsNumericOrVector a → IsLeftCommon (a ∷ b ∷ c ∷ []) (Some d) →
-      IsCallRow clamp (a ∷ b ∷ c ∷ []) d
-  -- `dot`: the component of the common type
-  -- dot(vec3<AbstractInt>, vec3<u32>) : u32
-  dot_row : (n : ℕ) (s : Scalar) → IsNumeric s → (b d : WgslType) → IsCommon (vec n (scalar s)) b (Some (vec n d)) →
-      IsCallRow dot (vec n (scalar s) ∷ b ∷ []) d
-  -- `select` by one `bool`: the common type of the first two
-  -- select(AbstractInt, f32, bool) : f32
-  select_row : (a b c : WgslType) → IsScalarOrVector a → IsCommon a b (Some c) →
-      IsCallRow select (a ∷ b ∷ scalar Bool ∷ []) c
-  -- by a vector of `bool`, for vectors
-  -- select(vec2<AbstractInt>, vec2<f32>, vec2<bool>) : vec2<f32>
-  select_each_row : (n m : ℕ) (e b c : WgslType) → IsCommon (vec n e) b (Some c) →
-      IsCallRow select (vec n e ∷ b ∷ vec m (scalar Bool) ∷ []) c

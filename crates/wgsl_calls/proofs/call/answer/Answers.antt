@@ -1,4 +1,4 @@
-use Rattle.wgsl_calls.specs.Answers.{signature_of}
+use Rattle.wgsl_calls.specs.internal.Answers.{signature_of}
 use Rattle.wgsl_calls.proofs.Named.{by_name, unnamed}
 use Rattle.wgsl_calls.proofs.call.answer.Goals as goal
 

@@ -1,7 +1,7 @@
 use Rattle.std.proofs.Common.{refl}
 use Rattle.wgsl_syntax.specs.declared.call.ReturnType.TheVariants.{RayIntersection, HitPositions}
 use Rattle.wgsl_rules.specs.calls.Rows.{IsReturnType}
-use Rattle.wgsl_calls.specs.Answers.{signature_of}
+use Rattle.wgsl_calls.specs.internal.Answers.{signature_of}
 use Rattle.wgsl_calls.proofs.OutOfMemory.{by_answer}
 use Rattle.wgsl_calls.proofs.call.by_return_type.Goals as goal
 

@@ -1,5 +1,5 @@
 use Rattle.std.proofs.Common.{[], ◌∷◌, ◌∙◌, sym}
-use Rattle.wgsl_calls.specs.Answers.{signature_of}
+use Rattle.wgsl_calls.specs.internal.Answers.{signature_of}
 use Rattle.wgsl_calls.proofs.OutOfMemory.{later_row}
 use Rattle.wgsl_calls.proofs.call.by_rows.Goals as goal
 

@@ -5,7 +5,7 @@ use Rattle.wgsl_rules.specs.constructors.Matrices.{IsMatrixCall}
 use Rattle.wgsl_rules.specs.constructors.Constructors.{makes_array, makes_scalar, makes_vector, makes_matrix, IsConstructorAnswer, IsArrayCall, scalar_call}
 use Rattle.wgsl_core.specs.View.{view}
 use Rattle.wgsl_core.specs.Instances.{parameter_view, call_view}
-use Rattle.wgsl_calls.specs.Constructors.{constructor_view}
+use Rattle.wgsl_calls.specs.internal.Constructors.{constructor_view}
 use Rattle.wgsl_calls.proofs.AnswersAs.{answers}
 use Rattle.wgsl_calls.proofs.Constructed.{built}
 use Rattle.wgsl_calls.proofs.constructor.type_ctor.Goals as goal

@@ -1,5 +1,5 @@
 use Rattle.std.proofs.Common.{◌+◌, ◌-◌, ◌*◌, length}
-use Rattle.wgsl_check.specs.Taken.{GoesOn}
+use Rattle.wgsl_check.specs.internal.Taken.{GoesOn}
 use Rattle.wgsl_check.proofs.read.+reading.Given as goal
 
 -- The words that are left: what takes none before it calls another counts one more than that.

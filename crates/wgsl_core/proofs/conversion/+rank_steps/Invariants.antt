@@ -1,5 +1,5 @@
 use Rattle.wgsl_core.specs.View.{view}
-use Rattle.wgsl_core.specs.Forms.{layers}
+use Rattle.wgsl_core.specs.internal.Forms.{layers}
 use Rattle.wgsl_core.proofs.conversion.+rank_steps.Given as goal
 
 abbrev pub decreases-rank_steps : goal.decreases-rank_steps

@@ -1,7 +1,7 @@
 use Rattle.std.proofs.Common.{ℕ}
-use Rattle.wgsl_rules.specs.conversion.Nodes.{rank_from_root}
+use Rattle.wgsl_rules.specs.internal.Nodes.{rank_from_root}
 use Rattle.wgsl_rules.proofs.conversion.Walks.{Ancestor}
-use Rattle.wgsl_core.specs.Nodes.{node_view}
+use Rattle.wgsl_core.specs.internal.Nodes.{node_view}
 use Rattle.wgsl_core.proofs.conversion.walk.Given as goal
 
 -- what was met is as many parents above the target, and the source stands above it, if it does above the target

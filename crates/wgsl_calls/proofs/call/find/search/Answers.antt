@@ -2,7 +2,7 @@ use Rattle.std.proofs.Common.{ℕ, ◌∙◌, arith, sym, refl, List, Bor}
 use Rattle.wgsl_rules.proofs.calls.SortedNames.{found, not_found, few, halved, at_name, below_step, above_step}
 use Rattle.wgsl_rules.proofs.calls.UnlistedNames.{nameless, rows_at}
 use Rattle.wgsl_syntax.specs.declared.call.Row.{Row}
-use Rattle.wgsl_calls.specs.Rows.{rows_view}
+use Rattle.wgsl_calls.specs.internal.Rows.{rows_view}
 use Rattle.wgsl_calls.specs.declared.call.rows.Rows.{Rows}
 use Rattle.wgsl_calls.proofs.call.find.search.Goals as goal
 

@@ -1,5 +1,5 @@
 use Rattle.std.proofs.Common.{◌∙◌, sym, ap, refl, arith}
-use Rattle.wgsl_core.specs.ResultStruct.{function_at}
+use Rattle.wgsl_core.specs.internal.ResultStruct.{function_at}
 use Rattle.wgsl_core.proofs.Recognition.{not_two, without_shape, without_function, found, another}
 use Rattle.wgsl_core.proofs.ty.StructType.result_struct.Goals as goal
 

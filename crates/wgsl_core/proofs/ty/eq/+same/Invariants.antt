@@ -1,5 +1,5 @@
 use Rattle.std.proofs.Common.{◌≡◌, ◌↔◌, drop}
-use Rattle.wgsl_core.specs.View.{members_view}
+use Rattle.wgsl_core.specs.internal.View.{members_view}
 use Rattle.wgsl_core.proofs.ty.eq.+same.Given as goal
 
 abbrev pub invariant-same_members-loop-i : goal.invariant-same_members-loop-i

@@ -1,5 +1,5 @@
 -- The nodes of the rules that those of the code stand for.
-use Rattle.wgsl_rules.specs.conversion.Nodes.{Node, at_scalar, at_result}
+use Rattle.wgsl_rules.specs.internal.Nodes.{Node, at_scalar, at_result}
 use Rattle.wgsl_core.specs.declared.conversion.Node.{Node as ConvPlace}
 use Rattle.wgsl_core.specs.declared.conversion.Node.TheVariants as places
 

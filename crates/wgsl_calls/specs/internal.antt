@@ -1,0 +1,4 @@
+pub mod Answers
+pub mod Constructors
+pub mod Rows
+pub mod Templates

@@ -1,0 +1,6 @@
+pub mod Forms
+pub mod Layout
+pub mod Nodes
+pub mod Resolution
+pub mod ResultStruct
+pub mod View
