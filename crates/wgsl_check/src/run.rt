@@ -150,7 +150,8 @@ impl Session {
     /// Writes the answers that were gathered.
     fn write_answers<W: Write>(&mut self, output: &mut W) -> Result<(), RunError>
         ensures written { OnOk result
-            (Appends (W.contents output.old) (W.contents output.new) (string_bytes self.old.answers)) }
+            (Appends (W.contents output.old) (W.contents output.new)
+            (string_bytes self.old.answers)) }
         ensures empty { OnOk result (string_bytes self.new.answers ≡ []) }
         ensures line { self.new.line ≡ self.old.line }
         ensures all_readable { self.new.all_readable ≡ self.old.all_readable }

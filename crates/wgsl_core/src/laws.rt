@@ -12,17 +12,20 @@ use crate::ty::Type;
 /// On value types conversion is a partial order (WGSL, "Conversion Rank").
 #[tactic(auto, using(wgsl_rules::proofs::Laws::order))]
 pub fn conversion_order(a: &Type, b: &Type, c: &Type)
-    ensures { IsValueType (view a.now) → IsValueType (view b.now) → IsValueType (view c.now) → ConversionOrder (view a.now) (view b.now) (view c.now) }
+    ensures { IsValueType (view a.now) → IsValueType (view b.now) → IsValueType (view c.now)
+        → ConversionOrder (view a.now) (view b.now) (view c.now) }
 {}
 
 /// On value types ranks add, and only equal types have rank 0.
 pub fn rank_adds(a: &Type, b: &Type, c: &Type)
-    ensures { IsValueType (view a.now) → IsValueType (view b.now) → RanksAdd (view a.now) (view b.now) (view c.now) }
+    ensures { IsValueType (view a.now) → IsValueType (view b.now)
+        → RanksAdd (view a.now) (view b.now) (view c.now) }
 {}
 
 /// Two value types that convert to one type are comparable.
 pub fn targets_comparable(a: &Type, b: &Type, c: &Type)
-    ensures { IsValueType (view a.now) → IsValueType (view b.now) → TargetsComparable (view a.now) (view b.now) (view c.now) }
+    ensures { IsValueType (view a.now) → IsValueType (view b.now)
+        → TargetsComparable (view a.now) (view b.now) (view c.now) }
 {}
 
 /// Two targets of a value type that it converts to with one rank are equal, and no rank passes 9.
@@ -34,11 +37,14 @@ pub fn rank_names_target(a: &Type, b: &Type, c: &Type)
 /// A list of value types has the same common type in every order.
 #[tactic(auto, using(wgsl_rules::proofs::Laws::any_order))]
 pub fn common_any_order(ts: &[Type], us: &[Type])
-    ensures { IsPermutation (map view ts.now) (map view us.now) → All IsValueType (map view ts.now) → CommonAnyOrder (map view ts.now) (map view us.now) }
+    ensures { IsPermutation (map view ts.now) (map view us.now) → All IsValueType (map view ts.now)
+        → CommonAnyOrder (map view ts.now) (map view us.now) }
 {}
 
 /// A matrix of scalars with at least one row has the size of an array of its columns, or both have none (WGSL,
 /// "Alignment and Size").
 pub fn matrix_columns(element: &Type, columns: u8, rows: u8)
-    ensures { (s : Scalar) → view element.now ≡ scalar s → 0 < rows → (n : ℕ) → HasSize (mat columns rows (view element.now)) n ↔ HasSize (array (Some columns) (vec rows (view element.now))) n }
+    ensures { (s : Scalar) → view element.now ≡ scalar s → 0 < rows → (n : ℕ)
+        → HasSize (mat columns rows (view element.now)) n
+        ↔ HasSize (array (Some columns) (vec rows (view element.now))) n }
 {}

@@ -46,7 +46,8 @@ impl LiteralInstance {
 impl Instance {
     /// Whether the type of the value converts to `ty`.
     pub fn is_convertible_to(&self, ty: &Type) -> bool
-        ensures { IsTrue result ↔ ConvertsTo (scalar (literal_scalar (instance_view self.now))) (view ty.now) }
+        ensures { IsTrue result
+            ↔ ConvertsTo (scalar (literal_scalar (instance_view self.now))) (view ty.now) }
     {
         match self {
             Instance::Literal(literal) => literal.scalar_type().is_convertible_to(ty),

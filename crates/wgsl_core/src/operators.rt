@@ -192,9 +192,11 @@ impl Type {
     /// handle space, `Unary` with the type where it is no reference.
     pub fn op_ref(&self, alloc: Global) -> Result<Type, Fail>
         ensures row { AnswersBy (IsUnaryAnswer AddressOf (view self.now)) result }
-        ensures deref_gives_back { IfOk result (λ p. (t : WgslType) → IsUnaryRow Indirection (view p) t ↔ (t ≡ view self.now)) }
+        ensures deref_gives_back { IfOk result (λ p. (t : WgslType)
+            → IsUnaryRow Indirection (view p) t ↔ (t ≡ view self.now)) }
         ensures never_out_of_memory_on_scalars { IsScalar (view self.now) → IsAnswered result }
-        ensures never_out_of_memory_on_handles { IsInHandleSpace (view self.now) → IsAnswered result }
+        ensures never_out_of_memory_on_handles { IsInHandleSpace (view self.now)
+            → IsAnswered result }
     {
         type_unary_op(alloc, UnaryOperator::AddressOf, self)
     }
@@ -216,10 +218,14 @@ pub fn binary_candidate(
     lhs: &Type,
     rhs: &Type,
 ) -> Result<Candidate, Fail>
-    ensures row { AnswersAs candidate_view (IsCandidateAnswer operator (view lhs.now) (view rhs.now)) result }
-    ensures least { AnswersAs candidate_view (IsChosenCandidate operator (view lhs.now) (view rhs.now)) result }
-    ensures one_choice { IsValueType (view lhs.now) → IsValueType (view rhs.now) → OneChoice (of_operator operator) (view lhs.now ∷ view rhs.now ∷ []) }
-    ensures never_out_of_memory_on_scalars { IsScalar (view lhs.now) → IsScalar (view rhs.now) → IsAnswered result }
+    ensures row { AnswersAs candidate_view
+        (IsCandidateAnswer operator (view lhs.now) (view rhs.now)) result }
+    ensures least { AnswersAs candidate_view
+        (IsChosenCandidate operator (view lhs.now) (view rhs.now)) result }
+    ensures one_choice { IsValueType (view lhs.now) → IsValueType (view rhs.now)
+        → OneChoice (of_operator operator) (view lhs.now ∷ view rhs.now ∷ []) }
+    ensures never_out_of_memory_on_scalars { IsScalar (view lhs.now) → IsScalar (view rhs.now)
+        → IsAnswered result }
 {
     match resolve_operator(operator, lhs, rhs) {
         Some(found) => Ok(build_candidate(alloc, found)?),
@@ -247,7 +253,8 @@ pub fn type_binary_op(
     rhs: &Type,
 ) -> Result<Type, Fail>
     ensures answer { IsTypeOfBinary operator (view lhs.now) (view rhs.now) result }
-    ensures one_choice { IsValueType (view lhs.now) → IsValueType (view rhs.now) → OneChoice (of_operator operator) (view lhs.now ∷ view rhs.now ∷ []) }
+    ensures one_choice { IsValueType (view lhs.now) → IsValueType (view rhs.now)
+        → OneChoice (of_operator operator) (view lhs.now ∷ view rhs.now ∷ []) }
 {
     match resolve_operator(operator, lhs, rhs) {
         Some(found) => Ok(found.result.build(alloc)?),
@@ -274,7 +281,8 @@ fn refuse_binary(
 pub fn type_unary_op(alloc: Global, operator: UnaryOperator, operand: &Type) -> Result<Type, Fail>
     ensures row { AnswersBy (IsUnaryAnswer operator (view operand.now)) result }
     ensures never_out_of_memory_on_scalars { IsScalar (view operand.now) → IsAnswered result }
-    ensures never_out_of_memory_on_handles { operator ≡ AddressOf → IsInHandleSpace (view operand.now) → IsAnswered result }
+    ensures never_out_of_memory_on_handles { operator ≡ AddressOf
+        → IsInHandleSpace (view operand.now) → IsAnswered result }
 {
     match operator {
         UnaryOperator::LogicalNegation => logical_negation(alloc, operand),
@@ -355,7 +363,8 @@ fn is_bool_or_vector(ty: &Type) -> bool
 /// The type itself where that holds, else the refusal of the operator.
 fn own_if(alloc: Global, operator: UnaryOperator, ty: &Type, holds: bool) -> Result<Type, Fail>
     ensures own { IsTrue holds → AnswersBy (λ r. r ≡ Ok (view ty.now)) result }
-    ensures refused { IsFalse holds → AnswersBy (λ r. r ≡ Err (unary operator (view ty.now))) result }
+    ensures refused { IsFalse holds
+        → AnswersBy (λ r. r ≡ Err (unary operator (view ty.now))) result }
     ensures never_out_of_memory { IsLeaf (view ty.now) → IsAnswered result }
 {
     if holds {

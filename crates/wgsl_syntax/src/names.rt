@@ -22,7 +22,8 @@ pub fn texts_name_values()
     ensures enumerants { IsNaming enumerant_text (table enumerant_text enumerants) }
     ensures unary_operators { IsNaming unary_text (table unary_text unary_operators) }
     ensures binary_operators { IsNaming binary_text (table binary_text binary_operators) }
-    ensures assignment_operators { IsNaming assignment_text (table assignment_text assignment_operators) }
+    ensures assignment_operators { IsNaming assignment_text
+        (table assignment_text assignment_operators) }
     ensures scalars { IsNaming scalar_text (table scalar_text scalars) }
     ensures texel_formats { IsNaming texel_text (table texel_text texel_formats) }
     ensures sampled_types { IsNaming sampled_text (table sampled_text sampled_types) }

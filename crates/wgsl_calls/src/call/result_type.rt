@@ -59,7 +59,9 @@ pub fn ray_intersection(alloc: Global) -> Result<Type, AllocError>
 /// Adds the members of an intersection.
 fn push_intersection(members: &mut Vec<StructMemberType>, alloc: Global) -> Result<(), AllocError>
     requires { map member_view members.now.items ≡ [] }
-    ensures { IfOk result (λ u. struct (codes "RayIntersection") (members_of (map member_view members.new.items)) ≡ ray_intersection_struct) }
+    ensures { IfOk result (λ u.
+        struct (codes "RayIntersection") (members_of (map member_view members.new.items))
+        ≡ ray_intersection_struct) }
 {
     push(members, alloc, "kind", Type::U32)?;
     push(members, alloc, "t", Type::F32)?;
@@ -125,7 +127,10 @@ fn pair(
     second_name: &str,
     second: Type,
 ) -> Result<Type, AllocError>
-    ensures { IfOk result (λ t. view t ≡ struct name.now (plain_member first_name.now (view first) (plain_member second_name.now (view second) no_members))) }
+    ensures { IfOk result (λ t. view t
+        ≡ struct name.now
+        (plain_member first_name.now (view first)
+        (plain_member second_name.now (view second) no_members))) }
 {
     let mut members = Vec::new(alloc);
     push(&mut members, alloc, first_name, first)?;
@@ -140,7 +145,8 @@ fn push(
     name: &str,
     ty: Type,
 ) -> Result<(), AllocError>
-    ensures { IfOk result (λ u. map member_view members.new.items ≡ map member_view members.old.items ++ plain name.now (view ty) ∷ []) }
+    ensures { IfOk result (λ u. map member_view members.new.items
+        ≡ map member_view members.old.items ++ plain name.now (view ty) ∷ []) }
 {
     let name = String::from_str(alloc, name)?;
     members.push(StructMemberType::new(name, ty))?;
@@ -149,7 +155,8 @@ fn push(
 
 /// A struct of that name and those members.
 fn struct_of(alloc: Global, name: &str, members: Vec<StructMemberType>) -> Result<Type, AllocError>
-    ensures { IfOk result (λ t. view t ≡ struct name.now (members_of (map member_view members.items))) }
+    ensures { IfOk result (λ t. view t
+        ≡ struct name.now (members_of (map member_view members.items))) }
 {
     let name = String::from_str(alloc, name)?;
     Type::from_struct(alloc, StructType { name, members })

@@ -69,7 +69,8 @@ pub fn inner(ty: Option<&Type>) -> Option<&Type>
 }
 
 fn common<'a>(a: Option<&'a Type>, b: Option<&'a Type>) -> Option<&'a Type>
-    ensures { IsCommonOf (option_map (λ t. view t.now) a.entry) (option_map (λ t. view t.now) b.entry)
+    ensures { IsCommonOf (option_map (λ t. view t.now) a.entry)
+        (option_map (λ t. view t.now) b.entry)
         (option_map (λ t. view t.now) result) }
 {
     match a {
@@ -132,7 +133,8 @@ pub fn in_vector(components: u8, element: Option<Element<'_>>) -> Option<Resolve
 /// A vector of the element, as long as another.
 pub fn as_long<'a>(like: Option<&Type>, element: Option<Element<'a>>) -> Option<ResolvedType<'a>>
     ensures { option_map resolved_view result
-        ≡ option_and_then (λ l. option_and_then (vector_like l) (option_map element_view element.entry))
+        ≡ option_and_then
+        (λ l. option_and_then (vector_like l) (option_map element_view element.entry))
         (option_map (λ t. view t.now) like.entry) }
 {
     match like?.form() {

@@ -19,7 +19,8 @@ use wgsl_core::ty::Type;
 use wgsl_core::ty::clone::boxed_copy;
 
 pub fn array_type(alloc: Global, tplt: Option<&[TpltParam]>, args: &[Type]) -> Result<Type, Fail>
-    ensures { AnswersBy (IsArrayCall (option_map (λ ps. map parameter_view ps.now) tplt.entry) (map view args.now)) result }
+    ensures { AnswersBy (IsArrayCall (option_map (λ ps. map parameter_view ps.now) tplt.entry)
+        (map view args.now)) result }
 {
     match tplt {
         Some(tplt) => typed_array(alloc, tplt, args),
@@ -28,7 +29,8 @@ pub fn array_type(alloc: Global, tplt: Option<&[TpltParam]>, args: &[Type]) -> R
 }
 
 fn typed_array(alloc: Global, tplt: &[TpltParam], args: &[Type]) -> Result<Type, Fail>
-    ensures { AnswersBy (Then (array_template (map parameter_view tplt.now)) (IsTypedArray (map view args.now))) result }
+    ensures { AnswersBy (Then (array_template (map parameter_view tplt.now))
+        (IsTypedArray (map view args.now))) result }
 {
     let template = ArrayTemplate::parse(alloc, tplt)?;
     let made = array_of(alloc, &template, args);
@@ -44,7 +46,8 @@ fn array_of(alloc: Global, template: &ArrayTemplate, args: &[Type]) -> Result<Ty
 }
 
 fn check_elements(alloc: Global, template: &ArrayTemplate, args: &[Type]) -> Result<(), Fail>
-    ensures { AnswersAs (λ u. array_view template.now) (IsTypedArray (map view args.now) (array_view template.now)) result }
+    ensures { AnswersAs (λ u. array_view template.now)
+        (IsTypedArray (map view args.now) (array_view template.now)) result }
 {
     match args {
         [] => Ok(()),

@@ -28,7 +28,8 @@ pub fn matrix_type(
     tplt: Option<&[TpltParam]>,
     args: &[Type],
 ) -> Result<Type, Fail>
-    ensures { AnswersBy (IsMatrixCall name.now c r (option_map (λ ps. map parameter_view ps.now) tplt.entry) (map view args.now)) result }
+    ensures { AnswersBy (IsMatrixCall name.now c r
+        (option_map (λ ps. map parameter_view ps.now) tplt.entry) (map view args.now)) result }
 {
     match tplt {
         Some(tplt) => {
@@ -92,7 +93,8 @@ fn typed_matrix_of_common(
     ty: &Type,
     common: &Type,
 ) -> Result<Type, Fail>
-    ensures { AnswersBy (IsTypedMatrixOf name.now c r number (view ty.now) (view common.now)) result }
+    ensures { AnswersBy (IsTypedMatrixOf name.now c r number (view ty.now) (view common.now))
+        result }
 {
     if !converts_inside(common, ty) {
         return Err(Fail::Error(refuse_conversion(alloc, common.inner(), ty)?));

@@ -22,7 +22,9 @@ pub fn scalar_type(
     tplt: Option<&[TpltParam]>,
     args: &[Type],
 ) -> Result<Type, Fail>
-    ensures { AnswersBy (λ r. r ≡ scalar_call of (option_map (λ ps. map parameter_view ps.now) tplt.entry) (map view args.now) (signature (call_view name.now tplt.entry args.now))) result }
+    ensures { AnswersBy (λ r. r
+        ≡ scalar_call of (option_map (λ ps. map parameter_view ps.now) tplt.entry)
+        (map view args.now) (signature (call_view name.now tplt.entry args.now))) result }
 {
     if tplt.is_none() && are_none_or_scalar(args) {
         Ok(Type::from(of))
@@ -33,7 +35,8 @@ pub fn scalar_type(
 
 fn are_none_or_scalar(args: &[Type]) -> bool
     ensures { (s : Scalar) → (refused : Refusal) →
-        scalar_call s None (map view args.now) refused ≡ (if result then Ok (scalar s) else Err refused) }
+        scalar_call s None (map view args.now) refused
+        ≡ (if result then Ok (scalar s) else Err refused) }
 {
     match args {
         [] => true,

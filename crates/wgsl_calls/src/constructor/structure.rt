@@ -15,8 +15,11 @@ use wgsl_core::ty::{StructMemberType, StructType, Type};
 /// type. Else `ParamCount` names the struct with the number of its members and the given one, and `ParamType` the first
 /// member's type whose argument doesn't convert to it, and that argument.
 pub fn typecheck_struct_ctor(alloc: Global, s: &StructType, args: &[Type]) -> Result<(), Fail>
-    ensures row { AnswersAs (λ u. u) (IsStructCall (struct_view s.now).name (struct_view s.now).members (map view args.now)) result }
-    ensures never_out_of_memory { IsStructCall (struct_view s.now).name (struct_view s.now).members (map view args.now) (Ok tt) → IsAnswered result }
+    ensures row { AnswersAs (λ u. u)
+        (IsStructCall (struct_view s.now).name (struct_view s.now).members (map view args.now))
+        result }
+    ensures never_out_of_memory { IsStructCall (struct_view s.now).name (struct_view s.now).members
+        (map view args.now) (Ok tt) → IsAnswered result }
 {
     match args {
         [] => Ok(()),
@@ -25,8 +28,10 @@ pub fn typecheck_struct_ctor(alloc: Global, s: &StructType, args: &[Type]) -> Re
 }
 
 fn check_members(alloc: Global, s: &StructType, args: &[Type]) -> Result<(), Fail>
-    ensures row { AnswersAs (λ u. u) (IsFilled (struct_view s.now).name (struct_view s.now).members (map view args.now)) result }
-    ensures never_out_of_memory { IsFilled (struct_view s.now).name (struct_view s.now).members (map view args.now) (Ok tt) → IsAnswered result }
+    ensures row { AnswersAs (λ u. u)
+        (IsFilled (struct_view s.now).name (struct_view s.now).members (map view args.now)) result }
+    ensures never_out_of_memory { IsFilled (struct_view s.now).name (struct_view s.now).members
+        (map view args.now) (Ok tt) → IsAnswered result }
 {
     let members = s.members.as_slice();
     if members.len() != args.len() {
@@ -43,7 +48,8 @@ fn first_misfit<'a>(
     args: &'a [Type],
 ) -> Option<(&'a StructMemberType, &'a Type)>
     ensures { length members.now ≡ length args.now →
-        IsMisfitAt (members_view members.now) (map view args.now) (option_map (λ p. (view p.0.now.ty, view p.1.now)) result) }
+        IsMisfitAt (members_view members.now) (map view args.now)
+        (option_map (λ p. (view p.0.now.ty, view p.1.now)) result) }
 {
     for (member, arg) in members.iter().zip(args) {
         if !arg.is_convertible_to(&member.ty) {

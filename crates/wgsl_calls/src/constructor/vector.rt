@@ -30,7 +30,8 @@ pub fn vector_type(
     tplt: Option<&[TpltParam]>,
     args: &[Type],
 ) -> Result<Type, Fail>
-    ensures { AnswersBy (IsVectorCall name.now n (option_map (λ ps. map parameter_view ps.now) tplt.entry) (map view args.now)) result }
+    ensures { AnswersBy (IsVectorCall name.now n
+        (option_map (λ ps. map parameter_view ps.now) tplt.entry) (map view args.now)) result }
 {
     match tplt {
         Some(tplt) => {
@@ -178,7 +179,8 @@ fn components_of(arg: &Type) -> u8
 
 /// The common type of what is inside the arguments.
 fn common_component(args: &[Type]) -> Option<&Type>
-    ensures { IsLeftCommon (map inner_of (map view args.now)) (option_map (λ t. view t.now) result) }
+    ensures { IsLeftCommon (map inner_of (map view args.now))
+        (option_map (λ t. view t.now) result) }
 {
     let (first, rest) = args.split_first()?;
     let mut common = first.inner();

@@ -33,7 +33,8 @@ impl ArrayTemplate {
 
     /// One type, or a type and a literal: else `TemplateArgs`. A literal that isn't a whole number above 0 is `Builtin`.
     pub fn parse(alloc: Global, tplt: &[TpltParam]) -> Result<ArrayTemplate, Fail>
-        ensures { AnswersAs array_view (λ r. r ≡ array_template (map parameter_view tplt.now)) result }
+        ensures { AnswersAs array_view (λ r. r
+            ≡ array_template (map parameter_view tplt.now)) result }
     {
         let (ty, n) = element_and_count(
             alloc,
@@ -76,7 +77,8 @@ pub struct BindingArrayTemplate {
 impl BindingArrayTemplate {
     /// One type, or a type and a literal: else `TemplateArgs`. A literal that isn't a whole number above 0 is `Builtin`.
     pub fn parse(alloc: Global, tplt: &[TpltParam]) -> Result<BindingArrayTemplate, Fail>
-        ensures { AnswersAs binding_array_view (λ r. r ≡ binding_array_template (map parameter_view tplt.now)) result }
+        ensures { AnswersAs binding_array_view (λ r. r
+            ≡ binding_array_template (map parameter_view tplt.now)) result }
     {
         let (ty, n) = element_and_count(
             alloc,
@@ -103,7 +105,8 @@ impl BindingArrayTemplate {
 
     /// The number of elements, where it is given.
     pub fn n(&self) -> Option<usize>
-        ensures { binding_array_view self.now ≡ binding_array result (inner_of (binding_array_view self.now)) }
+        ensures { binding_array_view self.now
+            ≡ binding_array result (inner_of (binding_array_view self.now)) }
     {
         self.n
     }
@@ -115,7 +118,8 @@ fn element_and_count(
     message: &'static str,
     tplt: &[TpltParam],
 ) -> Result<(Type, Option<usize>), Fail>
-    ensures { AnswersAs (λ p. (view p.0, p.1)) (λ r. r ≡ element_and_count_of name.now message.now (map parameter_view tplt.now)) result }
+    ensures { AnswersAs (λ p. (view p.0, p.1)) (λ r. r
+        ≡ element_and_count_of name.now message.now (map parameter_view tplt.now)) result }
 {
     match tplt {
         [TpltParam::Ty(ty)] => Ok((ty.clone(alloc)?, None)),

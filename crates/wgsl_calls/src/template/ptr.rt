@@ -59,7 +59,8 @@ fn pointer_to(
     ty: &Type,
     access: Option<AccessMode>,
 ) -> Result<PtrTemplate, Fail>
-    ensures { AnswersAs ptr_view (IsPointerOf (Some (record { space = space; ty = view ty.now; access = access }))) result }
+    ensures { AnswersAs ptr_view
+        (IsPointerOf (Some (record { space = space; ty = view ty.now; access = access }))) result }
 {
     if !ty.is_storable() {
         return Err(Fail::Error(Error::Builtin("pointer type must be storable")));

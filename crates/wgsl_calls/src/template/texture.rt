@@ -29,7 +29,8 @@ impl TextureTemplate {
     /// anything else `Builtin`. Storage textures take a texel format and an access mode: anything else is `Builtin`, and
     /// so is any other name.
     pub fn parse(alloc: Global, name: &str, tplt: &[TpltParam]) -> Result<TextureTemplate, Fail>
-        ensures { AnswersAs texture_view (λ r. r ≡ texture_template name.now (map parameter_view tplt.now)) result }
+        ensures { AnswersAs texture_view (λ r. r
+            ≡ texture_template name.now (map parameter_view tplt.now)) result }
     {
         let ty = match texture_named(name) {
             Some(TextureName::Sampled(texture)) => texture.of(sampled_type(alloc, tplt)?),

@@ -28,9 +28,11 @@ impl Type {
     pub fn concretize(&self, alloc: Global) -> Result<Type, AllocError>
         ensures row { IfOk result (λ t. view t ≡ concretized (view self.now)) }
         ensures concrete { IfOk result (λ t. ¬ IsAbstract (view t)) }
-        ensures changes_the_abstract { IfOk result (λ t. (view t ≢ view self.now) ↔ IsAbstract (view self.now)) }
+        ensures changes_the_abstract { IfOk result (λ t. (view t ≢ view self.now)
+            ↔ IsAbstract (view self.now)) }
         ensures idempotent { IfOk result (λ t. concretized (view t) ≡ view t) }
-        ensures least { IfOk result (λ t. IsValueType (view self.now) → HasFloatMatrices (view self.now) → IsLeastConcrete (view self.now) (view t)) }
+        ensures least { IfOk result (λ t. IsValueType (view self.now)
+            → HasFloatMatrices (view self.now) → IsLeastConcrete (view self.now) (view t)) }
         ensures never_out_of_memory { IsLeaf (view self.now) → IsOk result }
     {
         let concrete = concrete(alloc, self)?;

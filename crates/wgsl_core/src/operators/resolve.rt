@@ -106,7 +106,8 @@ pub fn resolve_operator<'a>(
 
 /// The short-circuit operators, `||` and `&&`.
 fn logical<'a>(a: &'a Type, b: &'a Type) -> Option<Resolution<'a>>
-    ensures { (o : BinaryOperator) → IsLogical o → HasCandidate o (view a.now) (view b.now) (option_map resolution_view result) }
+    ensures { (o : BinaryOperator) → IsLogical o
+        → HasCandidate o (view a.now) (view b.now) (option_map resolution_view result) }
 {
     if are_bools(a, b) {
         Some(Resolution {
@@ -127,7 +128,8 @@ fn are_bools(a: &Type, b: &Type) -> bool
 
 /// `+`, `-`, `*`, `/` and `%`.
 fn arithmetic<'a>(operator: BinaryOperator, a: &'a Type, b: &'a Type) -> Option<Resolution<'a>>
-    ensures { IsArithmetic operator → HasCandidate operator (view a.now) (view b.now) (option_map resolution_view result) }
+    ensures { IsArithmetic operator
+        → HasCandidate operator (view a.now) (view b.now) (option_map resolution_view result) }
 {
     match a.form() {
         Form::Scalar(_) => match b.form() {
@@ -175,7 +177,9 @@ fn matrix_by<'a>(
     e: &'a Type,
     b: &'a Type,
 ) -> Option<Resolution<'a>>
-    ensures { IsArithmetic operator → HasCandidate operator (mat c r (view e.now)) (view b.now) (option_map resolution_view result) }
+    ensures { IsArithmetic operator
+        → HasCandidate operator (mat c r (view e.now)) (view b.now)
+        (option_map resolution_view result) }
 {
     let lhs = Layer::Mat(c, r);
     match b.form() {
@@ -244,7 +248,8 @@ fn in_layers<'a>(
     a: &'a Type,
     b: &'a Type,
 ) -> Option<Resolution<'a>>
-    ensures { IsInLayers lhs rhs of_result (view a.now) (view b.now) (option_map resolution_view result) }
+    ensures { IsInLayers lhs rhs of_result (view a.now) (view b.now)
+        (option_map resolution_view result) }
 {
     let element = Element::Type(convert_ty(a, b)?);
     Some(Resolution {
@@ -265,7 +270,8 @@ fn in_layers<'a>(
 
 /// `==`, `!=`, `<`, `<=`, `>` and `>=`.
 fn comparison<'a>(a: &'a Type, b: &'a Type) -> Option<Resolution<'a>>
-    ensures { (o : BinaryOperator) → IsComparison o → HasCandidate o (view a.now) (view b.now) (option_map resolution_view result) }
+    ensures { (o : BinaryOperator) → IsComparison o
+        → HasCandidate o (view a.now) (view b.now) (option_map resolution_view result) }
 {
     let common = convert_ty(a, b)?;
     match common.form() {
@@ -288,7 +294,8 @@ fn compared(ty: &Type, layer: Option<Layer>) -> Resolution<'_>
 
 /// `|`, `&` and `^`.
 fn bits<'a>(operator: BinaryOperator, a: &'a Type, b: &'a Type) -> Option<Resolution<'a>>
-    ensures { IsBitwise operator → HasCandidate operator (view a.now) (view b.now) (option_map resolution_view result) }
+    ensures { IsBitwise operator
+        → HasCandidate operator (view a.now) (view b.now) (option_map resolution_view result) }
 {
     let common = convert_ty(a, b)?;
     if has_bits(operator, common) {
@@ -304,7 +311,8 @@ fn bits<'a>(operator: BinaryOperator, a: &'a Type, b: &'a Type) -> Option<Resolu
 
 /// Whether the operator takes the bits of two such types.
 fn has_bits(operator: BinaryOperator, ty: &Type) -> bool
-    ensures { IsTrue result ↔ IsIntegerOrVector (view ty.now) ⊎ (IsOrAnd operator × ((n : ℕ) × (view ty.now ≡ vec n (scalar Bool)))) }
+    ensures { IsTrue result ↔ IsIntegerOrVector (view ty.now)
+        ⊎ (IsOrAnd operator × ((n : ℕ) × (view ty.now ≡ vec n (scalar Bool)))) }
 {
     ty.is_integer_or_vector() || is_of_bools(operator, ty)
 }
@@ -336,7 +344,8 @@ fn is_bool_vector(ty: &Type) -> bool
 
 /// `<<` and `>>`.
 fn shift<'a>(a: &'a Type, b: &'a Type) -> Option<Resolution<'a>>
-    ensures { (o : BinaryOperator) → IsShift o → HasCandidate o (view a.now) (view b.now) (option_map resolution_view result) }
+    ensures { (o : BinaryOperator) → IsShift o
+        → HasCandidate o (view a.now) (view b.now) (option_map resolution_view result) }
 {
     match a.form() {
         Form::Scalar(_) => {
@@ -362,7 +371,8 @@ fn shift<'a>(a: &'a Type, b: &'a Type) -> Option<Resolution<'a>>
 
 /// Whether it is an integer, and the other converts to `u32`.
 fn can_shift(ty: &Type, by: &Type) -> bool
-    ensures { IsTrue result ↔ IsIntegerScalar (view ty.now) × ConvertsTo (view by.now) (scalar U32) }
+    ensures { IsTrue result ↔ IsIntegerScalar (view ty.now)
+        × ConvertsTo (view by.now) (scalar U32) }
 {
     ty.is_integer() && by.is_convertible_to(&Type::U32)
 }

@@ -55,7 +55,8 @@ fn copy_template(
     alloc: Global,
     template: Option<&[TpltParam]>,
 ) -> Result<Option<Vec<TpltParam>>, AllocError>
-    ensures { IfOk result (λ t. option_map (λ ps. map parameter_view ps.items) t ≡ option_map (λ ps. map parameter_view ps.now) template.entry) }
+    ensures { IfOk result (λ t. option_map (λ ps. map parameter_view ps.items) t
+        ≡ option_map (λ ps. map parameter_view ps.now) template.entry) }
 {
     match template {
         Some(parameters) => Ok(Some(copy_parameters(alloc, parameters)?)),

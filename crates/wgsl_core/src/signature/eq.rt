@@ -102,7 +102,9 @@ pub(crate) fn same_signature(a: &CallSignature, b: &CallSignature) -> bool
 }
 
 fn same_template(a: &Option<Vec<TpltParam>>, b: &Option<Vec<TpltParam>>) -> bool
-    ensures { IsTrue result ↔ (option_map (λ ps. map parameter_view ps.items) a.now ≡ option_map (λ ps. map parameter_view ps.items) b.now) }
+    ensures { IsTrue result
+        ↔ (option_map (λ ps. map parameter_view ps.items) a.now
+        ≡ option_map (λ ps. map parameter_view ps.items) b.now) }
 {
     match a {
         Some(parameters) => match b {

@@ -53,7 +53,8 @@ fn named_members(
     alloc: Global,
     pairs: Vec<(&str, Type)>,
 ) -> Result<Vec<StructMemberType>, AllocError>
-    ensures { IfOk result (λ v. map member_view v.items ≡ map (λ m. plain m.0.now (view m.1)) (pairs.entry).items) }
+    ensures { IfOk result (λ v. map member_view v.items
+        ≡ map (λ m. plain m.0.now (view m.1)) (pairs.entry).items) }
 {
     let mut members = Vec::with_capacity(alloc, pairs.len())?;
     for (name, ty) in pairs {

@@ -15,7 +15,8 @@ use wgsl_syntax::scalar::Scalar;
 impl StructType {
     /// Which of the structs that `frexp` and `modf` give it is, in name, members and attributes.
     pub fn result_struct(&self) -> Option<ResultStruct>
-        ensures { (r : ResultName) → (result ≡ Some r) ↔ (struct_type (struct_view self.now) ≡ result_type r) }
+        ensures { (r : ResultName) → (result ≡ Some r)
+            ↔ (struct_type (struct_view self.now) ≡ result_type r) }
     {
         let [first, second] = self.members.as_slice() else {
             return None;
@@ -90,7 +91,8 @@ fn is_result(
     second: &StructMemberType,
     result_struct: ResultStruct,
 ) -> bool
-    ensures { IsTrue result ↔ IsResult name.now (member_view first.now) (member_view second.now) result_struct }
+    ensures { IsTrue result
+        ↔ IsResult name.now (member_view first.now) (member_view second.now) result_struct }
 {
     name == result_struct.name()
         && is_plain(
@@ -103,7 +105,9 @@ fn is_result(
 }
 
 fn is_second(member: &StructMemberType, result_struct: ResultStruct) -> bool
-    ensures { IsTrue result ↔ (member_view member.now ≡ second_member result_struct.function result_struct.shape result_struct.precision) }
+    ensures { IsTrue result
+        ↔ (member_view member.now
+        ≡ second_member result_struct.function result_struct.shape result_struct.precision) }
 {
     match result_struct.function {
         ResultFunction::Frexp => is_plain(
