@@ -91,7 +91,7 @@ pub count_of_members : (ms : List StructMemberType) → member_count (members_vi
 count_of_members [] = refl
 count_of_members (m ∷ ms) = ap suc (count_of_members ms)
 
--- where one doesn't fit, not all do
+-- if one doesn't fit, not all do
 pub misfit_is_no_fit : (ms : Members) (us : List WgslType) (t a : WgslType) → IsFirstMisfit ms us t a → ¬ AllFit ms us
 misfit_is_no_fit no_members us t a h k = h
 misfit_is_no_fit (member name u size align ms) [] t a h k = h

@@ -29,7 +29,7 @@ mat_view t = view t.ty
 abbrev pub ptr_view : PtrTemplate → WgslType
 ptr_view t = pointer t.space (view t.ty) t.access
 
--- the type that a value's bits are taken as
+-- the type that a value's bits are reinterpreted as
 abbrev pub bitcast_view : BitcastTemplate → WgslType
 bitcast_view t = view t.ty
 

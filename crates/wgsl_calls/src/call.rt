@@ -44,8 +44,8 @@ use wgsl_core::ty::result_struct::shaped_float;
 use wgsl_syntax::call::{ReturnType, Row};
 use wgsl_syntax::result_struct::{ResultFunction, ResultStruct};
 
-/// The type of a call of a built-in function (WGSL, "Built-in Functions"), by its name, its template where it has
-/// one, and the types of its arguments; None where it gives no value. `Signature` with all three refuses a call that
+/// The type of a call of a built-in function (WGSL, "Built-in Functions"), by its name, its template if it has
+/// one, and the types of its arguments; None if it gives no value. `Signature` with all three refuses a call that
 /// no row of the table takes, and one whose arguments lack the common type that its row gives; `bitcast` refuses its
 /// template as `BitcastTemplate::parse` does.
 #[tactic(auto, using(crate::proofs::Named::row_answered, crate::proofs::Named::least_answered, wgsl_rules::proofs::Laws::one_choice))]
@@ -74,7 +74,7 @@ pub fn type_builtin_fn(
     )
 }
 
-/// The answer of a call: by the rows under its name, or where there are none the refusal.
+/// The answer of a call: by the rows under its name, or if there are none the refusal.
 pub fn answer(alloc: Global, call: Call<'_>) -> Result<Option<Type>, Fail>
     ensures { Answered (IsCallAnswer (signature_of call.entry)) (template_of call.entry) result }
 {
@@ -166,7 +166,7 @@ fn by_return_type(
     }
 }
 
-/// The type that is found, or where there is none the refusal.
+/// The type that is found, or if there is none the refusal.
 fn given(
     alloc: Global,
     found: Option<ResolvedType<'_>>,
@@ -202,7 +202,7 @@ fn concrete_element(alloc: Global, element: Element<'_>) -> Result<Type, AllocEr
     }
 }
 
-/// The struct that `frexp` or `modf` gives for a type, where it takes that.
+/// The struct that `frexp` or `modf` gives for a type, if it takes that.
 fn split_result(function: ResultFunction, ty: Option<&Type>) -> Option<ResultStruct>
     ensures { IsResultFor function (option_map (λ t. view t.now) ty.entry)
         (option_map result_type result) }

@@ -82,7 +82,7 @@ pub fn is_ctor(name: &str) -> bool
 /// with one that is no scalar. Arrays, vectors and matrices read their template first, if they have one, and refuse
 /// it as its `parse` does. Then they refuse with:
 /// - `TemplateArgs`, arguments of an array whose template has no count;
-/// - `Conversion`, an argument, with the type that it should have been; where a matrix has a template, and no single
+/// - `Conversion`, an argument, with the type that it should have been; if a matrix has a template, and no single
 ///   matrix as its argument, what is inside the arguments' common type, with the template's type;
 /// - `ParamCount`, with the constructor's name, the number that it takes (for vectors: of components) and the number
 ///   of arguments;

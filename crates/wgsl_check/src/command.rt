@@ -12,7 +12,7 @@ use wgsl_types::syntax::{BinaryOperator, UnaryOperator};
 use wgsl_types::tplt::TpltParam;
 use wgsl_types::ty::Type;
 
-/// The answer to the words of the line of this number, or `None` where they are no command.
+/// The answer to the words of the line of this number, or `None` if they are no command.
 pub fn answer(alloc: Global, line: u64, words: &[&str]) -> Result<Option<String>, AllocError> {
     match command(alloc, line, Words::new(words)) {
         Ok(text) => Ok(Some(text)),
@@ -203,7 +203,7 @@ fn size(alloc: Global, types: &[Type]) -> Result<String, Unread> {
     Ok(format!(in alloc; "{size} {align}")?)
 }
 
-/// `offsets T`, where T is a struct: the offset of each member.
+/// `offsets T` for a struct T: the offset of each member.
 fn offsets(alloc: Global, types: &[Type]) -> Result<String, Unread> {
     let [Type::Struct(read)] = types else {
         return Err(Unread::Word);
@@ -214,7 +214,7 @@ fn offsets(alloc: Global, types: &[Type]) -> Result<String, Unread> {
     }
 }
 
-/// `layout T`, where T is a struct: a report of its members and of the whole.
+/// `layout T` for a struct T: a report of its members and of the whole.
 fn layout(alloc: Global, types: &[Type]) -> Result<String, Unread> {
     let [Type::Struct(read)] = types else {
         return Err(Unread::Word);
@@ -231,7 +231,7 @@ fn ctor(alloc: Global, callee: &Callee, types: &[Type]) -> Result<String, Unread
     Ok(type_or_refusal(alloc, made)?)
 }
 
-/// `call NAME P T..`: the type of the call, or why it has none; `no value` where it gives none.
+/// `call NAME P T..`: the type of the call, or why it has none; `no value` if it gives none.
 fn call(alloc: Global, callee: &Callee, types: &[Type]) -> Result<String, Unread> {
     let answer = type_builtin_fn(alloc, callee.name, callee.template.as_deref(), types);
     Ok(value_or_refusal(alloc, answer)?)

@@ -58,9 +58,9 @@ impl Line {
     }
 }
 
-/// The words of a line, or `None` where it is no UTF-8.
+/// The words of a line, or `None` if it is no UTF-8.
 ///
-/// Words are parted by ASCII alone, so a line is UTF-8 where each of its words is.
+/// Words are parted by ASCII alone, so a line is UTF-8 if each of its words is.
 pub fn words(alloc: Global, line: &[u8]) -> Result<Option<Vec<&str>>, AllocError>
     ensures words { IfOk result (λ found. MatchOption found
         (¬ All IsUtf8 (words_of line.now))

@@ -51,7 +51,7 @@ impl Outer {
     }
 }
 
-/// What stands in front of the type that a type is of; `None` where the word begins none of these.
+/// What stands in front of the type that a type is of; `None` if the word begins none of these.
 fn read_outer(word: &str, words: &mut Words) -> Result<Option<Outer>, Unread>
     ensures { GoesOn words.old words.new }
 {

@@ -3,7 +3,7 @@ use std::alloc::{AllocError, Global};
 use wgsl_types::mem::{PlacedMember, StructLayout};
 use wgsl_types::ty::{StructMemberType, StructType};
 
-/// A line for each member and one for the struct, or `None` where it has no layout.
+/// A line for each member and one for the struct, or `None` if it has no layout.
 ///
 /// A line begins with three columns in bytes, a member's with its offset, its size and its alignment, the last with the
 /// size of the whole, a dash and its alignment.

@@ -36,7 +36,7 @@ fn read_parameter(alloc: Global, kind: &str, words: &mut Words) -> Result<TpltPa
     }
 }
 
-/// A literal: `true`, `false`, or a number, with the suffix of its kind where it isn't abstract.
+/// A literal: `true`, `false`, or a number, with the suffix of its kind if it isn't abstract.
 fn literal(word: &str) -> Result<LiteralInstance, Unread> {
     match word {
         "true" => return Ok(LiteralInstance::Bool(true)),

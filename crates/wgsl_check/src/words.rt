@@ -78,7 +78,7 @@ impl<'w, 't> Words<'w, 't> {
         Ok(u8::try_from(self.next_number()?)?)
     }
 
-    /// A number of elements, or `*` where it is not known.
+    /// A number of elements, or `*` if it is not known.
     pub fn next_count(&mut self) -> Result<Option<usize>, Unread>
         ensures { GoesOn self.old self.new }
     {
@@ -89,7 +89,7 @@ impl<'w, 't> Words<'w, 't> {
         Ok(Some(usize::try_from(number(word)?)?))
     }
 
-    /// An attribute of a member in bytes, or `-` where it has none.
+    /// An attribute of a member in bytes, or `-` if it has none.
     pub fn next_attribute(&mut self) -> Result<Option<u32>, Unread>
         ensures { GoesOn self.old self.new }
     {

@@ -22,7 +22,7 @@ answers P x (Ok t) e p = subst P (sym e) p
 answers P x (Err (fails.Error f)) e p = subst P (sym e) p
 answers P x (Err (fails.Memory m)) e p = tt
 
--- the operand's own type where b holds, else the refusal
+-- the operand's own type if b holds, else the refusal
 pub own_or_refused : (P : Result WgslType Refusal → Type 0) {t : WgslType} {e : Refusal} (b : Bool) (r : Result «Type» Fail) →
     (IsTrue b → AnswersBy (λ a. a ≡ Ok t) r) → (IsFalse b → AnswersBy (λ a. a ≡ Err e) r) → (IsTrue b → P (Ok t)) → (¬ IsTrue b → P (Err e)) → AnswersBy P r
 own_or_refused P {t} {e} true r own refused p q = answers P (Ok t) r (own refl) (p refl)

@@ -22,14 +22,14 @@ use wgsl_syntax::layer::Layer;
 use wgsl_syntax::result_struct::{ResultPrecision, ResultStruct};
 use wgsl_syntax::scalar::Scalar;
 
-/// The rank of the conversion from `a` to `b` (WGSL, "Conversion Rank"), or None where `a` doesn't convert to `b`.
+/// The rank of the conversion from `a` to `b` (WGSL, "Conversion Rank"), or None if `a` doesn't convert to `b`.
 pub fn conversion_rank(a: &Type, b: &Type) -> Option<u32>
     ensures { (w : ℕ) → (result ≡ Some w) ↔ Converts (view a.now) (view b.now) w }
 {
     rank_steps(a, b).0
 }
 
-/// The common type of two types (WGSL, "Overload Resolution"): `b` where `a` converts to it, else `a` where `b` converts
+/// The common type of two types (WGSL, "Overload Resolution"): `b` if `a` converts to it, else `a` if `b` converts
 /// to it, else None.
 #[tactic(auto, using(wgsl_rules::proofs::Laws::symmetric))]
 pub fn convert_ty<'a>(a: &'a Type, b: &'a Type) -> Option<&'a Type>
@@ -53,7 +53,7 @@ impl Type {
         conversion_rank(self, ty).is_some()
     }
 
-    /// Whether the type converts to a vector of so many components of a scalar.
+    /// Whether the type converts to the vector with that many components of a scalar.
     pub fn is_convertible_to_vector(&self, components: u8, of: Scalar) -> bool
         ensures { IsTrue result ↔ ConvertsTo (view self.now) (vec components (scalar of)) }
     {

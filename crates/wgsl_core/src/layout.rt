@@ -29,7 +29,7 @@ pub struct PlacedMember {
     pub align: u32,
 }
 
-/// The size and the alignment of a type, where it has them. They come from one walk over the type.
+/// The size and the alignment of a type, if it has them. They come from one walk over the type.
 #[derive(Clone, Copy)]
 struct Measure {
     size: Option<u32>,
@@ -43,7 +43,7 @@ impl Type {
     /// acceleration structure; for a vector of a type without a size; for a matrix without an alignment; for an array
     /// whose number of elements isn't known or passes 4294967295, or whose element has no size, no alignment or the
     /// alignment 0; for a struct without members, or with a member whose size or alignment comes neither from an
-    /// attribute nor from its type, or whose alignment is 0; and where the size, or an array's stride, passes
+    /// attribute nor from its type, or whose alignment is 0; and if the size, or an array's stride, passes
     /// 4294967295.
     pub fn size_of(&self) -> Option<u32>
         ensures exact { IsExactly result (HasSize (view self.now)) }
@@ -55,7 +55,7 @@ impl Type {
     /// The least size in bytes: the stride of a runtime-sized array, and the size of every
     /// other type (WGSL, "Alignment and Size").
     ///
-    /// None where that stride or size is.
+    /// None if that stride or size is.
     pub fn min_size_of(&self) -> Option<u32>
         ensures { IsExactly result (HasLeastSize (view self.now)) }
     {
@@ -72,7 +72,7 @@ impl Type {
     /// acceleration structure; for a vector of three, or a matrix of three rows, whose components are not `i32`, `u32`,
     /// `f32` or `f16`; for any other vector or matrix whose components have no size; for an array of a type without an
     /// alignment; for a struct with a member whose alignment comes neither from an attribute nor from its type; and
-    /// where it passes 4294967295.
+    /// if it passes 4294967295.
     pub fn align_of(&self) -> Option<u32>
         ensures { IsExactly result (HasAlignment (view self.now)) }
     {
@@ -235,8 +235,8 @@ impl StructType {
     /// How the struct lies in memory: each member at the least offset that any placement gives it, and the least size
     /// (WGSL, "Structure Member Layout").
     ///
-    /// None exactly where the struct has no size: where there is no member; where a member's size or alignment comes
-    /// neither from an attribute nor from its type, or its alignment is 0; and where the size passes 4294967295.
+    /// None exactly if the struct has no size: if there is no member; if a member's size or alignment comes
+    /// neither from an attribute nor from its type, or its alignment is 0; and if the size passes 4294967295.
     pub fn layout(&self, alloc: Global) -> Result<Option<StructLayout>, AllocError>
         ensures none { HasNoSize (struct_view self.now).members ↔ (result ≡ Ok None) }
         ensures layout { IfOk result (λ answer.

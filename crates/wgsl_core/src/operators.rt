@@ -37,7 +37,7 @@ pub struct Candidate {
 }
 
 impl Type {
-    /// The type of `!self` (WGSL, "Logical Expressions"): its own where it is `bool` or a vector, else `Unary` with it.
+    /// The type of `!self` (WGSL, "Logical Expressions"): its own if it is `bool` or a vector, else `Unary` with it.
     pub fn op_not(&self, alloc: Global) -> Result<Type, Fail>
         ensures row { AnswersBy (IsUnaryAnswer LogicalNegation (view self.now)) result }
         ensures never_out_of_memory_on_scalars { IsScalar (view self.now) → IsAnswered result }
@@ -59,7 +59,7 @@ impl Type {
         type_binary_op(alloc, BinaryOperator::ShortCircuitAnd, self, rhs)
     }
 
-    /// The type of `-self` (WGSL, "Arithmetic Expressions"): its own where it is a scalar, else `Unary` with it.
+    /// The type of `-self` (WGSL, "Arithmetic Expressions"): its own if it is a scalar, else `Unary` with it.
     pub fn op_neg(&self, alloc: Global) -> Result<Type, Fail>
         ensures row { AnswersBy (IsUnaryAnswer Negation (view self.now)) result }
         ensures never_out_of_memory_on_scalars { IsScalar (view self.now) → IsAnswered result }
@@ -144,7 +144,7 @@ impl Type {
         type_binary_op(alloc, BinaryOperator::GreaterThanEqual, self, rhs)
     }
 
-    /// The type of `~self` (WGSL, "Bit Expressions"): its own where it is an integer or a vector of integers, else `Unary`
+    /// The type of `~self` (WGSL, "Bit Expressions"): its own if it is an integer or a vector of integers, else `Unary`
     /// with it.
     pub fn op_bitnot(&self, alloc: Global) -> Result<Type, Fail>
         ensures row { AnswersBy (IsUnaryAnswer BitwiseComplement (view self.now)) result }
@@ -188,8 +188,8 @@ impl Type {
         type_binary_op(alloc, BinaryOperator::ShiftRight, self, rhs)
     }
 
-    /// The type of `&self` (WGSL, "Address-Of Expression"): the pointer for a reference; `PtrHandle` where that is in the
-    /// handle space, `Unary` with the type where it is no reference.
+    /// The type of `&self` (WGSL, "Address-Of Expression"): the pointer for a reference; `PtrHandle` if that is in the
+    /// handle space, `Unary` with the type if it is no reference.
     pub fn op_ref(&self, alloc: Global) -> Result<Type, Fail>
         ensures row { AnswersBy (IsUnaryAnswer AddressOf (view self.now)) result }
         ensures deref_gives_back { IfOk result (λ p. (t : WgslType)
@@ -360,7 +360,7 @@ fn is_bool_or_vector(ty: &Type) -> bool
     ty.is_bool() || ty.is_vec()
 }
 
-/// The type itself where that holds, else the refusal of the operator.
+/// The type itself if that holds, else the refusal of the operator.
 fn own_if(alloc: Global, operator: UnaryOperator, ty: &Type, holds: bool) -> Result<Type, Fail>
     ensures own { IsTrue holds → AnswersBy (λ r. r ≡ Ok (view ty.now)) result }
     ensures refused { IsFalse holds

@@ -16,7 +16,7 @@ pub enum TpltParam {
     Enumerant(Enumerant),
 }
 
-/// What is called (WGSL, "Function Calls"): its name, its template parameters where it has a template, and the types of
+/// What is called (WGSL, "Function Calls"): its name, its template parameters if it has a template, and the types of
 /// its arguments.
 #[derive(Debug, Drop)]
 pub struct CallSignature {

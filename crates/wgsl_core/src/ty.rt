@@ -36,7 +36,7 @@ pub enum Type {
     F32,
     F16,
     Struct(Box<StructType>),
-    /// The element, and the number of elements where it is known.
+    /// The element, and the number of elements if it is known.
     Array(Box<Type>, Option<usize>),
     /// The number of components, and their type.
     Vec(u8, Box<Type>),
@@ -63,7 +63,7 @@ pub struct StructType {
     pub members: Vec<StructMemberType>,
 }
 
-/// A member of a struct, with its attributes `size` and `align` in bytes, where it has them.
+/// A member of a struct, with its attributes `size` and `align` in bytes, if it has them.
 #[cycle(types)]
 #[derive(Debug, Drop)]
 pub struct StructMemberType {

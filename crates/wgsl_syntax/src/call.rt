@@ -45,7 +45,7 @@ pub enum Shape {
     Fraction,
     /// What converts to the scalar.
     To(Scalar),
-    /// What converts to a vector of so many components.
+    /// What converts to a vector with that many components.
     ToVector(u8, Scalar),
     TextureOf(TextureKind),
     PointerToAtomic,
@@ -92,7 +92,7 @@ pub enum ReturnType {
     Concrete(Source),
     /// A vector of it, as long as the first argument.
     AsLong(Source),
-    /// A vector of so many components.
+    /// A vector with that many components.
     InVector(u8, Source),
     Transposed,
     TextureSize,

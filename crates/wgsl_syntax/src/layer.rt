@@ -4,7 +4,7 @@ ghost use Rattle.std.specs.Prelude.{◌≡◌, ◌↔◌, IsTrue};
 /// What an array, a vector or a matrix is, apart from its element.
 #[derive(Clone, Copy, PartialEq, Eq, Debug)]
 pub enum Layer {
-    /// The number of elements, where it is known.
+    /// The number of elements, if it is known.
     Array(Option<usize>),
     /// The number of components.
     Vec(u8),

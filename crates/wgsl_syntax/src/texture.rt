@@ -120,7 +120,7 @@ impl TextureType {
         }
     }
 
-    /// What the texture is sampled as, where its type says so (WGSL, "Sampled Texture Types").
+    /// What the texture is sampled as, if its type says so (WGSL, "Sampled Texture Types").
     pub fn sampled_type(self) -> Option<SampledType>
         ensures { result ≡ sampled_type self }
     {

@@ -13,7 +13,7 @@ on_line line o = option_map (λ t. (t, line)) o
 abbrev pub typed : Typed → WgslType × ℕ
 typed x = (view x.ty, x.line)
 
--- a type converted to t, on its line; none where it doesn't convert
+-- a type converted to t, on its line; none if it doesn't convert
 abbrev pub typed_to : Typed → WgslType → Option (WgslType × ℕ)
 typed_to x t = on_line x.line (converted (view x.ty) t)
 

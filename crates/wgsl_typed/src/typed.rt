@@ -78,7 +78,7 @@ fn on_line(line: u64, ty: Option<Type>) -> Option<Typed>
     Some(Typed { ty: ty?, line })
 }
 
-/// All of them converted to the common type of their types, in order; None where there is none, as of no types, or one
+/// All of them converted to the common type of their types, in order; None if there is none, as for an empty list, or if one
 /// doesn't convert to it.
 pub fn convert_to_common(alloc: Global, values: &[Typed]) -> Result<Option<Vec<Typed>>, AllocError>
     ensures value { IfOk result (λ r. (c : Option WgslType)

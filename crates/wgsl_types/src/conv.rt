@@ -13,7 +13,7 @@ pub use wgsl_core::conversion::value::Convert;
 pub use wgsl_core::conversion::{conversion_rank, convert_ty, rank_steps};
 use wgsl_core::ty::Type;
 
-/// Both values converted to the common type of their types; None where there is none, or one of them doesn't convert.
+/// Both values converted to the common type of their types; None if there is none, or one of them doesn't convert.
 pub fn convert<T: Convert>(alloc: Global, a: &T, b: &T) -> Result<Option<(T, T)>, AllocError>
 where
     T: Drop,
@@ -29,7 +29,7 @@ where
     both
 }
 
-/// As `convert`, where the type of `a` is at hand.
+/// As `convert`, if the type of `a` is at hand.
 fn convert_with_type<T: Convert>(
     alloc: Global,
     a: &T,
@@ -50,7 +50,7 @@ where
     both
 }
 
-/// Both values converted to a type, where there is one; None where one of them doesn't convert.
+/// Both values converted to a type, if there is one; None if one of them doesn't convert.
 fn convert_both_to<T: Convert>(
     alloc: Global,
     a: &T,
@@ -76,7 +76,7 @@ where
     Ok(Some((x, y)))
 }
 
-/// Both values with what is inside converted to the common type of their inner types; None where there is none, or one of
+/// Both values with what is inside converted to the common type of their inner types; None if there is none, or one of
 /// them doesn't convert.
 pub fn convert_inner<T: Convert, U: Convert>(
     alloc: Global,
@@ -97,7 +97,7 @@ where
     both
 }
 
-/// As `convert_inner`, where the inner type of `a` is at hand.
+/// As `convert_inner`, if the inner type of `a` is at hand.
 fn convert_inner_with_type<T: Convert, U: Convert>(
     alloc: Global,
     a: &T,
@@ -118,7 +118,7 @@ where
     both
 }
 
-/// Both values with what is inside converted to a type, where there is one; None where one of them doesn't convert.
+/// Both values with what is inside converted to a type, if there is one; None if one of them doesn't convert.
 fn convert_both_inner_to<T: Convert, U: Convert>(
     alloc: Global,
     a: &T,
@@ -144,7 +144,7 @@ where
     Ok(Some((x, y)))
 }
 
-/// Every value converted to a type, in order; None where one doesn't convert.
+/// Every value converted to a type, in order; None if one doesn't convert.
 pub fn convert_all_to<T: Convert>(
     alloc: Global,
     values: &[T],
@@ -167,7 +167,7 @@ where
     Ok(Some(converted))
 }
 
-/// Every value with what is inside converted to a type, in order; None where one doesn't convert.
+/// Every value with what is inside converted to a type, in order; None if one doesn't convert.
 pub fn convert_all_inner_to<T: Convert>(
     alloc: Global,
     values: &[T],
@@ -188,7 +188,7 @@ where
     Ok(Some(converted))
 }
 
-/// Every value converted to the common type of their types, in order; None where there is none, as of no values, or one
+/// Every value converted to the common type of their types, in order; None if there is none, also for an empty list, or if one
 /// doesn't convert.
 pub fn convert_all<T: Convert>(alloc: Global, values: &[T]) -> Result<Option<Vec<T>>, AllocError>
 where

@@ -1,4 +1,4 @@
--- What a call in code answers, and where it may be out of memory.
+-- What a call in code answers, and when it may be out of memory.
 use Rattle.std.specs.Prelude.{◌≡◌, List, Option, Some, None, Result, Ok, Err, option_map}
 use Rattle.wgsl_rules.specs.types.Types.{WgslType}
 use Rattle.wgsl_rules.specs.types.Kinds.{IsLeaf}

@@ -14,7 +14,7 @@ constructor_view (kinds.Scalar s) = makes_scalar s
 constructor_view (kinds.Vec n) = makes_vector n
 constructor_view (kinds.Mat c r) = makes_matrix c r
 
--- the first argument that doesn't convert to a type, or none where all convert
+-- the first argument that doesn't convert to a type, or none if all convert
 abbrev pub IsStuckAt : WgslType → List WgslType → Option WgslType → Type 0
 IsStuckAt t ts (Some a) = IsFirstStuck t ts a
 IsStuckAt t ts None = Receives t ts
@@ -24,7 +24,7 @@ abbrev pub AllConverted : WgslType → List WgslType → Result (Unit {0}) Refus
 AllConverted t ts (Ok u) = Receives t ts
 AllConverted t ts (Err e) = (a : WgslType) × IsFirstStuck t ts a × (e ≡ conversion a t)
 
--- the first argument that doesn't convert to its member's type, after that type, or none where all do
+-- the first argument that doesn't convert to its member's type, after that type, or none if all do
 abbrev pub IsMisfitAt : Members → List WgslType → Option (WgslType × WgslType) → Type 0
 IsMisfitAt ms ts (Some p) = IsFirstMisfit ms ts p.0 p.1
 IsMisfitAt ms ts None = AllFit ms ts

@@ -10,7 +10,7 @@ use wgsl_core::ty::Type;
 use wgsl_core::ty::form::Form;
 use wgsl_syntax::call::{Arguments, Condition, Row, Shape};
 
-/// A call: its name, its template parameters where it has a template, and the types of its arguments.
+/// A call: its name, its template parameters if it has a template, and the types of its arguments.
 #[derive(Clone, Copy)]
 pub struct Call<'a> {
     pub name: &'a str,

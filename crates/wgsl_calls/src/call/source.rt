@@ -50,7 +50,7 @@ fn as_element(ty: Option<&Type>) -> Option<Element<'_>>
     }
 }
 
-/// An argument, where there are so many.
+/// The argument at an index, if there is one.
 pub fn argument(args: &[Type], index: usize) -> Option<&Type>
     ensures { option_map (λ t. view t.now) result ≡ slice_get (map view args.now) index }
 {

@@ -153,7 +153,7 @@ fn all_scalars_or_vectors(args: &[Type]) -> bool
     true
 }
 
-/// Whether the arguments bring so many components together.
+/// Whether the arguments have that many components in total.
 fn component_count_is(args: &[Type], n: u8) -> bool
     ensures { IsTrue result ↔ (all_components (map view args.now) ≡ n) }
 {

@@ -15,7 +15,7 @@ use wgsl_core::signature::TpltParam;
 use wgsl_core::ty::Type;
 use wgsl_core::ty::form::Form;
 
-/// The template of `bitcast` (WGSL, "Bit Reinterpretation Built-in Functions"): the type that the bits are taken as.
+/// The template of `bitcast` (WGSL, "Bit Reinterpretation Built-in Functions"): the type that the bits are reinterpreted as.
 #[derive(Drop)]
 pub struct BitcastTemplate {
     ty: Type,

@@ -141,7 +141,7 @@ fn the_empty_name_is_refused(rt: HostRuntime) -> Result<(), Fail> {
     Ok(())
 }
 
-/// What the call answers in words: the type, or without one the refusal of the call as it was given.
+/// What the call answers in words: the type, or else the refusal with the name and arguments of the call.
 fn expect_call(
     rt: &(impl Abort + AllocGlobal),
     name: &str,
@@ -170,7 +170,7 @@ fn wanted_text(
     }
 }
 
-/// The common type of two, where it is a number or a vector of numbers.
+/// The common type of two, if it is a number or a vector of numbers.
 fn common_number<'t>(lhs: &'t Type, rhs: &'t Type) -> Option<&'t Type> {
     let common = convert_ty(lhs, rhs)?;
     match common {
@@ -180,7 +180,7 @@ fn common_number<'t>(lhs: &'t Type, rhs: &'t Type) -> Option<&'t Type> {
     }
 }
 
-/// What the common type of two is a vector of, where that is a number.
+/// The component of the common type of two vectors, if that is a number.
 fn common_component<'t>(lhs: &'t Type, rhs: &'t Type) -> Option<&'t Type> {
     match convert_ty(lhs, rhs)? {
         Type::Vec(_, component) if component.is_numeric() => Some(component),

@@ -168,7 +168,7 @@ fn templates_that_cannot_be_read_make_bad_lines(rt: HostRuntime) -> Result<(), F
     Ok(())
 }
 
-/// `fits` where the struct is made of such arguments, or the message of the refusal.
+/// `fits` if the struct is made of such arguments, or the message of the refusal.
 fn made_of(alloc: Global, made: &Type, args: &[Type]) -> Result<String, Fail> {
     let Type::Struct(made) = made else {
         return Err("no struct".into());

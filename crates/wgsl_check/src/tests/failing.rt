@@ -38,7 +38,7 @@ fn input(alloc: Global) -> Result<String, AllocError> {
     Ok(text)
 }
 
-/// What is printed for so many of the lines.
+/// What is printed for the first lines.
 fn answers(alloc: Global, lines: usize) -> Result<String, AllocError> {
     let mut text = String::new(alloc);
     for (_line, answer) in LINES.iter().take(lines) {
@@ -58,12 +58,12 @@ fn lines_in(input: &[u8]) -> usize {
     lines
 }
 
-/// The first bytes, so many of them.
+/// The first bytes.
 fn first(bytes: &[u8], len: usize) -> &[u8] {
     &bytes[..len.min(bytes.len())]
 }
 
-/// Each of so many reads fails in a run of its own, which writes what was answered before. A run makes no more of them.
+/// Each read fails in a run of its own, which writes what was answered before. A run makes no more reads than that.
 fn expect_reads(
     rt: &(impl Abort + AllocGlobal),
     (most_read, most_written): (usize, usize),
@@ -110,7 +110,7 @@ fn an_interrupted_read_changes_nothing_anywhere(rt: HostRuntime) -> Result<(), F
     Ok(())
 }
 
-/// The write after so many fails: the run wrote a beginning of the answers.
+/// A write fails after that many: the run wrote a beginning of the answers.
 fn expect_cut(
     rt: &(impl Abort + AllocGlobal),
     (most_read, most_written): (usize, usize),
@@ -126,7 +126,7 @@ fn expect_cut(
     assert!(rt; is_beginning && (most_written > 1 || target.taken.len() == before));
 }
 
-/// Each of so many writes fails in a run of its own. A run makes no more of them.
+/// Each write fails in a run of its own. A run makes no more writes than that.
 fn expect_writes(
     rt: &(impl Abort + AllocGlobal),
     (most_read, most_written): (usize, usize),

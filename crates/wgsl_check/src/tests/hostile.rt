@@ -160,7 +160,7 @@ fn strange_types_equal_themselves_alone(rt: HostRuntime) -> Result<(), Fail> {
 /// How many layers stand around a scalar.
 const DEPTH: usize = 300;
 
-/// So many layers around a scalar.
+/// That many layers around a scalar.
 fn nest(alloc: Global, before: &str, scalar: &str, after: &str) -> Result<String, AllocError> {
     let before = before.repeat(alloc, DEPTH)?;
     let after = after.repeat(alloc, DEPTH)?;

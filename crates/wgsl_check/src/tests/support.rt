@@ -157,7 +157,7 @@ pub fn signature(alloc: Global) -> Result<CallSignature, Fail> {
     })
 }
 
-/// The last words, with so many of the first before them.
+/// The last words, with the first before them, repeated.
 pub fn nested(alloc: Global, outer: &str, depth: usize, core: &str) -> Result<String, AllocError> {
     let mut words = String::new(alloc);
     for _ in 0..depth {

@@ -74,7 +74,7 @@ fn matrix(alloc: Global, tplt: &[TpltParam]) -> Result<String, error::Fail> {
     Ok(text?)
 }
 
-/// The type that the bits are taken as, and the type of its components.
+/// The type that the bits are reinterpreted as, and the type of its components.
 fn bitcast_parts(alloc: Global, bitcast: &BitcastTemplate) -> Result<String, AllocError> {
     let component = spelled(alloc, bitcast.inner_ty(alloc)?)?;
     let ty = bitcast.ty();
@@ -166,7 +166,7 @@ fn expect_rows(
     Ok(())
 }
 
-/// The same, where one message answers all.
+/// The same, if one message answers all.
 fn expect_refusal(
     rt: &(impl Abort + AllocGlobal),
     name: &str,

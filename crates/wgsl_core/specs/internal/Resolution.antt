@@ -29,7 +29,7 @@ resolution_view f = record { lhs = resolved_view f.lhs; rhs = resolved_view f.rh
 abbrev pub IsLeafCandidate : BinaryCandidate → Type 0
 IsLeafCandidate c = IsLeaf c.lhs × IsLeaf c.rhs × IsLeaf c.result
 
--- a type in each of three layers, where there is one
+-- a type in each of three layers, if there is one
 abbrev pub in_layers : Option Layer → Option Layer → Option Layer → WgslType → BinaryCandidate
 in_layers l m k t = record { lhs = around l t; rhs = around m t; result = around k t }
 

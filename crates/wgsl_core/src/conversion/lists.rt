@@ -11,7 +11,7 @@ use crate::conversion::convert_ty;
 use crate::ty::Type;
 
 /// The common type of what the iterator gives, taken from left to right (WGSL, "Overload Resolution"): None as soon as two
-/// have none, and where it gives nothing. It asks for the rest only while there is a common type.
+/// have none, and if it gives nothing. It asks for the rest only while there is a common type.
 pub fn convert_all_ty<'a, I: IntoIterator<Item = &'a Type>>(types: I) -> Option<&'a Type>
 where
     I: Drop,

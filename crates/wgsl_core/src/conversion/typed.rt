@@ -17,7 +17,7 @@ pub trait Ty {
     fn ty(&self, alloc: Global) -> Result<Type, AllocError>
         ensures { IfOk result (λ t. view t ≡ type_of self.now) };
 
-    /// The type inside its type, or its type where nothing is inside.
+    /// The type inside its type, or its type if nothing is inside.
     fn inner_ty(&self, alloc: Global) -> Result<Type, AllocError>
         ensures { IfOk result (λ t. view t ≡ inner_type_of self.now) };
 }

@@ -24,16 +24,16 @@ pub trait Convert: Sized + Ty {
 
     ghost concrete: { Self → Option Shown };
 
-    /// The value converted to a type; None where it doesn't convert.
+    /// The value converted to a type; None if it doesn't convert.
     fn convert_to(&self, alloc: Global, ty: &Type) -> Result<Option<Self>, AllocError>
         ensures value { IfOk result (λ y. option_map shown y ≡ to self.now (view ty.now)) };
 
-    /// The value with what is inside converted to a type; None where that doesn't convert. What has no inner type is
+    /// The value with what is inside converted to a type; None if that doesn't convert. What has no inner type is
     /// converted as a whole, as by `convert_to`.
     fn convert_inner_to(&self, alloc: Global, ty: &Type) -> Result<Option<Self>, AllocError>
         ensures value { IfOk result (λ y. option_map shown y ≡ inner_to self.now (view ty.now)) };
 
-    /// The value converted to the concrete type that stands for its type; None where it doesn't convert.
+    /// The value converted to the concrete type that stands for its type; None if it doesn't convert.
     fn concretize(&self, alloc: Global) -> Result<Option<Self>, AllocError>
         ensures value { IfOk result (λ y. option_map shown y ≡ concrete self.now) };
 

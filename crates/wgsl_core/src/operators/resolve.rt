@@ -50,7 +50,7 @@ impl<'a> ResolvedType<'a> {
         }
     }
 
-    /// A scalar, within a layer where there is one.
+    /// A scalar, within a layer if there is one.
     fn of_scalar(layer: Option<Layer>, of: Scalar) -> ResolvedType<'a>
         ensures { resolved_view result ≡ around layer (scalar of) }
     {
@@ -76,7 +76,7 @@ impl<'a> ResolvedType<'a> {
     }
 }
 
-/// The candidate of the operator that is chosen for two operands, where some row takes them.
+/// The candidate of the operator that is chosen for two operands, if some row takes them.
 pub fn resolve_operator<'a>(
     operator: BinaryOperator,
     a: &'a Type,
@@ -217,7 +217,7 @@ fn is_product(operator: BinaryOperator) -> bool
     matches!(operator, BinaryOperator::Multiplication)
 }
 
-/// Whether it is a product that adds up over so many columns on its left and so many rows on its right.
+/// Whether it is a product whose left side has as many columns as its right side has rows.
 fn is_product_over(operator: BinaryOperator, columns: u8, rows: u8) -> bool
     ensures { IsTrue result ↔ (operator ≡ Multiplication) × (columns ≡ rows) }
 {
@@ -240,7 +240,7 @@ fn is_sum(operator: BinaryOperator) -> bool
     )
 }
 
-/// Each operand and the result is the common type of two types, within a layer where it has one.
+/// Each operand and the result is the common type of two types, within a layer if it has one.
 fn in_layers<'a>(
     lhs: Option<Layer>,
     rhs: Option<Layer>,
@@ -281,7 +281,7 @@ fn comparison<'a>(a: &'a Type, b: &'a Type) -> Option<Resolution<'a>>
     }
 }
 
-/// Two operands of one type are compared: the answer is `bool`, in the layer where there is one.
+/// Two operands of one type are compared: the answer is `bool`, in the layer if there is one.
 fn compared(ty: &Type, layer: Option<Layer>) -> Resolution<'_>
     ensures { resolution_view result ≡ compared_at (view ty.now) layer }
 {
@@ -377,7 +377,7 @@ fn can_shift(ty: &Type, by: &Type) -> bool
     ty.is_integer() && by.is_convertible_to(&Type::U32)
 }
 
-/// A type is shifted by `u32`, in the layer where there is one.
+/// A type is shifted by `u32`, in the layer if there is one.
 fn shifted(ty: &Type, layer: Option<Layer>) -> Resolution<'_>
     ensures { resolution_view result ≡ shifted_at (view ty.now) layer }
 {

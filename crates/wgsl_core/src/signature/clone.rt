@@ -23,7 +23,7 @@ impl TpltParam {
 }
 
 impl CallSignature {
-    /// The signature of a call: its name, its template parameters where it has a template, and the types of its arguments.
+    /// The signature of a call: its name, its template parameters if it has a template, and the types of its arguments.
     pub fn of_call(
         alloc: Global,
         name: &str,

@@ -10,21 +10,21 @@ use std::alloc::{AllocError, Global};
 use wgsl_syntax::layer::Layer;
 
 impl Type {
-    /// A vector of so many components (WGSL, "Vector Types").
+    /// A vector with that many components (WGSL, "Vector Types").
     pub fn vector(alloc: Global, components: u8, of: Type) -> Result<Type, AllocError>
         ensures { IfOk result (λ t. view t ≡ vec components (view of)) }
     {
         around(alloc, Layer::Vec(components), of)
     }
 
-    /// A matrix of so many columns and rows (WGSL, "Matrix Types").
+    /// A matrix with that many columns and rows (WGSL, "Matrix Types").
     pub fn matrix(alloc: Global, columns: u8, rows: u8, of: Type) -> Result<Type, AllocError>
         ensures { IfOk result (λ t. view t ≡ mat columns rows (view of)) }
     {
         around(alloc, Layer::Mat(columns, rows), of)
     }
 
-    /// An array (WGSL, "Array Types"); None makes it runtime-sized.
+    /// An array (WGSL, "Array Types"); without a count it is runtime-sized.
     pub fn array(alloc: Global, count: Option<usize>, of: Type) -> Result<Type, AllocError>
         ensures { IfOk result (λ t. view t ≡ array count (view of)) }
     {

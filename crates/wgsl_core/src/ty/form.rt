@@ -17,7 +17,7 @@ use wgsl_syntax::texture::{SamplerType, TextureType};
 #[derive(Clone, Copy)]
 pub enum Form<'a> {
     Scalar(Scalar),
-    /// The number of elements, where it is known, and their type.
+    /// The number of elements, if it is known, and their type.
     Array(Option<usize>, &'a Type),
     /// The number of components, and their type.
     Vector(u8, &'a Type),

@@ -167,7 +167,7 @@ fn has_shape(ty: &Type, shape: ResultShape, of: Scalar) -> bool
     }
 }
 
-/// Whether the type is a vector of so many components of a scalar.
+/// Whether the type is the vector with that many components of a scalar.
 pub fn is_vector_of(ty: &Type, components: u8, of: Scalar) -> bool
     ensures { IsTrue result ↔ (view ty.now ≡ vec components (scalar of)) }
 {

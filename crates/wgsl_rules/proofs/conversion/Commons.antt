@@ -134,7 +134,7 @@ pub left_common_once : (ts : List WgslType) (r s : Option WgslType) → IsLeftCo
 left_common_once [] r s h k = h ∙ sym k
 left_common_once (t ∷ ts) r s h k = left_common_once_from (Some t) ts r s h k
 
--- the left common is the least common type, and none where there is no common type
+-- the left common is the least common type, and none if there is no common type
 pub left_common_least : (ts : List WgslType) (u : WgslType) → All IsValueType ts → IsLeftCommon ts (Some u) → IsLeastCommon u ts
 left_common_least [] u vs h = absurd (no_none h)
   where

@@ -176,7 +176,7 @@ choice_once n ts us vs r s a b =
       ]
     ]
 
--- The answer: the result of the choice, or none where no candidate takes the operands.
+-- The answer: the result of the choice, or none if no candidate takes the operands.
 
 pub chosen_answer : {n : Name} {ts us : List WgslType} {t : WgslType} → IsLeastCandidate n ts us t → IsChosenAnswer n ts (Some t)
 chosen_answer {n} {ts} {us} {t} h = record {
@@ -191,7 +191,7 @@ refused_answer {n} {ts} f = record {
 }
 
 -- For the functions: a family's row, with the common type of what the operands put, gives the choice; without a common
--- type, or where it isn't admitted, no candidate takes the operands; nor where there is no row.
+-- type, or if it isn't admitted, no candidate takes the operands; nor if there is no row.
 
 pub row_choice : (n : Name) (ts es : List WgslType) (f : Form n) (b : WgslType) → All IsValueType ts → All IsValueType es → form_of n (outers ts) ≡ Some f →
     IsPut f.slots ts es → IsLeftCommon es (Some b) → Admits f.kind b → IsLeastCandidate n ts (fill_all f.slots b) (fill f.gives b)

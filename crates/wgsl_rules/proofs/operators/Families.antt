@@ -210,7 +210,7 @@ none_of ss ts es c o vt ve p h r =
     refused [] n ve h g = n refl
     refused (e ∷ es) n ve h g = left_common_none e es ve h c g
 
--- where one member takes the operands, there is the least
+-- if one member takes the operands, there is the least
 pub least_of_taken : (ss : List Slot) (ts : List WgslType) (c : WgslType) → HasOpen ss → All IsValueType ts → Takes (fill_all ss c) ts →
     (b : WgslType) × IsLeastOf ss ts b
 least_of_taken ss ts c o vt r =

@@ -32,7 +32,7 @@ name_of clamp = codes "clamp"
 name_of dot = codes "dot"
 name_of select = codes "select"
 
--- The answer is the result of the choice among the candidates; the call is refused exactly where none takes its arguments.
+-- The answer is the result of the choice among the candidates; the call is refused exactly if none takes its arguments.
 abbrev pub IsChosenCall : Name → Signature → Result (Option WgslType) Refusal → Type 0
 IsChosenCall n c (Ok (Some t)) = IsChosenAnswer n c.arguments (Some t)
 IsChosenCall n c (Ok None) = ⊥

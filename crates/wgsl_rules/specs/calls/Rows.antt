@@ -69,7 +69,7 @@ return_type_of (TakesAtLeast ss o) = o
 return_type_of (TakesWhere ss k o) = o
 return_type_of (TakesWithTemplate ss o) = o
 
--- The arguments, where there are such.
+-- The arguments, if there are such.
 abbrev pub first : List WgslType → Option WgslType
 first ts = slice_get ts 0
 
@@ -79,7 +79,7 @@ second ts = slice_get ts 1
 abbrev pub third : List WgslType → Option WgslType
 third ts = slice_get ts 2
 
--- The common type of two types, where there are both and they have one.
+-- The common type of two types, if there are both and they have one.
 abbrev pub IsCommonOf : Option WgslType → Option WgslType → Option WgslType → Type 0
 IsCommonOf (Some t) (Some u) c = IsCommon t u c
 IsCommonOf t u c = c ≡ None
@@ -113,12 +113,12 @@ abbrev pub vector_like : WgslType → WgslType → Option WgslType
 vector_like (within (vec_of n) t) u = Some (vec n u)
 vector_like t u = None
 
--- What `frexp` or `modf` gives for an argument, where there is one.
+-- What `frexp` or `modf` gives for an argument, if there is one.
 abbrev pub IsResultFor : ResultFunction → Option WgslType → Option WgslType → Type 0
 IsResultFor f None t = t ≡ None
 IsResultFor f (Some u) t = IsResultOf f u t
 
--- The type, or where there is none the refusal of the call.
+-- The type, or if there is none the refusal of the call.
 abbrev pub given : Signature → Option WgslType → Result (Option WgslType) Refusal
 given c None = Err (signature c)
 given c (Some t) = Ok (Some t)

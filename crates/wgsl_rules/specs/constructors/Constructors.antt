@@ -13,7 +13,7 @@ use Rattle.wgsl_rules.specs.constructors.Steps.{Either, Then, ThenCommon, IsFirs
 use Rattle.wgsl_rules.specs.constructors.Vectors.{IsVectorCall}
 use Rattle.wgsl_rules.specs.constructors.Matrices.{IsMatrixCall}
 
--- What a constructor makes: an array, a scalar, a vector of so many components, a matrix of so many columns and rows.
+-- What a constructor makes: an array, a scalar, a vector with n components, a matrix with c columns and r rows.
 pub data Constructor : Type 0 where
   makes_array : Constructor
   makes_scalar : Scalar → Constructor

@@ -13,7 +13,7 @@ use Rattle.wgsl_rules.specs.constructors.Steps.{Either, Then, ThenCommon, IsCoun
 abbrev pub no_columns : Refusal
 no_columns = builtin (codes "matrix constructor expects float or vector of float arguments")
 
--- A matrix of c columns and r rows of t, out of so many arguments of a common type: vectors for its columns, floats or
+-- A matrix of c columns and r rows of t, from a number of arguments of a common type: vectors for its columns, floats or
 -- abstract integers for its components.
 abbrev pub IsMatrixOf : List ℕ → ℕ → ℕ → ℕ → WgslType → WgslType → Result WgslType Refusal → Type 0
 -- mat2x2<f32>(vec2<f32>, vec2<AbstractInt>) : mat2x2<f32>
@@ -25,7 +25,7 @@ IsMatrixOf name c r number t u q = q ≡ Err no_columns
 abbrev pub incompatible_matrix : List ℕ
 incompatible_matrix = codes "matrix components are incompatible"
 
--- A matrix of a template's type, out of so many arguments of a common type, which is converted inside to the template's.
+-- A matrix of a template's type, from a number of arguments of a common type, which is converted inside to the template's.
 abbrev pub IsTypedMatrixOf : List ℕ → ℕ → ℕ → ℕ → WgslType → WgslType → Result WgslType Refusal → Type 0
 IsTypedMatrixOf name c r number t u q =
     (v : Option WgslType) × IsConvertedInside u t v × Then (ok_or v (conversion (inner_of u) t)) (IsMatrixOf name c r number t) q
@@ -49,7 +49,7 @@ abbrev pub component_of : WgslType → WgslType
 component_of (scalar AbstractInt) = scalar F32
 component_of t = t
 
--- A matrix of the type that so many arguments have in common.
+-- A matrix of the type that a number of arguments have in common.
 abbrev pub IsUntypedMatrixOf : List ℕ → ℕ → ℕ → ℕ → WgslType → Result WgslType Refusal → Type 0
 IsUntypedMatrixOf name c r number u q =
     Either (IsFloatScalar (component_of (inner_of u))) (IsMatrixOf name c r number (component_of (inner_of u)) u q) (q ≡ Err no_columns)

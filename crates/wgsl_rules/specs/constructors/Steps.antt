@@ -6,7 +6,7 @@ use Rattle.wgsl_rules.specs.conversion.Conversion.{ConvertsTo}
 use Rattle.wgsl_rules.specs.conversion.Common.{IsLeftCommon}
 use Rattle.wgsl_rules.specs.errors.Refusals.{Refusal, builtin, param_count}
 
--- A test and what follows: the one where it holds, else the other.
+-- A test and what follows: the one if it holds, else the other.
 abbrev pub Either : Type 0 → Type 0 → Type 0 → Type 0
 Either P holding failing = P × holding ⊎ (¬ P) × failing
 
@@ -19,7 +19,7 @@ Then (Err e) made r = r ≡ Err e
 abbrev pub ThenCommon : List WgslType → List ℕ → (WgslType → Result WgslType Refusal → Type 0) → Result WgslType Refusal → Type 0
 ThenCommon ts message made r = (c : Option WgslType) × IsLeftCommon ts c × Then (ok_or c (builtin message)) made r
 
--- So many arguments are wanted for what is made; another number is refused.
+-- A number of arguments is wanted for what is made; any other number is refused.
 abbrev pub IsCounted : List ℕ → ℕ → ℕ → WgslType → Result WgslType Refusal → Type 0
 IsCounted name wanted number t r = Either (wanted ≡ number) (r ≡ Ok t) (r ≡ Err (param_count name wanted number))
 

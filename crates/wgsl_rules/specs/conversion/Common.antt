@@ -3,7 +3,7 @@ use Rattle.std.specs.Prelude.{List, [], ◌∷◌, ◌≡◌, ◌⊎◌, Option,
 use Rattle.wgsl_rules.specs.types.Types.{WgslType}
 use Rattle.wgsl_rules.specs.conversion.Conversion.{ConvertsTo}
 
--- The common type of a and b: b where a converts to b, else a where b converts to a, else none.
+-- The common type of a and b: b if a converts to b, else a if b converts to a, else none.
 abbrev pub IsCommon : WgslType → WgslType → Option WgslType → Type 0
 IsCommon a b (Some c) = (ConvertsTo a b × (c ≡ b)) ⊎ (¬ ConvertsTo a b × ConvertsTo b a × (c ≡ a))
 IsCommon a b None = ¬ ConvertsTo a b × ¬ ConvertsTo b a

@@ -38,7 +38,7 @@ IsRoundedUp s a n = (0 < a) × (a ∣ n) × (s ≤ n) × ((m : ℕ) → a ∣ m 
 abbrev pub IsStride : (ℕ → Type 0) → (ℕ → Type 0) → ℕ → Type 0
 IsStride IsSize IsAlign n = (s : ℕ) × (a : ℕ) × IsSize s × IsAlign a × IsRoundedUp s a n × (n < 2 ^ 32)
 
--- the size of an array of so many elements, where their number is known
+-- the size of an array, if the number of its elements is known
 abbrev pub IsArraySize : Option ℕ → (ℕ → Type 0) → ℕ → Type 0
 IsArraySize (Some k) IsSpaced n = (k < 2 ^ 32) × IsTimes k IsSpaced n
 IsArraySize None IsSpaced n = ⊥
@@ -108,7 +108,7 @@ abbrev pub HasLeastSize : WgslType → ℕ → Type 0
 HasLeastSize (array None t) n = IsStride (HasSize t) (HasAlignment t) n
 HasLeastSize t n = HasSize t n
 
--- the number that is as told, and none exactly where no number is
+-- the number that is as told, and none exactly if no number is
 abbrev pub IsExactly : Option ℕ → (ℕ → Type 0) → Type 0
 IsExactly answer IsIt = (n : ℕ) → (answer ≡ Some n) ↔ IsIt n
 

@@ -22,12 +22,12 @@ abbrev pub HasCandidate : BinaryOperator → WgslType → WgslType → Option Bi
 HasCandidate o a b (Some c) = IsRow o a b c.lhs c.rhs c.result
 HasCandidate o a b None = (l r t : WgslType) → ¬ IsRow o a b l r t
 
--- A binary operator answers the result of a row, or where there is none the refusal that names it and its operands.
+-- A binary operator answers the result of a row, or if there is none the refusal that names it and its operands.
 abbrev pub IsOperatorAnswer : BinaryOperator → WgslType → WgslType → Result WgslType Refusal → Type 0
 IsOperatorAnswer o a b (Ok t) = (l : WgslType) × (r : WgslType) × IsRow o a b l r t
 IsOperatorAnswer o a b (Err e) = (e ≡ binary o a b) × HasCandidate o a b None
 
--- On value types that is the result of the choice, the least candidate; it refuses exactly where none takes the operands.
+-- On value types that is the result of the choice, the least candidate; it refuses exactly if none takes the operands.
 unfoldable pub IsChosenResult : BinaryOperator → WgslType → WgslType → Result WgslType Refusal → Type 0
 IsChosenResult o a b (Ok t) = IsValueType a → IsValueType b → IsChosenAnswer (operator o) (a ∷ b ∷ []) (Some t)
 IsChosenResult o a b (Err e) = IsValueType a → IsValueType b →
@@ -45,7 +45,7 @@ IsChosenCandidate o a b (Ok c) = IsValueType a → IsValueType b →
 IsChosenCandidate o a b (Err e) = IsValueType a → IsValueType b →
     (e ≡ binary o a b) × IsChosenAnswer (operator o) (a ∷ b ∷ []) None
 
--- A unary operator answers the result of its row, or where there is none its refusal.
+-- A unary operator answers the result of its row, or if there is none its refusal.
 abbrev pub IsUnaryAnswer : UnaryOperator → WgslType → Result WgslType Refusal → Type 0
 IsUnaryAnswer o a (Ok t) = IsUnaryRow o a t
 IsUnaryAnswer o a (Err e) = (e ≡ unary_refusal o a) × ((t : WgslType) → ¬ IsUnaryRow o a t)

@@ -105,7 +105,7 @@ pub data IsCandidate : Name → List WgslType → WgslType → Type 0 where
   -- mat2x3<f32> * vec2<f32> : vec3<f32>
   matrix_vector : (c r : ℕ) (e : WgslType) →
       IsCandidate (operator Multiplication) (mat c r e ∷ vec c e ∷ []) (vec r e)
-  -- of two matrices, where the first has as many columns as the second has rows
+  -- of two matrices, if the first has as many columns as the second has rows
   -- mat2x3<f32> * mat4x2<f32> : mat4x3<f32>
   matrix_matrix : (k c r : ℕ) (e : WgslType) →
       IsCandidate (operator Multiplication) (mat k r e ∷ mat c k e ∷ []) (mat c r e)

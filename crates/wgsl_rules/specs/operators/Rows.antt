@@ -47,26 +47,26 @@ pub data IsRow : BinaryOperator → WgslType → WgslType → WgslType → WgslT
   -- mat2x3<AbstractFloat> * vec2<f16> : vec3<f16>
   matrix_vector_row : (c r : ℕ) (e f d : WgslType) → IsCommon e f (Some d) →
       IsRow Multiplication (mat c r e) (vec c f) (mat c r d) (vec c d) (vec r d)
-  -- of two matrices, where the first has as many columns as the second has rows
+  -- of two matrices, if the first has as many columns as the second has rows
   -- mat2x3<f32> * mat4x2<f32> : mat4x3<f32>
   matrix_matrix_row : (k c r : ℕ) (e f d : WgslType) → IsCommon e f (Some d) →
       IsRow Multiplication (mat k r e) (mat c k f) (mat k r d) (mat c k d) (mat c r d)
-  -- comparison, where the common type is a scalar: `bool`
+  -- comparison, if the common type is a scalar: `bool`
   -- AbstractInt < f32 : bool
   comparison_row : (o : BinaryOperator) → IsComparison o → (a b : WgslType) (s : Scalar) → IsCommon a b (Some (scalar s)) →
       IsRow o a b (scalar s) (scalar s) (scalar Bool)
-  -- where it is a vector: a vector of `bool`
+  -- if it is a vector: a vector of `bool`
   -- vec3<f32> == vec3<AbstractFloat> : vec3<bool>
   comparison_vector_row : (o : BinaryOperator) → IsComparison o → (a b : WgslType) (n : ℕ) (e : WgslType) → IsCommon a b (Some (vec n e)) →
       IsRow o a b (vec n e) (vec n e) (vec n (scalar Bool))
   -- the short-circuit operators, `||` and `&&`, of two `bool`
   -- bool && bool : bool
   logical_row : (o : BinaryOperator) → IsLogical o → IsRow o (scalar Bool) (scalar Bool) (scalar Bool) (scalar Bool) (scalar Bool)
-  -- bits, where the common type is a vector of `bool`
+  -- bits, if the common type is a vector of `bool`
   -- vec2<bool> | vec2<bool> : vec2<bool>
   bools_row : (o : BinaryOperator) → IsOrAnd o → (n : ℕ) (a b : WgslType) → IsCommon a b (Some (vec n (scalar Bool))) →
       IsRow o a b (vec n (scalar Bool)) (vec n (scalar Bool)) (vec n (scalar Bool))
-  -- where it is an integer or a vector of integers
+  -- if it is an integer or a vector of integers
   -- AbstractInt ^ u32 : u32
   bit_row : (o : BinaryOperator) → IsBitwise o → (a b c : WgslType) → IsCommon a b (Some c) → IsIntegerOrVector c →
       IsRow o a b c c c

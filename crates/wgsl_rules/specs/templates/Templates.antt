@@ -88,7 +88,7 @@ abbrev pub IsBitcastTemplate : List Parameter → Result WgslType Refusal → Ty
 IsBitcastTemplate =
     IsTemplateOf IsNumericOrVector (codes "bitcast") (codes "bitcast template type must be a numeric scalar or numeric vector")
 
--- What a pointer's template names: the address space, the type, and the access mode where it is given.
+-- What a pointer's template names: the address space, the type, and the access mode if it is given.
 pub record PointerParameters : Type 0 where
   pub space : AddressSpace
   pub ty : WgslType
@@ -104,7 +104,7 @@ abbrev pub format_of : Parameter → Option TexelFormat
 format_of (of_enumerant (enumerants.TexelFormat f)) = Some f
 format_of p = None
 
--- an address space and a type, and at most one parameter more, which counts as absent where it is no access mode
+-- an address space and a type, and at most one parameter more, which counts as absent if it is no access mode
 abbrev pub pointer_parameters : List Parameter → Option PointerParameters
 pointer_parameters (of_enumerant (enumerants.AddressSpace s) ∷ of_type t ∷ []) = Some (record { space = s; ty = t; access = None })
 pointer_parameters (of_enumerant (enumerants.AddressSpace s) ∷ of_type t ∷ p ∷ []) = Some (record { space = s; ty = t; access = access_of p })

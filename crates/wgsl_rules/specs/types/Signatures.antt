@@ -12,7 +12,7 @@ pub data Parameter : Type 0 where
   of_literal : Literal → Parameter
   of_enumerant : Enumerant → Parameter
 
--- a call: its name, its template parameters where it has a template, and the types of its arguments
+-- a call: its name, its template parameters if it has a template, and the types of its arguments
 pub record Signature : Type 0 where
   pub name : List ℕ
   pub template : Option (List Parameter)

@@ -1,4 +1,4 @@
--- How types are written in messages (WGSL, "Types", whose own syntax it follows where there is one).
+-- How types are written in messages (WGSL, "Types", whose own syntax it follows if there is one).
 use Rattle.std.specs.Prelude.{ℕ, List, ◌++◌, Option, Some, None, codes, decimal}
 use Rattle.wgsl_syntax.specs.Address.{space_text, access_text}
 use Rattle.wgsl_syntax.specs.Attribute.{flag_text}
@@ -7,12 +7,12 @@ use Rattle.wgsl_syntax.specs.Texture.{sampler_text, texture_text}
 use Rattle.wgsl_syntax.specs.declared.attribute.AccelerationStructureFlags.{AccelerationStructureFlags}
 use Rattle.wgsl_rules.specs.types.Types.{WgslType, scalar, struct, atomic, pointer, reference, texture, sampler, binding_array, ray_query, acceleration_structure, array, vec, mat}
 
--- a name, with the flag where there is one
+-- a name, with the flag if there is one
 abbrev pub flagged : List ℕ → Option AccelerationStructureFlags → List ℕ
 flagged name None = name
 flagged name (Some flag) = name ++ codes "<" ++ flag_text flag ++ codes ">"
 
--- a name with an element, and the number of elements where it is known
+-- a name with an element, and the number of elements if it is known
 abbrev pub counted : List ℕ → List ℕ → Option ℕ → List ℕ
 counted name element None = name ++ codes "<" ++ element ++ codes ">"
 counted name element (Some n) = name ++ codes "<" ++ element ++ codes ", " ++ decimal n ++ codes ">"
