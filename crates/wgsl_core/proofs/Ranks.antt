@@ -10,7 +10,7 @@ use Rattle.wgsl_rules.specs.types.Types.{Layer, WgslType, struct, within, refere
 use Rattle.wgsl_rules.specs.types.ResultStructs.{result_struct}
 use Rattle.wgsl_rules.specs.conversion.Conversion.{Converts, ConvertsIn, ConvertsTo, Load, load}
 use Rattle.wgsl_rules.specs.internal.Nodes.{Node, at_scalar, at_result, type_at}
-use Rattle.wgsl_rules.proofs.conversion.Walks.{type_at_once, HaveEqualLayers, converts_places, load_bare}
+use Rattle.wgsl_rules.proofs.conversion.Walks.{type_at_once, HaveEqualLayers, converts_nodes, load_bare}
 use Rattle.wgsl_rules.proofs.conversion.Order.{load_readable}
 use Rattle.wgsl_syntax.specs.Address.{MayRead}
 use Rattle.wgsl_rules.proofs.conversion.Equations.{converts_same, same_rank, load_converts, load_rank, converts_within, converts_from_within}
@@ -26,18 +26,18 @@ use Rattle.wgsl_core.specs.declared.ty.StructType.{StructType}
 
 -- The node of a type
 
-abbrev IsPlace : Option Node → WgslType → Type 0
-IsPlace o t = (p : Node) → (o ≡ Some p) ↔ (t ≡ type_at p)
+abbrev IsNodeOf : Option Node → WgslType → Type 0
+IsNodeOf o t = (p : Node) → (o ≡ Some p) ↔ (t ≡ type_at p)
 
-pub placed : (t : WgslType) (q : Node) → t ≡ type_at q → IsPlace (Some q) t
-placed t q e p = (λ k. let f : q ≡ p = cc k in subst (λ p. t ≡ type_at p) f e, λ k. ap Some (type_at_once q p (sym e ∙ k)))
+pub is_node : (t : WgslType) (q : Node) → t ≡ type_at q → IsNodeOf (Some q) t
+is_node t q e p = (λ k. let f : q ≡ p = cc k in subst (λ p. t ≡ type_at p) f e, λ k. ap Some (type_at_once q p (sym e ∙ k)))
 
 result_is_struct : (f : ResultFunction) (s : ResultShape) (p : ResultPrecision) → (name : List ℕ) × (ms : Members) × (result_struct f s p ≡ struct name ms)
 unfolding result_struct
 result_is_struct f s p = (_, _, refl)
 
-pub no_place : {f : Form} {t : WgslType} → t ≡ form_view f → ((s : Scalar) → f ≡ forms.Scalar s → ⊥) → ((s : Bor StructType) → f ≡ forms.Struct s → ⊥) → IsPlace None t
-no_place {f} e n m p = (λ k. absurd (cc k), λ k. absurd (at f n m p (sym e ∙ k)))
+pub no_node : {f : Form} {t : WgslType} → t ≡ form_view f → ((s : Scalar) → f ≡ forms.Scalar s → ⊥) → ((s : Bor StructType) → f ≡ forms.Struct s → ⊥) → IsNodeOf None t
+no_node {f} e n m p = (λ k. absurd (cc k), λ k. absurd (at f n m p (sym e ∙ k)))
   where
     at : (f : Form) → ((s : Scalar) → f ≡ forms.Scalar s → ⊥) → ((s : Bor StructType) → f ≡ forms.Struct s → ⊥) → (p : Node) → form_view f ≡ type_at p → ⊥
     at (forms.Scalar s) n m p k = n s refl
@@ -46,7 +46,7 @@ no_place {f} e n m p = (λ k. absurd (cc k), λ k. absurd (at f n m p (sym e ∙
     at f n m (at_result g s q) k = let r = result_is_struct g s q in absurd (cc (k ∙ r.2))
 
 pub no_result : (t : WgslType) (s : StructType) → t ≡ struct_type (struct_view s) →
-    ((r : ResultStruct) → (None ≡ Some r) ↔ (struct_type (struct_view s) ≡ result_type r)) → IsPlace None t
+    ((r : ResultStruct) → (None ≡ Some r) ↔ (struct_type (struct_view s) ≡ result_type r)) → IsNodeOf None t
 no_result t s e h p = (λ k. absurd (cc k), λ k. absurd (at p k))
   where
     at : (p : Node) → t ≡ type_at p → ⊥
@@ -82,7 +82,7 @@ unlayered t u e h = h
 
 pub no_walk : (t u : WgslType) → layer_of t ≡ None → t ≢ u → ¬ Load t u →
     ((p q : Node) → t ≡ type_at p → u ≡ type_at q → ⊥) → IsRank None t u
-no_walk t u e d l n = no_rank t u (λ w k. let m = converts_places t u w (unlayered t u e) d l k in n m.0 m.1 m.2 m.3)
+no_walk t u e d l n = no_rank t u (λ w k. let m = converts_nodes t u w (unlayered t u e) d l k in n m.0 m.1 m.2 m.3)
 
 pub walked_rank : (t u : WgslType) (p q : Node) (o : Option ℕ) → t ≡ type_at p → u ≡ type_at q → IsRank o (type_at p) (type_at q) → IsRank o t u
 walked_rank t u p q o e f h = subst (λ t. IsRank o t u) (sym e) (subst (λ u. IsRank o (type_at p) u) (sym f) h)

@@ -100,9 +100,9 @@ abbrev function_in : Node → ResultFunction
 function_in (at_result f s p) = f
 function_in (at_scalar s) = Frexp
 
-abbrev shape_at_place : Node → ResultShape
-shape_at_place (at_result f s p) = s
-shape_at_place (at_scalar s) = shape.Scalar
+abbrev shape_at_node : Node → ResultShape
+shape_at_node (at_result f s p) = s
+shape_at_node (at_scalar s) = shape.Scalar
 
 abbrev precision_in : Node → ResultPrecision
 precision_in (at_result f s p) = p
@@ -112,7 +112,7 @@ precision_in (at_scalar s) = precision.Abstract
 one_result : (q r : ResultStruct) → result_type q ≡ result_type r → q ≡ r
 one_result q r e =
     let k = type_at_once (at_result q.function q.shape q.precision) (at_result r.function r.shape r.precision) e in
-    λ i. record { function = function_in (k i); shape = shape_at_place (k i); precision = precision_in (k i) }
+    λ i. record { function = function_in (k i); shape = shape_at_node (k i); precision = precision_in (k i) }
 
 -- Structs in code
 

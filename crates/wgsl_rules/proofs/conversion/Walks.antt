@@ -58,9 +58,9 @@ depth-type_at (at_result f s precision.Abstract) = depth-result_struct f s preci
 depth-type_at (at_result f s precision.F32) = depth-result_struct f s precision.F32
 depth-type_at (at_result f s precision.F16) = depth-result_struct f s precision.F16
 
-place_leaf : (p : Node) → IsLeaf (type_at p)
-place_leaf (at_scalar s) = tt
-place_leaf (at_result f s p) = result_leaf f s p
+node_leaf : (p : Node) → IsLeaf (type_at p)
+node_leaf (at_scalar s) = tt
+node_leaf (at_result f s p) = result_leaf f s p
 
 -- Steps lead from a parent to its child
 
@@ -114,17 +114,17 @@ parent_step (at_result f s precision.F16) q e = let k : at_result f s precision.
 parent_step (at_result f s precision.Abstract) q e = absurd (cc e)
 
 -- a step to a node is one from its parent
-pub step_to_place : {t u : WgslType} {w : ℕ} → Step t u w → (p : Node) → u ≡ type_at p →
+pub step_to_node : {t u : WgslType} {w : ℕ} → Step t u w → (p : Node) → u ≡ type_at p →
     (q : Node) × (t ≡ type_at q) × (parent_of p ≡ Some q) × (rank_from_root p ≡ rank_from_root q + w)
-step_to_place {t} {u} {w} (base b) p e =
+step_to_node {t} {u} {w} (base b) p e =
     let k = base_between b in
     let m : p ≡ k.to = type_at_once p k.to (sym e ∙ k.ends) in
     (k.from, k.begins, ap parent_of m ∙ k.parent, ap rank_from_root m ∙ k.weighs)
-step_to_place (inside l s) p e = absurd (subst IsLeaf (sym e) (place_leaf p))
+step_to_node (inside l s) p e = absurd (subst IsLeaf (sym e) (node_leaf p))
 
 -- none leads to a node without a parent
 pub no_step_to_root : (p : Node) → parent_of p ≡ None → (t : WgslType) (w : ℕ) → ¬ Step t (type_at p) w
-no_step_to_root p e t w s = let k = step_to_place s p refl in let d : None ≡ Some k.0 = sym e ∙ k.2 in cc d
+no_step_to_root p e t w s = let k = step_to_node s p refl in let d : None ≡ Some k.0 = sym e ∙ k.2 in cc d
 
 -- Ancestors
 
@@ -163,16 +163,16 @@ pub ancestor_once : {p q : Node} {n m : ℕ} → Ancestor p q n → Ancestor p q
 ancestor_once a b = omega (arith, ancestor_height a, ancestor_height b)
 
 -- what is above a node is a node
-pub above_place : {t u : WgslType} → Above t u → (q : Node) → u ≡ type_at q → (p : Node) × (n : ℕ) × (t ≡ type_at p) × Ancestor p q n
-above_place here q e = (q, 0, e, itself)
-above_place (further a s) q e =
-    let k = step_to_place s q e in
-    let m = above_place a k.0 k.1 in
+pub above_node : {t u : WgslType} → Above t u → (q : Node) → u ≡ type_at q → (p : Node) × (n : ℕ) × (t ≡ type_at p) × Ancestor p q n
+above_node here q e = (q, 0, e, itself)
+above_node (further a s) q e =
+    let k = step_to_node s q e in
+    let m = above_node a k.0 k.1 in
     (m.0, m.1 + 1, m.2, past m.3 k.2)
 
 pub above_ancestor : (p q : Node) → Above (type_at p) (type_at q) → (n : ℕ) × Ancestor p q n
 above_ancestor p q a =
-    let k = above_place a q refl in
+    let k = above_node a q refl in
     (k.1, subst (λ p. Ancestor p q k.1) (sym (type_at_once p k.0 k.2)) k.3)
 
 -- The walk, one parent at a time
@@ -204,7 +204,7 @@ converts_ancestor p q w = (to, back)
     to (inl a) =
         let k = along_above a in
         (above_ancestor p q k.0, omega (arith, k.1, depth-type_at p, depth-type_at q))
-    to (inr h) = absurd (load_to_leaf h.0 (place_leaf p))
+    to (inr h) = absurd (load_to_leaf h.0 (node_leaf p))
 
     back : ((n : ℕ) × Ancestor p q n) × (w ≡ rank_from_root q - rank_from_root p) → Converts (type_at p) (type_at q) w
     back h = inl (subst (λ w. Path (type_at p) (type_at q) w) (sym h.1) (ancestor_path h.0.1).path)
@@ -217,7 +217,7 @@ converts_in_ancestor p q w n = (to, back)
         let k = (converts_ancestor p q w).0 (inl a.path) in
         let m : k.0.0 ≡ n = omega (arith, (counted_above a).2, ancestor_height k.0.1) in
         (subst (λ n. Ancestor p q n) m k.0.1, k.1)
-    to (inr h) = absurd (load_to_leaf h.0 (place_leaf p))
+    to (inr h) = absurd (load_to_leaf h.0 (node_leaf p))
 
     back : Ancestor p q n × (w ≡ rank_from_root q - rank_from_root p) → ConvertsIn (type_at p) (type_at q) w n
     back h = inl (subst (λ w. PathOf (type_at p) (type_at q) w n) (sym h.1) (ancestor_path h.0))
@@ -259,24 +259,24 @@ HaveEqualLayers t u = ⊥
 abbrev ArePlaces : WgslType → WgslType → Type 0
 ArePlaces t u = (p : Node) × (q : Node) × (t ≡ type_at p) × (u ≡ type_at q)
 
-above_places : {t u : WgslType} → Above t u → ¬ HaveEqualLayers t u → t ≢ u → ArePlaces t u
-above_places here n d = absurd (d refl)
-above_places (further a (base b)) n d =
+above_nodes : {t u : WgslType} → Above t u → ¬ HaveEqualLayers t u → t ≢ u → ArePlaces t u
+above_nodes here n d = absurd (d refl)
+above_nodes (further a (base b)) n d =
     let k = base_between b in
-    let m = above_place (further a (base b)) k.to k.ends in
+    let m = above_node (further a (base b)) k.to k.ends in
     (m.0, k.to, m.2, k.ends)
-above_places {t} (further a (inside {u = u} l s)) n d =
+above_nodes {t} (further a (inside {u = u} l s)) n d =
     let k = above_to_within (further a (inside l s)) l u refl in
     absurd (n (subst (λ t. HaveEqualLayers t (within l u)) (sym k.1) refl))
 
-pub converts_places : (t u : WgslType) (w : ℕ) → ¬ HaveEqualLayers t u → t ≢ u → ¬ Load t u → Converts t u w →
+pub converts_nodes : (t u : WgslType) (w : ℕ) → ¬ HaveEqualLayers t u → t ≢ u → ¬ Load t u → Converts t u w →
     (p : Node) × (q : Node) × (t ≡ type_at p) × (u ≡ type_at q)
-converts_places t u w n d m (inl a) = above_places (along_above a).0 n d
-converts_places t u w n d m (inr h) = absurd (m h.0)
+converts_nodes t u w n d m (inl a) = above_nodes (along_above a).0 n d
+converts_nodes t u w n d m (inr h) = absurd (m h.0)
 
-pub converts_in_places : (t u : WgslType) (w n : ℕ) → ¬ HaveEqualLayers t u → t ≢ u → ¬ Load t u → ConvertsIn t u w n →
+pub converts_in_nodes : (t u : WgslType) (w n : ℕ) → ¬ HaveEqualLayers t u → t ≢ u → ¬ Load t u → ConvertsIn t u w n →
     (p : Node) × (q : Node) × (t ≡ type_at p) × (u ≡ type_at q)
-converts_in_places t u w n e d m h = converts_places t u w e d m (counted_converts h)
+converts_in_nodes t u w n e d m h = converts_nodes t u w e d m (counted_converts h)
 
 -- where there is no equal layer left, a load is one of a reference
 pub load_bare : {t u : WgslType} → ¬ HaveEqualLayers t u → Load t u → (s : AddressSpace) × (m : AccessMode) × (t ≡ reference s u m) × MayRead m
@@ -290,7 +290,7 @@ converts_in_bare t u w n e d = (to, back)
   where
     to : ConvertsIn t u w n → Load t u × (w ≡ 0) × (n ≡ 0) ⊎ ((p : Node) × (q : Node) × (t ≡ type_at p) × (u ≡ type_at q) × Ancestor p q n × (w ≡ rank_from_root q - rank_from_root p))
     to (inl a) =
-        let k = above_places (counted_above a).0 e d in
+        let k = above_nodes (counted_above a).0 e d in
         let m = (converts_in_ancestor k.0 k.1 w n).0 (inl (subst₂ (λ t u. PathOf t u w n) k.2 k.3 a)) in
         inr (k.0, k.1, k.2, k.3, m.0, m.1)
     to (inr h) = inl h
