@@ -60,7 +60,7 @@ impl Line {
 
 /// The words of a line, or `None` if it is no UTF-8.
 ///
-/// Words are parted by ASCII alone, so a line is UTF-8 if each of its words is.
+/// ASCII alone separates words, so a line is UTF-8 if each of its words is.
 pub fn words(alloc: Global, line: &[u8]) -> Result<Option<Vec<&str>>, AllocError>
     ensures words { IfOk result (λ found. MatchOption found
         (¬ All IsUtf8 (words_of line.now))
