@@ -18,10 +18,10 @@ ghost use Rattle.wgsl_rules.specs.conversion.Conversion.{IsValueType};
 ghost use Rattle.wgsl_rules.specs.operators.Candidates.{Name};
 ghost use Rattle.wgsl_rules.specs.Laws.{OneChoice};
 
-pub mod find;
-pub mod fit;
+mod find;
+mod fit;
 mod result_type;
-pub mod rows;
+mod rows;
 pub(crate) mod shape;
 mod source;
 mod table;
@@ -34,7 +34,7 @@ use crate::call::source::{
     argument, as_long, bare, in_vector, inner, texture_size, transposed, type_of_source,
 };
 use crate::template::BitcastTemplate;
-pub use find::find_call;
+pub use find::{find_call, names_match_table, names_rise};
 use std::alloc::{AllocError, Global};
 use wgsl_core::error::{Error, Fail};
 use wgsl_core::operators::resolve::{Element, ResolvedType};
@@ -75,7 +75,7 @@ pub fn type_builtin_fn(
 }
 
 /// The answer of a call: by the rows under its name, or if there are none the refusal.
-pub fn answer(alloc: Global, call: Call<'_>) -> Result<Option<Type>, Fail>
+fn answer(alloc: Global, call: Call<'_>) -> Result<Option<Type>, Fail>
     ensures { Answered (IsCallAnswer (signature_of call.entry)) (template_of call.entry) result }
 {
     match rows_of(call.name) {

@@ -5,12 +5,13 @@ pub mod builtin;
 pub mod conv;
 pub mod error;
 pub mod inst;
+pub mod laws;
 pub mod syntax;
 pub mod tplt;
 pub mod ty;
 
 pub use wgsl_core::error::{Error, Fail};
+pub use wgsl_core::layout as mem;
 pub use wgsl_core::literal::Instance;
 pub use wgsl_core::signature::{CallSignature, ShaderStage};
 pub use wgsl_core::ty::Type;
-pub use wgsl_core::{laws, layout as mem};

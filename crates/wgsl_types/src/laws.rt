@@ -1,0 +1,7 @@
+//! What follows from the rules, to be cited in proofs.
+pub use wgsl_calls::call::{names_match_table, names_rise};
+pub use wgsl_core::laws::{
+    common_any_order, conversion_order, matrix_columns, rank_adds, rank_names_target,
+    targets_comparable,
+};
+pub use wgsl_syntax::names::texts_name_values;
