@@ -34,7 +34,7 @@ use crate::call::source::{
     argument, as_long, bare, in_vector, inner, texture_size, transposed, type_of_source,
 };
 use crate::template::BitcastTemplate;
-pub use find::{find_call, names_match_table, names_rise};
+pub use find::{find_call, names_match_table, names_sorted};
 use std::alloc::{AllocError, Global};
 use wgsl_core::error::{Error, Fail};
 use wgsl_core::operators::resolve::{Element, ResolvedType};

@@ -1,5 +1,5 @@
 //! What follows from the rules, to be cited in proofs.
-pub use wgsl_calls::call::{names_match_table, names_rise};
+pub use wgsl_calls::call::{names_match_table, names_sorted};
 pub use wgsl_core::laws::{
     common_any_order, conversion_order, matrix_columns, rank_adds, rank_names_target,
     targets_comparable,

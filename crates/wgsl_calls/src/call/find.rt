@@ -10,8 +10,8 @@ use crate::call::table::built_ins;
 use std::cmp::Ordering;
 
 /// The names of the built-in functions are sorted by their bytes, and distinct.
-#[tactic(auto, using(wgsl_rules::proofs::calls::SortedNames::names_rise))]
-pub fn names_rise()
+#[tactic(auto, using(wgsl_rules::proofs::calls::SortedNames::names_sorted))]
+pub fn names_sorted()
     ensures { IsRising call_names }
 {}
 

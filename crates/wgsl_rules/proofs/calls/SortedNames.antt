@@ -51,8 +51,8 @@ rises_far (x ∷ ns) h zero (suc j) l b = above_head x ns h j (omega arith)
 rises_far (x ∷ ns) h (suc i) zero l b = absurd (omega arith)
 rises_far (x ∷ ns) h (suc i) (suc j) l b = rises_far ns (tail x ns h) i j (omega arith) (omega arith)
 
-pub names_rise : IsRising call_names
-names_rise = rises_far call_names computed
+pub names_sorted : IsRising call_names
+names_sorted = rises_far call_names computed
 
 pub names_many : length call_names ≡ 155
 unfolding call_names
@@ -89,7 +89,7 @@ same : (x y : List ℕ) → order x y ≡ Equal → x ≡ y
 same x y h = slice_cmp-IsAntisymmetric nat_cmp-IsAntisymmetric x y h
 
 rise : (i j : ℕ) → i < j → j < 155 → order (name_at call_names i) (name_at call_names j) ≡ Less
-rise i j l b = names_rise i j l (omega (arith, names_many))
+rise i j l b = names_sorted i j l (omega (arith, names_many))
 
 pub below_step : (x : List ℕ) (low m : ℕ) → ((k : ℕ) → k < low → order x (name_at call_names k) ≡ Greater) → m < 155 → order x (name_at call_names m) ≡ Greater → (k : ℕ) → k < m + 1 → order x (name_at call_names k) ≡ Greater
 below_step x low m below b h =
