@@ -10,7 +10,6 @@ use Rattle.wgsl_calls.specs.declared.template.ptr.PtrTemplate.{PtrTemplate}
 use Rattle.wgsl_calls.specs.declared.template.bitcast.BitcastTemplate.{BitcastTemplate}
 use Rattle.wgsl_calls.specs.declared.template.atomic.AtomicTemplate.{AtomicTemplate}
 use Rattle.wgsl_calls.specs.declared.template.texture.TextureTemplate.{TextureTemplate}
-use Rattle.wgsl_calls.specs.declared.template.texture.StorageTexture.TheVariants as t
 
 abbrev pub array_view : ArrayTemplate → WgslType
 array_view t = array t.n (view t.ty)
