@@ -1,15 +1,10 @@
-// The program: it reads a command a line from standard input, and prints an answer to each.
+// The program: it reads one request per line from standard input, and prints the answers.
 #![tactic(auto)]
 
-mod command;
 mod line;
-mod read;
-mod report;
 mod run;
-mod template;
 #[cfg(test)]
 mod tests;
-mod words;
 
 use run::{run, status};
 use std::process::ExitCode;

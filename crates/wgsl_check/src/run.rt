@@ -1,14 +1,14 @@
 // Lines in, answers out.
-ghost use Rattle.std.specs.Prelude.{◌≡◌, ◌+◌, ◌-◌, ◌^◌, ◌<◌, ◌≤◌, [], All, IfOk, IsOk, IsOkUnless, IsUtf8, OnErr, OnOk, min, string_bytes, vec_len};
+ghost use Rattle.std.specs.Prelude.{◌≡◌, ◌+◌, ◌-◌, ◌^◌, ◌<◌, ◌≤◌, [], All, IfOk, IsOk, IsOkUnless, IsUtf8, OnErr, OnOk, min, string_bytes, true, vec_len};
 ghost use Rattle.std.specs.Io.KnownBytes.{Appends};
 ghost use Rattle.wgsl_check.specs.Status.{status_of};
-ghost use Rattle.wgsl_check.specs.Words.{words_of};
+ghost use Rattle.wgsl_requests.specs.Words.{has_forbidden, words_of};
 ghost use Rattle.wgsl_check.specs.Output.{bad_line};
 
-use crate::command::answer;
-use crate::line::{LONGEST, Line, words};
+use crate::line::Line;
 use std::alloc::{AllocError, Global};
 use std::io::{ErrorKind, Read, Write};
+use wgsl_requests::request::{LONGEST, Reply, reply_to};
 
 /// Why a run stopped.
 #[derive(Clone, Copy, Debug, PartialEq, Eq)]
@@ -122,6 +122,8 @@ impl Session {
 
         ensures too_long { LONGEST < vec_len self.old.line.bytes
             → OnOk result (AddsBadLine self.old self.new) }
+        ensures forbidden { has_forbidden self.old.line.bytes.items ≡ true
+            → OnOk result (AddsBadLine self.old self.new) }
         ensures no_text { ¬ All IsUtf8 (words_of self.old.line.bytes.items)
             → OnOk result (AddsBadLine self.old self.new) }
         ensures no_words { vec_len self.old.line.bytes ≤ LONGEST
@@ -131,13 +133,13 @@ impl Session {
         // An answer is gathered whole or not at all.
         ensures err { OnErr result (string_bytes self.new.answers ≡ string_bytes self.old.answers) }
     {
-        match reply_to(self.alloc, &self.line)? {
+        match reply_of(self.alloc, &self.line)? {
             Reply::Nothing => {}
             Reply::Answer(mut text) => {
                 text.push('\n')?;
                 self.answers.push_str(&text)?;
             }
-            Reply::BadLine => {
+            Reply::Unreadable => {
                 let text = bad_line(self.alloc, self.line.number)?;
                 self.answers.push_str(&text)?;
                 self.all_readable = false;
@@ -170,40 +172,21 @@ impl Session {
     }
 }
 
-/// What a line of the input asks for.
-#[derive(Drop)]
-enum Reply {
-    /// The line has no words.
-    Nothing,
-    Answer(String),
-    BadLine,
-}
-
-/// What the line asks for.
-fn reply_to(alloc: Global, line: &Line) -> Result<Reply, AllocError>
+/// The reply to a line.
+fn reply_of(alloc: Global, line: &Line) -> Result<Reply, AllocError>
     ensures too_long { LONGEST < vec_len line.now.bytes
-        → IfOk result (λ reply. reply ≡ Reply.BadLine) }
+        → IfOk result (λ reply. reply ≡ Reply.Unreadable) }
+    ensures forbidden { has_forbidden line.now.bytes.items ≡ true
+        → IfOk result (λ reply. reply ≡ Reply.Unreadable) }
     ensures no_text { ¬ All IsUtf8 (words_of line.now.bytes.items)
-        → IfOk result (λ reply. reply ≡ Reply.BadLine) }
+        → IfOk result (λ reply. reply ≡ Reply.Unreadable) }
     ensures no_words { vec_len line.now.bytes ≤ LONGEST → words_of line.now.bytes.items ≡ []
         → IfOk result (λ reply. reply ≡ Reply.Nothing) }
 {
-    if line.is_too_long() {
-        return Ok(Reply::BadLine);
-    }
-    let Some(words) = words(alloc, &line.bytes)? else {
-        return Ok(Reply::BadLine);
-    };
-    if words.is_empty() {
-        return Ok(Reply::Nothing);
-    }
-    match answer(alloc, line.number, &words)? {
-        Some(text) => Ok(Reply::Answer(text)),
-        None => Ok(Reply::BadLine),
-    }
+    reply_to(alloc, line.number, &line.bytes)
 }
 
-/// What is printed for a line that is no command.
+/// What is printed for a line that can't be read.
 fn bad_line(alloc: Global, number: u64) -> Result<String, AllocError>
     ensures { IfOk result (λ text. string_bytes text ≡ bad_line number) }
 {

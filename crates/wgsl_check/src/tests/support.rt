@@ -3,15 +3,15 @@
 pub mod sixty;
 pub mod streams;
 
-use crate::line::words;
-use crate::read::{read_type, read_types};
 use crate::run::{RunError, run};
-use crate::template::read_template;
-use crate::words::{Unread, Words};
 use std::alloc::{AllocError, Global};
 use std::process::Abort;
 use std::test::Fail;
 use streams::{Source, Target};
+use wgsl_requests::read::{read_type, read_types};
+use wgsl_requests::split::words;
+use wgsl_requests::template::read_template;
+use wgsl_requests::words::{Unread, Words};
 use wgsl_types::CallSignature;
 use wgsl_types::tplt::TpltParam;
 use wgsl_types::ty::{Ty, Type};

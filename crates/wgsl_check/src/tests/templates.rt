@@ -5,10 +5,10 @@ mod textures;
 mod vectors;
 
 use super::support::{expect_reply, spelled, template};
-use crate::command::message;
 use std::alloc::{AllocError, Global};
 use std::process::Abort;
 use std::test::Fail;
+use wgsl_requests::command::message;
 use wgsl_types::error;
 use wgsl_types::tplt::{
     ArrayTemplate, AtomicTemplate, BindingArrayTemplate, BitcastTemplate, MatTemplate, PtrTemplate,

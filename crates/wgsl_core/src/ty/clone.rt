@@ -22,7 +22,7 @@ impl Type {
             Type::U32 => Ok(Type::U32),
             Type::F32 => Ok(Type::F32),
             Type::F16 => Ok(Type::F16),
-            Type::Struct(s) => Ok(Type::Struct(Box::new(alloc, StructType::clone(s, alloc)?)?)),
+            Type::Struct(s) => Ok(Type::Struct(boxed_struct_copy(alloc, s)?)),
             Type::Array(t, n) => Ok(Type::Array(boxed_copy(alloc, t)?, *n)),
             Type::Vec(n, t) => Ok(Type::Vec(*n, boxed_copy(alloc, t)?)),
             Type::Mat(c, r, t) => Ok(Type::Mat(*c, *r, boxed_copy(alloc, t)?)),
@@ -42,9 +42,21 @@ impl Type {
 }
 
 /// A copy in a box of its own.
+///
+/// Not inlined, so that a copy of a deep type takes little stack: eight arms of `Type::clone` would each have room for it.
 #[cycle(copy)]
+#[inline(never)]
 pub fn boxed_copy(alloc: Global, ty: &Type) -> Result<Box<Type>, AllocError>
     ensures { IfOk result (λ t. view t.value ≡ view ty.now) }
+{
+    Ok(Box::new(alloc, ty.clone(alloc)?)?)
+}
+
+/// A copy in a box of its own, not inlined either.
+#[cycle(copy)]
+#[inline(never)]
+fn boxed_struct_copy(alloc: Global, ty: &StructType) -> Result<Box<StructType>, AllocError>
+    ensures { IfOk result (λ t. struct_view t.value ≡ struct_view ty.now) }
 {
     Ok(Box::new(alloc, ty.clone(alloc)?)?)
 }

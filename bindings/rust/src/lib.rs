@@ -1,0 +1,93 @@
+//! The type rules of WGSL, from a proved library: one call answers one request, a line of the program `wgsl_check`.
+//!
+//! ```
+//! use wgsl_requests::{answer, Refused};
+//!
+//! assert_eq!(answer("binary + AbstractInt vec 3 f32"), Ok("vec3<f32>".to_string()));
+//! assert_eq!(answer("rank i32 f32"), Ok("none".to_string()));
+//! assert_eq!(answer("binary + i32"), Err(Refused::Unreadable));
+//! ```
+
+use std::fmt;
+
+extern "C" {
+    // As in bindings/c/wgsl.h.
+    fn wgsl_answer(
+        request: *const u8,
+        request_len: usize,
+        room: *mut u8,
+        room_len: usize,
+        text_len: *mut usize,
+    ) -> u8;
+}
+
+/// Why a request has no answer.
+#[derive(Clone, Copy, Debug, PartialEq, Eq)]
+pub enum Refused {
+    /// The request is no command, is blank, has a line feed or a NUL, or has more than 4096 bytes.
+    Unreadable,
+    /// There was no memory.
+    Memory,
+}
+
+impl fmt::Display for Refused {
+    fn fmt(&self, f: &mut fmt::Formatter<'_>) -> fmt::Result {
+        f.write_str(match self {
+            Refused::Unreadable => "the request is unreadable",
+            Refused::Memory => "out of memory",
+        })
+    }
+}
+
+impl std::error::Error for Refused {}
+
+/// Most answers have fewer bytes.
+const ROOM: usize = 256;
+
+/// Answers one request. If WGSL's rules refuse the expression, the message is the answer.
+///
+/// The deepest request takes less than 160 KiB of stack.
+pub fn answer(request: &str) -> Result<String, Refused> {
+    let mut room = [0; ROOM];
+    match ask(request, &mut room)? {
+        Reply::Answer(len) => text(&room[..len]),
+        Reply::NoRoom(len) => {
+            let mut room = Vec::new();
+            room.try_reserve_exact(len).map_err(|_| Refused::Memory)?;
+            room.resize(len, 0);
+            match ask(request, &mut room)? {
+                Reply::Answer(len) => text(&room[..len]),
+                Reply::NoRoom(_) => unreachable!("the same request has the same answer"),
+            }
+        }
+    }
+}
+
+/// The length of an answer, and whether there was room for it.
+enum Reply {
+    Answer(usize),
+    NoRoom(usize),
+}
+
+fn ask(request: &str, room: &mut [u8]) -> Result<Reply, Refused> {
+    let mut len = 0;
+    // SAFETY: each pointer is that of a live slice with this length, or of `len`; the mutable ones overlap nothing, and no
+    // slice has 2^63 bytes. The library is linked with one malloc, realloc and free.
+    let status = unsafe {
+        wgsl_answer(request.as_ptr(), request.len(), room.as_mut_ptr(), room.len(), &mut len)
+    };
+    match status {
+        0 => Ok(Reply::Answer(len)),
+        3 => Err(Refused::Memory),
+        4 => Ok(Reply::NoRoom(len)),
+        _ => Err(Refused::Unreadable),
+    }
+}
+
+fn text(bytes: &[u8]) -> Result<String, Refused> {
+    let answer = std::str::from_utf8(bytes).expect("an answer is UTF-8");
+    let mut text = String::new();
+    text.try_reserve_exact(answer.len()).map_err(|_| Refused::Memory)?;
+    text.push_str(answer);
+    Ok(text)
+}

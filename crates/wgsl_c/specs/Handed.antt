@@ -1,0 +1,38 @@
+-- What C is handed.
+use Rattle.std.specs.Prelude.{◌≡◌, ◌⊎◌, ◌<◌, ◌≤◌, ◌++◌, ℕ, List, [], All, IfOk, IsUtf8, Result, Ok, Err, drop, length, string_bytes, true}
+use Rattle.std.specs.declared.alloc.AllocError.{AllocError}
+use Rattle.wgsl_requests.specs.Words.{has_forbidden, words_of}
+use Rattle.wgsl_requests.specs.declared.request.Reply.{Reply}
+use Rattle.wgsl_requests.specs.declared.request.Reply.TheVariants.{Nothing, Answer, Unreadable}
+
+-- 0 answered, 2 unreadable, 3 memory refused, 4 no room
+abbrev pub IsStatus : ℕ → Type 0
+IsStatus status = (status ≡ 0) ⊎ (status ≡ 2) ⊎ (status ≡ 3) ⊎ (status ≡ 4)
+
+-- what the library promises of the reply to a request
+pub record IsReplyTo (request : List ℕ) (reply : Result Reply AllocError) : Type 0 where
+  pub too_long : 4096 < length request → reply ≡ Ok Unreadable
+  pub forbidden : has_forbidden request ≡ true → reply ≡ Ok Unreadable
+  pub no_text : ¬ All IsUtf8 (words_of request) → IfOk reply (λ r. r ≡ Unreadable)
+  pub no_words : length request ≤ 4096 → words_of request ≡ [] → IfOk reply (λ r. r ≡ Nothing)
+
+-- a text is written if there is room for it: at the start of the room, whose rest stays as it was
+pub record IsHandedText (text old new : List ℕ) (len status : ℕ) : Type 0 where
+  pub whole_length : len ≡ length text
+  pub fits : length text ≤ length old → status ≡ 0
+  pub written : length text ≤ length old → new ≡ text ++ drop (length text) old
+  pub no_room : length old < length text → status ≡ 4
+  pub unwritten : length old < length text → new ≡ old
+
+-- there is no text: the room stays as it was
+pub record IsRefused (wanted : ℕ) (old new : List ℕ) (len status : ℕ) : Type 0 where
+  pub answers : status ≡ wanted
+  pub no_length : len ≡ 0
+  pub unwritten : new ≡ old
+
+-- the reply is handed over: the room before and after, the length, the status
+abbrev pub IsHandedOver : Result Reply AllocError → List ℕ → List ℕ → ℕ → ℕ → Type 0
+IsHandedOver (Ok (Answer text)) old new len status = IsHandedText (string_bytes text) old new len status
+IsHandedOver (Ok Nothing) old new len status = IsRefused 2 old new len status
+IsHandedOver (Ok Unreadable) old new len status = IsRefused 2 old new len status
+IsHandedOver (Err _) old new len status = IsRefused 3 old new len status

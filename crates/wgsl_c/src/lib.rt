@@ -1,0 +1,47 @@
+//! The library for C: one function that answers a request.
+#![tactic(auto)]
+
+mod handed;
+#[cfg(test)]
+mod tests;
+
+ghost use Rattle.std.specs.Prelude.{◌≡◌, ◌≢◌, ◌⊎◌, ◌<◌, ◌≤◌, [], All, IsUtf8, Ok, Result, drop, length, take, true};
+ghost use Rattle.std.specs.declared.alloc.AllocError.{AllocError};
+ghost use Rattle.wgsl_requests.specs.Words.{has_forbidden, words_of};
+ghost use Rattle.wgsl_requests.specs.declared.request.Reply.{Reply};
+ghost use Rattle.wgsl_c.specs.Handed.{IsHandedOver, IsReplyTo, IsStatus};
+
+use handed::hand_over;
+use std::alloc::Global;
+use wgsl_requests::request::reply_to;
+
+/// Answers one request, as the program answers a line.
+///
+/// The status is 0 if the answer is written, 2 if the request can't be read, 3 if memory was refused, and 4 if the answer is
+/// longer than the room for it. `text_len` is the length of the answer in bytes, on status 4 too, and else 0. The answer is
+/// written on status 0 alone, without a NUL at its end.
+#[unsafe(no_mangle)]
+pub extern "C" fn wgsl_answer(
+    alloc: Global,
+    request: &[u8],
+    answer: &mut [u8],
+    text_len: &mut usize,
+) -> u8
+    // The reply to the request is handed over, and what holds of it is said again.
+    ensures reply { (reply : Result Reply AllocError) × IsReplyTo request.now reply
+        × IsHandedOver reply answer.old answer.new text_len.new result }
+
+    ensures status { IsStatus result }
+    ensures answered { result ≡ 0 → text_len.new ≤ length answer.old }
+    ensures text { result ≡ 0 → IsUtf8 (take text_len.new answer.new) }
+    ensures rest { result ≡ 0
+        → drop text_len.new answer.new ≡ drop text_len.new answer.old }
+    ensures no_room { result ≡ 4 → length answer.old < text_len.new }
+    ensures unwritten { result ≢ 0 → answer.new ≡ answer.old }
+    ensures too_long { 4096 < length request.now → result ≡ 2 }
+    ensures forbidden { has_forbidden request.now ≡ true → result ≡ 2 }
+    ensures no_text { ¬ All IsUtf8 (words_of request.now) → (result ≡ 2) ⊎ (result ≡ 3) }
+    ensures no_words { words_of request.now ≡ [] → (result ≡ 2) ⊎ (result ≡ 3) }
+{
+    hand_over(&reply_to(alloc, 1, request), answer, text_len)
+}

@@ -1,0 +1,10 @@
+//! Requests in words, and their answers: what the program and the library for C have in common.
+#![tactic(auto)]
+
+pub mod command;
+pub mod read;
+mod report;
+pub mod request;
+pub mod split;
+pub mod template;
+pub mod words;

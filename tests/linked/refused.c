@@ -1,0 +1,73 @@
+/* Refuses each request for memory of each call in turn, and then all from it on. Linked with malloc, realloc and free
+ * wrapped. The call says so, writes nothing and keeps nothing, and the same call then answers as before. */
+#include "requests.h"
+
+static long asked, live, refused = -1, refused_from = -1;
+
+void *__real_malloc(size_t size);
+void *__real_realloc(void *old, size_t size);
+void __real_free(void *at);
+
+static int is_refused(void) {
+    asked++;
+    return asked == refused || (refused_from >= 0 && asked >= refused_from);
+}
+
+void *__wrap_malloc(size_t size) {
+    if (is_refused()) return NULL;
+    void *at = __real_malloc(size);
+    live += at != NULL;
+    return at;
+}
+
+void *__wrap_realloc(void *old, size_t size) {
+    if (is_refused()) return NULL;
+    void *at = __real_realloc(old, size);
+    live += !old && at;
+    return at;
+}
+
+void __wrap_free(void *at) {
+    live -= at != NULL;
+    __real_free(at);
+}
+
+static uint8_t wanted[LONG_ANSWER], room[LONG_ANSWER];
+
+static int is_untouched(void) {
+    for (size_t i = 0; i < sizeof room; i++)
+        if (room[i] != 0xAA) return 0;
+    return 1;
+}
+
+/* One call with that request for memory refused, or all from it on. */
+static void refuse(size_t k, long one, long from, int status, size_t text_len) {
+    size_t len = 77;
+    long before = live;
+    memset(room, 0xAA, sizeof room);
+    asked = 0, refused = one, refused_from = from;
+    int found = ask(k, room, sizeof room, &len);
+    refused = refused_from = -1;
+    if (found != WGSL_REFUSED || len || !is_untouched()) wrong(k, "refused memory is told otherwise");
+    if (live != before) wrong(k, "memory is kept");
+    if (ask(k, room, sizeof room, &len) != status || len != text_len || memcmp(room, wanted, len))
+        wrong(k, "another answer after refused memory");
+}
+
+int main(void) {
+    long all = 0;
+    read_requests();
+    for (size_t k = 0; k < count; k++) {
+        size_t len = 0;
+        asked = 0;
+        int status = ask(k, wanted, sizeof wanted, &len);
+        long needed = asked;
+        for (long n = 1; n <= needed; n++) {
+            refuse(k, n, -1, status, len);
+            refuse(k, -1, n, status, len);
+        }
+        all += needed;
+    }
+    printf("%ld requests for memory\n", all);
+    return 0;
+}
