@@ -1,4 +1,4 @@
--- Two values of an enumeration are equal, or they aren't.
+-- Equality of enumeration values is decidable.
 use Rattle.std.proofs.Common.{◌≡◌, Bool, true, false, refl, sym, ◌∙◌, true≢false}
 use denote.Enum.Bare.{Bare, sameb, same_true, same_false}
 use denote.Enum.Declared.{Declared}

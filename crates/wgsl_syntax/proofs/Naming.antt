@@ -1,4 +1,4 @@
--- Each enumeration's texts name its values, and reading a text gives the value back.
+-- The texts of each enumeration are distinct, and parsing a text gives its value back.
 use Rattle.std.proofs.Common.{◌≡◌, ◌≢◌, ℕ, Bool, true, false, cond, List, [], ◌∷◌, All, Contains, Option, Some, None, Ok, refl, sym, ap, ◌∙◌, arith}
 use Rattle.std.specs.Option.{ok_or}
 use Rattle.std.specs.Str.{bytes_eq}
@@ -50,7 +50,7 @@ text_first : {A : Type 0} (text : A → List ℕ) (rest : Option A) (s : List �
 text_first text rest s v x true so later e = let same : v ≡ x = cc in so refl ∙ ap text same
 text_first text rest s v x false so later e = later e
 
--- what the table names has that text
+-- the value found for a text has that text
 named_text : {A : Type 0} (text : A → List ℕ) (values : List A) (s : List ℕ) (x : A) → named (table text values) s ≡ Some x → s ≡ text x
 named_text text [] s x e = cc
 named_text text (v ∷ values) s x e =
@@ -61,7 +61,7 @@ row_first : {A : Type 0} (text : A → List ℕ) (values : List A) (rest : Optio
 row_first text values rest v x true later e = let same : v ≡ x = cc in (0, omega arith, ap (λ y. (y, text y)) same)
 row_first text values rest v x false later e = Contains-append_right ((v, text v) ∷ []) (table text values) (x, text x) (later e)
 
--- and stands in it
+-- and it is in the table
 named_row : {A : Type 0} (text : A → List ℕ) (values : List A) (s : List ℕ) (x : A) → named (table text values) s ≡ Some x → Contains (table text values) (x, text x)
 named_row text [] s x e = absurd (cc)
 named_row text (v ∷ values) s x e =
@@ -71,7 +71,7 @@ only_rows : {A : Type 0} (text : A → List ℕ) (values : List A) → All (λ (
 only_rows {A} text [] = All-nil (λ (row : A × List ℕ). row.1 ≡ text row.0)
 only_rows {A} text (v ∷ values) = All-cons (λ (row : A × List ℕ). row.1 ≡ text row.0) (v, text v) (table text values) refl (only_rows text values)
 
--- a table that names each value at its text
+-- a table in which each value is found by its text
 naming : {A : Type 0} (text : A → List ℕ) (values : List A) → ((x : A) → named (table text values) (text x) ≡ Some x) → IsNaming text (table text values)
 naming text values back = record {
   every = λ x. named_row text values (text x) x (back x);
@@ -209,7 +209,7 @@ enumerant_back (enumerant.AccelerationStructureFlags flag.VertexReturn) = refl
 pub enumerant_naming : IsNaming enumerant_text (table enumerant_text enumerants)
 enumerant_naming = naming enumerant_text enumerants enumerant_back
 
--- a text that is read as one enumerant is no other's
+-- the text of an enumerant belongs to no other enumerant
 pub enumerant_reads : (s : List ℕ) (x : Enumerant) → s ≡ enumerant_text x → x ≢ enumerant.AddressSpace space.Handle
     → ReadsBut (enumerant.AddressSpace space.Handle) enumerant_text s (Ok x)
 enumerant_reads s x at not_handle y = (

@@ -1,4 +1,4 @@
--- The derived `==` of textures holds exactly between equal ones.
+-- The derived `==` of textures is true exactly for equal ones.
 use Rattle.std.proofs.Common.{◌≡◌, Bool, true, false, ◌&&◌, refl, sym, ap, subst, true≢false}
 use Rattle.std.specs.Bool.{Decides}
 use denote.Enum.Bare.{sameb, same_true, true_same}

@@ -1,4 +1,5 @@
--- Address spaces and access modes: their words, and how memory may be accessed (WGSL, "Address Spaces" and "Memory Access Mode").
+-- Address spaces and access modes: their names, and how memory may be accessed (WGSL, "Address Spaces" and
+-- "Memory Access Mode").
 use Rattle.std.specs.Prelude.{◌≡◌, ◌⊎◌, ℕ, List, [], ◌∷◌, codes}
 use Rattle.wgsl_syntax.specs.declared.address.AddressSpace.{AddressSpace}
 use Rattle.wgsl_syntax.specs.declared.address.AddressSpace.TheVariants.{Function, Private, Workgroup, Uniform, Storage, Handle, PushConstant}
@@ -8,7 +9,7 @@ use Rattle.wgsl_syntax.specs.declared.address.AccessMode.TheVariants.{Read, Writ
 abbrev pub spaces : List AddressSpace
 spaces = Function ∷ Private ∷ Workgroup ∷ Uniform ∷ Storage ∷ Handle ∷ PushConstant ∷ []
 
--- those that a program can write
+-- the spaces that a program can name
 abbrev pub written_spaces : List AddressSpace
 written_spaces = Function ∷ Private ∷ Workgroup ∷ Uniform ∷ Storage ∷ PushConstant ∷ []
 
@@ -30,7 +31,7 @@ access_text Write = codes "write"
 access_text ReadWrite = codes "read_write"
 access_text Atomic = codes "atomic"
 
--- how a variable is accessed that names no access mode
+-- the access mode of a variable that names none
 abbrev pub default_access : AddressSpace → AccessMode
 default_access Function = ReadWrite
 default_access Private = ReadWrite

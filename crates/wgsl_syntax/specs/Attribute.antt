@@ -1,4 +1,4 @@
--- The words that attributes and directives take (WGSL, "Attributes", "Built-in Values", "Diagnostics").
+-- The names that attributes and directives take (WGSL, "Attributes", "Built-in Values", "Diagnostics").
 use Rattle.std.specs.Prelude.{ℕ, List, [], ◌∷◌, codes}
 use Rattle.wgsl_syntax.specs.declared.attribute.BuiltinValue.{BuiltinValue}
 use Rattle.wgsl_syntax.specs.declared.attribute.BuiltinValue.TheVariants.{VertexIndex, InstanceIndex, ClipDistances, Position, FrontFacing, FragDepth, SampleIndex, SampleMask, LocalInvocationId, LocalInvocationIndex, GlobalInvocationId, WorkgroupId, NumWorkgroups, SubgroupInvocationId, SubgroupSize, SubgroupId, NumSubgroups, PrimitiveIndex, ViewIndex}

@@ -1,4 +1,4 @@
--- The words for predeclared enumerants: those of the value inside (WGSL, "Predeclared Enumerants").
+-- Predeclared enumerants, each with the name of the value inside (WGSL, "Predeclared Enumerants").
 use Rattle.std.specs.Prelude.{ℕ, List, ◌++◌, map}
 use Rattle.wgsl_syntax.specs.Address.{access_modes, access_text, space_text, spaces}
 use Rattle.wgsl_syntax.specs.Attribute.{flag_text, flags}

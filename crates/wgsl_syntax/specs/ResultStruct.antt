@@ -1,4 +1,4 @@
--- The names of the structs that `frexp` and `modf` give (WGSL, "frexp" and "modf").
+-- The names of the structs that `frexp` and `modf` return (WGSL, "frexp" and "modf").
 use Rattle.std.specs.Prelude.{ℕ, List, ◌++◌, codes}
 use Rattle.wgsl_syntax.specs.declared.result_struct.ResultStruct.{ResultStruct}
 use Rattle.wgsl_syntax.specs.declared.result_struct.ResultFunction.{ResultFunction}
@@ -13,7 +13,7 @@ abbrev pub function_text : ResultFunction → List ℕ
 function_text Frexp = codes "__frexp_result_"
 function_text Modf = codes "__modf_result_"
 
--- a scalar leaves no trace in the name
+-- for a scalar the name has no shape
 abbrev pub shape_text : ResultShape → List ℕ
 shape_text Scalar = codes ""
 shape_text Vec2 = codes "vec2_"

@@ -1,4 +1,4 @@
--- Texel formats: their names, and what the names say of their channels (WGSL, "Texel Formats").
+-- Texel formats: their names, and what the names say about the channels (WGSL, "Texel Formats").
 use Rattle.std.specs.Prelude.{ℕ, List, [], ◌∷◌, Bool, codes, if◌then◌else◌, nat_eq}
 use Rattle.std.specs.List.{ends_with, starts_with}
 use Rattle.wgsl_syntax.specs.declared.texture.SampledType.{SampledType}
@@ -52,7 +52,7 @@ texel_text Rgb10a2Unorm = codes "rgb10a2unorm"
 texel_text Rg11b10Float = codes "rg11b10float"
 texel_text R64Uint = codes "r64uint"
 
--- a format of unsigned or signed integers ends in `uint` or `sint`; all others are read as floats
+-- names of unsigned formats end in `uint`, of signed formats in `sint`; all others are read as floats
 abbrev pub channel_type : TexelFormat → SampledType
 channel_type format =
     if ends_with nat_eq (texel_text format) (codes "uint") then U32 else
@@ -61,7 +61,7 @@ channel_type format =
 abbrev begins : TexelFormat → List ℕ → Bool
 begins format channels = starts_with nat_eq (texel_text format) channels
 
--- a format's name begins with its channels, and `rg11b10` holds its blue one apart
+-- a format's name begins with its channels, but `rg11b10` has `b` later
 abbrev pub channel_count : TexelFormat → ℕ
 channel_count format =
     if begins format (codes "rgb") then 4 else

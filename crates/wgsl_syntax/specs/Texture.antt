@@ -54,7 +54,7 @@ sampled_as sampled = codes "<" ++ sampled_text sampled ++ codes ">"
 abbrev stored_as : TexelFormat → AccessMode → List ℕ
 stored_as format access = codes "<" ++ texel_text format ++ codes ", " ++ access_text access ++ codes ">"
 
--- the type that the texture is sampled as, or the format of its texels and how they are accessed
+-- the sampled type, or the texel format and the access mode, if the type has them
 abbrev texture_parameters : TextureType → List ℕ
 texture_parameters (Sampled1D sampled) = sampled_as sampled
 texture_parameters (Sampled2D sampled) = sampled_as sampled

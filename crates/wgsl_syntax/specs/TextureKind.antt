@@ -1,4 +1,4 @@
--- What kind of texture one is, and what it holds (WGSL, "Texture and Sampler Types").
+-- The dimensions, the sampled type and the kind of each texture (WGSL, "Texture and Sampler Types").
 use Rattle.std.specs.Prelude.{Option, Some, None, ⊤}
 use Rattle.wgsl_syntax.specs.Texel.{channel_type}
 use Rattle.wgsl_syntax.specs.declared.scalar.Scalar.{Scalar}
@@ -35,7 +35,7 @@ sampled_scalar I32 = scalars.I32
 sampled_scalar U32 = scalars.U32
 sampled_scalar F32 = scalars.F32
 
--- what a texture's channels are read as: depths and external textures are floats
+-- the type that a texture's channels are read as: `f32` for depth and external textures
 abbrev pub texture_channel : TextureType → SampledType
 texture_channel (Sampled1D sampled) = sampled
 texture_channel (Sampled1DArray sampled) = sampled

@@ -8,7 +8,7 @@ use std::fmt;
 use std::fmt::Write;
 use std::str::FromStr;
 
-/// An address space (WGSL, "Address Spaces"), with `handle` and naga's `push_constant`.
+/// An address space (WGSL, "Address Spaces"), including `handle` and naga's `push_constant`.
 #[derive(Clone, Copy, PartialEq, Eq, Hash, Debug)]
 pub enum AddressSpace {
     Function,
@@ -21,7 +21,7 @@ pub enum AddressSpace {
 }
 
 impl AddressSpace {
-    /// How a variable is accessed whose declaration names no access mode (WGSL, "Address Spaces").
+    /// The access mode of a variable whose declaration names none (WGSL, "Address Spaces").
     pub fn default_access_mode(self) -> AccessMode
         ensures { result ≡ default_access self }
     {
@@ -79,7 +79,7 @@ impl FromStr for AddressSpace {
     }
 }
 
-/// An access mode (WGSL, "Memory Access Mode"), with naga's `atomic` for storage textures.
+/// An access mode (WGSL, "Memory Access Mode"), including naga's `atomic` for storage textures.
 #[derive(Clone, Copy, PartialEq, Eq, Hash, Debug)]
 pub enum AccessMode {
     Read,
@@ -89,14 +89,14 @@ pub enum AccessMode {
 }
 
 impl AccessMode {
-    /// Whether memory of this mode can be read; `atomic` is neither read nor written.
+    /// Whether memory with this access mode can be read; false for `atomic`.
     pub fn is_read(self) -> bool
         ensures { IsTrue result ↔ MayRead self }
     {
         matches!(self, AccessMode::Read | AccessMode::ReadWrite)
     }
 
-    /// Whether memory of this mode can be written.
+    /// Whether memory with this access mode can be written; false for `atomic`.
     pub fn is_write(self) -> bool
         ensures { IsTrue result ↔ MayWrite self }
     {

@@ -7,7 +7,7 @@ use std::fmt;
 use std::fmt::Write;
 use std::str::FromStr;
 
-/// A built-in value (WGSL, "Built-in Inputs and Outputs"), with those of naga.
+/// A built-in value (WGSL, "Built-in Inputs and Outputs"), including naga's.
 #[derive(Clone, Copy, PartialEq, Eq, Hash, Debug)]
 pub enum BuiltinValue {
     VertexIndex,
@@ -98,7 +98,7 @@ impl FromStr for BuiltinValue {
     }
 }
 
-/// How severe a diagnostic is (WGSL, "Diagnostics").
+/// The severity of a diagnostic (WGSL, "Diagnostics").
 #[derive(Clone, Copy, PartialEq, Eq, Hash, Debug)]
 pub enum DiagnosticSeverity {
     Error,
@@ -144,7 +144,7 @@ impl FromStr for DiagnosticSeverity {
     }
 }
 
-/// How a user-defined value is interpolated (WGSL, "Interpolation").
+/// How a user-defined input or output is interpolated (WGSL, "Interpolation").
 #[derive(Clone, Copy, PartialEq, Eq, Hash, Debug)]
 pub enum InterpolationType {
     Perspective,
@@ -187,7 +187,7 @@ impl FromStr for InterpolationType {
     }
 }
 
-/// Where a user-defined value is sampled (WGSL, "Interpolation").
+/// Where a user-defined input or output is sampled (WGSL, "Interpolation").
 #[derive(Clone, Copy, PartialEq, Eq, Hash, Debug)]
 pub enum InterpolationSampling {
     Center,
@@ -236,7 +236,7 @@ impl FromStr for InterpolationSampling {
     }
 }
 
-/// How a fragment shader may change the depth: naga's early depth test.
+/// How a fragment shader may change the depth, for naga's early depth test.
 #[derive(Clone, Copy, PartialEq, Eq, Hash, Debug)]
 pub enum ConservativeDepth {
     GreaterEqual,

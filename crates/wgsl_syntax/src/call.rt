@@ -1,8 +1,8 @@
-// The words of the table of built-in functions: what is asked of arguments, and what is made of them.
+// What a row of the table of built-in functions requires of the arguments, and what it returns.
 use crate::result_struct::ResultFunction;
 use crate::scalar::Scalar;
 
-/// Kinds of scalars.
+/// A set of scalar types.
 #[derive(Clone, Copy)]
 pub enum ScalarKind {
     Boolean,
@@ -16,7 +16,7 @@ pub enum ScalarKind {
     I32OrAbstract,
 }
 
-/// Kinds of textures.
+/// A set of texture types.
 #[derive(Clone, Copy)]
 pub enum TextureKind {
     AnyTexture,
@@ -30,7 +30,7 @@ pub enum TextureKind {
     Sampled2dOrExternal,
 }
 
-/// What is asked of one argument.
+/// What a row requires of one argument.
 #[derive(Clone, Copy)]
 pub enum Shape {
     Any,
@@ -41,58 +41,58 @@ pub enum Shape {
     ScalarOrVector,
     Matrix,
     SquareMatrix,
-    /// What `frexp` and `modf` take.
+    /// An abstract float, `f32` or `f16`, or a vector of these.
     Fraction,
-    /// What converts to the scalar.
+    /// A type that converts to the scalar.
     To(Scalar),
-    /// What converts to a vector with that many components.
+    /// A type that converts to the vector with that many components.
     ToVector(u8, Scalar),
     TextureOf(TextureKind),
     PointerToAtomic,
     PointerInWorkgroup,
-    /// The pointer by which a ray query is passed.
+    /// A pointer to read and write in the function space, as ray queries are passed.
     Query,
     Acceleration,
     Structure,
 }
 
-/// What is asked of the first two arguments together.
+/// What a row requires of the first two arguments together.
 #[derive(Clone, Copy)]
 pub enum Condition {
-    /// They are vectors of one length.
+    /// Both are vectors of the same length.
     EqualLengths,
     /// Both are abstract, or neither is.
     SameAbstractness,
 }
 
-/// A type that the arguments make.
+/// A type that is found from the arguments.
 #[derive(Clone, Copy)]
 pub enum Source {
     Argument,
-    /// What is inside the first argument.
+    /// The type inside the first argument.
     Inner,
     InnerOfInner,
-    /// The common type of the first two.
+    /// The common type of the first two arguments.
     Common,
     InnerOfCommon,
     CommonOfThree,
-    /// The common type of what is inside the first two, and the third.
+    /// The common type of the types inside the first two arguments and of the third argument.
     CommonOfInner,
     The(Scalar),
-    /// The scalar that the second argument is sampled as.
+    /// The sampled type of the second argument, a texture.
     SampledAs,
-    /// The scalar that the channels of the first are read as.
+    /// The type that the channels of the first argument, a texture, are read as.
     Channel,
 }
 
-/// What a row gives.
+/// What a row returns.
 #[derive(Clone, Copy)]
 pub enum ReturnType {
     Of(Source),
     Concrete(Source),
-    /// A vector of it, as long as the first argument.
+    /// A vector of the type, as long as the first argument.
     AsLong(Source),
-    /// A vector with that many components.
+    /// A vector of the type with that many components.
     InVector(u8, Source),
     Transposed,
     TextureSize,
@@ -104,7 +104,7 @@ pub enum ReturnType {
     ByTemplate,
 }
 
-/// What is asked of all arguments, one after another.
+/// What a row requires of each argument, in order.
 #[derive(Clone, Copy)]
 pub enum Arguments {
     Nothing,
@@ -114,11 +114,11 @@ pub enum Arguments {
     Four(Shape, Shape, Shape, Shape),
 }
 
-/// What is asked of the arguments, and what they give.
+/// What is required of the arguments, and what is returned.
 #[derive(Clone, Copy)]
 pub enum Row {
     Takes(Arguments, ReturnType),
-    /// With any further arguments.
+    /// Any further arguments are accepted.
     TakesAtLeast(Arguments, ReturnType),
     TakesWhere(Arguments, Condition, ReturnType),
     TakesWithTemplate(Arguments, ReturnType),

@@ -1,10 +1,10 @@
-// What an array, a vector or a matrix is, apart from its element.
+// An array, a vector or a matrix, without its element type.
 ghost use Rattle.std.specs.Prelude.{◌≡◌, ◌↔◌, IsTrue};
 
-/// What an array, a vector or a matrix is, apart from its element.
+/// An array, a vector or a matrix, without its element type.
 #[derive(Clone, Copy, PartialEq, Eq, Debug)]
 pub enum Layer {
-    /// The number of elements, if it is known.
+    /// The number of elements; None if the array is runtime-sized.
     Array(Option<usize>),
     /// The number of components.
     Vec(u8),
@@ -13,7 +13,7 @@ pub enum Layer {
 }
 
 impl Layer {
-    /// Whether it is the same layer, with the same counts.
+    /// Whether both are the same layer with the same counts.
     pub fn is(self, other: Layer) -> bool
         ensures { IsTrue result ↔ (self ≡ other) }
     {

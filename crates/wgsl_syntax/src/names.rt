@@ -1,4 +1,4 @@
-//! That the texts of each enumeration tell its values apart.
+//! The texts of each enumeration are distinct.
 ghost use Rattle.wgsl_syntax.specs.Address.{access_modes, access_text, space_text, spaces};
 ghost use Rattle.wgsl_syntax.specs.Attribute.{builtin_text, builtin_values, depth_text, depths, flag_text, flags, interpolation_text, interpolations, sampling_text, samplings, severities, severity_text};
 ghost use Rattle.wgsl_syntax.specs.Enumerant.{enumerant_text, enumerants};
@@ -8,7 +8,7 @@ ghost use Rattle.wgsl_syntax.specs.Scalar.{scalar_text, scalars};
 ghost use Rattle.wgsl_syntax.specs.Texel.{texel_formats, texel_text};
 ghost use Rattle.wgsl_syntax.specs.Texture.{sampled_text, sampled_types, sampler_text, samplers};
 
-/// Every value of an enumeration has one text, and no two values of it share one.
+/// In each enumeration, every value has one text and no two values share a text.
 #[tactic(auto, using(crate::proofs::Naming::namings))]
 pub fn texts_name_values()
     ensures address_spaces { IsNaming space_text (table space_text spaces) }

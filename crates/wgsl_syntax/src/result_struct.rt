@@ -1,6 +1,6 @@
-// The structs that `frexp` and `modf` give, by name.
+// The structs that `frexp` and `modf` return, by name.
 
-/// The function that gives a result struct.
+/// The function that returns a result struct.
 #[derive(Clone, Copy, PartialEq, Eq, Hash, Debug)]
 pub enum ResultFunction {
     Frexp,
@@ -24,7 +24,7 @@ pub enum ResultPrecision {
     F16,
 }
 
-/// One of the 24 structs that `frexp` and `modf` give (WGSL, "frexp" and "modf").
+/// One of the 24 structs that `frexp` and `modf` return (WGSL, "frexp" and "modf").
 #[derive(Clone, Copy, PartialEq, Eq, Hash, Debug)]
 pub struct ResultStruct {
     pub function: ResultFunction,
@@ -36,7 +36,7 @@ impl ResultStruct {
     ghost use Rattle.std.specs.Prelude.{◌≡◌};
     ghost use Rattle.wgsl_syntax.specs.ResultStruct.{result_name};
 
-    /// The name of the struct, as `__modf_result_vec2_f32`.
+    /// The name of the struct, for example `__modf_result_vec2_f32`.
     pub fn name(self) -> &'static str
         ensures { result.now ≡ result_name self }
     {

@@ -8,7 +8,7 @@ use std::fmt;
 use std::fmt::Write;
 use std::str::FromStr;
 
-/// A scalar type (WGSL, "Scalar Types"), with the abstract numbers and naga's 64-bit scalars.
+/// A scalar type (WGSL, "Scalar Types"), including the abstract numbers and naga's 64-bit scalars.
 #[derive(Clone, Copy, PartialEq, Eq, Hash, Debug)]
 pub enum Scalar {
     Bool,
@@ -88,7 +88,7 @@ impl From<SampledType> for Scalar {
 }
 
 impl Scalar {
-    /// Whether it is an integer (WGSL, "Integer Types"), also an abstract one.
+    /// Whether it is an integer (WGSL, "Integer Types"), concrete or abstract.
     pub fn is_integer(self) -> bool
         ensures { IsTrue result ↔ IsInteger self }
     {
@@ -98,7 +98,7 @@ impl Scalar {
         )
     }
 
-    /// Whether it is a float (WGSL, "Floating Point Types"), also an abstract one.
+    /// Whether it is a float (WGSL, "Floating Point Types"), concrete or abstract.
     pub fn is_float(self) -> bool
         ensures { IsTrue result ↔ IsFloat self }
     {

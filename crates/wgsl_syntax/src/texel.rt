@@ -8,7 +8,7 @@ use std::fmt;
 use std::fmt::Write;
 use std::str::FromStr;
 
-/// A texel format (WGSL, "Texel Formats"), with those of naga.
+/// A texel format (WGSL, "Texel Formats"), including naga's.
 #[derive(Clone, Copy, PartialEq, Eq, Hash, Debug)]
 pub enum TexelFormat {
     Rgba8Unorm,
@@ -55,7 +55,7 @@ pub enum TexelFormat {
 }
 
 impl TexelFormat {
-    /// What the channels of a texel are read as (WGSL, "Texel Formats").
+    /// The type that the channels of a texel are read as (WGSL, "Texel Formats").
     pub fn channel_type(self) -> SampledType
         ensures { result ≡ channel_type self }
     {

@@ -10,7 +10,7 @@ use std::fmt;
 use std::fmt::Write;
 use std::str::FromStr;
 
-/// What a texture is sampled as (WGSL, "Sampled Texture Types").
+/// The sampled type of a texture (WGSL, "Sampled Texture Types").
 #[derive(Clone, Copy, PartialEq, Eq, Hash, Debug)]
 pub enum SampledType {
     I32,
@@ -80,7 +80,7 @@ impl FromStr for SamplerType {
     }
 }
 
-/// A texture (WGSL, "Texture Types"), with naga's one-dimensional and multisampled arrays.
+/// A texture (WGSL, "Texture Types"), including naga's one-dimensional and multisampled arrays.
 #[derive(Clone, Copy, PartialEq, Eq, Hash, Debug)]
 pub enum TextureType {
     Sampled1D(SampledType),
@@ -106,7 +106,7 @@ pub enum TextureType {
 }
 
 impl TextureType {
-    /// How many dimensions the texture has; a cube has the two of its faces.
+    /// The number of dimensions; a cube counts as two-dimensional.
     pub fn dimensions(self) -> TextureDimensions
         ensures { result ≡ dimensions self }
     {
@@ -120,7 +120,8 @@ impl TextureType {
         }
     }
 
-    /// What the texture is sampled as, if its type says so (WGSL, "Sampled Texture Types").
+    /// The sampled type of a sampled texture or a multisampled array (WGSL, "Sampled Texture Types"). None for any
+    /// other texture, also for `texture_multisampled_2d`.
     pub fn sampled_type(self) -> Option<SampledType>
         ensures { result ≡ sampled_type self }
     {
@@ -137,7 +138,7 @@ impl TextureType {
         }
     }
 
-    /// What the texture's channels are read as.
+    /// The type that the texture's channels are read as: `f32` for depth and external textures.
     pub fn channel_type(self) -> SampledType
         ensures { result ≡ texture_channel self }
     {
@@ -160,7 +161,7 @@ impl TextureType {
         }
     }
 
-    /// Whether it holds depths of one sample (WGSL, "Depth Texture Types").
+    /// Whether it is a depth texture and not multisampled (WGSL, "Depth Texture Types").
     pub fn is_depth(self) -> bool
         ensures { IsTrue result ↔ IsDepth self }
     {
@@ -203,7 +204,7 @@ impl TextureType {
         )
     }
 
-    /// Whether it has layers (WGSL, "Texture Types").
+    /// Whether it is an arrayed texture (WGSL, "Texture Types").
     pub fn is_arrayed(self) -> bool
         ensures { IsTrue result ↔ IsArrayed self }
     {
@@ -220,7 +221,7 @@ impl TextureType {
         )
     }
 
-    /// Whether it has several samples a texel (WGSL, "Multisampled Texture Types").
+    /// Whether it has several samples per texel (WGSL, "Multisampled Texture Types").
     pub fn is_multisampled(self) -> bool
         ensures { IsTrue result ↔ IsMultisampled self }
     {
