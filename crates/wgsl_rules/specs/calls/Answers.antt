@@ -1,4 +1,4 @@
--- What a call of a built-in function answers (WGSL, "Built-in Functions" and "Overload Resolution").
+-- What a call of a built-in function returns (WGSL, "Built-in Functions" and "Overload Resolution").
 use Rattle.std.specs.Prelude.{ℕ, ◌≡◌, ◌==◌, ◌⊎◌, List, [], ◌∷◌, Option, Some, None, Result, Ok, Err, All, codes, IsTrue, Bool, bytes_eq, count_by}
 use Rattle.std.specs.List.{list_all, list_any}
 use Rattle.wgsl_rules.specs.types.Types.{WgslType}
@@ -23,7 +23,7 @@ IsAnswerOf (r ∷ rs) c a = (Fits r c × IsReturnType (return_type_of r) c a) �
 unfoldable pub IsCallAnswer : Signature → Result (Option WgslType) Refusal → Type 0
 IsCallAnswer c a = IsAnswerOf (rows_named c.name call_table) c a
 
--- The names of the five functions that candidates are written for.
+-- The names of the five functions that have candidates.
 abbrev pub name_of : Name → List ℕ
 name_of (operator o) = []
 name_of min = codes "min"
@@ -32,13 +32,13 @@ name_of clamp = codes "clamp"
 name_of dot = codes "dot"
 name_of select = codes "select"
 
--- The answer is the result of the choice among the candidates; the call is refused exactly if none takes its arguments.
+-- The answer is the result of the least candidate; the call is refused exactly if no candidate takes its arguments.
 abbrev pub IsChosenCall : Name → Signature → Result (Option WgslType) Refusal → Type 0
 IsChosenCall n c (Ok (Some t)) = IsChosenAnswer n c.arguments (Some t)
 IsChosenCall n c (Ok None) = ⊥
 IsChosenCall n c (Err e) = (e ≡ signature c) × IsChosenAnswer n c.arguments None
 
--- So are the five functions answered on value types, without a template.
+-- This holds for the five functions on value types, without a template.
 unfoldable pub IsLeastCallAnswer : Signature → Result (Option WgslType) Refusal → Type 0
 IsLeastCallAnswer c a = (n : Name) → IsCallName n → c.name ≡ name_of n → c.template ≡ None → All IsValueType c.arguments → IsChosenCall n c a
 
@@ -48,7 +48,7 @@ IsLeafAnswer (Ok None) = Unit {0}
 IsLeafAnswer (Ok (Some t)) = IsLeaf t
 IsLeafAnswer (Err e) = ⊥
 
--- The call has no template, and the row that takes it gives such an answer.
+-- The call has no template, and its answer is a leaf type or no value.
 unfoldable pub IsLeafCall : Signature → Type 0
 IsLeafCall c = (c.template ≡ None) × (a : Result (Option WgslType) Refusal) × IsCallAnswer c a × IsLeafAnswer a
 
@@ -59,7 +59,7 @@ table_parts = maths_of_one ∷ maths_of_several ∷ bits_and_subgroups ∷ deriv
 abbrev pub has : List ℕ → List Line → Bool
 has name ls = list_any (λ l. list_any (bytes_eq name) l.names) ls
 
--- Each name is in exactly one part, and each line has names of the list alone.
+-- Each name is in exactly one part of the table, and each line has only names of the list.
 pub record NamesMatchTable : Type 0 where
   pub in_one_part : IsTrue (list_all (λ n. count_by (has n) table_parts == 1) call_names)
   pub in_list : IsTrue (list_all (λ l. list_all (λ w. list_any (bytes_eq w) call_names) l.names) call_table)

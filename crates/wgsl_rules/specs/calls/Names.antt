@@ -1,15 +1,15 @@
--- The names of the built-in functions, in the order of their bytes (WGSL, "Built-in Functions").
+-- The names of the built-in functions, sorted by their bytes (WGSL, "Built-in Functions").
 use Rattle.std.specs.Prelude.{ℕ, ◌≡◌, ◌==◌, ◌<◌, List, [], ◌∷◌, ◌++◌, length, slice_index_or, codes, cond}
 use Rattle.std.specs.Cmp.Lexicographic.{slice_cmp}
 use Rattle.std.specs.Ordering.{nat_cmp}
 use Rattle.std.specs.declared.cmp.Ordering.TheVariants.{Less}
 
--- A letter before the first of some words.
+-- The first word with a letter added in front, then the other words.
 abbrev pub onto_first : ℕ → List (List ℕ) → List (List ℕ)
 onto_first c [] = (c ∷ []) ∷ []
 onto_first c (w ∷ ws) = (c ∷ w) ∷ ws
 
--- The words that spaces part.
+-- The words of a text, separated by spaces.
 abbrev pub words : List ℕ → List (List ℕ)
 words [] = [] ∷ []
 words (c ∷ cs) = cond (c == 32) ([] ∷ words cs) (onto_first c (words cs))
@@ -17,7 +17,7 @@ words (c ∷ cs) = cond (c == 32) ([] ∷ words cs) (onto_first c (words cs))
 abbrev pub name_at : List (List ℕ) → ℕ → List ℕ
 name_at ns i = slice_index_or ns i []
 
--- Each name is above those before it, by its bytes.
+-- The names are sorted by their bytes, and distinct.
 abbrev pub IsRising : List (List ℕ) → Type 0
 IsRising ns = (i j : ℕ) → i < j → j < length ns → slice_cmp nat_cmp (name_at ns i) (name_at ns j) ≡ Less
 

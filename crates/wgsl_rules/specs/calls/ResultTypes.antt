@@ -10,17 +10,17 @@ use Rattle.wgsl_syntax.specs.declared.texture.TextureDimensions.TheVariants.{D1,
 use Rattle.wgsl_rules.specs.types.Types.{mat_of, WgslType, scalar, within, struct, no_members, array, vec, mat}
 use Rattle.wgsl_rules.specs.types.ResultStructs.{shaped, float_of, plain_member, result_struct}
 
--- What `frexp` or `modf` gives for a fraction; for nothing else it gives anything.
+-- The struct that `frexp` or `modf` returns for a fraction; None for any other type.
 abbrev pub IsResultOf : ResultFunction → WgslType → Option WgslType → Type 0
 IsResultOf f t (Some u) = (s : ResultShape) × (p : ResultPrecision) × (t ≡ shaped s (scalar (float_of p))) × (u ≡ result_struct f s p)
 IsResultOf f t None = (s : ResultShape) (p : ResultPrecision) → t ≢ shaped s (scalar (float_of p))
 
--- What `atomicCompareExchangeWeak` gives: the value that was there, and whether it was exchanged.
+-- What `atomicCompareExchangeWeak` returns: the old value, and whether it was exchanged.
 unfoldable pub exchange_struct : WgslType → WgslType
 exchange_struct t =
     struct (codes "__atomic_compare_exchange_result") (plain_member (codes "old_value") t (plain_member (codes "exchanged") (scalar Bool) no_members))
 
--- What a ray query gives of an intersection.
+-- The struct in which a ray query returns an intersection.
 unfoldable pub ray_intersection_struct : WgslType
 ray_intersection_struct =
     struct (codes "RayIntersection")
@@ -40,7 +40,7 @@ ray_intersection_struct =
 abbrev pub hit_positions_type : WgslType
 hit_positions_type = array (Some 3) (vec 3 (scalar F32))
 
--- The size of a texture: a number, or a vector with one for each dimension.
+-- The size of a texture: a number, or a vector with one per dimension.
 abbrev pub size_type : TextureDimensions → WgslType
 size_type D1 = scalar U32
 size_type D2 = vec 2 (scalar U32)

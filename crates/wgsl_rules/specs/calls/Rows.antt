@@ -1,4 +1,4 @@
--- What a row of the table of built-in functions takes, and what it then gives (WGSL, "Built-in Functions").
+-- What a row of the table of built-in functions takes, and what it returns (WGSL, "Built-in Functions").
 use Rattle.std.specs.Prelude.{List, [], ◌∷◌, ◌≡◌, Option, Some, None, IsSome, Result, Ok, Err, slice_get, option_map, option_and_then}
 use Rattle.wgsl_syntax.specs.declared.result_struct.ResultFunction.{ResultFunction}
 use Rattle.wgsl_syntax.specs.declared.texture.TextureType.{TextureType}
@@ -24,7 +24,7 @@ use Rattle.wgsl_rules.specs.errors.Refusals.{Refusal, signature}
 use Rattle.wgsl_rules.specs.calls.Shapes.{Is}
 use Rattle.wgsl_rules.specs.calls.ResultTypes.{IsResultOf, exchange_struct, ray_intersection_struct, hit_positions_type, size_type, transposed_of}
 
--- What is asked of all arguments, one after another.
+-- What is required of each argument, in order.
 abbrev pub shapes_of : Arguments → List Shape
 shapes_of Nothing = []
 shapes_of (One s) = s ∷ []
@@ -32,13 +32,13 @@ shapes_of (Two s t) = s ∷ t ∷ []
 shapes_of (Three s t u) = s ∷ t ∷ u ∷ []
 shapes_of (Four s t u v) = s ∷ t ∷ u ∷ v ∷ []
 
--- Each argument is of the shape beside it, and there are as many.
+-- There are as many arguments as shapes, and each has its shape.
 abbrev pub AllAre : List Shape → List WgslType → Type 0
 AllAre [] [] = Unit {0}
 AllAre (s ∷ ss) (t ∷ ts) = Is s t × AllAre ss ts
 AllAre ss ts = ⊥
 
--- There are arguments of these shapes, and perhaps more.
+-- The first arguments have these shapes; more may follow.
 abbrev pub BeginAs : List Shape → List WgslType → Type 0
 BeginAs [] ts = Unit {0}
 BeginAs (s ∷ ss) (t ∷ ts) = Is s t × BeginAs ss ts
@@ -69,7 +69,7 @@ return_type_of (TakesAtLeast ss o) = o
 return_type_of (TakesWhere ss k o) = o
 return_type_of (TakesWithTemplate ss o) = o
 
--- The arguments, if there are such.
+-- The first three arguments, if there are that many.
 abbrev pub first : List WgslType → Option WgslType
 first ts = slice_get ts 0
 
@@ -79,7 +79,7 @@ second ts = slice_get ts 1
 abbrev pub third : List WgslType → Option WgslType
 third ts = slice_get ts 2
 
--- The common type of two types, if there are both and they have one.
+-- The common type of two types, if both exist and have one.
 abbrev pub IsCommonOf : Option WgslType → Option WgslType → Option WgslType → Type 0
 IsCommonOf (Some t) (Some u) c = IsCommon t u c
 IsCommonOf t u c = c ≡ None
@@ -88,7 +88,7 @@ abbrev pub texture_in : WgslType → Option TextureType
 texture_in (texture x) = Some x
 texture_in t = None
 
--- The scalar that a texture is sampled as, and the one that its channels are read as.
+-- The sampled type of a texture, and the type that its channels are read as.
 abbrev pub sampled_in : WgslType → Option WgslType
 sampled_in t = option_map (λ s. scalar (sampled_scalar s)) (option_and_then sampled_type (texture_in t))
 
@@ -108,12 +108,12 @@ IsSource (The s) ts t = t ≡ Some (scalar s)
 IsSource SampledAs ts t = t ≡ option_and_then sampled_in (second ts)
 IsSource Channel ts t = t ≡ option_and_then channel_in (first ts)
 
--- A vector as long as a vector.
+-- A vector of u with as many components as the first type.
 abbrev pub vector_like : WgslType → WgslType → Option WgslType
 vector_like (within (vec_of n) t) u = Some (vec n u)
 vector_like t u = None
 
--- What `frexp` or `modf` gives for an argument, if there is one.
+-- The struct that `frexp` or `modf` returns for an argument, if there is one.
 abbrev pub IsResultFor : ResultFunction → Option WgslType → Option WgslType → Type 0
 IsResultFor f None t = t ≡ None
 IsResultFor f (Some u) t = IsResultOf f u t
@@ -123,14 +123,14 @@ abbrev pub given : Signature → Option WgslType → Result (Option WgslType) Re
 given c None = Err (signature c)
 given c (Some t) = Ok (Some t)
 
--- What `bitcast` answers by its template.
+-- What `bitcast` returns for its template.
 abbrev pub IsFromTemplate : Signature → Option (List Parameter) → Result (Option WgslType) Refusal → Type 0
 IsFromTemplate c (Some ps) (Ok (Some t)) = IsBitcastTemplate ps (Ok t)
 IsFromTemplate c (Some ps) (Ok None) = ⊥
 IsFromTemplate c (Some ps) (Err e) = IsBitcastTemplate ps (Err e)
 IsFromTemplate c None a = a ≡ Err (signature c)
 
--- What a row that takes the call gives.
+-- What a row returns for a call that it takes.
 abbrev pub IsReturnType : ReturnType → Signature → Result (Option WgslType) Refusal → Type 0
 IsReturnType (Of p) c a = (t : Option WgslType) × IsSource p c.arguments t × (a ≡ given c t)
 IsReturnType (Concrete p) c a = (t : Option WgslType) × IsSource p c.arguments t × (a ≡ given c (option_map concretized t))

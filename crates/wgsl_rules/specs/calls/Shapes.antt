@@ -1,4 +1,4 @@
--- What the built-in functions ask of an argument (WGSL, "Built-in Functions").
+-- What the built-in functions require of an argument (WGSL, "Built-in Functions").
 use Rattle.std.specs.Prelude.{◌≡◌, ◌⊎◌}
 use Rattle.wgsl_syntax.specs.declared.scalar.Scalar.{Scalar}
 use Rattle.wgsl_syntax.specs.declared.scalar.Scalar.TheVariants.{Bool, AbstractInt, AbstractFloat, I32, U32, F32}
@@ -65,7 +65,7 @@ abbrev pub IsSquareMatrix : WgslType → Type 0
 IsSquareMatrix (within (mat_of c r) t) = c ≡ r
 IsSquareMatrix t = ⊥
 
--- An abstract float, `f32` or `f16`, or a vector of such with two to four components.
+-- An abstract float, `f32` or `f16`, or a vector of these with two to four components.
 abbrev pub IsFraction : WgslType → Type 0
 IsFraction t = (s : ResultShape) × (p : ResultPrecision) × (t ≡ shaped s (scalar (float_of p)))
 
@@ -81,7 +81,7 @@ abbrev pub IsPointerInWorkgroup : WgslType → Type 0
 IsPointerInWorkgroup (pointer s t m) = s ≡ Workgroup
 IsPointerInWorkgroup t = ⊥
 
--- A pointer in the function space, to be read and written.
+-- A pointer in the function space, to read and write.
 abbrev pub IsQuery : WgslType → Type 0
 IsQuery (pointer s t m) = (s ≡ Function) × (m ≡ ReadWrite)
 IsQuery t = ⊥

@@ -1,4 +1,4 @@
--- The constructors by their names, and what they make of their arguments (WGSL, "Value Constructor Built-in Functions").
+-- The constructors by their names, and the types that they return (WGSL, "Value Constructor Built-in Functions").
 use Rattle.std.specs.Prelude.{ℕ, zero, suc, List, [], ◌∷◌, ◌≡◌, ◌⊎◌, Option, Some, None, Result, Ok, Err, codes, length}
 use Rattle.wgsl_syntax.specs.Names.{named}
 use Rattle.wgsl_syntax.specs.declared.scalar.Scalar.{Scalar}
@@ -45,11 +45,11 @@ constructors =
     ∷ (makes_matrix 4 4, codes "mat4x4")
     ∷ []
 
--- The constructor of a name.
+-- The constructor with a name, or None.
 abbrev pub constructor_of : List ℕ → Option Constructor
 constructor_of name = named constructors name
 
--- Scalars: no template, and no argument or one scalar; anything else has the refusal of the call.
+-- Scalars: no template, and no argument or one scalar. Any other call is refused.
 abbrev pub scalar_call : Scalar → Option (List Parameter) → List WgslType → Refusal → Result WgslType Refusal
 -- f32() : f32
 scalar_call s None [] refused = Ok (scalar s)
@@ -57,7 +57,7 @@ scalar_call s None [] refused = Ok (scalar s)
 scalar_call s None (scalar t ∷ []) refused = Ok (scalar s)
 scalar_call s template args refused = Err refused
 
--- Arrays of a template's type: without arguments that type; else it has a count, and each argument converts to its element.
+-- Arrays with a template. If there are arguments, it has a count, and each argument converts to its element type.
 abbrev pub IsTypedArray : List WgslType → WgslType → Result WgslType Refusal → Type 0
 -- array<f32, 3>() : array<f32, 3>
 IsTypedArray [] t r = r ≡ Ok t
@@ -67,14 +67,14 @@ IsTypedArray (a ∷ args) (array (Some n) t) r =
     ⊎ ((b : WgslType) × IsFirstStuck t (a ∷ args) b × (r ≡ Err (conversion b t)))
 IsTypedArray (a ∷ args) t r = r ≡ Err (template_args (codes "array"))
 
--- Arrays: with a template, or of the common type of the arguments, as many as there are.
+-- Arrays: with a template, or of the common type of the arguments, with one element per argument.
 abbrev pub IsArrayCall : Option (List Parameter) → List WgslType → Result WgslType Refusal → Type 0
 IsArrayCall (Some ps) args r = Then (array_template ps) (IsTypedArray args) r
 -- array(AbstractInt, f32) : array<f32, 2>
 IsArrayCall None args r =
     ThenCommon args (codes "array elements are incompatible") (λ c q. q ≡ Ok (array (Some (length args)) c)) r
 
--- What a constructor answers to a call; a name that is none is refused.
+-- What a constructor returns for a call; any other name is refused.
 abbrev pub IsBuilt : Option Constructor → Signature → Result WgslType Refusal → Type 0
 IsBuilt (Some makes_array) call r = IsArrayCall call.template call.arguments r
 IsBuilt (Some (makes_scalar s)) call r = r ≡ scalar_call s call.template call.arguments (signature call)
@@ -95,13 +95,13 @@ AllFit no_members [] = Unit {0}
 AllFit (member name t size align ms) (a ∷ args) = ConvertsTo a t × AllFit ms args
 AllFit ms args = ⊥
 
--- The first argument that doesn't convert to its member's type, after that type.
+-- The type u of the first member whose argument b doesn't convert to it.
 abbrev pub IsFirstMisfit : Members → List WgslType → WgslType → WgslType → Type 0
 IsFirstMisfit (member name t size align ms) (a ∷ args) u b =
     (¬ ConvertsTo a t) × (u ≡ t) × (b ≡ a) ⊎ ConvertsTo a t × IsFirstMisfit ms args u b
 IsFirstMisfit ms args u b = ⊥
 
--- One argument for each member, which converts to the member's type.
+-- One argument per member, which converts to the member's type.
 abbrev pub IsFilled : List ℕ → Members → List WgslType → Result (Unit {0}) Refusal → Type 0
 IsFilled name ms args r =
     Either (member_count ms ≡ length args)
@@ -109,7 +109,7 @@ IsFilled name ms args r =
     ⊎ ((t : WgslType) × (a : WgslType) × IsFirstMisfit ms args t a × (r ≡ Err (param_type t a))))
     (r ≡ Err (param_count name (member_count ms) (length args)))
 
--- Structs: no argument, or as many as there are members.
+-- Structs: no argument, or one per member.
 abbrev pub IsStructCall : List ℕ → Members → List WgslType → Result (Unit {0}) Refusal → Type 0
 IsStructCall name ms [] r = r ≡ Ok tt
 IsStructCall name ms args r = IsFilled name ms args r

@@ -8,16 +8,16 @@ abbrev pub IsCommon : WgslType → WgslType → Option WgslType → Type 0
 IsCommon a b (Some c) = (ConvertsTo a b × (c ≡ b)) ⊎ (¬ ConvertsTo a b × ConvertsTo b a × (c ≡ a))
 IsCommon a b None = ¬ ConvertsTo a b × ¬ ConvertsTo b a
 
--- The common type so far, taken on with each of the list in turn.
+-- The common type so far, combined with each type of the list in turn.
 abbrev pub IsLeftCommonFrom : Option WgslType → List WgslType → Option WgslType → Type 0
--- at the end of the list it is the answer
+-- at the end of the list it is the result
 IsLeftCommonFrom c [] r = c ≡ r
--- without one there is none
+-- once there is none, the list has none
 IsLeftCommonFrom None (t ∷ ts) r = r ≡ None
--- else it is taken on with the next type
+-- else it is combined with the next type
 IsLeftCommonFrom (Some c) (t ∷ ts) r = (d : Option WgslType) × IsCommon c t d × IsLeftCommonFrom d ts r
 
--- The common type of a list, taken from left to right: none of the empty list.
+-- The common type of a list, from left to right; None for the empty list.
 abbrev pub IsLeftCommon : List WgslType → Option WgslType → Type 0
 IsLeftCommon [] r = r ≡ None
 IsLeftCommon (t ∷ ts) r = IsLeftCommonFrom (Some t) ts r

@@ -1,4 +1,4 @@
--- Abstract types, and what concrete type stands for one (WGSL, "Abstract Numeric Types").
+-- Abstract types, and the concrete type for each (WGSL, "Abstract Numeric Types").
 use Rattle.std.specs.Prelude.{Bool, true, false, cond, IsTrue}
 use Rattle.wgsl_syntax.specs.declared.scalar.Scalar.TheVariants.{AbstractInt, AbstractFloat, I32, F32}
 use Rattle.wgsl_rules.specs.types.Types.{mat_of, WgslType, scalar, within}
@@ -14,23 +14,23 @@ is_abstract t = false
 abbrev pub IsAbstract : WgslType → Type 0
 IsAbstract t = IsTrue (is_abstract t)
 
--- A concrete plain type (WGSL, "Storable Types", of which the handles are left out).
+-- A concrete plain type (WGSL, "Storable Types", but without textures and samplers).
 abbrev pub IsStorable : WgslType → Type 0
 IsStorable t = (¬ IsAbstract t) × IsPlain t
 
--- Each matrix reached through arrays, vectors and matrices is of floats.
+-- Each matrix within arrays and vectors has float components.
 abbrev pub HasFloatMatrices : WgslType → Type 0
 HasFloatMatrices (within (mat_of c r) t) = IsFloatScalar t
 HasFloatMatrices (within l t) = HasFloatMatrices t
 HasFloatMatrices t = Unit {0}
 
--- The concrete type that stands for a type.
+-- The concrete type for a type.
 abbrev pub concretized : WgslType → WgslType
 concretized (scalar AbstractInt) = scalar I32
 concretized (scalar AbstractFloat) = scalar F32
 -- a matrix of an abstract type becomes one of `f32`
 concretized (within (mat_of c r) t) = cond (is_abstract t) (within (mat_of c r) (scalar F32)) (within (mat_of c r) t)
--- an array or a vector that of its element's
+-- an array or a vector becomes one of the concrete element type
 concretized (within l t) = within l (concretized t)
--- all else stays
+-- any other type stays
 concretized t = t

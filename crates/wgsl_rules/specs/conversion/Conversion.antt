@@ -10,7 +10,7 @@ use Rattle.wgsl_syntax.specs.declared.result_struct.ResultPrecision.TheVariants 
 use Rattle.wgsl_rules.specs.types.Types.{Layer, WgslType, scalar, within, reference}
 use Rattle.wgsl_rules.specs.types.ResultStructs.{result_struct}
 
--- A value type isn't a reference, nor made of references by arrays, vectors and matrices.
+-- A value type is not a reference, nor an array, a vector or a matrix of references.
 abbrev pub IsValueType : WgslType → Type 0
 IsValueType (reference s t m) = ⊥
 IsValueType (within l t) = IsValueType t
@@ -27,7 +27,7 @@ pub data BaseStep : WgslType → WgslType → ℕ → Type 0 where
   -- from an abstract float
   float_to_f32 : BaseStep (scalar AbstractFloat) (scalar F32) 1
   float_to_f16 : BaseStep (scalar AbstractFloat) (scalar F16) 2
-  -- from what `frexp` or `modf` gives for an abstract float
+  -- from the result struct of `frexp` or `modf` for an abstract float
   result_to_f32 : (f : ResultFunction) (s : ResultShape) → BaseStep (result_struct f s precision.Abstract) (result_struct f s precision.F32) 1
   result_to_f16 : (f : ResultFunction) (s : ResultShape) → BaseStep (result_struct f s precision.Abstract) (result_struct f s precision.F16) 2
 
@@ -36,13 +36,13 @@ pub data Step : WgslType → WgslType → ℕ → Type 0 where
   base : {t u : WgslType} {w : ℕ} → BaseStep t u w → Step t u w
   inside : {t u : WgslType} {w : ℕ} (l : Layer) → Step t u w → Step (within l t) (within l u) w
 
--- One leg of a path: from what type to what type, and with what weight.
+-- One leg of a path: its start, its end and its weight.
 pub record Leg : Type 0 where
   pub from : WgslType
   pub to : WgslType
   pub weight : ℕ
 
--- The legs lead from t to u: each is a step, and begins where the one before ended.
+-- The legs lead from t to u: each is a step that begins at the end of the previous one.
 abbrev pub IsPath : WgslType → List Leg → WgslType → Type 0
 IsPath t [] u = t ≡ u
 IsPath t (leg ∷ legs) u = (leg.from ≡ t) × Step leg.from leg.to leg.weight × IsPath leg.to legs u
@@ -62,16 +62,16 @@ pub record PathOf (t u : WgslType) (w n : ℕ) : Type 0 where
   pub path : Path t u w
   pub steps : length path.legs ≡ n
 
--- A readable reference loads as what it refers to, also inside equal arrays, vectors and matrices.
+-- A readable reference loads as the type it refers to, also inside equal arrays, vectors and matrices.
 pub data Load : WgslType → WgslType → Type 0 where
   load : (s : AddressSpace) (t : WgslType) (m : AccessMode) → MayRead m → Load (reference s t m) t
   load_inside : {t u : WgslType} (l : Layer) → Load t u → Load (within l t) (within l u)
 
--- t converts to u with rank w: along a path of that weight, or by a load, which joins no step.
+-- t converts to u with rank w: along a path of weight w, or by a load of rank 0 without any step.
 abbrev pub Converts : WgslType → WgslType → ℕ → Type 0
 Converts t u w = Path t u w ⊎ Load t u × (w ≡ 0)
 
--- The same in n steps: a load takes none.
+-- The same in n steps; a load has none.
 abbrev pub ConvertsIn : WgslType → WgslType → ℕ → ℕ → Type 0
 ConvertsIn t u w n = PathOf t u w n ⊎ Load t u × (w ≡ 0) × (n ≡ 0)
 

@@ -83,7 +83,7 @@ message (param_count s e n) =
     codes "incorrect number of arguments to `" ++ s ++ codes "`, expected `" ++ decimal e ++ codes "`, got `" ++ decimal n ++ codes "`"
 message (param_type e t) = codes "invalid parameter type, expected `" ++ spelling e ++ codes "`, got `" ++ spelling t ++ codes "`"
 
--- A refusal with no memory of its own: each type that it names is a leaf type, and it has no text that isn't fixed.
+-- A refusal that needs no memory: the types that it names are leaf types, and its texts are static.
 abbrev pub IsLeafRefusal : Refusal → Type 0
 IsLeafRefusal (todo v) = ⊥
 IsLeafRefusal (not_scalar t) = IsLeaf t

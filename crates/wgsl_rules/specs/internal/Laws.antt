@@ -1,4 +1,4 @@
--- That rows are the choice, from which the laws on operators and calls are proved.
+-- Rows are least candidates: the laws of operators and calls are proved from this.
 use Rattle.std.specs.Prelude.{List, [], ◌∷◌}
 use Rattle.wgsl_rules.specs.types.Types.{WgslType}
 use Rattle.wgsl_syntax.specs.declared.operator.BinaryOperator.{BinaryOperator}
@@ -8,7 +8,7 @@ use Rattle.wgsl_rules.specs.operators.Rows.{IsRow}
 use Rattle.wgsl_rules.specs.internal.Rows.{IsCallRow}
 use Rattle.wgsl_rules.specs.Headline.{IsLeastCandidate}
 
--- A row is the choice, and without a row no candidate takes the operands.
+-- A row is the least candidate, and without a row no candidate takes the operands.
 pub record RowIsChoice (o : BinaryOperator) (a b : WgslType) : Type 0 where
   pub chosen : (l r s : WgslType) → IsRow o a b l r s → IsLeastCandidate (operator o) (a ∷ b ∷ []) (l ∷ r ∷ []) s
   pub refused : ((l r s : WgslType) → ¬ IsRow o a b l r s) → (us : List WgslType) (r : WgslType) → IsCandidate (operator o) us r → ¬ Takes us (a ∷ b ∷ [])

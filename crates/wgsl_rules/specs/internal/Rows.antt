@@ -1,4 +1,4 @@
--- The rows of five calls, by the common type of their arguments (WGSL, "Overload Resolution").
+-- The rows of five built-in functions, by the common type of their arguments (WGSL, "Overload Resolution").
 use Rattle.std.specs.Prelude.{ℕ, List, [], ◌∷◌, Some}
 use Rattle.wgsl_syntax.specs.declared.scalar.Scalar.{Scalar}
 use Rattle.wgsl_syntax.specs.declared.scalar.Scalar.TheVariants.{Bool}
@@ -7,7 +7,7 @@ use Rattle.wgsl_rules.specs.types.Kinds.{IsNumeric, IsNumericOrVector, IsScalarO
 use Rattle.wgsl_rules.specs.conversion.Common.{IsCommon, IsLeftCommon}
 use Rattle.wgsl_rules.specs.operators.Candidates.{Name, clamp, dot, select, IsMinMax}
 
--- One of the five calls, its arguments, and the result.
+-- One of the five functions, the types of its arguments, and the result.
 pub data IsCallRow : Name → List WgslType → WgslType → Type 0 where
   -- `min` and `max`: the common type of both arguments
   -- min(AbstractInt, f32) : f32
@@ -25,7 +25,7 @@ pub data IsCallRow : Name → List WgslType → WgslType → Type 0 where
   -- select(AbstractInt, f32, bool) : f32
   select_row : (a b c : WgslType) → IsScalarOrVector a → IsCommon a b (Some c) →
       IsCallRow select (a ∷ b ∷ scalar Bool ∷ []) c
-  -- by a vector of `bool`, for vectors
+  -- `select` of vectors by a vector of `bool`
   -- select(vec2<AbstractInt>, vec2<f32>, vec2<bool>) : vec2<f32>
   select_each_row : (n m : ℕ) (e b c : WgslType) → IsCommon (vec n e) b (Some c) →
       IsCallRow select (vec n e ∷ b ∷ vec m (scalar Bool) ∷ []) c

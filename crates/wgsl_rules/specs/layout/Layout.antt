@@ -7,7 +7,7 @@ use Rattle.wgsl_syntax.specs.declared.scalar.Scalar.TheVariants.{Bool, AbstractI
 use Rattle.wgsl_rules.specs.types.Types.{WgslType, scalar, struct, atomic, Members, no_members, member, array, vec, mat}
 use Rattle.wgsl_rules.specs.layout.Placement.{MemberLayout, IsPlacement, IsLeastTotal, greatest}
 
--- the size of a scalar, and its alignment
+-- the size of a scalar, which is also its alignment
 abbrev pub IsScalarSize : Scalar → ℕ → Type 0
 IsScalarSize Bool n = n ≡ 4
 IsScalarSize AbstractInt n = ⊥
@@ -20,7 +20,7 @@ IsScalarSize I64 n = n ≡ 8
 IsScalarSize U64 n = n ≡ 8
 IsScalarSize F64 n = n ≡ 8
 
--- the size of an atomic type, and its alignment
+-- the size of an atomic type, which is also its alignment
 abbrev pub IsAtomicSize : WgslType → ℕ → Type 0
 IsAtomicSize (scalar I64) n = n ≡ 8
 IsAtomicSize (scalar U64) n = n ≡ 8
@@ -38,7 +38,7 @@ IsRoundedUp s a n = (0 < a) × (a ∣ n) × (s ≤ n) × ((m : ℕ) → a ∣ m 
 abbrev pub IsStride : (ℕ → Type 0) → (ℕ → Type 0) → ℕ → Type 0
 IsStride IsSize IsAlign n = (s : ℕ) × (a : ℕ) × IsSize s × IsAlign a × IsRoundedUp s a n × (n < 2 ^ 32)
 
--- the size of an array, if the number of its elements is known
+-- the size of an array; a runtime-sized array has none
 abbrev pub IsArraySize : Option ℕ → (ℕ → Type 0) → ℕ → Type 0
 IsArraySize (Some k) IsSpaced n = (k < 2 ^ 32) × IsTimes k IsSpaced n
 IsArraySize None IsSpaced n = ⊥
@@ -51,11 +51,11 @@ IsAlignOfThree (scalar F32) a = a ≡ 16
 IsAlignOfThree (scalar F16) a = a ≡ 8
 IsAlignOfThree t a = ⊥
 
--- the alignment of a vector: but for three components, its size
+-- the alignment of a vector: its size, except for three components
 abbrev pub IsVectorAlign : ℕ → WgslType → (ℕ → Type 0) → ℕ → Type 0
 IsVectorAlign k t IsSize a = ((k ≡ 3) × IsAlignOfThree t a) ⊎ ((k ≢ 3) × IsTimes k IsSize a)
 
--- the attribute, or without one what the type says
+-- the attribute if there is one, else the value of the type
 abbrev pub IsGiven : Option ℕ → (ℕ → Type 0) → ℕ → Type 0
 IsGiven (Some x) OfType n = n ≡ x
 IsGiven None OfType n = OfType n
@@ -69,7 +69,7 @@ pub record IsStructSize (AreLayouts : List MemberLayout → Type 0) (size : ℕ)
   pub least : IsLeastTotal layouts size
   pub fits : size < 2 ^ 32
 
--- the alignment of a struct: the greatest of its members, 0 without one
+-- the alignment of a struct: the greatest of its members', 0 without members
 abbrev pub IsStructAlign : (List ℕ → Type 0) → ℕ → Type 0
 IsStructAlign AreAligns a = (aligns : List ℕ) × AreAligns aligns × (a ≡ greatest aligns)
 
@@ -108,7 +108,7 @@ abbrev pub HasLeastSize : WgslType → ℕ → Type 0
 HasLeastSize (array None t) n = IsStride (HasSize t) (HasAlignment t) n
 HasLeastSize t n = HasSize t n
 
--- the number that is as told, and none exactly if no number is
+-- the answer is Some n exactly if n is the value, and None exactly if there is no value
 abbrev pub IsExactly : Option ℕ → (ℕ → Type 0) → Type 0
 IsExactly answer IsIt = (n : ℕ) → (answer ≡ Some n) ↔ IsIt n
 
@@ -134,7 +134,7 @@ abbrev pub LacksSize : WgslType → Type 0
 LacksSize (struct name ms) = HasNoSize ms
 LacksSize t = (n : ℕ) → ¬ (HasSize t n)
 
--- with the struct's size these offsets are a placement, and in each member no placement has a smaller offset
+-- the offsets and the struct's size are a placement, and no placement has a smaller offset for any member
 pub record AreOffsets (ms : Members) (offsets : List ℕ) : Type 0 where
   pub total : ℕ
   pub sized : IsStructSize (HaveLayouts ms) total

@@ -1,20 +1,20 @@
--- How the members of a struct lie in memory, in every way that their alignments allow (WGSL, "Structure Member Layout").
+-- The placements in memory that the alignments of a struct's members allow (WGSL, "Structure Member Layout").
 use Rattle.std.specs.Prelude.{ℕ, ◌+◌, ◌≤◌, max, List, [], ◌∷◌, map}
 use Rattle.std.specs.Int.{◌∣◌}
 
--- what a member takes up
+-- the size and the alignment of a member
 pub record MemberLayout : Type 0 where
   pub size : ℕ
   pub align : ℕ
 
--- Each member lies at its offset, a multiple of its alignment and not before the end of the one before (the first not
--- before `start`); the total isn't before the end of the last.
+-- Each member's offset is a multiple of its alignment and not below the end of the previous member (for the first, not
+-- below `start`); the total is not below the end of the last.
 abbrev pub AreLaid : ℕ → List MemberLayout → List ℕ → ℕ → Type 0
 AreLaid start [] [] total = start ≤ total
 AreLaid start (layout ∷ layouts) (offset ∷ offsets) total = (layout.align ∣ offset) × (start ≤ offset) × AreLaid (offset + layout.size) layouts offsets total
 AreLaid start layouts offsets total = ⊥
 
--- the greatest of the numbers, 0 without one
+-- the greatest of the numbers, 0 for an empty list
 abbrev pub greatest : List ℕ → ℕ
 greatest [] = 0
 greatest (n ∷ ns) = max n (greatest ns)

@@ -1,5 +1,5 @@
--- What the binary operators and five of the calls can take, and what they give for it (WGSL, "Logical Expressions" to
--- "Bit Expressions", and "Built-in Functions").
+-- The candidates of the binary operators and of five built-in functions (WGSL, "Logical Expressions" to "Bit
+-- Expressions", and "Built-in Functions").
 use Rattle.std.specs.Prelude.{ℕ, List, [], ◌∷◌}
 use Rattle.wgsl_syntax.specs.declared.scalar.Scalar.{Scalar}
 use Rattle.wgsl_syntax.specs.declared.scalar.Scalar.TheVariants.{Bool, U32}
@@ -23,7 +23,7 @@ IsArithmetic Division = Unit {0}
 IsArithmetic Remainder = Unit {0}
 IsArithmetic o = ⊥
 
--- `+` and `-`, which take two matrices member by member.
+-- `+` and `-`, which take two matrices component by component.
 abbrev pub IsSum : BinaryOperator → Type 0
 IsSum Addition = Unit {0}
 IsSum Subtraction = Unit {0}
@@ -58,7 +58,7 @@ IsShift ShiftLeft = Unit {0}
 IsShift ShiftRight = Unit {0}
 IsShift o = ⊥
 
--- What takes the operands: a binary operator, or one of five calls.
+-- The name of a candidate: a binary operator, or one of five built-in functions.
 pub data Name : Type 0 where
   operator : BinaryOperator → Name
   min max clamp dot select : Name
@@ -68,40 +68,40 @@ IsMinMax min = Unit {0}
 IsMinMax max = Unit {0}
 IsMinMax n = ⊥
 
--- A candidate: a name, the types that it takes, and the type that it then gives. No common type is spoken of here; what
--- the operands have to do with the types taken is the choice's matter.
+-- A candidate: a name, the types of its parameters, and the type of its result. `Choice` says which operands convert to
+-- the parameters.
 pub data IsCandidate : Name → List WgslType → WgslType → Type 0 where
-  -- arithmetic of two scalars of one type
+  -- arithmetic of two scalars of the same type
   -- f32 + f32 : f32
   scalars : (o : BinaryOperator) → IsArithmetic o → (s : Scalar) →
       IsCandidate (operator o) (scalar s ∷ scalar s ∷ []) (scalar s)
-  -- of two vectors of one type
+  -- of two vectors of the same type
   -- vec3<f32> * vec3<f32> : vec3<f32>
   vectors : (o : BinaryOperator) → IsArithmetic o → (n : ℕ) (e : WgslType) →
       IsCandidate (operator o) (vec n e ∷ vec n e ∷ []) (vec n e)
-  -- of a scalar and a vector of it, in either order
+  -- of a scalar and a vector of that scalar, in either order
   -- f32 + vec3<f32> : vec3<f32>
   scalar_vector : (o : BinaryOperator) → IsArithmetic o → (s : Scalar) (n : ℕ) →
       IsCandidate (operator o) (scalar s ∷ vec n (scalar s) ∷ []) (vec n (scalar s))
   -- vec2<f32> / f32 : vec2<f32>
   vector_scalar : (o : BinaryOperator) → IsArithmetic o → (s : Scalar) (n : ℕ) →
       IsCandidate (operator o) (vec n (scalar s) ∷ scalar s ∷ []) (vec n (scalar s))
-  -- the sum or difference of two matrices of one type
+  -- the sum or difference of two matrices of the same type
   -- mat2x3<f16> - mat2x3<f16> : mat2x3<f16>
   matrices : (o : BinaryOperator) → IsSum o → (c r : ℕ) (e : WgslType) →
       IsCandidate (operator o) (mat c r e ∷ mat c r e ∷ []) (mat c r e)
-  -- the product of a scalar and a matrix of it, in either order
+  -- the product of a scalar and a matrix of that scalar, in either order
   -- f32 * mat2x3<f32> : mat2x3<f32>
   scalar_matrix : (s : Scalar) (c r : ℕ) →
       IsCandidate (operator Multiplication) (scalar s ∷ mat c r (scalar s) ∷ []) (mat c r (scalar s))
   -- mat2x3<f16> * f16 : mat2x3<f16>
   matrix_scalar : (s : Scalar) (c r : ℕ) →
       IsCandidate (operator Multiplication) (mat c r (scalar s) ∷ scalar s ∷ []) (mat c r (scalar s))
-  -- of a vector with as many components as the matrix has rows: one component a column
+  -- of a vector and a matrix, with as many components as rows: one component per column
   -- vec3<f32> * mat2x3<f32> : vec2<f32>
   vector_matrix : (c r : ℕ) (e : WgslType) →
       IsCandidate (operator Multiplication) (vec r e ∷ mat c r e ∷ []) (vec c e)
-  -- of a matrix and a vector with as many components as it has columns: one component a row
+  -- of a matrix and a vector, with as many columns as components: one component per row
   -- mat2x3<f32> * vec2<f32> : vec3<f32>
   matrix_vector : (c r : ℕ) (e : WgslType) →
       IsCandidate (operator Multiplication) (mat c r e ∷ vec c e ∷ []) (vec r e)
@@ -109,11 +109,11 @@ pub data IsCandidate : Name → List WgslType → WgslType → Type 0 where
   -- mat2x3<f32> * mat4x2<f32> : mat4x3<f32>
   matrix_matrix : (k c r : ℕ) (e : WgslType) →
       IsCandidate (operator Multiplication) (mat k r e ∷ mat c k e ∷ []) (mat c r e)
-  -- comparison of two scalars of one type
+  -- comparison of two scalars of the same type
   -- f32 < f32 : bool
   compared : (o : BinaryOperator) → IsComparison o → (s : Scalar) →
       IsCandidate (operator o) (scalar s ∷ scalar s ∷ []) (scalar Bool)
-  -- of two vectors of one type, component by component
+  -- of two vectors of the same type, component by component
   -- vec3<f32> == vec3<f32> : vec3<bool>
   compared_vectors : (o : BinaryOperator) → IsComparison o → (n : ℕ) (e : WgslType) →
       IsCandidate (operator o) (vec n e ∷ vec n e ∷ []) (vec n (scalar Bool))
@@ -121,15 +121,15 @@ pub data IsCandidate : Name → List WgslType → WgslType → Type 0 where
   -- bool && bool : bool
   logical : (o : BinaryOperator) → IsLogical o →
       IsCandidate (operator o) (scalar Bool ∷ scalar Bool ∷ []) (scalar Bool)
-  -- bits of two integers of one type
+  -- bitwise operators on two integers of the same type
   -- u32 ^ u32 : u32
   bits : (o : BinaryOperator) → IsBitwise o → (i : Scalar) → IsInteger i →
       IsCandidate (operator o) (scalar i ∷ scalar i ∷ []) (scalar i)
-  -- of two vectors of integers of one type
+  -- on two vectors of integers of the same type
   -- vec2<i32> & vec2<i32> : vec2<i32>
   bits_vectors : (o : BinaryOperator) → IsBitwise o → (n : ℕ) (i : Scalar) → IsInteger i →
       IsCandidate (operator o) (vec n (scalar i) ∷ vec n (scalar i) ∷ []) (vec n (scalar i))
-  -- of two vectors of `bool`
+  -- on two vectors of `bool`
   -- vec2<bool> | vec2<bool> : vec2<bool>
   bools_vectors : (o : BinaryOperator) → IsOrAnd o → (n : ℕ) →
       IsCandidate (operator o) (vec n (scalar Bool) ∷ vec n (scalar Bool) ∷ []) (vec n (scalar Bool))
@@ -137,22 +137,22 @@ pub data IsCandidate : Name → List WgslType → WgslType → Type 0 where
   -- i32 << u32 : i32
   shifted : (o : BinaryOperator) → IsShift o → (i : Scalar) → IsInteger i →
       IsCandidate (operator o) (scalar i ∷ scalar U32 ∷ []) (scalar i)
-  -- a vector of integers, component by component
+  -- a vector of integers shifted component by component
   -- vec3<i32> >> vec3<u32> : vec3<i32>
   shifted_vectors : (o : BinaryOperator) → IsShift o → (n : ℕ) (i : Scalar) → IsInteger i →
       IsCandidate (operator o) (vec n (scalar i) ∷ vec n (scalar U32) ∷ []) (vec n (scalar i))
-  -- `min` and `max` of two numbers, or two vectors of numbers, of one type
+  -- `min` and `max` of two numbers, or two vectors of numbers, of the same type
   -- min(f32, f32) : f32
   of_two : (n : Name) → IsMinMax n → (t : WgslType) → IsNumericOrVector t → IsCandidate n (t ∷ t ∷ []) t
-  -- `clamp` of three
+  -- `clamp` of three of the same type
   -- clamp(u32, u32, u32) : u32
   of_three : (t : WgslType) → IsNumericOrVector t → IsCandidate clamp (t ∷ t ∷ t ∷ []) t
-  -- the dot product of two vectors of numbers of one type
+  -- the dot product of two vectors of numbers of the same type
   -- dot(vec3<u32>, vec3<u32>) : u32
   products : (n : ℕ) (s : Scalar) → IsNumeric s → IsCandidate dot (vec n (scalar s) ∷ vec n (scalar s) ∷ []) (scalar s)
   -- `select` of one of two scalars or vectors by a `bool`
   -- select(f32, f32, bool) : f32
   either : (t : WgslType) → IsScalarOrVector t → IsCandidate select (t ∷ t ∷ scalar Bool ∷ []) t
-  -- of the components of one of two vectors, each by a `bool` of its own
+  -- of each component from one of two vectors, by its own `bool`
   -- select(vec2<f32>, vec2<f32>, vec2<bool>) : vec2<f32>
   each_either : (n m : ℕ) (e : WgslType) → IsCandidate select (vec n e ∷ vec n e ∷ vec m (scalar Bool) ∷ []) (vec n e)

@@ -1,5 +1,5 @@
--- What the unary operators take, and what they give for it (WGSL, "Logical Expressions" to "Bit Expressions",
--- "Address-Of Expression" and "Indirection Expression").
+-- What the unary operators take, and what they return (WGSL, "Logical Expressions" to "Bit Expressions", "Address-Of
+-- Expression" and "Indirection Expression").
 use Rattle.std.specs.Prelude.{◌≢◌, ℕ}
 use Rattle.wgsl_syntax.specs.declared.scalar.Scalar.{Scalar}
 use Rattle.wgsl_syntax.specs.declared.scalar.Scalar.TheVariants.{Bool}
@@ -17,10 +17,10 @@ pub data IsUnaryRow : UnaryOperator → WgslType → WgslType → Type 0 where
   -- `!` of a `bool`
   -- !bool : bool
   not_row : IsUnaryRow LogicalNegation (scalar Bool) (scalar Bool)
-  -- of a vector of whatever type
+  -- of a vector of any type
   -- !vec3<bool> : vec3<bool>
   not_vector_row : (n : ℕ) (t : WgslType) → IsUnaryRow LogicalNegation (vec n t) (vec n t)
-  -- `-` of a scalar of whatever type
+  -- `-` of any scalar
   -- -f32 : f32
   negation_row : (s : Scalar) → IsUnaryRow Negation (scalar s) (scalar s)
   -- `~` of an integer or a vector of integers
@@ -34,7 +34,7 @@ pub data IsUnaryRow : UnaryOperator → WgslType → WgslType → Type 0 where
   -- *ptr<function, f32, read_write> : ref<function, f32, read_write>
   indirection_row : (s : AddressSpace) (t : WgslType) (m : AccessMode) → IsUnaryRow Indirection (pointer s t m) (reference s t m)
 
--- Why an operand has no row: of the handle space there are no pointers; else the refusal names operator and operand.
+-- Why no row applies: there are no pointers to the handle space; any other refusal names the operator and the operand.
 abbrev pub unary_refusal : UnaryOperator → WgslType → Refusal
 unary_refusal AddressOf (reference Handle t m) = ptr_handle
 unary_refusal o t = unary o t

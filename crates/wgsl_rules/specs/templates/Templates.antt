@@ -1,4 +1,4 @@
--- What template parameters make of the name before them (WGSL, "Template Lists", and the types of "Types" that take them).
+-- The types that names with template parameters stand for (WGSL, "Template Lists" and "Types").
 use Rattle.std.specs.Prelude.{ℕ, zero, suc, ℤ, pos, negsuc, List, [], ◌∷◌, ◌≡◌, ◌⊎◌, Option, Some, None, Result, Ok, Err, codes, option_map, ok_or}
 use Rattle.wgsl_syntax.specs.Names.{named}
 use Rattle.wgsl_syntax.specs.declared.scalar.Scalar.TheVariants.{I32, U32, F32, I64, U64}
@@ -25,7 +25,7 @@ above_zero (pos zero) = None
 above_zero (pos (suc n)) = Some (suc n)
 above_zero (negsuc n) = None
 
--- the number of elements that a literal stands for: an integer above 0
+-- the number of elements by a literal, which has to be an integer above 0
 abbrev pub count_of : Literal → Option ℕ
 count_of (bool b) = None
 count_of (abstract_int n) = above_zero n
@@ -34,13 +34,13 @@ count_of (u32 n) = above_zero (pos n)
 count_of (i64 n) = above_zero n
 count_of (u64 n) = above_zero (pos n)
 
--- What is made of parameters that fit; else their refusal.
+-- The value built from the result of parsing, or the refusal.
 abbrev pub made : {A B : Type 0} → (A → B) → Result A Refusal → Result B Refusal
 made make (Ok a) = Ok (make a)
 made make (Err e) = Err e
 
--- One type, or a type and the number of elements. Else the refusal: of the shape, which names the template, then of the
--- number, with its message.
+-- One type, or a type and the number of elements. Other parameters are refused with the template's name, a bad number
+-- with the message.
 abbrev pub element_and_count : List ℕ → List ℕ → List Parameter → Result (WgslType × Option ℕ) Refusal
 element_and_count name message (of_type t ∷ []) = Ok (t, None)
 element_and_count name message (of_type t ∷ of_literal l ∷ []) = ok_or (option_map (λ n. (t, Some n)) (count_of l)) (builtin message)
@@ -56,7 +56,7 @@ abbrev pub binding_array_template : List Parameter → Result WgslType Refusal
 binding_array_template ps = made (λ p. binding_array p.1 p.0)
     (element_and_count (codes "binding_array") (codes "the binding_array element count must evaluate to a `u32` or a `i32` greater than `0`") ps)
 
--- One type, of which P holds. Else the refusal: of the shape, which names the template, then of the type, with its message.
+-- One type that satisfies P. Other parameters are refused with the template's name, other types with the message.
 abbrev pub IsTemplateOf : (WgslType → Type 0) → List ℕ → List ℕ → List Parameter → Result WgslType Refusal → Type 0
 IsTemplateOf P name message (of_type t ∷ []) (Ok u) = P t × (u ≡ t)
 IsTemplateOf P name message (of_type t ∷ []) (Err e) = (¬ P t) × (e ≡ builtin message)
@@ -70,7 +70,7 @@ IsVecTemplate = IsTemplateOf (λ t. IsScalar t × ¬ IsAbstract t) (codes "vecto
 abbrev pub IsMatTemplate : List Parameter → Result WgslType Refusal → Type 0
 IsMatTemplate = IsTemplateOf IsFloatScalar (codes "matrix") (codes "matrix template type must be f32 or f16")
 
--- the scalars that an atomic may be of
+-- the scalars that an atomic may have inside
 abbrev pub IsAtomicScalar : WgslType → Type 0
 IsAtomicScalar (scalar F32) = Unit {0}
 IsAtomicScalar (scalar I64) = Unit {0}
@@ -88,29 +88,29 @@ abbrev pub IsBitcastTemplate : List Parameter → Result WgslType Refusal → Ty
 IsBitcastTemplate =
     IsTemplateOf IsNumericOrVector (codes "bitcast") (codes "bitcast template type must be a numeric scalar or numeric vector")
 
--- What a pointer's template names: the address space, the type, and the access mode if it is given.
+-- The parameters of a pointer: its address space, its type, and its access mode if there is one.
 pub record PointerParameters : Type 0 where
   pub space : AddressSpace
   pub ty : WgslType
   pub access : Option AccessMode
 
--- the access mode that a parameter is
+-- the access mode, if the parameter is one
 abbrev pub access_of : Parameter → Option AccessMode
 access_of (of_enumerant (enumerants.AccessMode m)) = Some m
 access_of p = None
 
--- the texel format that a parameter is
+-- the texel format, if the parameter is one
 abbrev pub format_of : Parameter → Option TexelFormat
 format_of (of_enumerant (enumerants.TexelFormat f)) = Some f
 format_of p = None
 
--- an address space and a type, and at most one parameter more, which counts as absent if it is no access mode
+-- an address space, a type, and possibly a third parameter, which is ignored unless it is an access mode
 abbrev pub pointer_parameters : List Parameter → Option PointerParameters
 pointer_parameters (of_enumerant (enumerants.AddressSpace s) ∷ of_type t ∷ []) = Some (record { space = s; ty = t; access = None })
 pointer_parameters (of_enumerant (enumerants.AddressSpace s) ∷ of_type t ∷ p ∷ []) = Some (record { space = s; ty = t; access = access_of p })
 pointer_parameters ps = None
 
--- the given access mode, or without one the space's own
+-- the access mode if there is one, else the default
 abbrev pub given_or : Option AccessMode → AccessMode → AccessMode
 given_or (Some m) default = m
 given_or None default = default
@@ -127,7 +127,7 @@ pointer_access Uniform (Some m) = Err (builtin (codes "pointer in uniform addres
 pointer_access Handle m = Err ptr_handle
 pointer_access PushConstant m = Err (todo (codes "push_constant"))
 
--- The shape first; then the type has to be storable; then the space and the access mode have to fit.
+-- Checks the number and kinds of the parameters, then that the type is storable, then the space and the access mode.
 abbrev pub IsPointerOf : Option PointerParameters → Result WgslType Refusal → Type 0
 IsPointerOf None r = r ≡ Err (template_args (codes "pointer"))
 IsPointerOf (Some p) r =
@@ -138,7 +138,7 @@ IsPointerOf (Some p) r =
 abbrev pub IsPtrTemplate : List Parameter → Result WgslType Refusal → Type 0
 IsPtrTemplate ps r = IsPointerOf (pointer_parameters ps) r
 
--- The type that a texture is sampled as.
+-- The sampled type of a texture.
 abbrev pub sampled_parameter : List Parameter → Result SampledType Refusal
 sampled_parameter (of_type t ∷ []) = ok_or (sampled_of t) (sampled_type t)
 sampled_parameter (p ∷ []) = Err (builtin (codes "texture sampled type must be `i32`, `u32` or `f32`"))
@@ -148,12 +148,12 @@ abbrev pub both : Option TexelFormat → Option AccessMode → Result (TexelForm
 both (Some f) (Some m) = Ok (f, m)
 both f m = Err (builtin (codes "storage texture types take two template parameters"))
 
--- The format of a texture's texels, and how they are accessed.
+-- The texel format and the access mode of a texture.
 abbrev pub storage_parameters : List Parameter → Result (TexelFormat × AccessMode) Refusal
 storage_parameters (p ∷ q ∷ []) = both (format_of p) (access_of q)
 storage_parameters ps = both None None
 
--- What a texture's name takes: the one or the other.
+-- The name of a texture that takes a sampled type, or a texel format and an access mode.
 pub data TextureName : Type 0 where
   sampled : (SampledType → TextureType) → TextureName
   stored : (TexelFormat → AccessMode → TextureType) → TextureName
@@ -181,6 +181,6 @@ texture_of (Some (sampled make)) ps = made make (sampled_parameter ps)
 texture_of (Some (stored make)) ps = made (λ p. make p.0 p.1) (storage_parameters ps)
 texture_of None ps = Err (builtin (codes "not a templated texture type"))
 
--- The texture of a name, with its parameters: `texture_2d<f32>`, `texture_storage_2d<rgba8unorm, write>`.
+-- The texture by its name and its parameters: `texture_2d<f32>`, `texture_storage_2d<rgba8unorm, write>`.
 abbrev pub texture_template : List ℕ → List Parameter → Result TextureType Refusal
 texture_template name ps = texture_of (named texture_names name) ps

@@ -1,4 +1,4 @@
--- Which types are made of integers, floats or numbers, and other kinds of types (WGSL, "Plain Types").
+-- Kinds of types (WGSL, "Plain Types").
 pub use Rattle.wgsl_syntax.specs.Scalar.{IsInteger, IsFloat, IsNumeric}
 use Rattle.wgsl_syntax.specs.declared.address.AddressSpace.TheVariants.{Handle}
 use Rattle.wgsl_rules.specs.types.Types.{array_of, vec_of, mat_of, WgslType, scalar, within, struct, atomic, reference, texture, sampler, ray_query, acceleration_structure}
@@ -15,28 +15,24 @@ IsNumericOrVector (scalar s) = IsNumeric s
 IsNumericOrVector (within (vec_of n) (scalar s)) = IsNumeric s
 IsNumericOrVector t = ⊥
 
--- A scalar, or a vector of whatever type.
+-- A scalar, or a vector of any type.
 abbrev pub IsScalarOrVector : WgslType → Type 0
 IsScalarOrVector (scalar s) = Unit {0}
 IsScalarOrVector (within (vec_of n) t) = Unit {0}
 IsScalarOrVector t = ⊥
 
--- One of the scalars.
 abbrev pub IsScalar : WgslType → Type 0
 IsScalar (scalar s) = Unit {0}
 IsScalar t = ⊥
 
--- A scalar that is an integer.
 abbrev pub IsIntegerScalar : WgslType → Type 0
 IsIntegerScalar (scalar s) = IsInteger s
 IsIntegerScalar t = ⊥
 
--- A scalar that is a float.
 abbrev pub IsFloatScalar : WgslType → Type 0
 IsFloatScalar (scalar s) = IsFloat s
 IsFloatScalar t = ⊥
 
--- A scalar that is a number.
 abbrev pub IsNumericScalar : WgslType → Type 0
 IsNumericScalar (scalar s) = IsNumeric s
 IsNumericScalar t = ⊥
@@ -69,7 +65,7 @@ IsPlain (struct name ms) = Unit {0}
 IsPlain (atomic t) = Unit {0}
 IsPlain t = ⊥
 
--- A leaf type is made of no other type and has no name: a scalar, a texture, a sampler, a ray query or an acceleration
+-- A leaf type has no other type inside and no name: a scalar, a texture, a sampler, a ray query or an acceleration
 -- structure.
 abbrev pub IsLeaf : WgslType → Type 0
 IsLeaf (scalar s) = Unit {0}
@@ -79,7 +75,7 @@ IsLeaf (ray_query f) = Unit {0}
 IsLeaf (acceleration_structure f) = Unit {0}
 IsLeaf t = ⊥
 
--- A reference in the handle space, of which there are no pointers.
+-- A reference in the handle space, to which there are no pointers.
 abbrev pub IsInHandleSpace : WgslType → Type 0
 IsInHandleSpace (reference Handle t m) = Unit {0}
 IsInHandleSpace t = ⊥

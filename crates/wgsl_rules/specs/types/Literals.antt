@@ -1,4 +1,4 @@
--- Literals, the scalar that each has, and how they are written (WGSL, "Literals").
+-- Literals, their scalar types, and how they are written (WGSL, "Literals").
 use Rattle.std.specs.Prelude.{ℕ, ℤ, Bool, true, false, List, ◌++◌, codes, decimal}
 use Rattle.std.specs.Fmt.{signed_decimal}
 use Rattle.wgsl_syntax.specs.declared.scalar.Scalar.{Scalar}

@@ -1,4 +1,4 @@
--- The structs that `frexp` and `modf` give (WGSL, "frexp" and "modf").
+-- The structs that `frexp` and `modf` return (WGSL, "frexp" and "modf").
 use Rattle.std.specs.Prelude.{ℕ, List, ◌++◌, None, codes}
 use Rattle.wgsl_syntax.specs.declared.scalar.Scalar.{Scalar}
 use Rattle.wgsl_syntax.specs.declared.scalar.Scalar.TheVariants.{AbstractInt, AbstractFloat, I32, F32, F16}
@@ -11,35 +11,35 @@ use Rattle.wgsl_syntax.specs.declared.result_struct.ResultPrecision.TheVariants 
 use Rattle.wgsl_syntax.specs.ResultStruct.{function_text, shape_text, precision_text}
 use Rattle.wgsl_rules.specs.types.Types.{WgslType, scalar, struct, vec, Members, no_members, member}
 
--- A shape of a type: the type itself, or a vector of it.
+-- The type itself, or a vector of it, by the shape.
 abbrev pub shaped : ResultShape → WgslType → WgslType
 shaped shape.Scalar t = t
 shaped shape.Vec2 t = vec 2 t
 shaped shape.Vec3 t = vec 3 t
 shaped shape.Vec4 t = vec 4 t
 
--- The scalar that the function takes.
+-- The scalar inside the function's argument.
 abbrev pub float_of : ResultPrecision → Scalar
 float_of precision.Abstract = AbstractFloat
 float_of precision.F32 = F32
 float_of precision.F16 = F16
 
--- The scalar of the exponent that `frexp` gives.
+-- The scalar inside the exponent that `frexp` returns.
 abbrev pub exponent_of : ResultPrecision → Scalar
 exponent_of precision.Abstract = AbstractInt
 exponent_of precision.F32 = I32
 exponent_of precision.F16 = I32
 
--- A member with no attributes, before the rest.
+-- A member without attributes, before the rest.
 abbrev pub plain_member : List ℕ → WgslType → Members → Members
 plain_member name t rest = member name t None None rest
 
 abbrev pub result_members : ResultFunction → ResultShape → ResultPrecision → Members
--- `frexp` gives a fraction and an exponent
+-- `frexp` returns a fraction and an exponent
 result_members Frexp s p =
     plain_member (codes "fract") (shaped s (scalar (float_of p)))
     (plain_member (codes "exp") (shaped s (scalar (exponent_of p))) no_members)
--- `modf` gives a fraction and a whole part
+-- `modf` returns a fraction and a whole part
 result_members Modf s p =
     plain_member (codes "fract") (shaped s (scalar (float_of p)))
     (plain_member (codes "whole") (shaped s (scalar (float_of p))) no_members)

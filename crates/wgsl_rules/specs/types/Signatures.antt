@@ -1,4 +1,4 @@
--- Template parameters and the signatures of calls, and how they are written (WGSL, "Template Lists" and "Function Calls").
+-- Template parameters and call signatures, and how they are written (WGSL, "Template Lists" and "Function Calls").
 use Rattle.std.specs.Prelude.{ℕ, List, [], ◌∷◌, ◌++◌, Option, Some, None, codes, flat_map}
 use Rattle.wgsl_syntax.specs.declared.enumerant.Enumerant.{Enumerant}
 use Rattle.wgsl_syntax.specs.Enumerant.{enumerant_text}
@@ -18,7 +18,7 @@ pub record Signature : Type 0 where
   pub template : Option (List Parameter)
   pub arguments : List WgslType
 
--- A parameter with no memory of its own.
+-- A parameter that needs no memory.
 abbrev pub IsLeafParameter : Parameter → Type 0
 IsLeafParameter (of_type t) = IsLeaf t
 IsLeafParameter (of_literal l) = Unit {0}
@@ -29,7 +29,7 @@ parameter_text (of_type t) = spelling t
 parameter_text (of_literal l) = literal_text l
 parameter_text (of_enumerant e) = enumerant_text e
 
--- texts in order, with a comma and a space between two of them
+-- texts in order, separated by a comma and a space
 abbrev pub listed : {A : Type 0} → (A → List ℕ) → List A → List ℕ
 listed text [] = []
 listed text (x ∷ xs) = text x ++ flat_map (λ y. codes ", " ++ text y) xs

@@ -1,4 +1,4 @@
--- How types are written in messages (WGSL, "Types", whose own syntax it follows if there is one).
+-- How types are written in messages: in WGSL's syntax if it has one for the type (WGSL, "Types").
 use Rattle.std.specs.Prelude.{ℕ, List, ◌++◌, Option, Some, None, codes, decimal}
 use Rattle.wgsl_syntax.specs.Address.{space_text, access_text}
 use Rattle.wgsl_syntax.specs.Attribute.{flag_text}

@@ -1,4 +1,4 @@
--- The types of WGSL without the memory that they lie in (WGSL, "Types").
+-- The types of WGSL as mathematical values, without memory (WGSL, "Types").
 use Rattle.std.specs.Prelude.{ℕ, List, Option}
 pub use Rattle.wgsl_syntax.specs.declared.layer.Layer.{Layer}
 pub use Rattle.wgsl_syntax.specs.declared.layer.Layer.TheVariants.{Array as array_of, Vec as vec_of, Mat as mat_of}
@@ -23,7 +23,7 @@ mutual
     ray_query : Option AccelerationStructureFlags → WgslType
     acceleration_structure : Option AccelerationStructureFlags → WgslType
 
-  -- the members in order, each with its name, its type, and its attributes size and align
+  -- the members in order, each with its name, its type, and its attributes `size` and `align`
   pub data Members : Type 0 where
     no_members : Members
     member : List ℕ → WgslType → Option ℕ → Option ℕ → Members → Members
