@@ -56,7 +56,7 @@ load_no_step w h = elim ((converts_reference Private (scalar AbstractInt) Read (
 array_loaded : Converts (array (Some 2) (reference Private (scalar I32) Read)) (array (Some 2) (scalar I32)) 0
 array_loaded = inr (load_inside (array_of (Some 2)) (load Private (scalar I32) Read (inl refl)), refl)
 
--- an atomic and a pointer become nothing but themselves
+-- an atomic or a pointer converts only to itself
 atomic_inside : (t u v : WgslType) → IsConvertedInside (atomic t) u (Some v) → atomic t ≡ u
 atomic_inside t u v h = ((converts_alone (atomic t) u _ tt).0 h.0.1).1
 
@@ -73,13 +73,13 @@ frexp_single = (above_converts_at (further here (base (result_to_f32 Frexp shape
       weighs = refl;
     })
 
--- the spelled-out struct
+-- a result struct, written out
 frexp_struct : result_struct Frexp shape.Vec2 precision.F16 ≡ struct (codes "__frexp_result_vec2_f16")
     (plain_member (codes "fract") (vec 2 (scalar F16)) (plain_member (codes "exp") (vec 2 (scalar I32)) no_members))
 unfolding result_struct
 frexp_struct = refl
 
--- choices
+-- overload resolution
 int_plus_float : IsLeastCandidate (operator Addition) (scalar AbstractInt ∷ scalar AbstractFloat ∷ []) (scalar AbstractFloat ∷ scalar AbstractFloat ∷ []) (scalar AbstractFloat)
 int_plus_float = row_chosen (scalar_row Addition tt AbstractInt AbstractFloat (scalar AbstractFloat) (inl ((5, (converts_scalar AbstractInt AbstractFloat 5).1 refl), refl))) tt tt
 

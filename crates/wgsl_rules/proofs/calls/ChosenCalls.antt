@@ -1,4 +1,4 @@
--- The five calls that candidates are written for: on value types their rows in the table are those whose results are chosen.
+-- The five functions with candidates: for value types, their rows in the table return the least candidate's result.
 use Rattle.std.proofs.Common.{◌≡◌, ℕ, List, [], ◌∷◌, Option, None, Some, Result, Ok, Err, inl, inr, All, codes, refl, sym, ap, subst, subst₂, ◌∙◌, option_map}
 use Rattle.wgsl_syntax.specs.declared.scalar.Scalar.{Scalar}
 use Rattle.wgsl_syntax.specs.declared.scalar.Scalar.TheVariants.{Bool}
@@ -33,7 +33,7 @@ use Rattle.wgsl_rules.proofs.calls.OneAnswer.{answer_once}
 abbrev call : List ℕ → Option (List Parameter) → List WgslType → Signature
 call name template arguments = record { name = name; template = template; arguments = arguments }
 
--- The rows of the five, by computation.
+-- The rows of the five functions, computed from the table.
 
 rows_of_min : rows_named (codes "min") call_table ≡ Takes (Two (ScalarOrVectorOf Number) Any) (Of Common) ∷ []
 unfolding call_table
@@ -56,7 +56,7 @@ rows_of_select : rows_named (codes "select") call_table ≡
 unfolding call_table
 rows_of_select = refl
 
--- What the table asks of the arguments is what the rows of the five ask.
+-- The table requires of the arguments what the rows of the five functions require.
 
 is_number : (t : WgslType) → IsScalarOrVectorOf Number t → IsNumericOrVector t
 is_number (scalar s) h = h
@@ -86,7 +86,7 @@ is_vector : (t : WgslType) → IsVector t → (n : ℕ) × (e : WgslType) × (t 
 is_vector (within (vec_of n) e) h = (n, e, refl)
 is_vector t h = absurd h
 
--- A type that is given.
+-- Results that are a type.
 
 given_is : (c : Signature) (t : WgslType) (u : Option WgslType) → Ok (Some t) ≡ given c u → u ≡ Some t
 given_is c t None e = absurd (cc e)
@@ -103,7 +103,7 @@ given_left : (a b d t : WgslType) → IsLeftCommon (a ∷ b ∷ d ∷ []) (Some 
 given_left a b d t (None, m, k) = absurd (cc k)
 given_left a b d t (Some x, m, k) = (Some x, m, subst (λ r. IsCommon x d r) k.2 k.1)
 
--- From a row of the table to a row of the five.
+-- From a row of the table to a row of the five functions.
 
 abbrev of_two_shapes : Row
 of_two_shapes = Takes (Two (ScalarOrVectorOf Number) Any) (Of Common)
@@ -180,7 +180,7 @@ each_to name (a ∷ b ∷ d ∷ []) t f o =
     (select_each_row v.0 w.0 v.1 b t (subst (λ a. IsCommon a b (Some t)) v.2 m))
 each_to name (a ∷ b ∷ d ∷ e ∷ ts) t f o = absurd f.1.1.1.1
 
--- The call that an answer is of, by the rows of its name.
+-- From the answer of a call to its row.
 
 abbrev IsRowOf : Name → List WgslType → Result (Option WgslType) Refusal → Type 0
 IsRowOf n ts (Ok (Some t)) = IsCallRow n ts t
@@ -239,7 +239,7 @@ row_of select h ts v a k = go (subst (λ rs. IsAnswerOf rs (call (codes "select"
     go (inr (n, inr q)) = refused_form select ts a q.1
 row_of (operator o) h ts v a k = absurd h
 
--- From a row of the five to a row of the table.
+-- From a row of the five functions to a row of the table.
 
 two_from : (n : Name) → IsMinMax n → (a b c : WgslType) → IsNumericOrVector a → IsCommon a b (Some c) →
     IsAnswerOf (rows_named (name_of n) call_table) (call (name_of n) None (a ∷ b ∷ [])) (Ok (Some c))
@@ -277,7 +277,7 @@ chosen n h ts v (Err e) k r = (
       (λ t q. absurd (cc (answer_once (rows_named (name_of n) call_table) (call (name_of n) None ts) (Err e) (Ok (Some t)) refl k (row_answers q))))),
 )
 
--- What a call answers is the result of the choice.
+-- A call returns the result of the least candidate.
 pub call_is_least : (c : Signature) (a : Answer) → IsCallAnswer c a → IsLeastCallAnswer c a
 unfolding IsCallAnswer IsLeastCallAnswer
 call_is_least c a k n h e f v =

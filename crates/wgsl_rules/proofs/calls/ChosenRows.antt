@@ -1,5 +1,5 @@
--- On value types the row of one of the five calls gives the choice, and there is a row wherever a candidate takes the
--- arguments.
+-- For value types, a row of one of the five functions is the least candidate, and a row applies if a candidate takes
+-- the arguments.
 use Rattle.std.proofs.Common.{◌≡◌, ℕ, List, [], ◌∷◌, Option, Some, None, All, refl, sym, ◌∙◌, ap, subst, subst₂, ap₂}
 use Rattle.std.proofs.lemmas.List.Elements.{All-nil, All-cons}
 use Rattle.wgsl_syntax.specs.declared.scalar.Scalar.{Scalar}
@@ -24,7 +24,7 @@ use Rattle.wgsl_rules.proofs.operators.Forms.{any_scalar, a_number, Admits, plai
 use Rattle.wgsl_rules.proofs.operators.Choices.{row_choice}
 use Rattle.wgsl_rules.proofs.operators.ChosenRows.{two_values, common_within, both_plain, layered_common, join_of, bool_above, common_scalar}
 
--- numbers convert to numbers
+-- numeric types convert to numeric types
 result_number : (m : ResultFunction) (s : ResultShape) (p q : ResultPrecision) → Admits a_number (result_struct m s p) → Admits a_number (result_struct m s q)
 unfolding result_struct
 result_number m s p q h = absurd h
@@ -79,7 +79,7 @@ two_form min h a b c k m va vb = absurd k
 two_form max h a b c k m va vb = absurd k
 two_form n h a b c k m va vb = absurd h
 
--- clamp: a left common under a layer
+-- clamp: the common type of three types in one layer
 
 abbrev Under : Layer → List WgslType → List WgslType
 Under l [] = []
@@ -95,7 +95,7 @@ receives_under l u (e ∷ es) v h =
     receives_cons (within l u) (within l e) (Under l es) (above_converts (above_inside l (value_above (values_head e es v) (receives_head u e es h))))
     (receives_under l u es (values_tail e es v) (receives_tail u e es h))
 
--- what converts inside a layer
+-- conversion inside a layer
 inside_converts : (l : Layer) (t u : WgslType) → IsValueType t → ConvertsTo (within l t) (within l u) → ConvertsTo t u
 inside_converts l t u v h =
     let m = above_from_within (value_above {t = within l t} v h) l t refl in
@@ -128,7 +128,7 @@ left_inside l e es d v h = let k = some_left_common (e ∷ es) in go k.0 k.1
         (least_common_once (e ∷ es) c d n
         (got, λ u g. inside_converts l d u vd (least.1 (within l u) (receives_under l u (e ∷ es) v g)))) m
 
--- the first member's target receives the others
+-- all three convert to their common type
 first_above : (a b c d : WgslType) → All IsValueType (a ∷ b ∷ c ∷ []) → IsLeftCommon (a ∷ b ∷ c ∷ []) (Some d) → Above a d × Above b d × Above c d
 first_above a b c d v h =
     let k = left_common_least (a ∷ b ∷ c ∷ []) d v h in
@@ -280,7 +280,7 @@ three_taken (a ∷ ts) u v w (x ∷ ws) va h =
     let p = values_head a ts va in
     record { a = a; rest = ts; is = refl; a_value = p; a_above = (value_converts p h.0).0; two = two_taken ts v w ws (values_tail a ts va) h.1 }
 
--- what is above a number or a vector of one is that too
+-- what converts to a number or a vector of numbers is one itself
 numeric_scalar : (a : WgslType) → Admits a_number a → IsNumericOrVector a
 numeric_scalar (scalar s) h = h
 numeric_scalar a h = absurd h
@@ -305,7 +305,7 @@ either_down (scalar s) a k h = plain_scalar a (above_admits h any_scalar tt)
 either_down (within (vec_of n) t) a k h = let x = above_to_within h (vec_of n) t refl in subst IsScalarOrVector (sym x.1) tt
 either_down t a k h = absurd k
 
--- three that one type receives have a left common
+-- three types that convert to one type have a common type
 left_of_three : (a b c t : WgslType) → All IsValueType (a ∷ b ∷ c ∷ []) → Above a t → Above b t → Above c t → (d : WgslType) × IsLeftCommon (a ∷ b ∷ c ∷ []) (Some d)
 left_of_three a b c t v p q r = let k = some_left_common (a ∷ b ∷ c ∷ []) in go k.0 k.1
   where

@@ -1,4 +1,4 @@
--- How the names stand in the table, computed.
+-- The names of the list are those of the table, by computation.
 use Rattle.std.proofs.Common.{refl}
 use Rattle.wgsl_rules.specs.calls.Names.{call_names}
 use Rattle.wgsl_rules.specs.calls.Table.{call_table}

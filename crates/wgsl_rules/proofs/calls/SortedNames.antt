@@ -58,7 +58,7 @@ pub names_many : length call_names ≡ 155
 unfolding call_names
 names_many = refl
 
--- a list of anything that has these names
+-- lists whose items have these names
 
 pub as_many : {X : Type 0} (f : X → List ℕ) (xs : List X) → map f xs ≡ call_names → length xs ≡ 155
 as_many f xs e = sym (length-map xs f) ∙ (ap length e ∙ names_many)
@@ -66,7 +66,7 @@ as_many f xs e = sym (length-map xs f) ∙ (ap length e ∙ names_many)
 pub named : {X : Type 0} (f : X → List ℕ) (xs : List X) → map f xs ≡ call_names → (k : ℕ) (d : X) → k < 155 → f (get_or xs k d) ≡ name_at call_names k
 named f xs e k d b = sym (lists.get_or-map f xs k d [] (omega (arith, as_many f xs e))) ∙ ap (λ l. get_or l k []) e
 
--- ---- the order
+-- the order
 
 abbrev order : List ℕ → List ℕ → Ordering
 order = slice_cmp nat_cmp
@@ -107,7 +107,7 @@ above_step x m h k l b = above_at x m k h b (eq-or-lt_of_le l)
 pub at_name : {X : Type 0} (f : X → List ℕ) (xs : List X) → map f xs ≡ call_names → (k : ℕ) (d : X) → k < 155 → (x : List ℕ) (o : Ordering) → o ≡ order x (f (get_or xs k d)) → order x (name_at call_names k) ≡ o
 at_name f xs e k d b x o h = ap (order x) (sym (named f xs e k d b)) ∙ sym h
 
--- ---- what was found
+-- the index found
 
 one_index_upwards : (i j : ℕ) → i < 155 → j < 155 → name_at call_names i ≡ name_at call_names j → (i ≡ j) ⊎ (i < j) → i ≡ j
 one_index_upwards i j bi bj e (inl p) = p
@@ -137,7 +137,7 @@ missing x low high i met below above b e (inr l) = cc (above i (omega arith) b, 
 pub not_found : (x : List ℕ) (low high : ℕ) → high ≤ low → ((k : ℕ) → k < low → order x (name_at call_names k) ≡ Greater) → ((k : ℕ) → high ≤ k → k < 155 → order x (name_at call_names k) ≡ Less) → (i : ℕ) → let r : Option ℕ = None in (r ≡ Some i) ↔ IsNameAt call_names i x
 not_found x low high met below above i = (λ e. cc, λ n. absurd (missing x low high i met below above (omega (arith, names_many, n.0)) n.1 (cases_lt i low)))
 
--- ---- how many were compared
+-- the number of comparisons
 
 few_at : (n k : ℕ) → 0 < n → n < 2 ^ (8 - k) → (k ≡ 8) ⊎ (k < 8) → k < 8
 few_at n k p h (inl e) = absurd (let q : n < 2 ^ (8 - 8) = subst (λ j. n < 2 ^ (8 - j)) e h in omega arith)

@@ -1,4 +1,4 @@
--- What is not the name of a built-in function has no rows.
+-- A name that is not in the list has no rows.
 use Rattle.std.proofs.Common.{ℕ, suc, ◌≡◌, ◌<◌, ◌&&◌, ◌||◌, List, [], ◌∷◌, length, get_or, map, Bool, true, false, refl, sym, ap, ◌∙◌, arith, true≢false, bytes_eq}
 use Rattle.std.specs.List.{list_any, list_all}
 use Rattle.std.proofs.lemmas.Slice.Eq.{bytes_eq-Decides}
@@ -17,7 +17,7 @@ both true true h = (refl, refl)
 both true false h = absurd (true≢false (sym h))
 both false b h = absurd (true≢false (sym h))
 
--- a test that can't be true
+-- a test that can't be true is false
 never : (b : Bool) → (b ≡ true → ⊥) → b ≡ false
 never true h = absurd (h refl)
 never false h = refl
@@ -56,7 +56,7 @@ no_rows (l ∷ ls) name h k =
 pub nameless : (name : List ℕ) → ((i : ℕ) → IsNameAt call_names i name → ⊥) → rows_named name call_table ≡ []
 nameless name h = no_rows call_table name (unlisted call_names name h) computed
 
--- the rows at an index are those under the name there
+-- the rows at an index are those of the name there
 pub rows_at : {X : Type 0} (f : X → List Row) (xs : List X) (name : List ℕ) (k : ℕ) (d : X) → map f xs ≡ map (λ n. rows_named n call_table) call_names → k < length xs → IsNameAt call_names k name → f (get_or xs k d) ≡ rows_named name call_table
 rows_at f xs name k d e b at =
     sym (lists.get_or-map f xs k d [] b) ∙ (ap (λ l. get_or l k []) e ∙ (lists.get_or-map (λ n. rows_named n call_table) call_names k [] [] at.0 ∙ ap (λ n. rows_named n call_table) at.1))

@@ -8,7 +8,7 @@ use Rattle.wgsl_rules.specs.conversion.Common.{IsCommon, IsLeftCommonFrom, IsLef
 use Rattle.wgsl_rules.specs.Headline.{Receives, IsLeastCommon}
 use Rattle.wgsl_rules.proofs.conversion.Order.{Above, here, above_trans, above_chain, above_values, above_converts, value_converts, dec_converts, converts_antisym}
 
--- of two
+-- of two types
 
 pub common_symmetric : (a b : WgslType) (r : Option WgslType) → IsCommon a b r → IsCommon b a r
 common_symmetric a b None h = (h.1, h.0)
@@ -43,7 +43,7 @@ some_common a b =
 pub value_above : {t u : WgslType} → IsValueType t → ConvertsTo t u → Above t u
 value_above v h = (value_converts v h.1).0
 
--- the least type above both
+-- the least type to which both convert
 pub record IsJoin (a b c : WgslType) : Type 0 where
   pub left : Above a c
   pub right : Above b c
@@ -62,7 +62,7 @@ no_common a b h v s t =
       | inr p ↦ h.1 (above_converts p)
     ]
 
--- of a list
+-- of lists
 
 pub receives_nil : (u : WgslType) → Receives u []
 receives_nil u = All-nil (λ t. ConvertsTo t u)
@@ -134,7 +134,7 @@ pub left_common_once : (ts : List WgslType) (r s : Option WgslType) → IsLeftCo
 left_common_once [] r s h k = h ∙ sym k
 left_common_once (t ∷ ts) r s h k = left_common_once_from (Some t) ts r s h k
 
--- the left common is the least common type, and none if there is no common type
+-- the common type from left to right is the least common type, and None if there is none
 pub left_common_least : (ts : List WgslType) (u : WgslType) → All IsValueType ts → IsLeftCommon ts (Some u) → IsLeastCommon u ts
 left_common_least [] u vs h = absurd (no_none h)
   where

@@ -106,7 +106,7 @@ least_concrete t v h =
           elim (k.least u p.0 c) [ inl e ↦ inl e | inr d ↦ inr (omega (arith, n.1, p.1, d)) ];
     }
 
--- of every type
+-- for every type
 
 pub concretized_concrete : (t : WgslType) → ¬ IsAbstract (concretized t)
 concretized_concrete (scalar AbstractInt) = λ e. cc e
@@ -132,7 +132,7 @@ concrete_stays (within (vec_of n) t) h = ap (λ t. within (vec_of n) t) (concret
 concrete_stays (within (array_of n) t) h = ap (λ t. within (array_of n) t) (concrete_stays t h)
 concrete_stays t h = refl
 
--- by what a call answers
+-- for a type u that is the concrete type of t
 
 abbrev IsOf : WgslType → WgslType → Type 0
 IsOf t u = u ≡ concretized t

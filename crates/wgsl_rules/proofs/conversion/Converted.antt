@@ -1,4 +1,4 @@
--- Each type becomes one thing if it is converted to a type.
+-- Converting a type to a type has exactly one result.
 use Rattle.std.proofs.Common.{◌≡◌, Option, Some, None, option_map, refl, sym, ap, ◌∙◌}
 use Rattle.wgsl_rules.specs.types.Types.{WgslType, within}
 use Rattle.wgsl_rules.specs.conversion.Conversion.{ConvertsTo}

@@ -42,7 +42,7 @@ converts_in_short (inr h) = omega (arith, h.2)
 pub converts_in_once : {t u : WgslType} {v w n m : ℕ} → ConvertsIn t u v n → ConvertsIn t u w m → (v ≡ w) × (n ≡ m)
 converts_in_once {t} {u} {v} {w} {n} {m} h k = (converts_once (counted_converts h) (counted_converts k), steps h k)
   where
-    -- a path where a load stands has no step
+    -- a path between the ends of a load has no step
     still : {x l : ℕ} → PathOf t u x l → Load t u → l ≡ 0
     still a d = let k = counted_above a in omega (arith, k.2, ap height (load_above d k.0))
 

@@ -1,4 +1,4 @@
--- What conversion is at each kind of type, for the functions that decide it.
+-- Conversion for each kind of type, as the functions that decide it need it.
 use Rattle.std.proofs.Common.{◌≡◌, ◌≢◌, ℕ, ◌+◌, ◌⊎◌, ◌↔◌, Option, Some, None, refl, sym, ◌∙◌, ap, subst, subst₂, List, inl, inr, arith}
 use Rattle.wgsl_syntax.specs.declared.scalar.Scalar.{Scalar}
 use Rattle.wgsl_syntax.specs.declared.scalar.Scalar.TheVariants.{Bool, AbstractInt, AbstractFloat, I32, U32, F32, F16, I64, U64, F64}
@@ -42,7 +42,7 @@ load_converts l = inr (l, refl)
 pub load_rank : {t u : WgslType} {w : ℕ} → Load t u → Converts t u w → w ≡ 0
 load_rank l h = converts_once h (load_converts l)
 
--- inside layers
+-- conversion inside layers
 
 load_from_within : {l : Layer} {t v : WgslType} → Load (within l t) v → (u : WgslType) × (v ≡ within l u) × Load t u
 load_from_within (load_inside {u = u} l h) = (u, refl, h)
@@ -65,7 +65,7 @@ converts_within l k t u w = (
   λ h. subst (λ k. Converts (within l t) (within k u) w) (sym h.0) (converts_inside l t u w h.1),
 )
 
--- types that only equal types convert to, but for loads
+-- roots: types to which only equal types convert, except by a load
 
 abbrev IsRoot : WgslType → Type 0
 IsRoot (scalar s) = ⊥
@@ -113,7 +113,7 @@ converts_reference s t m u w = (to, back)
       | inr r ↦ inr (subst (λ u. Load (reference s t m) u) r.1 (load s t m r.0), h.0)
     ]
 
--- The types of no base step, layer or reference: pointers, atomics, textures and the like.
+-- The types without base step, layer or reference: pointers, atomics, textures and the like.
 abbrev pub StandsAlone : WgslType → Type 0
 StandsAlone (scalar s) = ⊥
 StandsAlone (within l t) = ⊥
@@ -194,7 +194,7 @@ above_plain (further a s) h = step_plain s (above_plain a h)
 int_float : Step (scalar AbstractInt) (scalar AbstractFloat) 5
 int_float = base int_to_float
 
--- each rank of the table is one
+-- each rank in the table is right
 table_above : (a b : Scalar) (w : ℕ) → scalar_rank a b ≡ Some w → Above (scalar a) (scalar b) × (depth (scalar b) ≡ depth (scalar a) + w)
 table_above AbstractInt AbstractInt w e = let p : 0 ≡ w = cc e in (here, omega arith)
 table_above AbstractInt I32 w e = let p : 3 ≡ w = cc e in (further here (base int_to_i32), omega arith)
@@ -221,7 +221,7 @@ above_or : {t u : WgslType} → Above t u → (t ≡ u) ⊎ Above t (parent u)
 above_or here = inl refl
 above_or {t} (further a s) = inr (subst (λ u. Above t u) (sym (step_parent s)) a)
 
--- a scalar that nothing leads to
+-- a scalar to which no step leads
 alone : (a b : Scalar) → scalar_at (depth (scalar b)) ≢ b → Above (scalar a) (scalar b) → a ≡ b
 alone a b n h = elim (above_target h) [ inl e ↦ cc e | inr e ↦ absurd (n (cc e)) ]
 

@@ -8,7 +8,7 @@ use Rattle.wgsl_rules.specs.Headline.{Receives, IsLeastCommon, IsLeastCommonAnsw
 use Rattle.wgsl_rules.proofs.conversion.Commons.{least_permuted}
 use Rattle.wgsl_rules.proofs.Laws.{left_is_least}
 
--- What the left common is
+-- The common type from left to right
 
 least_is_given : (ts : List WgslType) (r : Option WgslType) → IsLeftCommon ts r → LeftCommonIsLeast ts → IsLeastCommonAnswer ts r
 least_is_given ts r h l = record { some = λ u. (some_to u, λ p. l.one r (Some u) h (l.least_is_left p.0 u p.1)); none = (none_to ts r h l, none_from ts r h l); any_order = λ us u p e. least_permuted u ts us p (some_to u e).1 }
@@ -42,7 +42,7 @@ one_more c [] d t r h k = subst (λ c. IsLeftCommonFrom c (t ∷ []) r) (sym h) 
 one_more None (u ∷ us) d t r h k = absurd (cc h)
 one_more (Some c) (u ∷ us) d t r h k = (h.0, h.1, one_more h.0 us d t r h.2 k)
 
--- A list that has none
+-- A list without a common type
 
 none_stays : (ts : List WgslType) → IsLeftCommonFrom None ts None
 none_stays [] = refl

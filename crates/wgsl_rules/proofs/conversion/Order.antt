@@ -1,4 +1,4 @@
--- Paths are walks down from parent to child: what is above a type is a chain, and weights are differences of ranks from
+-- Paths lead from parents to children: the types above a type are a chain, and weights are differences of ranks from
 -- the root.
 use Rattle.std.proofs.Common.{◌≡◌, ◌≢◌, ℕ, zero, suc, ◌+◌, ◌<◌, ◌≤◌, ◌-◌, ◌⊎◌, ◌↔◌, List, [], ◌∷◌, ◌++◌, length, refl, sym, ◌∙◌, ap, subst, inl, inr, arith, le_refl}
 use Rattle.wgsl_syntax.specs.declared.address.AddressSpace.{AddressSpace}
@@ -18,7 +18,7 @@ pub above_depth : {t u : WgslType} → Above t u → depth t ≤ depth u
 above_depth here = omega arith
 above_depth (further a s) = omega (arith, above_depth a, step_depth s)
 
--- only the type itself is as deep
+-- if t is above u and u is no deeper, they are equal
 pub above_level : {t u : WgslType} → Above t u → depth u ≤ depth t → t ≡ u
 above_level here h = refl
 above_level (further a s) h = absurd (omega (arith, above_depth a, step_depth s, step_positive s, h))
@@ -30,7 +30,7 @@ above_trans a (further b s) = further (above_trans a b) s
 pub above_antisym : {t u : WgslType} → Above t u → Above u t → t ≡ u
 above_antisym a b = above_level a (above_depth b)
 
--- two types above a third are one above the other
+-- of two types above a third, one is above the other
 pub above_chain : {a b c : WgslType} → Above a c → Above b c → Above a b ⊎ Above b a
 above_chain here q = inr q
 above_chain (further p s) q = past_step p s q (above_chain p)
@@ -39,7 +39,7 @@ above_chain (further p s) q = past_step p s q (above_chain p)
     past_step p s here go = inl (further p s)
     past_step {b = b} p s (further q r) go = go (subst (λ t. Above b t) (sym (step_parent r) ∙ step_parent s) q)
 
--- a target is known by its rank from the root
+-- the rank from the root determines the target
 above_family : {t u : WgslType} → Above t u → (d : ℕ) → target t d ≡ target u d
 above_family here d = refl
 above_family (further a s) d = above_family a d ∙ step_family s d
@@ -110,7 +110,7 @@ above_parent : {t u v : WgslType} {w : ℕ} → Above t v → t ≢ v → Step u
 above_parent here a r = absurd (a refl)
 above_parent {t} (further p s) a r = subst (λ u. Above t u) (sym (step_parent s) ∙ step_parent r) p
 
--- with a bound on the rank from the root, by which the walk to the parents ends
+-- with a bound on the rank from the root, which ends the walk to the parents
 dec_above_within : (n : ℕ) (t u : WgslType) → depth u ≤ n → Dec (Above t u)
 dec_above_within zero t u h =
     elim (same_type t u) [
@@ -171,12 +171,12 @@ pub load_no_value : {t u : WgslType} → Load t u → IsValueType t → ⊥
 load_no_value (load s t m h) v = v
 load_no_value (load_inside l a) v = load_no_value a v
 
--- nothing is above what loads but itself
+-- only the type itself is above a type that loads
 above_load : {t u v : WgslType} → Above t u → Load u v → t ≡ u
 above_load here l = refl
 above_load (further a s) l = absurd (load_no_value l (step_values s).1)
 
--- and it is above nothing but itself
+-- and a type that loads is above only itself
 pub load_above : {t u v : WgslType} → Load t v → Above t u → t ≡ u
 load_above l here = refl
 load_above l (further a s) = absurd (load_no_value l ((above_values a).1 (step_values s).0))
@@ -229,7 +229,7 @@ along_load a l =
     let e = load_above l k.0 in
     omega (arith, k.1, ap depth e)
 
--- a type has one rank to another
+-- a type converts to another with at most one rank
 pub converts_once : {t u : WgslType} {v w : ℕ} → Converts t u v → Converts t u w → v ≡ w
 converts_once (inl a) (inl b) = omega (arith, (along_above a).1, (along_above b).1)
 converts_once (inl a) (inr l) = along_load a l.0 ∙ sym l.1

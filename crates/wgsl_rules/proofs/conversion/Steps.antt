@@ -1,5 +1,4 @@
--- Each type has at most one parent, from which a step leads to it, and a rank from the root, which each step raises by
--- its weight.
+-- Each type has at most one parent, from which a step leads to it. A step raises the rank from the root by its weight.
 use Rattle.std.proofs.Common.{◌≡◌, ◌≢◌, ℕ, ◌+◌, ◌<◌, ◌≤◌, List, ◌++◌, ap₂, cond, eqb, get_or, refl, sym, ◌∙◌, ap, subst, arith}
 use Rattle.wgsl_syntax.specs.declared.scalar.Scalar.{Scalar}
 use Rattle.wgsl_syntax.specs.declared.scalar.Scalar.TheVariants.{Bool, AbstractInt, AbstractFloat, I32, U32, F32, F16, I64, U64, F64}
@@ -43,7 +42,7 @@ abbrev pub first : Members → WgslType
 first (member f t size align ms) = t
 first no_members = scalar Bool
 
--- of a struct that isn't a result struct this says nothing
+-- meaningless for a struct that isn't a result struct
 abbrev pub depth : WgslType → ℕ
 depth (scalar s) = scalar_depth s
 depth (within l t) = depth t
@@ -183,14 +182,14 @@ height_small (within l t) = height_small t
 height_small (struct n ms) = float_height_small (core (first ms))
 height_small t = omega arith
 
--- Parents. Of a type that has none, `parent` says nothing.
+-- Parents; `parent` is meaningless for a type that has none.
 
 abbrev pub parent_scalar : Scalar → Scalar
 parent_scalar F32 = AbstractFloat
 parent_scalar F16 = AbstractFloat
 parent_scalar s = AbstractInt
 
--- which function and shape a result struct is of
+-- the function and the shape of a result struct
 abbrev pub function_in : List ℕ → ResultFunction
 function_in n = cond (eqb (get_or n 2 0) 102) Frexp Modf
 
@@ -254,7 +253,7 @@ pub step_parent : {t u : WgslType} {w : ℕ} → Step t u w → parent u ≡ t
 step_parent (base b) = base_parent b
 step_parent (inside l s) = ap (λ t. within l t) (step_parent s)
 
--- Where a type can be converted to, by the rank from the root there
+-- The target of a conversion, by the target's rank from the root
 
 abbrev pub scalar_at : ℕ → Scalar
 scalar_at d = cond (eqb d 3) I32 (cond (eqb d 4) U32 (cond (eqb d 5) AbstractFloat (cond (eqb d 6) F32 (cond (eqb d 8) I64 (cond (eqb d 9) U64 F16)))))
@@ -304,7 +303,7 @@ pub step_family : {t u : WgslType} {w : ℕ} → Step t u w → (d : ℕ) → ta
 step_family (base b) d = base_family b d
 step_family (inside l s) d = ap (λ t. within l t) (step_family s d)
 
--- What a step begins at and leads to
+-- The ends of a step
 
 abbrev pub IsLeaf : WgslType → Type 0
 IsLeaf (within l t) = ⊥

@@ -1,4 +1,4 @@
--- Between nodes a conversion is a walk from the target to its parents, until it meets the source.
+-- A conversion between nodes is a walk from the target to its parents, until it meets the source.
 use Rattle.std.proofs.Common.{◌≡◌, ◌≢◌, ℕ, ◌+◌, ◌-◌, ◌<◌, ◌≤◌, ◌⊎◌, ◌↔◌, Some, None, cond, eqb, refl, sym, ◌∙◌, ap, subst, subst₂, inl, inr, arith}
 use Rattle.wgsl_syntax.specs.declared.scalar.Scalar.{Scalar}
 use Rattle.wgsl_syntax.specs.declared.scalar.Scalar.TheVariants.{Bool, AbstractInt, AbstractFloat, I32, U32, F32, F16, I64, U64, F64}
@@ -31,7 +31,7 @@ scalar_no_result : (r : Scalar) (f : ResultFunction) (s : ResultShape) (p : Resu
 unfolding result_struct
 scalar_no_result r f s p e = cc e
 
--- one node has one type
+-- different nodes have different types
 pub type_at_once : (p q : Node) → type_at p ≡ type_at q → p ≡ q
 type_at_once (at_scalar s) (at_scalar r) e = let k : s ≡ r = cc e in ap at_scalar k
 type_at_once (at_scalar r) (at_result f s p) e = absurd (scalar_no_result r f s p e)
@@ -62,7 +62,7 @@ node_leaf : (p : Node) → IsLeaf (type_at p)
 node_leaf (at_scalar s) = tt
 node_leaf (at_result f s p) = result_leaf f s p
 
--- Steps lead from a parent to its child
+-- Steps lead from a parent to a child
 
 -- the nodes that a step is between
 record Between (t u : WgslType) (w : ℕ) : Type 0 where
@@ -113,7 +113,7 @@ parent_step (at_result f s precision.F32) q e = let k : at_result f s precision.
 parent_step (at_result f s precision.F16) q e = let k : at_result f s precision.Abstract ≡ q = cc e in subst (λ q. ParentStep (at_result f s precision.F16) q) k (base (result_to_f16 f s))
 parent_step (at_result f s precision.Abstract) q e = absurd (cc e)
 
--- a step to a node is one from its parent
+-- a step to a node starts at its parent
 pub step_to_node : {t u : WgslType} {w : ℕ} → Step t u w → (p : Node) → u ≡ type_at p →
     (q : Node) × (t ≡ type_at q) × (parent_of p ≡ Some q) × (rank_from_root p ≡ rank_from_root q + w)
 step_to_node {t} {u} {w} (base b) p e =
@@ -122,7 +122,7 @@ step_to_node {t} {u} {w} (base b) p e =
     (k.from, k.begins, ap parent_of m ∙ k.parent, ap rank_from_root m ∙ k.weighs)
 step_to_node (inside l s) p e = absurd (subst IsLeaf (sym e) (node_leaf p))
 
--- none leads to a node without a parent
+-- no step leads to a node without a parent
 pub no_step_to_root : (p : Node) → parent_of p ≡ None → (t : WgslType) (w : ℕ) → ¬ Step t (type_at p) w
 no_step_to_root p e t w s = let k = step_to_node s p refl in let d : None ≡ Some k.0 = sym e ∙ k.2 in cc d
 
@@ -133,7 +133,7 @@ pub data Ancestor : Node → Node → ℕ → Type 0 where
   itself : {p : Node} → Ancestor p p 0
   past : {p q r : Node} {n : ℕ} → Ancestor p q n → parent_of r ≡ Some q → Ancestor p r (n + 1)
 
--- a parent of the first node is one more away
+-- the parent of the first node is one further away
 pub ancestor_up : {o p q : Node} {n : ℕ} → parent_of p ≡ Some o → Ancestor p q n → Ancestor o q (n + 1)
 ancestor_up e itself = past itself e
 ancestor_up e (past a f) = past (ancestor_up e a) f
@@ -162,7 +162,7 @@ ancestor_short {p} {q} a = omega (arith, ancestor_height a, height_small (type_a
 pub ancestor_once : {p q : Node} {n m : ℕ} → Ancestor p q n → Ancestor p q m → n ≡ m
 ancestor_once a b = omega (arith, ancestor_height a, ancestor_height b)
 
--- what is above a node is a node
+-- a type above a node is a node
 pub above_node : {t u : WgslType} → Above t u → (q : Node) → u ≡ type_at q → (p : Node) × (n : ℕ) × (t ≡ type_at p) × Ancestor p q n
 above_node here q e = (q, 0, e, itself)
 above_node (further a s) q e =
@@ -222,7 +222,7 @@ converts_in_ancestor p q w n = (to, back)
     back : Ancestor p q n × (w ≡ rank_from_root q - rank_from_root p) → ConvertsIn (type_at p) (type_at q) w n
     back h = inl (subst (λ w. PathOf (type_at p) (type_at q) w n) (sym h.1) (ancestor_path h.0))
 
--- the walk: a node that isn't the target converts to it through the target's parent
+-- the walk: a node converts to a different target through the target's parent
 pub converts_in_parent : (p q r : Node) (w n : ℕ) → p ≢ q → parent_of q ≡ Some r →
     ConvertsIn (type_at p) (type_at q) w n ↔ (v : ℕ) × (m : ℕ) × ConvertsIn (type_at p) (type_at r) v m × (w ≡ v + (rank_from_root q - rank_from_root r)) × (n ≡ m + 1)
 converts_in_parent p q r w n d e = (to, back)
@@ -246,11 +246,11 @@ converts_in_parent p q r w n d e = (to, back)
           omega (arith, k.1, h.3, ancestor_depth k.0, parent_below q r e),
         )
 
--- and not at all to one without a parent
+-- and not at all to a target without a parent
 pub converts_in_root : (p q : Node) (w n : ℕ) → p ≢ q → parent_of q ≡ None → ¬ ConvertsIn (type_at p) (type_at q) w n
 converts_in_root p q w n d e h = ancestor_root d e ((converts_in_ancestor p q w n).0 h).0
 
--- What is left once equal layers are off
+-- Once equal layers are removed
 
 abbrev pub HaveEqualLayers : WgslType → WgslType → Type 0
 HaveEqualLayers (within l t) (within k u) = l ≡ k
@@ -278,12 +278,12 @@ pub converts_in_nodes : (t u : WgslType) (w n : ℕ) → ¬ HaveEqualLayers t u 
     (p : Node) × (q : Node) × (t ≡ type_at p) × (u ≡ type_at q)
 converts_in_nodes t u w n e d m h = converts_nodes t u w e d m (counted_converts h)
 
--- where there is no equal layer left, a load is one of a reference
+-- without equal layers, a load is a load of a reference
 pub load_bare : {t u : WgslType} → ¬ HaveEqualLayers t u → Load t u → (s : AddressSpace) × (m : AccessMode) × (t ≡ reference s u m) × MayRead m
 load_bare n (load s t m h) = (s, m, refl, h)
 load_bare n (load_inside l h) = absurd (n refl)
 
--- without equal layers two types are one, or a load leads from the one to the other, or the walk between their nodes
+-- without equal layers, different types convert by a load, or by a walk between their nodes
 pub converts_in_bare : (t u : WgslType) (w n : ℕ) → ¬ HaveEqualLayers t u → t ≢ u → ConvertsIn t u w n ↔
     (Load t u × (w ≡ 0) × (n ≡ 0) ⊎ ((p : Node) × (q : Node) × (t ≡ type_at p) × (u ≡ type_at q) × Ancestor p q n × (w ≡ rank_from_root q - rank_from_root p)))
 converts_in_bare t u w n e d = (to, back)

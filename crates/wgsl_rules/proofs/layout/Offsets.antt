@@ -9,7 +9,7 @@ use Rattle.wgsl_rules.proofs.layout.Placing.{Aligned, end_of, starts, laid, no_l
 use Rattle.wgsl_rules.proofs.layout.OneSize.{one_layouts}
 use Rattle.wgsl_rules.proofs.layout.StructSizes.{all_aligned}
 
--- the layouts and the offsets of the members before the rest, which end at `e`: those of the rest complete them
+-- the layouts and offsets of the members before the rest, which end at `e`; those of the rest complete them
 pub record PlacedSoFar (ms rest : Members) (before : List MemberLayout) (offsets : List ℕ) (e : ℕ) : Type 0 where
   pub layouts : List MemberLayout
   pub known : HaveLayouts ms layouts
@@ -33,7 +33,7 @@ none_placed ms n h =
     let small : n < 2 ^ 32 = h.fits in
     record { layouts = h.layouts; known = h.known; left = h.layouts; left_known = h.known; left_aligned = al; fits = omega arith; all_layouts = refl; all_offsets = refl }
 
--- the next member's layout, and what is placed with it
+-- the next member's layout, and the placement with it
 pub record NextMember (ms rest : Members) (before : List MemberLayout) (offsets : List ℕ) (e : ℕ) (IsSize IsAlign : ℕ → Type 0) : Type 0 where
   pub size : ℕ
   pub align : ℕ

@@ -103,7 +103,7 @@ mutual
   one_aligns (member name t size align ms) (x ∷ xs) (y ∷ ys) a b =
       ap (λ z. z ∷ xs) (one_given align (HasAlignment t) (one_align t) x y a.0 b.0) ∙ ap (λ zs. y ∷ zs) (one_aligns ms xs ys a.1 b.1)
 
--- A struct's size is the least total of every list of sizes and alignments that its members have, since there is one.
+-- A struct's size is the least total for any list of its members' sizes and alignments, since there is only one.
 pub least_placed : (ms : Members) (r : Option ℕ) → IsExactly r (IsStructSize (HaveLayouts ms)) → (r ≡ None) ↔ HasNoSize ms → IsLeastPlacedSize ms r
 least_placed ms r is lacks = record { exact = is; least = of_layouts; none = lacks }
   where

@@ -1,4 +1,4 @@
--- The placement that puts each member where its alignment first allows it: no placement has less.
+-- The placement with each member at the first offset that its alignment allows; no placement is smaller.
 use Rattle.std.proofs.Common.{◌≡◌, ℕ, ◌+◌, ◌*◌, ◌-◌, ◌/◌, ◌%◌, ◌<◌, ◌≤◌, zero, suc, List, [], ◌∷◌, get_or, ap, arith, ◌⊎◌, inl, inr, ◌∙◌}
 use Rattle.std.specs.Int.{◌∣◌, next_multiple_of}
 use Rattle.std.proofs.lemmas.Nat.Gcd.{dvd_of_mod-eq-zero, mod-eq-zero_of_dvd}
@@ -48,7 +48,7 @@ next_least x a m pos d le =
 pub next_mono : (x y a : ℕ) → 0 < a → x ≤ y → next_multiple_of x a ≤ next_multiple_of y a
 next_mono x y a pos le = let h : y ≤ next_multiple_of y a = next_ge y a in next_least x a (next_multiple_of y a) pos (next_dvd y a pos) (omega (arith, h))
 
--- The first places
+-- The first offsets
 
 abbrev pub Aligned : List MemberLayout → Type 0
 Aligned [] = Unit {0}
@@ -91,7 +91,7 @@ laid_sooner e f [] (o ∷ os) total le h = absurd h
 laid_sooner e f (p ∷ ps) [] total le h = absurd h
 laid_sooner e f (p ∷ ps) (o ∷ os) total le h = (h.0, let at : f ≤ o = h.1 in omega arith, h.2)
 
--- what lies before the total
+-- the members end before the total
 pub laid_before : (e : ℕ) (ps : List MemberLayout) (os : List ℕ) (total : ℕ) → AreLaid e ps os total → e ≤ total
 laid_before e [] [] total h = h
 laid_before e [] (o ∷ os) total h = absurd h

@@ -1,4 +1,4 @@
--- One step of a layout: an option that is exactly what a relation says.
+-- One step of a layout: an option that is Some n exactly if a relation holds of n.
 use Rattle.std.proofs.Common.{◌≡◌, ◌≢◌, ◌↔◌, ℕ, ◌<◌, ◌≤◌, ◌^◌, inl, inr, Option, Some, None, refl, sym, ap, subst, ◌∙◌, arith}
 use Rattle.std.specs.Int.{next_multiple_of}
 use Rattle.std.specs.Option.{SomeIff}
@@ -52,7 +52,7 @@ other_align k c t r S not same is n =
     others (inl h) = absurd (not h.0)
     others (inr h) = h.1
 
--- What is said of an option's value holds of the number that the option is
+-- From the value of an option to the number that a relation describes
 
 abbrev pub IsValue : Option ℕ → ℕ → Type 0
 IsValue o n = o ≡ Some n

@@ -28,7 +28,7 @@ at_end : (g n : ℕ) (aligns : List ℕ) → HaveAlignments no_members aligns �
 at_end g n [] known is = omega arith
 at_end g n (a ∷ aligns) known is = absurd known
 
--- The alignment of the whole, as far as the members are gone through: what the rest gives
+-- The alignment of the whole struct, by the members that are left
 
 abbrev pub AlignSoFar : ℕ → Members → Members → Type 0
 AlignSoFar g rest ms = (r : Option ℕ) → AlignFrom g rest r → AlignFrom 0 ms r

@@ -1,5 +1,4 @@
--- The size of a struct, member by member: what the members from one on give, at the end and the greatest alignment of
--- those before it.
+-- The size of a struct, member by member, from the end and the greatest alignment of the members before.
 use Rattle.std.proofs.Common.{◌≡◌, ℕ, ◌+◌, ◌<◌, ◌≤◌, ◌^◌, ◌↔◌, inl, inr, zero, suc, max, List, [], ◌∷◌, length, Option, Some, None, MatchOption, refl, sym, ap, subst, ◌∙◌, arith}
 use Rattle.std.specs.Int.{◌∣◌, next_multiple_of}
 use Rattle.std.specs.List.{All}
@@ -15,14 +14,14 @@ use Rattle.wgsl_rules.proofs.layout.Steps.{rounded_up, one_rounded}
 abbrev pub TooLarge : ℕ → ℕ → Members → Type 0
 TooLarge e g ms = (ps : List MemberLayout) (os : List ℕ) (total : ℕ) → HaveLayouts ms ps → AreLaid e ps os total → max g (greatest_align ps) ∣ total → 2 ^ 32 ≤ total
 
--- why there is no size, from here on
+-- why there is no size, if the members ms are left
 pub data NoFrom (e g : ℕ) (ms : Members) : Type 0 where
   from_unknown : SomeUnknown ms → NoFrom e g ms
   from_zero : SomeZeroAlign ms → NoFrom e g ms
   from_none : ms ≡ no_members → g ≡ 0 → NoFrom e g ms
   from_large : TooLarge e g ms → NoFrom e g ms
 
--- the size, from here on
+-- the size, if the members ms are left
 pub record IsFrom (e g : ℕ) (ms : Members) (n : ℕ) : Type 0 where
   pub layouts : List MemberLayout
   pub known : HaveLayouts ms layouts
@@ -122,7 +121,7 @@ all_none e g h = elim (cases_lt 0 g) [
   | inr low ↦ from_none refl (omega arith)
 ]
 
--- The size of the whole, as far as the members are gone through: what the rest gives, or none
+-- The size of the whole struct, by the members that are left
 
 abbrev pub SizeSoFar : Option ℕ → ℕ → Members → Members → Type 0
 SizeSoFar None g rest ms = NoFrom 0 0 ms
@@ -137,7 +136,7 @@ pub size_stops : (end : Option ℕ) (g : ℕ) (name : List ℕ) (t : WgslType) (
 size_stops None g name t size align rest ms h sofar = sofar
 size_stops (Some e) g name t size align rest ms h sofar = sofar None (stop_no_align e g name t size align rest h)
 
--- the end of a member that is put at the first offset, after what ends at `end`
+-- the end of a member at its first offset after `end`
 abbrev pub IsSoonestEnd : Option ℕ → Option ℕ → ℕ → ℕ → Type 0
 IsSoonestEnd end size a n = (e : ℕ) × (s : ℕ) × (end ≡ Some e) × (size ≡ Some s) × (0 < a) × (n ≡ next_multiple_of e a + s) × (n < 2 ^ 32)
 
@@ -172,7 +171,7 @@ size_ends (Some e) (Some n) g ms is sofar =
     let n_is : n ≡ next_multiple_of e g = one_rounded e g n (next_multiple_of e g) up (rounded_up e g up.0) in
     sofar (Some n) (subst (λ (x : ℕ). IsFrom e g no_members x) (sym n_is) (all_some e g up.0 (subst (λ (x : ℕ). x < 2 ^ 32) n_is h.5)))
 
--- What a struct's size is, and why there is none
+-- The size of a struct, and why there is none
 
 aligned_all : (ps : List MemberLayout) → Aligned ps → All (λ p. 0 < p.align) ps
 aligned_all [] al k d lt = absurd (omega arith)

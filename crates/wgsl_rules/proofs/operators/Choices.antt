@@ -1,4 +1,4 @@
--- The choice among the candidates of a name: there is one wherever some candidate takes the operands, and never two.
+-- Overload resolution for a name: there is a least candidate if any candidate takes the operands, and never two.
 use Rattle.std.proofs.Common.{◌≡◌, ℕ, ◌⊎◌, List, [], ◌∷◌, Some, None, All, refl, sym, ◌∙◌, ap, subst, inl, inr, arith}
 use Rattle.wgsl_syntax.specs.declared.scalar.Scalar.{Scalar}
 use Rattle.wgsl_syntax.specs.declared.scalar.Scalar.TheVariants.{Bool}
@@ -115,7 +115,7 @@ belongs (either t k) = either_belong t k
     either_belong t k = absurd k
 belongs (each_either n m e) = record { form = _; at = e; known = refl; operands = refl; result = refl; admitted = tt }
 
--- all that take the operands are of one family
+-- all candidates that take the operands are of one family
 same_form : (n : Name) (ts us vs : List WgslType) (r s : WgslType) (vs' : List ℕ) (ws : List ℕ) → All IsValueType ts →
     (a : Belongs n us r) (b : Belongs n vs s) → HasRanks ts us vs' → HasRanks ts vs ws → a.form ≡ b.form
 same_form n ts us vs r s ks ws va a b h k =
@@ -176,7 +176,7 @@ choice_once n ts us vs r s a b =
       ]
     ]
 
--- The answer: the result of the choice, or none if no candidate takes the operands.
+-- The answer: the result of the least candidate, or None if no candidate takes the operands.
 
 pub chosen_answer : {n : Name} {ts us : List WgslType} {t : WgslType} → IsLeastCandidate n ts us t → IsChosenAnswer n ts (Some t)
 chosen_answer {n} {ts} {us} {t} h = record {
@@ -190,8 +190,8 @@ refused_answer {n} {ts} f = record {
   none = (λ e. f, λ f. refl);
 }
 
--- For the functions: a family's row, with the common type of what the operands put, gives the choice; without a common
--- type, or if it isn't admitted, no candidate takes the operands; nor if there is no row.
+-- A family's row, at the common type of what the operands put, is the least candidate. Without a row, a common type, or
+-- one that the family admits, no candidate takes the operands.
 
 pub row_choice : (n : Name) (ts es : List WgslType) (f : Form n) (b : WgslType) → All IsValueType ts → All IsValueType es → form_of n (outers ts) ≡ Some f →
     IsPut f.slots ts es → IsLeftCommon es (Some b) → Admits f.kind b → IsLeastCandidate n ts (fill_all f.slots b) (fill f.gives b)

@@ -1,4 +1,4 @@
--- On value types the row of a binary operator gives the choice, and there is a row wherever a candidate takes the
+-- For value types, the row of a binary operator is the least candidate, and a row applies if any candidate takes the
 -- operands.
 use Rattle.std.proofs.Common.{◌≡◌, ℕ, ◌⊎◌, List, [], ◌∷◌, Option, Some, None, All, refl, sym, ◌∙◌, ap, subst, subst₂, inl, inr}
 use Rattle.std.proofs.lemmas.List.Elements.{All-nil, All-cons}
@@ -31,11 +31,11 @@ pub common_one_of : (a b c : WgslType) → IsCommon a b (Some c) → (c ≡ a) �
 common_one_of a b c (inl p) = inr p.1
 common_one_of a b c (inr p) = inl p.2
 
--- what both have, their common type has
+-- a property of both types holds for their common type
 pub common_has : (P : WgslType → Type 0) (a b c : WgslType) → P a → P b → IsCommon a b (Some c) → P c
 common_has P a b c p q h = elim (common_one_of a b c h) [ inl e ↦ subst P (sym e) p | inr e ↦ subst P (sym e) q ]
 
--- under layers the common type is the layer of the elements' one
+-- the common type of two layers is the layer of the elements' common type
 pub common_within : (l k : Layer) (e f c : WgslType) → IsValueType e → IsValueType f → IsCommon (within l e) (within k f) (Some c) →
     (d : WgslType) × (k ≡ l) × (c ≡ within l d) × IsCommon e f (Some d)
 common_within l k e f c ve vf (inl p) =
@@ -57,7 +57,7 @@ common_within l k e f c ve vf (inr p) =
       ),
     )
 
--- both of a layer, or neither
+-- conversion keeps the outer layer
 outer_of : (a c : WgslType) → IsValueType a → ConvertsTo a c → outer a ≡ outer c
 outer_of a c v h = above_outer (value_above v h)
 
@@ -67,7 +67,7 @@ common_outers a b c va vb h = let j = common_join a b c va vb h in (above_outer 
 vector_of : (n : ℕ) (a c : WgslType) → IsValueType a → Above a (vec n c) → (e : WgslType) × (a ≡ vec n e) × Above e c
 vector_of n a c v h = above_to_within h (vec_of n) c refl
 
--- the choice for operands e and f under a layer each (or none), at their common type d
+-- the least candidate for two operands, each in a layer or in none, at their common type
 
 pub both_plain : (o : Name) (f : Form o) (a b c : WgslType) → IsValueType a → IsValueType b → outer c ≡ plain → f.slots ≡ whole ∷ whole ∷ [] →
     form_of o (plain ∷ plain ∷ []) ≡ Some f → IsCommon a b (Some c) → Admits f.kind c →
@@ -107,7 +107,7 @@ right_layered o f s k b c vb q e m h =
     (row_choice o xs (scalar s ∷ b ∷ []) f c (two_values (scalar s) (within k b) tt vb) (two_values (scalar s) b tt vb) e
     (subst (λ ss. IsPut ss xs (scalar s ∷ b ∷ [])) (sym q) (b ∷ [], refl, (b, [], refl, refl, refl))) (left_of_two (scalar s) b c m) h)
 
--- a common type under vectors: the operands are such vectors
+-- the least candidate for operands whose common type is a vector
 pub layered_common : (o : Name) (f : Form o) (n : ℕ) (a b c : WgslType) → IsValueType a → IsValueType b → f.slots ≡ inner (vec_of n) ∷ inner (vec_of n) ∷ [] →
     form_of o (layer (vec_of n) ∷ layer (vec_of n) ∷ []) ≡ Some f → IsCommon a b (Some (vec n c)) → Admits f.kind c →
     IsLeastCandidate o (a ∷ b ∷ []) (vec n c ∷ vec n c ∷ []) (fill f.gives c)

@@ -1,5 +1,5 @@
--- A family of candidates: its operand types are made of one type c, each in its own way. Of a family the choice is at
--- the least common type of what the operands put for c.
+-- A family of candidates: each operand type is built from one type c. The least candidate of a family is at the least
+-- common type of what the operands put for c.
 use Rattle.std.proofs.Common.{◌≡◌, ◌≢◌, ℕ, ◌<◌, ◌≤◌, ◌⊎◌, List, [], ◌∷◌, Option, Some, None, All, refl, sym, ◌∙◌, subst, inl, inr, arith, le_refl}
 use Rattle.std.proofs.lemmas.List.Elements.{All-nil, All-cons}
 use native.Mathlib.Decide.{ℕ_discrete}
@@ -27,7 +27,7 @@ abbrev pub fill_all : List Slot → WgslType → List WgslType
 fill_all [] c = []
 fill_all (s ∷ ss) c = fill s c ∷ fill_all ss c
 
--- ts put es for c
+-- the operands ts put the types es for c
 abbrev pub IsPut : List Slot → List WgslType → List WgslType → Type 0
 IsPut [] [] es = es ≡ []
 IsPut (whole ∷ ss) (t ∷ ts) es = (rest : List WgslType) × (es ≡ t ∷ rest) × IsPut ss ts rest
@@ -35,13 +35,13 @@ IsPut (inner l ∷ ss) (t ∷ ts) es = (e : WgslType) × (rest : List WgslType) 
 IsPut (fixed u ∷ ss) (t ∷ ts) es = ConvertsTo t u × IsPut ss ts es
 IsPut ss ts es = ⊥
 
--- a slot that c is put in
+-- some slot depends on c
 abbrev pub HasOpen : List Slot → Type 0
 HasOpen [] = ⊥
 HasOpen (fixed t ∷ ss) = HasOpen ss
 HasOpen (s ∷ ss) = Unit {0}
 
--- what takes ts takes them by what they put for c
+-- a member of the family takes ts exactly if the types that they put convert to c
 
 put_fixed : (u : WgslType) (ss : List Slot) (t : WgslType) (ts : List WgslType) (es : List WgslType) → ConvertsTo t u → IsPut ss ts es → IsPut (fixed u ∷ ss) (t ∷ ts) es
 put_fixed u ss t ts es h k = (h, k)
@@ -101,7 +101,7 @@ puts_taken (fixed u ∷ ss) c (t ∷ ts) es p vs g =
     let k = puts_taken ss c ts es p.1 vs g in
     (p.0.0 ∷ k.0, (p.0.1, k.1))
 
--- a c that is above another costs less
+-- a c closer to the root has lower ranks
 
 fill_depth : (s : Slot) (b c : WgslType) → depth b ≤ depth c → depth (fill s b) ≤ depth (fill s c)
 fill_depth whole b c h = h
@@ -138,7 +138,7 @@ somewhere_less (inner l ∷ ss) b c (t ∷ ts) (v ∷ vs) (w ∷ ws) va o d h k 
     let vt = values_head t ts va in
     inl (omega (arith, (value_converts vt h.0).1, (value_converts vt k.0).1, d))
 
--- what is put doesn't hang on c
+-- what is put doesn't depend on c
 pub put_once : (ss : List Slot) (ts es fs : List WgslType) → IsPut ss ts es → IsPut ss ts fs → es ≡ fs
 put_once [] [] es fs p q = p ∙ sym q
 put_once [] (t ∷ ts) es fs p q = absurd p
@@ -161,7 +161,7 @@ put_some (whole ∷ ss) (t ∷ ts) es o p = λ q. cc (p.1, q)
 put_some (inner l ∷ ss) (t ∷ ts) es o p = λ q. cc (p.3, q)
 put_some (fixed u ∷ ss) (t ∷ ts) es o p = put_some ss ts es o p.1
 
--- The member of a family at the least common type: it takes the operands, and any other that takes them costs more.
+-- The member of a family at the least common type: it takes the operands, and others that take them have higher ranks.
 pub record IsLeastOf (ss : List Slot) (ts : List WgslType) (b : WgslType) : Type 0 where
   pub ranks : List ℕ
   pub takes : HasRanks ts (fill_all ss b) ranks
@@ -210,7 +210,7 @@ none_of ss ts es c o vt ve p h r =
     refused [] n ve h g = n refl
     refused (e ∷ es) n ve h g = left_common_none e es ve h c g
 
--- if one member takes the operands, there is the least
+-- if a member takes the operands, there is a least one
 pub least_of_taken : (ss : List Slot) (ts : List WgslType) (c : WgslType) → HasOpen ss → All IsValueType ts → Takes (fill_all ss c) ts →
     (b : WgslType) × IsLeastOf ss ts b
 least_of_taken ss ts c o vt r =

@@ -1,4 +1,4 @@
--- The candidates of a name are families, and the outer layers of the operands say which family can take them.
+-- The candidates of a name are families; the outer layers of the operands determine the family that can take them.
 use Rattle.std.proofs.Common.{◌≡◌, ℕ, ◌⊎◌, List, [], ◌∷◌, Option, Some, None, All, refl, ◌∙◌, inl, inr}
 use Rattle.wgsl_syntax.specs.declared.scalar.Scalar.{Scalar}
 use Rattle.wgsl_syntax.specs.declared.scalar.Scalar.TheVariants.{Bool, AbstractInt, AbstractFloat, I32, U32, I64, U64, F32, F16}
@@ -18,7 +18,7 @@ use Rattle.wgsl_rules.proofs.conversion.Order.{Above, here, further, value_conve
 use Rattle.wgsl_rules.proofs.conversion.Commons.{values_head, values_tail}
 use Rattle.wgsl_rules.proofs.operators.Families.{Slot, whole, inner, fixed, fill, fill_all, HasOpen}
 
--- Which c a family admits
+-- The types c that a family admits
 
 pub data Kind : Type 0 where
   any_type any_scalar an_integer a_number a_bool an_integer_or_bool : Kind
@@ -134,7 +134,7 @@ ranked_outers (t ∷ ts) (u ∷ us) (w ∷ ws) vs h =
     let k = ranked_outers ts us ws (values_tail t ts vs) h.1 in
     cc (e, k)
 
--- Families of a name
+-- The families of a name
 
 pub record Form (n : Name) : Type 0 where
   pub slots : List Slot

@@ -1,4 +1,4 @@
--- The binary operators by groups, and what the rows of each group take.
+-- The groups of binary operators, and what the rows of each group take.
 use Rattle.std.proofs.Common.{◌≡◌, ℕ, ◌⊎◌, Some, refl, sym, ◌∙◌, subst, inl, inr}
 use Rattle.wgsl_syntax.specs.declared.scalar.Scalar.TheVariants.{Bool, U32}
 use Rattle.wgsl_syntax.specs.declared.operator.BinaryOperator.{BinaryOperator}
@@ -127,7 +127,7 @@ Needs comparisons o a b = NeedsComparison a b
 Needs bits o a b = NeedsBits o a b
 Needs shifts o a b = IsShifted a b
 
--- a row belongs to one group, and has what that needs
+-- a row belongs to one group, and meets its needs
 row_needs : {o : BinaryOperator} {a b l r t : WgslType} → IsRow o a b l r t → (g : Group) × (group o ≡ g) × Needs g o a b
 row_needs (scalar_row o h s t c k) = (arithmetics, arithmetics_group o h, (tt, c, k))
 row_needs (vector_row o h n m e f c k) = (arithmetics, arithmetics_group o h, (tt, c, k))

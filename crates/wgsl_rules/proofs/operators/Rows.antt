@@ -1,4 +1,4 @@
--- The rows of a binary operator, by what its operands are; and what they answer on value types.
+-- The rows of a binary operator by the kind of its operands, and what they return for value types.
 use Rattle.std.proofs.Common.{◌≡◌, ℕ, ◌⊎◌, [], ◌∷◌, Some, None, sym, subst, inl, inr}
 use Rattle.wgsl_syntax.specs.declared.scalar.Scalar.TheVariants.{Bool}
 use Rattle.wgsl_syntax.specs.declared.operator.BinaryOperator.{BinaryOperator}
@@ -15,11 +15,10 @@ use Rattle.wgsl_rules.proofs.operators.Groups.{elements, Fits, IsShifted, arithm
 use Rattle.wgsl_rules.proofs.operators.Choices.{chosen_answer, refused_answer}
 use Rattle.wgsl_rules.proofs.operators.ChosenRows.{row_chosen, row_refused}
 
--- two types that have no common type have none
 pub apart : {a b c : WgslType} → IsCommon a b None → ¬ IsCommon a b (Some c)
 apart {a} {b} {c} h k = absurd (cc (common_once a b None (Some c) h k))
 
--- without operands that fit there is no row of an arithmetic operator, nor without a common type
+-- arithmetic: no row applies without operands that fit, nor without a common type
 pub unfit : {o : BinaryOperator} {a b : WgslType} → ¬ Fits o a b → IsArithmetic o → HasCandidate o a b None
 unfit n h l r t k = n (arithmetic_needs h k).0
 
@@ -54,7 +53,7 @@ bits_apart m h l r t k = let x = bits_needs h k in apart m x.1
 pub not_shifted : {o : BinaryOperator} {a b : WgslType} → ¬ IsShifted a b → IsShift o → HasCandidate o a b None
 not_shifted n h l r t k = n (shift_needs h k)
 
--- on value types a row is the choice, and without one nothing takes the operands
+-- for value types a row is the least candidate, and without a row no candidate takes the operands
 pub chosen : {o : BinaryOperator} {a b : WgslType} (c : BinaryCandidate) → HasCandidate o a b (Some c) → IsValueType a → IsValueType b →
     IsLeastCandidate (operator o) (a ∷ b ∷ []) (c.lhs ∷ c.rhs ∷ []) c.result
 chosen c k va vb = row_chosen k va vb
@@ -66,7 +65,7 @@ result_chosen c k va vb = chosen_answer (row_chosen k va vb)
 pub nothing_chosen : {o : BinaryOperator} {a b : WgslType} → HasCandidate o a b None → IsValueType a → IsValueType b → IsChosenAnswer (operator o) (a ∷ b ∷ []) None
 nothing_chosen {o} {a} {b} n va vb = refused_answer (row_refused o a b va vb n)
 
--- of two scalars all are leaf types
+-- for two scalars all types are leaf types
 
 common_leaf : (a b : WgslType) {c : WgslType} → IsScalar a → IsScalar b → IsCommon a b (Some c) → IsLeaf c
 common_leaf (scalar s) (scalar t) x y (inl k) = subst IsLeaf (sym k.1) tt

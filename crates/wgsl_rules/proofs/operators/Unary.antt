@@ -1,4 +1,4 @@
--- The rows of the unary operators, by what the operand is.
+-- The rows of the unary operators, by the kind of the operand.
 use Rattle.std.proofs.Common.{◌≡◌, ◌⊎◌, Ok, Err, refl, sym, subst, inl, inr}
 use Rattle.wgsl_syntax.specs.declared.scalar.Scalar.TheVariants.{Bool}
 use Rattle.wgsl_syntax.specs.declared.address.AddressSpace.{AddressSpace}
@@ -43,7 +43,7 @@ not_complemented t n = (refl, refused t n)
     refused : (t : WgslType) → ¬ IsIntegerOrVector t → (u : WgslType) → ¬ IsUnaryRow BitwiseComplement t u
     refused t n u (complement_row e i) = n i
 
--- of the handle space there are no pointers
+-- there are no pointers to the handle space
 pub no_handle : (t : WgslType) (m : AccessMode) (u : WgslType) → ¬ IsUnaryRow AddressOf (reference Handle t m) u
 no_handle t m u (address_row s e k n) = n refl
 
@@ -67,6 +67,6 @@ not_pointed t n = (refl, refused t n)
     refused : (t : WgslType) → ¬ IsPointer t → (u : WgslType) → ¬ IsUnaryRow Indirection t u
     refused t n u (indirection_row s e m) = n tt
 
--- a pointer is of one reference
+-- a pointer has exactly one reference
 pub one_reference : (s : AddressSpace) (t : WgslType) (m : AccessMode) (u : WgslType) → IsUnaryRow Indirection (pointer s t m) u → u ≡ reference s t m
 one_reference s t m u (indirection_row p e k) = refl

@@ -1,17 +1,17 @@
--- Two types are equal, or they aren't.
+-- Equality of types is decidable.
 use Rattle.std.proofs.Common.{◌≡◌, Option, Some, None, refl, ap}
 use mathlib.Core.List.{List-discrete}
 use native.Mathlib.Decide.{ℕ_discrete}
 use Rattle.wgsl_rules.specs.types.Types.{Layer, array_of, vec_of, mat_of, WgslType, scalar, within, struct, atomic, pointer, reference, texture, sampler, binding_array, ray_query, acceleration_structure, Members, no_members, member}
 use Rattle.wgsl_syntax.proofs.Discrete.{same_scalar, same_space, same_access, same_flag, same_sampler, same_texture}
 
--- of two facts both hold, or they don't
+-- a conjunction of decidable facts is decidable
 pub both : {A B : Type 0} → Dec A → Dec B → Dec (A × B)
 both (yes a) (yes b) = yes (a, b)
 both (no n) b = no (λ p. n p.0)
 both (yes a) (no n) = no (λ p. n p.1)
 
--- what decides a fact decides one that says the same
+-- equivalent facts are decided together
 pub by : {A B : Type 0} → (A → B) → (B → A) → Dec A → Dec B
 by f g (yes a) = yes (f a)
 by f g (no n) = no (λ b. n (g b))
