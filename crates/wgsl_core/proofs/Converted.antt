@@ -1,4 +1,4 @@
--- What becomes of a type that is converted, by cases.
+-- The conversion of a type, by cases.
 use Rattle.std.proofs.Common.{◌≡◌, Some, None, option_map, refl, ap, subst}
 use Rattle.wgsl_rules.specs.types.Types.{Layer, WgslType, within}
 use Rattle.wgsl_rules.specs.conversion.Conversion.{ConvertsTo}

@@ -1,4 +1,4 @@
--- What is of none of the forms that a type may be taken apart by.
+-- A type with none of the forms of a kind is not of that kind.
 use Rattle.std.proofs.Common.{◌≡◌, ℕ, List, refl}
 use Rattle.wgsl_rules.specs.types.Types.{WgslType, struct, atomic, Members, vec}
 use Rattle.wgsl_rules.specs.types.Kinds.{IsVector, IsStruct, IsAtomic}

@@ -60,7 +60,7 @@ pub least_of_sized : (n : Option ℕ) (k : ℕ) (t : WgslType) (element : Measur
 least_of_sized None k t element spaced size e h is_spaced is_size = absurd (cc)
 least_of_sized (Some j) k t element spaced size e h is_spaced is_size = (array_measure (Some j) t element spaced size h is_spaced is_size).size
 
--- what is of another form than an array has its size as the least
+-- the least size of a type that is no array is its size
 pub least_by_form : {f : Form} {t : WgslType} (r : Option ℕ) → t ≡ form_view f → ((n : Option ℕ) (e : Bor «Type») → f ≡ forms.Array n e → ⊥) → IsExactly r (HasSize t) → IsExactly r (HasLeastSize t)
 least_by_form {f} {t} r is not h = least_is_size t (λ n u e. no_array f not n u (sym is ∙ e)) r h
   where

@@ -7,7 +7,7 @@ rest_seen : {A B : Type 0} (text : B → List ℕ) (seen : A → B) (xs : List A
 rest_seen text seen [] = refl
 rest_seen text seen (x ∷ xs) = ap (λ ys. (codes ", " ++ text (seen x)) ++ ys) (rest_seen text seen xs)
 
--- what is listed by what is seen of each
+-- listing items is listing their views
 pub listed_seen : {A B : Type 0} (text : B → List ℕ) (seen : A → B) (xs : List A) → listed (λ x. text (seen x)) xs ≡ listed text (map seen xs)
 listed_seen text seen [] = refl
 listed_seen text seen (x ∷ xs) = ap (λ ys. text (seen x) ++ ys) (rest_seen text seen xs)
@@ -19,7 +19,7 @@ without_template name arguments o e = rw e (simp (append-nil, append_assoc))
 pub with_template : (name arguments : List ℕ) (o : Option (List Parameter)) (ps : List Parameter) → o ≡ Some ps → name ++ (codes "<" ++ (listed parameter_text ps ++ (codes ">" ++ (codes "(" ++ (arguments ++ codes ")"))))) ≡ name ++ template_text o ++ codes "(" ++ arguments ++ codes ")"
 with_template name arguments o ps e = rw e (simp append_assoc)
 
--- what is written piece by piece, with two or three values in it
+-- a text written piece by piece, with two or three values in it
 pub two_placed : (a x b y c : List ℕ) → a ++ (x ++ (b ++ (y ++ c))) ≡ a ++ x ++ b ++ y ++ c
 two_placed a x b y c = simp append_assoc
 

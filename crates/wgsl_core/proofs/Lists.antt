@@ -1,4 +1,4 @@
--- Common types of what an iterator gave.
+-- Common types of the types that an iterator gave.
 use Rattle.std.proofs.Common.{List, [], ◌∷◌, ◌++◌, ◌≡◌, map, Option, Some, refl, sym, ap, subst}
 use Rattle.std.specs.Borrow.{Bor}
 use Rattle.wgsl_rules.specs.types.Types.{WgslType}

@@ -1,4 +1,4 @@
--- Structs of two members as what `frexp` and `modf` give.
+-- Structs of two members, recognised as those that `frexp` and `modf` return.
 use Rattle.std.proofs.Common.{◌≡◌, ◌↔◌, ℕ, suc, List, [], ◌∷◌, length, get_or, Option, Some, None, refl, sym, ap, ◌∙◌, subst, append_assoc, arith, codes, string_bytes, rules}
 use Rattle.wgsl_syntax.specs.declared.result_struct.ResultFunction.{ResultFunction}
 use Rattle.wgsl_syntax.specs.declared.result_struct.ResultFunction.TheVariants.{Frexp, Modf}
@@ -71,7 +71,7 @@ whole name a b r = (to, from)
         let k : struct name (two_members a b) ≡ struct (result_name r) (two_members (first_member r) (second_member r.function r.shape r.precision)) = e ∙ result_is r in
         (ap name_of k, ap (λ t. head a (members_in t)) k, ap (λ t. head a (tail (members_in t))) k)
 
--- What the parts tell
+-- The result struct by its members
 
 shape_told : (s : ResultShape) (p : ResultPrecision) → shape_in (shaped s (scalar (float_of p))) ≡ Some (s, p)
 shape_told shape.Scalar precision.Abstract = refl
@@ -108,7 +108,7 @@ abbrev precision_in : Node → ResultPrecision
 precision_in (at_result f s p) = p
 precision_in (at_scalar s) = precision.Abstract
 
--- a type is one result struct at most
+-- a type is at most one result struct
 one_result : (q r : ResultStruct) → result_type q ≡ result_type r → q ≡ r
 one_result q r e =
     let k = type_at_once (at_result q.function q.shape q.precision) (at_result r.function r.shape r.precision) e in

@@ -1,4 +1,4 @@
--- Errors of one variant alone stand for its refusal.
+-- Only the errors of one variant stand for its refusal.
 use Rattle.std.proofs.Common.{◌≡◌, ℕ, List, Bor, Global, refl}
 use Rattle.std.specs.Prelude.{String}
 use Rattle.wgsl_syntax.specs.declared.operator.BinaryOperator.{BinaryOperator}

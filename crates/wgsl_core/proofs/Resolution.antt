@@ -1,4 +1,4 @@
--- What is found for the operands of a binary operator is the candidate of a row.
+-- The candidate found for the operands of a binary operator is that of a row.
 use Rattle.std.proofs.Common.{◌≡◌, ℕ, ◌⊎◌, [], ◌∷◌, Ok, Err, Option, Some, None, option_map, refl, sym, ap, ◌∙◌, subst, subst₂, inl, inr}
 use Rattle.wgsl_syntax.specs.declared.scalar.Scalar.{Scalar}
 use Rattle.wgsl_syntax.specs.declared.scalar.Scalar.TheVariants.{Bool, U32}
@@ -29,7 +29,7 @@ IsNoOperand (vec n t) = ⊥
 IsNoOperand (mat c r t) = ⊥
 IsNoOperand t = Unit {0}
 
--- what an arithmetic operator finds
+-- the candidate found for an arithmetic operator
 abbrev pub Finds : BinaryOperator → WgslType → WgslType → Option BinaryCandidate → Type 0
 Finds o a b found = IsArithmetic o → HasCandidate o a b found
 
@@ -146,7 +146,7 @@ unfit_left {o} {a} {b} n = unfit (no_left o a b n)
 pub unfit_right : {o : BinaryOperator} {a b : WgslType} → IsNoOperand b → Finds o a b None
 unfit_right {o} {a} {b} n = unfit (no_right o a b n)
 
--- comparison, of what the common type is
+-- comparison, by the common type
 
 pub compared_scalars : {a b c : WgslType} {s : Scalar} {found : BinaryCandidate} → found ≡ compared_at c None → c ≡ scalar s → IsCommon a b (Some c) →
     (o : BinaryOperator) → IsComparison o → HasCandidate o a b (Some found)
@@ -231,7 +231,7 @@ vector_by_other {e = e} {n} {f} p q v o h = by_forms (λ a b. HasCandidate o a b
     apart (scalar i) f v x = x
     apart e f v x = x
 
--- what is built is the choice, and what isn't found is taken by nothing
+-- what is built is the least candidate; if none is found, no candidate takes the operands
 
 pub chosen_result : {o : BinaryOperator} {a b t : WgslType} {found : BinaryCandidate} → HasCandidate o a b (Some found) → t ≡ found.result → IsChosenResult o a b (Ok t)
 unfolding IsChosenResult
@@ -249,7 +249,7 @@ pub refused_candidate : {o : BinaryOperator} {a b : WgslType} {e : Refusal} → 
 unfolding IsChosenCandidate
 refused_candidate k e va vb = (e, nothing_chosen k va vb)
 
--- what is of another form than these is no operand of arithmetic
+-- a type of another form than these is no operand of arithmetic
 pub no_operand : {f : Form} {t : WgslType} → t ≡ form_view f → ((s : Scalar) → f ≡ forms.Scalar s → ⊥) → ((n : ℕ) (e : Bor «Type») → f ≡ forms.Vector n e → ⊥) →
     ((c r : ℕ) (e : Bor «Type») → f ≡ forms.Matrix c r e → ⊥) → IsNoOperand t
 no_operand {f} p a b m = subst IsNoOperand (sym p) (at f a b m)

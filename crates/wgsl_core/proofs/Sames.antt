@@ -1,4 +1,4 @@
--- The derived `==` of literals and enumerants holds exactly between equal ones.
+-- The derived `==` of literals and enumerants is true exactly for equal ones.
 use Rattle.std.proofs.Common.{◌≡◌, Bool, true, refl, sym, ap, subst, true≢false}
 use Rattle.std.proofs.lemmas.Bool.Decides.{Decides-eqb, Decides-int_eq}
 use Rattle.std.specs.Bool.{Decides}

@@ -1,4 +1,4 @@
--- Readings of types.
+-- The scalar of a type.
 use Rattle.std.proofs.Common.{◌≡◌, ◌↔◌, Some, ap}
 use Rattle.wgsl_syntax.specs.declared.scalar.Scalar.{Scalar}
 use Rattle.wgsl_rules.specs.types.Types.{WgslType, scalar}

@@ -1,4 +1,4 @@
--- What a unary operator answers, in code.
+-- The answers of the unary operators in code.
 use Rattle.std.proofs.Common.{◌≡◌, ◌≢◌, ◌↔◌, Bool, true, false, IsTrue, IsFalse, Result, Ok, Err, IfOk, Box, Global, refl, sym, ap, ◌∙◌, subst, subst₂}
 use Rattle.wgsl_syntax.specs.declared.address.AccessMode.{AccessMode}
 use Rattle.wgsl_syntax.specs.declared.address.AddressSpace.{AddressSpace}

@@ -22,7 +22,7 @@ layered t l e h = absurd (cc h)
 false_for : {P : Type 0} (b : Bool) → b ≡ false → ¬ P → IsTrue b ↔ P
 false_for b e no_p = (λ h. absurd (cc (sym h ∙ e)), λ p. absurd (no_p p))
 
--- what is in layers converts inside them
+-- a type in a layer converts inside it
 pub inside_vector : (t : WgslType) (l : Layer) (e : WgslType) (n : ℕ) (u : WgslType) (a b : Bool) → layer_of t ≡ Some (l, e) → IsTrue a ↔ (l ≡ vec_of n) → a ≡ true → IsTrue b ↔ ConvertsTo e u →
     IsTrue b ↔ ConvertsTo t (vec n u)
 inside_vector t l e n u a b p la i be =
@@ -37,7 +37,7 @@ outside_vector t l e n u a p la i =
     false_for a i (subst (λ t. ¬ ConvertsTo t (vec n u)) (sym (layered t l e p))
     (λ k. absurd (cc (sym (la.1 (sym ((converts_within l (vec_of n) e u k.0).0 k.1).0)) ∙ i))))
 
--- no path leads to a vector from what is in no layer
+-- no path leads to a vector from a type without a layer
 no_way : (t u : WgslType) (n w : ℕ) → layer_of t ≡ None → Converts t (vec n u) w → Load t (vec n u)
 no_way t u n w e (inl p) = let k = above_to_within (along_above p).0 (vec_of n) u refl in let d : None ≡ Some (vec_of n, k.0) = sym e ∙ ap layer_of k.1 in absurd (cc d)
 no_way t u n w e (inr l) = l.0

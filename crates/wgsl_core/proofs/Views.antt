@@ -1,4 +1,4 @@
--- What each variant of a type is seen as, and that no other variant is seen so.
+-- How the rules see each variant of a type, and that they see no other variant so.
 use Rattle.std.proofs.Common.{◌≡◌, ℕ, List, Option, Box, Global, sym, ap, subst, ◌∙◌, rules, string_bytes}
 use Rattle.wgsl_syntax.specs.declared.address.AccessMode.{AccessMode}
 use Rattle.wgsl_syntax.specs.declared.address.AddressSpace.{AddressSpace}
@@ -56,7 +56,7 @@ view-RayQuery f = search (rules, the_lemmas)
 pub view-AccelerationStructure : (f : Option AccelerationStructureFlags) → view (v.AccelerationStructure f) ≡ acceleration_structure f
 view-AccelerationStructure f = search (rules, the_lemmas)
 
--- the kinds that no rule speaks of
+-- kinds of types that the rules do not name
 abbrev IsTexture : WgslType → Type 0
 IsTexture (texture t) = Unit {0}
 IsTexture t = ⊥

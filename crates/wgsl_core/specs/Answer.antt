@@ -1,4 +1,4 @@
--- What a call answers that can refuse, or be out of memory.
+-- The answers of calls that can refuse or be out of memory.
 use Rattle.std.specs.Prelude.{◌≡◌, ℕ, List, Result, Ok, Err, codes, string_bytes}
 use Rattle.wgsl_syntax.specs.declared.operator.BinaryOperator.{BinaryOperator}
 use Rattle.wgsl_rules.specs.types.Types.{WgslType}
@@ -53,17 +53,17 @@ abbrev pub fail_text : Fail → List ℕ
 fail_text (fails.Error e) = message (refusal e)
 fail_text (fails.Memory e) = codes "out of memory"
 
--- A call answers by P: what it gives, as it is seen, or the refusal is such an answer. Out of memory stands for any.
+-- P holds of the value as `seen` shows it, or of the refusal. Out of memory satisfies any P.
 abbrev pub AnswersAs : {A B : Type 0} → (A → B) → (Result B Refusal → Type 0) → Result A Fail → Type 0
 AnswersAs seen P (Ok a) = P (Ok (seen a))
 AnswersAs seen P (Err (fails.Error e)) = P (Err (refusal e))
 AnswersAs seen P (Err (fails.Memory e)) = Unit {0}
 
--- The same of a type.
+-- The same for types.
 abbrev pub AnswersBy : (Result WgslType Refusal → Type 0) → Result «Type» Fail → Type 0
 AnswersBy P r = AnswersAs view P r
 
--- A call gives what this answer gives, or refuses as it does. Out of memory stands for any answer.
+-- The value or the refusal is that of the answer. Out of memory stands for any answer.
 abbrev pub Gives : {A : Type 0} → Result A Refusal → Result A Fail → Type 0
 Gives answer (Ok a) = answer ≡ Ok a
 Gives answer (Err (fails.Error e)) = answer ≡ Err (refusal e)
@@ -75,7 +75,7 @@ IsAnswered (Ok a) = Unit {0}
 IsAnswered (Err (fails.Error e)) = Unit {0}
 IsAnswered (Err (fails.Memory e)) = ⊥
 
--- What the type of a binary expression is: by the operator's row; on value types by overload resolution; and operators on
+-- The type of a binary expression: by the operator's row, and for value types by overload resolution. Operators on
 -- scalars are never out of memory.
 pub record IsTypeOfBinary (o : BinaryOperator) (a b : WgslType) (result : Result «Type» Fail) : Type 0 where
   pub row : AnswersBy (IsOperatorAnswer o a b) result

@@ -1,4 +1,4 @@
--- What becomes of a type that is converted, as functions: the one answer that the relations of the rules have.
+-- Conversion of types as functions: the unique answer of the relations in the rules.
 use Rattle.std.proofs.Common.{ap, refl, subst}
 use Rattle.std.specs.Prelude.{◌≡◌, Option, Some, None, option_map}
 use Rattle.wgsl_rules.specs.types.Types.{WgslType}
@@ -14,7 +14,7 @@ converted t u = (what_converted t u).0
 unfoldable pub inner_converted : WgslType → WgslType → Option WgslType
 inner_converted t u = (what_converted_inside t u).0
 
--- no type, or one that is copied without memory
+-- no type, or one whose copy does not allocate
 abbrev pub NeedsNoMemory : Option WgslType → Type 0
 NeedsNoMemory (Some t) = IsLeaf t
 NeedsNoMemory None = Unit {0}
@@ -24,7 +24,7 @@ pub converted_has_type : (x : «Type») (t : WgslType) (y : «Type») → conver
 unfolding converted
 converted_has_type x t y h = (subst (λ r. IsConverted (view x) t r) h (what_converted (view x) t).1).1
 
--- and so has a type with something beside it, which stays
+-- and so has a type in a pair whose other half stays
 pub paired_has_type : {A : Type 0} (a b : A) (x y : «Type») (t : WgslType) → option_map {U = WgslType × A} (λ u. (u, a)) (converted (view x) t) ≡ Some (view y, b) → view y ≡ t
 paired_has_type {A} a b x y t h = at (converted (view x) t) refl h
   where

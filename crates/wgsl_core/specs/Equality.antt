@@ -1,4 +1,4 @@
--- Whether two types are equal, as a test; it is true exactly of equal types.
+-- Equality of types as a test, which is true exactly for equal types.
 use Rattle.std.specs.Prelude.{◌≡◌, Bool, true, false}
 use Rattle.std.specs.Bool.{Decides}
 use Rattle.std.specs.Cmp.{decided, partial_equiv_from_equiv, on_equiv, IsEquivalence, IsPartialEquivalence}

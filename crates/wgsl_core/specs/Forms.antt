@@ -1,4 +1,4 @@
--- What a form says of a type, and the scalar and the layer of a type.
+-- The type of a form, and the scalar and the layer of a type.
 use Rattle.std.specs.Prelude.{Option, Some, None}
 use Rattle.wgsl_syntax.specs.declared.scalar.Scalar.{Scalar}
 use Rattle.wgsl_rules.specs.types.Types.{Layer, WgslType, scalar, within, struct, atomic, pointer, reference, texture, sampler, binding_array, ray_query, acceleration_structure, array, vec, mat}

@@ -1,4 +1,4 @@
--- The literals, template parameters and signatures of the rules that those of the code stand for.
+-- How the rules see the literals, template parameters and signatures of the code.
 use Rattle.std.specs.Prelude.{ℕ, List, Option, map, option_map, string_bytes}
 use Rattle.std.specs.Borrow.{Bor}
 use Rattle.wgsl_rules.specs.types.Literals.{Literal, bool, abstract_int, i32, u32, i64, u64}

@@ -1,4 +1,4 @@
--- What a layout in code says of a struct.
+-- How the rules see a layout of the code.
 use Rattle.std.specs.Prelude.{ℕ, List, map}
 use Rattle.wgsl_rules.specs.types.Types.{Members}
 use Rattle.wgsl_rules.specs.layout.Placement.{MemberLayout}

@@ -1,4 +1,4 @@
--- Whether two template parameters, two signatures or two refusals are equal, as a test; it is true exactly of equal ones.
+-- Equality of template parameters, signatures and refusals as tests, which are true exactly for equal ones.
 use Rattle.std.specs.Prelude.{◌≡◌, ℕ, ℤ, pos, negsuc, Bool, true, false, List}
 use Rattle.std.specs.Bool.{Decides}
 use Rattle.std.specs.Cmp.{decided, partial_equiv_from_equiv, on_equiv, IsPartialEquivalence}

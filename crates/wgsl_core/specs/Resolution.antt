@@ -1,4 +1,4 @@
--- The candidate of the rules that one of the code stands for.
+-- How the rules see a candidate of the code.
 use Rattle.wgsl_rules.specs.operators.Answers.{BinaryCandidate}
 use Rattle.wgsl_core.specs.View.{view}
 use Rattle.wgsl_core.specs.declared.operators.Candidate.{Candidate}

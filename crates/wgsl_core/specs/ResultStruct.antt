@@ -1,4 +1,4 @@
--- Structs as what `frexp` and `modf` give.
+-- The structs that `frexp` and `modf` return.
 use Rattle.std.specs.Prelude.{ℕ, List, None}
 use Rattle.wgsl_syntax.specs.declared.result_struct.ResultStruct.{ResultStruct}
 use Rattle.wgsl_rules.specs.types.Types.{WgslType, struct}
@@ -11,6 +11,6 @@ struct_type s = struct s.name s.members
 abbrev pub result_type : ResultStruct → WgslType
 result_type r = result_struct r.function r.shape r.precision
 
--- a member with no attributes
+-- a member without attributes
 abbrev pub plain : List ℕ → WgslType → Member
 plain name t = record { name = name; ty = t; size = None; align = None }

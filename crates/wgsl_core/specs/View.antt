@@ -1,4 +1,4 @@
--- The type of the rules that a `Type` stands for.
+-- How the rules see a `Type`.
 use Rattle.std.specs.Prelude.{ℕ, List, [], ◌∷◌, Option, string_bytes}
 use Rattle.wgsl_syntax.specs.declared.scalar.Scalar.TheVariants.{Bool, AbstractInt, AbstractFloat, I32, U32, F32, F16, I64, U64, F64}
 use Rattle.wgsl_rules.specs.types.Types.{WgslType, scalar, struct, atomic, pointer, reference, texture, sampler, binding_array, ray_query, acceleration_structure, Members, no_members, member, array, vec, mat}
@@ -23,7 +23,7 @@ abbrev pub members_of : List Member → Members
 members_of [] = no_members
 members_of (m ∷ ms) = member m.name m.ty m.size m.align (members_of ms)
 
--- one level of a type, whose parts are seen already
+-- one level of a type, whose inner types are views already
 abbrev pub type_step : Type-F WgslType Member Struct → WgslType
 type_step Type-F.Bool = scalar Bool
 type_step Type-F.AbstractInt = scalar AbstractInt

@@ -53,7 +53,7 @@ impl Type {
         conversion_rank(self, ty).is_some()
     }
 
-    /// Whether the type converts to the vector with that many components of a scalar.
+    /// Whether the type converts to the vector with that many components of type `of`.
     pub fn is_convertible_to_vector(&self, components: u8, of: Scalar) -> bool
         ensures { IsTrue result ↔ ConvertsTo (view self.now) (vec components (scalar of)) }
     {
@@ -66,8 +66,8 @@ impl Type {
     }
 }
 
-/// The rank of the conversion from `a` to `b`, and the number of single conversions back from `b` that were taken to
-/// find it; without a rank that number means nothing.
+/// The rank of the conversion from `a` to `b`, or None, and the number of its single conversions. Without a rank the
+/// number has no meaning.
 pub fn rank_steps(a: &Type, b: &Type) -> (Option<u32>, u32)
     ensures rank { (w : ℕ) → (result.0 ≡ Some w) ↔ Converts (view a.now) (view b.now) w }
     ensures few { result.1 ≤ 2 }
@@ -128,7 +128,7 @@ fn loads_vector(ty: &Type, components: u8, of: Scalar) -> bool
     }
 }
 
-/// A type that takes part in single conversions.
+/// A node of the tree of single conversions.
 #[derive(Clone, Copy, PartialEq, Eq, Debug)]
 enum Node {
     Scalar(Scalar),
@@ -145,7 +145,7 @@ fn node_of(ty: &Type) -> Option<Node>
     }
 }
 
-/// The node from which a single conversion leads to this one.
+/// The node from which a single conversion leads here.
 fn parent(node: Node) -> Option<Node>
     ensures { option_map node_view result ≡ parent_of (node_view node) }
 {
@@ -168,7 +168,7 @@ fn parent(node: Node) -> Option<Node>
     }
 }
 
-/// The weight of the single conversions that lead to the node from the one that has no parent.
+/// The weight of the path from the root to the node.
 fn rank_from_root(node: Node) -> u32
     ensures { result ≡ rank_from_root (node_view node) }
 {

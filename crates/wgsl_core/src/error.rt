@@ -13,61 +13,61 @@ use wgsl_syntax::operator::{BinaryOperator, UnaryOperator};
 /// Why an expression has no type, or no value (WGSL, "Errors").
 #[derive(Debug, Drop)]
 pub enum Error {
-    /// What isn't done yet.
+    /// What isn't implemented.
     Todo(String),
-    /// A type where a scalar is wanted.
+    /// A type that should be a scalar.
     NotScalar(Type),
-    /// A type that no value is constructed of.
+    /// A type that isn't constructible.
     NotConstructible(Type),
-    /// A type that no texture is sampled as.
+    /// A sampled type that is none of `i32`, `u32` and `f32`.
     SampledType(Type),
-    /// A name that no type has.
+    /// The name of an unknown type.
     UnknownType(String),
-    /// A template after the name of a type that takes none.
+    /// The name of a type that has a template and takes none.
     UnexpectedTemplate(String),
-    /// The name of a type that takes a template, without one.
+    /// The name of a type that takes a template and has none.
     MissingTemplate(&'static str),
-    /// The type that is written, and the one that the reference is to.
+    /// The type written, and the type that the reference refers to.
     WriteRefType(Type, Type),
     NotWrite,
     NotRead,
     NotReadWrite,
     PtrHandle,
     PtrVecComp,
-    /// A type, and one that it doesn't convert to.
+    /// A type, and the type to which it doesn't convert.
     Conversion(Type, Type),
     /// A literal, and a type that it doesn't fit.
     ConvOverflow(LiteralInstance, Type),
     /// A type, and the name of a component that it lacks.
     Component(Type, String),
-    /// A type that isn't indexed.
+    /// A type that can't be indexed.
     NotIndexable(Type),
     /// An index, the type that is indexed, and the number of its components.
     OutOfBounds(usize, Type, usize),
-    /// An operator that its operand has no candidate for.
+    /// An operator, and an operand that it doesn't take.
     Unary(UnaryOperator, Type),
-    /// An operator that its two operands have no candidate for.
+    /// An operator, and two operands that it doesn't take.
     Binary(BinaryOperator, Type, Type),
-    /// Two operands that aren't taken component by component.
+    /// Two operands that have no component-wise operation.
     CompwiseBinary(Type, Type),
     AddOverflow,
     SubOverflow,
     MulOverflow,
     DivByZero,
     RemZeroDiv,
-    /// How far is shifted, and what.
+    /// The number of bits to shift by, and the value shifted.
     ShlOverflow(u32, LiteralInstance),
-    /// How far is shifted, and what.
+    /// The number of bits to shift by, and the value shifted.
     ShrOverflow(u32, LiteralInstance),
     /// A call that no overload takes.
     Signature(CallSignature),
-    /// What is wrong with a call, in words.
+    /// What is wrong with a call or a template, in words.
     Builtin(&'static str),
-    /// What is called with a template that it doesn't take.
+    /// The name of a template that doesn't take its parameters.
     TemplateArgs(&'static str),
-    /// What is called, and the number of arguments that it takes and that it was given.
+    /// The name called, the number of arguments that it takes, and the number given.
     ParamCount(String, usize, usize),
-    /// The type that is wanted, and the one of the argument.
+    /// The type expected, and the type of the argument.
     ParamType(Type, Type),
 }
 

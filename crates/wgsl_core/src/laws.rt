@@ -1,4 +1,4 @@
-// Laws over the rules: each function answers nothing, and its contract is the law.
+// Laws of the rules: each function returns nothing, and its contract is the law.
 ghost use Rattle.std.specs.Prelude.{◌≡◌, ◌↔◌, ◌<◌, ℕ, All, IsPermutation, map};
 ghost use Rattle.wgsl_syntax.specs.declared.scalar.Scalar.{Scalar};
 ghost use Rattle.wgsl_rules.specs.types.Types.{scalar, array, vec, mat};
@@ -9,26 +9,26 @@ ghost use Rattle.wgsl_core.specs.View.{view};
 
 use crate::ty::Type;
 
-/// On value types conversion is a partial order (WGSL, "Conversion Rank").
+/// For value types, conversion is a partial order (WGSL, "Conversion Rank").
 #[tactic(auto, using(wgsl_rules::proofs::Laws::order))]
 pub fn conversion_order(a: &Type, b: &Type, c: &Type)
     ensures { IsValueType (view a.now) → IsValueType (view b.now) → IsValueType (view c.now)
         → ConversionOrder (view a.now) (view b.now) (view c.now) }
 {}
 
-/// On value types ranks add, and only equal types have rank 0.
+/// For value types, ranks add, and only equal types have rank 0.
 pub fn rank_adds(a: &Type, b: &Type, c: &Type)
     ensures { IsValueType (view a.now) → IsValueType (view b.now)
         → RanksAdd (view a.now) (view b.now) (view c.now) }
 {}
 
-/// Two value types that convert to one type are comparable.
+/// Two value types that convert to the same type are comparable.
 pub fn targets_comparable(a: &Type, b: &Type, c: &Type)
     ensures { IsValueType (view a.now) → IsValueType (view b.now)
         → TargetsComparable (view a.now) (view b.now) (view c.now) }
 {}
 
-/// Two targets of a value type that it converts to with one rank are equal, and no rank passes 9.
+/// A value type converts to at most one type with a given rank, and no rank is above 9.
 #[tactic(auto, using(wgsl_rules::proofs::Laws::names_target))]
 pub fn rank_names_target(a: &Type, b: &Type, c: &Type)
     ensures { IsValueType (view a.now) → RankNamesTarget (view a.now) (view b.now) (view c.now) }

@@ -12,16 +12,16 @@ use crate::ty::form::Form;
 use crate::ty::{StructMemberType, StructType, Type};
 use std::alloc::{AllocError, Global};
 
-/// How a struct lies in memory (WGSL, "Structure Member Layout"), in bytes.
+/// The layout of a struct (WGSL, "Structure Member Layout"), in bytes.
 #[derive(Debug, PartialEq, Drop)]
 pub struct StructLayout {
-    /// One for each member, in their order.
+    /// One per member, in order.
     pub members: Vec<PlacedMember>,
     pub size: u32,
     pub align: u32,
 }
 
-/// How a member lies in its struct, in bytes.
+/// The layout of a member in its struct, in bytes.
 #[derive(Clone, Copy, Debug, PartialEq, Eq)]
 pub struct PlacedMember {
     pub offset: u32,
@@ -29,7 +29,7 @@ pub struct PlacedMember {
     pub align: u32,
 }
 
-/// The size and the alignment of a type, if it has them. They come from one walk over the type.
+/// The size and the alignment of a type, if it has them, computed in one walk over the type.
 #[derive(Clone, Copy)]
 struct Measure {
     size: Option<u32>,
@@ -37,13 +37,13 @@ struct Measure {
 }
 
 impl Type {
-    /// The size in bytes (WGSL, "Alignment and Size"); an atomic has one, whatever it is of.
+    /// The size in bytes (WGSL, "Alignment and Size"). An atomic has one, whatever type is inside.
     ///
     /// None for an abstract number, a pointer, a reference, a texture, a sampler, a binding array, a ray query and an
     /// acceleration structure; for a vector of a type without a size; for a matrix without an alignment; for an array
-    /// whose number of elements isn't known or passes 4294967295, or whose element has no size, no alignment or the
+    /// that is runtime-sized or has more than 4294967295 elements, or whose element has no size, no alignment or the
     /// alignment 0; for a struct without members, or with a member whose size or alignment comes neither from an
-    /// attribute nor from its type, or whose alignment is 0; and if the size, or an array's stride, passes
+    /// attribute nor from its type, or whose alignment is 0; and if the size, or an array's stride, is above
     /// 4294967295.
     pub fn size_of(&self) -> Option<u32>
         ensures exact { IsExactly result (HasSize (view self.now)) }
@@ -52,10 +52,10 @@ impl Type {
         self.measure().size
     }
 
-    /// The least size in bytes: the stride of a runtime-sized array, and the size of every
-    /// other type (WGSL, "Alignment and Size").
+    /// The least size in bytes: the stride of a runtime-sized array, and the size of any other type (WGSL, "Alignment
+    /// and Size").
     ///
-    /// None if that stride or size is.
+    /// None if there is no such stride or size.
     pub fn min_size_of(&self) -> Option<u32>
         ensures { IsExactly result (HasLeastSize (view self.now)) }
     {
@@ -65,14 +65,14 @@ impl Type {
         }
     }
 
-    /// The alignment in bytes, `Some(0)` for a struct without members (WGSL, "Alignment and Size"); an atomic has one,
-    /// whatever it is of.
+    /// The alignment in bytes, `Some(0)` for a struct without members (WGSL, "Alignment and Size"). An atomic has one,
+    /// whatever type is inside.
     ///
     /// None for an abstract number, a pointer, a reference, a texture, a sampler, a binding array, a ray query and an
     /// acceleration structure; for a vector of three, or a matrix of three rows, whose components are not `i32`, `u32`,
     /// `f32` or `f16`; for any other vector or matrix whose components have no size; for an array of a type without an
     /// alignment; for a struct with a member whose alignment comes neither from an attribute nor from its type; and
-    /// if it passes 4294967295.
+    /// if it is above 4294967295.
     pub fn align_of(&self) -> Option<u32>
         ensures { IsExactly result (HasAlignment (view self.now)) }
     {
@@ -211,9 +211,9 @@ fn rounded_up(size: Option<u32>, align: Option<u32>) -> Option<u32>
 }
 
 impl StructType {
-    /// The size in bytes (WGSL, "Structure Member Layout"): the smallest that any placement of the members has.
+    /// The size in bytes (WGSL, "Structure Member Layout"): the smallest of any placement of the members.
     ///
-    /// None for the causes for which `layout` gives none.
+    /// None if `layout` is None.
     pub fn size_of(&self) -> Option<u32>
         ensures { IsLeastPlacedSize (struct_view self.now).members result }
     {
@@ -223,7 +223,7 @@ impl StructType {
 
     /// The alignment in bytes (WGSL, "Structure Member Layout"): the greatest of the members, 0 without members.
     ///
-    /// None for a member whose alignment comes neither from an attribute nor from its type.
+    /// None if a member's alignment comes neither from an attribute nor from its type.
     pub fn align_of(&self) -> Option<u32>
         ensures { let ms = (struct_view self.now).members in
             IsExactly result (IsStructAlign (HaveAlignments ms)) }
@@ -232,11 +232,11 @@ impl StructType {
         measure.align
     }
 
-    /// How the struct lies in memory: each member at the least offset that any placement gives it, and the least size
-    /// (WGSL, "Structure Member Layout").
+    /// The layout of the struct: each member at the smallest offset of any placement, and the smallest size (WGSL,
+    /// "Structure Member Layout").
     ///
-    /// None exactly if the struct has no size: if there is no member; if a member's size or alignment comes
-    /// neither from an attribute nor from its type, or its alignment is 0; and if the size passes 4294967295.
+    /// None exactly if the struct has no size: if it has no members; if a member's size or alignment comes neither
+    /// from an attribute nor from its type, or its alignment is 0; and if the size is above 4294967295.
     pub fn layout(&self, alloc: Global) -> Result<Option<StructLayout>, AllocError>
         ensures none { HasNoSize (struct_view self.now).members ↔ (result ≡ Ok None) }
         ensures layout { IfOk result (λ answer.
@@ -257,7 +257,7 @@ impl StructType {
 
     /// The offset of each member in bytes: no placement has a smaller one (WGSL, "Structure Member Layout").
     ///
-    /// None for the causes for which `layout` gives none.
+    /// None if `layout` is None.
     pub fn offsets(&self, alloc: Global) -> Result<Option<Vec<u32>>, AllocError>
         ensures none { HasNoSize (struct_view self.now).members ↔ (result ≡ Ok None) }
         ensures offsets { IfOk result (λ answer. IfSome answer (λ offsets.
@@ -269,7 +269,7 @@ impl StructType {
         Ok(Some(member_offsets(alloc, &layout.members)?))
     }
 
-    /// Each member at its least offset.
+    /// Each member at its smallest offset.
     fn placed_members(&self, alloc: Global) -> Result<Vec<PlacedMember>, AllocError>
         requires { HasSomeSize (struct_view self.now).members }
         ensures { IfOk result (λ members. ArePlaced (struct_view self.now).members members.items) }
@@ -332,7 +332,7 @@ fn end_of_member(end: Option<u32>, size: Option<u32>, align: u32) -> Option<u32>
     Some(end)
 }
 
-/// The least offset of a member after what ends at `end`, and where the member ends.
+/// The smallest offset of a member from `end` on, and the end of the member.
 fn place(end: u32, size: u32, align: u32) -> Option<(u32, u32)>
     ensures { let offset = next_multiple_of end align in
         SomeIff result ((0 < align) × (offset + size < 2 ^ 32)) (offset, offset + size) }

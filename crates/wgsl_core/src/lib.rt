@@ -1,4 +1,4 @@
-//! The types of WGSL, and what needs only types.
+//! The types of WGSL: conversion, layout, operators and errors.
 #![tactic(auto)]
 
 pub mod conversion;

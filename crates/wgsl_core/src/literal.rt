@@ -10,7 +10,7 @@ use crate::ty::Type;
 use std::fmt;
 use std::fmt::Write;
 
-/// A value.
+/// A value: a literal.
 #[derive(Clone, Copy, PartialEq, Debug)]
 pub enum Instance {
     Literal(LiteralInstance),

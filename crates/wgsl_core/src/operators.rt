@@ -1,4 +1,4 @@
-// The types of operators, and the candidates that are chosen for them.
+// The result types of operators, and the candidates chosen for them.
 ghost use Rattle.std.specs.Prelude.{◌≡◌, ◌↔◌, ◌⊎◌, [], ◌∷◌, Ok, Err, IsTrue, IsFalse, IfOk, IsOk};
 ghost use Rattle.wgsl_syntax.specs.declared.scalar.Scalar.TheVariants.{Bool};
 ghost use Rattle.wgsl_syntax.specs.declared.operator.UnaryOperator.TheVariants.{LogicalNegation, Negation, BitwiseComplement, AddressOf, Indirection};
@@ -27,8 +27,8 @@ use std::alloc::{AllocError, Global};
 use wgsl_syntax::address::AddressSpace;
 use wgsl_syntax::operator::{BinaryOperator, UnaryOperator};
 
-/// What a binary operator is chosen to take and to give (WGSL, "Overload Resolution"): the types that its operands convert
-/// to, and the type of the result.
+/// The candidate of a binary operator that is chosen for two operands (WGSL, "Overload Resolution"): the types to which
+/// they convert, and the type of the result.
 #[derive(Debug, Drop)]
 pub struct Candidate {
     pub lhs: Type,
@@ -37,7 +37,7 @@ pub struct Candidate {
 }
 
 impl Type {
-    /// The type of `!self` (WGSL, "Logical Expressions"): its own if it is `bool` or a vector, else `Unary` with it.
+    /// The type of `!self` (WGSL, "Logical Expressions"): `self` if it is `bool` or a vector, else `Unary` with it.
     pub fn op_not(&self, alloc: Global) -> Result<Type, Fail>
         ensures row { AnswersBy (IsUnaryAnswer LogicalNegation (view self.now)) result }
         ensures never_out_of_memory_on_scalars { IsScalar (view self.now) → IsAnswered result }
@@ -59,7 +59,7 @@ impl Type {
         type_binary_op(alloc, BinaryOperator::ShortCircuitAnd, self, rhs)
     }
 
-    /// The type of `-self` (WGSL, "Arithmetic Expressions"): its own if it is a scalar, else `Unary` with it.
+    /// The type of `-self` (WGSL, "Arithmetic Expressions"): `self` if it is a scalar, else `Unary` with it.
     pub fn op_neg(&self, alloc: Global) -> Result<Type, Fail>
         ensures row { AnswersBy (IsUnaryAnswer Negation (view self.now)) result }
         ensures never_out_of_memory_on_scalars { IsScalar (view self.now) → IsAnswered result }
@@ -144,7 +144,7 @@ impl Type {
         type_binary_op(alloc, BinaryOperator::GreaterThanEqual, self, rhs)
     }
 
-    /// The type of `~self` (WGSL, "Bit Expressions"): its own if it is an integer or a vector of integers, else `Unary`
+    /// The type of `~self` (WGSL, "Bit Expressions"): `self` if it is an integer or a vector of integers, else `Unary`
     /// with it.
     pub fn op_bitnot(&self, alloc: Global) -> Result<Type, Fail>
         ensures row { AnswersBy (IsUnaryAnswer BitwiseComplement (view self.now)) result }
@@ -188,8 +188,8 @@ impl Type {
         type_binary_op(alloc, BinaryOperator::ShiftRight, self, rhs)
     }
 
-    /// The type of `&self` (WGSL, "Address-Of Expression"): the pointer for a reference; `PtrHandle` if that is in the
-    /// handle space, `Unary` with the type if it is no reference.
+    /// The type of `&self` (WGSL, "Address-Of Expression"): the pointer for a reference. `PtrHandle` for a reference in
+    /// the handle space, `Unary` with the type for any other type.
     pub fn op_ref(&self, alloc: Global) -> Result<Type, Fail>
         ensures row { AnswersBy (IsUnaryAnswer AddressOf (view self.now)) result }
         ensures deref_gives_back { IfOk result (λ p. (t : WgslType)
@@ -210,7 +210,8 @@ impl Type {
     }
 }
 
-/// The candidate that is chosen for two operands (WGSL, "Overload Resolution"), or `Binary` with the operator and both.
+/// The candidate chosen for two operands (WGSL, "Overload Resolution"), or `Binary` with the operator and both
+/// operands.
 #[tactic(auto, using(wgsl_rules::proofs::Laws::one_choice_of_two))]
 pub fn binary_candidate(
     alloc: Global,
@@ -276,8 +277,8 @@ fn refuse_binary(
     Ok(Error::Binary(operator, lhs, rhs))
 }
 
-/// The type of a unary expression (WGSL, "Expressions"). Else `PtrHandle` for `&` of a reference in the handle space, and
-/// `Unary` with the operator and the operand for all others.
+/// The type of a unary expression (WGSL, "Expressions"). `PtrHandle` for `&` of a reference in the handle space,
+/// `Unary` with the operator and the operand for any other operand that the operator doesn't take.
 pub fn type_unary_op(alloc: Global, operator: UnaryOperator, operand: &Type) -> Result<Type, Fail>
     ensures row { AnswersBy (IsUnaryAnswer operator (view operand.now)) result }
     ensures never_out_of_memory_on_scalars { IsScalar (view operand.now) → IsAnswered result }
@@ -327,7 +328,7 @@ fn complement(alloc: Global, operand: &Type) -> Result<Type, Fail>
     )
 }
 
-/// `&`: the pointer for a reference, but not in the handle space.
+/// `&`: the pointer for a reference that isn't in the handle space.
 fn address_of(alloc: Global, operand: &Type) -> Result<Type, Fail>
     ensures row { AnswersBy (IsUnaryAnswer AddressOf (view operand.now)) result }
     ensures never_out_of_memory { IsLeaf (view operand.now) → IsAnswered result }
@@ -360,7 +361,7 @@ fn is_bool_or_vector(ty: &Type) -> bool
     ty.is_bool() || ty.is_vec()
 }
 
-/// The type itself if that holds, else the refusal of the operator.
+/// The type itself if `holds`, else the refusal of the operator.
 fn own_if(alloc: Global, operator: UnaryOperator, ty: &Type, holds: bool) -> Result<Type, Fail>
     ensures own { IsTrue holds → AnswersBy (λ r. r ≡ Ok (view ty.now)) result }
     ensures refused { IsFalse holds

@@ -16,8 +16,8 @@ pub enum TpltParam {
     Enumerant(Enumerant),
 }
 
-/// What is called (WGSL, "Function Calls"): its name, its template parameters if it has a template, and the types of
-/// its arguments.
+/// A call (WGSL, "Function Calls"): its name, its template parameters if it has a template, and the types of its
+/// arguments.
 #[derive(Debug, Drop)]
 pub struct CallSignature {
     pub name: String,
@@ -25,8 +25,8 @@ pub struct CallSignature {
     pub args: Vec<Type>,
 }
 
-/// When an expression is evaluated (WGSL, "Early Evaluation Expressions"): before the shader is created, before the
-/// pipeline is, or as the shader runs.
+/// When an expression is evaluated (WGSL, "Early Evaluation Expressions"): at shader creation, at pipeline creation, or
+/// while the shader runs.
 #[derive(Clone, Copy, PartialEq, Eq, Hash, Debug)]
 pub enum ShaderStage {
     Const,

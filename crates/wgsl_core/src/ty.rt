@@ -24,7 +24,7 @@ use wgsl_syntax::attribute::AccelerationStructureFlags;
 use wgsl_syntax::scalar::Scalar;
 use wgsl_syntax::texture::{SampledType, SamplerType, TextureType};
 
-/// A type (WGSL, "Types"), with the abstract numbers and naga's additions.
+/// A type (WGSL, "Types"), including the abstract numbers and naga's additions.
 #[cycle(types)]
 #[derive(Debug, Drop)]
 pub enum Type {
@@ -36,7 +36,7 @@ pub enum Type {
     F32,
     F16,
     Struct(Box<StructType>),
-    /// The element, and the number of elements if it is known.
+    /// The element, and the number of elements, or None if runtime-sized.
     Array(Box<Type>, Option<usize>),
     /// The number of components, and their type.
     Vec(u8, Box<Type>),
@@ -88,7 +88,7 @@ impl StructMemberType {
 }
 
 impl Type {
-    /// What an atomic (WGSL, "Atomic Types") is of.
+    /// The type inside an atomic (WGSL, "Atomic Types").
     pub fn unwrap_atomic(self) -> Box<Type>
         requires { IsAtomic (view self) }
         ensures { view self ≡ atomic (view result.value) }
@@ -99,7 +99,7 @@ impl Type {
         }
     }
 
-    /// The struct that a type is.
+    /// The struct of a struct type.
     pub fn unwrap_struct(self) -> Box<StructType>
         requires { IsStruct (view self) }
         ensures { view self ≡ struct_type (struct_view result.value) }
@@ -121,7 +121,7 @@ impl Type {
         }
     }
 
-    /// The type that a struct is.
+    /// The type of a struct.
     pub fn from_struct(alloc: Global, s: StructType) -> Result<Type, AllocError>
         ensures { IfOk result (λ t. view t ≡ struct_type (struct_view s)) }
     {
@@ -165,7 +165,7 @@ impl From<SampledType> for Type {
     }
 }
 
-/// What a texture of such texels is sampled as (WGSL, "Sampled Texture Types"), or `SampledType` with the type.
+/// The sampled type that the type names (WGSL, "Sampled Texture Types"), or the error `SampledType` with the type.
 pub fn try_from_type(alloc: Global, ty: &Type) -> Result<SampledType, Fail>
     ensures row { Gives (ok_or (sampled_of (view ty.now)) (sampled_type (view ty.now))) result }
     ensures never_out_of_memory { IsLeaf (view ty.now) → IsAnswered result }

@@ -1,4 +1,4 @@
--- What a measure in code says of a type, and how members are placed one after another.
+-- How the rules see a measure of the code, and the placement of members one after another.
 use Rattle.std.specs.Prelude.{◌≡◌, ◌↔◌, ℕ, ◌+◌, ◌<◌, ◌^◌, List, Option, Some, None}
 use Rattle.std.specs.Int.{next_multiple_of}
 use Rattle.wgsl_rules.specs.types.Types.{WgslType, Members}
@@ -21,6 +21,6 @@ ArePlaced ms placed = HaveLayouts ms (layouts_of placed) × AreOffsets ms (offse
 abbrev pub IsValue : Option ℕ → ℕ → Type 0
 IsValue o n = o ≡ Some n
 
--- the end of a member that lies at its first offset, after what ends at `end`
+-- the end of a member at its first offset from `end` on
 abbrev pub IsSoonestEnd : Option ℕ → Option ℕ → ℕ → ℕ → Type 0
 IsSoonestEnd end size align n = (e : ℕ) × (s : ℕ) × IsValue end e × IsValue size s × (0 < align) × (n ≡ next_multiple_of e align + s) × (n < 2 ^ 32)

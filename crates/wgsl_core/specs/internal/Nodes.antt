@@ -1,4 +1,4 @@
--- The nodes of the rules that those of the code stand for.
+-- How the rules see the nodes of the code.
 use Rattle.wgsl_rules.specs.internal.Nodes.{Node, at_scalar, at_result}
 use Rattle.wgsl_core.specs.declared.conversion.Node.{Node as ConvPlace}
 use Rattle.wgsl_core.specs.declared.conversion.Node.TheVariants as nodes

@@ -1,4 +1,4 @@
--- The candidate that is found, as it will be once it is built.
+-- How the rules see a candidate whose types aren't built yet.
 use Rattle.std.specs.Prelude.{◌≡◌, Option, Some, None, option_map}
 use Rattle.wgsl_syntax.specs.declared.scalar.Scalar.TheVariants.{Bool, U32}
 use Rattle.wgsl_rules.specs.types.Types.{Layer, WgslType, scalar, within}
@@ -29,18 +29,18 @@ resolution_view f = record { lhs = resolved_view f.lhs; rhs = resolved_view f.rh
 abbrev pub IsLeafCandidate : BinaryCandidate → Type 0
 IsLeafCandidate c = IsLeaf c.lhs × IsLeaf c.rhs × IsLeaf c.result
 
--- a type in each of three layers, if there is one
+-- the candidate of one type, each time in a layer if there is one
 abbrev pub in_layers : Option Layer → Option Layer → Option Layer → WgslType → BinaryCandidate
 in_layers l m k t = record { lhs = around l t; rhs = around m t; result = around k t }
 
--- the common type of two types in each of three layers, or none
+-- the same for the common type of two types, or None if they have none
 abbrev pub IsInLayers : Option Layer → Option Layer → Option Layer → WgslType → WgslType → Option BinaryCandidate → Type 0
 IsInLayers l m k a b r = (c : Option WgslType) × IsCommon a b c × (r ≡ option_map (in_layers l m k) c)
 
--- two operands of a type are compared
+-- the comparison of two operands of a type
 abbrev pub compared_at : WgslType → Option Layer → BinaryCandidate
 compared_at t l = record { lhs = t; rhs = t; result = around l (scalar Bool) }
 
--- a type is shifted by `u32`
+-- the shift of a type by `u32`
 abbrev pub shifted_at : WgslType → Option Layer → BinaryCandidate
 shifted_at t l = record { lhs = t; rhs = around l (scalar U32); result = t }

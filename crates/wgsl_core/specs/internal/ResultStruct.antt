@@ -1,4 +1,4 @@
--- By what structs are told to be those that `frexp` and `modf` give.
+-- How the structs that `frexp` and `modf` return are recognised.
 use Rattle.std.specs.Prelude.{◌≡◌, ℕ, List, ◌==◌, Option, Some, None, codes, if◌then◌else◌, option_and_then, option_map}
 use Rattle.std.specs.Str.{bytes_eq}
 use Rattle.wgsl_syntax.specs.declared.scalar.Scalar.{Scalar}
@@ -26,7 +26,7 @@ abbrev pub IsResult : List ℕ → Member → Member → ResultStruct → Type 0
 IsResult name first second r =
     (name ≡ result_name r) × (first ≡ plain (codes "fract") (shaped r.shape (scalar (float_of r.precision)))) × (second ≡ second_member r.function r.shape r.precision)
 
--- what the first member's type and the second member's name tell
+-- the precision and the shape by the first member's type, and the function by the second member's name
 
 abbrev pub precision_at : Scalar → Option ResultPrecision
 precision_at AbstractFloat = Some precision.Abstract

@@ -1,4 +1,4 @@
--- The members of the rules that those of a struct stand for.
+-- How the rules see the members of a struct.
 use Rattle.std.specs.Prelude.{List, map}
 use Rattle.wgsl_rules.specs.types.Types.{Members}
 use Rattle.wgsl_core.specs.declared.ty.StructMemberType.{StructMemberType}

@@ -12,7 +12,7 @@ use crate::ty::clone::boxed_copy;
 use std::alloc::{AllocError, Global};
 
 impl Type {
-    /// The type that a reference refers to, until it isn't a reference (WGSL, "Load Rule"); any other type stays.
+    /// The type that is left once all references around it are loaded (WGSL, "Load Rule").
     #[tactic(auto, using(wgsl_rules::proofs::conversion::Loading::loaded_is_no_reference, wgsl_rules::proofs::conversion::Loading::loaded_once))]
     pub fn loaded(self) -> Type
         ensures row { view result ≡ loaded_of (view self) }
@@ -22,8 +22,8 @@ impl Type {
         behind_references(self)
     }
 
-    /// The concrete type that stands for the type (WGSL, "Abstract Numeric Types"): `i32` and `f32` for the abstract
-    /// numbers, also within arrays, vectors and matrices; a matrix of an abstract type becomes one of `f32`.
+    /// The concrete type for the type (WGSL, "Abstract Numeric Types"): `i32` and `f32` for the abstract numbers, also
+    /// within arrays and vectors. A matrix of an abstract type becomes one of `f32`.
     #[tactic(auto, using(wgsl_rules::proofs::conversion::Concretes::concrete_is_concrete, wgsl_rules::proofs::conversion::Concretes::concrete_changes, wgsl_rules::proofs::conversion::Concretes::concrete_once, wgsl_rules::proofs::conversion::Concretes::concrete_least))]
     pub fn concretize(&self, alloc: Global) -> Result<Type, AllocError>
         ensures row { IfOk result (λ t. view t ≡ concretized (view self.now)) }

@@ -1,4 +1,4 @@
-// The common type of many types.
+// The common type of a list of types.
 ghost use Rattle.std.specs.Prelude.{◌≡◌, List, [], ◌⊎◌, IsSome, map, option_map};
 ghost use Rattle.std.specs.Borrow.{Bor};
 ghost use Rattle.std.specs.Iterator.{DrainsIf, IsFiniteIterable};
@@ -10,8 +10,8 @@ ghost use Rattle.wgsl_core.specs.declared.ty.Type.{«Type»};
 use crate::conversion::convert_ty;
 use crate::ty::Type;
 
-/// The common type of what the iterator gives, taken from left to right (WGSL, "Overload Resolution"): None as soon as two
-/// have none, and if it gives nothing. It asks for the rest only while there is a common type.
+/// The common type of the iterator's types, from left to right (WGSL, "Overload Resolution"). None if there are no
+/// types, or as soon as there is no common type; the rest isn't read then.
 pub fn convert_all_ty<'a, I: IntoIterator<Item = &'a Type>>(types: I) -> Option<&'a Type>
 where
     I: Drop,

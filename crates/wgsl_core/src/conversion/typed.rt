@@ -1,4 +1,4 @@
-// What has a type.
+// Values that have a type.
 ghost use Rattle.std.specs.Prelude.{◌≡◌, IfOk};
 ghost use Rattle.wgsl_rules.specs.types.Types.{WgslType};
 ghost use Rattle.wgsl_core.specs.View.{view};
@@ -7,23 +7,23 @@ use crate::literal::{Instance, LiteralInstance};
 use crate::ty::Type;
 use std::alloc::{AllocError, Global};
 
-/// What has a type, and a type inside that.
+/// A value that has a type, and a type inside that one.
 pub trait Ty {
     ghost type_of: { Self → WgslType };
 
     ghost inner_type_of: { Self → WgslType };
 
-    /// Its type.
+    /// The type of the value.
     fn ty(&self, alloc: Global) -> Result<Type, AllocError>
         ensures { IfOk result (λ t. view t ≡ type_of self.now) };
 
-    /// The type inside its type, or its type if nothing is inside.
+    /// The type inside the type of the value, or that type itself if nothing is inside.
     fn inner_ty(&self, alloc: Global) -> Result<Type, AllocError>
         ensures { IfOk result (λ t. view t ≡ inner_type_of self.now) };
 }
 
-/// A type has itself as its type. Inside it is what an array, a vector, a matrix, an atomic, a pointer, a reference or a
-/// binding array is of.
+/// A type is its own type. The inner type is the one inside an array, a vector, a matrix, an atomic, a pointer, a
+/// reference or a binding array.
 impl Ty for Type {
     ghost use Rattle.wgsl_rules.specs.types.Inner.{inner_of};
     ghost use Rattle.wgsl_core.specs.View.{view};

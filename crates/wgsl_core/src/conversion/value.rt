@@ -1,4 +1,4 @@
-// What converts to a type.
+// Values that convert to a type.
 ghost use Rattle.std.specs.Prelude.{◌≡◌, IfOk, IsOk, Option, Some, None, option_map, if◌then◌else◌};
 ghost use Rattle.wgsl_rules.specs.types.Types.{WgslType, within};
 ghost use Rattle.wgsl_rules.specs.types.Kinds.{IsLeaf};
@@ -11,9 +11,9 @@ use crate::ty::form::around;
 use std::alloc::{AllocError, Global};
 use wgsl_syntax::layer::Layer;
 
-/// What converts to a type (WGSL, "Conversion Rank").
+/// A value that can be converted to a type (WGSL, "Conversion Rank").
 pub trait Convert: Sized + Ty {
-    /// A value without the memory that it lies in.
+    /// A value as contracts see it, without memory.
     ghost Shown: { Type 0 };
 
     ghost shown: { Self → Shown };
@@ -28,16 +28,16 @@ pub trait Convert: Sized + Ty {
     fn convert_to(&self, alloc: Global, ty: &Type) -> Result<Option<Self>, AllocError>
         ensures value { IfOk result (λ y. option_map shown y ≡ to self.now (view ty.now)) };
 
-    /// The value with what is inside converted to a type; None if that doesn't convert. What has no inner type is
-    /// converted as a whole, as by `convert_to`.
+    /// The value with the elements of an array, a vector or a matrix converted to a type; None if they don't convert.
+    /// Any other value is converted as a whole, as by `convert_to`.
     fn convert_inner_to(&self, alloc: Global, ty: &Type) -> Result<Option<Self>, AllocError>
         ensures value { IfOk result (λ y. option_map shown y ≡ inner_to self.now (view ty.now)) };
 
-    /// The value converted to the concrete type that stands for its type; None if it doesn't convert.
+    /// The value converted to the concrete type for its type; None if it doesn't convert.
     fn concretize(&self, alloc: Global) -> Result<Option<Self>, AllocError>
         ensures value { IfOk result (λ y. option_map shown y ≡ concrete self.now) };
 
-    /// What is converted to a type has that type.
+    /// A value that is converted to a type has that type.
     ghost to_has_type: { (x : Self) (t : WgslType) (y : Self) → to x t ≡ Some (shown y)
         → Self.Ty.type_of y ≡ t };
 }

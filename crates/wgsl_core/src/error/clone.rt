@@ -10,7 +10,7 @@ use crate::ty::Type;
 use std::alloc::{AllocError, Global};
 
 impl Error {
-    /// A copy.
+    /// Copies the refusal; fails only if out of memory.
     pub fn clone(&self, alloc: Global) -> Result<Error, AllocError>
         ensures same { IfOk result (λ e. refusal e ≡ refusal self.now) }
         ensures never_out_of_memory { IsLeafRefusal (refusal self.now) → IsOk result }

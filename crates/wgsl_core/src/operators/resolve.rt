@@ -18,21 +18,21 @@ use wgsl_syntax::layer::Layer;
 use wgsl_syntax::operator::BinaryOperator;
 use wgsl_syntax::scalar::Scalar;
 
-/// What a type is made of that is found and not yet built.
+/// The element of a type that isn't built yet.
 #[derive(Clone, Copy)]
 pub enum Element<'a> {
     Scalar(Scalar),
     Type(&'a Type),
 }
 
-/// A type that is found and not yet built: an element, or a layer around it.
+/// A type that isn't built yet: an element, possibly in a layer.
 #[derive(Clone, Copy)]
 pub struct ResolvedType<'a> {
     pub layer: Option<Layer>,
     pub element: Element<'a>,
 }
 
-/// A candidate that is found and not yet built.
+/// A candidate whose types aren't built yet.
 #[derive(Clone, Copy)]
 pub struct Resolution<'a> {
     pub lhs: ResolvedType<'a>,
@@ -50,7 +50,7 @@ impl<'a> ResolvedType<'a> {
         }
     }
 
-    /// A scalar, within a layer if there is one.
+    /// A scalar, within the layer if there is one.
     fn of_scalar(layer: Option<Layer>, of: Scalar) -> ResolvedType<'a>
         ensures { resolved_view result ≡ around layer (scalar of) }
     {
@@ -60,7 +60,7 @@ impl<'a> ResolvedType<'a> {
         }
     }
 
-    /// The type itself.
+    /// Builds the type in memory.
     pub fn build(self, alloc: Global) -> Result<Type, AllocError>
         ensures same { IfOk result (λ t. view t ≡ resolved_view self.entry) }
         ensures never_out_of_memory { IsLeaf (resolved_view self.entry) → IsOk result }
@@ -76,7 +76,7 @@ impl<'a> ResolvedType<'a> {
     }
 }
 
-/// The candidate of the operator that is chosen for two operands, if some row takes them.
+/// The candidate of the operator for two operands, if some row takes them.
 pub fn resolve_operator<'a>(
     operator: BinaryOperator,
     a: &'a Type,
@@ -169,7 +169,7 @@ fn arithmetic<'a>(operator: BinaryOperator, a: &'a Type, b: &'a Type) -> Option<
     }
 }
 
-/// A matrix on the left of an arithmetic operator: its columns, its rows and its element.
+/// An arithmetic operator with a matrix of `c` columns, `r` rows and element `e` on the left.
 fn matrix_by<'a>(
     operator: BinaryOperator,
     c: u8,
@@ -217,14 +217,14 @@ fn is_product(operator: BinaryOperator) -> bool
     matches!(operator, BinaryOperator::Multiplication)
 }
 
-/// Whether it is a product whose left side has as many columns as its right side has rows.
+/// Whether the operator is `*`, with as many columns on the left as rows on the right.
 fn is_product_over(operator: BinaryOperator, columns: u8, rows: u8) -> bool
     ensures { IsTrue result ↔ (operator ≡ Multiplication) × (columns ≡ rows) }
 {
     is_product(operator) && columns == rows
 }
 
-/// Whether it is a sum or a difference of two matrices of one shape.
+/// Whether the operator is `+` or `-`, of two matrices of the same shape.
 fn is_sum_of(operator: BinaryOperator, lhs: Layer, rhs: Layer) -> bool
     ensures { IsTrue result ↔ IsSum operator × (lhs ≡ rhs) }
 {
@@ -240,7 +240,7 @@ fn is_sum(operator: BinaryOperator) -> bool
     )
 }
 
-/// Each operand and the result is the common type of two types, within a layer if it has one.
+/// The candidate whose operands and result are the common type of two types, each within its layer if it has one.
 fn in_layers<'a>(
     lhs: Option<Layer>,
     rhs: Option<Layer>,
@@ -281,7 +281,7 @@ fn comparison<'a>(a: &'a Type, b: &'a Type) -> Option<Resolution<'a>>
     }
 }
 
-/// Two operands of one type are compared: the answer is `bool`, in the layer if there is one.
+/// The comparison of two operands of one type: the result is `bool`, in the layer if there is one.
 fn compared(ty: &Type, layer: Option<Layer>) -> Resolution<'_>
     ensures { resolution_view result ≡ compared_at (view ty.now) layer }
 {
@@ -309,7 +309,7 @@ fn bits<'a>(operator: BinaryOperator, a: &'a Type, b: &'a Type) -> Option<Resolu
     }
 }
 
-/// Whether the operator takes the bits of two such types.
+/// Whether the bitwise operator takes two operands of the type.
 fn has_bits(operator: BinaryOperator, ty: &Type) -> bool
     ensures { IsTrue result ↔ IsIntegerOrVector (view ty.now)
         ⊎ (IsOrAnd operator × ((n : ℕ) × (view ty.now ≡ vec n (scalar Bool)))) }
@@ -317,7 +317,7 @@ fn has_bits(operator: BinaryOperator, ty: &Type) -> bool
     ty.is_integer_or_vector() || is_of_bools(operator, ty)
 }
 
-/// Whether it is `|` or `&`, of a vector of `bool`.
+/// Whether the operator is `|` or `&`, and the type a vector of `bool`.
 fn is_of_bools(operator: BinaryOperator, ty: &Type) -> bool
     ensures { IsTrue result ↔ IsOrAnd operator × ((n : ℕ) × (view ty.now ≡ vec n (scalar Bool))) }
 {
@@ -369,7 +369,7 @@ fn shift<'a>(a: &'a Type, b: &'a Type) -> Option<Resolution<'a>>
     }
 }
 
-/// Whether it is an integer, and the other converts to `u32`.
+/// Whether `ty` is an integer, and `by` converts to `u32`.
 fn can_shift(ty: &Type, by: &Type) -> bool
     ensures { IsTrue result ↔ IsIntegerScalar (view ty.now)
         × ConvertsTo (view by.now) (scalar U32) }
@@ -377,7 +377,7 @@ fn can_shift(ty: &Type, by: &Type) -> bool
     ty.is_integer() && by.is_convertible_to(&Type::U32)
 }
 
-/// A type is shifted by `u32`, in the layer if there is one.
+/// The shift of a type by `u32`, in the layer if there is one.
 fn shifted(ty: &Type, layer: Option<Layer>) -> Resolution<'_>
     ensures { resolution_view result ≡ shifted_at (view ty.now) layer }
 {

@@ -9,7 +9,7 @@ use crate::ty::Type;
 use std::alloc::{AllocError, Global};
 
 impl TpltParam {
-    /// A copy.
+    /// A copy; fails only if out of memory.
     pub fn clone(&self, alloc: Global) -> Result<TpltParam, AllocError>
         ensures same { IfOk result (λ p. parameter_view p ≡ parameter_view self.now) }
         ensures never_out_of_memory { IsLeafParameter (parameter_view self.now) → IsOk result }
@@ -39,7 +39,7 @@ impl CallSignature {
         })
     }
 
-    /// A copy.
+    /// A copy; fails only if out of memory.
     pub fn clone(&self, alloc: Global) -> Result<CallSignature, AllocError>
         ensures { IfOk result (λ c. signature_view c ≡ signature_view self.now) }
     {

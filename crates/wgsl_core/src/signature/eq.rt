@@ -71,7 +71,6 @@ fn same_instance(a: &Instance, b: &Instance) -> bool
     same_literal(l, m)
 }
 
-/// Whether two types are equal.
 #[tactic(auto, using(crate::specs::Equality::type_eq_decides))]
 pub(crate) fn same_type(a: &Type, b: &Type) -> bool
     ensures { IsTrue result ↔ (view a.now ≡ view b.now) }
@@ -79,7 +78,6 @@ pub(crate) fn same_type(a: &Type, b: &Type) -> bool
     a == b
 }
 
-/// Whether two literals are equal.
 #[tactic(auto, using(crate::proofs::Sames::literal_same))]
 pub(crate) fn same_literal(a: &LiteralInstance, b: &LiteralInstance) -> bool
     ensures { IsTrue result ↔ (literal_view a.now ≡ literal_view b.now) }
@@ -94,7 +92,6 @@ fn same_enumerant(a: &Enumerant, b: &Enumerant) -> bool
     a == b
 }
 
-/// Whether two signatures are equal.
 pub(crate) fn same_signature(a: &CallSignature, b: &CallSignature) -> bool
     ensures { IsTrue result ↔ (signature_view a.now ≡ signature_view b.now) }
 {

@@ -8,7 +8,7 @@ use crate::ty::{StructMemberType, StructType, Type};
 use std::alloc::{AllocError, Global};
 
 impl Type {
-    /// A copy.
+    /// A copy; fails only if out of memory.
     #[cycle(copy)]
     pub fn clone(&self, alloc: Global) -> Result<Type, AllocError>
         ensures same { IfOk result (λ t. view t ≡ view self.now) }
@@ -41,9 +41,10 @@ impl Type {
     }
 }
 
-/// A copy in a box of its own.
+/// A copy in a new box.
 ///
-/// Not inlined, so that a copy of a deep type takes little stack: eight arms of `Type::clone` would each have room for it.
+/// It is not inlined, or each arm of `Type::clone` has room for it on the stack, and copies of deep types take three times as
+/// much.
 #[cycle(copy)]
 #[inline(never)]
 pub fn boxed_copy(alloc: Global, ty: &Type) -> Result<Box<Type>, AllocError>
@@ -52,7 +53,7 @@ pub fn boxed_copy(alloc: Global, ty: &Type) -> Result<Box<Type>, AllocError>
     Ok(Box::new(alloc, ty.clone(alloc)?)?)
 }
 
-/// A copy in a box of its own, not inlined either.
+/// A copy in a new box, not inlined either.
 #[cycle(copy)]
 #[inline(never)]
 fn boxed_struct_copy(alloc: Global, ty: &StructType) -> Result<Box<StructType>, AllocError>
@@ -62,7 +63,7 @@ fn boxed_struct_copy(alloc: Global, ty: &StructType) -> Result<Box<StructType>, 
 }
 
 impl StructType {
-    /// A copy.
+    /// A copy; fails only if out of memory.
     #[cycle(copy)]
     pub fn clone(&self, alloc: Global) -> Result<StructType, AllocError>
         ensures { IfOk result (λ s. struct_view s ≡ struct_view self.now) }
@@ -74,7 +75,7 @@ impl StructType {
 }
 
 impl StructMemberType {
-    /// A copy.
+    /// A copy; fails only if out of memory.
     #[cycle(copy)]
     pub fn clone(&self, alloc: Global) -> Result<StructMemberType, AllocError>
         ensures { IfOk result (λ m. member_view m ≡ member_view self.now) }

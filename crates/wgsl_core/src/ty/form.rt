@@ -1,4 +1,4 @@
-// Types by what they are made of, borrowed.
+// The forms of types.
 ghost use Rattle.std.specs.Prelude.{◌≡◌, IfOk, option_map};
 ghost use Rattle.wgsl_rules.specs.types.Types.{within};
 ghost use Rattle.wgsl_rules.specs.types.Inner.{inner_of};
@@ -13,11 +13,11 @@ use wgsl_syntax::layer::Layer;
 use wgsl_syntax::scalar::Scalar;
 use wgsl_syntax::texture::{SamplerType, TextureType};
 
-/// A type, by what it is made of.
+/// The form of a type, with the types inside borrowed.
 #[derive(Clone, Copy)]
 pub enum Form<'a> {
     Scalar(Scalar),
-    /// The number of elements, if it is known, and their type.
+    /// The number of elements, or None if runtime-sized, and their type.
     Array(Option<usize>, &'a Type),
     /// The number of components, and their type.
     Vector(u8, &'a Type),
@@ -35,7 +35,7 @@ pub enum Form<'a> {
 }
 
 impl Type {
-    /// What the type is made of.
+    /// The form of the type.
     pub fn form(&self) -> Form<'_>
         ensures { view self.now ≡ form_view result }
     {
@@ -65,7 +65,7 @@ impl Type {
         }
     }
 
-    /// The scalar that the type is.
+    /// The scalar, if the type is one.
     pub fn scalar(&self) -> Option<Scalar>
         ensures { result ≡ scalar_of (view self.now) }
     {
@@ -87,8 +87,8 @@ impl Type {
         }
     }
 
-    /// The type inside: what an array, a vector, a matrix, an atomic, a pointer, a reference or a binding array is of, and
-    /// of all else the type itself.
+    /// The type inside an array, a vector, a matrix, an atomic, a pointer, a reference or a binding array; any other
+    /// type itself.
     pub fn inner(&self) -> &Type
         ensures { view result.now ≡ inner_of (view self.now) }
     {
@@ -105,7 +105,7 @@ impl Type {
     }
 }
 
-/// The type that the layer makes of an element.
+/// The type with that layer around an element.
 pub fn around(alloc: Global, layer: Layer, element: Type) -> Result<Type, AllocError>
     ensures { IfOk result (λ t. view t ≡ within layer (view element)) }
 {

@@ -1,4 +1,4 @@
-// What kind of type one is.
+// Kinds of types.
 ghost use Rattle.std.specs.Prelude.{◌≡◌, ◌↔◌, IsTrue};
 ghost use Rattle.wgsl_syntax.specs.declared.scalar.Scalar.TheVariants.{Bool, AbstractInt, I32, U32, F32, I64, U64, F64};
 ghost use Rattle.wgsl_rules.specs.types.Types.{scalar};
@@ -11,28 +11,28 @@ use crate::ty::form::Form;
 use wgsl_syntax::scalar::Scalar;
 
 impl Type {
-    /// Whether it is one of the scalars (WGSL, "Scalar Types").
+    /// Whether it is a scalar (WGSL, "Scalar Types").
     pub fn is_scalar(&self) -> bool
         ensures { IsTrue result ↔ IsScalar (view self.now) }
     {
         matches!(self.form(), Form::Scalar(_))
     }
 
-    /// Whether it is a scalar that is a number: an integer or a float.
+    /// Whether it is a numeric scalar: an integer or a float.
     pub fn is_numeric(&self) -> bool
         ensures { IsTrue result ↔ IsNumericScalar (view self.now) }
     {
         matches!(self.form(), Form::Scalar(scalar) if scalar.is_numeric())
     }
 
-    /// Whether it is a scalar that is an integer (WGSL, "Integer Types"), also an abstract one.
+    /// Whether it is an integer scalar (WGSL, "Integer Types"), concrete or abstract.
     pub fn is_integer(&self) -> bool
         ensures { IsTrue result ↔ IsIntegerScalar (view self.now) }
     {
         matches!(self.form(), Form::Scalar(scalar) if scalar.is_integer())
     }
 
-    /// Whether it is a scalar that is a float (WGSL, "Floating Point Types"), also an abstract one.
+    /// Whether it is a float scalar (WGSL, "Floating Point Types"), concrete or abstract.
     pub fn is_float(&self) -> bool
         ensures { IsTrue result ↔ IsFloatScalar (view self.now) }
     {
@@ -49,8 +49,8 @@ impl Type {
         }
     }
 
-    /// Whether it is abstract (WGSL, "Abstract Numeric Types"): an abstract number, or an array, a vector or a matrix of
-    /// an abstract type.
+    /// Whether it is abstract (WGSL, "Abstract Numeric Types"): an abstract number, or an array, a vector or a matrix
+    /// of an abstract type.
     pub fn is_abstract(&self) -> bool
         ensures { IsTrue result ↔ IsAbstract (view self.now) }
     {
@@ -70,8 +70,8 @@ impl Type {
         !self.is_abstract()
     }
 
-    /// Whether it can be stored (WGSL, "Storable Types"): concrete, and a scalar, a struct, an array, a vector, a matrix
-    /// or an atomic.
+    /// Whether it can be stored (WGSL, "Storable Types"): concrete, and a scalar, a struct, an array, a vector, a
+    /// matrix or an atomic.
     pub fn is_storable(&self) -> bool
         ensures { IsTrue result ↔ IsStorable (view self.now) }
     {

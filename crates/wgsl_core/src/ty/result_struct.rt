@@ -1,4 +1,4 @@
-// The structs that `frexp` and `modf` give, recognised field by field.
+// The structs that `frexp` and `modf` return, recognised field by field.
 ghost use Rattle.std.specs.Prelude.{◌≡◌, ◌↔◌, IsTrue, Option, Some};
 ghost use Rattle.wgsl_syntax.specs.declared.result_struct.ResultStruct.{ResultStruct as ResultName};
 ghost use Rattle.wgsl_rules.specs.types.Types.{scalar, vec};
@@ -13,7 +13,7 @@ use wgsl_syntax::result_struct::{ResultFunction, ResultPrecision, ResultShape, R
 use wgsl_syntax::scalar::Scalar;
 
 impl StructType {
-    /// Which of the structs that `frexp` and `modf` give it is, in name, members and attributes.
+    /// Which struct that `frexp` or `modf` returns it is, by its name, members and attributes; None if it is none.
     pub fn result_struct(&self) -> Option<ResultStruct>
         ensures { (r : ResultName) → (result ≡ Some r)
             ↔ (struct_type (struct_view self.now) ≡ result_type r) }
@@ -36,7 +36,7 @@ impl StructType {
     }
 }
 
-/// The shape and the float of a float, or of a vector of floats, that `frexp` and `modf` take.
+/// The shape and the precision of a type, if `frexp` and `modf` take it.
 pub fn shaped_float(ty: &Type) -> Option<(ResultShape, ResultPrecision)>
     ensures { result ≡ shape_in (view ty.now) }
 {
@@ -125,7 +125,7 @@ fn is_second(member: &StructMemberType, result_struct: ResultStruct) -> bool
     }
 }
 
-/// The scalar that the function takes.
+/// The scalar with the precision.
 pub fn float_in(precision: ResultPrecision) -> Scalar
     ensures { result ≡ float_of precision }
 {
@@ -136,7 +136,7 @@ pub fn float_in(precision: ResultPrecision) -> Scalar
     }
 }
 
-/// The scalar of the exponent that `frexp` gives.
+/// The scalar inside the exponent that `frexp` returns.
 pub fn exponent_in(precision: ResultPrecision) -> Scalar
     ensures { result ≡ exponent_of precision }
 {
@@ -146,7 +146,7 @@ pub fn exponent_in(precision: ResultPrecision) -> Scalar
     }
 }
 
-/// Whether a member has this name, this shape of this scalar, and no attributes.
+/// Whether a member has this name, this shape and this scalar, and no attributes.
 fn is_plain(member: &StructMemberType, name: &str, shape: ResultShape, of: Scalar) -> bool
     ensures { IsTrue result ↔ (member_view member.now ≡ plain name.now (shaped shape (scalar of))) }
 {
@@ -167,7 +167,7 @@ fn has_shape(ty: &Type, shape: ResultShape, of: Scalar) -> bool
     }
 }
 
-/// Whether the type is the vector with that many components of a scalar.
+/// Whether the type is the vector with that many components of type `of`.
 pub fn is_vector_of(ty: &Type, components: u8, of: Scalar) -> bool
     ensures { IsTrue result ↔ (view ty.now ≡ vec components (scalar of)) }
 {

@@ -4,7 +4,7 @@ use Rattle.wgsl_rules.proofs.conversion.Walks.{Ancestor}
 use Rattle.wgsl_core.specs.internal.Nodes.{node_view}
 use Rattle.wgsl_core.proofs.conversion.walk.Given as goal
 
--- what was met is as many parents above the target, and the source stands above it, if it does above the target
+-- the node met is `steps` parents above the target; if the source is above the target, it is above the node met
 abbrev pub invariant-loop-met : goal.invariant-loop-met
 invariant-loop-met l = record {
   climbed : Ancestor (node_view l.met) (node_view l.target) l.steps;
