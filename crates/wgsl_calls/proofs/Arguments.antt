@@ -37,7 +37,7 @@ pub not_stuck : (t u : WgslType) (us : List WgslType) (r : Option WgslType) → 
 not_stuck t u us (Some a) c h = inr (c, h)
 not_stuck t u us None c h = All-cons (λ v. ConvertsTo v t) u us c h
 
--- what is found of the rest is found of all
+-- the misfit among the rest is the misfit among all
 abbrev pub Onward : List StructMemberType → List «Type» → List StructMemberType → List «Type» → Type 0
 Onward ms us ns vs =
     (r : Option (WgslType × WgslType)) → IsMisfitAt (members_view ms) (map view us) r → IsMisfitAt (members_view ns) (map view vs) r
@@ -57,7 +57,7 @@ passed m u ms us all args k p q ns vs on r h = on r (at r h)
     at None h = subst (λ xs. IsMisfitAt (members_view xs) (map view args) None) (sym p)
         (subst (λ xs. IsMisfitAt (members_view (m ∷ ms)) (map view xs) None) (sym q) (c, h))
 
--- the first that doesn't convert
+-- the first argument that doesn't convert
 pub stopped : (m : StructMemberType) (u : «Type») (ms : List StructMemberType) (us : List «Type») (all : List StructMemberType) (args : List «Type») →
     ¬ ConvertsTo (view u) (view (out-StructMemberType m).ty) → all ≡ m ∷ ms → args ≡ u ∷ us →
     IsMisfitAt (members_view all) (map view args) (Some (view (out-StructMemberType m).ty, view u))
@@ -82,7 +82,7 @@ pub inside_at : (args : List «Type») (i : ℕ) (x : «Type») → i < length a
     inside_from args i ≡ inner_of (view x) ∷ inside_from args (i + 1)
 inside_at args i x lt is = ap (map inner_of) (argument_at args i x lt is)
 
--- an answer in the place of an equal one
+-- an answer may be replaced by an equal one
 pub left_common_at : (ts : List WgslType) (r s : Option (Bor «Type»)) → r ≡ s →
     IsLeftCommon ts (option_map (λ t. view t.now) r) → IsLeftCommon ts (option_map (λ t. view t.now) s)
 left_common_at ts r s e h = subst (λ x. IsLeftCommon ts (option_map (λ t. view t.now) x)) e h
@@ -98,7 +98,7 @@ misfit_is_no_fit (member name u size align ms) [] t a h k = h
 misfit_is_no_fit (member name u size align ms) (v ∷ us) t a h k =
     elim h [ inl n ↦ n.0 k.0 | inr m ↦ misfit_is_no_fit ms us t a m.1 k.1 ]
 
--- a test that holds, and one that fails
+-- what follows from a test that holds, and from one that fails
 pub holds : {P : Type 0} {b : Bool} → (IsTrue b ↔ P) → b ≡ true → P
 holds e t = e.0 t
 

@@ -50,7 +50,7 @@ pub exchange_is : (a b t : WgslType) → a ≡ t → b ≡ scalar Bool → two (
 unfolding exchange_struct
 exchange_is a b t e f = ap₂ (λ a b. two (codes "__atomic_compare_exchange_result") (codes "old_value") a (codes "exchanged") b) e f
 
--- one more member
+-- with one more member
 pub grown : (xs ys zs : List Member) (m : Member) → ys ≡ xs ++ m ∷ [] → xs ≡ zs → ys ≡ zs ++ m ∷ []
 grown xs ys zs m e f = e ∙ ap (λ l. l ++ m ∷ []) f
 

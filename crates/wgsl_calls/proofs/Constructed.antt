@@ -1,4 +1,4 @@
--- What is made of one argument and of several, as the answers of the calls below it say.
+-- The answer of a constructor from the answers of the functions that it calls, for one argument and for several.
 use Rattle.std.proofs.Common.{string_bytes, ◌≡◌, ◌≢◌, ℕ, ◌≤◌, List, [], ◌∷◌, length, map, Option, Some, None, Result, Ok, Err, Bool, IsTrue, ◌↔◌, refl, sym, ap, subst, ◌∙◌, inl, inr}
 use native.Mathlib.Omega.{arith}
 use Rattle.std.proofs.lemmas.List.{length-map}
@@ -41,7 +41,7 @@ of_elements (a ∷ args) n k t e le p q r h =
     at (Err (fails.Error x)) h = inr (h.0, h.1, ap Err h.2)
     at (Err (fails.Memory x)) h = h
 
--- what is made of several arguments
+-- constructors with several arguments
 pub several_typed : (name : List ℕ) (n : ℕ) (t : WgslType) (args : List «Type») (r : Result WgslType Refusal) → 2 ≤ length args →
     IsTypedVectorOfSeveral name n (map view args) t r → IsTypedVector name n (map view args) t r
 several_typed name n t [] r le h = absurd (omega arith)
@@ -78,7 +78,7 @@ pub of_several_members : (name : List ℕ) (ms : Members) (args : List «Type»)
 of_several_members name ms [] r le h = absurd (omega arith)
 of_several_members name ms (a ∷ args) r le h = h
 
--- one argument that isn't a matrix is what all arguments have in common
+-- a single argument that isn't a matrix is the common type of the arguments
 pub one_typed : (name : List ℕ) (c n : ℕ) (t a : WgslType) → ¬ IsMatrix a → (r : Result WgslType Refusal) →
     IsTypedMatrixOf name c n 1 t a r → IsTypedMatrixOfOne name c n a t r
 one_typed name c n t (scalar s) m r h = (Some (scalar s), refl, h)
@@ -213,7 +213,7 @@ pub filled : (s : StructType) (args : List «Type») → length ((out-StructType
     AllFit (members_view ((out-StructType s).members).items) (map view args) → Filled s args (Ok tt)
 filled s args n h = inl (right_number s args n, inl (subst (λ ms. AllFit ms (map view args)) (sym (members_in s)) h, refl))
 
--- what the constructor of a name makes
+-- the answer of the constructor with a name
 pub built : (k : Option Constructor) (call : Signature) → k ≡ constructor_of call.name → (r : Result WgslType Refusal) →
     IsBuilt k call r → IsConstructorAnswer call r
 unfolding IsConstructorAnswer

@@ -39,7 +39,7 @@ whole_begins [] (t ∷ ts) h = absurd h
 whole_begins (s ∷ ss) [] h = absurd h
 whole_begins (s ∷ ss) (t ∷ ts) h = let k = whole_begins ss ts h.1 in (omega (arith, k.0), (h.0, k.1))
 
--- all are of their shapes if they begin so and are as many
+-- all arguments have their shapes exactly if they are as many and the first ones have theirs
 pub as_many : (ss : List Shape) (ts : List «Type») → AllAre ss (map view ts) ↔ (length ts ≡ length ss) × BeginAs ss (map view ts)
 as_many ss ts = (
   λ h. let k = whole_begins ss (map view ts) h in (sym (length-map ts view) ∙ k.0, k.1),

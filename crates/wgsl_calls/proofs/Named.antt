@@ -1,4 +1,4 @@
--- A call by its name: what it answers, the choice that this is, and that it is never out of memory.
+-- A call by its name: its answer, that this is the least candidate's, and when it is never out of memory.
 use Rattle.std.proofs.Common.{◌≡◌, List, [], Option, Some, None, Result, Ok, Err, refl, subst, option_map}
 use Rattle.wgsl_rules.specs.types.Types.{WgslType}
 use Rattle.wgsl_rules.specs.types.Signatures.{Parameter, Signature}

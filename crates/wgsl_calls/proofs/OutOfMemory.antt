@@ -1,4 +1,4 @@
--- Where out of memory may stand for an answer.
+-- When out of memory may stand for an answer.
 use Rattle.std.proofs.Common.{◌≡◌, List, [], ◌∷◌, Option, None, Result, Ok, Err, inl, inr, refl, sym, subst, Bool, true, false, cond}
 use Rattle.wgsl_syntax.specs.declared.scalar.Scalar.TheVariants.{F32}
 use Rattle.wgsl_rules.specs.types.Types.{Layer, array_of, vec_of, mat_of, WgslType, scalar, within}
@@ -21,7 +21,7 @@ use Rattle.wgsl_calls.specs.internal.Answers.{IsMet, Answered}
 abbrev Answer : Type 0
 Answer = Result (Option WgslType) Refusal
 
--- what is met is an answer
+-- a result that meets an answer of P satisfies P
 pub by_answer : (P : Answer → Type 0) (p : Option (List Parameter)) (a : Answer) (r : Result (Option «Type») Fail) → P a → IsMet a r → Answered P p r
 by_answer P p a (Ok t) k e = subst P e k
 by_answer P p a (Err (fails.Error x)) k e = subst P e k
@@ -32,7 +32,7 @@ by_other P Q p (Ok t) f k = f _ k
 by_other P Q p (Err (fails.Error x)) f k = f _ k
 by_other P Q p (Err (fails.Memory m)) f k = λ n. let j = k n in (j.0, f j.0 j.1, j.2)
 
--- the row that takes the call answers it, or the rows after it do
+-- the first row that takes the call answers it
 pub first_row : (row : Row) (rows : List Row) (c : Signature) (p : Option (List Parameter)) (r : Result (Option «Type») Fail) → Fits row c → Answered (IsReturnType (return_type_of row) c) p r →
     Answered (IsAnswerOf (row ∷ rows) c) p r
 first_row row rows c p r f k = by_other (IsReturnType (return_type_of row) c) (IsAnswerOf (row ∷ rows) c) p r (λ a o. inl (f, o)) k
@@ -52,7 +52,7 @@ matrix_before : (b : Bool) (l : Layer) (t u : WgslType) → IsLeaf (cond b (with
 matrix_before true l t u h = h
 matrix_before false l t u h = h
 
--- what becomes a leaf type is one
+-- a type whose concrete type is a leaf type is one
 pub leaf_before : (t : WgslType) → IsLeaf (concretized t) → IsLeaf t
 leaf_before (scalar s) h = tt
 leaf_before (within (mat_of c r) t) h = matrix_before (is_abstract t) (mat_of c r) (scalar F32) t h

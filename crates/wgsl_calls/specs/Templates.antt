@@ -1,4 +1,4 @@
--- What the templates stand for: the type that each makes, or the type that it is of.
+-- How the rules see the templates: as the type built from each, or as the type inside.
 use Rattle.wgsl_syntax.specs.declared.texture.TextureType.{TextureType}
 use Rattle.wgsl_rules.specs.types.Types.{WgslType, pointer, binding_array, array}
 use Rattle.wgsl_core.specs.View.{view}
@@ -28,11 +28,11 @@ mat_view t = view t.ty
 abbrev pub ptr_view : PtrTemplate → WgslType
 ptr_view t = pointer t.space (view t.ty) t.access
 
--- the type that a value's bits are reinterpreted as
+-- the type of the result
 abbrev pub bitcast_view : BitcastTemplate → WgslType
 bitcast_view t = view t.ty
 
--- the type that an atomic is of
+-- the type inside an atomic
 abbrev pub atomic_view : AtomicTemplate → WgslType
 atomic_view t = view t.ty
 

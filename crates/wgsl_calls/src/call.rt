@@ -45,9 +45,9 @@ use wgsl_syntax::call::{ReturnType, Row};
 use wgsl_syntax::result_struct::{ResultFunction, ResultStruct};
 
 /// The type of a call of a built-in function (WGSL, "Built-in Functions"), by its name, its template if it has
-/// one, and the types of its arguments; None if it gives no value. `Signature` with all three refuses a call that
-/// no row of the table takes, and one whose arguments lack the common type that its row gives; `bitcast` refuses its
-/// template as `BitcastTemplate::parse` does.
+/// one, and the types of its arguments; None if it returns no value. `Signature` with all three refuses a call that
+/// no row of the table takes, and one whose arguments lack the common type that its row returns. `bitcast` refuses
+/// its template as `BitcastTemplate::parse` does.
 #[tactic(auto, using(crate::proofs::Named::row_answered, crate::proofs::Named::least_answered, wgsl_rules::proofs::Laws::one_choice))]
 pub fn type_builtin_fn(
     alloc: Global,
@@ -74,7 +74,7 @@ pub fn type_builtin_fn(
     )
 }
 
-/// The answer of a call: by the rows under its name, or if there are none the refusal.
+/// The answer of a call by the rows of its name, or the refusal if there are none.
 fn answer(alloc: Global, call: Call<'_>) -> Result<Option<Type>, Fail>
     ensures { Answered (IsCallAnswer (signature_of call.entry)) (template_of call.entry) result }
 {
@@ -84,7 +84,7 @@ fn answer(alloc: Global, call: Call<'_>) -> Result<Option<Type>, Fail>
     }
 }
 
-/// The answer by the rows under a name: of the first that takes the call.
+/// The answer of the first row that takes the call.
 fn by_rows(alloc: Global, rows: Rows, call: Call<'_>) -> Result<Option<Type>, Fail>
     ensures { Answered (IsAnswerOf (rows_view rows) (signature_of call.entry))
         (template_of call.entry) result }
@@ -123,7 +123,6 @@ fn return_type(row: Row) -> ReturnType
     }
 }
 
-/// The refusal of a call.
 fn refuse(alloc: Global, call: Call<'_>) -> Result<Option<Type>, Fail>
     ensures { IsMet (Err (signature (signature_of call.entry))) result }
 {
@@ -131,7 +130,6 @@ fn refuse(alloc: Global, call: Call<'_>) -> Result<Option<Type>, Fail>
     Err(Fail::Error(Error::Signature(refused)))
 }
 
-/// What a row gives.
 fn by_return_type(
     alloc: Global,
     return_type: ReturnType,
@@ -166,7 +164,7 @@ fn by_return_type(
     }
 }
 
-/// The type that is found, or if there is none the refusal.
+/// The type found, or the refusal if there is none.
 fn given(
     alloc: Global,
     found: Option<ResolvedType<'_>>,
@@ -202,7 +200,7 @@ fn concrete_element(alloc: Global, element: Element<'_>) -> Result<Type, AllocEr
     }
 }
 
-/// The struct that `frexp` or `modf` gives for a type, if it takes that.
+/// The struct that `frexp` or `modf` returns for a type that it takes.
 fn split_result(function: ResultFunction, ty: Option<&Type>) -> Option<ResultStruct>
     ensures { IsResultFor function (option_map (λ t. view t.now) ty.entry)
         (option_map result_type result) }
@@ -215,7 +213,7 @@ fn split_result(function: ResultFunction, ty: Option<&Type>) -> Option<ResultStr
     })
 }
 
-/// What `frexp` or `modf` gives.
+/// The type that `frexp` or `modf` returns.
 #[tactic(auto, using(crate::proofs::OutOfMemory::no_leaf_result))]
 fn split(alloc: Global, of: Option<ResultStruct>, call: Call<'_>) -> Result<Option<Type>, Fail>
     ensures { IsMet (given_for (signature_of call.entry) (option_map result_type of)) result }
@@ -226,7 +224,7 @@ fn split(alloc: Global, of: Option<ResultStruct>, call: Call<'_>) -> Result<Opti
     }
 }
 
-/// What an atomic exchange of a type gives.
+/// The type that an atomic exchange returns.
 #[tactic(auto, using(crate::proofs::OutOfMemory::no_leaf_exchange))]
 fn exchanged(alloc: Global, ty: Option<&Type>, call: Call<'_>) -> Result<Option<Type>, Fail>
     ensures { IsMet (given_for (signature_of call.entry)
@@ -251,7 +249,7 @@ fn positions(alloc: Global) -> Result<Option<Type>, Fail>
     Ok(Some(hit_positions(alloc)?))
 }
 
-/// What `bitcast` takes its argument's bits as.
+/// The type that `bitcast` returns: that of its template.
 fn by_template(alloc: Global, call: Call<'_>) -> Result<Option<Type>, Fail>
     ensures { Answered (IsFromTemplate (signature_of call.entry) (template_of call.entry))
         (template_of call.entry) result }

@@ -28,7 +28,7 @@ use wgsl_core::signature::{CallSignature, TpltParam};
 use wgsl_core::ty::Type;
 use wgsl_syntax::scalar::Scalar;
 
-/// What a constructor makes.
+/// A constructor, by what it makes.
 #[derive(Clone, Copy)]
 enum Constructor {
     Array,
@@ -68,7 +68,7 @@ fn constructor_named(name: &str) -> Option<Constructor>
     }
 }
 
-/// Whether a constructor has the name (WGSL, "Value Constructor Built-in Functions"): `array`, a concrete scalar, or a
+/// Whether the name is a constructor's (WGSL, "Value Constructor Built-in Functions"): `array`, a concrete scalar, or a
 /// vector or a matrix without its component type.
 pub fn is_ctor(name: &str) -> bool
     ensures { IsTrue result ↔ IsSome (constructor_of name.now) }
@@ -76,17 +76,17 @@ pub fn is_ctor(name: &str) -> bool
     constructor_named(name).is_some()
 }
 
-/// The type that a constructor makes of its arguments (WGSL, "Value Constructor Built-in Functions").
+/// The type that a constructor returns for its arguments (WGSL, "Value Constructor Built-in Functions").
 ///
-/// `Signature` refuses the name of no constructor, and of a scalar a call with a template, with several arguments or
-/// with one that is no scalar. Arrays, vectors and matrices read their template first, if they have one, and refuse
+/// `Signature` refuses a name that is no constructor's. For a scalar, it refuses a template, several arguments, and an
+/// argument that is no scalar. Arrays, vectors and matrices read their template first, if they have one, and refuse
 /// it as its `parse` does. Then they refuse with:
-/// - `TemplateArgs`, arguments of an array whose template has no count;
-/// - `Conversion`, an argument, with the type that it should have been; if a matrix has a template, and no single
-///   matrix as its argument, what is inside the arguments' common type, with the template's type;
-/// - `ParamCount`, with the constructor's name, the number that it takes (for vectors: of components) and the number
-///   of arguments;
-/// - `Builtin`, with what is wrong with the arguments, of which there may be one or none.
+/// - `TemplateArgs`: there are arguments, but the template of an array has no count;
+/// - `Conversion`: an argument doesn't convert to the type beside it. For a matrix with a template, whose argument is
+///   not a single matrix, the error has the type inside the arguments' common type, and the template's type;
+/// - `ParamCount`: the constructor's name, the number that it takes (for vectors: of components), and the number of
+///   arguments;
+/// - `Builtin`: the arguments are wrong in another way, which the message says; there may be one argument or none.
 pub fn type_ctor(
     alloc: Global,
     name: &str,

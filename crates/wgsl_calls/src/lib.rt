@@ -1,4 +1,4 @@
-//! What expressions are typed as by the names that they call: constructors, built-in functions, and their templates.
+//! The types of calls: constructors, built-in functions, and their templates.
 #![tactic(auto)]
 
 pub mod call;

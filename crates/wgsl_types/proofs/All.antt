@@ -1,4 +1,4 @@
--- Converting each of a list.
+-- Converting each value of a list.
 use Rattle.std.proofs.Common.{◌≡◌, ℕ, ◌+◌, ◌<◌, List, [], ◌∷◌, ◌++◌, length, take, drop, get_or, Option, Some, None, refl, sym, ap, ◌∙◌, add-one, drop-cons}
 use Rattle.std.specs.Prelude.{Result, IfOk, IfSome, option_and_then, option_map}
 use Rattle.std.proofs.lemmas.Option.{IfSome_then}
@@ -36,6 +36,6 @@ module _ {T V : Type 0} (to : T → WgslType → Option V) (t : WgslType) where
       let d : drop i xs ≡ x ∷ drop (i + 1) xs = rw (add-one, drop-cons xs i x, ← e) refl in
       none_at (take i xs) ys x (drop (i + 1) xs) h k ∙ ap (all_to to t) (ap (λ z. take i xs ++ z) (sym d) ∙ take-append-drop i xs)
 
--- what follows from what is said of the value in an Ok of a Some
+-- a consequence of a property of the value in an Ok of a Some
 pub IfAnswered_then : {X E : Type 0} (r : Result (Option X) E) {P Q : X → Type 0} → ((x : X) → P x → Q x) → IfOk r (λ o. IfSome o P) → IfOk r (λ o. IfSome o Q)
 IfAnswered_then r {P} {Q} f h = IfOk-weaker r (λ o. IfSome o P) (λ o. IfSome o Q) (λ o p. IfSome_then o p f) h

@@ -1,4 +1,4 @@
--- Converting two values to the common type of theirs.
+-- Converting two values to their common type.
 use Rattle.std.proofs.Common.{◌≡◌, Option, Result, subst}
 use Rattle.std.specs.Prelude.{IfOk}
 use Rattle.std.proofs.lemmas.Result.{IfOk-weaker}

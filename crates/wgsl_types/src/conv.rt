@@ -1,4 +1,4 @@
-//! Conversion of types and of what has a type (WGSL, "Conversion Rank").
+//! Conversion of types, and of values that have a type (WGSL, "Conversion Rank").
 ghost use Rattle.std.specs.Prelude.{◌≡◌, Option, IfOk, IfSome, All, option_map, option_and_then, map};
 ghost use Rattle.wgsl_rules.specs.types.Types.{WgslType};
 ghost use Rattle.wgsl_rules.specs.conversion.Common.{IsCommon, IsLeftCommon};
@@ -13,7 +13,7 @@ pub use wgsl_core::conversion::value::Convert;
 pub use wgsl_core::conversion::{conversion_rank, convert_ty, rank_steps};
 use wgsl_core::ty::Type;
 
-/// Both values converted to the common type of their types; None if there is none, or one of them doesn't convert.
+/// Both values converted to their common type; None if there is none, or one of them doesn't convert.
 pub fn convert<T: Convert>(alloc: Global, a: &T, b: &T) -> Result<Option<(T, T)>, AllocError>
 where
     T: Drop,
@@ -29,7 +29,7 @@ where
     both
 }
 
-/// As `convert`, if the type of `a` is at hand.
+/// The same as `convert`, given the type of `a`.
 fn convert_with_type<T: Convert>(
     alloc: Global,
     a: &T,
@@ -76,8 +76,8 @@ where
     Ok(Some((x, y)))
 }
 
-/// Both values with what is inside converted to the common type of their inner types; None if there is none, or one of
-/// them doesn't convert.
+/// Both values converted by `convert_inner_to` to the common type of their inner types; None if there is none, or one
+/// of them doesn't convert.
 pub fn convert_inner<T: Convert, U: Convert>(
     alloc: Global,
     a: &T,
@@ -97,7 +97,7 @@ where
     both
 }
 
-/// As `convert_inner`, if the inner type of `a` is at hand.
+/// The same as `convert_inner`, given the inner type of `a`.
 fn convert_inner_with_type<T: Convert, U: Convert>(
     alloc: Global,
     a: &T,
@@ -118,7 +118,7 @@ where
     both
 }
 
-/// Both values with what is inside converted to a type, if there is one; None if one of them doesn't convert.
+/// Both values converted by `convert_inner_to` to a type, if there is one; None if one of them doesn't convert.
 fn convert_both_inner_to<T: Convert, U: Convert>(
     alloc: Global,
     a: &T,
@@ -144,7 +144,7 @@ where
     Ok(Some((x, y)))
 }
 
-/// Every value converted to a type, in order; None if one doesn't convert.
+/// All values converted to a type, in order; None if one doesn't convert.
 pub fn convert_all_to<T: Convert>(
     alloc: Global,
     values: &[T],
@@ -167,7 +167,7 @@ where
     Ok(Some(converted))
 }
 
-/// Every value with what is inside converted to a type, in order; None if one doesn't convert.
+/// All values converted by `convert_inner_to` to a type, in order; None if one doesn't convert.
 pub fn convert_all_inner_to<T: Convert>(
     alloc: Global,
     values: &[T],
@@ -188,8 +188,8 @@ where
     Ok(Some(converted))
 }
 
-/// Every value converted to the common type of their types, in order; None if there is none, also for an empty list, or if one
-/// doesn't convert.
+/// All values converted to their common type, in order; None if there is none, as for an empty list, or if one doesn't
+/// convert.
 pub fn convert_all<T: Convert>(alloc: Global, values: &[T]) -> Result<Option<Vec<T>>, AllocError>
 where
     T: Drop,

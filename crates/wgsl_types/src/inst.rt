@@ -1,2 +1,2 @@
-//! Instances: literals, as far as their types and their texts go.
+//! Instances: literals, with their types and their texts.
 pub use wgsl_core::literal::{Instance, LiteralInstance};

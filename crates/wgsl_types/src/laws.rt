@@ -1,4 +1,4 @@
-//! What follows from the rules, to be cited in proofs.
+//! Laws that follow from the rules, for callers to cite in proofs.
 pub use wgsl_calls::call::{names_match_table, names_sorted};
 pub use wgsl_core::laws::{
     common_any_order, conversion_order, matrix_columns, rank_adds, rank_names_target,

@@ -1,4 +1,4 @@
-//! WGSL's types and the rules on them, for users: every public item under the module that it belongs to.
+//! WGSL's types and the rules on them: every public item, in the module of its topic.
 #![tactic(auto)]
 
 pub mod builtin;

@@ -1,4 +1,4 @@
-//! Types, and what has a type.
+//! Types, and values that have a type.
 pub use wgsl_core::conversion::typed::Ty;
 pub use wgsl_core::ty::form::Form;
 pub use wgsl_core::ty::{StructMemberType, StructType, Type, try_from_type};

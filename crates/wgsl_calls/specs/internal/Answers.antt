@@ -1,4 +1,4 @@
--- What a call in code answers, and when it may be out of memory.
+-- How the rules see the answer of a call, and when the call may be out of memory.
 use Rattle.std.specs.Prelude.{◌≡◌, List, Option, Some, None, Result, Ok, Err, option_map}
 use Rattle.wgsl_rules.specs.types.Types.{WgslType}
 use Rattle.wgsl_rules.specs.types.Kinds.{IsLeaf}
@@ -18,7 +18,7 @@ signature_of c = call_view (c.name).now c.template (c.args).now
 abbrev pub template_of : Call → Option (List Parameter)
 template_of c = (signature_of c).template
 
--- Out of memory may stand for the answer: not for no value, nor for a leaf type.
+-- Out of memory may stand for this answer: any but no value and leaf types.
 abbrev pub MayBeOutOfMemory : Result (Option WgslType) Refusal → Type 0
 MayBeOutOfMemory (Err e) = Unit {0}
 MayBeOutOfMemory (Ok None) = ⊥
@@ -30,7 +30,7 @@ IsMet a (Ok t) = a ≡ Ok (option_map view t)
 IsMet a (Err (fails.Error e)) = a ≡ Err (refusal e)
 IsMet a (Err (fails.Memory m)) = MayBeOutOfMemory a
 
--- The result is an answer by P; without a template, out of memory stands for one that it may stand for.
+-- The result satisfies P. Without a template, out of memory stands for an answer of P that it may stand for.
 abbrev pub Answered : (Result (Option WgslType) Refusal → Type 0) → Option (List Parameter) → Result (Option «Type») Fail → Type 0
 Answered P p (Ok t) = P (Ok (option_map view t))
 Answered P p (Err (fails.Error e)) = P (Err (refusal e))

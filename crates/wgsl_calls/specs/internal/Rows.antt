@@ -1,4 +1,4 @@
--- The rows under a name.
+-- The rows of a name.
 use Rattle.std.specs.Prelude.{List, [], ◌∷◌, Option, Some, None}
 use Rattle.wgsl_syntax.specs.declared.call.Row.{Row}
 use Rattle.wgsl_calls.specs.declared.call.rows.Rows.{Rows}

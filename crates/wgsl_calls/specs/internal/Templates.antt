@@ -1,4 +1,4 @@
--- What the names of textures in code stand for.
+-- How the rules see the names of textures in the code.
 use Rattle.wgsl_syntax.specs.declared.address.AccessMode.{AccessMode}
 use Rattle.wgsl_syntax.specs.declared.texel.TexelFormat.{TexelFormat}
 use Rattle.wgsl_syntax.specs.declared.texture.SampledType.{SampledType}
@@ -12,7 +12,7 @@ use Rattle.wgsl_calls.specs.declared.template.texture.StorageTexture.TheVariants
 use Rattle.wgsl_calls.specs.declared.template.texture.TextureName.{TextureName}
 use Rattle.wgsl_calls.specs.declared.template.texture.TextureName.TheVariants as names
 
--- the texture that is sampled so
+-- the texture with a sampled type
 abbrev pub sampled_view : SampledTexture → SampledType → TextureType
 sampled_view s.D1 = Sampled1D
 sampled_view s.D1Array = Sampled1DArray
@@ -24,7 +24,7 @@ sampled_view s.CubeArray = SampledCubeArray
 sampled_view s.Multisampled2D = Multisampled2D
 sampled_view s.Multisampled2DArray = Multisampled2DArray
 
--- the texture of such texels, accessed so
+-- the texture with a texel format and an access mode
 abbrev pub storage_view : StorageTexture → TexelFormat → AccessMode → TextureType
 storage_view t.D1 = Storage1D
 storage_view t.D1Array = Storage1DArray

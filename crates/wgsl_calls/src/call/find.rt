@@ -1,4 +1,4 @@
-// Where a built-in function stands among all, and its rows.
+// The index of a built-in function by its name, and its rows.
 ghost use Rattle.std.specs.Prelude.{◌≡◌, ◌↔◌, ◌≤◌, ℕ, Some, option_map};
 ghost use Rattle.wgsl_rules.specs.calls.Names.{IsNameAt, IsRising, call_names};
 ghost use Rattle.wgsl_rules.specs.calls.Table.{call_table, rows_named};
@@ -21,8 +21,8 @@ pub fn names_match_table()
     ensures { NamesMatchTable }
 {}
 
-/// The index of a built-in function (WGSL, "Built-in Functions") among their names in the order of the bytes, and the
-/// number of names that were compared with it.
+/// The index of a built-in function (WGSL, "Built-in Functions") in the sorted list of names, and the number of names
+/// that were compared with it.
 pub fn find_call(name: &str) -> (Option<usize>, u32)
     ensures index { (i : ℕ) → (result.0 ≡ Some i) ↔ IsNameAt call_names i name.now }
     ensures few { result.1 ≤ 8 }
@@ -34,7 +34,7 @@ pub fn find_call(name: &str) -> (Option<usize>, u32)
     }
 }
 
-/// The rows under a name.
+/// The rows of a name.
 pub fn rows_of(name: &str) -> Option<Rows>
     ensures { found_rows result ≡ rows_named name.now call_table }
 {
@@ -44,7 +44,7 @@ pub fn rows_of(name: &str) -> Option<Rows>
     }
 }
 
-/// The index of a name with the rows under it, and the number of names that were compared with it.
+/// The index and the rows of a name, and the number of names that were compared with it.
 fn search(name: &str) -> (Option<(usize, Rows)>, u32)
     ensures index { (i : ℕ) → (option_map (λ f. f.0) result.0 ≡ Some i)
         ↔ IsNameAt call_names i name.now }

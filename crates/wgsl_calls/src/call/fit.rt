@@ -40,7 +40,7 @@ fn has_template(call: Call<'_>) -> bool
     call.template.is_some()
 }
 
-/// Whether there are as many arguments, and each is what is asked for.
+/// Whether there are as many arguments as required, and each has its shape.
 #[tactic(auto, using(crate::proofs::Fitting::as_many))]
 fn are(arguments: Arguments, args: &[Type]) -> bool
     ensures { IsTrue result ↔ AllAre (shapes_of arguments) (map view args.now) }
@@ -60,7 +60,7 @@ fn count(arguments: Arguments) -> usize
     }
 }
 
-/// Whether the first arguments are what is asked for.
+/// Whether the first arguments have the required shapes.
 fn begin_as(arguments: Arguments, args: &[Type]) -> bool
     ensures { IsTrue result ↔ BeginAs (shapes_of arguments) (map view args.now) }
 {
@@ -89,7 +89,6 @@ fn first_are(shapes: &[Shape], args: &[Type]) -> bool
     true
 }
 
-/// Whether the first two arguments meet the condition.
 fn holds(condition: Condition, args: &[Type]) -> bool
     ensures { IsTrue result ↔ Holds condition (map view args.now) }
 {

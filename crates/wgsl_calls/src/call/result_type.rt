@@ -1,4 +1,4 @@
-// The structs that built-in functions give.
+// The structs that built-in functions return.
 ghost use Rattle.std.specs.Prelude.{◌≡◌, [], ◌∷◌, ◌++◌, IfOk, codes, map};
 ghost use Rattle.wgsl_syntax.specs.declared.scalar.Scalar.TheVariants.{F32};
 ghost use Rattle.wgsl_rules.specs.types.Types.{scalar, within, struct, no_members};
@@ -15,7 +15,7 @@ use wgsl_syntax::layer::Layer;
 use wgsl_syntax::result_struct::{ResultFunction, ResultShape, ResultStruct};
 use wgsl_syntax::scalar::Scalar;
 
-/// The struct that `frexp` or `modf` gives (WGSL, "frexp" and "modf").
+/// The struct that `frexp` or `modf` returns (WGSL, "frexp" and "modf").
 pub fn result_struct(alloc: Global, of: ResultStruct) -> Result<Type, AllocError>
     ensures { IfOk result (λ t. view t ≡ result_struct_of of) }
 {
@@ -32,7 +32,7 @@ pub fn result_struct(alloc: Global, of: ResultStruct) -> Result<Type, AllocError
     }
 }
 
-/// The struct that `atomicCompareExchangeWeak` gives (WGSL, "atomicCompareExchangeWeak").
+/// The struct that `atomicCompareExchangeWeak` returns (WGSL, "atomicCompareExchangeWeak").
 pub fn exchange_result(alloc: Global, ty: &Type) -> Result<Type, AllocError>
     ensures { IfOk result (λ t. view t ≡ exchange_struct (view ty.now)) }
 {
@@ -47,7 +47,7 @@ pub fn exchange_result(alloc: Global, ty: &Type) -> Result<Type, AllocError>
     )
 }
 
-/// The struct that a ray query gives of an intersection.
+/// The struct in which a ray query returns an intersection.
 pub fn ray_intersection(alloc: Global) -> Result<Type, AllocError>
     ensures { IfOk result (λ t. view t ≡ ray_intersection_struct) }
 {
@@ -56,7 +56,6 @@ pub fn ray_intersection(alloc: Global) -> Result<Type, AllocError>
     struct_of(alloc, "RayIntersection", members)
 }
 
-/// Adds the members of an intersection.
 fn push_intersection(members: &mut Vec<StructMemberType>, alloc: Global) -> Result<(), AllocError>
     requires { map member_view members.now.items ≡ [] }
     ensures { IfOk result (λ u.
@@ -99,14 +98,14 @@ pub fn hit_positions(alloc: Global) -> Result<Type, AllocError>
     around(alloc, Layer::Array(Some(3)), floats(alloc, Layer::Vec(3))?)
 }
 
-/// A layer of `f32`.
+/// A vector or a matrix of `f32`.
 fn floats(alloc: Global, layer: Layer) -> Result<Type, AllocError>
     ensures { IfOk result (λ t. view t ≡ within layer (scalar F32)) }
 {
     around(alloc, layer, Type::F32)
 }
 
-/// A shape of a scalar: the scalar itself, or a vector of it.
+/// The scalar itself, or a vector of it, by the shape.
 fn shaped_type(alloc: Global, shape: ResultShape, of: Scalar) -> Result<Type, AllocError>
     ensures { IfOk result (λ t. view t ≡ shaped shape (scalar of)) }
 {
@@ -153,7 +152,6 @@ fn push(
     Ok(())
 }
 
-/// A struct of that name and those members.
 fn struct_of(alloc: Global, name: &str, members: Vec<StructMemberType>) -> Result<Type, AllocError>
     ensures { IfOk result (λ t. view t
         ≡ struct name.now (members_of (map member_view members.items))) }

@@ -1,4 +1,4 @@
-// The rows under a name, and those that several names have, by the parts of the table of rules.
+// The rows of a name, and those that several names share, in the order of the rules' table.
 use crate::call::rows::Rows::{Either, Only};
 use wgsl_syntax::call::Arguments::{Nothing, One, Three, Two};
 use wgsl_syntax::call::ReturnType::{
@@ -14,7 +14,7 @@ use wgsl_syntax::call::Source::{Argument, Common, CommonOfThree, InnerOfInner, T
 use wgsl_syntax::call::TextureKind::{Depth, Sampled};
 use wgsl_syntax::scalar::Scalar::{Bool, F32, U32};
 
-/// The rows under a name, in their order; no name has more than two.
+/// The rows of a name, in order; no name has more than two.
 #[derive(Clone, Copy)]
 pub enum Rows {
     Only(Row),

@@ -1,4 +1,4 @@
-// Whether an argument is what a built-in function asks for.
+// Whether an argument has the shape that a built-in function requires.
 ghost use Rattle.std.specs.Prelude.{◌≡◌, ◌↔◌, IsTrue};
 ghost use Rattle.wgsl_rules.specs.types.Kinds.{IsScalarOrVector, IsStruct, IsAtomic};
 ghost use Rattle.wgsl_rules.specs.calls.Shapes.{IsOfKind, IsTextureOf, IsScalarOf, IsVectorOf, IsScalarOrVectorOf, IsSquareMatrix, IsFraction, IsTextureTypeOf, IsPointerToAtomic, IsPointerInWorkgroup, IsQuery, IsAccelerationStructure, Is};
@@ -12,7 +12,7 @@ use wgsl_syntax::call::{ScalarKind, Shape, TextureKind};
 use wgsl_syntax::scalar::Scalar;
 use wgsl_syntax::texture::TextureType;
 
-/// Whether the type is what the shape asks for.
+/// Whether the type has the shape.
 pub fn is(shape: Shape, ty: &Type) -> bool
     ensures { IsTrue result ↔ Is shape (view ty.now) }
 {
@@ -79,7 +79,7 @@ fn is_scalar_or_vector_of(kind: ScalarKind, ty: &Type) -> bool
     }
 }
 
-/// Whether the type is a scalar, or a vector of whatever type.
+/// Whether the type is a scalar, or a vector of any type.
 pub fn is_scalar_or_vector(ty: &Type) -> bool
     ensures { IsTrue result ↔ IsScalarOrVector (view ty.now) }
 {

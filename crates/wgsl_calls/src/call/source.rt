@@ -1,4 +1,4 @@
-// The types that the arguments of a built-in function give, before they are built.
+// The types that a built-in function finds from its arguments, before they are built.
 ghost use Rattle.std.specs.Prelude.{◌≡◌, map, option_map, option_and_then, slice_get};
 ghost use Rattle.wgsl_syntax.specs.TextureKind.{dimensions};
 ghost use Rattle.wgsl_rules.specs.types.Types.{vec};
@@ -17,7 +17,7 @@ use wgsl_syntax::layer::Layer;
 use wgsl_syntax::scalar::Scalar;
 use wgsl_syntax::texture::{TextureDimensions, TextureType};
 
-/// The type that the source names, if the arguments give one.
+/// The type that the source names, if the arguments have one.
 pub fn type_of_source(source: Source, args: &[Type]) -> Option<Element<'_>>
     ensures { IsSource source (map view args.now) (option_map element_view result) }
 {
@@ -57,7 +57,7 @@ pub fn argument(args: &[Type], index: usize) -> Option<&Type>
     args.get(index)
 }
 
-/// What is inside a type.
+/// The type inside a type.
 pub fn inner(ty: Option<&Type>) -> Option<&Type>
     ensures { option_map (λ t. view t.now) result
         ≡ option_map inner_of (option_map (λ t. view t.now) ty.entry) }
@@ -91,7 +91,7 @@ fn texture(ty: &Type) -> Option<TextureType>
     }
 }
 
-/// The scalar that a texture is sampled as.
+/// The sampled type of a texture.
 fn sampled<'a>(ty: Option<&'a Type>) -> Option<Element<'a>>
     ensures { option_map element_view result
         ≡ option_and_then sampled_in (option_map (λ t. view t.now) ty.entry) }
@@ -100,7 +100,7 @@ fn sampled<'a>(ty: Option<&'a Type>) -> Option<Element<'a>>
     Some(Element::Scalar(Scalar::from(sampled)))
 }
 
-/// The scalar that the channels of a texture are read as.
+/// The type that the channels of a texture are read as.
 fn channel<'a>(ty: Option<&'a Type>) -> Option<Element<'a>>
     ensures { option_map element_view result
         ≡ option_and_then channel_in (option_map (λ t. view t.now) ty.entry) }

@@ -1,4 +1,4 @@
-// The built-in functions in the order of their names, each with its rows.
+// The built-in functions, sorted by name, each with its rows.
 ghost use Rattle.std.specs.Prelude.{◌≡◌, map, length};
 ghost use Rattle.wgsl_rules.specs.calls.Names.{call_names};
 ghost use Rattle.wgsl_rules.specs.calls.Table.{call_table, rows_named};
@@ -37,7 +37,7 @@ use wgsl_syntax::call::TextureKind::{
 use wgsl_syntax::result_struct::ResultFunction::{Frexp, Modf};
 use wgsl_syntax::scalar::Scalar::{Bool, F32, I32, U32};
 
-/// The built-in functions (WGSL, "Built-in Functions"), in the order of the bytes of their names, each with its rows.
+/// The built-in functions (WGSL, "Built-in Functions"), sorted by the bytes of their names, each with its rows.
 pub fn built_ins() -> &'static [(&'static str, Rows)]
     ensures names { map (λ b. (b.0).now) result.now ≡ call_names }
     ensures rows { map (λ b. rows_view b.1) result.now

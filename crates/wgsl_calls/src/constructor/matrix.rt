@@ -167,7 +167,7 @@ fn untyped_matrix_of_common(
     matrix_out_of(alloc, c, r, name, number, inner, common)
 }
 
-/// The matrix of a component type, from arguments that are all columns or all components.
+/// The matrix of a component type, from arguments that are all columns, or all components.
 fn matrix_out_of(
     alloc: Global,
     c: u8,

@@ -11,9 +11,9 @@ use std::alloc::Global;
 use wgsl_core::error::{Error, Fail};
 use wgsl_core::ty::{StructMemberType, StructType, Type};
 
-/// Whether a struct is made of these arguments (WGSL, "Structures"): none, or one for each member, which converts to its
-/// type. Else `ParamCount` names the struct with the number of its members and the given one, and `ParamType` the first
-/// member's type whose argument doesn't convert to it, and that argument.
+/// Checks the arguments of a struct's constructor (WGSL, "Structures"): none, or one per member, which converts to its
+/// type. Else `ParamCount` has the struct's name, the number of members and the number of arguments; `ParamType` has
+/// the type of the first member to which its argument doesn't convert, and that argument.
 pub fn typecheck_struct_ctor(alloc: Global, s: &StructType, args: &[Type]) -> Result<(), Fail>
     ensures row { AnswersAs (λ u. u)
         (IsStructCall (struct_view s.now).name (struct_view s.now).members (map view args.now))

@@ -177,7 +177,7 @@ fn components_of(arg: &Type) -> u8
     }
 }
 
-/// The common type of what is inside the arguments.
+/// The common type of the types inside the arguments.
 fn common_component(args: &[Type]) -> Option<&Type>
     ensures { IsLeftCommon (map inner_of (map view args.now))
         (option_map (λ t. view t.now) result) }

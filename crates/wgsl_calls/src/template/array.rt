@@ -16,7 +16,7 @@ use wgsl_core::signature::TpltParam;
 use wgsl_core::ty::Type;
 use wgsl_core::ty::clone::boxed_copy;
 
-/// The template of an array (WGSL, "Array Types"): its element, and the number of elements if it is given.
+/// The template of an array (WGSL, "Array Types"): its element, and the number of elements if there is one.
 #[derive(Drop)]
 pub struct ArrayTemplate {
     ty: Type,
@@ -24,14 +24,14 @@ pub struct ArrayTemplate {
 }
 
 impl ArrayTemplate {
-    /// The template of an element, and the number of elements if it is known.
+    /// A template with this element and this number of elements, or None if runtime-sized.
     pub fn new(ty: Type, n: Option<usize>) -> ArrayTemplate
         ensures { array_view result ≡ array n (view ty) }
     {
         ArrayTemplate { ty, n }
     }
 
-    /// One type, or a type and a literal: else `TemplateArgs`. A literal that isn't an integer above 0 is `Builtin`.
+    /// Reads a type, or a type and a literal; else `TemplateArgs`. `Builtin` if the literal isn't an integer above 0.
     pub fn parse(alloc: Global, tplt: &[TpltParam]) -> Result<ArrayTemplate, Fail>
         ensures { AnswersAs array_view (λ r. r
             ≡ array_template (map parameter_view tplt.now)) result }
@@ -59,7 +59,7 @@ impl ArrayTemplate {
         self.ty.clone(alloc)
     }
 
-    /// The number of elements, if it is given.
+    /// The number of elements, if there is one.
     pub fn n(&self) -> Option<usize>
         ensures { array_view self.now ≡ array result (inner_of (array_view self.now)) }
     {
@@ -67,7 +67,7 @@ impl ArrayTemplate {
     }
 }
 
-/// The template of a binding array, of naga's additions: its element, and the number of elements if it is given.
+/// The template of naga's binding array: its element, and the number of elements if there is one.
 #[derive(Drop)]
 pub struct BindingArrayTemplate {
     ty: Type,
@@ -75,7 +75,7 @@ pub struct BindingArrayTemplate {
 }
 
 impl BindingArrayTemplate {
-    /// One type, or a type and a literal: else `TemplateArgs`. A literal that isn't an integer above 0 is `Builtin`.
+    /// Reads a type, or a type and a literal; else `TemplateArgs`. `Builtin` if the literal isn't an integer above 0.
     pub fn parse(alloc: Global, tplt: &[TpltParam]) -> Result<BindingArrayTemplate, Fail>
         ensures { AnswersAs binding_array_view (λ r. r
             ≡ binding_array_template (map parameter_view tplt.now)) result }
@@ -103,7 +103,7 @@ impl BindingArrayTemplate {
         self.ty.clone(alloc)
     }
 
-    /// The number of elements, if it is given.
+    /// The number of elements, if there is one.
     pub fn n(&self) -> Option<usize>
         ensures { binding_array_view self.now
             ≡ binding_array result (inner_of (binding_array_view self.now)) }

@@ -14,14 +14,14 @@ use wgsl_core::signature::TpltParam;
 use wgsl_core::ty::Type;
 use wgsl_core::ty::clone::boxed_copy;
 
-/// The template of an atomic (WGSL, "Atomic Types"): what it is of.
+/// The template of an atomic (WGSL, "Atomic Types"): the type inside.
 #[derive(Drop)]
 pub struct AtomicTemplate {
     pub ty: Type,
 }
 
 impl AtomicTemplate {
-    /// One type: else `TemplateArgs`. What isn't `f32` or a concrete integer is `Builtin`.
+    /// Reads one type, else `TemplateArgs`. `Builtin` if it is neither `f32` nor a concrete integer.
     pub fn parse(alloc: Global, tplt: &[TpltParam]) -> Result<AtomicTemplate, Fail>
         ensures { AnswersAs atomic_view (IsAtomicTemplate (map parameter_view tplt.now)) result }
     {
@@ -46,7 +46,7 @@ impl AtomicTemplate {
         Ok(Type::Atomic(boxed_copy(alloc, &self.ty)?))
     }
 
-    /// A copy of what the atomic is of.
+    /// A copy of the type inside.
     pub fn inner_ty(&self, alloc: Global) -> Result<Type, AllocError>
         ensures { IfOk result (λ t. view t ≡ atomic_view self.now) }
     {

@@ -15,14 +15,14 @@ use wgsl_core::signature::TpltParam;
 use wgsl_core::ty::Type;
 use wgsl_core::ty::form::Form;
 
-/// The template of `bitcast` (WGSL, "Bit Reinterpretation Built-in Functions"): the type that the bits are reinterpreted as.
+/// The template of `bitcast` (WGSL, "Bit Reinterpretation Built-in Functions"): the type of the result.
 #[derive(Drop)]
 pub struct BitcastTemplate {
     ty: Type,
 }
 
 impl BitcastTemplate {
-    /// One type: else `TemplateArgs`. What is neither a number nor a vector of numbers is `Builtin`.
+    /// Reads one type, else `TemplateArgs`. `Builtin` if it is neither a number nor a vector of numbers.
     pub fn parse(alloc: Global, tplt: &[TpltParam]) -> Result<BitcastTemplate, Fail>
         ensures { AnswersAs bitcast_view (IsBitcastTemplate (map parameter_view tplt.now)) result }
     {
@@ -42,14 +42,14 @@ impl BitcastTemplate {
         }
     }
 
-    /// The type.
+    /// The type of the result.
     pub fn ty(&self) -> &Type
         ensures { view result.now ≡ bitcast_view self.now }
     {
         &self.ty
     }
 
-    /// The type of the vector's components, or the number's own.
+    /// The type of the vector's components, or the number itself.
     pub fn inner_ty(&self, alloc: Global) -> Result<Type, AllocError>
         ensures { IfOk result (λ t. view t ≡ inner_of (bitcast_view self.now)) }
     {

@@ -21,7 +21,7 @@ pub struct MatTemplate {
 }
 
 impl MatTemplate {
-    /// One type: else `TemplateArgs`. What isn't a float is `Builtin`.
+    /// Reads one type, else `TemplateArgs`. `Builtin` if it isn't a float.
     pub fn parse(alloc: Global, tplt: &[TpltParam]) -> Result<MatTemplate, Fail>
         ensures { AnswersAs mat_view (IsMatTemplate (map parameter_view tplt.now)) result }
     {
@@ -39,7 +39,7 @@ impl MatTemplate {
         }
     }
 
-    /// The matrix of `c` columns and `r` rows.
+    /// The matrix with `c` columns and `r` rows.
     pub fn ty(&self, alloc: Global, c: u8, r: u8) -> Result<Type, AllocError>
         ensures { IfOk result (λ t. view t ≡ mat c r (mat_view self.now)) }
     {

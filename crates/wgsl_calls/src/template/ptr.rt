@@ -25,9 +25,9 @@ pub struct PtrTemplate {
 }
 
 impl PtrTemplate {
-    /// An address space, a type and at most one parameter more: else `TemplateArgs`. A type that can't be stored is
-    /// `Builtin`, and so is a pointer in the uniform space that isn't read alone; in the handle space it is `PtrHandle`,
-    /// of push constants `Todo`. A third parameter that isn't an access mode counts as absent.
+    /// Reads an address space, a type and at most one more parameter, else `TemplateArgs`; a third parameter that isn't
+    /// an access mode is ignored. `Builtin` if the type isn't storable, or the uniform space has an access mode other
+    /// than `read`; `PtrHandle` for the handle space; `Todo` for push constants.
     pub fn parse(alloc: Global, tplt: &[TpltParam]) -> Result<PtrTemplate, Fail>
         ensures { AnswersAs ptr_view (IsPtrTemplate (map parameter_view tplt.now)) result }
     {

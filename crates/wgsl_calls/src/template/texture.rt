@@ -18,16 +18,16 @@ use wgsl_syntax::enumerant::Enumerant;
 use wgsl_syntax::texel::TexelFormat;
 use wgsl_syntax::texture::{SampledType, TextureType};
 
-/// The template of a texture (WGSL, "Texture and Sampler Types"): the texture.
+/// The template of a texture (WGSL, "Texture and Sampler Types").
 #[derive(Drop)]
 pub struct TextureTemplate {
     ty: TextureType,
 }
 
 impl TextureTemplate {
-    /// The texture of this name. Sampled and multisampled ones take `i32`, `u32` or `f32`: another type is `SampledType`,
-    /// anything else `Builtin`. Storage textures take a texel format and an access mode: anything else is `Builtin`, and
-    /// so is any other name.
+    /// Reads the parameters of the texture with this name. Sampled and multisampled textures take `i32`, `u32` or
+    /// `f32`; `SampledType` for another type, `Builtin` for anything else. Storage textures take a texel format and an
+    /// access mode; `Builtin` for anything else, and for any other name.
     pub fn parse(alloc: Global, name: &str, tplt: &[TpltParam]) -> Result<TextureTemplate, Fail>
         ensures { AnswersAs texture_view (λ r. r
             ≡ texture_template name.now (map parameter_view tplt.now)) result }
@@ -51,7 +51,7 @@ impl TextureTemplate {
     }
 }
 
-/// A texture that takes what it is sampled as.
+/// A texture that takes a sampled type.
 #[derive(Clone, Copy)]
 enum SampledTexture {
     D1,
@@ -83,7 +83,7 @@ impl SampledTexture {
     }
 }
 
-/// A texture that takes the format of its texels, and how they are accessed.
+/// A texture that takes a texel format and an access mode.
 #[derive(Clone, Copy)]
 enum StorageTexture {
     D1,

@@ -21,7 +21,7 @@ pub struct VecTemplate {
 }
 
 impl VecTemplate {
-    /// One type: else `TemplateArgs`. What isn't a concrete scalar is `Builtin`.
+    /// Reads one type, else `TemplateArgs`. `Builtin` if it isn't a concrete scalar.
     pub fn parse(alloc: Global, tplt: &[TpltParam]) -> Result<VecTemplate, Fail>
         ensures { AnswersAs vec_view (IsVecTemplate (map parameter_view tplt.now)) result }
     {
@@ -39,7 +39,7 @@ impl VecTemplate {
         }
     }
 
-    /// The vector of `n` components.
+    /// The vector with `n` components.
     pub fn ty(&self, alloc: Global, n: u8) -> Result<Type, AllocError>
         ensures { IfOk result (λ t. view t ≡ vec n (vec_view self.now)) }
     {

@@ -55,7 +55,6 @@ IsLeafCall c = (c.template ≡ None) × (a : Result (Option WgslType) Refusal) �
 abbrev pub table_parts : List (List Line)
 table_parts = maths_of_one ∷ maths_of_several ∷ bits_and_subgroups ∷ derivatives_and_packing ∷ textures ∷ atomics ∷ barriers_and_rays ∷ []
 
--- Some line has the name.
 abbrev pub has : List ℕ → List Line → Bool
 has name ls = list_any (λ l. list_any (bytes_eq name) l.names) ls
 

@@ -21,7 +21,6 @@ name_at ns i = slice_index_or ns i []
 abbrev pub IsRising : List (List ℕ) → Type 0
 IsRising ns = (i j : ℕ) → i < j → j < length ns → slice_cmp nat_cmp (name_at ns i) (name_at ns j) ≡ Less
 
--- The text is the name at the index.
 abbrev pub IsNameAt : List (List ℕ) → ℕ → List ℕ → Type 0
 IsNameAt ns i text = (i < length ns) × (name_at ns i ≡ text)
 

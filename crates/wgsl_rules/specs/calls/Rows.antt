@@ -56,7 +56,6 @@ Holds EqualLengths (t ∷ u ∷ ts) = HaveEqualLengths t u
 Holds SameAbstractness (t ∷ u ∷ ts) = HaveSameAbstractness t u
 Holds c ts = ⊥
 
--- The row takes the call.
 abbrev pub Fits : Row → Signature → Type 0
 Fits (Takes ss o) c = (c.template ≡ None) × AllAre (shapes_of ss) c.arguments
 Fits (TakesAtLeast ss o) c = (c.template ≡ None) × BeginAs (shapes_of ss) c.arguments

@@ -22,7 +22,6 @@ pub record Line : Type 0 where
 abbrev pub line : List ℕ → Row → Line
 line names row = record { names = words names; row = row }
 
--- Maths of one argument.
 abbrev pub maths_of_one : List Line
 maths_of_one =
     -- acos(f32) : f32
@@ -49,7 +48,6 @@ maths_of_one =
     line (codes "arrayLength") (Takes (One Any) (Of (The U32))) ∷
     []
 
--- Maths of several arguments.
 abbrev pub maths_of_several : List Line
 maths_of_several =
     -- atan2(f32, AbstractInt) : f32
@@ -80,7 +78,6 @@ maths_of_several =
     line (codes "select") (Takes (Three Vector Any (VectorOf Boolean)) (Of Common)) ∷
     []
 
--- Bits, `bitcast` and subgroups.
 abbrev pub bits_and_subgroups : List Line
 bits_and_subgroups =
     -- countLeadingZeros(AbstractInt) : i32
@@ -142,7 +139,6 @@ derivatives_and_packing =
     line (codes "unpack2x16snorm unpack2x16unorm unpack2x16float") (Takes (One (To U32)) (InVector 2 (The F32))) ∷
     []
 
--- Textures.
 abbrev pub textures : List Line
 textures =
     -- textureDimensions(texture_2d<f32>) : vec2<u32>
@@ -179,7 +175,6 @@ textures =
     line (codes "textureStore") (TakesAtLeast (One (TextureOf Storage)) NoValue) ∷
     []
 
--- Atomics.
 abbrev pub atomics : List Line
 atomics =
     -- atomicLoad(ptr<storage, atomic<u32>, read_write>) : u32
@@ -192,7 +187,6 @@ atomics =
     line (codes "atomicCompareExchangeWeak") (Takes (Three PointerToAtomic Any Any) ExchangeResult) ∷
     []
 
--- Barriers and rays.
 abbrev pub barriers_and_rays : List Line
 barriers_and_rays =
     -- storageBarrier() : no value

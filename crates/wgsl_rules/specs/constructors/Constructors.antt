@@ -45,7 +45,6 @@ constructors =
     ∷ (makes_matrix 4 4, codes "mat4x4")
     ∷ []
 
--- The constructor with a name, or None.
 abbrev pub constructor_of : List ℕ → Option Constructor
 constructor_of name = named constructors name
 

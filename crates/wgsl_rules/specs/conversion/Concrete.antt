@@ -24,7 +24,6 @@ HasFloatMatrices (within (mat_of c r) t) = IsFloatScalar t
 HasFloatMatrices (within l t) = HasFloatMatrices t
 HasFloatMatrices t = Unit {0}
 
--- The concrete type for a type.
 abbrev pub concretized : WgslType → WgslType
 concretized (scalar AbstractInt) = scalar I32
 concretized (scalar AbstractFloat) = scalar F32

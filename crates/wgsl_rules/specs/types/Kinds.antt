@@ -15,7 +15,6 @@ IsNumericOrVector (scalar s) = IsNumeric s
 IsNumericOrVector (within (vec_of n) (scalar s)) = IsNumeric s
 IsNumericOrVector t = ⊥
 
--- A scalar, or a vector of any type.
 abbrev pub IsScalarOrVector : WgslType → Type 0
 IsScalarOrVector (scalar s) = Unit {0}
 IsScalarOrVector (within (vec_of n) t) = Unit {0}

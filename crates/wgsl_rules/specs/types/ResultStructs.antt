@@ -30,7 +30,6 @@ exponent_of precision.Abstract = AbstractInt
 exponent_of precision.F32 = I32
 exponent_of precision.F16 = I32
 
--- A member without attributes, before the rest.
 abbrev pub plain_member : List ℕ → WgslType → Members → Members
 plain_member name t rest = member name t None None rest
 

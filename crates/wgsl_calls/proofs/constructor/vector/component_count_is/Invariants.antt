@@ -3,6 +3,6 @@ use Rattle.wgsl_rules.specs.constructors.Vectors.{all_components}
 use Rattle.wgsl_core.specs.View.{view}
 use Rattle.wgsl_calls.proofs.constructor.vector.component_count_is.Given as goal
 
--- what is left to bring, beside what the rest brings, is what all had to bring beside what they bring
+-- the components of all arguments plus the count wanted are the components of the rest plus `n`
 abbrev pub invariant-loop-arg : goal.invariant-loop-arg
 invariant-loop-arg l = all_components (map view l.args) + l.wanted ≡ all_components (map view (drop l.arg-index l.args)) + l.n
