@@ -59,7 +59,7 @@ AnswersAs seen P (Ok a) = P (Ok (seen a))
 AnswersAs seen P (Err (fails.Error e)) = P (Err (refusal e))
 AnswersAs seen P (Err (fails.Memory e)) = Unit {0}
 
--- The same for types.
+-- the same for types
 abbrev pub AnswersBy : (Result WgslType Refusal → Type 0) → Result «Type» Fail → Type 0
 AnswersBy P r = AnswersAs view P r
 

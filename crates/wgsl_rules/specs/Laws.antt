@@ -32,7 +32,7 @@ pub record RankNamesTarget (a b c : WgslType) : Type 0 where
 abbrev pub CommonAnyOrder : List WgslType → List WgslType → Type 0
 CommonAnyOrder ts us = (r : Option WgslType) → IsLeftCommon ts r ↔ IsLeftCommon us r
 
--- The common type from left to right is unique and is the least; without it, no type receives the list.
+-- The common type from left to right is unique and is the least. If a non-empty list has none, no type receives it.
 pub record LeftCommonIsLeast (ts : List WgslType) : Type 0 where
   pub one : (r s : Option WgslType) → IsLeftCommon ts r → IsLeftCommon ts s → r ≡ s
   pub some : (u : WgslType) → IsLeftCommon ts (Some u) → IsLeastCommon u ts
@@ -49,7 +49,7 @@ pub record OneChoice (n : Name) (ts : List WgslType) : Type 0 where
   pub one : (us vs : List WgslType) (r s : WgslType) → IsLeastCandidate n ts us r → IsLeastCandidate n ts vs s →
       (us ≡ vs) × (r ≡ s)
 
--- The five built-in functions that have candidates.
+-- the five built-in functions that have candidates
 abbrev pub IsCallName : Name → Type 0
 IsCallName (operator o) = ⊥
 IsCallName n = Unit {0}

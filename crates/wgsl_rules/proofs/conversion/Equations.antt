@@ -113,7 +113,7 @@ converts_reference s t m u w = (to, back)
       | inr r ↦ inr (subst (λ u. Load (reference s t m) u) r.1 (load s t m r.0), h.0)
     ]
 
--- The types without base step, layer or reference: pointers, atomics, textures and the like.
+-- the types without base step, layer or reference: pointers, atomics, textures and the like
 abbrev pub StandsAlone : WgslType → Type 0
 StandsAlone (scalar s) = ⊥
 StandsAlone (within l t) = ⊥

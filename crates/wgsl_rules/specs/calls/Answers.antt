@@ -19,11 +19,11 @@ abbrev pub IsAnswerOf : List Row → Signature → Result (Option WgslType) Refu
 IsAnswerOf [] c a = a ≡ Err (signature c)
 IsAnswerOf (r ∷ rs) c a = (Fits r c × IsReturnType (return_type_of r) c a) ⊎ (¬ Fits r c × IsAnswerOf rs c a)
 
--- A call is answered by the rows under its name.
+-- A call is answered by the rows of its name.
 unfoldable pub IsCallAnswer : Signature → Result (Option WgslType) Refusal → Type 0
 IsCallAnswer c a = IsAnswerOf (rows_named c.name call_table) c a
 
--- The names of the five functions that have candidates.
+-- the names of the five functions that have candidates
 abbrev pub name_of : Name → List ℕ
 name_of (operator o) = []
 name_of min = codes "min"

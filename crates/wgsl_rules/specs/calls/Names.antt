@@ -4,12 +4,12 @@ use Rattle.std.specs.Cmp.Lexicographic.{slice_cmp}
 use Rattle.std.specs.Ordering.{nat_cmp}
 use Rattle.std.specs.declared.cmp.Ordering.TheVariants.{Less}
 
--- The first word with a letter added in front, then the other words.
+-- the first word with a letter added in front, then the other words
 abbrev pub onto_first : ℕ → List (List ℕ) → List (List ℕ)
 onto_first c [] = (c ∷ []) ∷ []
 onto_first c (w ∷ ws) = (c ∷ w) ∷ ws
 
--- The words of a text, separated by spaces.
+-- the words of a text, separated by spaces
 abbrev pub words : List ℕ → List (List ℕ)
 words [] = [] ∷ []
 words (c ∷ cs) = cond (c == 32) ([] ∷ words cs) (onto_first c (words cs))

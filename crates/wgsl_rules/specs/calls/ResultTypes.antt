@@ -10,17 +10,17 @@ use Rattle.wgsl_syntax.specs.declared.texture.TextureDimensions.TheVariants.{D1,
 use Rattle.wgsl_rules.specs.types.Types.{mat_of, WgslType, scalar, within, struct, no_members, array, vec, mat}
 use Rattle.wgsl_rules.specs.types.ResultStructs.{shaped, float_of, plain_member, result_struct}
 
--- The struct that `frexp` or `modf` returns for a fraction; None for any other type.
+-- the struct that `frexp` or `modf` returns for a fraction; None for any other type
 abbrev pub IsResultOf : ResultFunction → WgslType → Option WgslType → Type 0
 IsResultOf f t (Some u) = (s : ResultShape) × (p : ResultPrecision) × (t ≡ shaped s (scalar (float_of p))) × (u ≡ result_struct f s p)
 IsResultOf f t None = (s : ResultShape) (p : ResultPrecision) → t ≢ shaped s (scalar (float_of p))
 
--- What `atomicCompareExchangeWeak` returns: the old value, and whether it was exchanged.
+-- what `atomicCompareExchangeWeak` returns: the old value, and whether it was exchanged
 unfoldable pub exchange_struct : WgslType → WgslType
 exchange_struct t =
     struct (codes "__atomic_compare_exchange_result") (plain_member (codes "old_value") t (plain_member (codes "exchanged") (scalar Bool) no_members))
 
--- The struct in which a ray query returns an intersection.
+-- the struct in which a ray query returns an intersection
 unfoldable pub ray_intersection_struct : WgslType
 ray_intersection_struct =
     struct (codes "RayIntersection")
@@ -36,17 +36,17 @@ ray_intersection_struct =
     (plain_member (codes "object_to_world") (mat 4 3 (scalar F32))
     (plain_member (codes "world_to_object") (mat 4 3 (scalar F32)) no_members)))))))))))
 
--- The corners of the triangle that a ray hit.
+-- the corners of the triangle that a ray hit
 abbrev pub hit_positions_type : WgslType
 hit_positions_type = array (Some 3) (vec 3 (scalar F32))
 
--- The size of a texture: a number, or a vector with one per dimension.
+-- the size of a texture: a number, or a vector with one per dimension
 abbrev pub size_type : TextureDimensions → WgslType
 size_type D1 = scalar U32
 size_type D2 = vec 2 (scalar U32)
 size_type D3 = vec 3 (scalar U32)
 
--- A matrix with columns and rows exchanged.
+-- a matrix with columns and rows exchanged
 abbrev pub transposed_of : WgslType → Option WgslType
 transposed_of (within (mat_of c r) t) = Some (mat r c t)
 transposed_of t = None

@@ -24,7 +24,7 @@ use Rattle.wgsl_rules.specs.errors.Refusals.{Refusal, signature}
 use Rattle.wgsl_rules.specs.calls.Shapes.{Is}
 use Rattle.wgsl_rules.specs.calls.ResultTypes.{IsResultOf, exchange_struct, ray_intersection_struct, hit_positions_type, size_type, transposed_of}
 
--- What is required of each argument, in order.
+-- what is required of each argument, in order
 abbrev pub shapes_of : Arguments → List Shape
 shapes_of Nothing = []
 shapes_of (One s) = s ∷ []
@@ -68,7 +68,7 @@ return_type_of (TakesAtLeast ss o) = o
 return_type_of (TakesWhere ss k o) = o
 return_type_of (TakesWithTemplate ss o) = o
 
--- The first three arguments, if there are that many.
+-- the first three arguments, if there are that many
 abbrev pub first : List WgslType → Option WgslType
 first ts = slice_get ts 0
 
@@ -78,7 +78,7 @@ second ts = slice_get ts 1
 abbrev pub third : List WgslType → Option WgslType
 third ts = slice_get ts 2
 
--- The common type of two types, if both exist and have one.
+-- the common type of two types, if both exist and have one
 abbrev pub IsCommonOf : Option WgslType → Option WgslType → Option WgslType → Type 0
 IsCommonOf (Some t) (Some u) c = IsCommon t u c
 IsCommonOf t u c = c ≡ None
@@ -87,7 +87,7 @@ abbrev pub texture_in : WgslType → Option TextureType
 texture_in (texture x) = Some x
 texture_in t = None
 
--- The sampled type of a texture, and the type that its channels are read as.
+-- the sampled type of a texture, and the type that its channels are read as
 abbrev pub sampled_in : WgslType → Option WgslType
 sampled_in t = option_map (λ s. scalar (sampled_scalar s)) (option_and_then sampled_type (texture_in t))
 
@@ -107,29 +107,29 @@ IsSource (The s) ts t = t ≡ Some (scalar s)
 IsSource SampledAs ts t = t ≡ option_and_then sampled_in (second ts)
 IsSource Channel ts t = t ≡ option_and_then channel_in (first ts)
 
--- A vector of u with as many components as the first type.
+-- a vector of u with as many components as the first type
 abbrev pub vector_like : WgslType → WgslType → Option WgslType
 vector_like (within (vec_of n) t) u = Some (vec n u)
 vector_like t u = None
 
--- The struct that `frexp` or `modf` returns for an argument, if there is one.
+-- the struct that `frexp` or `modf` returns for an argument, if there is one
 abbrev pub IsResultFor : ResultFunction → Option WgslType → Option WgslType → Type 0
 IsResultFor f None t = t ≡ None
 IsResultFor f (Some u) t = IsResultOf f u t
 
--- The type, or if there is none the refusal of the call.
+-- the type, or if there is none the refusal of the call
 abbrev pub given : Signature → Option WgslType → Result (Option WgslType) Refusal
 given c None = Err (signature c)
 given c (Some t) = Ok (Some t)
 
--- What `bitcast` returns for its template.
+-- what `bitcast` returns for its template
 abbrev pub IsFromTemplate : Signature → Option (List Parameter) → Result (Option WgslType) Refusal → Type 0
 IsFromTemplate c (Some ps) (Ok (Some t)) = IsBitcastTemplate ps (Ok t)
 IsFromTemplate c (Some ps) (Ok None) = ⊥
 IsFromTemplate c (Some ps) (Err e) = IsBitcastTemplate ps (Err e)
 IsFromTemplate c None a = a ≡ Err (signature c)
 
--- What a row returns for a call that it takes.
+-- what a row returns for a call that it takes
 abbrev pub IsReturnType : ReturnType → Signature → Result (Option WgslType) Refusal → Type 0
 IsReturnType (Of p) c a = (t : Option WgslType) × IsSource p c.arguments t × (a ≡ given c t)
 IsReturnType (Concrete p) c a = (t : Option WgslType) × IsSource p c.arguments t × (a ≡ given c (option_map concretized t))

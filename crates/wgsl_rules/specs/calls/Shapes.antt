@@ -60,12 +60,12 @@ IsScalarOrVectorOf k (scalar s) = IsOfKind k s
 IsScalarOrVectorOf k (within (vec_of n) t) = IsScalarOf k t
 IsScalarOrVectorOf k t = ⊥
 
--- A matrix with as many columns as rows.
+-- a matrix with as many columns as rows
 abbrev pub IsSquareMatrix : WgslType → Type 0
 IsSquareMatrix (within (mat_of c r) t) = c ≡ r
 IsSquareMatrix t = ⊥
 
--- An abstract float, `f32` or `f16`, or a vector of these with two to four components.
+-- an abstract float, `f32` or `f16`, or a vector of these with two to four components
 abbrev pub IsFraction : WgslType → Type 0
 IsFraction t = (s : ResultShape) × (p : ResultPrecision) × (t ≡ shaped s (scalar (float_of p)))
 
@@ -81,7 +81,7 @@ abbrev pub IsPointerInWorkgroup : WgslType → Type 0
 IsPointerInWorkgroup (pointer s t m) = s ≡ Workgroup
 IsPointerInWorkgroup t = ⊥
 
--- A pointer in the function space, to read and write.
+-- a pointer in the function space, to read and write
 abbrev pub IsQuery : WgslType → Type 0
 IsQuery (pointer s t m) = (s ≡ Function) × (m ≡ ReadWrite)
 IsQuery t = ⊥

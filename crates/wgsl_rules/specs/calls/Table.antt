@@ -14,7 +14,7 @@ use Rattle.wgsl_syntax.specs.declared.call.Row.{Row}
 use Rattle.wgsl_syntax.specs.declared.call.Row.TheVariants.{Takes, TakesAtLeast, TakesWhere, TakesWithTemplate}
 use Rattle.wgsl_rules.specs.calls.Names.{words}
 
--- A row, and the names of the functions that have it.
+-- a row, and the names of the functions that have it
 pub record Line : Type 0 where
   pub names : List (List ℕ)
   pub row : Row
@@ -110,7 +110,7 @@ bits_and_subgroups =
     line (codes "bitcast") (TakesWithTemplate (One Any) ByTemplate) ∷
     []
 
--- Derivatives, `frexp`, `modf` and packing.
+-- derivatives, `frexp`, `modf` and packing
 abbrev pub derivatives_and_packing : List Line
 derivatives_and_packing =
     -- dpdx(f32) : f32
@@ -208,7 +208,7 @@ barriers_and_rays =
 unfoldable pub call_table : List Line
 call_table = maths_of_one ++ maths_of_several ++ bits_and_subgroups ++ derivatives_and_packing ++ textures ++ atomics ++ barriers_and_rays
 
--- The rows of a name, in order.
+-- the rows of a name, in order
 abbrev pub rows_named : List ℕ → List Line → List Row
 rows_named name [] = []
 rows_named name (l ∷ ls) = if list_any (bytes_eq name) l.names then l.row ∷ rows_named name ls else rows_named name ls

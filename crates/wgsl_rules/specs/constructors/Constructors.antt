@@ -13,7 +13,7 @@ use Rattle.wgsl_rules.specs.constructors.Steps.{Either, Then, ThenCommon, IsFirs
 use Rattle.wgsl_rules.specs.constructors.Vectors.{IsVectorCall}
 use Rattle.wgsl_rules.specs.constructors.Matrices.{IsMatrixCall}
 
--- What a constructor makes: an array, a scalar, a vector with n components, a matrix with c columns and r rows.
+-- what a constructor makes: an array, a scalar, a vector with n components, a matrix with c columns and r rows
 pub data Constructor : Type 0 where
   makes_array : Constructor
   makes_scalar : Scalar → Constructor
@@ -66,7 +66,7 @@ IsTypedArray (a ∷ args) (array (Some n) t) r =
     ⊎ ((b : WgslType) × IsFirstStuck t (a ∷ args) b × (r ≡ Err (conversion b t)))
 IsTypedArray (a ∷ args) t r = r ≡ Err (template_args (codes "array"))
 
--- Arrays: with a template, or of the common type of the arguments, with one element per argument.
+-- arrays: with a template, or of the common type of the arguments, with one element per argument
 abbrev pub IsArrayCall : Option (List Parameter) → List WgslType → Result WgslType Refusal → Type 0
 IsArrayCall (Some ps) args r = Then (array_template ps) (IsTypedArray args) r
 -- array(AbstractInt, f32) : array<f32, 2>
@@ -94,13 +94,13 @@ AllFit no_members [] = Unit {0}
 AllFit (member name t size align ms) (a ∷ args) = ConvertsTo a t × AllFit ms args
 AllFit ms args = ⊥
 
--- The type u of the first member whose argument b doesn't convert to it.
+-- the type u of the first member whose argument b doesn't convert to it
 abbrev pub IsFirstMisfit : Members → List WgslType → WgslType → WgslType → Type 0
 IsFirstMisfit (member name t size align ms) (a ∷ args) u b =
     (¬ ConvertsTo a t) × (u ≡ t) × (b ≡ a) ⊎ ConvertsTo a t × IsFirstMisfit ms args u b
 IsFirstMisfit ms args u b = ⊥
 
--- One argument per member, which converts to the member's type.
+-- one argument per member, which converts to the member's type
 abbrev pub IsFilled : List ℕ → Members → List WgslType → Result (Unit {0}) Refusal → Type 0
 IsFilled name ms args r =
     Either (member_count ms ≡ length args)
@@ -108,7 +108,7 @@ IsFilled name ms args r =
     ⊎ ((t : WgslType) × (a : WgslType) × IsFirstMisfit ms args t a × (r ≡ Err (param_type t a))))
     (r ≡ Err (param_count name (member_count ms) (length args)))
 
--- Structs: no argument, or one per member.
+-- structs: no argument, or one per member
 abbrev pub IsStructCall : List ℕ → Members → List WgslType → Result (Unit {0}) Refusal → Type 0
 IsStructCall name ms [] r = r ≡ Ok tt
 IsStructCall name ms args r = IsFilled name ms args r

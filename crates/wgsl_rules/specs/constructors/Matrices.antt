@@ -25,7 +25,7 @@ IsMatrixOf name c r number t u q = q ≡ Err no_columns
 abbrev pub incompatible_matrix : List ℕ
 incompatible_matrix = codes "matrix components are incompatible"
 
--- With a template for t, from `number` arguments with common type u, whose inner type converts to t.
+-- with a template for t, from `number` arguments with common type u, whose inner type converts to t
 abbrev pub IsTypedMatrixOf : List ℕ → ℕ → ℕ → ℕ → WgslType → WgslType → Result WgslType Refusal → Type 0
 IsTypedMatrixOf name c r number t u q =
     (v : Option WgslType) × IsConvertedInside u t v × Then (ok_or v (conversion (inner_of u) t)) (IsMatrixOf name c r number t) q
@@ -37,7 +37,7 @@ IsTypedMatrixOfOne name c r (mat d s e) t q =
     Either ((d ≡ c) × (s ≡ r)) (q ≡ Ok (mat c r t)) (q ≡ Err (conversion (mat d s e) (mat c r t)))
 IsTypedMatrixOfOne name c r a t q = ThenCommon (a ∷ []) incompatible_matrix (IsTypedMatrixOf name c r 1 t) q
 
--- Matrices with a template.
+-- matrices with a template
 abbrev pub IsTypedMatrix : List ℕ → ℕ → ℕ → List WgslType → WgslType → Result WgslType Refusal → Type 0
 -- mat2x3<f32>() : mat2x3<f32>
 IsTypedMatrix name c r [] t q = q ≡ Ok (mat c r t)
@@ -49,7 +49,7 @@ abbrev pub component_of : WgslType → WgslType
 component_of (scalar AbstractInt) = scalar F32
 component_of t = t
 
--- Without a template, from `number` arguments with common type u.
+-- without a template, from `number` arguments with common type u
 abbrev pub IsUntypedMatrixOf : List ℕ → ℕ → ℕ → ℕ → WgslType → Result WgslType Refusal → Type 0
 IsUntypedMatrixOf name c r number u q =
     Either (IsFloatScalar (component_of (inner_of u))) (IsMatrixOf name c r number (component_of (inner_of u)) u q) (q ≡ Err no_columns)
@@ -61,7 +61,7 @@ IsUntypedMatrixOfOne name c r (mat d s e) q =
     Either ((d ≡ c) × (s ≡ r)) (q ≡ Ok (mat d s e)) (q ≡ Err (conversion (mat d s e) (mat c r e)))
 IsUntypedMatrixOfOne name c r a q = ThenCommon (a ∷ []) incompatible_matrix (IsUntypedMatrixOf name c r 1) q
 
--- Matrices without a template.
+-- matrices without a template
 abbrev pub IsUntypedMatrix : List ℕ → ℕ → ℕ → List WgslType → Result WgslType Refusal → Type 0
 IsUntypedMatrix name c r (a ∷ []) q = IsUntypedMatrixOfOne name c r a q
 -- mat2x2(vec2<f32>, vec2<AbstractFloat>) : mat2x2<f32>

@@ -10,7 +10,7 @@ use Rattle.wgsl_rules.specs.errors.Refusals.{Refusal, builtin, param_count}
 abbrev pub Either : Type 0 → Type 0 → Type 0 → Type 0
 Either P holding failing = P × holding ⊎ (¬ P) × failing
 
--- What follows a type or a refusal: `made` from the type, or the same refusal.
+-- what follows a type or a refusal: `made` from the type, or the same refusal
 abbrev pub Then : Result WgslType Refusal → (WgslType → Result WgslType Refusal → Type 0) → Result WgslType Refusal → Type 0
 Then (Ok t) made r = made t r
 Then (Err e) made r = r ≡ Err e
@@ -23,7 +23,7 @@ ThenCommon ts message made r = (c : Option WgslType) × IsLeftCommon ts c × The
 abbrev pub IsCounted : List ℕ → ℕ → ℕ → WgslType → Result WgslType Refusal → Type 0
 IsCounted name wanted number t r = Either (wanted ≡ number) (r ≡ Ok t) (r ≡ Err (param_count name wanted number))
 
--- The first type of the list that doesn't convert to t.
+-- the first type of the list that doesn't convert to t
 abbrev pub IsFirstStuck : WgslType → List WgslType → WgslType → Type 0
 IsFirstStuck t [] a = ⊥
 IsFirstStuck t (u ∷ us) a = (¬ ConvertsTo u t) × (a ≡ u) ⊎ ConvertsTo u t × IsFirstStuck t us a

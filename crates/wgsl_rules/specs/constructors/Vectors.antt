@@ -21,7 +21,7 @@ abbrev pub all_components : List WgslType → ℕ
 all_components [] = 0
 all_components (t ∷ ts) = components t + all_components ts
 
--- A scalar that converts to t, or a vector whose components do.
+-- a scalar that converts to t, or a vector whose components do
 abbrev pub BringsComponents : WgslType → WgslType → Type 0
 BringsComponents t (scalar s) = ConvertsTo (scalar s) t
 BringsComponents t (vec n e) = ConvertsTo e t
@@ -30,7 +30,7 @@ BringsComponents t a = ⊥
 abbrev pub no_components : Refusal
 no_components = builtin (codes "vector constructor expects scalar or vector arguments")
 
--- With a template, from one argument.
+-- with a template, from one argument
 abbrev pub IsTypedVectorOfOne : ℕ → WgslType → WgslType → Result WgslType Refusal → Type 0
 -- a scalar, which becomes each component
 -- vec3<f32>(AbstractInt) : vec3<f32>
@@ -40,14 +40,14 @@ IsTypedVectorOfOne n (scalar s) t r = Either (ConvertsTo (scalar s) t) (r ≡ Ok
 IsTypedVectorOfOne n (vec m e) t r = Either (m ≡ n) (r ≡ Ok (vec n t)) (r ≡ Err (conversion (vec m e) (vec n t)))
 IsTypedVectorOfOne n a t r = r ≡ Err (conversion a t)
 
--- With a template, from several arguments, which have n components in total.
+-- with a template, from several arguments, which have n components in total
 abbrev pub IsTypedVectorOfSeveral : List ℕ → ℕ → List WgslType → WgslType → Result WgslType Refusal → Type 0
 IsTypedVectorOfSeveral name n args t r =
     Either (All (BringsComponents t) args)
     (Either (all_components args ≡ n) (r ≡ Ok (vec n t)) (r ≡ Err (param_count name n (length args))))
     (r ≡ Err no_components)
 
--- Vectors with a template.
+-- vectors with a template
 abbrev pub IsTypedVector : List ℕ → ℕ → List WgslType → WgslType → Result WgslType Refusal → Type 0
 -- vec3<f32>() : vec3<f32>
 IsTypedVector name n [] t r = r ≡ Ok (vec n t)
@@ -55,7 +55,7 @@ IsTypedVector name n (a ∷ []) t r = IsTypedVectorOfOne n a t r
 -- vec4<f32>(vec2<f32>, AbstractInt, f32) : vec4<f32>
 IsTypedVector name n args t r = IsTypedVectorOfSeveral name n args t r
 
--- Without a template, from one argument.
+-- without a template, from one argument
 abbrev pub IsUntypedVectorOfOne : ℕ → WgslType → Result WgslType Refusal → Type 0
 -- vec3(f32) : vec3<f32>
 IsUntypedVectorOfOne n (scalar s) r = r ≡ Ok (vec n (scalar s))
@@ -63,7 +63,7 @@ IsUntypedVectorOfOne n (scalar s) r = r ≡ Ok (vec n (scalar s))
 IsUntypedVectorOfOne n (vec m e) r = Either (m ≡ n) (r ≡ Ok (vec n e)) (r ≡ Err (conversion (vec m e) (vec n e)))
 IsUntypedVectorOfOne n a r = r ≡ Err no_components
 
--- Without a template, from several arguments, which have n components in total: of the components' common type.
+-- without a template, from several arguments, which have n components in total: of the components' common type
 abbrev pub IsUntypedVectorOfSeveral : List ℕ → ℕ → List WgslType → Result WgslType Refusal → Type 0
 IsUntypedVectorOfSeveral name n args r =
     Either (All IsScalarOrVector args)
@@ -72,7 +72,7 @@ IsUntypedVectorOfSeveral name n args r =
     (r ≡ Err (param_count name n (length args))))
     (r ≡ Err no_components)
 
--- Vectors without a template.
+-- vectors without a template
 abbrev pub IsUntypedVector : List ℕ → ℕ → List WgslType → Result WgslType Refusal → Type 0
 -- vec3() : vec3<AbstractInt>
 IsUntypedVector name n [] r = r ≡ Ok (vec n (scalar AbstractInt))

@@ -4,7 +4,7 @@ use Rattle.wgsl_syntax.specs.declared.scalar.Scalar.TheVariants.{AbstractInt, Ab
 use Rattle.wgsl_rules.specs.types.Types.{mat_of, WgslType, scalar, within}
 use Rattle.wgsl_rules.specs.types.Kinds.{IsFloatScalar, IsPlain}
 
--- An abstract number, or an array, a vector or a matrix of an abstract type.
+-- an abstract number, or an array, a vector or a matrix of an abstract type
 abbrev pub is_abstract : WgslType → Bool
 is_abstract (scalar AbstractInt) = true
 is_abstract (scalar AbstractFloat) = true
@@ -14,7 +14,7 @@ is_abstract t = false
 abbrev pub IsAbstract : WgslType → Type 0
 IsAbstract t = IsTrue (is_abstract t)
 
--- A concrete plain type (WGSL, "Storable Types", but without textures and samplers).
+-- a concrete plain type (WGSL, "Storable Types", but without textures and samplers)
 abbrev pub IsStorable : WgslType → Type 0
 IsStorable t = (¬ IsAbstract t) × IsPlain t
 

@@ -16,7 +16,7 @@ IsValueType (reference s t m) = ⊥
 IsValueType (within l t) = IsValueType t
 IsValueType t = Unit {0}
 
--- The single conversions, with their weights.
+-- the single conversions, with their weights
 pub data BaseStep : WgslType → WgslType → ℕ → Type 0 where
   -- from an abstract integer
   int_to_float : BaseStep (scalar AbstractInt) (scalar AbstractFloat) 5
@@ -36,7 +36,7 @@ pub data Step : WgslType → WgslType → ℕ → Type 0 where
   base : {t u : WgslType} {w : ℕ} → BaseStep t u w → Step t u w
   inside : {t u : WgslType} {w : ℕ} (l : Layer) → Step t u w → Step (within l t) (within l u) w
 
--- One leg of a path: its start, its end and its weight.
+-- one leg of a path: its start, its end and its weight
 pub record Leg : Type 0 where
   pub from : WgslType
   pub to : WgslType
@@ -51,13 +51,13 @@ abbrev pub path_weight : List Leg → ℕ
 path_weight [] = 0
 path_weight (leg ∷ legs) = leg.weight + path_weight legs
 
--- A path from t to u of weight w.
+-- a path from t to u of weight w
 pub record Path (t u : WgslType) (w : ℕ) : Type 0 where
   pub legs : List Leg
   pub leads : IsPath t legs u
   pub weighs : path_weight legs ≡ w
 
--- A path from t to u of weight w, made of n steps.
+-- a path from t to u of weight w, made of n steps
 pub record PathOf (t u : WgslType) (w n : ℕ) : Type 0 where
   pub path : Path t u w
   pub steps : length path.legs ≡ n

@@ -5,7 +5,7 @@ abbrev pub IsReference : WgslType → Type 0
 IsReference (reference s t m) = Unit {0}
 IsReference t = ⊥
 
--- The type that is left once all references around it are loaded.
+-- the type that is left once all references around it are loaded
 abbrev pub loaded_of : WgslType → WgslType
 loaded_of (reference s t m) = loaded_of t
 loaded_of t = t

@@ -9,17 +9,17 @@ use Rattle.wgsl_syntax.specs.declared.result_struct.ResultPrecision.TheVariants 
 use Rattle.wgsl_rules.specs.types.Types.{WgslType, scalar}
 use Rattle.wgsl_rules.specs.types.ResultStructs.{result_struct}
 
--- A scalar, or a result struct of `frexp` or `modf`.
+-- a scalar, or a result struct of `frexp` or `modf`
 pub data Node : Type 0 where
   at_scalar : Scalar → Node
   at_result : ResultFunction → ResultShape → ResultPrecision → Node
 
--- The type at a node.
+-- the type at a node
 abbrev pub type_at : Node → WgslType
 type_at (at_scalar s) = scalar s
 type_at (at_result f s p) = result_struct f s p
 
--- The node from which a single conversion leads here.
+-- the node from which a single conversion leads here
 abbrev pub parent_of : Node → Option Node
 parent_of (at_scalar I32) = Some (at_scalar AbstractInt)
 parent_of (at_scalar U32) = Some (at_scalar AbstractInt)
@@ -33,7 +33,7 @@ parent_of (at_result f s precision.F32) = Some (at_result f s precision.Abstract
 parent_of (at_result f s precision.F16) = Some (at_result f s precision.Abstract)
 parent_of (at_result f s precision.Abstract) = None
 
--- The weight of the path from the root to the node.
+-- the weight of the path from the root to the node
 abbrev pub rank_from_root : Node → ℕ
 rank_from_root (at_scalar I32) = 3
 rank_from_root (at_scalar U32) = 4

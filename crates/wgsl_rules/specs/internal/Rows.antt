@@ -7,7 +7,7 @@ use Rattle.wgsl_rules.specs.types.Kinds.{IsNumeric, IsNumericOrVector, IsScalarO
 use Rattle.wgsl_rules.specs.conversion.Common.{IsCommon, IsLeftCommon}
 use Rattle.wgsl_rules.specs.operators.Candidates.{Name, clamp, dot, select, IsMinMax}
 
--- One of the five functions, the types of its arguments, and the result.
+-- one of the five functions, the types of its arguments, and the result
 pub data IsCallRow : Name → List WgslType → WgslType → Type 0 where
   -- `min` and `max`: the common type of both arguments
   -- min(AbstractInt, f32) : f32

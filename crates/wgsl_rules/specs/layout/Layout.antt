@@ -69,7 +69,7 @@ pub record IsStructSize (AreLayouts : List MemberLayout → Type 0) (size : ℕ)
   pub least : IsLeastTotal layouts size
   pub fits : size < 2 ^ 32
 
--- the alignment of a struct: the greatest of its members', 0 without members
+-- the alignment of a struct: the greatest of its members' alignments, 0 without members
 abbrev pub IsStructAlign : (List ℕ → Type 0) → ℕ → Type 0
 IsStructAlign AreAligns a = (aligns : List ℕ) × AreAligns aligns × (a ≡ greatest aligns)
 

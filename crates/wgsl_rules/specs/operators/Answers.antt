@@ -11,13 +11,13 @@ use Rattle.wgsl_rules.specs.operators.Rows.{IsRow}
 use Rattle.wgsl_rules.specs.operators.UnaryRows.{IsUnaryRow, unary_refusal}
 use Rattle.wgsl_rules.specs.errors.Refusals.{Refusal, binary}
 
--- A candidate of a binary operator: its operand types and its result type.
+-- a candidate of a binary operator: its operand types and its result type
 pub record BinaryCandidate : Type 0 where
   pub lhs : WgslType
   pub rhs : WgslType
   pub result : WgslType
 
--- The candidate of the row that applies to two operands, or None.
+-- the candidate of the row that applies to two operands, or None
 abbrev pub HasCandidate : BinaryOperator → WgslType → WgslType → Option BinaryCandidate → Type 0
 HasCandidate o a b (Some c) = IsRow o a b c.lhs c.rhs c.result
 HasCandidate o a b None = (l r t : WgslType) → ¬ IsRow o a b l r t
@@ -33,7 +33,7 @@ IsChosenResult o a b (Ok t) = IsValueType a → IsValueType b → IsChosenAnswer
 IsChosenResult o a b (Err e) = IsValueType a → IsValueType b →
     (e ≡ binary o a b) × IsChosenAnswer (operator o) (a ∷ b ∷ []) None
 
--- The whole candidate of the row that applies, or the refusal.
+-- the whole candidate of the row that applies, or the refusal
 abbrev pub IsCandidateAnswer : BinaryOperator → WgslType → WgslType → Result BinaryCandidate Refusal → Type 0
 IsCandidateAnswer o a b (Ok c) = HasCandidate o a b (Some c)
 IsCandidateAnswer o a b (Err e) = (e ≡ binary o a b) × HasCandidate o a b None

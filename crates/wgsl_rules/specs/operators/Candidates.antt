@@ -8,13 +8,13 @@ use Rattle.wgsl_syntax.specs.declared.operator.BinaryOperator.TheVariants.{Short
 use Rattle.wgsl_rules.specs.types.Types.{WgslType, scalar, vec, mat}
 use Rattle.wgsl_rules.specs.types.Kinds.{IsInteger, IsNumeric, IsNumericOrVector, IsScalarOrVector}
 
--- The short-circuit operators, `||` and `&&`.
+-- the short-circuit operators, `||` and `&&`
 abbrev pub IsLogical : BinaryOperator → Type 0
 IsLogical ShortCircuitOr = Unit {0}
 IsLogical ShortCircuitAnd = Unit {0}
 IsLogical o = ⊥
 
--- `+`, `-`, `*`, `/` and `%`.
+-- `+`, `-`, `*`, `/` and `%`
 abbrev pub IsArithmetic : BinaryOperator → Type 0
 IsArithmetic Addition = Unit {0}
 IsArithmetic Subtraction = Unit {0}
@@ -23,13 +23,13 @@ IsArithmetic Division = Unit {0}
 IsArithmetic Remainder = Unit {0}
 IsArithmetic o = ⊥
 
--- `+` and `-`, which take two matrices component by component.
+-- `+` and `-`, which take two matrices component by component
 abbrev pub IsSum : BinaryOperator → Type 0
 IsSum Addition = Unit {0}
 IsSum Subtraction = Unit {0}
 IsSum o = ⊥
 
--- `==`, `!=`, `<`, `<=`, `>` and `>=`.
+-- `==`, `!=`, `<`, `<=`, `>` and `>=`
 abbrev pub IsComparison : BinaryOperator → Type 0
 IsComparison Equality = Unit {0}
 IsComparison Inequality = Unit {0}
@@ -39,26 +39,26 @@ IsComparison GreaterThan = Unit {0}
 IsComparison GreaterThanEqual = Unit {0}
 IsComparison o = ⊥
 
--- `|`, `&` and `^`.
+-- `|`, `&` and `^`
 abbrev pub IsBitwise : BinaryOperator → Type 0
 IsBitwise BitwiseOr = Unit {0}
 IsBitwise BitwiseAnd = Unit {0}
 IsBitwise BitwiseXor = Unit {0}
 IsBitwise o = ⊥
 
--- `|` and `&`, which take vectors of `bool` too.
+-- `|` and `&`, which take vectors of `bool` too
 abbrev pub IsOrAnd : BinaryOperator → Type 0
 IsOrAnd BitwiseOr = Unit {0}
 IsOrAnd BitwiseAnd = Unit {0}
 IsOrAnd o = ⊥
 
--- `<<` and `>>`.
+-- `<<` and `>>`
 abbrev pub IsShift : BinaryOperator → Type 0
 IsShift ShiftLeft = Unit {0}
 IsShift ShiftRight = Unit {0}
 IsShift o = ⊥
 
--- The name of a candidate: a binary operator, or one of five built-in functions.
+-- the name of a candidate: a binary operator, or one of five built-in functions
 pub data Name : Type 0 where
   operator : BinaryOperator → Name
   min max clamp dot select : Name

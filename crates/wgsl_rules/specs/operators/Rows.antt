@@ -11,7 +11,7 @@ use Rattle.wgsl_rules.specs.conversion.Conversion.{ConvertsTo}
 use Rattle.wgsl_rules.specs.conversion.Common.{IsCommon}
 use Rattle.wgsl_rules.specs.operators.Candidates.{IsArithmetic, IsSum, IsComparison, IsLogical, IsBitwise, IsOrAnd, IsShift}
 
--- An operator, its two operands, the two types that they convert to, and the result.
+-- an operator, its two operands, the two types that they convert to, and the result
 pub data IsRow : BinaryOperator → WgslType → WgslType → WgslType → WgslType → WgslType → Type 0 where
   -- arithmetic of two scalars: their common type
   -- AbstractInt + f32 : f32

@@ -12,7 +12,7 @@ use Rattle.wgsl_rules.specs.types.Types.{WgslType, scalar, vec, pointer, referen
 use Rattle.wgsl_rules.specs.types.Kinds.{IsIntegerOrVector}
 use Rattle.wgsl_rules.specs.errors.Refusals.{Refusal, unary, ptr_handle}
 
--- An operator, its operand, and the result.
+-- an operator, its operand, and the result
 pub data IsUnaryRow : UnaryOperator → WgslType → WgslType → Type 0 where
   -- `!` of a `bool`
   -- !bool : bool

@@ -34,7 +34,7 @@ count_of (u32 n) = above_zero (pos n)
 count_of (i64 n) = above_zero n
 count_of (u64 n) = above_zero (pos n)
 
--- The value built from the result of parsing, or the refusal.
+-- the value built from the result of parsing, or the refusal
 abbrev pub made : {A B : Type 0} → (A → B) → Result A Refusal → Result B Refusal
 made make (Ok a) = Ok (make a)
 made make (Err e) = Err e
@@ -88,7 +88,7 @@ abbrev pub IsBitcastTemplate : List Parameter → Result WgslType Refusal → Ty
 IsBitcastTemplate =
     IsTemplateOf IsNumericOrVector (codes "bitcast") (codes "bitcast template type must be a numeric scalar or numeric vector")
 
--- The parameters of a pointer: its address space, its type, and its access mode if there is one.
+-- the parameters of a pointer: its address space, its type, and its access mode if there is one
 pub record PointerParameters : Type 0 where
   pub space : AddressSpace
   pub ty : WgslType
@@ -115,7 +115,7 @@ abbrev pub given_or : Option AccessMode → AccessMode → AccessMode
 given_or (Some m) default = m
 given_or None default = default
 
--- The access mode of a pointer in a space, or why there is no such pointer.
+-- the access mode of a pointer in a space, or why there is no such pointer
 abbrev pub pointer_access : AddressSpace → Option AccessMode → Result AccessMode Refusal
 pointer_access Function m = Ok (given_or m ReadWrite)
 pointer_access Private m = Ok (given_or m ReadWrite)
@@ -138,7 +138,7 @@ IsPointerOf (Some p) r =
 abbrev pub IsPtrTemplate : List Parameter → Result WgslType Refusal → Type 0
 IsPtrTemplate ps r = IsPointerOf (pointer_parameters ps) r
 
--- The sampled type of a texture.
+-- the sampled type of a texture
 abbrev pub sampled_parameter : List Parameter → Result SampledType Refusal
 sampled_parameter (of_type t ∷ []) = ok_or (sampled_of t) (sampled_type t)
 sampled_parameter (p ∷ []) = Err (builtin (codes "texture sampled type must be `i32`, `u32` or `f32`"))
@@ -148,12 +148,12 @@ abbrev pub both : Option TexelFormat → Option AccessMode → Result (TexelForm
 both (Some f) (Some m) = Ok (f, m)
 both f m = Err (builtin (codes "storage texture types take two template parameters"))
 
--- The texel format and the access mode of a texture.
+-- the texel format and the access mode of a texture
 abbrev pub storage_parameters : List Parameter → Result (TexelFormat × AccessMode) Refusal
 storage_parameters (p ∷ q ∷ []) = both (format_of p) (access_of q)
 storage_parameters ps = both None None
 
--- The name of a texture that takes a sampled type, or a texel format and an access mode.
+-- the name of a texture that takes a sampled type, or a texel format and an access mode
 pub data TextureName : Type 0 where
   sampled : (SampledType → TextureType) → TextureName
   stored : (TexelFormat → AccessMode → TextureType) → TextureName
@@ -181,6 +181,6 @@ texture_of (Some (sampled make)) ps = made make (sampled_parameter ps)
 texture_of (Some (stored make)) ps = made (λ p. make p.0 p.1) (storage_parameters ps)
 texture_of None ps = Err (builtin (codes "not a templated texture type"))
 
--- The texture by its name and its parameters: `texture_2d<f32>`, `texture_storage_2d<rgba8unorm, write>`.
+-- the texture by its name and its parameters: `texture_2d<f32>`, `texture_storage_2d<rgba8unorm, write>`
 abbrev pub texture_template : List ℕ → List Parameter → Result TextureType Refusal
 texture_template name ps = texture_of (named texture_names name) ps

@@ -3,13 +3,13 @@ pub use Rattle.wgsl_syntax.specs.Scalar.{IsInteger, IsFloat, IsNumeric}
 use Rattle.wgsl_syntax.specs.declared.address.AddressSpace.TheVariants.{Handle}
 use Rattle.wgsl_rules.specs.types.Types.{array_of, vec_of, mat_of, WgslType, scalar, within, struct, atomic, reference, texture, sampler, ray_query, acceleration_structure}
 
--- An integer, or a vector of integers.
+-- an integer, or a vector of integers
 abbrev pub IsIntegerOrVector : WgslType → Type 0
 IsIntegerOrVector (scalar s) = IsInteger s
 IsIntegerOrVector (within (vec_of n) (scalar s)) = IsInteger s
 IsIntegerOrVector t = ⊥
 
--- A number, or a vector of numbers.
+-- a number, or a vector of numbers
 abbrev pub IsNumericOrVector : WgslType → Type 0
 IsNumericOrVector (scalar s) = IsNumeric s
 IsNumericOrVector (within (vec_of n) (scalar s)) = IsNumeric s
@@ -56,7 +56,7 @@ abbrev pub IsAtomic : WgslType → Type 0
 IsAtomic (atomic t) = Unit {0}
 IsAtomic t = ⊥
 
--- A scalar, an atomic, or a composite type (WGSL, "Plain Types").
+-- a scalar, an atomic, or a composite type (WGSL, "Plain Types")
 abbrev pub IsPlain : WgslType → Type 0
 IsPlain (scalar s) = Unit {0}
 IsPlain (within l t) = Unit {0}
@@ -74,7 +74,7 @@ IsLeaf (ray_query f) = Unit {0}
 IsLeaf (acceleration_structure f) = Unit {0}
 IsLeaf t = ⊥
 
--- A reference in the handle space, to which there are no pointers.
+-- a reference in the handle space, to which there are no pointers
 abbrev pub IsInHandleSpace : WgslType → Type 0
 IsInHandleSpace (reference Handle t m) = Unit {0}
 IsInHandleSpace t = ⊥

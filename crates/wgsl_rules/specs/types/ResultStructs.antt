@@ -11,20 +11,20 @@ use Rattle.wgsl_syntax.specs.declared.result_struct.ResultPrecision.TheVariants 
 use Rattle.wgsl_syntax.specs.ResultStruct.{function_text, shape_text, precision_text}
 use Rattle.wgsl_rules.specs.types.Types.{WgslType, scalar, struct, vec, Members, no_members, member}
 
--- The type itself, or a vector of it, by the shape.
+-- the type itself, or a vector of it, by the shape
 abbrev pub shaped : ResultShape → WgslType → WgslType
 shaped shape.Scalar t = t
 shaped shape.Vec2 t = vec 2 t
 shaped shape.Vec3 t = vec 3 t
 shaped shape.Vec4 t = vec 4 t
 
--- The scalar inside the function's argument.
+-- the scalar inside the function's argument
 abbrev pub float_of : ResultPrecision → Scalar
 float_of precision.Abstract = AbstractFloat
 float_of precision.F32 = F32
 float_of precision.F16 = F16
 
--- The scalar inside the exponent that `frexp` returns.
+-- the scalar inside the exponent that `frexp` returns
 abbrev pub exponent_of : ResultPrecision → Scalar
 exponent_of precision.Abstract = AbstractInt
 exponent_of precision.F32 = I32

@@ -18,7 +18,7 @@ pub record Signature : Type 0 where
   pub template : Option (List Parameter)
   pub arguments : List WgslType
 
--- A parameter that needs no memory.
+-- a parameter that needs no memory
 abbrev pub IsLeafParameter : Parameter → Type 0
 IsLeafParameter (of_type t) = IsLeaf t
 IsLeafParameter (of_literal l) = Unit {0}
