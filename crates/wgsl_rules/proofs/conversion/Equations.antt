@@ -15,7 +15,7 @@ use Rattle.wgsl_rules.specs.conversion.Conversion.{BaseStep, int_to_float, int_t
 use Rattle.wgsl_rules.proofs.conversion.Steps.{depth, depth-result_struct, parent, scalar_at, step_parent}
 use Rattle.wgsl_rules.proofs.conversion.Order.{Above, here, further, above_inside, above_from_within, above_along, along_above, value_converts, above_target, converts_once, dec_converts}
 
--- a rank function
+-- the rank as a function
 
 pub rank : WgslType → WgslType → Option ℕ
 rank t u = elim (dec_converts t u) [ yes h ↦ Some h.0 | no n ↦ None ]
@@ -28,7 +28,7 @@ rank_converts t u w =
       | no n ↦ (λ e. absurd (cc e), λ c. absurd (n (w, c)))
     ]
 
--- to the type itself, and by a load
+-- conversion to the type itself, and by a load
 
 pub converts_same : (t : WgslType) → Converts t t 0
 converts_same t = inl (above_along here (omega arith))

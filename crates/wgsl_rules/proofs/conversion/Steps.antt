@@ -26,7 +26,7 @@ scalar_depth I64 = 8
 scalar_depth U64 = 9
 scalar_depth s = 0
 
--- the scalar at the bottom
+-- the innermost scalar
 abbrev pub core : WgslType → Scalar
 core (scalar s) = s
 core (within l t) = core t

@@ -128,7 +128,7 @@ no_step_to_root p e t w s = let k = step_to_node s p refl in let d : None ≡ So
 
 -- Ancestors
 
--- the n-fold parent of the second node is the first
+-- the first node is n parents above the second
 pub data Ancestor : Node → Node → ℕ → Type 0 where
   itself : {p : Node} → Ancestor p p 0
   past : {p q r : Node} {n : ℕ} → Ancestor p q n → parent_of r ≡ Some q → Ancestor p r (n + 1)

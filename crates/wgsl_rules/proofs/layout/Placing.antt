@@ -91,7 +91,7 @@ laid_sooner e f [] (o ∷ os) total le h = absurd h
 laid_sooner e f (p ∷ ps) [] total le h = absurd h
 laid_sooner e f (p ∷ ps) (o ∷ os) total le h = (h.0, let at : f ≤ o = h.1 in omega arith, h.2)
 
--- the members end before the total
+-- the total is not below the start
 pub laid_before : (e : ℕ) (ps : List MemberLayout) (os : List ℕ) (total : ℕ) → AreLaid e ps os total → e ≤ total
 laid_before e [] [] total h = h
 laid_before e [] (o ∷ os) total h = absurd h

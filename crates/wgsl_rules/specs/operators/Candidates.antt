@@ -129,7 +129,7 @@ pub data IsCandidate : Name → List WgslType → WgslType → Type 0 where
   -- vec2<i32> & vec2<i32> : vec2<i32>
   bits_vectors : (o : BinaryOperator) → IsBitwise o → (n : ℕ) (i : Scalar) → IsInteger i →
       IsCandidate (operator o) (vec n (scalar i) ∷ vec n (scalar i) ∷ []) (vec n (scalar i))
-  -- on two vectors of `bool`
+  -- `|` and `&` on two vectors of `bool`
   -- vec2<bool> | vec2<bool> : vec2<bool>
   bools_vectors : (o : BinaryOperator) → IsOrAnd o → (n : ℕ) →
       IsCandidate (operator o) (vec n (scalar Bool) ∷ vec n (scalar Bool) ∷ []) (vec n (scalar Bool))
@@ -144,7 +144,7 @@ pub data IsCandidate : Name → List WgslType → WgslType → Type 0 where
   -- `min` and `max` of two numbers, or two vectors of numbers, of the same type
   -- min(f32, f32) : f32
   of_two : (n : Name) → IsMinMax n → (t : WgslType) → IsNumericOrVector t → IsCandidate n (t ∷ t ∷ []) t
-  -- `clamp` of three of the same type
+  -- `clamp` of three numbers, or three vectors of numbers, of the same type
   -- clamp(u32, u32, u32) : u32
   of_three : (t : WgslType) → IsNumericOrVector t → IsCandidate clamp (t ∷ t ∷ t ∷ []) t
   -- the dot product of two vectors of numbers of the same type

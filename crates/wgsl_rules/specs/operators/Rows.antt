@@ -62,11 +62,11 @@ pub data IsRow : BinaryOperator → WgslType → WgslType → WgslType → WgslT
   -- the short-circuit operators, `||` and `&&`, of two `bool`
   -- bool && bool : bool
   logical_row : (o : BinaryOperator) → IsLogical o → IsRow o (scalar Bool) (scalar Bool) (scalar Bool) (scalar Bool) (scalar Bool)
-  -- bitwise operators, if the common type is a vector of `bool`
+  -- `|` and `&`, if the common type is a vector of `bool`
   -- vec2<bool> | vec2<bool> : vec2<bool>
   bools_row : (o : BinaryOperator) → IsOrAnd o → (n : ℕ) (a b : WgslType) → IsCommon a b (Some (vec n (scalar Bool))) →
       IsRow o a b (vec n (scalar Bool)) (vec n (scalar Bool)) (vec n (scalar Bool))
-  -- if the common type is an integer or a vector of integers
+  -- bitwise operators, if the common type is an integer or a vector of integers
   -- AbstractInt ^ u32 : u32
   bit_row : (o : BinaryOperator) → IsBitwise o → (a b c : WgslType) → IsCommon a b (Some c) → IsIntegerOrVector c →
       IsRow o a b c c c
