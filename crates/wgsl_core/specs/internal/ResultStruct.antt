@@ -26,7 +26,7 @@ abbrev pub IsResult : List ℕ → Member → Member → ResultStruct → Type 0
 IsResult name first second r =
     (name ≡ result_name r) × (first ≡ plain (codes "fract") (shaped r.shape (scalar (float_of r.precision)))) × (second ≡ second_member r.function r.shape r.precision)
 
--- the precision and the shape by the first member's type, and the function by the second member's name
+-- precision and shape by the first member's type, the function by the second member's name
 
 abbrev pub precision_at : Scalar → Option ResultPrecision
 precision_at AbstractFloat = Some precision.Abstract

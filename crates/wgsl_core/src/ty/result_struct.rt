@@ -13,7 +13,7 @@ use wgsl_syntax::result_struct::{ResultFunction, ResultPrecision, ResultShape, R
 use wgsl_syntax::scalar::Scalar;
 
 impl StructType {
-    /// Which struct that `frexp` or `modf` returns it is, by its name, members and attributes; None if it is none.
+    /// The result struct of `frexp` or `modf` that it is, by its name, members and attributes, or None.
     pub fn result_struct(&self) -> Option<ResultStruct>
         ensures { (r : ResultName) → (result ≡ Some r)
             ↔ (struct_type (struct_view self.now) ≡ result_type r) }

@@ -38,7 +38,7 @@ pub converts_in_short : {t u : WgslType} {w n : ℕ} → ConvertsIn t u w n → 
 converts_in_short {u = u} (inl a) = omega (arith, (counted_above a).2, height_small u)
 converts_in_short (inr h) = omega (arith, h.2)
 
--- a type converts to another with at most one rank, in at most one number of steps
+-- the rank and the number of steps of a conversion are unique
 pub converts_in_once : {t u : WgslType} {v w n m : ℕ} → ConvertsIn t u v n → ConvertsIn t u w m → (v ≡ w) × (n ≡ m)
 converts_in_once {t} {u} {v} {w} {n} {m} h k = (converts_once (counted_converts h) (counted_converts k), steps h k)
   where

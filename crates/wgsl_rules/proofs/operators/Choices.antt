@@ -190,8 +190,8 @@ refused_answer {n} {ts} f = record {
   none = (λ e. f, λ f. refl);
 }
 
--- A family's row, at the common type of what the operands put, is the least candidate. Without a row, a common type, or
--- one that the family admits, no candidate takes the operands.
+-- A family's row, at the common type of what the operands put, is the least candidate. If there is no row, or no common
+-- type that the family admits, no candidate takes the operands.
 
 pub row_choice : (n : Name) (ts es : List WgslType) (f : Form n) (b : WgslType) → All IsValueType ts → All IsValueType es → form_of n (outers ts) ≡ Some f →
     IsPut f.slots ts es → IsLeftCommon es (Some b) → Admits f.kind b → IsLeastCandidate n ts (fill_all f.slots b) (fill f.gives b)
