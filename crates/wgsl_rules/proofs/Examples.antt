@@ -1,5 +1,5 @@
 -- Worked cases of the definitions.
-use Rattle.std.proofs.Common.{◌≡◌, ℕ, [], ◌∷◌, Some, None, codes, refl, inl, inr, arith}
+use Rattle.std.proofs.Common.{◌≡◌, ℕ, List, [], ◌∷◌, Some, None, Result, Ok, Err, codes, refl, inl, inr, arith}
 use Rattle.wgsl_syntax.specs.declared.scalar.Scalar.TheVariants.{AbstractInt, AbstractFloat, I32, U32, F32, F16}
 use Rattle.wgsl_syntax.specs.declared.address.AddressSpace.{AddressSpace}
 use Rattle.wgsl_syntax.specs.declared.address.AddressSpace.TheVariants.{Private}
@@ -8,15 +8,17 @@ use Rattle.wgsl_syntax.specs.declared.address.AccessMode.TheVariants.{Read, Writ
 use Rattle.wgsl_syntax.specs.declared.result_struct.ResultFunction.TheVariants.{Frexp}
 use Rattle.wgsl_syntax.specs.declared.result_struct.ResultShape.TheVariants as shape
 use Rattle.wgsl_syntax.specs.declared.result_struct.ResultPrecision.TheVariants as precision
-use Rattle.wgsl_rules.specs.types.Types.{array_of, vec_of, WgslType, scalar, atomic, pointer, reference, struct, no_members, vec, mat, array}
+use Rattle.wgsl_rules.specs.types.Types.{array_of, vec_of, WgslType, Members, scalar, atomic, pointer, reference, struct, no_members, vec, mat, array}
 use Rattle.wgsl_rules.specs.types.ResultStructs.{plain_member, result_struct}
-use Rattle.wgsl_rules.specs.conversion.Conversion.{Converts, load, load_inside, result_to_f32, base}
+use Rattle.wgsl_rules.specs.conversion.Conversion.{Converts, ConvertsTo, load, load_inside, result_to_f32, base}
 use Rattle.wgsl_rules.specs.conversion.Converted.{IsConvertedInside}
 use Rattle.wgsl_syntax.specs.declared.operator.BinaryOperator.TheVariants.{Addition, ShiftLeft, Multiplication}
 use Rattle.wgsl_rules.specs.operators.Candidates.{operator}
 use Rattle.wgsl_rules.specs.Headline.{IsLeastCandidate}
 use Rattle.wgsl_rules.specs.operators.Rows.{scalar_row, scalar_vector_row, matrix_vector_row, shift_row}
 use Rattle.wgsl_rules.specs.conversion.Concrete.{concretized}
+use Rattle.wgsl_rules.specs.errors.Refusals.{Refusal, param_count, param_type}
+use Rattle.wgsl_rules.specs.constructors.Constructors.{IsStructCall}
 use Rattle.wgsl_rules.proofs.conversion.Order.{Above, here, further}
 use Rattle.wgsl_rules.proofs.conversion.Equations.{converts_scalar, converts_inside, converts_within, converts_reference, converts_alone}
 use Rattle.wgsl_rules.proofs.operators.ChosenRows.{row_chosen}
@@ -98,3 +100,35 @@ concrete_array = refl
 
 concrete_matrix : concretized (mat 2 2 (scalar AbstractInt)) ≡ mat 2 2 (scalar F32)
 concrete_matrix = refl
+
+-- constructors of `struct S { a: i32, b: vec3<f32> }`
+members : Members
+members = plain_member (codes "a") (scalar I32) (plain_member (codes "b") (vec 3 (scalar F32)) no_members)
+
+abbrev IsAnswerOfS : List WgslType → Result (Unit {0}) Refusal → Type 0
+IsAnswerOfS args r = IsStructCall (codes "S") members args r
+
+-- S()
+struct_of_nothing : IsAnswerOfS [] (Ok tt)
+struct_of_nothing = refl
+
+-- S(AbstractInt, vec3<AbstractFloat>)
+struct_of_members : IsAnswerOfS (scalar AbstractInt ∷ vec 3 (scalar AbstractFloat) ∷ []) (Ok tt)
+unfolding members
+struct_of_members = inl (refl, inl (((3, (converts_scalar AbstractInt I32 3).1 refl), ((1, vectors_one), tt)), refl))
+  where
+    vectors_one : Converts (vec 3 (scalar AbstractFloat)) (vec 3 (scalar F32)) 1
+    vectors_one = converts_inside (vec_of 3) (scalar AbstractFloat) (scalar F32) 1 ((converts_scalar AbstractFloat F32 1).1 refl)
+
+-- S(i32)
+struct_of_too_few : IsAnswerOfS (scalar I32 ∷ []) (Err (param_count (codes "S") 2 1))
+unfolding members
+struct_of_too_few = inr ((λ e. absurd (cc e)), refl)
+
+-- S(f32, vec3<f32>)
+struct_of_another : IsAnswerOfS (scalar F32 ∷ vec 3 (scalar F32) ∷ []) (Err (param_type (scalar I32) (scalar F32)))
+unfolding members
+struct_of_another = inl (refl, inr (scalar I32, scalar F32, inl (float_not_int, refl, refl), refl))
+  where
+    float_not_int : ¬ ConvertsTo (scalar F32) (scalar I32)
+    float_not_int p = let e : None ≡ Some p.0 = (converts_scalar F32 I32 p.0).0 p.1 in cc e

@@ -108,7 +108,10 @@ IsFilled name ms args r =
     ⊎ ((t : WgslType) × (a : WgslType) × IsFirstMisfit ms args t a × (r ≡ Err (param_type t a))))
     (r ≡ Err (param_count name (member_count ms) (length args)))
 
--- structs: no argument, or one per member
+-- structs: no argument, or one per member; for `struct S { a: i32, b: vec3<f32> }`:
 abbrev pub IsStructCall : List ℕ → Members → List WgslType → Result (Unit {0}) Refusal → Type 0
+-- S() passes
 IsStructCall name ms [] r = r ≡ Ok tt
+-- S(AbstractInt, vec3<AbstractFloat>) passes; S(i32) is refused, since it has one argument of two, and S(f32, vec3<f32>)
+-- because `f32` doesn't convert to `i32`
 IsStructCall name ms args r = IsFilled name ms args r
