@@ -3,7 +3,7 @@ use Rattle.std.specs.Prelude.{◌≡◌, ℤ, Option, Some, option_map}
 use Rattle.wgsl_rules.specs.types.Types.{WgslType}
 use Rattle.wgsl_core.specs.View.{view}
 use Rattle.wgsl_core.specs.Converted.{converted, paired_has_type}
-use Rattle.example_value.specs.declared.Constant.{Constant}
+use Rattle.example_value.specs.declared.value.Constant.{Constant}
 
 -- a constant without the memory that its type lies in
 abbrev pub seen : Constant → WgslType × ℤ
