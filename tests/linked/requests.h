@@ -15,7 +15,8 @@ static void read_requests(void) {
     while (count < MOST) {
         ssize_t len = getline(&requests[count], &capacity, stdin);
         if (len < 0) break;
-        lengths[count++] = (size_t)len - (requests[count][len - 1] == '\n');
+        lengths[count] = (size_t)len - (requests[count][len - 1] == '\n');
+        count++;
         capacity = 0;
     }
 }

@@ -1,7 +1,7 @@
 // A session: how lines are parted into words, which are bad, and what a read or a write that fails comes to.
 use super::support::streams::{Source, Target};
 use super::support::{WHOLE, expect, expect_whole};
-use crate::run::{RunError, status};
+use crate::run::RunError;
 use std::alloc::{AllocError, Global};
 use std::io::ErrorKind;
 use std::test::Fail;
@@ -15,15 +15,6 @@ fn long_line(alloc: Global, length: usize) -> Result<Vec<u8>, AllocError> {
     }
     line.extend_from_slice(b"2 i32 vec 2 i32\r")?;
     Ok(line)
-}
-
-#[test]
-fn statuses_are_those_of_the_outcomes(rt: HostRuntime) {
-    assert_eq!(rt; status(&Ok(true)), 0);
-    assert_eq!(rt; status(&Ok(false)), 2);
-    assert_eq!(rt; status(&Err(RunError::Read)), 1);
-    assert_eq!(rt; status(&Err(RunError::Write)), 1);
-    assert_eq!(rt; status(&Err(RunError::Memory)), 3);
 }
 
 #[test]
