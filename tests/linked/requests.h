@@ -1,4 +1,4 @@
-/* What the tests of the linked library share: the requests, a line each on standard input. */
+/* What the tests of the linked library share: the requests, one per line of standard input. */
 #include "wgsl.h"
 #include <stdio.h>
 #include <stdlib.h>

@@ -1,7 +1,7 @@
 //! The library for C: one function that answers a request.
 #![tactic(auto)]
 
-mod handed;
+mod hand_over;
 #[cfg(test)]
 mod tests;
 
@@ -9,9 +9,9 @@ ghost use Rattle.std.specs.Prelude.{◌≡◌, ◌≢◌, ◌⊎◌, ◌<◌, �
 ghost use Rattle.std.specs.declared.alloc.AllocError.{AllocError};
 ghost use Rattle.wgsl_requests.specs.Words.{has_forbidden, words_of};
 ghost use Rattle.wgsl_requests.specs.declared.request.Reply.{Reply};
-ghost use Rattle.wgsl_c.specs.Handed.{IsHandedOver, IsReplyTo, IsStatus};
+ghost use Rattle.wgsl_c.specs.HandOver.{IsHandedOver, IsReplyTo, IsStatus};
 
-use handed::hand_over;
+use hand_over::hand_over;
 use std::alloc::Global;
 use wgsl_requests::request::reply_to;
 

@@ -21,14 +21,14 @@ pub fn read_type(alloc: Global, words: &mut Words) -> Result<Type, Unread>
         let word = words.next()?;
         match read_outer(word, words)? {
             Some(outer) => layers.push(outer)?,
-            None => return wrapped(alloc, &layers, read_innermost(alloc, word, words)?),
+            None => return wrap(alloc, &layers, read_innermost(alloc, word, words)?),
         }
     }
     Err(Unread::Word)
 }
 
 /// The type inside these layers, of which the last is the innermost.
-fn wrapped(alloc: Global, layers: &[Outer], innermost: Type) -> Result<Type, Unread> {
+fn wrap(alloc: Global, layers: &[Outer], innermost: Type) -> Result<Type, Unread> {
     let mut ty = innermost;
     for outer in layers.iter().rev() {
         ty = outer.around(alloc, ty)?;

@@ -60,7 +60,7 @@ abbrev pub IsGiven : Option ℕ → (ℕ → Type 0) → ℕ → Type 0
 IsGiven (Some x) OfType n = n ≡ x
 IsGiven None OfType n = OfType n
 
--- the size of a struct: the least total of a placement of its members
+-- the size of a struct: the smallest that any placement of its members has
 pub record IsStructSize (AreLayouts : List MemberLayout → Type 0) (size : ℕ) : Type 0 where
   pub layouts : List MemberLayout
   pub known : AreLayouts layouts

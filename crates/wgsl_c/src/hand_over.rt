@@ -1,6 +1,6 @@
 // How a reply is handed over to C.
 ghost use Rattle.std.specs.Prelude.{◌≡◌, ◌++◌, ◌<◌, ◌≤◌, drop, length};
-ghost use Rattle.wgsl_c.specs.Handed.{IsHandedOver};
+ghost use Rattle.wgsl_c.specs.HandOver.{IsHandedOver};
 
 use std::alloc::AllocError;
 use wgsl_requests::request::Reply;
