@@ -4,9 +4,8 @@ use Rattle.wgsl_rules.specs.types.Types.{WgslType}
 use Rattle.wgsl_rules.specs.conversion.Conversion.{IsValueType, ConvertsTo}
 use Rattle.wgsl_rules.specs.conversion.Common.{IsLeftCommon}
 use Rattle.wgsl_rules.specs.Headline.{Receives, IsLeastCommon}
-use Rattle.wgsl_rules.specs.Laws.{ConversionOrder, RanksAdd, TargetsComparable, RankNamesTarget, CommonAnyOrder, LeftCommonIsLeast, CommonSymmetric, OneChoice, IsCallName}
-use Rattle.wgsl_rules.specs.internal.Laws.{RowIsChoice, CallRowIsChoice}
-use Rattle.wgsl_rules.proofs.calls.ChosenRows.{call_chosen, call_refused}
+use Rattle.wgsl_rules.specs.Laws.{ConversionOrder, RanksAdd, TargetsComparable, RankNamesTarget, CommonAnyOrder, LeftCommonIsLeast, CommonSymmetric, OneChoice}
+use Rattle.wgsl_rules.specs.internal.Laws.{RowIsChoice}
 use Rattle.wgsl_rules.proofs.operators.ChosenRows.{two_values, row_chosen, row_refused}
 use Rattle.wgsl_syntax.specs.declared.operator.BinaryOperator.{BinaryOperator}
 use Rattle.wgsl_rules.specs.operators.Candidates.{Name}
@@ -90,10 +89,4 @@ pub row_is_choice : (o : BinaryOperator) (a b : WgslType) → IsValueType a → 
 row_is_choice o a b va vb = record {
   chosen = λ l r s k. row_chosen k va vb;
   refused = row_refused o a b va vb;
-}
-
-pub call_row_is_choice : (n : Name) → IsCallName n → (ts : List WgslType) → All IsValueType ts → CallRowIsChoice n ts
-call_row_is_choice n c ts vs = record {
-  chosen = λ r k. call_chosen k vs;
-  refused = call_refused n c ts vs;
 }

@@ -1,4 +1,3 @@
-pub mod ChosenRows
 pub mod SortedNames
 pub mod UnlistedNames
 pub mod NamedRows

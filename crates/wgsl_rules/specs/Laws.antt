@@ -49,7 +49,7 @@ pub record OneChoice (n : Name) (ts : List WgslType) : Type 0 where
   pub one : (us vs : List WgslType) (r s : WgslType) → IsLeastCandidate n ts us r → IsLeastCandidate n ts vs s →
       (us ≡ vs) × (r ≡ s)
 
--- the five built-in functions that have candidates
+-- the built-in functions that have candidates
 abbrev pub IsCallName : Name → Type 0
 IsCallName (operator o) = ⊥
 IsCallName n = Unit {0}

@@ -7,19 +7,19 @@ use Rattle.wgsl_rules.specs.conversion.Conversion.{IsValueType}
 use Rattle.wgsl_rules.specs.conversion.Common.{IsLeftCommon}
 use Rattle.wgsl_syntax.specs.declared.operator.BinaryOperator.{BinaryOperator}
 use Rattle.wgsl_syntax.specs.declared.operator.BinaryOperator.TheVariants.{ShortCircuitOr, ShortCircuitAnd, Addition, Subtraction, Multiplication, Division, Remainder, Equality, Inequality, LessThan, LessThanEqual, GreaterThan, GreaterThanEqual, BitwiseOr, BitwiseAnd, BitwiseXor, ShiftLeft, ShiftRight}
-use Rattle.wgsl_rules.specs.operators.Candidates.{Name, operator, min, max, clamp, select, IsArithmetic, IsSum, IsComparison, IsLogical, IsBitwise, IsOrAnd, IsShift, IsMinMax, IsCandidate, scalars, vectors, scalar_vector, vector_scalar, matrices, scalar_matrix, matrix_scalar, vector_matrix, matrix_vector, matrix_matrix, compared, compared_vectors, logical, bits, bits_vectors, bools_vectors, shifted, shifted_vectors, of_two, of_three, products, either, each_either}
-use Rattle.wgsl_rules.specs.types.Kinds.{IsInteger, IsNumericOrVector, IsScalarOrVector}
+use Rattle.wgsl_rules.specs.operators.Candidates.{Name, operator, min, max, atan2, step, pow, cross, reflect, clamp, fma, smoothstep, face_forward, mix, refract, IsArithmetic, IsSum, IsComparison, IsLogical, IsBitwise, IsOrAnd, IsShift, IsOfTwo, IsOfThree, IsFor, IsMixed, IsCandidate, scalars, vectors, scalar_vector, vector_scalar, matrices, scalar_matrix, matrix_scalar, vector_matrix, matrix_vector, matrix_matrix, compared, compared_vectors, logical, bits, bits_vectors, bools_vectors, shifted, shifted_vectors, of_two, of_three, distances, products, either, each_either, mixed, inserted}
+use Rattle.wgsl_rules.specs.types.Kinds.{IsInteger}
 use Rattle.wgsl_rules.specs.operators.Choice.{HasRanks, Takes, IsNowhereMore, IsSomewhereLess}
 use Rattle.wgsl_rules.specs.Headline.{IsLeastCandidate, IsChosenAnswer}
-use Rattle.wgsl_rules.proofs.operators.Families.{fill, fill_all, IsPut, IsLeastOf, least_of, none_of, least_of_taken, taken_puts}
-use Rattle.wgsl_rules.proofs.operators.Forms.{Admits, above_admits, Outer, plain, layer, outers, ranked_outers, Form, arithmetic, sums, matrix_products, comparisons, shifts, or_else, form_of}
+use Rattle.wgsl_rules.proofs.operators.Families.{Slot, fill_all, HasOpen, IsPut, IsLeastOf, least_of, none_of, least_of_taken, taken_above, settle}
+use Rattle.wgsl_rules.proofs.operators.Forms.{Kind, Admits, IsLeastAdmitted, least_admitted, Outer, plain, layer, outer, outers, ranked_outers, Form, arithmetic, sums, matrix_products, comparisons, shifts, admits_number, admits_float_or_vector, admitted_for, two, three, mixed_form, or_else, form_of}
 
 pub record Belongs (n : Name) (us : List WgslType) (r : WgslType) : Type 0 where
   pub form : Form n
   pub at : WgslType
   pub known : form_of n (outers us) ≡ Some form
   pub operands : us ≡ fill_all form.slots at
-  pub result : r ≡ fill form.gives at
+  pub result : r ≡ form.gives at
   pub admitted : Admits form.kind at
 
 pub arithmetic_form : (o : BinaryOperator) (h : IsArithmetic o) (os : List Outer) (f : Form (operator o)) → arithmetic o h os ≡ Some f → form_of (operator o) os ≡ Some f
@@ -44,7 +44,32 @@ shift_form ShiftLeft h os f e = e
 shift_form ShiftRight h os f e = e
 shift_form o h os f e = absurd h
 
-belongs : {n : Name} {us : List WgslType} {r : WgslType} → IsCandidate n us r → Belongs n us r
+pub two_form : (n : Name) (h : IsOfTwo n) (os : List Outer) → form_of n os ≡ Some (two n h)
+two_form min h os = refl
+two_form max h os = refl
+two_form atan2 h os = refl
+two_form step h os = refl
+two_form pow h os = refl
+two_form cross h os = refl
+two_form reflect h os = refl
+two_form n h os = absurd h
+
+three_form : (n : Name) (h : IsOfThree n) (t : WgslType) → IsFor n t → form_of n (outer t ∷ outer t ∷ outer t ∷ []) ≡ Some (three n h)
+three_form clamp h t k = refl
+three_form fma h t k = refl
+three_form smoothstep h t k = refl
+three_form face_forward h t k = refl
+three_form mix h (scalar s) k = refl
+three_form mix h (within (vec_of n) t) k = refl
+three_form mix h t k = absurd k
+three_form n h t k = absurd h
+
+mixed_known : (n : Name) (h : IsMixed n) (k : ℕ) → form_of n (layer (vec_of k) ∷ layer (vec_of k) ∷ plain ∷ []) ≡ Some (mixed_form n h k)
+mixed_known mix h k = refl
+mixed_known refract h k = refl
+mixed_known n h k = absurd h
+
+pub belongs : {n : Name} {us : List WgslType} {r : WgslType} → IsCandidate n us r → Belongs n us r
 belongs (scalars o h s) = record { form = _; at = scalar s; known = arithmetic_form o h (plain ∷ plain ∷ []) _ refl; operands = refl; result = refl; admitted = tt }
 belongs (vectors o h n e) = record { form = _; at = e; known = arithmetic_form o h (layer (vec_of n) ∷ layer (vec_of n) ∷ []) _ refl; operands = refl; result = refl; admitted = tt }
 belongs (scalar_vector o h s n) = record { form = _; at = scalar s; known = arithmetic_form o h (plain ∷ layer (vec_of n) ∷ []) _ refl; operands = refl; result = refl; admitted = tt }
@@ -90,30 +115,14 @@ belongs (bools_vectors o h n) = bools_belong o h n
     bools_belong o h n = absurd h
 belongs (shifted o h i k) = record { form = _; at = scalar i; known = shift_form o h (plain ∷ plain ∷ []) _ refl; operands = refl; result = refl; admitted = k }
 belongs (shifted_vectors o h n i k) = record { form = _; at = scalar i; known = shift_form o h (layer (vec_of n) ∷ layer (vec_of n) ∷ []) _ refl; operands = refl; result = refl; admitted = k }
-belongs (of_two n h t k) = two_belong n h t k
-  where
-    two_belong : (n : Name) → IsMinMax n → (t : WgslType) → IsNumericOrVector t → Belongs n (t ∷ t ∷ []) t
-    two_belong min h (scalar s) k = record { form = _; at = scalar s; known = refl; operands = refl; result = refl; admitted = k }
-    two_belong min h (within (vec_of n) (scalar s)) k = record { form = _; at = scalar s; known = refl; operands = refl; result = refl; admitted = k }
-    two_belong min h t k = absurd k
-    two_belong max h (scalar s) k = record { form = _; at = scalar s; known = refl; operands = refl; result = refl; admitted = k }
-    two_belong max h (within (vec_of n) (scalar s)) k = record { form = _; at = scalar s; known = refl; operands = refl; result = refl; admitted = k }
-    two_belong max h t k = absurd k
-    two_belong n h t k = absurd h
-belongs (of_three t k) = three_belong t k
-  where
-    three_belong : (t : WgslType) → IsNumericOrVector t → Belongs clamp (t ∷ t ∷ t ∷ []) t
-    three_belong (scalar s) k = record { form = _; at = scalar s; known = refl; operands = refl; result = refl; admitted = k }
-    three_belong (within (vec_of n) (scalar s)) k = record { form = _; at = scalar s; known = refl; operands = refl; result = refl; admitted = k }
-    three_belong t k = absurd k
-belongs (products n s k) = record { form = _; at = scalar s; known = refl; operands = refl; result = refl; admitted = k }
-belongs (either t k) = either_belong t k
-  where
-    either_belong : (t : WgslType) → IsScalarOrVector t → Belongs select (t ∷ t ∷ scalar Bool ∷ []) t
-    either_belong (scalar s) k = record { form = _; at = scalar s; known = refl; operands = refl; result = refl; admitted = tt }
-    either_belong (within (vec_of n) t) k = record { form = _; at = t; known = refl; operands = refl; result = refl; admitted = tt }
-    either_belong t k = absurd k
-belongs (each_either n m e) = record { form = _; at = e; known = refl; operands = refl; result = refl; admitted = tt }
+belongs (of_two n h t k) = record { form = two n h; at = t; known = two_form n h (outer t ∷ outer t ∷ []); operands = refl; result = refl; admitted = admitted_for n t k }
+belongs (of_three n h t k) = record { form = three n h; at = t; known = three_form n h t k; operands = refl; result = refl; admitted = admitted_for n t k }
+belongs (distances t k) = record { form = _; at = t; known = refl; operands = refl; result = refl; admitted = admits_float_or_vector t k }
+belongs (products n s k) = record { form = _; at = vec n (scalar s); known = refl; operands = refl; result = refl; admitted = k }
+belongs (either t k) = record { form = _; at = t; known = refl; operands = refl; result = refl; admitted = k }
+belongs (each_either n m e) = record { form = _; at = vec n e; known = refl; operands = refl; result = refl; admitted = tt }
+belongs (mixed n h k s f) = record { form = mixed_form n h k; at = scalar s; known = mixed_known n h k; operands = refl; result = refl; admitted = f }
+belongs (inserted t k) = record { form = _; at = t; known = refl; operands = refl; result = refl; admitted = admits_number t k }
 
 -- all candidates that take the operands are of one family
 same_form : (n : Name) (ts us vs : List WgslType) (r s : WgslType) (vs' : List ℕ) (ws : List ℕ) → All IsValueType ts →
@@ -124,8 +133,15 @@ same_form n ts us vs r s ks ws va a b h k =
     let e : Some a.form ≡ Some b.form = sym eu ∙ ev in
     cc e
 
+-- The member of a family at the least type that its kind admits: it takes the operands, and other members that are
+-- admitted and take them have higher ranks.
+record IsLeastIn (k : Kind) (ss : List Slot) (ts : List WgslType) (b : WgslType) : Type 0 where
+  ranks : List ℕ
+  takes : HasRanks ts (fill_all ss b) ranks
+  least : (c : WgslType) (ws : List ℕ) → Admits k c → HasRanks ts (fill_all ss c) ws → (c ≡ b) ⊎ IsNowhereMore ranks ws × IsSomewhereLess ranks ws
+
 choice_of : (n : Name) (ts : List WgslType) (f : Form n) (b : WgslType) → All IsValueType ts → form_of n (outers ts) ≡ Some f → Admits f.kind b →
-    IsLeastOf f.slots ts b → IsLeastCandidate n ts (fill_all f.slots b) (fill f.gives b)
+    IsLeastIn f.kind f.slots ts b → IsLeastCandidate n ts (fill_all f.slots b) (f.gives b)
 choice_of n ts f b va e h k = record {
   candidate = f.sound b h;
   ranks = k.ranks;
@@ -133,21 +149,34 @@ choice_of n ts f b va e h k = record {
   least = λ vs s ws q r. against vs s ws (belongs q) r;
 }
   where
-    family : (g : Form n) → f ≡ g → (c : WgslType) (vs : List WgslType) (s : WgslType) (ws : List ℕ) → vs ≡ fill_all g.slots c → s ≡ fill g.gives c → HasRanks ts vs ws →
-        (vs ≡ fill_all f.slots b) × (s ≡ fill f.gives b) ⊎ IsNowhereMore k.ranks ws × IsSomewhereLess k.ranks ws
-    family g p c vs s ws ev es r =
+    family : (g : Form n) → f ≡ g → (c : WgslType) (vs : List WgslType) (s : WgslType) (ws : List ℕ) → vs ≡ fill_all g.slots c → s ≡ g.gives c → Admits g.kind c → HasRanks ts vs ws →
+        (vs ≡ fill_all f.slots b) × (s ≡ f.gives b) ⊎ IsNowhereMore k.ranks ws × IsSomewhereLess k.ranks ws
+    family g p c vs s ws ev es m r =
         let ev' : vs ≡ fill_all f.slots c = ev ∙ ap (λ (g : Form n). fill_all g.slots c) (sym p) in
-        let es' : s ≡ fill f.gives c = es ∙ ap (λ (g : Form n). fill g.gives c) (sym p) in
-        elim (k.least c ws (subst (λ vs. HasRanks ts vs ws) ev' r)).1 [
-          | inl q ↦ inl (ev' ∙ ap (λ c. fill_all f.slots c) q, es' ∙ ap (λ c. fill f.gives c) q)
+        let es' : s ≡ f.gives c = es ∙ ap (λ (g : Form n). g.gives c) (sym p) in
+        elim (k.least c ws (subst (λ (g : Form n). Admits g.kind c) (sym p) m) (subst (λ vs. HasRanks ts vs ws) ev' r)) [
+          | inl q ↦ inl (ev' ∙ ap (λ c. fill_all f.slots c) q, es' ∙ ap (λ c. f.gives c) q)
           | inr q ↦ inr q
         ]
 
     against : (vs : List WgslType) (s : WgslType) (ws : List ℕ) → Belongs n vs s → HasRanks ts vs ws →
-        (vs ≡ fill_all f.slots b) × (s ≡ fill f.gives b) ⊎ IsNowhereMore k.ranks ws × IsSomewhereLess k.ranks ws
+        (vs ≡ fill_all f.slots b) × (s ≡ f.gives b) ⊎ IsNowhereMore k.ranks ws × IsSomewhereLess k.ranks ws
     against vs s ws q r =
         let d : Some f ≡ Some q.form = sym e ∙ ap (λ os. form_of n os) (ranked_outers ts vs ws va r) ∙ q.known in
-        family q.form (cc d) q.at vs s ws q.operands q.result r
+        family q.form (cc d) q.at vs s ws q.operands q.result q.admitted r
+
+unraised : (k : Kind) (ss : List Slot) (ts : List WgslType) (b : WgslType) → IsLeastOf ss ts b → IsLeastIn k ss ts b
+unraised k ss ts b m = record { ranks = m.ranks; takes = m.takes; least = λ c ws a r. (m.least c ws r).1 }
+
+-- from the least type that takes the operands to the least of them that is admitted
+raised : (k : Kind) (ss : List Slot) (ts : List WgslType) (b d : WgslType) → HasOpen ss → All IsValueType ts → IsLeastOf ss ts b → IsLeastAdmitted k b d → IsLeastIn k ss ts d
+raised k ss ts b d o va m a =
+    let t = taken_above ss ts b d va (m.ranks, m.takes) a.above in
+    record {
+      ranks = t.0;
+      takes = t.1;
+      least = λ c ws h r. settle ss ts d c t.0 ws o va (a.least c (m.least c ws r).0 h) t.1 r;
+    }
 
 pub some_choice : (n : Name) (ts us : List WgslType) (r : WgslType) → All IsValueType ts → IsCandidate n us r → Takes us ts →
     (vs : List WgslType) × (s : WgslType) × IsLeastCandidate n ts vs s
@@ -156,8 +185,8 @@ some_choice n ts us r va q h =
     let e = ap (λ os. form_of n os) (ranked_outers ts us h.0 va h.1) ∙ m.known in
     let h' : Takes (fill_all m.form.slots m.at) ts = (h.0, subst (λ us. HasRanks ts us h.0) m.operands h.1) in
     let k = least_of_taken m.form.slots ts m.at m.form.opens va h' in
-    let a = above_admits (k.1.least m.at h'.0 h'.1).0 m.form.kind m.admitted in
-    (fill_all m.form.slots k.0, fill m.form.gives k.0, choice_of n ts m.form k.0 va e a k.1)
+    let a = least_admitted m.form.kind k.0 m.at (k.1.least m.at h'.0 h'.1).0 m.admitted in
+    (fill_all m.form.slots a.0, m.form.gives a.0, choice_of n ts m.form a.0 va e a.1.admitted (raised m.form.kind m.form.slots ts k.0 a.0 m.form.opens va k.1 a.1))
 
 contrary : (vs ws : List ℕ) → IsNowhereMore vs ws → IsSomewhereLess ws vs → ⊥
 contrary [] [] h k = k
@@ -194,8 +223,8 @@ refused_answer {n} {ts} f = record {
 -- type that the family admits, no candidate takes the operands.
 
 pub row_choice : (n : Name) (ts es : List WgslType) (f : Form n) (b : WgslType) → All IsValueType ts → All IsValueType es → form_of n (outers ts) ≡ Some f →
-    IsPut f.slots ts es → IsLeftCommon es (Some b) → Admits f.kind b → IsLeastCandidate n ts (fill_all f.slots b) (fill f.gives b)
-row_choice n ts es f b va ve e p h a = choice_of n ts f b va e a (least_of f.slots ts es b f.opens va ve p h)
+    IsPut f.slots ts es → IsLeftCommon es (Some b) → Admits f.kind b → IsLeastCandidate n ts (fill_all f.slots b) (f.gives b)
+row_choice n ts es f b va ve e p h a = choice_of n ts f b va e a (unraised f.kind f.slots ts b (least_of f.slots ts es b f.opens va ve p h))
 
 pub row_none : (n : Name) (ts : List WgslType) → All IsValueType ts → form_of n (outers ts) ≡ None → (us : List WgslType) (r : WgslType) → IsCandidate n us r → ¬ Takes us ts
 row_none n ts va e us r q h =
@@ -203,7 +232,7 @@ row_none n ts va e us r q h =
     let d : None ≡ Some m.form = sym e ∙ ap (λ os. form_of n os) (ranked_outers ts us h.0 va h.1) ∙ m.known in
     cc d
 
-of_row : (n : Name) (ts us : List WgslType) (r : WgslType) (f : Form n) → All IsValueType ts → form_of n (outers ts) ≡ Some f → Belongs n us r → Takes us ts →
+pub of_row : (n : Name) (ts us : List WgslType) (r : WgslType) (f : Form n) → All IsValueType ts → form_of n (outers ts) ≡ Some f → Belongs n us r → Takes us ts →
     (c : WgslType) × Takes (fill_all f.slots c) ts × Admits f.kind c
 of_row n ts us r f va e m h =
     let d : Some m.form ≡ Some f = sym (ap (λ os. form_of n os) (ranked_outers ts us h.0 va h.1) ∙ m.known) ∙ e in
@@ -218,17 +247,3 @@ pub row_no_common : (n : Name) (ts es : List WgslType) (f : Form n) → All IsVa
 row_no_common n ts es f va ve e p h us r q t =
     let k = of_row n ts us r f va e (belongs q) t in
     none_of f.slots ts es k.0 f.opens va ve p h k.1
-
-pub row_not_admitted : (n : Name) (ts es : List WgslType) (f : Form n) (b : WgslType) → All IsValueType ts → All IsValueType es → form_of n (outers ts) ≡ Some f →
-    IsPut f.slots ts es → IsLeftCommon es (Some b) → ¬ Admits f.kind b → (us : List WgslType) (r : WgslType) → IsCandidate n us r → ¬ Takes us ts
-row_not_admitted n ts es f b va ve e p h a us r q t =
-    let k = of_row n ts us r f va e (belongs q) t in
-    let m = (least_of f.slots ts es b f.opens va ve p h).least k.0 k.1.0 k.1.1 in
-    a (above_admits m.0 f.kind k.2)
-
-pub row_not_put : (n : Name) (ts : List WgslType) (f : Form n) → All IsValueType ts → form_of n (outers ts) ≡ Some f →
-    ((es : List WgslType) → ¬ IsPut f.slots ts es) → (us : List WgslType) (r : WgslType) → IsCandidate n us r → ¬ Takes us ts
-row_not_put n ts f va e p us r q t =
-    let k = of_row n ts us r f va e (belongs q) t in
-    let m = taken_puts f.slots k.0 ts k.1.0 va k.1.1 in
-    p m.types m.put

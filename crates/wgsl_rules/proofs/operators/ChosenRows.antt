@@ -17,7 +17,7 @@ use Rattle.wgsl_rules.specs.operators.Rows.{IsRow, scalar_row, vector_row, scala
 use Rattle.wgsl_rules.proofs.conversion.Order.{Above, here, above_inside, above_to_within, above_from_within, above_converts, value_converts}
 use Rattle.wgsl_rules.proofs.conversion.Commons.{value_above, common_join, no_common, some_common, common_symmetric}
 use Rattle.wgsl_rules.proofs.operators.Families.{whole, inner, fill, fill_all, IsPut}
-use Rattle.wgsl_rules.proofs.operators.Forms.{any_scalar, an_integer, a_bool, Admits, plain, layer, outer, outers, above_outer, above_admits, Form, form_of}
+use Rattle.wgsl_rules.proofs.operators.Forms.{any_scalar, an_integer, a_bool, Admits, plain, layer, outer, outers, above_outer, above_admits, as_scalar, Form, form_of}
 use Rattle.wgsl_rules.proofs.conversion.Equations.{IsPlainScalar, above_plain}
 use Rattle.wgsl_rules.proofs.operators.Choices.{arithmetic_form, comparison_form, shift_form, row_choice}
 
@@ -71,46 +71,46 @@ vector_of n a c v h = above_to_within h (vec_of n) c refl
 
 pub both_plain : (o : Name) (f : Form o) (a b c : WgslType) → IsValueType a → IsValueType b → outer c ≡ plain → f.slots ≡ whole ∷ whole ∷ [] →
     form_of o (plain ∷ plain ∷ []) ≡ Some f → IsCommon a b (Some c) → Admits f.kind c →
-    IsLeastCandidate o (a ∷ b ∷ []) (c ∷ c ∷ []) (fill f.gives c)
+    IsLeastCandidate o (a ∷ b ∷ []) (c ∷ c ∷ []) (f.gives c)
 both_plain o f a b c va vb p q e k h =
     let m = common_outers a b c va vb k in
     let os : outers (a ∷ b ∷ []) ≡ plain ∷ plain ∷ [] = cc (m.0, m.1, p) in
     let ts = two_values a b va vb in
-    subst (λ us. IsLeastCandidate o (a ∷ b ∷ []) us (fill f.gives c)) (ap (λ ss. fill_all ss c) q)
+    subst (λ us. IsLeastCandidate o (a ∷ b ∷ []) us (f.gives c)) (ap (λ ss. fill_all ss c) q)
     (row_choice o (a ∷ b ∷ []) (a ∷ b ∷ []) f c ts ts (ap (λ os. form_of o os) os ∙ e)
     (subst (λ ss. IsPut ss (a ∷ b ∷ []) (a ∷ b ∷ [])) (sym q) (b ∷ [], refl, ([], refl, refl))) (left_of_two a b c k) h)
 
 pub both_layered : (o : Name) (f : Form o) (l k : Layer) (a b c : WgslType) → IsValueType a → IsValueType b → f.slots ≡ inner l ∷ inner k ∷ [] →
     form_of o (layer l ∷ layer k ∷ []) ≡ Some f → IsCommon a b (Some c) → Admits f.kind c →
-    IsLeastCandidate o (within l a ∷ within k b ∷ []) (within l c ∷ within k c ∷ []) (fill f.gives c)
+    IsLeastCandidate o (within l a ∷ within k b ∷ []) (within l c ∷ within k c ∷ []) (f.gives c)
 both_layered o f l k a b c va vb q e m h =
     let xs = within l a ∷ within k b ∷ [] in
-    subst (λ us. IsLeastCandidate o xs us (fill f.gives c)) (ap (λ ss. fill_all ss c) q)
+    subst (λ us. IsLeastCandidate o xs us (f.gives c)) (ap (λ ss. fill_all ss c) q)
     (row_choice o xs (a ∷ b ∷ []) f c (two_values (within l a) (within k b) va vb) (two_values a b va vb) e
     (subst (λ ss. IsPut ss xs (a ∷ b ∷ [])) (sym q) (a, b ∷ [], refl, refl, (b, [], refl, refl, refl))) (left_of_two a b c m) h)
 
 left_layered : (o : Name) (f : Form o) (l : Layer) (a : WgslType) (s : Scalar) (c : WgslType) → IsValueType a → f.slots ≡ inner l ∷ whole ∷ [] →
     form_of o (layer l ∷ plain ∷ []) ≡ Some f → IsCommon a (scalar s) (Some c) → Admits f.kind c →
-    IsLeastCandidate o (within l a ∷ scalar s ∷ []) (within l c ∷ c ∷ []) (fill f.gives c)
+    IsLeastCandidate o (within l a ∷ scalar s ∷ []) (within l c ∷ c ∷ []) (f.gives c)
 left_layered o f l a s c va q e m h =
     let xs = within l a ∷ scalar s ∷ [] in
-    subst (λ us. IsLeastCandidate o xs us (fill f.gives c)) (ap (λ ss. fill_all ss c) q)
+    subst (λ us. IsLeastCandidate o xs us (f.gives c)) (ap (λ ss. fill_all ss c) q)
     (row_choice o xs (a ∷ scalar s ∷ []) f c (two_values (within l a) (scalar s) va tt) (two_values a (scalar s) va tt) e
     (subst (λ ss. IsPut ss xs (a ∷ scalar s ∷ [])) (sym q) (a, scalar s ∷ [], refl, refl, ([], refl, refl))) (left_of_two a (scalar s) c m) h)
 
 right_layered : (o : Name) (f : Form o) (s : Scalar) (k : Layer) (b c : WgslType) → IsValueType b → f.slots ≡ whole ∷ inner k ∷ [] →
     form_of o (plain ∷ layer k ∷ []) ≡ Some f → IsCommon (scalar s) b (Some c) → Admits f.kind c →
-    IsLeastCandidate o (scalar s ∷ within k b ∷ []) (c ∷ within k c ∷ []) (fill f.gives c)
+    IsLeastCandidate o (scalar s ∷ within k b ∷ []) (c ∷ within k c ∷ []) (f.gives c)
 right_layered o f s k b c vb q e m h =
     let xs = scalar s ∷ within k b ∷ [] in
-    subst (λ us. IsLeastCandidate o xs us (fill f.gives c)) (ap (λ ss. fill_all ss c) q)
+    subst (λ us. IsLeastCandidate o xs us (f.gives c)) (ap (λ ss. fill_all ss c) q)
     (row_choice o xs (scalar s ∷ b ∷ []) f c (two_values (scalar s) (within k b) tt vb) (two_values (scalar s) b tt vb) e
     (subst (λ ss. IsPut ss xs (scalar s ∷ b ∷ [])) (sym q) (b ∷ [], refl, (b, [], refl, refl, refl))) (left_of_two (scalar s) b c m) h)
 
 -- the least candidate for operands whose common type is a vector
 pub layered_common : (o : Name) (f : Form o) (n : ℕ) (a b c : WgslType) → IsValueType a → IsValueType b → f.slots ≡ inner (vec_of n) ∷ inner (vec_of n) ∷ [] →
     form_of o (layer (vec_of n) ∷ layer (vec_of n) ∷ []) ≡ Some f → IsCommon a b (Some (vec n c)) → Admits f.kind c →
-    IsLeastCandidate o (a ∷ b ∷ []) (vec n c ∷ vec n c ∷ []) (fill f.gives c)
+    IsLeastCandidate o (a ∷ b ∷ []) (vec n c ∷ vec n c ∷ []) (f.gives c)
 layered_common o f n a b c va vb q e m h =
     let j = common_join a b (vec n c) va vb m in
     let x = vector_of n a c va j.left in
@@ -120,7 +120,7 @@ layered_common o f n a b c va vb q e m h =
     let m' = subst₂ (λ a b. IsCommon a b (Some (vec n c))) x.1 y.1 m in
     let d = common_within (vec_of n) (vec_of n) x.0 y.0 (vec n c) vx vy m' in
     let ec : d.0 ≡ c = cc (d.2) in
-    subst₂ (λ a b. IsLeastCandidate o (a ∷ b ∷ []) (vec n c ∷ vec n c ∷ []) (fill f.gives c)) (sym x.1) (sym y.1)
+    subst₂ (λ a b. IsLeastCandidate o (a ∷ b ∷ []) (vec n c ∷ vec n c ∷ []) (f.gives c)) (sym x.1) (sym y.1)
     (both_layered o f (vec_of n) (vec_of n) x.0 y.0 c vx vy q e (subst (λ d. IsCommon x.0 y.0 (Some d)) ec d.3) h)
 
 vectors_chosen : (o : BinaryOperator) → IsArithmetic o → (n m : ℕ) (e f c : WgslType) → IsCommon (vec n e) (vec m f) (Some c) → IsValueType e → IsValueType f →
@@ -229,10 +229,6 @@ join_of a b c h k = let m = some_common a b in go m.0 m.1
     go None m = absurd (no_common a b m c h k)
     go (Some d) m = (d, m)
 
-pub as_scalar : (t : WgslType) → Admits any_scalar t → (s : Scalar) × (t ≡ scalar s)
-as_scalar (scalar s) h = (s, refl)
-as_scalar t h = absurd h
-
 as_integer : (t : WgslType) → Admits an_integer t → (s : Scalar) × (t ≡ scalar s) × IsInteger s
 as_integer (scalar s) h = (s, refl, h)
 as_integer t h = absurd h
@@ -246,13 +242,13 @@ as_bool (scalar s) h = bool_scalar s h
 as_bool t h = absurd h
 
 pub scalar_above : {t : WgslType} {s : Scalar} → Above t (scalar s) → (r : Scalar) × (t ≡ scalar r)
-scalar_above {t} h = as_scalar t (above_admits h any_scalar tt)
+scalar_above {t} h = as_scalar t (above_admits h any_scalar tt tt)
 
 integer_above : {t : WgslType} {s : Scalar} → Above t (scalar s) → IsInteger s → (r : Scalar) × (t ≡ scalar r) × IsInteger r
-integer_above {t} h i = as_integer t (above_admits h an_integer i)
+integer_above {t} h i = as_integer t (above_admits h an_integer tt i)
 
 pub bool_above : {t : WgslType} → Above t (scalar Bool) → t ≡ scalar Bool
-bool_above {t} h = as_bool t (above_admits h a_bool tt)
+bool_above {t} h = as_bool t (above_admits h a_bool tt tt)
 
 pub layer_above : {t : WgslType} {l : Layer} {c : WgslType} → Above t (within l c) → (e : WgslType) × (t ≡ within l e) × Above e c
 layer_above {l = l} {c = c} h = above_to_within h l c refl
@@ -340,7 +336,7 @@ has_row (matrix_matrix k c r e) a b va vb p q =
     at_types Multiplication a b (mat k r x.0) (mat c k y.0) x.1 y.1 (mat k r d.0, mat c k d.0, mat c r d.0, matrix_matrix_row k c r x.0 y.0 d.0 d.1)
 has_row (compared o h s) a b va vb p q =
     let d = join_of a b (scalar s) p q in
-    compared_row o h a b d.0 d.1 (common_has (λ c. Admits any_scalar c) a b d.0 (above_admits p any_scalar tt) (above_admits q any_scalar tt) d.1)
+    compared_row o h a b d.0 d.1 (common_has (λ c. Admits any_scalar c) a b d.0 (above_admits p any_scalar tt tt) (above_admits q any_scalar tt tt) d.1)
 has_row (compared_vectors o h n e) a b va vb p q =
     let x = layer_above p in
     let y = layer_above q in
@@ -351,13 +347,13 @@ has_row (logical o h) a b va vb p q =
     at_types o a b (scalar Bool) (scalar Bool) (bool_above p) (bool_above q) (scalar Bool, scalar Bool, scalar Bool, logical_row o h)
 has_row (bits o h i k) a b va vb p q =
     let d = join_of a b (scalar i) p q in
-    bits_row o h a b d.0 d.1 (integer_ok d.0 (common_has (λ c. Admits an_integer c) a b d.0 (above_admits p an_integer k) (above_admits q an_integer k) d.1))
+    bits_row o h a b d.0 d.1 (integer_ok d.0 (common_has (λ c. Admits an_integer c) a b d.0 (above_admits p an_integer tt k) (above_admits q an_integer tt k) d.1))
 has_row (bits_vectors o h n i k) a b va vb p q =
     let x = layer_above p in
     let y = layer_above q in
     let d = join_of (vec n x.0) (vec n y.0) (vec n (scalar i)) (above_inside (vec_of n) x.2) (above_inside (vec_of n) y.2) in
     let m = common_within (vec_of n) (vec_of n) x.0 y.0 d.0 (subst IsValueType x.1 va) (subst IsValueType y.1 vb) d.1 in
-    let z = common_has (λ c. Admits an_integer c) x.0 y.0 m.0 (above_admits x.2 an_integer k) (above_admits y.2 an_integer k) m.3 in
+    let z = common_has (λ c. Admits an_integer c) x.0 y.0 m.0 (above_admits x.2 an_integer tt k) (above_admits y.2 an_integer tt k) m.3 in
     at_types o a b (vec n x.0) (vec n y.0) x.1 y.1
     (bits_row o h (vec n x.0) (vec n y.0) (vec n m.0) (subst (λ d. IsCommon (vec n x.0) (vec n y.0) (Some d)) m.2 d.1) (integer_vector_ok n m.0 z))
 has_row (bools_vectors o h n) a b va vb p q =

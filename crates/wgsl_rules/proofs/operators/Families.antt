@@ -9,7 +9,7 @@ use Rattle.wgsl_rules.specs.conversion.Common.{IsLeftCommon}
 use Rattle.wgsl_rules.specs.Headline.{Receives}
 use Rattle.wgsl_rules.specs.operators.Choice.{HasRanks, Takes, IsNowhereMore, IsSomewhereLess}
 use Rattle.wgsl_rules.proofs.conversion.Steps.{depth}
-use Rattle.wgsl_rules.proofs.conversion.Order.{Above, above_depth, above_level, above_converts, above_values, above_inside, above_to_within, value_converts}
+use Rattle.wgsl_rules.proofs.conversion.Order.{Above, above_depth, above_level, above_converts, above_trans, above_values, above_inside, above_to_within, value_converts}
 use Rattle.wgsl_rules.proofs.conversion.Commons.{value_above, receives_nil, receives_cons, receives_head, receives_tail, values_head, values_tail, some_left_common, left_common_least, left_common_none}
 
 -- an operand type: c itself, a layer of c, or a type of its own
@@ -173,7 +173,7 @@ received_value [] b n vs g = absurd (n refl)
 received_value (e ∷ es) b n vs g =
     let v = values_head e es vs in (above_values (value_above v (receives_head b e es g))).0 v
 
-settle : (ss : List Slot) (ts : List WgslType) (b c : WgslType) (vs ws : List ℕ) → HasOpen ss → All IsValueType ts → Above b c →
+pub settle : (ss : List Slot) (ts : List WgslType) (b c : WgslType) (vs ws : List ℕ) → HasOpen ss → All IsValueType ts → Above b c →
     HasRanks ts (fill_all ss b) vs → HasRanks ts (fill_all ss c) ws → (c ≡ b) ⊎ IsNowhereMore vs ws × IsSomewhereLess vs ws
 settle ss ts b c vs ws o vt a m r =
     elim (ℕ_discrete (depth b) (depth c)) [
@@ -221,3 +221,15 @@ least_of_taken ss ts c o vt r =
     go : (k : Option WgslType) (es : List WgslType) → IsLeftCommon es k → IsPut ss ts es → All IsValueType es → (b : WgslType) × IsLeastOf ss ts b
     go None es h p ve = absurd (none_of ss ts es c o vt ve p h r)
     go (Some b) es h p ve = (b, least_of ss ts es b o vt ve p h)
+
+-- if a member takes the operands, so does each at a type to which its own converts
+pub taken_above : (ss : List Slot) (ts : List WgslType) (b d : WgslType) → All IsValueType ts → Takes (fill_all ss b) ts → Above b d → Takes (fill_all ss d) ts
+taken_above ss ts b d vt r a =
+    let q = taken_puts ss b ts r.0 vt r.1 in
+    puts_taken ss d ts q.types q.put q.values (received_above q.types b d q.values q.received a)
+  where
+    received_above : (es : List WgslType) (b d : WgslType) → All IsValueType es → Receives b es → Above b d → Receives d es
+    received_above [] b d vs g a = receives_nil d
+    received_above (e ∷ es) b d vs g a =
+        receives_cons d e es (above_converts (above_trans (value_above (values_head e es vs) (receives_head b e es g)) a))
+        (received_above es b d (values_tail e es vs) (receives_tail b e es g) a)

@@ -1,12 +1,14 @@
--- The candidates of the binary operators and of five built-in functions (WGSL, "Logical Expressions" to "Bit
--- Expressions", and "Built-in Functions").
+-- The candidates of the binary operators, and of the built-in functions that return a common type (WGSL, "Logical
+-- Expressions" to "Bit Expressions", and "Built-in Functions").
 use Rattle.std.specs.Prelude.{ℕ, List, [], ◌∷◌}
 use Rattle.wgsl_syntax.specs.declared.scalar.Scalar.{Scalar}
 use Rattle.wgsl_syntax.specs.declared.scalar.Scalar.TheVariants.{Bool, U32}
 use Rattle.wgsl_syntax.specs.declared.operator.BinaryOperator.{BinaryOperator}
 use Rattle.wgsl_syntax.specs.declared.operator.BinaryOperator.TheVariants.{ShortCircuitOr, ShortCircuitAnd, Addition, Subtraction, Multiplication, Division, Remainder, Equality, Inequality, LessThan, LessThanEqual, GreaterThan, GreaterThanEqual, BitwiseOr, BitwiseAnd, BitwiseXor, ShiftLeft, ShiftRight}
 use Rattle.wgsl_rules.specs.types.Types.{WgslType, scalar, vec, mat}
-use Rattle.wgsl_rules.specs.types.Kinds.{IsInteger, IsNumeric, IsNumericOrVector, IsScalarOrVector}
+use Rattle.wgsl_rules.specs.types.Kinds.{IsInteger, IsFloat, IsNumeric, IsNumericOrVector, IsFloatOrVector, IsFloatVector, IsScalarOrVector}
+use Rattle.wgsl_rules.specs.types.Inner.{inner_of}
+use Rattle.wgsl_rules.specs.conversion.Concrete.{concretized}
 
 -- the short-circuit operators, `||` and `&&`
 abbrev pub IsLogical : BinaryOperator → Type 0
@@ -58,15 +60,52 @@ IsShift ShiftLeft = Unit {0}
 IsShift ShiftRight = Unit {0}
 IsShift o = ⊥
 
--- the name of a candidate: a binary operator, or one of five built-in functions
+-- the name of a candidate: a binary operator or a built-in function
 pub data Name : Type 0 where
   operator : BinaryOperator → Name
-  min max clamp dot select : Name
+  min max atan2 step pow cross reflect distance dot clamp fma smoothstep face_forward mix refract select insert_bits : Name
 
-abbrev pub IsMinMax : Name → Type 0
-IsMinMax min = Unit {0}
-IsMinMax max = Unit {0}
-IsMinMax n = ⊥
+-- the functions with candidates (t, t) that return t
+abbrev pub IsOfTwo : Name → Type 0
+IsOfTwo min = Unit {0}
+IsOfTwo max = Unit {0}
+IsOfTwo atan2 = Unit {0}
+IsOfTwo step = Unit {0}
+IsOfTwo pow = Unit {0}
+IsOfTwo cross = Unit {0}
+IsOfTwo reflect = Unit {0}
+IsOfTwo n = ⊥
+
+-- the functions with candidates (t, t, t) that return t
+abbrev pub IsOfThree : Name → Type 0
+IsOfThree clamp = Unit {0}
+IsOfThree fma = Unit {0}
+IsOfThree smoothstep = Unit {0}
+IsOfThree face_forward = Unit {0}
+IsOfThree mix = Unit {0}
+IsOfThree n = ⊥
+
+-- the types t of these candidates
+abbrev pub IsFor : Name → WgslType → Type 0
+IsFor min t = IsNumericOrVector t
+IsFor max t = IsNumericOrVector t
+IsFor clamp t = IsNumericOrVector t
+IsFor atan2 t = IsFloatOrVector t
+IsFor step t = IsFloatOrVector t
+IsFor fma t = IsFloatOrVector t
+IsFor smoothstep t = IsFloatOrVector t
+IsFor mix t = IsFloatOrVector t
+IsFor cross t = IsFloatVector t
+IsFor reflect t = IsFloatVector t
+IsFor face_forward t = IsFloatVector t
+IsFor pow t = Unit {0}
+IsFor n t = ⊥
+
+-- the functions of two vectors and a scalar
+abbrev pub IsMixed : Name → Type 0
+IsMixed mix = Unit {0}
+IsMixed refract = Unit {0}
+IsMixed n = ⊥
 
 -- A candidate: a name, the types of its parameters, and the type of its result. `Choice` says which operands convert to
 -- the parameters.
@@ -141,12 +180,15 @@ pub data IsCandidate : Name → List WgslType → WgslType → Type 0 where
   -- vec3<i32> >> vec3<u32> : vec3<i32>
   shifted_vectors : (o : BinaryOperator) → IsShift o → (n : ℕ) (i : Scalar) → IsInteger i →
       IsCandidate (operator o) (vec n (scalar i) ∷ vec n (scalar U32) ∷ []) (vec n (scalar i))
-  -- `min` and `max` of two numbers, or two vectors of numbers, of the same type
+  -- of two arguments of the same type
   -- min(f32, f32) : f32
-  of_two : (n : Name) → IsMinMax n → (t : WgslType) → IsNumericOrVector t → IsCandidate n (t ∷ t ∷ []) t
-  -- `clamp` of three numbers, or three vectors of numbers, of the same type
-  -- clamp(u32, u32, u32) : u32
-  of_three : (t : WgslType) → IsNumericOrVector t → IsCandidate clamp (t ∷ t ∷ t ∷ []) t
+  of_two : (n : Name) → IsOfTwo n → (t : WgslType) → IsFor n t → IsCandidate n (t ∷ t ∷ []) t
+  -- of three
+  -- fma(f16, f16, f16) : f16
+  of_three : (n : Name) → IsOfThree n → (t : WgslType) → IsFor n t → IsCandidate n (t ∷ t ∷ t ∷ []) t
+  -- the distance of two floats, or of two vectors of floats
+  -- distance(vec2<f32>, vec2<f32>) : f32
+  distances : (t : WgslType) → IsFloatOrVector t → IsCandidate distance (t ∷ t ∷ []) (inner_of t)
   -- the dot product of two vectors of numbers of the same type
   -- dot(vec3<u32>, vec3<u32>) : u32
   products : (n : ℕ) (s : Scalar) → IsNumeric s → IsCandidate dot (vec n (scalar s) ∷ vec n (scalar s) ∷ []) (scalar s)
@@ -156,3 +198,11 @@ pub data IsCandidate : Name → List WgslType → WgslType → Type 0 where
   -- of each component from one of two vectors, by its own `bool`
   -- select(vec2<f32>, vec2<f32>, vec2<bool>) : vec2<f32>
   each_either : (n m : ℕ) (e : WgslType) → IsCandidate select (vec n e ∷ vec n e ∷ vec m (scalar Bool) ∷ []) (vec n e)
+  -- two vectors of floats, and a float for all components
+  -- mix(vec2<f32>, vec2<f32>, f32) : vec2<f32>
+  mixed : (n : Name) → IsMixed n → (k : ℕ) (s : Scalar) → IsFloat s →
+      IsCandidate n (vec k (scalar s) ∷ vec k (scalar s) ∷ scalar s ∷ []) (vec k (scalar s))
+  -- `insertBits` of two numbers, or two vectors of numbers, of the same type: the concrete type
+  -- insertBits(i32, i32, u32, u32) : i32
+  inserted : (t : WgslType) → IsNumericOrVector t →
+      IsCandidate insert_bits (t ∷ t ∷ scalar U32 ∷ scalar U32 ∷ []) (concretized t)

@@ -1,5 +1,6 @@
 -- Kinds of types (WGSL, "Plain Types").
 pub use Rattle.wgsl_syntax.specs.Scalar.{IsInteger, IsFloat, IsNumeric}
+use Rattle.wgsl_syntax.specs.declared.scalar.Scalar.TheVariants.{AbstractInt}
 use Rattle.wgsl_syntax.specs.declared.address.AddressSpace.TheVariants.{Handle}
 use Rattle.wgsl_rules.specs.types.Types.{array_of, vec_of, mat_of, WgslType, scalar, within, struct, atomic, reference, texture, sampler, ray_query, acceleration_structure}
 
@@ -14,6 +15,23 @@ abbrev pub IsNumericOrVector : WgslType → Type 0
 IsNumericOrVector (scalar s) = IsNumeric s
 IsNumericOrVector (within (vec_of n) (scalar s)) = IsNumeric s
 IsNumericOrVector t = ⊥
+
+-- a float, or a vector of floats
+abbrev pub IsFloatOrVector : WgslType → Type 0
+IsFloatOrVector (scalar s) = IsFloat s
+IsFloatOrVector (within (vec_of n) (scalar s)) = IsFloat s
+IsFloatOrVector t = ⊥
+
+-- a vector of floats
+abbrev pub IsFloatVector : WgslType → Type 0
+IsFloatVector (within (vec_of n) (scalar s)) = IsFloat s
+IsFloatVector t = ⊥
+
+-- `AbstractInt`, or a vector of it
+abbrev pub IsAbstractIntOrVector : WgslType → Type 0
+IsAbstractIntOrVector (scalar AbstractInt) = Unit {0}
+IsAbstractIntOrVector (within (vec_of n) (scalar AbstractInt)) = Unit {0}
+IsAbstractIntOrVector t = ⊥
 
 abbrev pub IsScalarOrVector : WgslType → Type 0
 IsScalarOrVector (scalar s) = Unit {0}
