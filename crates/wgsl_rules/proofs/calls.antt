@@ -3,4 +3,10 @@ pub mod UnlistedNames
 pub mod NamedRows
 pub mod Fractions
 pub mod OneAnswer
+pub mod Answered
+pub mod ShapedKinds
+pub mod ChosenFamilies
+pub mod ChosenMixes
+pub mod ChosenSelects
+pub mod ChosenInserts
 pub mod ChosenCalls

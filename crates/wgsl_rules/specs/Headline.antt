@@ -20,8 +20,8 @@ pub record IsLeastCandidate (n : Name) (ts us : List WgslType) (r : WgslType) : 
   pub least : (vs : List WgslType) (s : WgslType) (ws : List ℕ) → IsCandidate n vs s →
       HasRanks ts vs ws → (vs ≡ us) × (s ≡ r) ⊎ IsNowhereMore ranks ws × IsSomewhereLess ranks ws
 
--- Binary operators, and `min`, `max`, `clamp`, `dot` and `select` without a template, return the
--- result of the least candidate, and refuse (None) exactly if no candidate takes the operands.
+-- Binary operators, and the functions of `Name` without a template, return the result of the least
+-- candidate, and refuse (None) exactly if no candidate takes the operands, or by `RefusedThoughTaken`.
 pub record IsChosenAnswer (n : Name) (ts : List WgslType) (r : Option WgslType) : Type 0 where
   pub some : (t : WgslType) → (r ≡ Some t) ↔ ((us : List WgslType) × IsLeastCandidate n ts us t)
   pub none : (r ≡ None) ↔ ((us : List WgslType) (t : WgslType) → IsCandidate n us t → ¬ Takes us ts)

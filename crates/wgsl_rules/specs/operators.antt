@@ -1,3 +1,4 @@
+pub mod Names
 pub mod Candidates
 pub mod Choice
 pub mod Rows

@@ -16,7 +16,7 @@ use Rattle.wgsl_rules.specs.Headline.{IsLeastCandidate}
 use Rattle.wgsl_rules.specs.operators.Rows.{IsRow, scalar_row, vector_row, scalar_vector_row, vector_scalar_row, matrix_row, scalar_matrix_row, matrix_scalar_row, vector_matrix_row, matrix_vector_row, matrix_matrix_row, comparison_row, comparison_vector_row, logical_row, bools_row, bit_row, shift_row, shift_vector_row}
 use Rattle.wgsl_rules.proofs.conversion.Order.{Above, here, above_inside, above_to_within, above_from_within, above_converts, value_converts}
 use Rattle.wgsl_rules.proofs.conversion.Commons.{value_above, common_join, no_common, some_common, common_symmetric}
-use Rattle.wgsl_rules.proofs.operators.Families.{whole, inner, fill, fill_all, IsPut}
+use Rattle.wgsl_rules.proofs.operators.Families.{whole, inner, fill_all, IsPut}
 use Rattle.wgsl_rules.proofs.operators.Forms.{any_scalar, an_integer, a_bool, Admits, plain, layer, outer, outers, above_outer, above_admits, as_scalar, Form, form_of}
 use Rattle.wgsl_rules.proofs.conversion.Equations.{IsPlainScalar, above_plain}
 use Rattle.wgsl_rules.proofs.operators.Choices.{arithmetic_form, comparison_form, shift_form, row_choice}

@@ -19,7 +19,7 @@ use Rattle.wgsl_rules.proofs.conversion.Steps.{depth}
 use Rattle.wgsl_rules.specs.operators.Choice.{HasRanks}
 use Rattle.wgsl_rules.proofs.conversion.Order.{Above, here, further, above_level, above_inside, above_to_within, above_from_within, value_converts}
 use Rattle.wgsl_rules.proofs.conversion.Commons.{values_head, values_tail}
-use Rattle.wgsl_rules.proofs.operators.Families.{Slot, whole, inner, fixed, fill, fill_all, HasOpen}
+use Rattle.wgsl_rules.proofs.operators.Families.{Slot, whole, inner, fixed, fill_all, HasOpen}
 
 -- The types c that a family admits
 

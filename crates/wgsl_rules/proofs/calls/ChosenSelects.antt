@@ -1,0 +1,115 @@
+-- `select`: its rows return the least candidate's result.
+use Rattle.std.proofs.Common.{◌≡◌, ℕ, List, [], ◌∷◌, inl, inr, All, refl, sym, ap, subst, ◌∙◌}
+use Rattle.wgsl_syntax.specs.declared.scalar.Scalar.TheVariants.{Bool}
+use Rattle.wgsl_rules.specs.types.Types.{vec_of, WgslType, scalar, within, vec}
+use Rattle.wgsl_rules.specs.types.Kinds.{IsVector}
+use Rattle.wgsl_rules.specs.conversion.Conversion.{IsValueType}
+use Rattle.wgsl_rules.specs.conversion.Common.{IsCommon}
+use Rattle.wgsl_rules.specs.operators.Candidates.{select, IsCandidate, of_two, of_three, either, each_either, mixed}
+use Rattle.wgsl_rules.specs.operators.Choice.{Takes as TakenBy}
+use Rattle.wgsl_syntax.specs.declared.call.ScalarKind.TheVariants.{Boolean}
+use Rattle.wgsl_syntax.specs.declared.call.Shape.TheVariants.{Any, ScalarOf, VectorOf, Vector, ScalarOrVector}
+use Rattle.wgsl_syntax.specs.declared.call.Source.TheVariants.{Common}
+use Rattle.wgsl_syntax.specs.declared.call.ReturnType.TheVariants.{Of}
+use Rattle.wgsl_syntax.specs.declared.call.Arguments.TheVariants.{Three}
+use Rattle.wgsl_syntax.specs.declared.call.Row.{Row}
+use Rattle.wgsl_syntax.specs.declared.call.Row.TheVariants.{Takes}
+use Rattle.wgsl_rules.specs.calls.Shapes.{IsScalarOf, IsVectorOf}
+use Rattle.wgsl_rules.specs.calls.Rows.{Fits, IsReturnType, given}
+use Rattle.wgsl_rules.specs.calls.Answers.{IsAnswerOf, RefusedThoughTaken, IsChosenCall}
+use Rattle.wgsl_rules.proofs.conversion.Order.{Above, here, above_to_within, above_converts}
+use Rattle.wgsl_rules.proofs.conversion.Commons.{common_join, values_head, values_tail}
+use Rattle.wgsl_rules.proofs.operators.Forms.{any_type, vector_of, scalar_or_vector, Admits, above_admits, above_admitted, either_form, each_form}
+use Rattle.wgsl_rules.proofs.operators.ChosenRows.{two_values, bool_above}
+use Rattle.wgsl_rules.proofs.calls.Answered.{returned_is_chosen, refused_is_chosen, three_taken, Answer, its}
+use Rattle.wgsl_rules.proofs.calls.ChosenFamilies.{same_option}
+
+-- `select`, which has two rows
+
+abbrev pub by_one : Row
+by_one = Takes (Three ScalarOrVector Any (ScalarOf Boolean)) (Of Common)
+
+abbrev pub by_each : Row
+by_each = Takes (Three Vector Any (VectorOf Boolean)) (Of Common)
+
+pub is_bool : (t : WgslType) → IsScalarOf Boolean t → t ≡ scalar Bool
+is_bool (scalar Bool) h = refl
+is_bool t h = absurd h
+
+pub bool_vector : (t : WgslType) → IsVectorOf Boolean t → (n : ℕ) × (t ≡ vec n (scalar Bool))
+bool_vector (within (vec_of n) t) h = (n, ap (λ u. vec n u) (is_bool t h))
+bool_vector t h = absurd h
+
+pub one_of_two : (ts : List WgslType) → All IsValueType ts → (a : Answer) → Fits by_one (its select ts) → IsReturnType (Of Common) (its select ts) a → IsChosenCall select (its select ts) a
+one_of_two [] v a f o = absurd f.1
+one_of_two (x ∷ []) v a f o = absurd f.1.1
+one_of_two (x ∷ y ∷ []) v a f o = absurd f.1.1.1
+one_of_two (x ∷ y ∷ z ∷ []) v a f o =
+    subst (λ z. All IsValueType (x ∷ y ∷ z ∷ []) → IsReturnType (Of Common) (its select (x ∷ y ∷ z ∷ [])) a → IsChosenCall select (its select (x ∷ y ∷ z ∷ [])) a)
+    (sym (is_bool z f.1.1.1.0)) at_bool v o
+  where
+    at_bool : All IsValueType (x ∷ y ∷ scalar Bool ∷ []) → IsReturnType (Of Common) (its select (x ∷ y ∷ scalar Bool ∷ [])) a → IsChosenCall select (its select (x ∷ y ∷ scalar Bool ∷ [])) a
+    at_bool v o =
+        let vx = values_head x (y ∷ scalar Bool ∷ []) v in
+        let vy = values_head y (scalar Bool ∷ []) (values_tail x (y ∷ scalar Bool ∷ []) v) in
+        returned_is_chosen select (x ∷ y ∷ scalar Bool ∷ []) either_form a v refl (λ r. r) (record {
+          types = x ∷ y ∷ [];
+          values = two_values x y vx vy;
+          put = (y ∷ [], refl, ([], refl, (above_converts here, refl)));
+          common = o.0;
+          is_common = (o.0, o.1, refl);
+          admitted = λ b q. above_admitted (common_join x y b vx vy (subst (λ u. IsCommon x y u) q o.1)).left scalar_or_vector tt f.1.0;
+          answer = o.2 ∙ ap (given (its select (x ∷ y ∷ scalar Bool ∷ []))) (same_option o.0);
+        })
+one_of_two (x ∷ y ∷ z ∷ w ∷ ts) v a f o = absurd f.1.1.1.1
+
+pub vector_admitted : (t : WgslType) → IsVector t → Admits (vector_of any_type) t
+vector_admitted (within (vec_of n) e) h = tt
+vector_admitted t h = absurd h
+
+pub each_of_two : (ts : List WgslType) → All IsValueType ts → (a : Answer) → Fits by_each (its select ts) → IsReturnType (Of Common) (its select ts) a → IsChosenCall select (its select ts) a
+each_of_two [] v a f o = absurd f.1
+each_of_two (x ∷ []) v a f o = absurd f.1.1
+each_of_two (x ∷ y ∷ []) v a f o = absurd f.1.1.1
+each_of_two (x ∷ y ∷ z ∷ []) v a f o =
+    let p = bool_vector z f.1.1.1.0 in
+    subst (λ z. All IsValueType (x ∷ y ∷ z ∷ []) → IsReturnType (Of Common) (its select (x ∷ y ∷ z ∷ [])) a → IsChosenCall select (its select (x ∷ y ∷ z ∷ [])) a)
+    (sym p.1) (at_bools p.0) v o
+  where
+    at_bools : (k : ℕ) → All IsValueType (x ∷ y ∷ vec k (scalar Bool) ∷ []) → IsReturnType (Of Common) (its select (x ∷ y ∷ vec k (scalar Bool) ∷ [])) a →
+        IsChosenCall select (its select (x ∷ y ∷ vec k (scalar Bool) ∷ [])) a
+    at_bools k v o =
+        let vx = values_head x (y ∷ vec k (scalar Bool) ∷ []) v in
+        let vy = values_head y (vec k (scalar Bool) ∷ []) (values_tail x (y ∷ vec k (scalar Bool) ∷ []) v) in
+        returned_is_chosen select (x ∷ y ∷ vec k (scalar Bool) ∷ []) (each_form k) a v refl (λ r. r) (record {
+          types = x ∷ y ∷ [];
+          values = two_values x y vx vy;
+          put = (y ∷ [], refl, ([], refl, (above_converts here, refl)));
+          common = o.0;
+          is_common = (o.0, o.1, refl);
+          admitted = λ b q. above_admitted (common_join x y b vx vy (subst (λ u. IsCommon x y u) q o.1)).left (vector_of any_type) tt (vector_admitted x f.1.0);
+          answer = o.2 ∙ ap (given (its select (x ∷ y ∷ vec k (scalar Bool) ∷ []))) (same_option o.0);
+        })
+each_of_two (x ∷ y ∷ z ∷ w ∷ ts) v a f o = absurd f.1.1.1.1
+
+pub vector_shape_of : (t : WgslType) (n : ℕ) (e : WgslType) → Above t (vec n e) → IsVector t
+vector_shape_of t n e k = let x = above_to_within k (vec_of n) e refl in subst IsVector (sym x.1) tt
+
+pub select_answer : (ts : List WgslType) → All IsValueType ts → (a : Answer) → IsAnswerOf (by_one ∷ by_each ∷ []) (its select ts) a → IsChosenCall select (its select ts) a
+select_answer ts v a (inl k) = one_of_two ts v a k.0 k.1
+select_answer ts v a (inr (n, inl k)) = each_of_two ts v a k.0 k.1
+select_answer ts v a (inr (n, inr k)) = refused_is_chosen select ts a (no (λ r. r)) down k.1
+  where
+    down : (us : List WgslType) (r : WgslType) → IsCandidate select us r → TakenBy us ts → RefusedThoughTaken select ts
+    down us r (either u i) t =
+        let m = three_taken ts u u (scalar Bool) v t in
+        n (subst (λ ts. Fits by_one (its select ts)) (sym m.is)
+        (refl, (above_admits m.a_above scalar_or_vector tt i, (tt, (subst (λ c. IsScalarOf Boolean c) (sym (bool_above m.c_above)) tt, tt)))))
+    down us r (each_either l j e) t =
+        let m = three_taken ts (vec l e) (vec l e) (vec j (scalar Bool)) v t in
+        let x = above_to_within m.c_above (vec_of j) (scalar Bool) refl in
+        k.0 (subst (λ ts. Fits by_each (its select ts)) (sym m.is)
+        (refl, (vector_shape_of m.a l e m.a_above, (tt, (subst (λ c. IsVectorOf Boolean c) (sym (x.1 ∙ ap (λ t. vec j t) (bool_above x.2))) tt, tt)))))
+    down us r (of_two j h u i) t = absurd h
+    down us r (of_three j h u i) t = absurd h
+    down us r (mixed j h l s i) t = absurd h
