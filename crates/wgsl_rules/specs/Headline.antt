@@ -21,7 +21,7 @@ pub record IsLeastCandidate (n : Name) (ts us : List WgslType) (r : WgslType) : 
       HasRanks ts vs ws → (vs ≡ us) × (s ≡ r) ⊎ IsNowhereMore ranks ws × IsSomewhereLess ranks ws
 
 -- Binary operators, and the functions of `Name` without a template, return the result of the least
--- candidate, and refuse (None) exactly if no candidate takes the operands, or by `RefusedThoughTaken`.
+-- candidate. They refuse (None) exactly if none takes the operands, or in `RefusedThoughTaken`.
 pub record IsChosenAnswer (n : Name) (ts : List WgslType) (r : Option WgslType) : Type 0 where
   pub some : (t : WgslType) → (r ≡ Some t) ↔ ((us : List WgslType) × IsLeastCandidate n ts us t)
   pub none : (r ≡ None) ↔ ((us : List WgslType) (t : WgslType) → IsCandidate n us t → ¬ Takes us ts)

@@ -2,7 +2,7 @@
 use Rattle.std.proofs.Common.{◌≡◌, ℕ, ◌⊎◌, List, [], ◌∷◌, Option, None, Some, Result, Err, inl, inr, All, refl, sym, subst, option_map}
 use Rattle.wgsl_rules.specs.types.Types.{WgslType}
 use Rattle.wgsl_rules.specs.conversion.Conversion.{IsValueType, ConvertsTo}
-use Rattle.wgsl_rules.specs.conversion.Common.{IsLeftCommonFrom, IsLeftCommon}
+use Rattle.wgsl_rules.specs.conversion.Common.{IsCommon, IsLeftCommonFrom, IsLeftCommon}
 use Rattle.wgsl_rules.specs.operators.Candidates.{Name, IsCandidate}
 use Rattle.wgsl_rules.specs.operators.Choice.{HasRanks, Takes as TakenBy}
 use Rattle.wgsl_rules.specs.types.Signatures.{Signature}
@@ -11,9 +11,10 @@ use Rattle.wgsl_syntax.specs.declared.call.Row.{Row}
 use Rattle.wgsl_rules.specs.calls.Rows.{return_type_of, Fits, IsReturnType, IsCommonOf, given}
 use Rattle.wgsl_rules.specs.calls.Answers.{IsAnswerOf, name_of, RefusedThoughTaken, IsChosenCall}
 use Rattle.wgsl_rules.proofs.conversion.Order.{Above, value_converts}
-use Rattle.wgsl_rules.proofs.conversion.Commons.{value_above, receives_head, receives_tail, values_head, values_tail, left_common_least}
+use Rattle.wgsl_rules.proofs.conversion.Commons.{common_join, value_above, receives_head, receives_tail, values_head, values_tail, left_common_least}
 use Rattle.wgsl_rules.proofs.operators.Families.{fill_all, IsPut}
 use Rattle.wgsl_rules.proofs.operators.Forms.{Admits, outers, Form, form_of}
+use Rattle.wgsl_rules.proofs.operators.ChosenRows.{two_values}
 use Rattle.wgsl_rules.proofs.operators.Choices.{belongs, of_row, row_choice, row_no_common, chosen_answer, refused_answer}
 
 abbrev pub Answer : Type 0
@@ -32,6 +33,19 @@ pub record Returned (n : Name) (ts : List WgslType) (f : Form n) (a : Answer) : 
   pub is_common : IsLeftCommon types common
   pub admitted : (b : WgslType) → common ≡ Some b → Admits f.kind b
   pub answer : a ≡ given (its n ts) (option_map f.gives common)
+
+-- a row that returns what its family gives at the common type of the first two arguments
+pub returned_common : (n : Name) (ts : List WgslType) (f : Form n) (a : Answer) (x y : WgslType) (t : Option WgslType) → IsValueType x → IsValueType y →
+    IsPut f.slots ts (x ∷ y ∷ []) → IsCommon x y t → ((d : WgslType) → Above x d → Admits f.kind d) → a ≡ given (its n ts) (option_map f.gives t) → Returned n ts f a
+returned_common n ts f a x y t vx vy put m up q = record {
+  types = x ∷ y ∷ [];
+  values = two_values x y vx vy;
+  put = put;
+  common = t;
+  is_common = (t, m, refl);
+  admitted = λ b e. up b (common_join x y b vx vy (subst (λ u. IsCommon x y u) e m)).left;
+  answer = q;
+}
 
 pub returned_is_chosen : (n : Name) (ts : List WgslType) (f : Form n) (a : Answer) → All IsValueType ts → form_of n (outers ts) ≡ Some f → ¬ RefusedThoughTaken n ts →
     Returned n ts f a → IsChosenCall n (its n ts) a

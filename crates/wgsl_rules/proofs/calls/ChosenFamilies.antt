@@ -17,9 +17,9 @@ use Rattle.wgsl_syntax.specs.declared.call.Row.TheVariants.{Takes}
 use Rattle.wgsl_rules.specs.calls.Rows.{Fits, IsSource, IsReturnType, given}
 use Rattle.wgsl_rules.specs.calls.Answers.{IsAnswerOf, RefusedThoughTaken, IsChosenCall}
 use Rattle.wgsl_rules.proofs.conversion.Order.{Above}
-use Rattle.wgsl_rules.proofs.conversion.Commons.{common_join, values_head, values_tail}
+use Rattle.wgsl_rules.proofs.conversion.Commons.{values_head, values_tail}
 use Rattle.wgsl_rules.proofs.operators.Forms.{Kind, Admits, outers, pair_form, three, kind_of, form_of}
-use Rattle.wgsl_rules.proofs.calls.Answered.{one_row, two_taken, three_taken, from_common, are_above, Answer, its, Returned}
+use Rattle.wgsl_rules.proofs.calls.Answered.{returned_common, one_row, two_taken, three_taken, from_common, are_above, Answer, its, Returned}
 use Rattle.wgsl_rules.proofs.calls.ShapedKinds.{dec_refused, Shaped}
 
 -- Functions of two arguments
@@ -43,17 +43,8 @@ pairs n s k g sound from source shaped ts v e a h =
     got (x ∷ []) v f o = absurd f.1.1
     got (x ∷ y ∷ []) v f o =
         let m = source x y o.0 o.1 in
-        record {
-          types = x ∷ y ∷ [];
-          values = v;
-          put = (y ∷ [], refl, ([], refl, refl));
-          common = m.0;
-          is_common = (m.0, m.1, refl);
-          admitted = λ b q.
-              let j = common_join x y b (values_head x (y ∷ []) v) (values_head y [] (values_tail x (y ∷ []) v)) (subst (λ u. IsCommon x y u) q m.1) in
-              shaped.up x b f.1.0 j.left;
-          answer = o.2 ∙ ap (given (its n (x ∷ y ∷ []))) m.2;
-        }
+        returned_common n (x ∷ y ∷ []) (pair_form n k g sound) a x y m.0 (values_head x (y ∷ []) v) (values_head y [] (values_tail x (y ∷ []) v))
+        (y ∷ [], refl, ([], refl, refl)) m.1 (λ d h. shaped.up x d f.1.0 h) (o.2 ∙ ap (given (its n (x ∷ y ∷ []))) m.2)
     got (x ∷ y ∷ z ∷ ts) v f o = absurd f.1.1.1
 
     down : (c : WgslType) → Admits k c → TakenBy (c ∷ c ∷ []) ts → Fits (pair_row s from) (its n ts) ⊎ RefusedThoughTaken n ts

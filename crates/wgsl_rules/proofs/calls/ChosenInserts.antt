@@ -5,7 +5,6 @@ use Rattle.wgsl_syntax.specs.declared.scalar.Scalar.TheVariants.{Bool, AbstractI
 use Rattle.wgsl_rules.specs.types.Types.{vec_of, WgslType, scalar, within}
 use Rattle.wgsl_rules.specs.types.Kinds.{IsInteger, IsFloat, IsNumeric, IsFloatOrVector}
 use Rattle.wgsl_rules.specs.conversion.Conversion.{IsValueType}
-use Rattle.wgsl_rules.specs.conversion.Common.{IsCommon}
 use Rattle.wgsl_rules.specs.operators.Candidates.{insert_bits}
 use Rattle.wgsl_rules.specs.operators.Choice.{Takes as TakenBy}
 use Rattle.wgsl_syntax.specs.declared.call.ScalarKind.TheVariants.{Integer}
@@ -18,10 +17,9 @@ use Rattle.wgsl_syntax.specs.declared.call.Row.TheVariants.{Takes}
 use Rattle.wgsl_rules.specs.calls.Shapes.{IsScalarOrVectorOf}
 use Rattle.wgsl_rules.specs.calls.Rows.{Fits, IsReturnType}
 use Rattle.wgsl_rules.specs.calls.Answers.{IsAnswerOf, RefusedThoughTaken, IsChosenCall}
-use Rattle.wgsl_rules.proofs.conversion.Commons.{common_join, values_head, values_tail}
+use Rattle.wgsl_rules.proofs.conversion.Commons.{values_head, values_tail}
 use Rattle.wgsl_rules.proofs.operators.Forms.{a_number, or_vector, Admits, above_admits, above_admitted, insert_form}
-use Rattle.wgsl_rules.proofs.operators.ChosenRows.{two_values}
-use Rattle.wgsl_rules.proofs.calls.Answered.{one_row, head_taken, none_taken, Answer, its, Returned}
+use Rattle.wgsl_rules.proofs.calls.Answered.{returned_common, one_row, head_taken, none_taken, Answer, its, Returned}
 use Rattle.wgsl_rules.proofs.calls.ShapedKinds.{dec_refused}
 
 -- `insertBits`
@@ -29,17 +27,17 @@ use Rattle.wgsl_rules.proofs.calls.ShapedKinds.{dec_refused}
 abbrev pub insert_row : Row
 insert_row = Takes (Four (ScalarOrVectorOf Integer) Any (To U32) (To U32)) (Concrete Common)
 
-pub integer_number : (s : Scalar) → IsInteger s → IsNumeric s
+integer_number : (s : Scalar) → IsInteger s → IsNumeric s
 integer_number Bool h = absurd h
 integer_number s h = tt
 
-pub integer_shape : (t : WgslType) → IsScalarOrVectorOf Integer t → Admits (or_vector a_number) t
+integer_shape : (t : WgslType) → IsScalarOrVectorOf Integer t → Admits (or_vector a_number) t
 integer_shape (scalar s) h = integer_number s h
 integer_shape (within (vec_of n) (scalar s)) h = integer_number s h
 integer_shape (within (vec_of n) t) h = absurd h
 integer_shape t h = absurd h
 
-pub integer_or_float : (s : Scalar) → IsNumeric s → IsInteger s ⊎ IsFloat s
+integer_or_float : (s : Scalar) → IsNumeric s → IsInteger s ⊎ IsFloat s
 integer_or_float Bool h = absurd h
 integer_or_float AbstractInt h = inl tt
 integer_or_float I32 h = inl tt
@@ -48,20 +46,20 @@ integer_or_float I64 h = inl tt
 integer_or_float U64 h = inl tt
 integer_or_float s h = inr tt
 
-pub number_shape_of : (t : WgslType) → Admits (or_vector a_number) t → IsScalarOrVectorOf Integer t ⊎ IsFloatOrVector t
+number_shape_of : (t : WgslType) → Admits (or_vector a_number) t → IsScalarOrVectorOf Integer t ⊎ IsFloatOrVector t
 number_shape_of (scalar s) h = integer_or_float s h
 number_shape_of (within (vec_of n) (scalar s)) h = integer_or_float s h
 number_shape_of (within (vec_of n) t) h = absurd h
 number_shape_of t h = absurd h
 
-pub no_integer_float : (s : Scalar) → IsFloat s → ¬ IsInteger s
+no_integer_float : (s : Scalar) → IsFloat s → ¬ IsInteger s
 no_integer_float AbstractFloat h k = k
 no_integer_float F32 h k = k
 no_integer_float F16 h k = k
 no_integer_float F64 h k = k
 no_integer_float s h k = h
 
-pub float_no_integer : (t : WgslType) → IsFloatOrVector t → ¬ IsScalarOrVectorOf Integer t
+float_no_integer : (t : WgslType) → IsFloatOrVector t → ¬ IsScalarOrVectorOf Integer t
 float_no_integer (scalar s) h k = no_integer_float s h k
 float_no_integer (within (vec_of n) (scalar s)) h k = no_integer_float s h k
 float_no_integer t h k = h
@@ -81,15 +79,8 @@ insert_answer ts v a h = one_row insert_bits ts insert_form insert_row a v refl 
     got (x ∷ y ∷ z ∷ w ∷ []) v f o =
         let vx = values_head x (y ∷ z ∷ w ∷ []) v in
         let vy = values_head y (z ∷ w ∷ []) (values_tail x (y ∷ z ∷ w ∷ []) v) in
-        record {
-          types = x ∷ y ∷ [];
-          values = two_values x y vx vy;
-          put = (y ∷ [], refl, ([], refl, (f.1.1.1.0, (f.1.1.1.1.0, refl))));
-          common = o.0;
-          is_common = (o.0, o.1, refl);
-          admitted = λ b q. above_admitted (common_join x y b vx vy (subst (λ u. IsCommon x y u) q o.1)).left (or_vector a_number) tt (integer_shape x f.1.0);
-          answer = o.2;
-        }
+        returned_common insert_bits (x ∷ y ∷ z ∷ w ∷ []) insert_form a x y o.0 vx vy (y ∷ [], refl, ([], refl, (f.1.1.1.0, (f.1.1.1.1.0, refl)))) o.1
+        (λ d h. above_admitted h (or_vector a_number) tt (integer_shape x f.1.0)) o.2
     got (x ∷ y ∷ z ∷ w ∷ u ∷ ts) v f o = absurd f.1.1.1.1.1
 
     down : (c : WgslType) → Admits (or_vector a_number) c → TakenBy (c ∷ c ∷ scalar U32 ∷ scalar U32 ∷ []) ts → Fits insert_row (its insert_bits ts) ⊎ RefusedThoughTaken insert_bits ts

@@ -26,6 +26,7 @@ use Rattle.wgsl_rules.specs.calls.Answers.{IsAnswerOf, RefusedThoughTaken, IsCho
 use Rattle.wgsl_rules.proofs.conversion.Order.{above_to_within, above_converts}
 use Rattle.wgsl_rules.proofs.conversion.Commons.{receives_nil, receives_cons, values_head, values_tail, left_common_none}
 use Rattle.wgsl_rules.proofs.operators.Forms.{any_scalar, a_float, or_vector, Admits, above_admits, above_admitted, as_scalar, float_above, plain, layer, outers, above_outer, three, admitted_for, mixed_form, form_of}
+use Rattle.wgsl_rules.proofs.operators.Choices.{mixed_known}
 use Rattle.wgsl_rules.proofs.operators.ChosenRows.{two_values}
 use Rattle.wgsl_rules.proofs.calls.Answered.{returned_is_chosen, refused_is_chosen, head_taken, three_taken, from_common, are_above, Answer, its, Returned, AreAbove}
 use Rattle.wgsl_rules.proofs.calls.ShapedKinds.{float_shape, float_scalar, no_int_float, float_or_vector_above, dec_refused}
@@ -36,15 +37,15 @@ use Rattle.wgsl_rules.proofs.calls.ChosenFamilies.{returned_triple, triple_row}
 abbrev pub mixed_row : Row
 mixed_row = TakesWhere (Three Vector Vector (ScalarOf Float)) EqualLengths (AsLong CommonOfInner)
 
-pub is_vector : (t : WgslType) → IsVector t → (n : ℕ) × (e : WgslType) × (t ≡ vec n e)
+is_vector : (t : WgslType) → IsVector t → (n : ℕ) × (e : WgslType) × (t ≡ vec n e)
 is_vector (within (vec_of n) e) h = (n, e, refl)
 is_vector t h = absurd h
 
-pub is_float : (t : WgslType) → IsScalarOf Float t → (s : Scalar) × (t ≡ scalar s) × IsFloat s
+is_float : (t : WgslType) → IsScalarOf Float t → (s : Scalar) × (t ≡ scalar s) × IsFloat s
 is_float (scalar s) h = (s, refl, h)
 is_float t h = absurd h
 
-pub mixed_got : (n : Name) (h : IsMixed n) (k : ℕ) (e f : WgslType) (s : Scalar) → IsFloat s → (a : Answer) → All IsValueType (vec k e ∷ vec k f ∷ scalar s ∷ []) →
+mixed_got : (n : Name) (h : IsMixed n) (k : ℕ) (e f : WgslType) (s : Scalar) → IsFloat s → (a : Answer) → All IsValueType (vec k e ∷ vec k f ∷ scalar s ∷ []) →
     IsReturnType (AsLong CommonOfInner) (its n (vec k e ∷ vec k f ∷ scalar s ∷ [])) a → Returned n (vec k e ∷ vec k f ∷ scalar s ∷ []) (mixed_form n h k) a
 mixed_got n h k e f s i a v o =
     let ve : IsValueType e = values_head (vec k e) (vec k f ∷ scalar s ∷ []) v in
@@ -68,24 +69,19 @@ mixed_got n h k e f s i a v o =
     as_long None = refl
     as_long (Some t) = refl
 
-pub mixed_known : (n : Name) (h : IsMixed n) (k m : ℕ) → form_of n (layer (vec_of k) ∷ layer (vec_of m) ∷ plain ∷ []) ≡ Some (mixed_form n h k)
-mixed_known mix h k m = refl
-mixed_known refract h k m = refl
-mixed_known n h k m = absurd h
-
-pub float_no_refusal : (n : Name) → IsMixed n → (k : ℕ) (e b : WgslType) (s : Scalar) → IsFloat s → ¬ RefusedThoughTaken n (vec k e ∷ b ∷ scalar s ∷ [])
+float_no_refusal : (n : Name) → IsMixed n → (k : ℕ) (e b : WgslType) (s : Scalar) → IsFloat s → ¬ RefusedThoughTaken n (vec k e ∷ b ∷ scalar s ∷ [])
 float_no_refusal mix h k e b AbstractInt i r = i
 float_no_refusal mix h k e b s i r = r
 float_no_refusal refract h k e b AbstractInt i r = i
 float_no_refusal refract h k e b s i r = r
 float_no_refusal n h k e b s i r = h
 
-pub int_refusal : (n : Name) → IsMixed n → (k : ℕ) (e b : WgslType) → RefusedThoughTaken n (vec k e ∷ b ∷ scalar AbstractInt ∷ [])
+int_refusal : (n : Name) → IsMixed n → (k : ℕ) (e b : WgslType) → RefusedThoughTaken n (vec k e ∷ b ∷ scalar AbstractInt ∷ [])
 int_refusal mix h k e b = tt
 int_refusal refract h k e b = tt
 int_refusal n h k e b = absurd h
 
-pub mixed_fits : (n : Name) → IsMixed n → (ts : List WgslType) → All IsValueType ts → (a : Answer) → Fits mixed_row (its n ts) → IsReturnType (AsLong CommonOfInner) (its n ts) a →
+mixed_fits : (n : Name) → IsMixed n → (ts : List WgslType) → All IsValueType ts → (a : Answer) → Fits mixed_row (its n ts) → IsReturnType (AsLong CommonOfInner) (its n ts) a →
     IsChosenCall n (its n ts) a
 mixed_fits n h [] v a f o = absurd f.1
 mixed_fits n h (x ∷ []) v a f o = absurd f.1.1
@@ -103,7 +99,7 @@ mixed_fits n h (x ∷ y ∷ z ∷ []) v a f o =
     (float_no_refusal n h p.0 p.1 (vec p.0 q.1) r.0 r.2) (mixed_got n h p.0 p.1 q.1 r.0 r.2 a v' o'))
 mixed_fits n h (x ∷ y ∷ z ∷ w ∷ ts) v a f o = absurd f.1.1.1.1
 
-pub mixed_down : (n : Name) → IsMixed n → (k : ℕ) (s : Scalar) → IsFloat s → (ts : List WgslType) → All IsValueType ts → TakenBy (vec k (scalar s) ∷ vec k (scalar s) ∷ scalar s ∷ []) ts →
+mixed_down : (n : Name) → IsMixed n → (k : ℕ) (s : Scalar) → IsFloat s → (ts : List WgslType) → All IsValueType ts → TakenBy (vec k (scalar s) ∷ vec k (scalar s) ∷ scalar s ∷ []) ts →
     Fits mixed_row (its n ts) ⊎ RefusedThoughTaken n ts
 mixed_down n h k s i ts v t =
     let m = three_taken ts (vec k (scalar s)) (vec k (scalar s)) (scalar s) v t in
@@ -134,7 +130,7 @@ abbrev pub has_mix_form : List WgslType → Type 0
 has_mix_form ts = form_of mix (outers ts) ≡ Some (three mix tt)
 
 -- three types that convert to a float or a vector of floats
-pub mix_form : (x y z d : WgslType) → AreAbove x y z d → Admits (or_vector a_float) d → has_mix_form (x ∷ y ∷ z ∷ [])
+mix_form : (x y z d : WgslType) → AreAbove x y z d → Admits (or_vector a_float) d → has_mix_form (x ∷ y ∷ z ∷ [])
 mix_form x y z (scalar s) m i =
     let os : outers (x ∷ y ∷ z ∷ []) ≡ plain ∷ plain ∷ plain ∷ [] = cc (above_outer m.first, above_outer m.second, above_outer m.third) in
     ap (λ os. form_of mix os) os ∙ refl
@@ -144,7 +140,7 @@ mix_form x y z (within (vec_of n) e) m i =
 mix_form x y z d m i = absurd i
 
 -- such a call is one of `RefusedThoughTaken` exactly if its first argument is too abstract
-pub mix_first : (x y z d : WgslType) → AreAbove x y z d → Admits (or_vector a_float) d → RefusedThoughTaken mix (x ∷ y ∷ z ∷ []) → IsAbstractIntOrVector x
+mix_first : (x y z d : WgslType) → AreAbove x y z d → Admits (or_vector a_float) d → RefusedThoughTaken mix (x ∷ y ∷ z ∷ []) → IsAbstractIntOrVector x
 mix_first x y z (scalar s) m i r =
     let p = as_scalar x (above_admits m.first any_scalar tt tt) in
     subst IsAbstractIntOrVector (sym p.1) (subst (λ x. RefusedThoughTaken mix (x ∷ y ∷ z ∷ [])) p.1 r)
@@ -157,7 +153,7 @@ mix_first x y z (within (vec_of n) e) m i r =
     first x y n f r = r
 mix_first x y z d m i r = absurd i
 
-pub first_mix : (x y z d : WgslType) → AreAbove x y z d → Admits (or_vector a_float) d → IsAbstractIntOrVector x → RefusedThoughTaken mix (x ∷ y ∷ z ∷ [])
+first_mix : (x y z d : WgslType) → AreAbove x y z d → Admits (or_vector a_float) d → IsAbstractIntOrVector x → RefusedThoughTaken mix (x ∷ y ∷ z ∷ [])
 first_mix x y z (scalar s) m i r =
     let p = as_scalar x (above_admits m.first any_scalar tt tt) in
     subst (λ x. RefusedThoughTaken mix (x ∷ y ∷ z ∷ [])) (sym p.1) (subst IsAbstractIntOrVector p.1 r)
@@ -171,14 +167,14 @@ first_mix x y z (within (vec_of n) e) m i r =
 first_mix x y z d m i r = absurd i
 
 -- what candidates of three types take, the second row takes
-pub mix_down : (c : WgslType) → Admits (or_vector a_float) c → (ts : List WgslType) → All IsValueType ts → TakenBy (c ∷ c ∷ c ∷ []) ts → Fits mix_row (its mix ts) ⊎ RefusedThoughTaken mix ts
+mix_down : (c : WgslType) → Admits (or_vector a_float) c → (ts : List WgslType) → All IsValueType ts → TakenBy (c ∷ c ∷ c ∷ []) ts → Fits mix_row (its mix ts) ⊎ RefusedThoughTaken mix ts
 mix_down c i ts v t =
     let m = three_taken ts c c c v t in
     let k : AreAbove m.a m.b m.c c = record { first = m.a_above; second = m.b_above; third = m.c_above } in
     subst (λ ts. Fits mix_row (its mix ts) ⊎ RefusedThoughTaken mix ts) (sym m.is)
     (elim (float_or_vector_above m.a c m.a_above i) [ inl x ↦ inl (refl, (x, (tt, (tt, tt)))) | inr x ↦ inr (first_mix m.a m.b m.c c k i x) ])
 
-pub no_common_taken : (x y z c : WgslType) → All IsValueType (x ∷ y ∷ z ∷ []) → TakenBy (c ∷ c ∷ c ∷ []) (x ∷ y ∷ z ∷ []) → IsLeftCommon (x ∷ y ∷ z ∷ []) None → ⊥
+no_common_taken : (x y z c : WgslType) → All IsValueType (x ∷ y ∷ z ∷ []) → TakenBy (c ∷ c ∷ c ∷ []) (x ∷ y ∷ z ∷ []) → IsLeftCommon (x ∷ y ∷ z ∷ []) None → ⊥
 no_common_taken x y z c v t k =
     let p = head_taken (x ∷ y ∷ z ∷ []) c (c ∷ c ∷ []) t.0 v t.1 in
     let m = three_taken (x ∷ y ∷ z ∷ []) c c c v t in

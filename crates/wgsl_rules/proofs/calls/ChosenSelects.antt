@@ -1,10 +1,9 @@
 -- `select`: its rows return the least candidate's result.
-use Rattle.std.proofs.Common.{◌≡◌, ℕ, List, [], ◌∷◌, inl, inr, All, refl, sym, ap, subst, ◌∙◌}
+use Rattle.std.proofs.Common.{option_map, Option, Some, ◌≡◌, ℕ, List, [], ◌∷◌, inl, inr, All, refl, sym, ap, subst, ◌∙◌}
 use Rattle.wgsl_syntax.specs.declared.scalar.Scalar.TheVariants.{Bool}
 use Rattle.wgsl_rules.specs.types.Types.{vec_of, WgslType, scalar, within, vec}
 use Rattle.wgsl_rules.specs.types.Kinds.{IsVector}
-use Rattle.wgsl_rules.specs.conversion.Conversion.{IsValueType}
-use Rattle.wgsl_rules.specs.conversion.Common.{IsCommon}
+use Rattle.wgsl_rules.specs.conversion.Conversion.{ConvertsTo, IsValueType}
 use Rattle.wgsl_rules.specs.operators.Candidates.{select, IsCandidate, of_two, of_three, either, each_either, mixed}
 use Rattle.wgsl_rules.specs.operators.Choice.{Takes as TakenBy}
 use Rattle.wgsl_syntax.specs.declared.call.ScalarKind.TheVariants.{Boolean}
@@ -18,10 +17,11 @@ use Rattle.wgsl_rules.specs.calls.Shapes.{IsScalarOf, IsVectorOf}
 use Rattle.wgsl_rules.specs.calls.Rows.{Fits, IsReturnType, given}
 use Rattle.wgsl_rules.specs.calls.Answers.{IsAnswerOf, RefusedThoughTaken, IsChosenCall}
 use Rattle.wgsl_rules.proofs.conversion.Order.{Above, here, above_to_within, above_converts}
-use Rattle.wgsl_rules.proofs.conversion.Commons.{common_join, values_head, values_tail}
-use Rattle.wgsl_rules.proofs.operators.Forms.{any_type, vector_of, scalar_or_vector, Admits, above_admits, above_admitted, either_form, each_form}
-use Rattle.wgsl_rules.proofs.operators.ChosenRows.{two_values, bool_above}
-use Rattle.wgsl_rules.proofs.calls.Answered.{returned_is_chosen, refused_is_chosen, three_taken, Answer, its}
+use Rattle.wgsl_rules.proofs.conversion.Commons.{values_head, values_tail}
+use Rattle.wgsl_rules.proofs.operators.Families.{IsPut}
+use Rattle.wgsl_rules.proofs.operators.Forms.{Form, form_of, outers, any_type, vector_of, scalar_or_vector, Admits, above_admits, above_admitted, either_form, each_form}
+use Rattle.wgsl_rules.proofs.operators.ChosenRows.{bool_above}
+use Rattle.wgsl_rules.proofs.calls.Answered.{returned_common, returned_is_chosen, refused_is_chosen, three_taken, Answer, its}
 use Rattle.wgsl_rules.proofs.calls.ChosenFamilies.{same_option}
 
 -- `select`, which has two rows
@@ -32,67 +32,54 @@ by_one = Takes (Three ScalarOrVector Any (ScalarOf Boolean)) (Of Common)
 abbrev pub by_each : Row
 by_each = Takes (Three Vector Any (VectorOf Boolean)) (Of Common)
 
-pub is_bool : (t : WgslType) → IsScalarOf Boolean t → t ≡ scalar Bool
+is_bool : (t : WgslType) → IsScalarOf Boolean t → t ≡ scalar Bool
 is_bool (scalar Bool) h = refl
 is_bool t h = absurd h
 
-pub bool_vector : (t : WgslType) → IsVectorOf Boolean t → (n : ℕ) × (t ≡ vec n (scalar Bool))
+bool_vector : (t : WgslType) → IsVectorOf Boolean t → (n : ℕ) × (t ≡ vec n (scalar Bool))
 bool_vector (within (vec_of n) t) h = (n, ap (λ u. vec n u) (is_bool t h))
 bool_vector t h = absurd h
 
-pub one_of_two : (ts : List WgslType) → All IsValueType ts → (a : Answer) → Fits by_one (its select ts) → IsReturnType (Of Common) (its select ts) a → IsChosenCall select (its select ts) a
+-- either row: the common type of the first two arguments
+common_of_two : (x y z : WgslType) (f : Form select) (a : Answer) → All IsValueType (x ∷ y ∷ z ∷ []) → form_of select (outers (x ∷ y ∷ z ∷ [])) ≡ Some f → IsPut f.slots (x ∷ y ∷ z ∷ []) (x ∷ y ∷ []) →
+    ((d : WgslType) → Above x d → Admits f.kind d) → ((t : Option WgslType) → t ≡ option_map f.gives t) → IsReturnType (Of Common) (its select (x ∷ y ∷ z ∷ [])) a →
+    IsChosenCall select (its select (x ∷ y ∷ z ∷ [])) a
+common_of_two x y z f a v e put up same o =
+    let ts = x ∷ y ∷ z ∷ [] in
+    let vx = values_head x (y ∷ z ∷ []) v in
+    let vy = values_head y (z ∷ []) (values_tail x (y ∷ z ∷ []) v) in
+    returned_is_chosen select ts f a v e (λ r. r) (returned_common select ts f a x y o.0 vx vy put o.1 up (o.2 ∙ ap (given (its select ts)) (same o.0)))
+
+one_of_two : (ts : List WgslType) → All IsValueType ts → (a : Answer) → Fits by_one (its select ts) → IsReturnType (Of Common) (its select ts) a → IsChosenCall select (its select ts) a
 one_of_two [] v a f o = absurd f.1
 one_of_two (x ∷ []) v a f o = absurd f.1.1
 one_of_two (x ∷ y ∷ []) v a f o = absurd f.1.1.1
 one_of_two (x ∷ y ∷ z ∷ []) v a f o =
-    subst (λ z. All IsValueType (x ∷ y ∷ z ∷ []) → IsReturnType (Of Common) (its select (x ∷ y ∷ z ∷ [])) a → IsChosenCall select (its select (x ∷ y ∷ z ∷ [])) a)
-    (sym (is_bool z f.1.1.1.0)) at_bool v o
-  where
-    at_bool : All IsValueType (x ∷ y ∷ scalar Bool ∷ []) → IsReturnType (Of Common) (its select (x ∷ y ∷ scalar Bool ∷ [])) a → IsChosenCall select (its select (x ∷ y ∷ scalar Bool ∷ [])) a
-    at_bool v o =
-        let vx = values_head x (y ∷ scalar Bool ∷ []) v in
-        let vy = values_head y (scalar Bool ∷ []) (values_tail x (y ∷ scalar Bool ∷ []) v) in
-        returned_is_chosen select (x ∷ y ∷ scalar Bool ∷ []) either_form a v refl (λ r. r) (record {
-          types = x ∷ y ∷ [];
-          values = two_values x y vx vy;
-          put = (y ∷ [], refl, ([], refl, (above_converts here, refl)));
-          common = o.0;
-          is_common = (o.0, o.1, refl);
-          admitted = λ b q. above_admitted (common_join x y b vx vy (subst (λ u. IsCommon x y u) q o.1)).left scalar_or_vector tt f.1.0;
-          answer = o.2 ∙ ap (given (its select (x ∷ y ∷ scalar Bool ∷ []))) (same_option o.0);
-        })
+    let ts = x ∷ y ∷ z ∷ [] in
+    let e : z ≡ scalar Bool = is_bool z f.1.1.1.0 in
+    let form : form_of select (outers ts) ≡ Some either_form = ap (λ z. form_of select (outers (x ∷ y ∷ z ∷ []))) e in
+    common_of_two x y z either_form a v form (y ∷ [], refl, ([], refl, (subst (λ z. ConvertsTo z (scalar Bool)) (sym e) (above_converts here), refl)))
+    (λ d h. above_admitted h scalar_or_vector tt f.1.0) same_option o
 one_of_two (x ∷ y ∷ z ∷ w ∷ ts) v a f o = absurd f.1.1.1.1
 
-pub vector_admitted : (t : WgslType) → IsVector t → Admits (vector_of any_type) t
+vector_admitted : (t : WgslType) → IsVector t → Admits (vector_of any_type) t
 vector_admitted (within (vec_of n) e) h = tt
 vector_admitted t h = absurd h
 
-pub each_of_two : (ts : List WgslType) → All IsValueType ts → (a : Answer) → Fits by_each (its select ts) → IsReturnType (Of Common) (its select ts) a → IsChosenCall select (its select ts) a
+each_of_two : (ts : List WgslType) → All IsValueType ts → (a : Answer) → Fits by_each (its select ts) → IsReturnType (Of Common) (its select ts) a → IsChosenCall select (its select ts) a
 each_of_two [] v a f o = absurd f.1
 each_of_two (x ∷ []) v a f o = absurd f.1.1
 each_of_two (x ∷ y ∷ []) v a f o = absurd f.1.1.1
 each_of_two (x ∷ y ∷ z ∷ []) v a f o =
+    let ts = x ∷ y ∷ z ∷ [] in
     let p = bool_vector z f.1.1.1.0 in
-    subst (λ z. All IsValueType (x ∷ y ∷ z ∷ []) → IsReturnType (Of Common) (its select (x ∷ y ∷ z ∷ [])) a → IsChosenCall select (its select (x ∷ y ∷ z ∷ [])) a)
-    (sym p.1) (at_bools p.0) v o
-  where
-    at_bools : (k : ℕ) → All IsValueType (x ∷ y ∷ vec k (scalar Bool) ∷ []) → IsReturnType (Of Common) (its select (x ∷ y ∷ vec k (scalar Bool) ∷ [])) a →
-        IsChosenCall select (its select (x ∷ y ∷ vec k (scalar Bool) ∷ [])) a
-    at_bools k v o =
-        let vx = values_head x (y ∷ vec k (scalar Bool) ∷ []) v in
-        let vy = values_head y (vec k (scalar Bool) ∷ []) (values_tail x (y ∷ vec k (scalar Bool) ∷ []) v) in
-        returned_is_chosen select (x ∷ y ∷ vec k (scalar Bool) ∷ []) (each_form k) a v refl (λ r. r) (record {
-          types = x ∷ y ∷ [];
-          values = two_values x y vx vy;
-          put = (y ∷ [], refl, ([], refl, (above_converts here, refl)));
-          common = o.0;
-          is_common = (o.0, o.1, refl);
-          admitted = λ b q. above_admitted (common_join x y b vx vy (subst (λ u. IsCommon x y u) q o.1)).left (vector_of any_type) tt (vector_admitted x f.1.0);
-          answer = o.2 ∙ ap (given (its select (x ∷ y ∷ vec k (scalar Bool) ∷ []))) (same_option o.0);
-        })
+    let form : form_of select (outers ts) ≡ Some (each_form p.0) = ap (λ z. form_of select (outers (x ∷ y ∷ z ∷ []))) p.1 in
+    let converts = subst (λ z. ConvertsTo z (vec p.0 (scalar Bool))) (sym p.1) (above_converts here) in
+    common_of_two x y z (each_form p.0) a v form (y ∷ [], refl, ([], refl, (converts, refl)))
+    (λ d h. above_admitted h (vector_of any_type) tt (vector_admitted x f.1.0)) same_option o
 each_of_two (x ∷ y ∷ z ∷ w ∷ ts) v a f o = absurd f.1.1.1.1
 
-pub vector_shape_of : (t : WgslType) (n : ℕ) (e : WgslType) → Above t (vec n e) → IsVector t
+vector_shape_of : (t : WgslType) (n : ℕ) (e : WgslType) → Above t (vec n e) → IsVector t
 vector_shape_of t n e k = let x = above_to_within k (vec_of n) e refl in subst IsVector (sym x.1) tt
 
 pub select_answer : (ts : List WgslType) → All IsValueType ts → (a : Answer) → IsAnswerOf (by_one ∷ by_each ∷ []) (its select ts) a → IsChosenCall select (its select ts) a

@@ -20,13 +20,13 @@ pub record Shaped (n : Name) (s : Shape) (k : Kind) : Type 0 where
   pub down : (a c : WgslType) (ts : List WgslType) → Above a c → Admits k c → Is s a ⊎ RefusedThoughTaken n (a ∷ ts)
   pub unfit : (a : WgslType) (ts : List WgslType) → RefusedThoughTaken n (a ∷ ts) → ¬ Is s a
 
-pub number_shape : (t : WgslType) → IsScalarOrVectorOf Number t → Admits (or_vector a_number) t
+number_shape : (t : WgslType) → IsScalarOrVectorOf Number t → Admits (or_vector a_number) t
 number_shape (scalar s) h = h
 number_shape (within (vec_of n) (scalar s)) h = h
 number_shape (within (vec_of n) t) h = absurd h
 number_shape t h = absurd h
 
-pub shape_number : (t : WgslType) → Admits (or_vector a_number) t → IsScalarOrVectorOf Number t
+shape_number : (t : WgslType) → Admits (or_vector a_number) t → IsScalarOrVectorOf Number t
 shape_number (scalar s) h = h
 shape_number (within (vec_of n) (scalar s)) h = h
 shape_number (within (vec_of n) t) h = absurd h
@@ -42,14 +42,11 @@ pub float_scalar : (t : WgslType) → Admits a_float t → IsScalarOf Float t
 float_scalar (scalar s) h = h
 float_scalar t h = absurd h
 
-pub scalar_float : (t : WgslType) → IsScalarOf Float t → Admits a_float t
-scalar_float (scalar s) h = h
-scalar_float t h = absurd h
-
-pub float_or_vector : (t : WgslType) → IsScalarOf Float t → IsScalarOrVectorOf Float t
+float_or_vector : (t : WgslType) → IsScalarOf Float t → IsScalarOrVectorOf Float t
 float_or_vector (scalar s) h = h
 float_or_vector t h = absurd h
 
+-- no call is refused for its first argument
 abbrev pub no_refusal : Name → Type 0
 no_refusal n = (a : WgslType) (ts : List WgslType) → ¬ RefusedThoughTaken n (a ∷ ts)
 
@@ -63,12 +60,12 @@ of_numbers n r = record {
 pub of_any : (n : Name) → no_refusal n → Shaped n Any any_type
 of_any n r = record { up = λ a c h k. tt; down = λ a c ts k h. inl tt; unfit = λ a ts h k. r a ts h }
 
-pub number_vector : (t : WgslType) → IsVectorOf Number t → Admits (vector_of a_number) t
+number_vector : (t : WgslType) → IsVectorOf Number t → Admits (vector_of a_number) t
 number_vector (within (vec_of n) (scalar s)) h = h
 number_vector (within (vec_of n) t) h = absurd h
 number_vector t h = absurd h
 
-pub vector_number : (t : WgslType) → Admits (vector_of a_number) t → IsVectorOf Number t
+vector_number : (t : WgslType) → Admits (vector_of a_number) t → IsVectorOf Number t
 vector_number (within (vec_of n) (scalar s)) h = h
 vector_number (within (vec_of n) t) h = absurd h
 vector_number t h = absurd h
@@ -85,13 +82,13 @@ no_int_float (scalar AbstractInt) h k = k
 no_int_float (within (vec_of n) (scalar AbstractInt)) h k = k
 no_int_float t h k = h
 
-pub no_int_float_vector : (t : WgslType) → IsAbstractIntOrVector t → ¬ IsVectorOf Float t
+no_int_float_vector : (t : WgslType) → IsAbstractIntOrVector t → ¬ IsVectorOf Float t
 no_int_float_vector (within (vec_of n) (scalar AbstractInt)) h k = k
 no_int_float_vector (scalar s) h k = k
 no_int_float_vector t h k = h
 
 -- a vector that converts to a vector of floats
-pub float_vector_above : (a e : WgslType) (n : ℕ) → Above a (vec n e) → Admits a_float e → IsVectorOf Float a ⊎ IsAbstractIntOrVector a
+float_vector_above : (a e : WgslType) (n : ℕ) → Above a (vec n e) → Admits a_float e → IsVectorOf Float a ⊎ IsAbstractIntOrVector a
 float_vector_above a e n k h =
     let x = above_to_within k (vec_of n) e refl in
     elim (float_above x.2 h) [
@@ -99,7 +96,7 @@ float_vector_above a e n k h =
       | inr m ↦ inr (subst IsAbstractIntOrVector (sym (x.1 ∙ ap (λ t. vec n t) m.0)) tt)
     ]
 
-pub vector_shape : (t : WgslType) → IsVectorOf Float t → IsScalarOrVectorOf Float t
+vector_shape : (t : WgslType) → IsVectorOf Float t → IsScalarOrVectorOf Float t
 vector_shape (within (vec_of n) t) h = h
 vector_shape t h = absurd h
 
@@ -112,6 +109,7 @@ float_or_vector_above a (scalar s) k h =
 float_or_vector_above a (within (vec_of n) e) k h = elim (float_vector_above a e n k h) [ inl m ↦ inl (vector_shape a m) | inr m ↦ inr m ]
 float_or_vector_above a c k h = absurd h
 
+-- a call is refused exactly if its first argument is an abstract integer or a vector of it
 abbrev pub ints_refused : Name → Type 0
 ints_refused n =
     ((a : WgslType) (ts : List WgslType) → RefusedThoughTaken n (a ∷ ts) → IsAbstractIntOrVector a) × ((a : WgslType) (ts : List WgslType) → IsAbstractIntOrVector a → RefusedThoughTaken n (a ∷ ts))
@@ -123,7 +121,7 @@ of_floats n r = record {
   unfit = λ a ts h. no_int_float a (r.0 a ts h);
 }
 
-pub float_vector : (t : WgslType) → IsVectorOf Float t → Admits (vector_of a_float) t
+float_vector : (t : WgslType) → IsVectorOf Float t → Admits (vector_of a_float) t
 float_vector (within (vec_of n) (scalar s)) h = h
 float_vector (within (vec_of n) t) h = absurd h
 float_vector t h = absurd h
@@ -141,19 +139,19 @@ of_float_vectors n r = record {
 
 -- Whether a call is one of `RefusedThoughTaken`
 
-pub dec_int : (t : WgslType) → Dec (IsAbstractIntOrVector t)
+dec_int : (t : WgslType) → Dec (IsAbstractIntOrVector t)
 dec_int (scalar AbstractInt) = yes tt
 dec_int (within (vec_of n) (scalar AbstractInt)) = yes tt
 dec_int t = no (λ h. h)
 
-pub dec_float_scalar : (s : Scalar) → Dec (IsFloat s)
+dec_float_scalar : (s : Scalar) → Dec (IsFloat s)
 dec_float_scalar AbstractFloat = yes tt
 dec_float_scalar F32 = yes tt
 dec_float_scalar F16 = yes tt
 dec_float_scalar F64 = yes tt
 dec_float_scalar s = no (λ h. h)
 
-pub dec_float : (t : WgslType) → Dec (IsFloatOrVector t)
+dec_float : (t : WgslType) → Dec (IsFloatOrVector t)
 dec_float (scalar s) = dec_float_scalar s
 dec_float (within (vec_of n) (scalar s)) = dec_float_scalar s
 dec_float t = no (λ h. h)

@@ -64,10 +64,10 @@ three_form mix h (within (vec_of n) t) k = refl
 three_form mix h t k = absurd k
 three_form n h t k = absurd h
 
-mixed_known : (n : Name) (h : IsMixed n) (k : ℕ) → form_of n (layer (vec_of k) ∷ layer (vec_of k) ∷ plain ∷ []) ≡ Some (mixed_form n h k)
-mixed_known mix h k = refl
-mixed_known refract h k = refl
-mixed_known n h k = absurd h
+pub mixed_known : (n : Name) (h : IsMixed n) (k m : ℕ) → form_of n (layer (vec_of k) ∷ layer (vec_of m) ∷ plain ∷ []) ≡ Some (mixed_form n h k)
+mixed_known mix h k m = refl
+mixed_known refract h k m = refl
+mixed_known n h k m = absurd h
 
 pub belongs : {n : Name} {us : List WgslType} {r : WgslType} → IsCandidate n us r → Belongs n us r
 belongs (scalars o h s) = record { form = _; at = scalar s; known = arithmetic_form o h (plain ∷ plain ∷ []) _ refl; operands = refl; result = refl; admitted = tt }
@@ -121,7 +121,7 @@ belongs (distances t k) = record { form = _; at = t; known = refl; operands = re
 belongs (products n s k) = record { form = _; at = vec n (scalar s); known = refl; operands = refl; result = refl; admitted = k }
 belongs (either t k) = record { form = _; at = t; known = refl; operands = refl; result = refl; admitted = k }
 belongs (each_either n m e) = record { form = _; at = vec n e; known = refl; operands = refl; result = refl; admitted = tt }
-belongs (mixed n h k s f) = record { form = mixed_form n h k; at = scalar s; known = mixed_known n h k; operands = refl; result = refl; admitted = f }
+belongs (mixed n h k s f) = record { form = mixed_form n h k; at = scalar s; known = mixed_known n h k k; operands = refl; result = refl; admitted = f }
 belongs (inserted t k) = record { form = _; at = t; known = refl; operands = refl; result = refl; admitted = admits_number t k }
 
 -- all candidates that take the operands are of one family
@@ -219,18 +219,12 @@ refused_answer {n} {ts} f = record {
   none = (λ e. f, λ f. refl);
 }
 
--- A family's row, at the common type of what the operands put, is the least candidate. If there is no row, or no common
--- type that the family admits, no candidate takes the operands.
+-- A family's row, at the common type of what the operands put, is the least candidate. Without a common type no candidate
+-- takes the operands.
 
 pub row_choice : (n : Name) (ts es : List WgslType) (f : Form n) (b : WgslType) → All IsValueType ts → All IsValueType es → form_of n (outers ts) ≡ Some f →
     IsPut f.slots ts es → IsLeftCommon es (Some b) → Admits f.kind b → IsLeastCandidate n ts (fill_all f.slots b) (f.gives b)
 row_choice n ts es f b va ve e p h a = choice_of n ts f b va e a (unraised f.kind f.slots ts b (least_of f.slots ts es b f.opens va ve p h))
-
-pub row_none : (n : Name) (ts : List WgslType) → All IsValueType ts → form_of n (outers ts) ≡ None → (us : List WgslType) (r : WgslType) → IsCandidate n us r → ¬ Takes us ts
-row_none n ts va e us r q h =
-    let m = belongs q in
-    let d : None ≡ Some m.form = sym e ∙ ap (λ os. form_of n os) (ranked_outers ts us h.0 va h.1) ∙ m.known in
-    cc d
 
 pub of_row : (n : Name) (ts us : List WgslType) (r : WgslType) (f : Form n) → All IsValueType ts → form_of n (outers ts) ≡ Some f → Belongs n us r → Takes us ts →
     (c : WgslType) × Takes (fill_all f.slots c) ts × Admits f.kind c
