@@ -1,4 +1,5 @@
 pub mod Families
+pub mod FamilyKinds
 pub mod Forms
 pub mod Choices
 pub mod Groups

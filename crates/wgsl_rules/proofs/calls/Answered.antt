@@ -13,7 +13,8 @@ use Rattle.wgsl_rules.specs.calls.Answers.{IsAnswerOf, name_of, RefusedThoughTak
 use Rattle.wgsl_rules.proofs.conversion.Order.{Above, value_converts}
 use Rattle.wgsl_rules.proofs.conversion.Commons.{common_join, value_above, receives_head, receives_tail, values_head, values_tail, left_common_least}
 use Rattle.wgsl_rules.proofs.operators.Families.{fill_all, IsPut}
-use Rattle.wgsl_rules.proofs.operators.Forms.{Admits, outers, Form, form_of}
+use Rattle.wgsl_rules.proofs.operators.FamilyKinds.{Admits, outers}
+use Rattle.wgsl_rules.proofs.operators.Forms.{Form, form_of}
 use Rattle.wgsl_rules.proofs.operators.ChosenRows.{two_values}
 use Rattle.wgsl_rules.proofs.operators.Choices.{belongs, of_row, row_choice, row_no_common, chosen_answer, refused_answer}
 

@@ -18,7 +18,8 @@ use Rattle.wgsl_rules.specs.calls.Rows.{Fits, IsSource, IsReturnType, given}
 use Rattle.wgsl_rules.specs.calls.Answers.{IsAnswerOf, RefusedThoughTaken, IsChosenCall}
 use Rattle.wgsl_rules.proofs.conversion.Order.{Above}
 use Rattle.wgsl_rules.proofs.conversion.Commons.{values_head, values_tail}
-use Rattle.wgsl_rules.proofs.operators.Forms.{Kind, Admits, outers, pair_form, three, kind_of, form_of}
+use Rattle.wgsl_rules.proofs.operators.FamilyKinds.{Kind, Admits, outers}
+use Rattle.wgsl_rules.proofs.operators.Forms.{pair_form, three, kind_of, form_of}
 use Rattle.wgsl_rules.proofs.calls.Answered.{returned_common, one_row, two_taken, three_taken, from_common, are_above, Answer, its, Returned}
 use Rattle.wgsl_rules.proofs.calls.ShapedKinds.{dec_refused, Shaped}
 

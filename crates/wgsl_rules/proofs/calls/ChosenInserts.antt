@@ -18,7 +18,8 @@ use Rattle.wgsl_rules.specs.calls.Shapes.{IsScalarOrVectorOf}
 use Rattle.wgsl_rules.specs.calls.Rows.{Fits, IsReturnType}
 use Rattle.wgsl_rules.specs.calls.Answers.{IsAnswerOf, RefusedThoughTaken, IsChosenCall}
 use Rattle.wgsl_rules.proofs.conversion.Commons.{values_head, values_tail}
-use Rattle.wgsl_rules.proofs.operators.Forms.{a_number, or_vector, Admits, above_admits, above_admitted, insert_form}
+use Rattle.wgsl_rules.proofs.operators.FamilyKinds.{a_number, or_vector, Admits, above_admits, above_admitted}
+use Rattle.wgsl_rules.proofs.operators.Forms.{insert_form}
 use Rattle.wgsl_rules.proofs.calls.Answered.{returned_common, one_row, head_taken, none_taken, Answer, its, Returned}
 use Rattle.wgsl_rules.proofs.calls.ShapedKinds.{dec_refused}
 

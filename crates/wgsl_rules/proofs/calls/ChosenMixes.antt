@@ -25,7 +25,8 @@ use Rattle.wgsl_rules.specs.calls.Rows.{Fits, HaveEqualLengths, IsReturnType, ve
 use Rattle.wgsl_rules.specs.calls.Answers.{IsAnswerOf, RefusedThoughTaken, IsChosenCall}
 use Rattle.wgsl_rules.proofs.conversion.Order.{above_to_within, above_converts}
 use Rattle.wgsl_rules.proofs.conversion.Commons.{receives_nil, receives_cons, values_head, values_tail, left_common_none}
-use Rattle.wgsl_rules.proofs.operators.Forms.{any_scalar, a_float, or_vector, Admits, above_admits, above_admitted, as_scalar, float_above, plain, layer, outers, above_outer, three, admitted_for, mixed_form, form_of}
+use Rattle.wgsl_rules.proofs.operators.FamilyKinds.{any_scalar, a_float, or_vector, Admits, above_admits, above_admitted, as_scalar, float_above, plain, layer, outers, above_outer}
+use Rattle.wgsl_rules.proofs.operators.Forms.{three, admitted_for, mixed_form, form_of}
 use Rattle.wgsl_rules.proofs.operators.Choices.{mixed_known}
 use Rattle.wgsl_rules.proofs.operators.ChosenRows.{two_values}
 use Rattle.wgsl_rules.proofs.calls.Answered.{returned_is_chosen, refused_is_chosen, head_taken, three_taken, from_common, are_above, Answer, its, Returned, AreAbove}

@@ -19,7 +19,8 @@ use Rattle.wgsl_rules.specs.calls.Answers.{IsAnswerOf, RefusedThoughTaken, IsCho
 use Rattle.wgsl_rules.proofs.conversion.Order.{Above, here, above_to_within, above_converts}
 use Rattle.wgsl_rules.proofs.conversion.Commons.{values_head, values_tail}
 use Rattle.wgsl_rules.proofs.operators.Families.{IsPut}
-use Rattle.wgsl_rules.proofs.operators.Forms.{Form, form_of, outers, any_type, vector_of, scalar_or_vector, Admits, above_admits, above_admitted, either_form, each_form}
+use Rattle.wgsl_rules.proofs.operators.FamilyKinds.{outers, any_type, vector_of, scalar_or_vector, Admits, above_admits, above_admitted}
+use Rattle.wgsl_rules.proofs.operators.Forms.{Form, form_of, either_form, each_form}
 use Rattle.wgsl_rules.proofs.operators.ChosenRows.{bool_above}
 use Rattle.wgsl_rules.proofs.calls.Answered.{returned_common, returned_is_chosen, refused_is_chosen, three_taken, Answer, its}
 use Rattle.wgsl_rules.proofs.calls.ChosenFamilies.{same_option}

@@ -11,7 +11,7 @@ use Rattle.wgsl_syntax.specs.declared.call.Shape.TheVariants.{Any, VectorOf, Sca
 use Rattle.wgsl_rules.specs.calls.Shapes.{Is, IsScalarOf, IsVectorOf, IsScalarOrVectorOf}
 use Rattle.wgsl_rules.specs.calls.Answers.{RefusedThoughTaken}
 use Rattle.wgsl_rules.proofs.conversion.Order.{Above, above_to_within}
-use Rattle.wgsl_rules.proofs.operators.Forms.{Kind, any_type, a_number, a_float, or_vector, vector_of, Admits, above_admits, above_admitted, float_above}
+use Rattle.wgsl_rules.proofs.operators.FamilyKinds.{Kind, any_type, a_number, a_float, or_vector, vector_of, Admits, above_admits, above_admitted, float_above}
 
 -- What a row asks of its first argument: it is of the kind then, with all that it converts to. What converts to a type of
 -- the kind has the shape, or its call is one of `RefusedThoughTaken`.

@@ -12,7 +12,8 @@ use Rattle.wgsl_rules.specs.types.Kinds.{IsInteger}
 use Rattle.wgsl_rules.specs.operators.Choice.{HasRanks, Takes, IsNowhereMore, IsSomewhereLess}
 use Rattle.wgsl_rules.specs.Headline.{IsLeastCandidate, IsChosenAnswer}
 use Rattle.wgsl_rules.proofs.operators.Families.{Slot, fill_all, HasOpen, IsPut, IsLeastOf, least_of, none_of, least_of_taken, taken_above, settle}
-use Rattle.wgsl_rules.proofs.operators.Forms.{Kind, Admits, IsLeastAdmitted, least_admitted, Outer, plain, layer, outer, outers, ranked_outers, Form, arithmetic, sums, matrix_products, comparisons, shifts, admits_number, admits_float_or_vector, admitted_for, two, three, mixed_form, or_else, form_of}
+use Rattle.wgsl_rules.proofs.operators.FamilyKinds.{Kind, Admits, IsLeastAdmitted, least_admitted, Outer, plain, layer, outer, outers, ranked_outers}
+use Rattle.wgsl_rules.proofs.operators.Forms.{Form, arithmetic, sums, matrix_products, comparisons, shifts, admits_number, admits_float_or_vector, admitted_for, two, three, mixed_form, or_else, form_of}
 
 pub record Belongs (n : Name) (us : List WgslType) (r : WgslType) : Type 0 where
   pub form : Form n

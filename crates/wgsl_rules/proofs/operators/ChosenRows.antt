@@ -17,7 +17,8 @@ use Rattle.wgsl_rules.specs.operators.Rows.{IsRow, scalar_row, vector_row, scala
 use Rattle.wgsl_rules.proofs.conversion.Order.{Above, here, above_inside, above_to_within, above_from_within, above_converts, value_converts}
 use Rattle.wgsl_rules.proofs.conversion.Commons.{value_above, common_join, no_common, some_common, common_symmetric}
 use Rattle.wgsl_rules.proofs.operators.Families.{whole, inner, fill_all, IsPut}
-use Rattle.wgsl_rules.proofs.operators.Forms.{any_scalar, an_integer, a_bool, Admits, plain, layer, outer, outers, above_outer, above_admits, as_scalar, Form, form_of}
+use Rattle.wgsl_rules.proofs.operators.FamilyKinds.{any_scalar, an_integer, a_bool, Admits, plain, layer, outer, outers, above_outer, above_admits, as_scalar}
+use Rattle.wgsl_rules.proofs.operators.Forms.{Form, form_of}
 use Rattle.wgsl_rules.proofs.conversion.Equations.{IsPlainScalar, above_plain}
 use Rattle.wgsl_rules.proofs.operators.Choices.{arithmetic_form, comparison_form, shift_form, row_choice}
 
