@@ -26,7 +26,32 @@ use wgsl_syntax::scalar::Scalar;
 pub fn conversion_rank(a: &Type, b: &Type) -> Option<u32>
     ensures { (w : ℕ) → (result ≡ Some w) ↔ Converts (view a.now) (view b.now) w }
 {
-    rank_steps(a, b).0
+    match scalars(a, b) {
+        Some((source, target)) => scalar_rank(source, target),
+        None => rank_steps(a, b).0,
+    }
+}
+
+/// Both scalars, if both types are scalars.
+#[inline(always)]
+#[tactic(auto, using(crate::proofs::Scalars::scalar_is))]
+fn scalars(a: &Type, b: &Type) -> Option<(Scalar, Scalar)>
+    ensures { IfSome result (λ p. (view a.now ≡ scalar p.0) × (view b.now ≡ scalar p.1)) }
+{
+    match a.scalar() {
+        Some(source) => match b.scalar() {
+            Some(target) => Some((source, target)),
+            None => None,
+        },
+        None => None,
+    }
+}
+
+#[inline(always)]
+fn scalar_rank(source: Scalar, target: Scalar) -> Option<u32>
+    ensures { (w : ℕ) → (result ≡ Some w) ↔ Converts (scalar source) (scalar target) w }
+{
+    walk(Node::Scalar(source), Node::Scalar(target)).0
 }
 
 /// The common type of two types (WGSL, "Overload Resolution"): `b` if `a` converts to it, else `a` if `b` converts
@@ -73,6 +98,9 @@ pub fn rank_steps(a: &Type, b: &Type) -> (Option<u32>, u32)
     ensures few { result.1 ≤ 2 }
     ensures steps { IfSome result.0 (λ w. ConvertsIn (view a.now) (view b.now) w result.1) }
 {
+    if let Some((source, target)) = scalars(a, b) {
+        return walk(Node::Scalar(source), Node::Scalar(target));
+    }
     match a.layer() {
         Some((source, element)) => match b.layer() {
             Some((target, target_element)) => {
@@ -198,6 +226,7 @@ fn is_same(a: Node, b: Node) -> bool
 }
 
 /// Walks from the target to its parents until it meets the source.
+#[inline(always)]
 fn walk(source: Node, target: Node) -> (Option<u32>, u32)
     ensures rank { (w : ℕ) → (result.0 ≡ Some w)
         ↔ Converts (type_at (node_view source)) (type_at (node_view target)) w }

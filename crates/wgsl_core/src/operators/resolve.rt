@@ -8,7 +8,7 @@ ghost use Rattle.wgsl_rules.specs.conversion.Conversion.{ConvertsTo};
 ghost use Rattle.wgsl_rules.specs.operators.Candidates.{IsArithmetic, IsSum, IsComparison, IsLogical, IsBitwise, IsOrAnd, IsShift};
 ghost use Rattle.wgsl_rules.specs.operators.Answers.{HasCandidate};
 ghost use Rattle.wgsl_core.specs.View.{view};
-ghost use Rattle.wgsl_core.specs.internal.Resolution.{around, resolved_view, resolution_view, IsInLayers, compared_at, shifted_at};
+ghost use Rattle.wgsl_core.specs.internal.Resolution.{around, element_view, resolved_view, resolution_view, IsInLayers, compared_at, shifted_at};
 
 use crate::conversion::convert_ty;
 use crate::ty::Type;
@@ -40,6 +40,24 @@ pub struct Resolution<'a> {
     pub result: ResolvedType<'a>,
 }
 
+impl Element<'_> {
+    /// Builds the type in memory, a scalar at once.
+    #[inline(always)]
+    #[tactic(auto, using(crate::proofs::Scalars::scalar_is))]
+    fn build(self, alloc: Global) -> Result<Type, AllocError>
+        ensures same { IfOk result (λ t. view t ≡ element_view self.entry) }
+        ensures never_out_of_memory { IsLeaf (element_view self.entry) → IsOk result }
+    {
+        match self {
+            Element::Scalar(scalar) => Ok(Type::from(scalar)),
+            Element::Type(ty) => match ty.scalar() {
+                Some(scalar) => Ok(Type::from(scalar)),
+                None => ty.clone(alloc),
+            },
+        }
+    }
+}
+
 impl<'a> ResolvedType<'a> {
     fn of(ty: &'a Type) -> ResolvedType<'a>
         ensures { resolved_view result ≡ view ty.now }
@@ -65,13 +83,9 @@ impl<'a> ResolvedType<'a> {
         ensures same { IfOk result (λ t. view t ≡ resolved_view self.entry) }
         ensures never_out_of_memory { IsLeaf (resolved_view self.entry) → IsOk result }
     {
-        let ty = match self.element {
-            Element::Scalar(scalar) => Type::from(scalar),
-            Element::Type(ty) => ty.clone(alloc)?,
-        };
         match self.layer {
-            None => Ok(ty),
-            Some(layer) => wrapped(alloc, layer, ty),
+            None => self.element.build(alloc),
+            Some(layer) => wrapped(alloc, layer, self.element.build(alloc)?),
         }
     }
 }

@@ -36,6 +36,7 @@ pub enum Form<'a> {
 
 impl Type {
     /// The form of the type.
+    #[inline(always)]
     pub fn form(&self) -> Form<'_>
         ensures { view self.now ≡ form_view result }
     {
@@ -66,6 +67,7 @@ impl Type {
     }
 
     /// The scalar, if the type is one.
+    #[inline(always)]
     pub fn scalar(&self) -> Option<Scalar>
         ensures { result ≡ scalar_of (view self.now) }
     {
@@ -76,6 +78,7 @@ impl Type {
     }
 
     /// The layer of an array, a vector or a matrix, and its element.
+    #[inline(always)]
     pub fn layer(&self) -> Option<(Layer, &Type)>
         ensures { option_map (λ p. (p.0, view p.1.now)) result ≡ layer_of (view self.now) }
     {
