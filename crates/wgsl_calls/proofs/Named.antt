@@ -4,6 +4,8 @@ use Rattle.wgsl_rules.specs.types.Types.{WgslType}
 use Rattle.wgsl_rules.specs.types.Signatures.{Parameter, Signature}
 use Rattle.wgsl_rules.specs.errors.Refusals.{Refusal, signature}
 use Rattle.wgsl_syntax.specs.declared.call.Row.{Row}
+use Rattle.wgsl_syntax.specs.declared.call.ReturnType.{ReturnType}
+use Rattle.wgsl_rules.specs.calls.Rows.{IsReturnType}
 use Rattle.wgsl_rules.specs.calls.Table.{call_table, rows_named}
 use Rattle.wgsl_rules.specs.calls.Answers.{IsAnswerOf, IsCallAnswer, IsLeastCallAnswer, IsLeafAnswer, IsLeafCall}
 use Rattle.wgsl_rules.proofs.calls.OneAnswer.{answer_once}
@@ -13,13 +15,22 @@ use Rattle.wgsl_core.specs.Answer.{refusal, AnswersAs, IsAnswered}
 use Rattle.wgsl_core.specs.declared.ty.Type.{«Type»}
 use Rattle.wgsl_core.specs.declared.error.Fail.{Fail}
 use Rattle.wgsl_core.specs.declared.error.Fail.TheVariants as fails
-use Rattle.wgsl_calls.specs.internal.Answers.{MayBeOutOfMemory, IsMet, Answered}
+use Rattle.wgsl_calls.specs.internal.Answers.{Chooses, MayBeOutOfMemory, IsMet, Answered}
 use Rattle.wgsl_calls.proofs.OutOfMemory.{by_answer, by_other}
 
 pub by_name : (c : Signature) (rows : List Row) (p : Option (List Parameter)) (r : Result (Option «Type») Fail) → rows ≡ rows_named c.name call_table → Answered (IsAnswerOf rows c) p r →
     Answered (IsCallAnswer c) p r
 unfolding IsCallAnswer
 by_name c rows p r e k = by_other (IsAnswerOf rows c) (IsCallAnswer c) p r (λ a h. subst (λ rows. IsAnswerOf rows c a) e h) k
+
+-- the answer by the rows of a name
+pub by_chosen : (c : Signature) (rows : List Row) (o : ReturnType) (p : Option (List Parameter)) (r : Result (Option «Type») Fail) → rows ≡ rows_named c.name call_table →
+    Chooses rows c (Some o) → Answered (IsReturnType o c) p r → Answered (IsCallAnswer c) p r
+by_chosen c rows o p r e h k = by_name c rows p r e (by_other (IsReturnType o c) (IsAnswerOf rows c) p r h k)
+
+pub by_none : (c : Signature) (rows : List Row) (p : Option (List Parameter)) (r : Result (Option «Type») Fail) → rows ≡ rows_named c.name call_table →
+    Chooses rows c None → IsMet (Err (signature c)) r → Answered (IsCallAnswer c) p r
+by_none c rows p r e h k = by_name c rows p r e (by_answer (IsAnswerOf rows c) p (Err (signature c)) r h k)
 
 pub unnamed : (c : Signature) (p : Option (List Parameter)) (r : Result (Option «Type») Fail) → [] ≡ rows_named c.name call_table → IsMet (Err (signature c)) r →
     Answered (IsCallAnswer c) p r

@@ -1,5 +1,5 @@
 -- When out of memory may stand for an answer.
-use Rattle.std.proofs.Common.{◌≡◌, List, [], ◌∷◌, Option, None, Result, Ok, Err, inl, inr, refl, sym, subst, Bool, true, false, cond}
+use Rattle.std.proofs.Common.{◌≡◌, List, [], ◌∷◌, Option, Some, None, Result, Ok, Err, inl, inr, refl, sym, subst, Bool, true, false, cond}
 use Rattle.wgsl_syntax.specs.declared.scalar.Scalar.TheVariants.{F32}
 use Rattle.wgsl_rules.specs.types.Types.{Layer, array_of, vec_of, mat_of, WgslType, scalar, within}
 use Rattle.wgsl_rules.specs.types.Kinds.{IsLeaf}
@@ -11,12 +11,12 @@ use Rattle.wgsl_rules.specs.conversion.Concrete.{is_abstract, concretized}
 use Rattle.wgsl_rules.specs.types.Signatures.{Parameter, Signature}
 use Rattle.wgsl_rules.specs.errors.Refusals.{Refusal, signature}
 use Rattle.wgsl_syntax.specs.declared.call.Row.{Row}
-use Rattle.wgsl_rules.specs.calls.Rows.{Fits, return_type_of, IsFromTemplate, IsReturnType}
-use Rattle.wgsl_rules.specs.calls.Answers.{IsAnswerOf}
+use Rattle.wgsl_syntax.specs.declared.call.ReturnType.{ReturnType}
+use Rattle.wgsl_rules.specs.calls.Rows.{Fits, return_type_of, IsFromTemplate}
 use Rattle.wgsl_core.specs.declared.ty.Type.{«Type»}
 use Rattle.wgsl_core.specs.declared.error.Fail.{Fail}
 use Rattle.wgsl_core.specs.declared.error.Fail.TheVariants as fails
-use Rattle.wgsl_calls.specs.internal.Answers.{IsMet, Answered}
+use Rattle.wgsl_calls.specs.internal.Answers.{Chooses, IsMet, Answered}
 
 abbrev Answer : Type 0
 Answer = Result (Option WgslType) Refusal
@@ -32,17 +32,16 @@ by_other P Q p (Ok t) f k = f _ k
 by_other P Q p (Err (fails.Error x)) f k = f _ k
 by_other P Q p (Err (fails.Memory m)) f k = λ n. let j = k n in (j.0, f j.0 j.1, j.2)
 
--- the first row that takes the call answers it
-pub first_row : (row : Row) (rows : List Row) (c : Signature) (p : Option (List Parameter)) (r : Result (Option «Type») Fail) → Fits row c → Answered (IsReturnType (return_type_of row) c) p r →
-    Answered (IsAnswerOf (row ∷ rows) c) p r
-first_row row rows c p r f k = by_other (IsReturnType (return_type_of row) c) (IsAnswerOf (row ∷ rows) c) p r (λ a o. inl (f, o)) k
+-- what the first row that takes the call returns gives its answer
+pub first_row : (row : Row) (rows : List Row) (c : Signature) → Fits row c → Chooses (row ∷ rows) c (Some (return_type_of row))
+first_row row rows c f = λ a o. inl (f, o)
 
-pub later_row : (row : Row) (rows : List Row) (c : Signature) (p : Option (List Parameter)) (r : Result (Option «Type») Fail) → ¬ Fits row c → Answered (IsAnswerOf rows c) p r →
-    Answered (IsAnswerOf (row ∷ rows) c) p r
-later_row row rows c p r f k = by_other (IsAnswerOf rows c) (IsAnswerOf (row ∷ rows) c) p r (λ a o. inr (f, o)) k
+pub later_row : (row : Row) (rows : List Row) (c : Signature) (o : Option ReturnType) → ¬ Fits row c → Chooses rows c o → Chooses (row ∷ rows) c o
+later_row row rows c None f k = inr (f, k)
+later_row row rows c (Some o) f k = λ a h. inr (f, k a h)
 
-pub no_row : (row : Row) (c : Signature) (p : Option (List Parameter)) (r : Result (Option «Type») Fail) → ¬ Fits row c → IsMet (Err (signature c)) r → Answered (IsAnswerOf (row ∷ []) c) p r
-no_row row c p r f k = by_answer (IsAnswerOf (row ∷ []) c) p (Err (signature c)) r (inr (f, refl)) k
+pub no_row : (c : Signature) → Chooses [] c None
+no_row c = refl
 
 -- `bitcast` without a template is refused
 pub no_template : (c : Signature) (p : Option (List Parameter)) (r : Result (Option «Type») Fail) → p ≡ None → IsMet (Err (signature c)) r → Answered (IsFromTemplate c p) p r

@@ -6,14 +6,14 @@ ghost use Rattle.wgsl_rules.specs.errors.Refusals.{signature};
 ghost use Rattle.wgsl_rules.specs.calls.ResultTypes.{exchange_struct, ray_intersection_struct, hit_positions_type};
 ghost use Rattle.wgsl_rules.specs.calls.Rows.{IsResultFor, IsFromTemplate, IsReturnType, return_type_of as return_type_of_row, given as given_for};
 ghost use Rattle.wgsl_rules.specs.templates.Templates.{IsBitcastTemplate};
-ghost use Rattle.wgsl_rules.specs.calls.Answers.{IsAnswerOf, IsCallAnswer, IsLeastCallAnswer, IsLeafCall};
+ghost use Rattle.wgsl_rules.specs.calls.Answers.{IsCallAnswer, IsLeastCallAnswer, IsLeafCall};
 ghost use Rattle.wgsl_core.specs.View.{view};
 ghost use Rattle.wgsl_core.specs.Instances.{parameter_view, call_view};
 ghost use Rattle.wgsl_core.specs.internal.Resolution.{element_view, resolved_view};
 ghost use Rattle.wgsl_core.specs.ResultStruct.{result_type};
 ghost use Rattle.wgsl_core.specs.Answer.{AnswersBy, AnswersAs, IsAnswered};
 ghost use Rattle.wgsl_calls.specs.internal.Rows.{rows_view};
-ghost use Rattle.wgsl_calls.specs.internal.Answers.{signature_of, template_of, IsMet, Answered};
+ghost use Rattle.wgsl_calls.specs.internal.Answers.{signature_of, template_of, Chooses, IsMet, Answered};
 ghost use Rattle.wgsl_rules.specs.conversion.Conversion.{IsValueType};
 ghost use Rattle.wgsl_rules.specs.operators.Candidates.{Name};
 ghost use Rattle.wgsl_rules.specs.Laws.{OneChoice};
@@ -66,7 +66,7 @@ pub fn type_builtin_fn(
 {
     answer(
         alloc,
-        Call {
+        &Call {
             name,
             template,
             args,
@@ -74,57 +74,56 @@ pub fn type_builtin_fn(
     )
 }
 
-/// The answer of a call by the rows of its name, or the refusal if there are none.
-fn answer(alloc: Global, call: Call<'_>) -> Result<Option<Type>, Fail>
-    ensures { Answered (IsCallAnswer (signature_of call.entry)) (template_of call.entry) result }
+/// The answer of a call: of the first row of its name that takes it, or the refusal if none does.
+fn answer(alloc: Global, call: &Call<'_>) -> Result<Option<Type>, Fail>
+    ensures { Answered (IsCallAnswer (signature_of call.now)) (template_of call.now) result }
 {
     match rows_of(call.name) {
-        Some(rows) => by_rows(alloc, rows, call),
+        Some(rows) => match chosen(rows, call) {
+            Some(return_type) => by_return_type(alloc, return_type, call),
+            None => refuse(alloc, call),
+        },
         None => refuse(alloc, call),
     }
 }
 
-/// The answer of the first row that takes the call.
-fn by_rows(alloc: Global, rows: Rows, call: Call<'_>) -> Result<Option<Type>, Fail>
-    ensures { Answered (IsAnswerOf (rows_view rows) (signature_of call.entry))
-        (template_of call.entry) result }
+/// What the first row that takes the call returns.
+fn chosen(rows: &Rows, call: &Call<'_>) -> Option<ReturnType>
+    ensures { Chooses (rows_view rows.now) (signature_of call.now) result }
 {
     match rows {
-        Rows::Only(row) => by_row(alloc, row, call),
+        Rows::Only(row) => {
+            if fits(row, call) {
+                Some(return_type(row))
+            } else {
+                None
+            }
+        }
         Rows::Either(row, other) => {
             if fits(row, call) {
-                by_return_type(alloc, return_type(row), call)
+                Some(return_type(row))
+            } else if fits(other, call) {
+                Some(return_type(other))
             } else {
-                by_row(alloc, other, call)
+                None
             }
         }
     }
 }
 
-fn by_row(alloc: Global, row: Row, call: Call<'_>) -> Result<Option<Type>, Fail>
-    ensures { Answered (IsAnswerOf (row ∷ []) (signature_of call.entry))
-        (template_of call.entry) result }
-{
-    if fits(row, call) {
-        by_return_type(alloc, return_type(row), call)
-    } else {
-        refuse(alloc, call)
-    }
-}
-
-fn return_type(row: Row) -> ReturnType
-    ensures { result ≡ return_type_of_row row }
+fn return_type(row: &Row) -> ReturnType
+    ensures { result ≡ return_type_of_row row.now }
 {
     match row {
-        Row::Takes(_, return_type) => return_type,
-        Row::TakesAtLeast(_, return_type) => return_type,
-        Row::TakesWhere(_, _, return_type) => return_type,
-        Row::TakesWithTemplate(_, return_type) => return_type,
+        Row::Takes(_, return_type) => *return_type,
+        Row::TakesAtLeast(_, return_type) => *return_type,
+        Row::TakesWhere(_, _, return_type) => *return_type,
+        Row::TakesWithTemplate(_, return_type) => *return_type,
     }
 }
 
-fn refuse(alloc: Global, call: Call<'_>) -> Result<Option<Type>, Fail>
-    ensures { IsMet (Err (signature (signature_of call.entry))) result }
+fn refuse(alloc: Global, call: &Call<'_>) -> Result<Option<Type>, Fail>
+    ensures { IsMet (Err (signature (signature_of call.now))) result }
 {
     let refused = CallSignature::of_call(alloc, call.name, call.template, call.args)?;
     Err(Fail::Error(Error::Signature(refused)))
@@ -133,10 +132,10 @@ fn refuse(alloc: Global, call: Call<'_>) -> Result<Option<Type>, Fail>
 fn by_return_type(
     alloc: Global,
     return_type: ReturnType,
-    call: Call<'_>,
+    call: &Call<'_>,
 ) -> Result<Option<Type>, Fail>
-    ensures { Answered (IsReturnType return_type (signature_of call.entry))
-        (template_of call.entry) result }
+    ensures { Answered (IsReturnType return_type (signature_of call.now))
+        (template_of call.now) result }
 {
     match return_type {
         ReturnType::Of(of) => given(alloc, bare(type_of_source(of, call.args)), call),
@@ -168,9 +167,9 @@ fn by_return_type(
 fn given(
     alloc: Global,
     found: Option<ResolvedType<'_>>,
-    call: Call<'_>,
+    call: &Call<'_>,
 ) -> Result<Option<Type>, Fail>
-    ensures { IsMet (given_for (signature_of call.entry)
+    ensures { IsMet (given_for (signature_of call.now)
         (option_map resolved_view found.entry)) result }
 {
     match found {
@@ -179,8 +178,8 @@ fn given(
     }
 }
 
-fn concrete(alloc: Global, found: Option<Element<'_>>, call: Call<'_>) -> Result<Option<Type>, Fail>
-    ensures { IsMet (given_for (signature_of call.entry)
+fn concrete(alloc: Global, found: Option<Element<'_>>, call: &Call<'_>) -> Result<Option<Type>, Fail>
+    ensures { IsMet (given_for (signature_of call.now)
         (option_map concretized (option_map element_view found.entry))) result }
 {
     match found {
@@ -215,8 +214,8 @@ fn split_result(function: ResultFunction, ty: Option<&Type>) -> Option<ResultStr
 
 /// The type that `frexp` or `modf` returns.
 #[tactic(auto, using(crate::proofs::OutOfMemory::no_leaf_result))]
-fn split(alloc: Global, of: Option<ResultStruct>, call: Call<'_>) -> Result<Option<Type>, Fail>
-    ensures { IsMet (given_for (signature_of call.entry) (option_map result_type of)) result }
+fn split(alloc: Global, of: Option<ResultStruct>, call: &Call<'_>) -> Result<Option<Type>, Fail>
+    ensures { IsMet (given_for (signature_of call.now) (option_map result_type of)) result }
 {
     match of {
         Some(of) => Ok(Some(result_struct(alloc, of)?)),
@@ -226,8 +225,8 @@ fn split(alloc: Global, of: Option<ResultStruct>, call: Call<'_>) -> Result<Opti
 
 /// The type that an atomic exchange returns.
 #[tactic(auto, using(crate::proofs::OutOfMemory::no_leaf_exchange))]
-fn exchanged(alloc: Global, ty: Option<&Type>, call: Call<'_>) -> Result<Option<Type>, Fail>
-    ensures { IsMet (given_for (signature_of call.entry)
+fn exchanged(alloc: Global, ty: Option<&Type>, call: &Call<'_>) -> Result<Option<Type>, Fail>
+    ensures { IsMet (given_for (signature_of call.now)
         (option_map exchange_struct (option_map (λ t. view t.now) ty.entry))) result }
 {
     match ty {
@@ -250,9 +249,9 @@ fn positions(alloc: Global) -> Result<Option<Type>, Fail>
 }
 
 /// The type that `bitcast` returns: that of its template.
-fn by_template(alloc: Global, call: Call<'_>) -> Result<Option<Type>, Fail>
-    ensures { Answered (IsFromTemplate (signature_of call.entry) (template_of call.entry))
-        (template_of call.entry) result }
+fn by_template(alloc: Global, call: &Call<'_>) -> Result<Option<Type>, Fail>
+    ensures { Answered (IsFromTemplate (signature_of call.now) (template_of call.now))
+        (template_of call.now) result }
 {
     match call.template {
         Some(parameters) => Ok(Some(bitcast(alloc, parameters)?)),

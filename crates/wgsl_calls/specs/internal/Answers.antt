@@ -3,7 +3,11 @@ use Rattle.std.specs.Prelude.{◌≡◌, List, Option, Some, None, Result, Ok, E
 use Rattle.wgsl_rules.specs.types.Types.{WgslType}
 use Rattle.wgsl_rules.specs.types.Kinds.{IsLeaf}
 use Rattle.wgsl_rules.specs.types.Signatures.{Parameter, Signature}
-use Rattle.wgsl_rules.specs.errors.Refusals.{Refusal}
+use Rattle.wgsl_rules.specs.errors.Refusals.{Refusal, signature}
+use Rattle.wgsl_syntax.specs.declared.call.Row.{Row}
+use Rattle.wgsl_syntax.specs.declared.call.ReturnType.{ReturnType}
+use Rattle.wgsl_rules.specs.calls.Rows.{IsReturnType}
+use Rattle.wgsl_rules.specs.calls.Answers.{IsAnswerOf}
 use Rattle.wgsl_core.specs.View.{view}
 use Rattle.wgsl_core.specs.Instances.{call_view}
 use Rattle.wgsl_core.specs.Answer.{refusal}
@@ -35,3 +39,8 @@ abbrev pub Answered : (Result (Option WgslType) Refusal → Type 0) → Option (
 Answered P p (Ok t) = P (Ok (option_map view t))
 Answered P p (Err (fails.Error e)) = P (Err (refusal e))
 Answered P p (Err (fails.Memory m)) = p ≡ None → (a : Result (Option WgslType) Refusal) × P a × MayBeOutOfMemory a
+
+-- What this return type gives is the answer by the rows; without one, the refusal is.
+abbrev pub Chooses : List Row → Signature → Option ReturnType → Type 0
+Chooses rows c None = IsAnswerOf rows c (Err (signature c))
+Chooses rows c (Some o) = (a : Result (Option WgslType) Refusal) → IsReturnType o c a → IsAnswerOf rows c a

@@ -35,8 +35,8 @@ pub fn find_call(name: &str) -> (Option<usize>, u32)
 }
 
 /// The rows of a name.
-pub fn rows_of(name: &str) -> Option<Rows>
-    ensures { found_rows result ≡ rows_named name.now call_table }
+pub fn rows_of(name: &str) -> Option<&'static Rows>
+    ensures { found_rows (option_map (λ r. r.now) result) ≡ rows_named name.now call_table }
 {
     match search(name).0 {
         Some((_, rows)) => Some(rows),
@@ -45,10 +45,10 @@ pub fn rows_of(name: &str) -> Option<Rows>
 }
 
 /// The index and the rows of a name, and the number of names that were compared with it.
-fn search(name: &str) -> (Option<(usize, Rows)>, u32)
+fn search(name: &str) -> (Option<(usize, &'static Rows)>, u32)
     ensures index { (i : ℕ) → (option_map (λ f. f.0) result.0 ≡ Some i)
         ↔ IsNameAt call_names i name.now }
-    ensures rows { found_rows (option_map (λ f. f.1) result.0) ≡ rows_named name.now call_table }
+    ensures rows { found_rows (option_map (λ f. f.1.now) result.0) ≡ rows_named name.now call_table }
     ensures few { result.1 ≤ 8 }
 {
     let built_ins = built_ins();
@@ -59,7 +59,7 @@ fn search(name: &str) -> (Option<(usize, Rows)>, u32)
         let middle = low + (high - low) / 2;
         compared += 1;
         match name.cmp(built_ins[middle].0) {
-            Ordering::Equal => return (Some((middle, built_ins[middle].1)), compared),
+            Ordering::Equal => return (Some((middle, &built_ins[middle].1)), compared),
             Ordering::Less => high = middle,
             Ordering::Greater => low = middle + 1,
         }

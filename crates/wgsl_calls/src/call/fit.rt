@@ -19,37 +19,37 @@ pub struct Call<'a> {
 }
 
 /// Whether the row takes the call.
-pub fn fits(row: Row, call: Call<'_>) -> bool
-    ensures { IsTrue result ↔ Fits row (signature_of call.entry) }
+pub fn fits(row: &Row, call: &Call<'_>) -> bool
+    ensures { IsTrue result ↔ Fits row.now (signature_of call.now) }
 {
     match row {
         Row::Takes(arguments, _) => !has_template(call) && are(arguments, call.args),
         Row::TakesAtLeast(arguments, _) => !has_template(call) && begin_as(arguments, call.args),
         Row::TakesWhere(arguments, condition, _) => {
-            !has_template(call) && are(arguments, call.args) && holds(condition, call.args)
+            !has_template(call) && are(arguments, call.args) && holds(*condition, call.args)
         }
         Row::TakesWithTemplate(arguments, _) => has_template(call) && are(arguments, call.args),
     }
 }
 
 #[tactic(auto, using(crate::proofs::Fitting::none_or_some))]
-fn has_template(call: Call<'_>) -> bool
-    ensures some { IsTrue result ↔ IsSome (template_of call.entry) }
-    ensures none { ¬ IsTrue result ↔ (template_of call.entry ≡ None) }
+fn has_template(call: &Call<'_>) -> bool
+    ensures some { IsTrue result ↔ IsSome (template_of call.now) }
+    ensures none { ¬ IsTrue result ↔ (template_of call.now ≡ None) }
 {
     call.template.is_some()
 }
 
 /// Whether there are as many arguments as required, and each has its shape.
 #[tactic(auto, using(crate::proofs::Fitting::as_many))]
-fn are(arguments: Arguments, args: &[Type]) -> bool
-    ensures { IsTrue result ↔ AllAre (shapes_of arguments) (map view args.now) }
+fn are(arguments: &Arguments, args: &[Type]) -> bool
+    ensures { IsTrue result ↔ AllAre (shapes_of arguments.now) (map view args.now) }
 {
     args.len() == count(arguments) && begin_as(arguments, args)
 }
 
-fn count(arguments: Arguments) -> usize
-    ensures { result ≡ length (shapes_of arguments) }
+fn count(arguments: &Arguments) -> usize
+    ensures { result ≡ length (shapes_of arguments.now) }
 {
     match arguments {
         Arguments::Nothing => 0,
@@ -61,16 +61,16 @@ fn count(arguments: Arguments) -> usize
 }
 
 /// Whether the first arguments have the required shapes.
-fn begin_as(arguments: Arguments, args: &[Type]) -> bool
-    ensures { IsTrue result ↔ BeginAs (shapes_of arguments) (map view args.now) }
+fn begin_as(arguments: &Arguments, args: &[Type]) -> bool
+    ensures { IsTrue result ↔ BeginAs (shapes_of arguments.now) (map view args.now) }
 {
     match arguments {
         Arguments::Nothing => true,
-        Arguments::One(first) => first_are(&[first], args),
-        Arguments::Two(first, second) => first_are(&[first, second], args),
-        Arguments::Three(first, second, third) => first_are(&[first, second, third], args),
+        Arguments::One(first) => first_are(&[*first], args),
+        Arguments::Two(first, second) => first_are(&[*first, *second], args),
+        Arguments::Three(first, second, third) => first_are(&[*first, *second, *third], args),
         Arguments::Four(first, second, third, fourth) => {
-            first_are(&[first, second, third, fourth], args)
+            first_are(&[*first, *second, *third, *fourth], args)
         }
     }
 }
