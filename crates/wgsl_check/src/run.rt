@@ -1,14 +1,14 @@
 // Lines in, answers out.
-ghost use Rattle.std.specs.Prelude.{◌≡◌, ◌+◌, ◌-◌, ◌^◌, ◌<◌, ◌≤◌, [], All, IfOk, IsOk, IsOkUnless, IsUtf8, OnErr, OnOk, min, string_bytes, true, vec_len};
+ghost use Rattle.std.specs.Prelude.{◌≡◌, ◌+◌, ◌-◌, ◌^◌, ◌<◌, ◌≤◌, [], All, IfOk, IsOk, IsOkUnless, IsUtf8, Ok, OnErr, OnOk, min, string_bytes, true, vec_len};
 ghost use Rattle.std.specs.Io.KnownBytes.{Appends};
 ghost use Rattle.wgsl_check.specs.Status.{status_of};
 ghost use Rattle.wgsl_requests.specs.Words.{has_forbidden, words_of};
 ghost use Rattle.wgsl_check.specs.Output.{bad_line};
 
-use crate::line::Line;
+use crate::line::{Line, split_line};
 use std::alloc::{AllocError, Global};
 use std::io::{ErrorKind, Read, Write};
-use wgsl_requests::request::{LONGEST, Reply, reply_to};
+use wgsl_requests::request::{LONGEST, ReplyKind, write_reply};
 
 /// Why a run stopped.
 #[derive(Clone, Copy, Debug, PartialEq, Eq)]
@@ -58,6 +58,8 @@ pub fn status(outcome: &Result<bool, RunError>) -> u8
 struct Session {
     alloc: Global,
     line: Line,
+    /// The answer to the line.
+    answer: String,
     answers: String,
     all_readable: bool,
 }
@@ -71,6 +73,7 @@ impl Session {
         Ok(Session {
             alloc,
             line: Line::first(alloc)?,
+            answer: String::new(alloc),
             answers: String::new(alloc),
             all_readable: true,
         })
@@ -104,13 +107,13 @@ impl Session {
 
     /// Takes the next bytes of the input, and gathers the answers to the lines that end in them.
     fn take(&mut self, block: &[u8]) -> Result<(), AllocError> {
-        for byte in block {
-            if *byte == b'\n' {
-                self.end_line()?;
-            } else {
-                self.line.push(*byte);
-            }
+        let mut rest = block;
+        while let Some((line, after)) = split_line(rest) {
+            self.line.extend(line);
+            self.end_line()?;
+            rest = after;
         }
+        self.line.extend(rest);
         Ok(())
     }
 
@@ -133,13 +136,14 @@ impl Session {
         // An answer is gathered whole or not at all.
         ensures err { OnErr result (string_bytes self.new.answers ≡ string_bytes self.old.answers) }
     {
-        match reply_of(self.alloc, &self.line)? {
-            Reply::Nothing => {}
-            Reply::Answer(mut text) => {
-                text.push('\n')?;
-                self.answers.push_str(&text)?;
+        self.answer.clear();
+        match write_reply_to(self.alloc, &self.line, &mut self.answer)? {
+            ReplyKind::Nothing => {}
+            ReplyKind::Answer => {
+                self.answer.push('\n')?;
+                self.answers.push_str(&self.answer)?;
             }
-            Reply::Unreadable => {
+            ReplyKind::Unreadable => {
                 let text = bad_line(self.alloc, self.line.number)?;
                 self.answers.push_str(&text)?;
                 self.all_readable = false;
@@ -172,18 +176,17 @@ impl Session {
     }
 }
 
-/// The reply to a line.
-fn reply_of(alloc: Global, line: &Line) -> Result<Reply, AllocError>
-    ensures too_long { LONGEST < vec_len line.now.bytes
-        → IfOk result (λ reply. reply ≡ Reply.Unreadable) }
+/// The kind of the reply to a line; an answer is written at the end of the text.
+fn write_reply_to(alloc: Global, line: &Line, text: &mut String) -> Result<ReplyKind, AllocError>
+    ensures too_long { LONGEST < vec_len line.now.bytes → result ≡ Ok ReplyKind.Unreadable }
     ensures forbidden { has_forbidden line.now.bytes.items ≡ true
-        → IfOk result (λ reply. reply ≡ Reply.Unreadable) }
+        → result ≡ Ok ReplyKind.Unreadable }
     ensures no_text { ¬ All IsUtf8 (words_of line.now.bytes.items)
-        → IfOk result (λ reply. reply ≡ Reply.Unreadable) }
+        → result ≡ Ok ReplyKind.Unreadable }
     ensures no_words { vec_len line.now.bytes ≤ LONGEST → words_of line.now.bytes.items ≡ []
-        → IfOk result (λ reply. reply ≡ Reply.Nothing) }
+        → result ≡ Ok ReplyKind.Nothing }
 {
-    reply_to(alloc, line.number, &line.bytes)
+    write_reply(alloc, line.number, &line.bytes, text)
 }
 
 /// What is printed for a line that can't be read.

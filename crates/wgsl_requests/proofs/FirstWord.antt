@@ -20,7 +20,7 @@ drop-one n b bs = grind (arith, common_steps)
 take-one : (n b : ℕ) (bs : List ℕ) → take (1 + n) (b ∷ bs) ≡ b ∷ take n bs
 take-one n b bs = grind (arith, common_steps)
 
-words-cut : (cuts : ℕ → Bool) (b : ℕ) (bs : List ℕ) → cuts b ≡ true → words cuts (b ∷ bs) ≡ words cuts bs
+pub words-cut : (cuts : ℕ → Bool) (b : ℕ) (bs : List ℕ) → cuts b ≡ true → words cuts (b ∷ bs) ≡ words cuts bs
 words-cut cuts b bs e = rw e refl
 
 after_cut : (cuts : ℕ → Bool) (b : ℕ) (bs : List ℕ) → cuts b ≡ true
@@ -58,7 +58,7 @@ splits cuts (b ∷ bs) = step (cuts b) refl (splits cuts bs)
     }
 
 -- bytes that begin with a word
-words-word : (cuts : ℕ → Bool) (b : ℕ) (bs : List ℕ) → cuts b ≡ false
+pub words-word : (cuts : ℕ → Bool) (b : ℕ) (bs : List ℕ) → cuts b ≡ false
     → words cuts (b ∷ bs) ≡ take (word_len cuts (b ∷ bs)) (b ∷ bs) ∷ words cuts (drop (word_len cuts (b ∷ bs)) (b ∷ bs))
 words-word cuts b bs e =
     let s = splits cuts bs in

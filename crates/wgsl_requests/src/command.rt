@@ -1,6 +1,6 @@
 // What the program answers to a command.
-use crate::read::read_types;
-use crate::report::layout_of;
+use crate::read::{read_type, read_types};
+use crate::report::write_layout;
 use crate::template::read_template;
 use crate::words::{Unread, Words};
 use std::alloc::{AllocError, Global};
@@ -12,60 +12,73 @@ use wgsl_types::syntax::{BinaryOperator, UnaryOperator};
 use wgsl_types::tplt::TpltParam;
 use wgsl_types::ty::Type;
 
-/// The answer to the words of the line of this number, or `None` if they are no command.
-pub fn answer(alloc: Global, line: u64, words: &[&str]) -> Result<Option<String>, AllocError> {
-    match command(alloc, line, Words::new(words)) {
-        Ok(text) => Ok(Some(text)),
-        Err(Unread::Word) => Ok(None),
+/// Writes the answer to the command and the words after it, of the line of this number; false if they are no command.
+pub fn write_answer(
+    alloc: Global,
+    line: u64,
+    command: &str,
+    words: Words,
+    text: &mut String,
+) -> Result<bool, AllocError> {
+    match answer_command(alloc, line, command, words, text) {
+        Ok(()) => Ok(true),
+        Err(Unread::Word) => Ok(false),
         Err(Unread::Memory(e)) => Err(e),
     }
 }
 
-fn command(alloc: Global, line: u64, mut words: Words) -> Result<String, Unread> {
-    match words.next()? {
-        "common" => common(alloc, line, words),
-        word => {
-            let question = read_question(alloc, word, &mut words)?;
-            let answer = answer_to(alloc, &question, words);
+fn answer_command(
+    alloc: Global,
+    line: u64,
+    command: &str,
+    mut words: Words,
+    text: &mut String,
+) -> Result<(), Unread> {
+    match command {
+        "common" => common(alloc, line, words, text),
+        _ => {
+            let question = read_question(alloc, command, &mut words)?;
+            let answered = answer(alloc, &question, words, text);
             drop(question);
-            answer
+            answered
         }
     }
 }
 
 /// `common T..`: the common type of all.
-fn common(alloc: Global, line: u64, mut words: Words) -> Result<String, Unread> {
+fn common(alloc: Global, line: u64, mut words: Words, text: &mut String) -> Result<(), Unread> {
     let types = read_typed(alloc, line, &mut words)?;
-    let text = spell_common(alloc, &types);
+    let written = write_common(alloc, &types, text);
     drop(types);
-    Ok(text?)
+    Ok(written?)
 }
 
 /// The types that all words that are left stand for, on the line of this number.
 fn read_typed(alloc: Global, line: u64, words: &mut Words) -> Result<Vec<Typed>, Unread> {
-    let mut types = Vec::new(alloc);
-    for ty in read_types(alloc, words)? {
+    let mut types = Vec::with_capacity(alloc, 4)?;
+    while !words.is_empty() {
+        let ty = read_type(alloc, words)?;
         types.push(Typed { ty, line })?;
     }
     Ok(types)
 }
 
-/// The spelling of the common type, or `none`.
-fn spell_common(alloc: Global, types: &[Typed]) -> Result<String, AllocError> {
+/// Writes the common type, or `none`.
+fn write_common(alloc: Global, types: &[Typed], text: &mut String) -> Result<(), AllocError> {
     match convert_to_common(alloc, types)? {
         Some(converted) => {
-            let text = spell_first(alloc, &converted);
+            let written = write_first(&converted, text);
             drop(converted);
-            text
+            written
         }
-        None => String::from_str(alloc, "none"),
+        None => text.push_str("none"),
     }
 }
 
-fn spell_first(alloc: Global, types: &[Typed]) -> Result<String, AllocError> {
+fn write_first(types: &[Typed], text: &mut String) -> Result<(), AllocError> {
     match types.first() {
-        Some(first) => first.ty.to_string(alloc),
-        None => String::from_str(alloc, "none"),
+        Some(first) => write_type(text, &first.ty),
+        None => text.push_str("none"),
     }
 }
 
@@ -92,7 +105,7 @@ struct Callee<'t> {
 fn read_question<'t>(
     alloc: Global,
     word: &str,
-    words: &mut Words<'_, 't>,
+    words: &mut Words<'t>,
 ) -> Result<Question<'t>, Unread> {
     match word {
         "rank" => Ok(Question::Rank),
@@ -107,47 +120,62 @@ fn read_question<'t>(
     }
 }
 
-fn read_callee<'t>(alloc: Global, words: &mut Words<'_, 't>) -> Result<Callee<'t>, Unread> {
+fn read_callee<'t>(alloc: Global, words: &mut Words<'t>) -> Result<Callee<'t>, Unread> {
     let name = words.next()?;
     let template = read_template(alloc, words)?;
     Ok(Callee { name, template })
 }
 
-/// The answer for the types that all words that are left stand for.
-fn answer_to(alloc: Global, question: &Question, mut words: Words) -> Result<String, Unread> {
+/// Writes the answer for the types that all words that are left stand for.
+fn answer(
+    alloc: Global,
+    question: &Question,
+    mut words: Words,
+    text: &mut String,
+) -> Result<(), Unread> {
     let types = read_types(alloc, &mut words)?;
-    let answer = answer_for(alloc, question, &types);
+    let answered = answer_for(alloc, question, &types, text);
     drop(types);
-    answer
+    answered
 }
 
-fn answer_for(alloc: Global, question: &Question, types: &[Type]) -> Result<String, Unread> {
+fn answer_for(
+    alloc: Global,
+    question: &Question,
+    types: &[Type],
+    text: &mut String,
+) -> Result<(), Unread> {
     match question {
-        Question::Rank => rank(alloc, types),
-        Question::Unary(operator) => unary(alloc, *operator, types),
-        Question::Binary(operator) => binary(alloc, *operator, types),
-        Question::Size => size(alloc, types),
-        Question::Offsets => offsets(alloc, types),
-        Question::Layout => layout(alloc, types),
-        Question::Ctor(callee) => ctor(alloc, callee, types),
-        Question::Call(callee) => call(alloc, callee, types),
+        Question::Rank => rank(types, text),
+        Question::Unary(operator) => unary(alloc, *operator, types, text),
+        Question::Binary(operator) => binary(alloc, *operator, types, text),
+        Question::Size => size(types, text),
+        Question::Offsets => offsets(alloc, types, text),
+        Question::Layout => layout(alloc, types, text),
+        Question::Ctor(callee) => ctor(alloc, callee, types, text),
+        Question::Call(callee) => call(alloc, callee, types, text),
     }
 }
 
 /// `rank T U`: the rank of the conversion.
-fn rank(alloc: Global, types: &[Type]) -> Result<String, Unread> {
+fn rank(types: &[Type], text: &mut String) -> Result<(), Unread> {
     let [from, to] = types else {
         return Err(Unread::Word);
     };
-    Ok(number_or_none(alloc, conversion_rank(from, to))?)
+    Ok(write_number_or_none(text, conversion_rank(from, to))?)
 }
 
 /// `unary OP T`: the type of the expression, or why it has none.
-fn unary(alloc: Global, operator: UnaryOperator, types: &[Type]) -> Result<String, Unread> {
+fn unary(
+    alloc: Global,
+    operator: UnaryOperator,
+    types: &[Type],
+    text: &mut String,
+) -> Result<(), Unread> {
     let [operand] = types else {
         return Err(Unread::Word);
     };
-    Ok(type_or_refusal(alloc, type_unary_op(alloc, operator, operand))?)
+    Ok(write_type_or_refusal(text, type_unary_op(alloc, operator, operand))?)
 }
 
 fn read_unary(words: &mut Words) -> Result<UnaryOperator, Unread> {
@@ -162,11 +190,16 @@ fn read_unary(words: &mut Words) -> Result<UnaryOperator, Unread> {
 }
 
 /// `binary OP T U`: the type of the expression, or why it has none.
-fn binary(alloc: Global, operator: BinaryOperator, types: &[Type]) -> Result<String, Unread> {
+fn binary(
+    alloc: Global,
+    operator: BinaryOperator,
+    types: &[Type],
+    text: &mut String,
+) -> Result<(), Unread> {
     let [lhs, rhs] = types else {
         return Err(Unread::Word);
     };
-    Ok(type_or_refusal(alloc, type_binary_op(alloc, operator, lhs, rhs))?)
+    Ok(write_type_or_refusal(text, type_binary_op(alloc, operator, lhs, rhs))?)
 }
 
 fn read_binary(words: &mut Words) -> Result<BinaryOperator, Unread> {
@@ -194,95 +227,110 @@ fn read_binary(words: &mut Words) -> Result<BinaryOperator, Unread> {
 }
 
 /// `size T`: the size and the alignment.
-fn size(alloc: Global, types: &[Type]) -> Result<String, Unread> {
+fn size(types: &[Type], text: &mut String) -> Result<(), Unread> {
     let [ty] = types else {
         return Err(Unread::Word);
     };
-    let size = number_or_none(alloc, ty.size_of())?;
-    let align = number_or_none(alloc, ty.align_of())?;
-    Ok(format!(in alloc; "{size} {align}")?)
+    write_number_or_none(text, ty.size_of())?;
+    text.push(' ')?;
+    Ok(write_number_or_none(text, ty.align_of())?)
 }
 
 /// `offsets T` for a struct T: the offset of each member.
-fn offsets(alloc: Global, types: &[Type]) -> Result<String, Unread> {
+fn offsets(alloc: Global, types: &[Type], text: &mut String) -> Result<(), Unread> {
     let [Type::Struct(read)] = types else {
         return Err(Unread::Word);
     };
     match read.offsets(alloc)? {
-        Some(offsets) => Ok(spaced(alloc, &offsets)?),
-        None => Ok(String::from_str(alloc, "none")?),
+        Some(offsets) => Ok(write_spaced(text, &offsets)?),
+        None => Ok(text.push_str("none")?),
     }
 }
 
 /// `layout T` for a struct T: a report of its members and of the whole.
-fn layout(alloc: Global, types: &[Type]) -> Result<String, Unread> {
+fn layout(alloc: Global, types: &[Type], text: &mut String) -> Result<(), Unread> {
     let [Type::Struct(read)] = types else {
         return Err(Unread::Word);
     };
-    match layout_of(alloc, read)? {
-        Some(text) => Ok(text),
-        None => Ok(String::from_str(alloc, "none")?),
-    }
+    Ok(write_layout(alloc, read, text)?)
 }
 
 /// `ctor NAME P T..`: the type that the constructor makes, or why it makes none.
-fn ctor(alloc: Global, callee: &Callee, types: &[Type]) -> Result<String, Unread> {
+fn ctor(
+    alloc: Global,
+    callee: &Callee,
+    types: &[Type],
+    text: &mut String,
+) -> Result<(), Unread> {
     let made = type_ctor(alloc, callee.name, callee.template.as_deref(), types);
-    Ok(type_or_refusal(alloc, made)?)
+    Ok(write_type_or_refusal(text, made)?)
 }
 
 /// `call NAME P T..`: the type of the call, or why it has none; `no value` if it gives none.
-fn call(alloc: Global, callee: &Callee, types: &[Type]) -> Result<String, Unread> {
-    let answer = type_builtin_fn(alloc, callee.name, callee.template.as_deref(), types);
-    Ok(value_or_refusal(alloc, answer)?)
-}
-
-/// The spelling of the type that a call gives, `no value`, or the message of a refusal.
-pub fn value_or_refusal(
+fn call(
     alloc: Global,
+    callee: &Callee,
+    types: &[Type],
+    text: &mut String,
+) -> Result<(), Unread> {
+    let answer = type_builtin_fn(alloc, callee.name, callee.template.as_deref(), types);
+    Ok(write_value_or_refusal(text, answer)?)
+}
+
+/// Writes the type that a call gives, `no value`, or the message of a refusal.
+pub fn write_value_or_refusal(
+    text: &mut String,
     answer: Result<Option<Type>, Fail>,
-) -> Result<String, AllocError> {
-    match answer {
-        Ok(Some(ty)) => ty.to_string(alloc),
-        Ok(None) => String::from_str(alloc, "no value"),
-        Err(refused) => message(alloc, refused),
-    }
-}
-
-/// The spelling of a type, or the message of a refusal.
-pub fn type_or_refusal(alloc: Global, answer: Result<Type, Fail>) -> Result<String, AllocError> {
-    match answer {
-        Ok(ty) => ty.to_string(alloc),
-        Err(refused) => message(alloc, refused),
-    }
-}
-
-/// The message of a refusal.
-pub fn message(alloc: Global, refused: Fail) -> Result<String, AllocError> {
-    let text = match &refused {
-        Fail::Error(e) => e.to_string(alloc),
-        Fail::Memory(e) => Err(*e),
+) -> Result<(), AllocError> {
+    let written = match &answer {
+        Ok(Some(ty)) => write_type(text, ty),
+        Ok(None) => text.push_str("no value"),
+        Err(refused) => write_message(text, refused),
     };
-    drop(refused);
-    text
+    drop(answer);
+    written
 }
 
-/// A number, or `none`.
-pub fn number_or_none(alloc: Global, number: Option<u32>) -> Result<String, AllocError> {
+/// Writes a type, or the message of a refusal.
+pub fn write_type_or_refusal(
+    text: &mut String,
+    answer: Result<Type, Fail>,
+) -> Result<(), AllocError> {
+    let written = match &answer {
+        Ok(ty) => write_type(text, ty),
+        Err(refused) => write_message(text, refused),
+    };
+    drop(answer);
+    written
+}
+
+fn write_type(text: &mut String, ty: &Type) -> Result<(), AllocError> {
+    write!(text, "{ty}")
+}
+
+/// Writes the message of a refusal.
+pub fn write_message(text: &mut String, refused: &Fail) -> Result<(), AllocError> {
+    match refused {
+        Fail::Error(e) => write!(text, "{e}"),
+        Fail::Memory(e) => Err(*e),
+    }
+}
+
+/// Writes a number, or `none`.
+pub fn write_number_or_none(text: &mut String, number: Option<u32>) -> Result<(), AllocError> {
     match number {
-        Some(number) => number.to_string(alloc),
-        None => String::from_str(alloc, "none"),
+        Some(number) => write!(text, "{number}"),
+        None => text.push_str("none"),
     }
 }
 
-/// The numbers with one space between.
-fn spaced(alloc: Global, numbers: &[u32]) -> Result<String, AllocError> {
-    let mut text = String::new(alloc);
+/// Writes the numbers with one space between.
+fn write_spaced(text: &mut String, numbers: &[u32]) -> Result<(), AllocError> {
+    let mut between = "";
     for number in numbers {
-        if !text.is_empty() {
-            text.push(' ')?;
-        }
-        text.push_str(&number.to_string(alloc)?)?;
+        text.push_str(between)?;
+        write!(text, "{number}")?;
+        between = " ";
     }
-    Ok(text)
+    Ok(())
 }

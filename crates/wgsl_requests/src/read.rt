@@ -1,11 +1,12 @@
 // The types that words stand for.
+ghost use Rattle.std.specs.Prelude.{◌<◌, OnOk};
 ghost use Rattle.wgsl_requests.specs.internal.Taken.{GoesOn};
 
 use crate::words::{Unread, Words};
 use std::alloc::{AllocError, Global};
 use std::str::FromStr;
 use wgsl_types::syntax::{
-    AccelerationStructureFlags, AccessMode, AddressSpace, SampledType, Scalar, TexelFormat,
+    AccelerationStructureFlags, AccessMode, AddressSpace, SampledType, TexelFormat,
 };
 use wgsl_types::ty::{SamplerType, StructMemberType, StructType, TextureType, Type};
 
@@ -14,17 +15,75 @@ use wgsl_types::ty::{SamplerType, StructMemberType, StructType, TextureType, Typ
 /// The layers are read first and put around the innermost type afterwards, so that deep types take no deep stack.
 #[cycle(reading)]
 pub fn read_type(alloc: Global, words: &mut Words) -> Result<Type, Unread>
+    ensures goes_on { GoesOn words.old words.new }
+    ensures one { OnOk result (words.old.taken < words.new.taken) }
+{
+    let word = words.next()?;
+    match read_scalar(word) {
+        Some(ty) => Ok(ty),
+        None => read_other(alloc, word, words),
+    }
+}
+
+#[inline(always)]
+fn read_scalar(word: &str) -> Option<Type> {
+    match word {
+        "bool" => Some(Type::Bool),
+        "AbstractInt" => Some(Type::AbstractInt),
+        "AbstractFloat" => Some(Type::AbstractFloat),
+        "i32" => Some(Type::I32),
+        "u32" => Some(Type::U32),
+        "f32" => Some(Type::F32),
+        "f16" => Some(Type::F16),
+        "i64" => Some(Type::I64),
+        "u64" => Some(Type::U64),
+        "f64" => Some(Type::F64),
+        _ => None,
+    }
+}
+
+/// The type that begins with this word, which is no scalar.
+#[cycle(reading)]
+#[inline(never)]
+fn read_other(alloc: Global, word: &str, words: &mut Words) -> Result<Type, Unread>
     ensures { GoesOn words.old words.new }
 {
-    let mut layers = Vec::new(alloc);
-    for _ in 0..words.left() {
-        let word = words.next()?;
-        match read_outer(word, words)? {
-            Some(outer) => layers.push(outer)?,
-            None => return wrap(alloc, &layers, read_innermost(alloc, word, words)?),
-        }
+    match read_outer(word, words)? {
+        Some(outer) => read_within(alloc, outer, words),
+        None => read_innermost(alloc, word, words),
     }
-    Err(Unread::Word)
+}
+
+/// The type with this layer around what the next words stand for.
+#[cycle(reading)]
+fn read_within(alloc: Global, outer: Outer, words: &mut Words) -> Result<Type, Unread>
+    ensures { GoesOn words.old words.new }
+{
+    let word = words.next()?;
+    match read_scalar(word) {
+        Some(ty) => Ok(outer.around(alloc, ty)?),
+        None => read_layers(alloc, outer, word, words),
+    }
+}
+
+/// The type with this layer around others, of which the first may begin with this word.
+#[cycle(reading)]
+fn read_layers(
+    alloc: Global,
+    outermost: Outer,
+    first: &str,
+    words: &mut Words,
+) -> Result<Type, Unread>
+    ensures { GoesOn words.old words.new }
+{
+    let mut layers = Vec::with_capacity(alloc, 4)?;
+    layers.push(outermost)?;
+    let mut word = first;
+    while let Some(outer) = read_outer(word, words)? {
+        layers.push(outer)?;
+        word = words.next()?;
+    }
+    wrap(alloc, &layers, read_innermost(alloc, word, words)?)
 }
 
 /// The type inside these layers, of which the last is the innermost.
@@ -41,9 +100,12 @@ fn wrap(alloc: Global, layers: &[Outer], innermost: Type) -> Result<Type, Unread
 fn read_innermost(alloc: Global, word: &str, words: &mut Words) -> Result<Type, Unread>
     ensures { GoesOn words.old words.new }
 {
-    match word {
-        "struct" => read_struct(alloc, words),
-        _ => read_leaf(word, words),
+    match read_scalar(word) {
+        Some(ty) => Ok(ty),
+        None => match word {
+            "struct" => read_struct(alloc, words),
+            _ => read_leaf(word, words),
+        },
     }
 }
 
@@ -99,11 +161,8 @@ fn read_outer(word: &str, words: &mut Words) -> Result<Option<Outer>, Unread>
 
 /// The types that all words that are left stand for.
 pub fn read_types(alloc: Global, words: &mut Words) -> Result<Vec<Type>, Unread> {
-    let mut types = Vec::new(alloc);
-    for _ in 0..words.left() {
-        if words.left() == 0 {
-            break;
-        }
+    let mut types = Vec::with_capacity(alloc, 4)?;
+    while !words.is_empty() {
         types.push(read_type(alloc, words)?)?;
     }
     Ok(types)
@@ -151,13 +210,10 @@ fn read_memory(words: &mut Words) -> Result<(AddressSpace, AccessMode), Unread>
     Ok((space, parsed(words.next()?)?))
 }
 
-/// A leaf type: a scalar, a type of rays, a sampler or a texture.
+/// A leaf type that is no scalar: a type of rays, a sampler or a texture.
 fn read_leaf(word: &str, words: &mut Words) -> Result<Type, Unread>
     ensures { GoesOn words.old words.new }
 {
-    if let Ok(scalar) = Scalar::from_str(word) {
-        return Ok(Type::from(scalar));
-    }
     match word {
         "ray_query" => Ok(Type::RayQuery(read_flag(words)?)),
         "acceleration_structure" => Ok(Type::AccelerationStructure(read_flag(words)?)),

@@ -3,43 +3,47 @@ use std::alloc::{AllocError, Global};
 use wgsl_types::mem::{PlacedMember, StructLayout};
 use wgsl_types::ty::{StructMemberType, StructType};
 
-/// A line for each member and one for the struct, or `None` if it has no layout.
+/// Writes a line for each member and one for the struct, or `none` if it has no layout.
 ///
 /// A line begins with three columns in bytes, a member's with its offset, its size and its alignment, the last with the
 /// size of the whole, a dash and its alignment.
-pub fn layout_of(alloc: Global, structure: &StructType) -> Result<Option<String>, AllocError> {
-    let Some(layout) = structure.layout(alloc)? else {
-        return Ok(None);
-    };
-    let mut text = member_lines(alloc, &structure.members, &layout.members)?;
-    text.push_str(&last_line(alloc, &structure.name, &layout)?)?;
-    Ok(Some(text))
+pub fn write_layout(
+    alloc: Global,
+    structure: &StructType,
+    text: &mut String,
+) -> Result<(), AllocError> {
+    match structure.layout(alloc)? {
+        Some(layout) => {
+            write_members(&structure.members, &layout.members, text)?;
+            write_last(&structure.name, &layout, text)
+        }
+        None => text.push_str("none"),
+    }
 }
 
-fn member_lines(
-    alloc: Global,
+fn write_members(
     members: &[StructMemberType],
     placed: &[PlacedMember],
-) -> Result<String, AllocError> {
-    let mut text = String::new(alloc);
+    text: &mut String,
+) -> Result<(), AllocError> {
     for (member, placed) in members.iter().zip(placed) {
-        text.push_str(&line_of(alloc, member, placed)?)?;
+        write_member(member, placed, text)?;
     }
-    Ok(text)
+    Ok(())
 }
 
 /// The struct's line: its size, a dash, its alignment and its name.
-fn last_line(alloc: Global, name: &str, layout: &StructLayout) -> Result<String, AllocError> {
+fn write_last(name: &str, layout: &StructLayout, text: &mut String) -> Result<(), AllocError> {
     let StructLayout { size, align, .. } = layout;
-    format!(in alloc; "{size:>10} {:>10} {align:>10} {name}", "-")
+    write!(text, "{size:>10} {:>10} {align:>10} {name}", "-")
 }
 
 /// A member's line: its offset, size and alignment, its name and its type.
-fn line_of(
-    alloc: Global,
+fn write_member(
     member: &StructMemberType,
     placed: &PlacedMember,
-) -> Result<String, AllocError> {
+    text: &mut String,
+) -> Result<(), AllocError> {
     let PlacedMember {
         offset,
         size,
@@ -47,5 +51,5 @@ fn line_of(
     } = placed;
     let name = &member.name;
     let ty = &member.ty;
-    format!(in alloc; "{offset:>10} {size:>10} {align:>10} {name} {ty}\n")
+    write!(text, "{offset:>10} {size:>10} {align:>10} {name} {ty}\n")
 }

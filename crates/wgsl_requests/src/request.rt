@@ -2,8 +2,9 @@
 ghost use Rattle.std.specs.Prelude.{◌≡◌, ◌<◌, ◌≤◌, [], All, IfOk, IsUtf8, Ok, length, true};
 ghost use Rattle.wgsl_requests.specs.Words.{has_forbidden, words_of};
 
-use crate::command::answer;
-use crate::split::{has_forbidden, words};
+use crate::command::write_answer;
+use crate::split::has_forbidden;
+use crate::words::Words;
 use std::alloc::{AllocError, Global};
 
 /// How many bytes a request may have.
@@ -20,6 +21,14 @@ pub enum Reply {
     Unreadable,
 }
 
+/// What kind of reply a request gets.
+#[derive(Clone, Copy)]
+pub enum ReplyKind {
+    Nothing,
+    Answer,
+    Unreadable,
+}
+
 /// The reply to the request on the line of this number.
 pub fn reply_to(alloc: Global, line: u64, request: &[u8]) -> Result<Reply, AllocError>
     ensures too_long { LONGEST < length request.now → result ≡ Ok Reply.Unreadable }
@@ -29,20 +38,42 @@ pub fn reply_to(alloc: Global, line: u64, request: &[u8]) -> Result<Reply, Alloc
     ensures no_words { length request.now ≤ LONGEST → words_of request.now ≡ []
         → IfOk result (λ reply. reply ≡ Reply.Nothing) }
 {
+    let mut text = String::new(alloc);
+    match write_reply(alloc, line, request, &mut text)? {
+        ReplyKind::Nothing => Ok(Reply::Nothing),
+        ReplyKind::Answer => Ok(Reply::Answer(text)),
+        ReplyKind::Unreadable => Ok(Reply::Unreadable),
+    }
+}
+
+/// The kind of the reply to the request on the line of this number. An answer is written at the end of the text.
+pub fn write_reply(
+    alloc: Global,
+    line: u64,
+    request: &[u8],
+    text: &mut String,
+) -> Result<ReplyKind, AllocError>
+    ensures too_long { LONGEST < length request.now → result ≡ Ok ReplyKind.Unreadable }
+    ensures forbidden { has_forbidden request.now ≡ true → result ≡ Ok ReplyKind.Unreadable }
+    ensures no_text { ¬ All IsUtf8 (words_of request.now) → result ≡ Ok ReplyKind.Unreadable }
+    ensures no_words { length request.now ≤ LONGEST → words_of request.now ≡ []
+        → result ≡ Ok ReplyKind.Nothing }
+{
     if request.len() > LONGEST {
-        return Ok(Reply::Unreadable);
+        return Ok(ReplyKind::Unreadable);
     }
     if has_forbidden(request) {
-        return Ok(Reply::Unreadable);
+        return Ok(ReplyKind::Unreadable);
     }
-    let Some(words) = words(alloc, request)? else {
-        return Ok(Reply::Unreadable);
+    let Some(mut words) = Words::of(request) else {
+        return Ok(ReplyKind::Unreadable);
     };
-    if words.is_empty() {
-        return Ok(Reply::Nothing);
-    }
-    match answer(alloc, line, &words)? {
-        Some(text) => Ok(Reply::Answer(text)),
-        None => Ok(Reply::Unreadable),
+    let Ok(command) = words.next() else {
+        return Ok(ReplyKind::Nothing);
+    };
+    if write_answer(alloc, line, command, words, text)? {
+        Ok(ReplyKind::Answer)
+    } else {
+        Ok(ReplyKind::Unreadable)
     }
 }

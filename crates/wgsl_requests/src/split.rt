@@ -1,43 +1,26 @@
-// The words of a request.
-ghost use Rattle.std.specs.Prelude.{◌≡◌, ◌<◌, ◌∷◌, [], All, IfOk, IfSome, IsUtf8, MatchOption, OnSome, length, map, not};
+// The first word of a text.
+ghost use Rattle.std.specs.Prelude.{◌≡◌, ◌<◌, ◌≤◌, ◌∷◌, [], IfSome, MatchOption, drop, length, not};
 ghost use Rattle.std.specs.List.{take_while};
+ghost use Rattle.std.specs.Str.{IsCharBoundary};
 ghost use Rattle.wgsl_requests.specs.Words.{has_forbidden, is_forbidden, is_separator, words_of};
 
-use std::alloc::{AllocError, Global};
-
-/// The words of a request, or `None` if it is not UTF-8.
-///
-/// Only ASCII separates words, so a request is UTF-8 if each of its words is.
-pub fn words(alloc: Global, request: &[u8]) -> Result<Option<Vec<&str>>, AllocError>
-    ensures words { IfOk result (λ found. MatchOption found
-        (¬ All IsUtf8 (words_of request.now))
-        (λ words. map (λ word. word.now) words.items ≡ words_of request.now)) }
-    ensures text { IfOk result (λ found. OnSome found (All IsUtf8 (words_of request.now))) }
-{
-    let mut words = Vec::new(alloc);
-    let mut rest = request;
-    while let Some((word, after)) = split_first_word(rest) {
-        let Ok(word) = std::str::from_utf8(word) else {
-            return Ok(None);
-        };
-        words.push(word)?;
-        rest = after;
-    }
-    Ok(Some(words))
-}
-
-/// The first word of the bytes, and what comes after it.
-fn split_first_word(bytes: &[u8]) -> Option<(&[u8], &[u8])>
+/// The first word of a text, and the index after it.
+#[inline(always)]
+pub fn first_word(text: &str) -> Option<(&str, usize)>
     ensures words { MatchOption result
-        (words_of bytes.now ≡ [])
-        (λ found. words_of bytes.now ≡ found.0.now ∷ words_of found.1.now) }
-    ensures shorter { IfSome result (λ found. length found.1.now < length bytes.now) }
+        (words_of text.now ≡ [])
+        (λ found. words_of text.now ≡ found.0.now ∷ words_of (drop found.1 text.now)) }
+    ensures boundary { IfSome result (λ found. IsCharBoundary text.now found.1) }
+    ensures some { IfSome result (λ found. 0 < found.1) }
+    ensures within { IfSome result (λ found. found.1 ≤ length text.now) }
 {
-    let rest = &bytes[gap_len(bytes)..];
+    let gap = gap_len(text.as_bytes());
+    let rest = &text[gap..];
     if rest.is_empty() {
         return None;
     }
-    Some(rest.split_at(word_len(rest)))
+    let len = word_len(rest.as_bytes());
+    Some((&rest[..len], gap + len))
 }
 
 /// How many separators the bytes begin with.

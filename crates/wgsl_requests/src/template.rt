@@ -1,4 +1,6 @@
 // The template parameters that words stand for.
+ghost use Rattle.wgsl_requests.specs.internal.Taken.{GoesOn};
+
 use crate::read::{parsed, read_type};
 use crate::words::{Unread, Words, number};
 use std::alloc::Global;
@@ -17,7 +19,7 @@ pub fn read_template(alloc: Global, words: &mut Words) -> Result<Option<Vec<Tplt
 /// Parameters up to `>`.
 fn read_parameters(alloc: Global, words: &mut Words) -> Result<Vec<TpltParam>, Unread> {
     let mut parameters = Vec::new(alloc);
-    for _ in 0..words.left() {
+    while !words.is_empty() {
         match words.next()? {
             ">" => return Ok(parameters),
             kind => parameters.push(read_parameter(alloc, kind, words)?)?,
@@ -27,7 +29,9 @@ fn read_parameters(alloc: Global, words: &mut Words) -> Result<Vec<TpltParam>, U
 }
 
 /// A parameter: `t` and a type, `n` and a literal, or `e` and an enumerant.
-fn read_parameter(alloc: Global, kind: &str, words: &mut Words) -> Result<TpltParam, Unread> {
+fn read_parameter(alloc: Global, kind: &str, words: &mut Words) -> Result<TpltParam, Unread>
+    ensures { GoesOn words.old words.new }
+{
     match kind {
         "t" => Ok(TpltParam::Ty(read_type(alloc, words)?)),
         "n" => Ok(TpltParam::Instance(Instance::Literal(literal(words.next()?)?))),

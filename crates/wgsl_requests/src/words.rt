@@ -1,6 +1,9 @@
 // The words of a command, taken one after another.
-ghost use Rattle.std.specs.Prelude.{◌<◌, ◌≤◌, OnOk, length};
+ghost use Rattle.std.specs.Prelude.{◌≡◌, ◌<◌, ◌≤◌, ◌∷◌, ◌↔◌, [], All, IsTrue, IsUtf8, MatchOption, MatchResult, OnOk, OnSome, length};
+ghost use Rattle.std.specs.Str.{IsCharBoundary};
+ghost use Rattle.wgsl_requests.specs.Words.{words_of};
 
+use crate::split::first_word;
 use std::alloc::{AllocError, AllocFailed};
 use std::num::{ParseIntError, TryFromIntError};
 
@@ -36,32 +39,55 @@ impl From<ParseIntError> for Unread {
     }
 }
 
-/// The words of a command, and how many of them were taken.
+/// The text of a request, and how many of its bytes were taken.
 #[derive(Drop)]
-pub struct Words<'w, 't> {
-    all: &'w [&'t str],
+pub struct Words<'t> {
+    text: &'t str,
     taken: usize,
-    ghost within: { taken ≤ length all.now },
+    ghost within: { taken ≤ length text.now },
+    ghost boundary: { IsCharBoundary text.now taken },
 }
 
-impl<'w, 't> Words<'w, 't> {
-    ghost use Rattle.wgsl_requests.specs.internal.Taken.{GoesOn};
+impl<'t> Words<'t> {
+    ghost use Rattle.wgsl_requests.specs.internal.Taken.{GoesOn, left};
 
-    pub fn new(all: &'w [&'t str]) -> Words<'w, 't> {
-        Words { all, taken: 0 }
+    /// The words of a request, or `None` if it is not UTF-8.
+    ///
+    /// Only ASCII separates words, so a request is UTF-8 if each of its words is.
+    pub fn of(request: &'t [u8]) -> Option<Words<'t>>
+        ensures words { MatchOption result
+            (¬ All IsUtf8 (words_of request.now))
+            (λ words. left words ≡ words_of request.now) }
+        ensures text { OnSome result (All IsUtf8 (words_of request.now)) }
+    {
+        match std::str::from_utf8(request) {
+            Ok(text) => Some(Words { text, taken: 0 }),
+            Err(_) => None,
+        }
     }
 
     /// The next word.
     pub fn next(&mut self) -> Result<&'t str, Unread>
         ensures goes_on { GoesOn self.old self.new }
         ensures one { OnOk result (self.old.taken < self.new.taken) }
+        ensures word { MatchResult result
+            (λ word. left self.old ≡ word.now ∷ left self.new)
+            (λ e. left self.old ≡ []) }
     {
-        if self.taken == self.all.len() {
-            return Err(Unread::Word);
+        match first_word(&self.text[self.taken..]) {
+            Some((word, len)) => {
+                self.taken += len;
+                Ok(word)
+            }
+            None => Err(Unread::Word),
         }
-        let word = self.all[self.taken];
-        self.taken += 1;
-        Ok(word)
+    }
+
+    /// Whether every word is taken.
+    pub fn is_empty(&self) -> bool
+        ensures { IsTrue result ↔ (left self.now ≡ []) }
+    {
+        first_word(&self.text[self.taken..]).is_none()
     }
 
     /// A number: decimal digits alone, with leading zeros or without.
@@ -98,11 +124,6 @@ impl<'w, 't> Words<'w, 't> {
             return Ok(None);
         }
         Ok(Some(u32::try_from(number(word)?)?))
-    }
-
-    /// How many words are not taken yet.
-    pub fn left(&self) -> usize {
-        self.all.len() - self.taken
     }
 }
 

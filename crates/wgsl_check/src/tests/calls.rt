@@ -1,10 +1,10 @@
 // Calls of built-in functions.
+use super::support::texts::value_or_refusal;
 use super::support::sixty::sixty_types;
 use super::support::{expect_answers, expect_text};
 use std::alloc::{AllocError, Global};
 use std::process::Abort;
 use std::test::Fail;
-use wgsl_requests::command::value_or_refusal;
 use wgsl_types::builtin::{find_call, type_builtin_fn};
 use wgsl_types::conv::convert_ty;
 use wgsl_types::ty::Type;

@@ -1,10 +1,10 @@
 // The candidates that are chosen for binary operators.
+use super::support::texts::{message, type_or_refusal};
 use super::support::sixty::sixty_types;
 use super::support::{expect_text, types};
 use std::alloc::{AllocError, Global};
 use std::process::Abort;
 use std::test::Fail;
-use wgsl_requests::command::{message, type_or_refusal};
 use wgsl_types::builtin::{Candidate, binary_candidate, type_binary_op};
 use wgsl_types::conv::conversion_rank;
 use wgsl_types::syntax::BinaryOperator;

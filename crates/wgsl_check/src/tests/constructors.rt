@@ -1,9 +1,9 @@
 // Constructors of scalars, arrays and structs, their names, and the templates before them.
+use super::support::texts::message;
 use super::support::{expect_answers, expect_text, one_type, types};
 use std::alloc::Global;
 use std::process::Abort;
 use std::test::Fail;
-use wgsl_requests::command::message;
 use wgsl_types::builtin::{is_ctor, typecheck_struct_ctor};
 use wgsl_types::ty::Type;
 

@@ -1,9 +1,9 @@
 // Types, members and signatures that are copied, made and taken apart, and literals with their type.
+use super::support::texts::message;
 use super::support::{expect_replies, expect_reply, one_type, signature, spelled};
 use std::alloc::{AllocError, Global};
 use std::process::Abort;
 use std::test::Fail;
-use wgsl_requests::command::message;
 use wgsl_types::CallSignature;
 use wgsl_types::inst::{Instance, LiteralInstance};
 use wgsl_types::tplt::TpltParam;

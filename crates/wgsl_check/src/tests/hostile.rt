@@ -1,9 +1,9 @@
 // Types that no program would write: the kinds that they are of, what is made of them, and nests of 300 layers.
+use super::support::texts::number_or_none;
 use super::support::{expect_replies, expect_reply, types};
 use std::alloc::{AllocError, Global};
 use std::process::Abort;
 use std::test::Fail;
-use wgsl_requests::command::number_or_none;
 use wgsl_types::conv::{conversion_rank, rank_steps};
 use wgsl_types::ty::Type;
 

@@ -1,9 +1,9 @@
 // Refusals as they are printed, and the signatures in them.
+use super::support::texts::value_or_refusal;
 use super::support::{expect_answers, expect_reply, one_type, signature};
 use std::alloc::{AllocError, Global};
 use std::process::Abort;
 use std::test::Fail;
-use wgsl_requests::command::value_or_refusal;
 use wgsl_types::builtin::type_builtin_fn;
 use wgsl_types::error::{self, Error};
 use wgsl_types::inst::LiteralInstance;

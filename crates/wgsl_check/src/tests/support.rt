@@ -2,6 +2,7 @@
 // what calls that no command makes give for such types, as text.
 pub mod sixty;
 pub mod streams;
+pub mod texts;
 
 use crate::run::{RunError, run};
 use std::alloc::{AllocError, Global};
@@ -9,7 +10,6 @@ use std::process::Abort;
 use std::test::Fail;
 use streams::{Source, Target};
 use wgsl_requests::read::{read_type, read_types};
-use wgsl_requests::split::words;
 use wgsl_requests::template::read_template;
 use wgsl_requests::words::{Unread, Words};
 use wgsl_types::CallSignature;
@@ -96,10 +96,10 @@ pub fn expect_text(rt: &impl Abort, asked: &str, given: &str, wanted: &str) {
 
 /// The types that the words stand for.
 pub fn types(alloc: Global, text: &str) -> Result<Vec<Type>, Fail> {
-    let Some(all) = words(alloc, text.as_bytes())? else {
+    let Some(mut words) = Words::of(text.as_bytes()) else {
         return Err("no text".into());
     };
-    match read_types(alloc, &mut Words::new(&all)) {
+    match read_types(alloc, &mut words) {
         Ok(types) => Ok(types),
         Err(e) => Err(failure(e)),
     }
@@ -107,10 +107,10 @@ pub fn types(alloc: Global, text: &str) -> Result<Vec<Type>, Fail> {
 
 /// The one type that the words stand for.
 pub fn one_type(alloc: Global, text: &str) -> Result<Type, Fail> {
-    let Some(all) = words(alloc, text.as_bytes())? else {
+    let Some(mut words) = Words::of(text.as_bytes()) else {
         return Err("no text".into());
     };
-    match read_whole(alloc, &mut Words::new(&all)) {
+    match read_whole(alloc, &mut words) {
         Ok(ty) => Ok(ty),
         Err(e) => Err(failure(e)),
     }
@@ -119,7 +119,7 @@ pub fn one_type(alloc: Global, text: &str) -> Result<Type, Fail> {
 /// A type that no word is left after.
 fn read_whole(alloc: Global, words: &mut Words) -> Result<Type, Unread> {
     let read = read_type(alloc, words);
-    if words.left() == 0 {
+    if words.is_empty() {
         return read;
     }
     drop(read);
@@ -128,10 +128,10 @@ fn read_whole(alloc: Global, words: &mut Words) -> Result<Type, Unread> {
 
 /// The template parameters that the words stand for, from `<` to `>`.
 pub fn template(alloc: Global, text: &str) -> Result<Vec<TpltParam>, Fail> {
-    let Some(all) = words(alloc, text.as_bytes())? else {
+    let Some(mut words) = Words::of(text.as_bytes()) else {
         return Err("no text".into());
     };
-    match read_template(alloc, &mut Words::new(&all)) {
+    match read_template(alloc, &mut words) {
         Ok(Some(parameters)) => Ok(parameters),
         Ok(None) => Err("no template".into()),
         Err(e) => Err(failure(e)),

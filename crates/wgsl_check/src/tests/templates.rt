@@ -4,11 +4,11 @@ mod pointers;
 mod textures;
 mod vectors;
 
+use super::support::texts::message;
 use super::support::{expect_reply, spelled, template};
 use std::alloc::{AllocError, Global};
 use std::process::Abort;
 use std::test::Fail;
-use wgsl_requests::command::message;
 use wgsl_types::error;
 use wgsl_types::tplt::{
     ArrayTemplate, AtomicTemplate, BindingArrayTemplate, BitcastTemplate, MatTemplate, PtrTemplate,

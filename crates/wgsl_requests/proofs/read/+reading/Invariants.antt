@@ -1,22 +1,36 @@
 use Rattle.std.proofs.Common.{◌+◌, ◌-◌, ◌*◌, length}
+use denote.Text.{Utf8}
+use denote.Shadow.{shadow}
 use Rattle.wgsl_requests.specs.internal.Taken.{GoesOn}
 use Rattle.wgsl_requests.proofs.read.+reading.Given as goal
 
--- The words that are left: what takes none before it calls another counts one more than that.
+-- The bytes that are left: what takes none before it calls another counts one more than that.
 abbrev pub decreases-read_type : goal.decreases-read_type
-decreases-read_type l = 4 * (length l.words.now.all.now - l.words.now.taken)
+decreases-read_type l = 8 * (length l.words.now.text.now - l.words.now.taken)
+
+abbrev pub decreases-read_other : goal.decreases-read_other
+decreases-read_other l = 8 * (length l.words.now.text.now - l.words.now.taken) + 5
+
+abbrev pub decreases-read_within : goal.decreases-read_within
+decreases-read_within l = 8 * (length l.words.now.text.now - l.words.now.taken) + 4
+
+abbrev pub decreases-read_layers : goal.decreases-read_layers
+decreases-read_layers l = 8 * (length l.words.now.text.now - l.words.now.taken) + 4
 
 abbrev pub decreases-read_innermost : goal.decreases-read_innermost
-decreases-read_innermost l = 4 * (length l.words.now.all.now - l.words.now.taken) + 3
+decreases-read_innermost l = 8 * (length l.words.now.text.now - l.words.now.taken) + 3
 
 abbrev pub decreases-read_struct : goal.decreases-read_struct
-decreases-read_struct l = 4 * (length l.words.now.all.now - l.words.now.taken) + 2
+decreases-read_struct l = 8 * (length l.words.now.text.now - l.words.now.taken) + 2
 
 abbrev pub decreases-read_member : goal.decreases-read_member
-decreases-read_member l = 4 * (length l.words.now.all.now - l.words.now.taken) + 1
-
-abbrev pub invariant-read_type-loop : goal.invariant-read_type-loop
-invariant-read_type-loop l = GoesOn l.fn.words l.words
+decreases-read_member l = 8 * (length l.words.now.text.now - l.words.now.taken) + 1
 
 abbrev pub invariant-read_struct-loop : goal.invariant-read_struct-loop
 invariant-read_struct-loop l = GoesOn l.fn.words l.words
+
+abbrev pub invariant-read_layers-loop-layers : goal.invariant-read_layers-loop-layers
+invariant-read_layers-loop-layers l = shadow (Utf8 l.word) × GoesOn l.fn.words l.words
+
+abbrev pub decreases-read_layers-loop-layers : goal.decreases-read_layers-loop-layers
+decreases-read_layers-loop-layers l = length l.words.text.now - l.words.taken
