@@ -1,6 +1,6 @@
 -- The first word of a request, and the words of what is left.
 use Rattle.std.proofs.Common.{◌≡◌, ℕ, ◌+◌, ◌<◌, Bool, true, false, not, List, [], ◌∷◌, length, take, drop, refl, ap, sym, subst, ◌∙◌, arith}
-use Rattle.std.specs.List.{filter, list_any, prefix_len, take_while}
+use Rattle.std.specs.List.{filter, prefix_len, take_while}
 use Rattle.std.proofs.lemmas.List.Folds.{length-prefix_len}
 use Rattle.std.proofs.lemmas.Grind.{common_steps}
 use Rattle.wgsl_requests.specs.Words.{pieces, has_bytes, has_forbidden, is_forbidden, is_separator, words_of}
@@ -121,4 +121,13 @@ blank-not_forbidden (b ∷ bs) none = step (is_separator b) refl (blank-not_forb
   where
     step : (v : Bool) → is_separator b ≡ v → (words_of bs ≡ [] → has_forbidden bs ≡ false) → has_forbidden (b ∷ bs) ≡ false
     step true e rest = rw (allowed b e) (rest (sym (words-cut is_separator b bs e) ∙ none))
+    step false e rest = let never : ⊥ = cc (sym (words-word is_separator b bs e) ∙ none) in absurd never
+
+-- the separators in front of bytes without a word are all of them
+pub blank-gap : (bytes : List ℕ) → words_of bytes ≡ [] → gap_len is_separator bytes ≡ length bytes
+blank-gap [] none = refl
+blank-gap (b ∷ bs) none = step (is_separator b) refl (blank-gap bs)
+  where
+    step : (v : Bool) → is_separator b ≡ v → (words_of bs ≡ [] → gap_len is_separator bs ≡ length bs) → gap_len is_separator (b ∷ bs) ≡ length (b ∷ bs)
+    step true e rest = rw e (omega (arith, rest (sym (words-cut is_separator b bs e) ∙ none)))
     step false e rest = let never : ⊥ = cc (sym (words-word is_separator b bs e) ∙ none) in absurd never

@@ -1,5 +1,5 @@
 // What the program answers to a command.
-use crate::read::{read_type, read_types};
+use crate::read::{read_last_type, read_type, read_type_at, read_types};
 use crate::report::write_layout;
 use crate::template::read_template;
 use crate::words::{Unread, Words};
@@ -56,8 +56,8 @@ fn common(alloc: Global, line: u64, mut words: Words, text: &mut String) -> Resu
 /// The types that all words that are left stand for, on the line of this number.
 fn read_typed(alloc: Global, line: u64, words: &mut Words) -> Result<Vec<Typed>, Unread> {
     let mut types = Vec::with_capacity(alloc, 4)?;
-    while !words.is_empty() {
-        let ty = read_type(alloc, words)?;
+    while let Ok(word) = words.next() {
+        let ty = read_type_at(alloc, word, words)?;
         types.push(Typed { ty, line })?;
     }
     Ok(types)
@@ -133,7 +133,32 @@ fn answer(
     mut words: Words,
     text: &mut String,
 ) -> Result<(), Unread> {
-    let types = read_types(alloc, &mut words)?;
+    match question {
+        Question::Rank | Question::Binary(_) => answer_pair(alloc, question, words, text),
+        Question::Unary(_) | Question::Size => {
+            let types = [read_last_type(alloc, &mut words)?];
+            let answered = answer_for(alloc, question, &types, text);
+            drop(types);
+            answered
+        }
+        _ => {
+            let types = read_types(alloc, &mut words)?;
+            let answered = answer_for(alloc, question, &types, text);
+            drop(types);
+            answered
+        }
+    }
+}
+
+/// Writes the answer for the two types that the words that are left stand for.
+fn answer_pair(
+    alloc: Global,
+    question: &Question,
+    mut words: Words,
+    text: &mut String,
+) -> Result<(), Unread> {
+    let first = read_type(alloc, &mut words)?;
+    let types = [first, read_last_type(alloc, &mut words)?];
     let answered = answer_for(alloc, question, &types, text);
     drop(types);
     answered

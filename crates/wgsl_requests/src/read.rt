@@ -6,7 +6,7 @@ use crate::words::{Unread, Words};
 use std::alloc::{AllocError, Global};
 use std::str::FromStr;
 use wgsl_types::syntax::{
-    AccelerationStructureFlags, AccessMode, AddressSpace, SampledType, TexelFormat,
+    AccelerationStructureFlags, AccessMode, AddressSpace, SampledType, Scalar, TexelFormat,
 };
 use wgsl_types::ty::{SamplerType, StructMemberType, StructType, TextureType, Type};
 
@@ -19,6 +19,15 @@ pub fn read_type(alloc: Global, words: &mut Words) -> Result<Type, Unread>
     ensures one { OnOk result (words.old.taken < words.new.taken) }
 {
     let word = words.next()?;
+    read_type_at(alloc, word, words)
+}
+
+/// The type that begins with this word.
+#[cycle(reading)]
+#[inline(always)]
+pub fn read_type_at(alloc: Global, word: &str, words: &mut Words) -> Result<Type, Unread>
+    ensures { GoesOn words.old words.new }
+{
     match read_scalar(word) {
         Some(ty) => Ok(ty),
         None => read_other(alloc, word, words),
@@ -27,18 +36,9 @@ pub fn read_type(alloc: Global, words: &mut Words) -> Result<Type, Unread>
 
 #[inline(always)]
 fn read_scalar(word: &str) -> Option<Type> {
-    match word {
-        "bool" => Some(Type::Bool),
-        "AbstractInt" => Some(Type::AbstractInt),
-        "AbstractFloat" => Some(Type::AbstractFloat),
-        "i32" => Some(Type::I32),
-        "u32" => Some(Type::U32),
-        "f32" => Some(Type::F32),
-        "f16" => Some(Type::F16),
-        "i64" => Some(Type::I64),
-        "u64" => Some(Type::U64),
-        "f64" => Some(Type::F64),
-        _ => None,
+    match Scalar::from_str(word) {
+        Ok(scalar) => Some(Type::from(scalar)),
+        Err(_) => None,
     }
 }
 
@@ -162,10 +162,21 @@ fn read_outer(word: &str, words: &mut Words) -> Result<Option<Outer>, Unread>
 /// The types that all words that are left stand for.
 pub fn read_types(alloc: Global, words: &mut Words) -> Result<Vec<Type>, Unread> {
     let mut types = Vec::with_capacity(alloc, 4)?;
-    while !words.is_empty() {
-        types.push(read_type(alloc, words)?)?;
+    while let Ok(word) = words.next() {
+        types.push(read_type_at(alloc, word, words)?)?;
     }
     Ok(types)
+}
+
+/// The type that the words that are left stand for.
+pub fn read_last_type(alloc: Global, words: &mut Words) -> Result<Type, Unread> {
+    let ty = read_type(alloc, words)?;
+    if words.is_empty() {
+        Ok(ty)
+    } else {
+        drop(ty);
+        Err(Unread::Word)
+    }
 }
 
 /// A struct: its name, the number of its members, and the members.

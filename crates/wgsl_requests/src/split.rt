@@ -1,5 +1,5 @@
 // The first word of a text.
-ghost use Rattle.std.specs.Prelude.{◌≡◌, ◌<◌, ◌≤◌, ◌∷◌, [], IfSome, MatchOption, drop, length, not};
+ghost use Rattle.std.specs.Prelude.{◌≡◌, ◌<◌, ◌≤◌, ◌∷◌, ◌↔◌, [], IfSome, IsTrue, MatchOption, drop, length, not};
 ghost use Rattle.std.specs.List.{take_while};
 ghost use Rattle.std.specs.Str.{IsCharBoundary};
 ghost use Rattle.wgsl_requests.specs.Words.{has_forbidden, is_forbidden, is_separator, words_of};
@@ -21,6 +21,13 @@ pub fn first_word(text: &str) -> Option<(&str, usize)>
     }
     let len = word_len(rest.as_bytes());
     Some((&rest[..len], gap + len))
+}
+
+/// Whether a text has no words.
+pub fn is_blank(text: &str) -> bool
+    ensures { IsTrue result ↔ (words_of text.now ≡ []) }
+{
+    gap_len(text.as_bytes()) == text.len()
 }
 
 /// How many separators the bytes begin with.
@@ -47,11 +54,16 @@ fn is_separator(byte: u8) -> bool
     matches!(byte, b' ' | b'\t' | b'\r')
 }
 
-/// Whether a byte stands there that no request may have.
+/// Whether a byte stands there that no request may have. It looks at every byte, which takes less time than to stop at the
+/// first.
 pub fn has_forbidden(bytes: &[u8]) -> bool
     ensures { result ≡ has_forbidden bytes.now }
 {
-    bytes.iter().any(|byte| is_forbidden(*byte))
+    let mut found = false;
+    for byte in bytes {
+        found |= is_forbidden(*byte);
+    }
+    found
 }
 
 /// A line feed or a NUL.

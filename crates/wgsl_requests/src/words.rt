@@ -3,7 +3,7 @@ ghost use Rattle.std.specs.Prelude.{◌≡◌, ◌<◌, ◌≤◌, ◌∷◌, �
 ghost use Rattle.std.specs.Str.{IsCharBoundary};
 ghost use Rattle.wgsl_requests.specs.Words.{words_of};
 
-use crate::split::first_word;
+use crate::split::{first_word, is_blank};
 use std::alloc::{AllocError, AllocFailed};
 use std::num::{ParseIntError, TryFromIntError};
 
@@ -87,7 +87,7 @@ impl<'t> Words<'t> {
     pub fn is_empty(&self) -> bool
         ensures { IsTrue result ↔ (left self.now ≡ []) }
     {
-        first_word(&self.text[self.taken..]).is_none()
+        is_blank(&self.text[self.taken..])
     }
 
     /// A number: decimal digits alone, with leading zeros or without.

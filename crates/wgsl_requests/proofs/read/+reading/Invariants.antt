@@ -8,6 +8,9 @@ use Rattle.wgsl_requests.proofs.read.+reading.Given as goal
 abbrev pub decreases-read_type : goal.decreases-read_type
 decreases-read_type l = 8 * (length l.words.now.text.now - l.words.now.taken)
 
+abbrev pub decreases-read_type_at : goal.decreases-read_type_at
+decreases-read_type_at l = 8 * (length l.words.now.text.now - l.words.now.taken) + 6
+
 abbrev pub decreases-read_other : goal.decreases-read_other
 decreases-read_other l = 8 * (length l.words.now.text.now - l.words.now.taken) + 5
 

@@ -1,5 +1,5 @@
 use native.Mathlib.Numerals.{unary_clauses}
-use Rattle.std.proofs.Common.{arith, ap, sym, ◌∙◌, ◌≡◌, ◌<◌, ◌+◌, ◌∷◌, drop, length, not, subst, take}
+use Rattle.std.proofs.Common.{arith, ap, ◌∙◌, ◌≡◌, ◌<◌, ◌+◌, ◌∷◌, drop, length, not, subst, take}
 use Rattle.std.specs.List.{take_while}
 use Rattle.std.specs.Str.{IsCharBoundary}
 use Rattle.std.proofs.lemmas.Grind.{common_steps}

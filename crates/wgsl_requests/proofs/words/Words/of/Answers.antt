@@ -1,4 +1,4 @@
-use Rattle.std.proofs.Common.{IsUtf8, arith, subst, sym}
+use Rattle.std.proofs.Common.{IsUtf8, subst, sym}
 use Rattle.std.proofs.lemmas.Str.{IsCharBoundary-start}
 use Rattle.wgsl_requests.proofs.Cuts.{text_of_words}
 use Rattle.wgsl_requests.proofs.words.Words.of.Goals as goal
