@@ -1,6 +1,6 @@
 // Calls of built-in functions.
-use super::support::texts::value_or_refusal;
 use super::support::sixty::sixty_types;
+use super::support::texts::value_or_refusal;
 use super::support::{expect_answers, expect_text};
 use std::alloc::{AllocError, Global};
 use std::process::Abort;

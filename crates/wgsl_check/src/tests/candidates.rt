@@ -1,6 +1,6 @@
 // The candidates that are chosen for binary operators.
-use super::support::texts::{message, type_or_refusal};
 use super::support::sixty::sixty_types;
+use super::support::texts::{message, type_or_refusal};
 use super::support::{expect_text, types};
 use std::alloc::{AllocError, Global};
 use std::process::Abort;
