@@ -20,6 +20,7 @@ ghost use Rattle.wgsl_rules.specs.Laws.{OneChoice};
 
 mod find;
 mod fit;
+mod hint;
 mod result_type;
 mod rows;
 pub(crate) mod shape;

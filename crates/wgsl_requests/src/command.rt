@@ -1,5 +1,5 @@
 // What the program answers to a command.
-use crate::read::{read_last_type, read_type, read_type_at, read_types};
+use crate::read::{read_last_type, read_pair, read_type_at, read_types};
 use crate::report::write_layout;
 use crate::template::read_template;
 use crate::words::{Unread, Words};
@@ -17,7 +17,7 @@ pub fn write_answer(
     alloc: Global,
     line: u64,
     command: &str,
-    words: Words,
+    words: &mut Words,
     text: &mut String,
 ) -> Result<bool, AllocError> {
     match answer_command(alloc, line, command, words, text) {
@@ -31,23 +31,39 @@ fn answer_command(
     alloc: Global,
     line: u64,
     command: &str,
-    mut words: Words,
+    words: &mut Words,
     text: &mut String,
 ) -> Result<(), Unread> {
     match command {
+        "rank" => rank(alloc, words, text),
         "common" => common(alloc, line, words, text),
-        _ => {
-            let question = read_question(alloc, command, &mut words)?;
-            let answered = answer(alloc, &question, words, text);
-            drop(question);
-            answered
-        }
+        "unary" => unary(alloc, words, text),
+        "binary" => binary(alloc, words, text),
+        "size" => size(alloc, words, text),
+        "offsets" => offsets(alloc, words, text),
+        "layout" => layout(alloc, words, text),
+        "ctor" => ctor(alloc, words, text),
+        "call" => call(alloc, words, text),
+        _ => Err(Unread::Word),
     }
 }
 
+/// `rank T U`: the rank of the conversion.
+fn rank(alloc: Global, words: &mut Words, text: &mut String) -> Result<(), Unread> {
+    let types = read_pair(alloc, words)?;
+    let rank = conversion_rank(&types[0], &types[1]);
+    drop(types);
+    Ok(write_number_or_none(text, rank)?)
+}
+
 /// `common T..`: the common type of all.
-fn common(alloc: Global, line: u64, mut words: Words, text: &mut String) -> Result<(), Unread> {
-    let types = read_typed(alloc, line, &mut words)?;
+fn common(
+    alloc: Global,
+    line: u64,
+    words: &mut Words,
+    text: &mut String,
+) -> Result<(), Unread> {
+    let types = read_typed(alloc, line, words)?;
     let written = write_common(alloc, &types, text);
     drop(types);
     Ok(written?)
@@ -82,125 +98,13 @@ fn write_first(types: &[Typed], text: &mut String) -> Result<(), AllocError> {
     }
 }
 
-/// What a command asks of the types after it.
-#[derive(Drop)]
-enum Question<'t> {
-    Rank,
-    Unary(UnaryOperator),
-    Binary(BinaryOperator),
-    Size,
-    Offsets,
-    Layout,
-    Ctor(Callee<'t>),
-    Call(Callee<'t>),
-}
-
-/// The name of a constructor or a built-in function, and the template after it.
-#[derive(Drop)]
-struct Callee<'t> {
-    name: &'t str,
-    template: Option<Vec<TpltParam>>,
-}
-
-fn read_question<'t>(
-    alloc: Global,
-    word: &str,
-    words: &mut Words<'t>,
-) -> Result<Question<'t>, Unread> {
-    match word {
-        "rank" => Ok(Question::Rank),
-        "unary" => Ok(Question::Unary(read_unary(words)?)),
-        "binary" => Ok(Question::Binary(read_binary(words)?)),
-        "size" => Ok(Question::Size),
-        "offsets" => Ok(Question::Offsets),
-        "layout" => Ok(Question::Layout),
-        "ctor" => Ok(Question::Ctor(read_callee(alloc, words)?)),
-        "call" => Ok(Question::Call(read_callee(alloc, words)?)),
-        _ => Err(Unread::Word),
-    }
-}
-
-fn read_callee<'t>(alloc: Global, words: &mut Words<'t>) -> Result<Callee<'t>, Unread> {
-    let name = words.next()?;
-    let template = read_template(alloc, words)?;
-    Ok(Callee { name, template })
-}
-
-/// Writes the answer for the types that all words that are left stand for.
-fn answer(
-    alloc: Global,
-    question: &Question,
-    mut words: Words,
-    text: &mut String,
-) -> Result<(), Unread> {
-    match question {
-        Question::Rank | Question::Binary(_) => answer_pair(alloc, question, words, text),
-        Question::Unary(_) | Question::Size => {
-            let types = [read_last_type(alloc, &mut words)?];
-            let answered = answer_for(alloc, question, &types, text);
-            drop(types);
-            answered
-        }
-        _ => {
-            let types = read_types(alloc, &mut words)?;
-            let answered = answer_for(alloc, question, &types, text);
-            drop(types);
-            answered
-        }
-    }
-}
-
-/// Writes the answer for the two types that the words that are left stand for.
-fn answer_pair(
-    alloc: Global,
-    question: &Question,
-    mut words: Words,
-    text: &mut String,
-) -> Result<(), Unread> {
-    let first = read_type(alloc, &mut words)?;
-    let types = [first, read_last_type(alloc, &mut words)?];
-    let answered = answer_for(alloc, question, &types, text);
-    drop(types);
-    answered
-}
-
-fn answer_for(
-    alloc: Global,
-    question: &Question,
-    types: &[Type],
-    text: &mut String,
-) -> Result<(), Unread> {
-    match question {
-        Question::Rank => rank(types, text),
-        Question::Unary(operator) => unary(alloc, *operator, types, text),
-        Question::Binary(operator) => binary(alloc, *operator, types, text),
-        Question::Size => size(types, text),
-        Question::Offsets => offsets(alloc, types, text),
-        Question::Layout => layout(alloc, types, text),
-        Question::Ctor(callee) => ctor(alloc, callee, types, text),
-        Question::Call(callee) => call(alloc, callee, types, text),
-    }
-}
-
-/// `rank T U`: the rank of the conversion.
-fn rank(types: &[Type], text: &mut String) -> Result<(), Unread> {
-    let [from, to] = types else {
-        return Err(Unread::Word);
-    };
-    Ok(write_number_or_none(text, conversion_rank(from, to))?)
-}
-
 /// `unary OP T`: the type of the expression, or why it has none.
-fn unary(
-    alloc: Global,
-    operator: UnaryOperator,
-    types: &[Type],
-    text: &mut String,
-) -> Result<(), Unread> {
-    let [operand] = types else {
-        return Err(Unread::Word);
-    };
-    Ok(write_type_or_refusal(text, type_unary_op(alloc, operator, operand))?)
+fn unary(alloc: Global, words: &mut Words, text: &mut String) -> Result<(), Unread> {
+    let operator = read_unary(words)?;
+    let operand = read_last_type(alloc, words)?;
+    let answer = type_unary_op(alloc, operator, &operand);
+    drop(operand);
+    Ok(write_type_or_refusal(text, answer)?)
 }
 
 fn read_unary(words: &mut Words) -> Result<UnaryOperator, Unread> {
@@ -215,16 +119,12 @@ fn read_unary(words: &mut Words) -> Result<UnaryOperator, Unread> {
 }
 
 /// `binary OP T U`: the type of the expression, or why it has none.
-fn binary(
-    alloc: Global,
-    operator: BinaryOperator,
-    types: &[Type],
-    text: &mut String,
-) -> Result<(), Unread> {
-    let [lhs, rhs] = types else {
-        return Err(Unread::Word);
-    };
-    Ok(write_type_or_refusal(text, type_binary_op(alloc, operator, lhs, rhs))?)
+fn binary(alloc: Global, words: &mut Words, text: &mut String) -> Result<(), Unread> {
+    let operator = read_binary(words)?;
+    let types = read_pair(alloc, words)?;
+    let answer = type_binary_op(alloc, operator, &types[0], &types[1]);
+    drop(types);
+    Ok(write_type_or_refusal(text, answer)?)
 }
 
 fn read_binary(words: &mut Words) -> Result<BinaryOperator, Unread> {
@@ -252,18 +152,26 @@ fn read_binary(words: &mut Words) -> Result<BinaryOperator, Unread> {
 }
 
 /// `size T`: the size and the alignment.
-fn size(types: &[Type], text: &mut String) -> Result<(), Unread> {
-    let [ty] = types else {
-        return Err(Unread::Word);
-    };
-    write_number_or_none(text, ty.size_of())?;
+fn size(alloc: Global, words: &mut Words, text: &mut String) -> Result<(), Unread> {
+    let ty = read_last_type(alloc, words)?;
+    let size = ty.size_of();
+    let align = ty.align_of();
+    drop(ty);
+    write_number_or_none(text, size)?;
     text.push(' ')?;
-    Ok(write_number_or_none(text, ty.align_of())?)
+    Ok(write_number_or_none(text, align)?)
 }
 
 /// `offsets T` for a struct T: the offset of each member.
-fn offsets(alloc: Global, types: &[Type], text: &mut String) -> Result<(), Unread> {
-    let [Type::Struct(read)] = types else {
+fn offsets(alloc: Global, words: &mut Words, text: &mut String) -> Result<(), Unread> {
+    let ty = read_last_type(alloc, words)?;
+    let written = write_offsets(alloc, &ty, text);
+    drop(ty);
+    written
+}
+
+fn write_offsets(alloc: Global, ty: &Type, text: &mut String) -> Result<(), Unread> {
+    let Type::Struct(read) = ty else {
         return Err(Unread::Word);
     };
     match read.offsets(alloc)? {
@@ -273,32 +181,70 @@ fn offsets(alloc: Global, types: &[Type], text: &mut String) -> Result<(), Unrea
 }
 
 /// `layout T` for a struct T: a report of its members and of the whole.
-fn layout(alloc: Global, types: &[Type], text: &mut String) -> Result<(), Unread> {
-    let [Type::Struct(read)] = types else {
+fn layout(alloc: Global, words: &mut Words, text: &mut String) -> Result<(), Unread> {
+    let ty = read_last_type(alloc, words)?;
+    let written = write_layout_of(alloc, &ty, text);
+    drop(ty);
+    written
+}
+
+fn write_layout_of(alloc: Global, ty: &Type, text: &mut String) -> Result<(), Unread> {
+    let Type::Struct(read) = ty else {
         return Err(Unread::Word);
     };
     Ok(write_layout(alloc, read, text)?)
 }
 
+/// The name of a constructor or a built-in function, and the template after it.
+#[derive(Drop)]
+struct Callee<'t> {
+    name: &'t str,
+    template: Option<Vec<TpltParam>>,
+}
+
+fn read_callee<'t>(alloc: Global, words: &mut Words<'t>) -> Result<Callee<'t>, Unread> {
+    let name = words.next()?;
+    let template = read_template(alloc, words)?;
+    Ok(Callee { name, template })
+}
+
 /// `ctor NAME P T..`: the type that the constructor makes, or why it makes none.
-fn ctor(
+fn ctor(alloc: Global, words: &mut Words, text: &mut String) -> Result<(), Unread> {
+    let callee = read_callee(alloc, words)?;
+    let written = write_ctor(alloc, &callee, words, text);
+    drop(callee);
+    written
+}
+
+fn write_ctor(
     alloc: Global,
     callee: &Callee,
-    types: &[Type],
+    words: &mut Words,
     text: &mut String,
 ) -> Result<(), Unread> {
-    let made = type_ctor(alloc, callee.name, callee.template.as_deref(), types);
+    let types = read_types(alloc, words)?;
+    let made = type_ctor(alloc, callee.name, callee.template.as_deref(), &types);
+    drop(types);
     Ok(write_type_or_refusal(text, made)?)
 }
 
 /// `call NAME P T..`: the type of the call, or why it has none; `no value` if it gives none.
-fn call(
+fn call(alloc: Global, words: &mut Words, text: &mut String) -> Result<(), Unread> {
+    let callee = read_callee(alloc, words)?;
+    let written = write_call(alloc, &callee, words, text);
+    drop(callee);
+    written
+}
+
+fn write_call(
     alloc: Global,
     callee: &Callee,
-    types: &[Type],
+    words: &mut Words,
     text: &mut String,
 ) -> Result<(), Unread> {
-    let answer = type_builtin_fn(alloc, callee.name, callee.template.as_deref(), types);
+    let types = read_types(alloc, words)?;
+    let answer = type_builtin_fn(alloc, callee.name, callee.template.as_deref(), &types);
+    drop(types);
     Ok(write_value_or_refusal(text, answer)?)
 }
 

@@ -6,7 +6,7 @@ use crate::words::{Unread, Words};
 use std::alloc::{AllocError, Global};
 use std::str::FromStr;
 use wgsl_types::syntax::{
-    AccelerationStructureFlags, AccessMode, AddressSpace, SampledType, Scalar, TexelFormat,
+    AccelerationStructureFlags, AccessMode, AddressSpace, SampledType, TexelFormat,
 };
 use wgsl_types::ty::{SamplerType, StructMemberType, StructType, TextureType, Type};
 
@@ -36,10 +36,25 @@ pub fn read_type_at(alloc: Global, word: &str, words: &mut Words) -> Result<Type
 
 #[inline(always)]
 fn read_scalar(word: &str) -> Option<Type> {
-    match Scalar::from_str(word) {
-        Ok(scalar) => Some(Type::from(scalar)),
-        Err(_) => None,
+    match word {
+        "bool" => Some(Type::Bool),
+        "AbstractInt" => Some(Type::AbstractInt),
+        "AbstractFloat" => Some(Type::AbstractFloat),
+        "i32" => Some(Type::I32),
+        "u32" => Some(Type::U32),
+        "f32" => Some(Type::F32),
+        "f16" => Some(Type::F16),
+        "i64" => Some(Type::I64),
+        "u64" => Some(Type::U64),
+        "f64" => Some(Type::F64),
+        _ => None,
     }
+}
+
+/// The scalar inside layers. It is not inlined, so that its words are compared as numbers there too.
+#[inline(never)]
+fn read_inner_scalar(word: &str) -> Option<Type> {
+    read_scalar(word)
 }
 
 /// The type that begins with this word, which is no scalar.
@@ -60,7 +75,7 @@ fn read_within(alloc: Global, outer: Outer, words: &mut Words) -> Result<Type, U
     ensures { GoesOn words.old words.new }
 {
     let word = words.next()?;
-    match read_scalar(word) {
+    match read_inner_scalar(word) {
         Some(ty) => Ok(outer.around(alloc, ty)?),
         None => read_layers(alloc, outer, word, words),
     }
@@ -100,7 +115,7 @@ fn wrap(alloc: Global, layers: &[Outer], innermost: Type) -> Result<Type, Unread
 fn read_innermost(alloc: Global, word: &str, words: &mut Words) -> Result<Type, Unread>
     ensures { GoesOn words.old words.new }
 {
-    match read_scalar(word) {
+    match read_inner_scalar(word) {
         Some(ty) => Ok(ty),
         None => match word {
             "struct" => read_struct(alloc, words),
@@ -166,6 +181,12 @@ pub fn read_types(alloc: Global, words: &mut Words) -> Result<Vec<Type>, Unread>
         types.push(read_type_at(alloc, word, words)?)?;
     }
     Ok(types)
+}
+
+/// The two types that the words that are left stand for.
+pub fn read_pair(alloc: Global, words: &mut Words) -> Result<[Type; 2], Unread> {
+    let first = read_type(alloc, words)?;
+    Ok([first, read_last_type(alloc, words)?])
 }
 
 /// The type that the words that are left stand for.

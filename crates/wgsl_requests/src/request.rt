@@ -71,7 +71,7 @@ pub fn write_reply(
     let Ok(command) = words.next() else {
         return Ok(ReplyKind::Nothing);
     };
-    if write_answer(alloc, line, command, words, text)? {
+    if write_answer(alloc, line, command, &mut words, text)? {
         Ok(ReplyKind::Answer)
     } else {
         Ok(ReplyKind::Unreadable)

@@ -1,10 +1,11 @@
 // The index of a built-in function by its name, and its rows.
-ghost use Rattle.std.specs.Prelude.{◌≡◌, ◌↔◌, ◌≤◌, ℕ, Some, option_map};
+ghost use Rattle.std.specs.Prelude.{◌≡◌, ◌↔◌, ◌≤◌, ℕ, IfSome, Some, option_map};
 ghost use Rattle.wgsl_rules.specs.calls.Names.{IsNameAt, IsRising, call_names};
 ghost use Rattle.wgsl_rules.specs.calls.Table.{call_table, rows_named};
 ghost use Rattle.wgsl_rules.specs.calls.Answers.{NamesMatchTable};
-ghost use Rattle.wgsl_calls.specs.internal.Rows.{found_rows};
+ghost use Rattle.wgsl_calls.specs.internal.Rows.{found_rows, rows_view};
 
+use crate::call::hint::hint;
 use crate::call::rows::Rows;
 use crate::call::table::built_ins;
 use std::cmp::Ordering;
@@ -36,6 +37,30 @@ pub fn find_call(name: &str) -> (Option<usize>, u32)
 
 /// The rows of a name.
 pub fn rows_of(name: &str) -> Option<&'static Rows>
+    ensures { found_rows (option_map (λ r. r.now) result) ≡ rows_named name.now call_table }
+{
+    match hinted_rows(name) {
+        Some(rows) => Some(rows),
+        None => searched_rows(name),
+    }
+}
+
+/// The rows at the index that is hinted, if the name stands there.
+fn hinted_rows(name: &str) -> Option<&'static Rows>
+    ensures { IfSome result (λ r. rows_view r.now ≡ rows_named name.now call_table) }
+{
+    let built_ins = built_ins();
+    let index = hint(name);
+    if index < built_ins.len() && built_ins[index].0 == name {
+        Some(&built_ins[index].1)
+    } else {
+        None
+    }
+}
+
+/// The rows of a name by binary search.
+#[inline(never)]
+fn searched_rows(name: &str) -> Option<&'static Rows>
     ensures { found_rows (option_map (λ r. r.now) result) ≡ rows_named name.now call_table }
 {
     match search(name).0 {
