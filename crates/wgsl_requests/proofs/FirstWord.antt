@@ -1,7 +1,8 @@
 -- The first word of a request, and the words of what is left.
-use Rattle.std.proofs.Common.{◌≡◌, ℕ, ◌+◌, ◌<◌, Bool, true, false, not, List, [], ◌∷◌, length, take, drop, refl, ap, sym, subst, ◌∙◌, arith}
+use Rattle.std.proofs.Common.{All, ◌≤◌, ◌≡◌, ℕ, ◌+◌, ◌<◌, Bool, true, false, not, List, [], ◌∷◌, length, take, drop, refl, ap, sym, subst, ◌∙◌, arith}
 use Rattle.std.specs.List.{filter, prefix_len, take_while}
 use Rattle.std.proofs.lemmas.List.Folds.{length-prefix_len}
+use Rattle.std.proofs.lemmas.List.Elements.{All-head, All-tail}
 use Rattle.std.proofs.lemmas.Grind.{common_steps}
 use Rattle.wgsl_requests.specs.Words.{pieces, has_bytes, has_forbidden, is_forbidden, is_separator, words_of}
 
@@ -131,3 +132,13 @@ blank-gap (b ∷ bs) none = step (is_separator b) refl (blank-gap bs)
     step : (v : Bool) → is_separator b ≡ v → (words_of bs ≡ [] → gap_len is_separator bs ≡ length bs) → gap_len is_separator (b ∷ bs) ≡ length (b ∷ bs)
     step true e rest = rw e (omega (arith, rest (sym (words-cut is_separator b bs e) ∙ none)))
     step false e rest = let never : ⊥ = cc (sym (words-word is_separator b bs e) ∙ none) in absurd never
+
+-- a line feed and a NUL are at most 10
+great : (b : ℕ) → 10 < b → is_forbidden b ≡ false
+great b more = grind (arith, common_steps, more)
+
+-- bytes that are all greater than 10 are allowed
+pub great-not_forbidden : (bytes : List ℕ) (least : ℕ) → All (λ byte. least ≤ byte) bytes → 10 < least → has_forbidden bytes ≡ false
+great-not_forbidden [] least all more = refl
+great-not_forbidden (b ∷ bs) least all more =
+    rw (great b (omega (arith, more, All-head (λ byte. least ≤ byte) b bs all))) (great-not_forbidden bs least (All-tail (λ byte. least ≤ byte) b bs all) more)

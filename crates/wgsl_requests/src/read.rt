@@ -151,7 +151,8 @@ impl Outer {
     }
 }
 
-/// The layer that begins with this word; `None` if none does.
+/// The layer that begins with this word; `None` if none does. It is not inlined, so that words are compared as numbers.
+#[inline(never)]
 fn read_outer(word: &str, words: &mut Words) -> Result<Option<Outer>, Unread>
     ensures { GoesOn words.old words.new }
 {

@@ -1,5 +1,5 @@
 // The first word of a text.
-ghost use Rattle.std.specs.Prelude.{◌≡◌, ◌<◌, ◌≤◌, ◌∷◌, ◌↔◌, [], IfSome, IsTrue, MatchOption, drop, length, not};
+ghost use Rattle.std.specs.Prelude.{◌≡◌, ◌<◌, ◌≤◌, ◌∷◌, ◌↔◌, [], All, IfSome, IsTrue, MatchOption, drop, length, not};
 ghost use Rattle.std.specs.List.{take_while};
 ghost use Rattle.std.specs.Str.{IsCharBoundary};
 ghost use Rattle.wgsl_requests.specs.Words.{has_forbidden, is_forbidden, is_separator, words_of};
@@ -58,12 +58,23 @@ fn is_separator(byte: u8) -> bool
 pub fn has_forbidden(bytes: &[u8]) -> bool
     ensures { result ≡ has_forbidden bytes.now }
 {
-    bytes.iter().any(|byte| is_forbidden(*byte))
+    least(bytes) <= b'\n' && bytes.iter().any(|byte| is_forbidden(*byte))
 }
 
-/// A line feed or a NUL. Most bytes are greater than both.
+/// The least byte, or 255 if there is none. Several bytes are compared at a time.
+fn least(bytes: &[u8]) -> u8
+    ensures { All (λ byte. result ≤ byte) bytes.now }
+{
+    let mut least = u8::MAX;
+    for byte in bytes {
+        least = least.min(*byte);
+    }
+    least
+}
+
+/// A line feed or a NUL.
 fn is_forbidden(byte: u8) -> bool
     ensures { result ≡ is_forbidden byte }
 {
-    byte <= b'\n' && matches!(byte, b'\n' | b'\0')
+    matches!(byte, b'\n' | b'\0')
 }
