@@ -81,21 +81,56 @@ fn read_within(alloc: Global, outer: Outer, words: &mut Words) -> Result<Type, U
     }
 }
 
-/// The type with this layer around others, of which the first may begin with this word.
+/// The type with this layer around what begins with this word, which is no scalar.
 #[cycle(reading)]
 fn read_layers(
     alloc: Global,
-    outermost: Outer,
+    outer: Outer,
+    word: &str,
+    words: &mut Words,
+) -> Result<Type, Unread>
+    ensures { GoesOn words.old words.new }
+{
+    match read_outer(word, words)? {
+        Some(second) => read_second(alloc, outer, second, words),
+        None => Ok(outer.around(alloc, read_innermost(alloc, word, words)?)?),
+    }
+}
+
+/// The type with two layers around what the next words stand for.
+#[cycle(reading)]
+fn read_second(
+    alloc: Global,
+    outer: Outer,
+    second: Outer,
+    words: &mut Words,
+) -> Result<Type, Unread>
+    ensures { GoesOn words.old words.new }
+{
+    let word = words.next()?;
+    match read_inner_scalar(word) {
+        Some(ty) => Ok(outer.around(alloc, second.around(alloc, ty)?)?),
+        None => read_deep(alloc, outer, second, word, words),
+    }
+}
+
+/// The type with two layers and maybe more around what begins with this word.
+#[cycle(reading)]
+fn read_deep(
+    alloc: Global,
+    outer: Outer,
+    second: Outer,
     first: &str,
     words: &mut Words,
 ) -> Result<Type, Unread>
     ensures { GoesOn words.old words.new }
 {
     let mut layers = Vec::with_capacity(alloc, 4)?;
-    layers.push(outermost)?;
+    layers.push(outer)?;
+    layers.push(second)?;
     let mut word = first;
-    while let Some(outer) = read_outer(word, words)? {
-        layers.push(outer)?;
+    while let Some(layer) = read_outer(word, words)? {
+        layers.push(layer)?;
         word = words.next()?;
     }
     wrap(alloc, &layers, read_innermost(alloc, word, words)?)

@@ -91,6 +91,8 @@ impl<'a> ResolvedType<'a> {
 }
 
 /// The candidate of the operator for two operands, if some row takes them.
+///
+/// The functions of the rows are not inlined, so that no call prepares the candidates of the others.
 pub fn resolve_operator<'a>(
     operator: BinaryOperator,
     a: &'a Type,
@@ -119,6 +121,7 @@ pub fn resolve_operator<'a>(
 }
 
 /// The short-circuit operators, `||` and `&&`.
+#[inline(never)]
 fn logical<'a>(a: &'a Type, b: &'a Type) -> Option<Resolution<'a>>
     ensures { (o : BinaryOperator) → IsLogical o
         → HasCandidate o (view a.now) (view b.now) (option_map resolution_view result) }
@@ -141,6 +144,7 @@ fn are_bools(a: &Type, b: &Type) -> bool
 }
 
 /// `+`, `-`, `*`, `/` and `%`.
+#[inline(never)]
 fn arithmetic<'a>(operator: BinaryOperator, a: &'a Type, b: &'a Type) -> Option<Resolution<'a>>
     ensures { IsArithmetic operator
         → HasCandidate operator (view a.now) (view b.now) (option_map resolution_view result) }
@@ -184,6 +188,7 @@ fn arithmetic<'a>(operator: BinaryOperator, a: &'a Type, b: &'a Type) -> Option<
 }
 
 /// An arithmetic operator with a matrix of `c` columns, `r` rows and element `e` on the left.
+#[inline(never)]
 fn matrix_by<'a>(
     operator: BinaryOperator,
     c: u8,
@@ -283,6 +288,7 @@ fn in_layers<'a>(
 }
 
 /// `==`, `!=`, `<`, `<=`, `>` and `>=`.
+#[inline(never)]
 fn comparison<'a>(a: &'a Type, b: &'a Type) -> Option<Resolution<'a>>
     ensures { (o : BinaryOperator) → IsComparison o
         → HasCandidate o (view a.now) (view b.now) (option_map resolution_view result) }
@@ -307,6 +313,7 @@ fn compared(ty: &Type, layer: Option<Layer>) -> Resolution<'_>
 }
 
 /// `|`, `&` and `^`.
+#[inline(never)]
 fn bits<'a>(operator: BinaryOperator, a: &'a Type, b: &'a Type) -> Option<Resolution<'a>>
     ensures { IsBitwise operator
         → HasCandidate operator (view a.now) (view b.now) (option_map resolution_view result) }
@@ -357,6 +364,7 @@ fn is_bool_vector(ty: &Type) -> bool
 }
 
 /// `<<` and `>>`.
+#[inline(never)]
 fn shift<'a>(a: &'a Type, b: &'a Type) -> Option<Resolution<'a>>
     ensures { (o : BinaryOperator) → IsShift o
         → HasCandidate o (view a.now) (view b.now) (option_map resolution_view result) }
