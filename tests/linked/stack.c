@@ -9,7 +9,7 @@
 
 static const char *const layers[] = {
     "vec 2 ", "mat 2 2 ", "array 1 ", "array * ", "binding_array * ", "atomic ",
-    "ptr function read ", "ref function read ", "struct S 1 a - - ",
+    "ptr function read ", "ref function read ", "struct S 1 a - - ", "array 1 struct S 1 a - - ",
 };
 static const char *const heads[] = {
     "rank T T", "common T", "common T T", "unary - T", "unary & T", "unary * T", "binary == T T", "binary * T T", "size T",

@@ -57,12 +57,7 @@ fn rank(alloc: Global, words: &mut Words, text: &mut String) -> Result<(), Unrea
 }
 
 /// `common T..`: the common type of all.
-fn common(
-    alloc: Global,
-    line: u64,
-    words: &mut Words,
-    text: &mut String,
-) -> Result<(), Unread> {
+fn common(alloc: Global, line: u64, words: &mut Words, text: &mut String) -> Result<(), Unread> {
     let types = read_typed(alloc, line, words)?;
     let written = write_common(alloc, &types, text);
     drop(types);

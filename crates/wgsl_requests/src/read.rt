@@ -12,8 +12,9 @@ use wgsl_types::ty::{SamplerType, StructMemberType, StructType, TextureType, Typ
 
 /// The type that the next words stand for.
 ///
-/// The layers are read first and put around the innermost type afterwards, so that deep types take no deep stack.
+/// Layers are read in a loop, and what a struct and a layer need is not inlined, so that deep types take little stack.
 #[cycle(reading)]
+#[inline(always)]
 pub fn read_type(alloc: Global, words: &mut Words) -> Result<Type, Unread>
     ensures goes_on { GoesOn words.old words.new }
     ensures one { OnOk result (words.old.taken < words.new.taken) }
@@ -30,7 +31,10 @@ pub fn read_type_at(alloc: Global, word: &str, words: &mut Words) -> Result<Type
 {
     match read_scalar(word) {
         Some(ty) => Ok(ty),
-        None => read_other(alloc, word, words),
+        None => match word {
+            "struct" => read_struct(alloc, words),
+            _ => read_other(alloc, word, words),
+        },
     }
 }
 
@@ -51,89 +55,50 @@ fn read_scalar(word: &str) -> Option<Type> {
     }
 }
 
-/// The scalar inside layers. It is not inlined, so that its words are compared as numbers there too.
-#[inline(never)]
-fn read_inner_scalar(word: &str) -> Option<Type> {
-    read_scalar(word)
-}
-
-/// The type that begins with this word, which is no scalar.
+/// The type that begins with this word, which is neither a scalar nor a struct.
 #[cycle(reading)]
 #[inline(never)]
 fn read_other(alloc: Global, word: &str, words: &mut Words) -> Result<Type, Unread>
     ensures { GoesOn words.old words.new }
 {
     match read_outer(word, words)? {
-        Some(outer) => read_within(alloc, outer, words),
-        None => read_innermost(alloc, word, words),
+        Some(outer) => read_inside(alloc, outer, words),
+        None => read_leaf(word, words),
     }
 }
 
 /// The type with this layer around what the next words stand for.
 #[cycle(reading)]
-fn read_within(alloc: Global, outer: Outer, words: &mut Words) -> Result<Type, Unread>
+#[inline(never)]
+fn read_inside(alloc: Global, outer: Outer, words: &mut Words) -> Result<Type, Unread>
     ensures { GoesOn words.old words.new }
 {
     let word = words.next()?;
-    match read_inner_scalar(word) {
+    match read_scalar(word) {
         Some(ty) => Ok(outer.around(alloc, ty)?),
         None => read_layers(alloc, outer, word, words),
     }
 }
 
-/// The type with this layer around what begins with this word, which is no scalar.
+/// The type with this layer, and those that begin with this word, around what comes after them.
 #[cycle(reading)]
+#[inline(always)]
 fn read_layers(
     alloc: Global,
-    outer: Outer,
-    word: &str,
-    words: &mut Words,
-) -> Result<Type, Unread>
-    ensures { GoesOn words.old words.new }
-{
-    match read_outer(word, words)? {
-        Some(second) => read_second(alloc, outer, second, words),
-        None => Ok(outer.around(alloc, read_innermost(alloc, word, words)?)?),
-    }
-}
-
-/// The type with two layers around what the next words stand for.
-#[cycle(reading)]
-fn read_second(
-    alloc: Global,
-    outer: Outer,
-    second: Outer,
-    words: &mut Words,
-) -> Result<Type, Unread>
-    ensures { GoesOn words.old words.new }
-{
-    let word = words.next()?;
-    match read_inner_scalar(word) {
-        Some(ty) => Ok(outer.around(alloc, second.around(alloc, ty)?)?),
-        None => read_deep(alloc, outer, second, word, words),
-    }
-}
-
-/// The type with two layers and maybe more around what begins with this word.
-#[cycle(reading)]
-fn read_deep(
-    alloc: Global,
-    outer: Outer,
-    second: Outer,
+    outermost: Outer,
     first: &str,
     words: &mut Words,
 ) -> Result<Type, Unread>
     ensures { GoesOn words.old words.new }
 {
     let mut layers = Vec::with_capacity(alloc, 4)?;
-    layers.push(outer)?;
-    layers.push(second)?;
+    layers.push(outermost)?;
     let mut word = first;
     while let Some(layer) = read_outer(word, words)? {
         layers.push(layer)?;
         word = words.next()?;
     }
-    wrap(alloc, &layers, read_innermost(alloc, word, words)?)
+    wrap(alloc, &layers, read_type_at(alloc, word, words)?)
 }
 
 /// The type inside these layers, of which the last is the innermost.
@@ -143,20 +108,6 @@ fn wrap(alloc: Global, layers: &[Outer], innermost: Type) -> Result<Type, Unread
         ty = outer.around(alloc, ty)?;
     }
     Ok(ty)
-}
-
-/// A type without layers that begins with this word.
-#[cycle(reading)]
-fn read_innermost(alloc: Global, word: &str, words: &mut Words) -> Result<Type, Unread>
-    ensures { GoesOn words.old words.new }
-{
-    match read_inner_scalar(word) {
-        Some(ty) => Ok(ty),
-        None => match word {
-            "struct" => read_struct(alloc, words),
-            _ => read_leaf(word, words),
-        },
-    }
 }
 
 /// A layer around a type.
@@ -238,6 +189,7 @@ pub fn read_last_type(alloc: Global, words: &mut Words) -> Result<Type, Unread> 
 
 /// A struct: its name, the number of its members, and the members.
 #[cycle(reading)]
+#[inline(never)]
 fn read_struct(alloc: Global, words: &mut Words) -> Result<Type, Unread>
     ensures { GoesOn words.old words.new }
 {
@@ -279,6 +231,7 @@ fn read_memory(words: &mut Words) -> Result<(AddressSpace, AccessMode), Unread>
 }
 
 /// A leaf type that is no scalar: a type of rays, a sampler or a texture.
+#[inline(never)]
 fn read_leaf(word: &str, words: &mut Words) -> Result<Type, Unread>
     ensures { GoesOn words.old words.new }
 {

@@ -9,25 +9,16 @@ abbrev pub decreases-read_type : goal.decreases-read_type
 decreases-read_type l = 8 * (length l.words.now.text.now - l.words.now.taken)
 
 abbrev pub decreases-read_type_at : goal.decreases-read_type_at
-decreases-read_type_at l = 8 * (length l.words.now.text.now - l.words.now.taken) + 7
+decreases-read_type_at l = 8 * (length l.words.now.text.now - l.words.now.taken) + 5
 
 abbrev pub decreases-read_other : goal.decreases-read_other
-decreases-read_other l = 8 * (length l.words.now.text.now - l.words.now.taken) + 6
+decreases-read_other l = 8 * (length l.words.now.text.now - l.words.now.taken) + 4
 
-abbrev pub decreases-read_within : goal.decreases-read_within
-decreases-read_within l = 8 * (length l.words.now.text.now - l.words.now.taken) + 5
+abbrev pub decreases-read_inside : goal.decreases-read_inside
+decreases-read_inside l = 8 * (length l.words.now.text.now - l.words.now.taken) + 3
 
 abbrev pub decreases-read_layers : goal.decreases-read_layers
-decreases-read_layers l = 8 * (length l.words.now.text.now - l.words.now.taken) + 5
-
-abbrev pub decreases-read_second : goal.decreases-read_second
-decreases-read_second l = 8 * (length l.words.now.text.now - l.words.now.taken) + 4
-
-abbrev pub decreases-read_deep : goal.decreases-read_deep
-decreases-read_deep l = 8 * (length l.words.now.text.now - l.words.now.taken) + 4
-
-abbrev pub decreases-read_innermost : goal.decreases-read_innermost
-decreases-read_innermost l = 8 * (length l.words.now.text.now - l.words.now.taken) + 3
+decreases-read_layers l = 8 * (length l.words.now.text.now - l.words.now.taken) + 6
 
 abbrev pub decreases-read_struct : goal.decreases-read_struct
 decreases-read_struct l = 8 * (length l.words.now.text.now - l.words.now.taken) + 2
@@ -38,8 +29,8 @@ decreases-read_member l = 8 * (length l.words.now.text.now - l.words.now.taken) 
 abbrev pub invariant-read_struct-loop : goal.invariant-read_struct-loop
 invariant-read_struct-loop l = GoesOn l.fn.words l.words
 
-abbrev pub invariant-read_deep-loop-layers : goal.invariant-read_deep-loop-layers
-invariant-read_deep-loop-layers l = shadow (Utf8 l.word) × GoesOn l.fn.words l.words
+abbrev pub invariant-read_layers-loop-layers : goal.invariant-read_layers-loop-layers
+invariant-read_layers-loop-layers l = shadow (Utf8 l.word) × GoesOn l.fn.words l.words
 
-abbrev pub decreases-read_deep-loop-layers : goal.decreases-read_deep-loop-layers
-decreases-read_deep-loop-layers l = length l.words.text.now - l.words.taken
+abbrev pub decreases-read_layers-loop-layers : goal.decreases-read_layers-loop-layers
+decreases-read_layers-loop-layers l = length l.words.text.now - l.words.taken
