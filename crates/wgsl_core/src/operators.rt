@@ -21,7 +21,7 @@ pub mod resolve;
 use crate::error::{Error, Fail};
 use crate::operators::resolve::{Resolution, resolve_operator};
 use crate::ty::Type;
-use crate::ty::clone::boxed_copy;
+use crate::ty::clone::{boxed_copy, copy};
 use crate::ty::form::Form;
 use std::alloc::{AllocError, Global};
 use wgsl_syntax::address::AddressSpace;
@@ -272,8 +272,8 @@ fn refuse_binary(
     ensures names { IfOk result (λ e. refusal e ≡ binary operator (view lhs.now) (view rhs.now)) }
     ensures never_out_of_memory { IsLeaf (view lhs.now) → IsLeaf (view rhs.now) → IsOk result }
 {
-    let lhs = lhs.clone(alloc)?;
-    let rhs = rhs.clone(alloc)?;
+    let lhs = copy(alloc, lhs)?;
+    let rhs = copy(alloc, rhs)?;
     Ok(Error::Binary(operator, lhs, rhs))
 }
 
@@ -369,7 +369,7 @@ fn own_if(alloc: Global, operator: UnaryOperator, ty: &Type, holds: bool) -> Res
     ensures never_out_of_memory { IsLeaf (view ty.now) → IsAnswered result }
 {
     if holds {
-        Ok(ty.clone(alloc)?)
+        Ok(copy(alloc, ty)?)
     } else {
         Err(Fail::Error(refuse_unary(alloc, operator, ty)?))
     }

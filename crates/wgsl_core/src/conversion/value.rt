@@ -7,6 +7,7 @@ ghost use Rattle.wgsl_core.specs.Converted.{converted, NeedsNoMemory};
 
 use crate::conversion::typed::Ty;
 use crate::ty::Type;
+use crate::ty::clone::copy;
 use crate::ty::form::around;
 use std::alloc::{AllocError, Global};
 use wgsl_syntax::layer::Layer;
@@ -98,7 +99,7 @@ fn copy_if(alloc: Global, holds: bool, ty: &Type) -> Result<Option<Type>, AllocE
         → IsOk result }
 {
     if holds {
-        Ok(Some(ty.clone(alloc)?))
+        Ok(Some(copy(alloc, ty)?))
     } else {
         Ok(None)
     }

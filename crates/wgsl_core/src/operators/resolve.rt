@@ -8,10 +8,11 @@ ghost use Rattle.wgsl_rules.specs.conversion.Conversion.{ConvertsTo};
 ghost use Rattle.wgsl_rules.specs.operators.Candidates.{IsArithmetic, IsSum, IsComparison, IsLogical, IsBitwise, IsOrAnd, IsShift};
 ghost use Rattle.wgsl_rules.specs.operators.Answers.{HasCandidate};
 ghost use Rattle.wgsl_core.specs.View.{view};
-ghost use Rattle.wgsl_core.specs.internal.Resolution.{around, element_view, resolved_view, resolution_view, IsInLayers, compared_at, shifted_at};
+ghost use Rattle.wgsl_core.specs.internal.Resolution.{around, resolved_view, resolution_view, IsInLayers, compared_at, shifted_at};
 
 use crate::conversion::convert_ty;
 use crate::ty::Type;
+use crate::ty::clone::copy;
 use crate::ty::form::{Form, around as wrapped};
 use std::alloc::{AllocError, Global};
 use wgsl_syntax::layer::Layer;
@@ -40,24 +41,6 @@ pub struct Resolution<'a> {
     pub result: ResolvedType<'a>,
 }
 
-impl Element<'_> {
-    /// Builds the type in memory, a scalar at once.
-    #[inline(always)]
-    #[tactic(auto, using(crate::proofs::Scalars::scalar_is))]
-    fn build(self, alloc: Global) -> Result<Type, AllocError>
-        ensures same { IfOk result (λ t. view t ≡ element_view self.entry) }
-        ensures never_out_of_memory { IsLeaf (element_view self.entry) → IsOk result }
-    {
-        match self {
-            Element::Scalar(scalar) => Ok(Type::from(scalar)),
-            Element::Type(ty) => match ty.scalar() {
-                Some(scalar) => Ok(Type::from(scalar)),
-                None => ty.clone(alloc),
-            },
-        }
-    }
-}
-
 impl<'a> ResolvedType<'a> {
     fn of(ty: &'a Type) -> ResolvedType<'a>
         ensures { resolved_view result ≡ view ty.now }
@@ -83,16 +66,18 @@ impl<'a> ResolvedType<'a> {
         ensures same { IfOk result (λ t. view t ≡ resolved_view self.entry) }
         ensures never_out_of_memory { IsLeaf (resolved_view self.entry) → IsOk result }
     {
+        let ty = match self.element {
+            Element::Scalar(scalar) => Type::from(scalar),
+            Element::Type(ty) => copy(alloc, ty)?,
+        };
         match self.layer {
-            None => self.element.build(alloc),
-            Some(layer) => wrapped(alloc, layer, self.element.build(alloc)?),
+            None => Ok(ty),
+            Some(layer) => wrapped(alloc, layer, ty),
         }
     }
 }
 
 /// The candidate of the operator for two operands, if some row takes them.
-///
-/// The functions of the rows are not inlined, so that no call prepares the candidates of the others.
 pub fn resolve_operator<'a>(
     operator: BinaryOperator,
     a: &'a Type,
@@ -121,7 +106,6 @@ pub fn resolve_operator<'a>(
 }
 
 /// The short-circuit operators, `||` and `&&`.
-#[inline(never)]
 fn logical<'a>(a: &'a Type, b: &'a Type) -> Option<Resolution<'a>>
     ensures { (o : BinaryOperator) → IsLogical o
         → HasCandidate o (view a.now) (view b.now) (option_map resolution_view result) }
@@ -144,7 +128,6 @@ fn are_bools(a: &Type, b: &Type) -> bool
 }
 
 /// `+`, `-`, `*`, `/` and `%`.
-#[inline(never)]
 fn arithmetic<'a>(operator: BinaryOperator, a: &'a Type, b: &'a Type) -> Option<Resolution<'a>>
     ensures { IsArithmetic operator
         → HasCandidate operator (view a.now) (view b.now) (option_map resolution_view result) }
@@ -188,7 +171,6 @@ fn arithmetic<'a>(operator: BinaryOperator, a: &'a Type, b: &'a Type) -> Option<
 }
 
 /// An arithmetic operator with a matrix of `c` columns, `r` rows and element `e` on the left.
-#[inline(never)]
 fn matrix_by<'a>(
     operator: BinaryOperator,
     c: u8,
@@ -288,7 +270,6 @@ fn in_layers<'a>(
 }
 
 /// `==`, `!=`, `<`, `<=`, `>` and `>=`.
-#[inline(never)]
 fn comparison<'a>(a: &'a Type, b: &'a Type) -> Option<Resolution<'a>>
     ensures { (o : BinaryOperator) → IsComparison o
         → HasCandidate o (view a.now) (view b.now) (option_map resolution_view result) }
@@ -313,7 +294,6 @@ fn compared(ty: &Type, layer: Option<Layer>) -> Resolution<'_>
 }
 
 /// `|`, `&` and `^`.
-#[inline(never)]
 fn bits<'a>(operator: BinaryOperator, a: &'a Type, b: &'a Type) -> Option<Resolution<'a>>
     ensures { IsBitwise operator
         → HasCandidate operator (view a.now) (view b.now) (option_map resolution_view result) }
@@ -364,7 +344,6 @@ fn is_bool_vector(ty: &Type) -> bool
 }
 
 /// `<<` and `>>`.
-#[inline(never)]
 fn shift<'a>(a: &'a Type, b: &'a Type) -> Option<Resolution<'a>>
     ensures { (o : BinaryOperator) → IsShift o
         → HasCandidate o (view a.now) (view b.now) (option_map resolution_view result) }
