@@ -179,7 +179,11 @@ fn given(
     }
 }
 
-fn concrete(alloc: Global, found: Option<Element<'_>>, call: &Call<'_>) -> Result<Option<Type>, Fail>
+fn concrete(
+    alloc: Global,
+    found: Option<Element<'_>>,
+    call: &Call<'_>,
+) -> Result<Option<Type>, Fail>
     ensures { IsMet (given_for (signature_of call.now)
         (option_map concretized (option_map element_view found.entry))) result }
 {

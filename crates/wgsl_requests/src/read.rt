@@ -6,7 +6,7 @@ use crate::words::{Unread, Words};
 use std::alloc::{AllocError, Global};
 use std::str::FromStr;
 use wgsl_types::syntax::{
-    AccelerationStructureFlags, AccessMode, AddressSpace, SampledType, TexelFormat,
+    AccelerationStructureFlags, AccessMode, AddressSpace, SampledType, Scalar, TexelFormat,
 };
 use wgsl_types::ty::{SamplerType, StructMemberType, StructType, TextureType, Type};
 
@@ -40,18 +40,9 @@ pub fn read_type_at(alloc: Global, word: &str, words: &mut Words) -> Result<Type
 
 #[inline(always)]
 fn read_scalar(word: &str) -> Option<Type> {
-    match word {
-        "bool" => Some(Type::Bool),
-        "AbstractInt" => Some(Type::AbstractInt),
-        "AbstractFloat" => Some(Type::AbstractFloat),
-        "i32" => Some(Type::I32),
-        "u32" => Some(Type::U32),
-        "f32" => Some(Type::F32),
-        "f16" => Some(Type::F16),
-        "i64" => Some(Type::I64),
-        "u64" => Some(Type::U64),
-        "f64" => Some(Type::F64),
-        _ => None,
+    match Scalar::from_str(word) {
+        Ok(scalar) => Some(Type::from(scalar)),
+        Err(_) => None,
     }
 }
 
