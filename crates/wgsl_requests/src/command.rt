@@ -190,56 +190,48 @@ fn write_layout_of(alloc: Global, ty: &Type, text: &mut String) -> Result<(), Un
     Ok(write_layout(alloc, read, text)?)
 }
 
-/// The name of a constructor or a built-in function, and the template after it.
+/// The name of a constructor or a built-in function, with its template and the types of its arguments.
 #[derive(Drop)]
 struct Callee<'t> {
     name: &'t str,
     template: Option<Vec<TpltParam>>,
+    types: Vec<Type>,
 }
 
 fn read_callee<'t>(alloc: Global, words: &mut Words<'t>) -> Result<Callee<'t>, Unread> {
     let name = words.next()?;
     let template = read_template(alloc, words)?;
-    Ok(Callee { name, template })
+    let types = read_types(alloc, words)?;
+    Ok(Callee {
+        name,
+        template,
+        types,
+    })
 }
 
 /// `ctor NAME P T..`: the type that the constructor makes, or why it makes none.
 fn ctor(alloc: Global, words: &mut Words, text: &mut String) -> Result<(), Unread> {
     let callee = read_callee(alloc, words)?;
-    let written = write_ctor(alloc, &callee, words, text);
+    let made = type_ctor(
+        alloc,
+        callee.name,
+        callee.template.as_deref(),
+        &callee.types,
+    );
     drop(callee);
-    written
-}
-
-fn write_ctor(
-    alloc: Global,
-    callee: &Callee,
-    words: &mut Words,
-    text: &mut String,
-) -> Result<(), Unread> {
-    let types = read_types(alloc, words)?;
-    let made = type_ctor(alloc, callee.name, callee.template.as_deref(), &types);
-    drop(types);
     Ok(write_type_or_refusal(text, made)?)
 }
 
 /// `call NAME P T..`: the type of the call, or why it has none; `no value` if it gives none.
 fn call(alloc: Global, words: &mut Words, text: &mut String) -> Result<(), Unread> {
     let callee = read_callee(alloc, words)?;
-    let written = write_call(alloc, &callee, words, text);
+    let answer = type_builtin_fn(
+        alloc,
+        callee.name,
+        callee.template.as_deref(),
+        &callee.types,
+    );
     drop(callee);
-    written
-}
-
-fn write_call(
-    alloc: Global,
-    callee: &Callee,
-    words: &mut Words,
-    text: &mut String,
-) -> Result<(), Unread> {
-    let types = read_types(alloc, words)?;
-    let answer = type_builtin_fn(alloc, callee.name, callee.template.as_deref(), &types);
-    drop(types);
     Ok(write_value_or_refusal(text, answer)?)
 }
 
