@@ -9,7 +9,7 @@ ghost use Rattle.std.specs.Prelude.{◌≡◌, ◌≢◌, ◌⊎◌, ◌<◌, �
 ghost use Rattle.std.specs.declared.alloc.AllocError.{AllocError};
 ghost use Rattle.wgsl_requests.specs.Words.{has_forbidden, words_of};
 ghost use Rattle.wgsl_requests.specs.declared.request.Reply.{Reply};
-ghost use Rattle.wgsl_c.specs.HandOver.{IsHandedOver, IsReplyTo, IsStatus};
+ghost use Rattle.wgsl_c.specs.HandOver.{IsHandedOver, IsPromised, IsStatus};
 
 use hand_over::hand_over;
 use std::alloc::Global;
@@ -28,7 +28,7 @@ pub extern "C" fn wgsl_answer(
     text_len: &mut usize,
 ) -> u8
     // The reply to the request is handed over, and what holds of it is said again.
-    ensures reply { (reply : Result Reply AllocError) × IsReplyTo request.now reply
+    ensures reply { (reply : Result Reply AllocError) × IsPromised request.now reply
         × IsHandedOver reply answer.old answer.new text_len.new result }
 
     ensures status { IsStatus result }
@@ -43,5 +43,5 @@ pub extern "C" fn wgsl_answer(
     ensures no_text { ¬ All IsUtf8 (words_of request.now) → (result ≡ 2) ⊎ (result ≡ 3) }
     ensures no_words { words_of request.now ≡ [] → (result ≡ 2) ⊎ (result ≡ 3) }
 {
-    hand_over(&reply_to(alloc, 1, request), answer, text_len)
+    hand_over(&reply_to(alloc, request), answer, text_len)
 }

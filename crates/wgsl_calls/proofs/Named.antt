@@ -32,11 +32,6 @@ pub by_none : (c : Signature) (rows : List Row) (p : Option (List Parameter)) (r
     Chooses rows c None → IsMet (Err (signature c)) r → Answered (IsCallAnswer c) p r
 by_none c rows p r e h k = by_name c rows p r e (by_answer (IsAnswerOf rows c) p (Err (signature c)) r h k)
 
-pub unnamed : (c : Signature) (p : Option (List Parameter)) (r : Result (Option «Type») Fail) → [] ≡ rows_named c.name call_table → IsMet (Err (signature c)) r →
-    Answered (IsCallAnswer c) p r
-unfolding IsCallAnswer
-unnamed c p r e k = by_answer (IsCallAnswer c) p (Err (signature c)) r (subst (λ rows. IsAnswerOf rows c (Err (signature c))) e refl) k
-
 pub row_answered : (c : Signature) (r : Result (Option «Type») Fail) → Answered (IsCallAnswer c) c.template r → AnswersAs (option_map view) (IsCallAnswer c) r
 row_answered c (Ok t) k = k
 row_answered c (Err (fails.Error e)) k = k

@@ -6,6 +6,7 @@ ghost use Rattle.wgsl_rules.specs.errors.Refusals.{signature};
 ghost use Rattle.wgsl_rules.specs.calls.ResultTypes.{exchange_struct, ray_intersection_struct, hit_positions_type};
 ghost use Rattle.wgsl_rules.specs.calls.Rows.{IsResultFor, IsFromTemplate, IsReturnType, return_type_of as return_type_of_row, given as given_for};
 ghost use Rattle.wgsl_rules.specs.templates.Templates.{IsBitcastTemplate};
+ghost use Rattle.wgsl_rules.specs.calls.Table.{call_table, rows_named};
 ghost use Rattle.wgsl_rules.specs.calls.Answers.{IsCallAnswer, IsLeastCallAnswer, IsLeafCall};
 ghost use Rattle.wgsl_core.specs.View.{view};
 ghost use Rattle.wgsl_core.specs.Instances.{parameter_view, call_view};
@@ -79,17 +80,25 @@ pub fn type_builtin_fn(
 fn answer(alloc: Global, call: &Call<'_>) -> Result<Option<Type>, Fail>
     ensures { Answered (IsCallAnswer (signature_of call.now)) (template_of call.now) result }
 {
-    match rows_of(call.name) {
-        Some(rows) => match chosen(rows, call) {
-            Some(return_type) => by_return_type(alloc, return_type, call),
-            None => refuse(alloc, call),
-        },
+    match chosen(call) {
+        Some(return_type) => by_return_type(alloc, return_type, call),
         None => refuse(alloc, call),
     }
 }
 
-/// What the first row that takes the call returns.
-fn chosen(rows: &Rows, call: &Call<'_>) -> Option<ReturnType>
+/// What the first row of the call's name that takes the call returns.
+fn chosen(call: &Call<'_>) -> Option<ReturnType>
+    ensures { Chooses (rows_named (signature_of call.now).name call_table)
+        (signature_of call.now) result }
+{
+    match rows_of(call.name) {
+        Some(rows) => chosen_of(rows, call),
+        None => None,
+    }
+}
+
+/// What the first of the rows that takes the call returns.
+fn chosen_of(rows: &Rows, call: &Call<'_>) -> Option<ReturnType>
     ensures { Chooses (rows_view rows.now) (signature_of call.now) result }
 {
     match rows {
@@ -123,6 +132,7 @@ fn return_type(row: &Row) -> ReturnType
     }
 }
 
+#[inline(never)]
 fn refuse(alloc: Global, call: &Call<'_>) -> Result<Option<Type>, Fail>
     ensures { IsMet (Err (signature (signature_of call.now))) result }
 {
@@ -165,6 +175,7 @@ fn by_return_type(
 }
 
 /// The type found, or the refusal if there is none.
+#[inline(always)]
 fn given(
     alloc: Global,
     found: Option<ResolvedType<'_>>,

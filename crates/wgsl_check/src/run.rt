@@ -1,14 +1,15 @@
 // Lines in, answers out.
-ghost use Rattle.std.specs.Prelude.{◌≡◌, ◌+◌, ◌-◌, ◌^◌, ◌<◌, ◌≤◌, [], All, IfOk, IsOk, IsOkUnless, IsUtf8, Ok, OnErr, OnOk, min, string_bytes, true, vec_len};
+ghost use Rattle.std.specs.Prelude.{◌≡◌, ◌+◌, ◌-◌, ◌^◌, ◌++◌, ℕ, List, [], IfErr, IfOk, IfSome, IsOk, IsOkUnless, OnErr, OnOk, MatchResult, Option, min, string_bytes};
 ghost use Rattle.std.specs.Io.KnownBytes.{Appends};
+ghost use Rattle.wgsl_check.specs.Output.{Prints, PrintsUntil, bad_line};
 ghost use Rattle.wgsl_check.specs.Status.{status_of};
-ghost use Rattle.wgsl_requests.specs.Words.{has_forbidden, words_of};
-ghost use Rattle.wgsl_check.specs.Output.{bad_line};
+ghost use Rattle.wgsl_check.specs.declared.run.RunError.TheVariants.{Memory};
+ghost use Rattle.wgsl_requests.specs.Replies.{IsReplyTo, reply_of_kind};
 
 use crate::line::{Line, split_line};
 use std::alloc::{AllocError, Global};
 use std::io::{ErrorKind, Read, Write};
-use wgsl_requests::request::{LONGEST, ReplyKind, write_reply};
+use wgsl_requests::request::{ReplyKind, write_reply};
 
 /// Why a run stopped.
 #[derive(Clone, Copy, Debug, PartialEq, Eq)]
@@ -22,6 +23,8 @@ pub enum RunError {
 }
 
 impl From<AllocError> for RunError {
+    ghost from_gives = { λ e error. error ≡ Memory };
+
     fn from(_e: AllocError) -> RunError {
         RunError::Memory
     }
@@ -37,7 +40,14 @@ pub fn run<R: Read, W: Write>(
     alloc: Global,
     input: &mut R,
     output: &mut W,
-) -> Result<bool, RunError> {
+) -> Result<bool, RunError>
+    ensures printed { IfOk result (λ readable. IfSome (R.remaining input.old) (λ bytes.
+        (text : List ℕ) × Prints bytes text readable
+        × Appends (W.contents output.old) (W.contents output.new) text)) }
+    ensures beginning { IfErr result (λ error. IfSome (R.remaining input.old) (λ bytes.
+        (text : List ℕ) × PrintsUntil error bytes text
+        × Appends (W.contents output.old) (W.contents output.new) text)) }
+{
     Session::new(alloc)?.answer_all(input, output)
 }
 
@@ -65,7 +75,7 @@ struct Session {
 }
 
 impl Session {
-    ghost use Rattle.wgsl_check.specs.Session.{AddsBadLine, IsAtStart, IsUnanswered};
+    ghost use Rattle.wgsl_check.specs.Session.{AnswersLine, HasPrinted, HasStopped, HasTaken, IsAtStart, IsBetween, StopsAfter};
 
     fn new(alloc: Global) -> Result<Session, AllocError>
         ensures { IfOk result IsAtStart }
@@ -83,21 +93,17 @@ impl Session {
         &mut self,
         input: &mut R,
         output: &mut W,
-    ) -> Result<bool, RunError> {
+    ) -> Result<bool, RunError>
+        ensures { IsAtStart self.old → IfSome (R.remaining input.old) (λ bytes.
+            MatchResult result
+            (HasPrinted bytes (W.contents output.old) (W.contents output.new))
+            (HasStopped bytes (W.contents output.old) (W.contents output.new))) }
+    {
         let mut block = [0u8; BLOCK];
         for _ in 0..u64::MAX {
             match input.read(&mut block) {
-                Ok(0) => {
-                    let ended = self.end_line();
-                    self.write_answers(output)?;
-                    ended?;
-                    return Ok(self.all_readable);
-                }
-                Ok(count) => {
-                    let taken = self.take(&block[..count]);
-                    self.write_answers(output)?;
-                    taken?;
-                }
+                Ok(0) => return self.answer_last(output),
+                Ok(count) => self.answer_block(&block[..count], output)?,
                 Err(e) if e.kind() == ErrorKind::Interrupted => {}
                 Err(_) => return Err(RunError::Read),
             }
@@ -105,8 +111,43 @@ impl Session {
         Err(RunError::Read)
     }
 
+    /// Answers the lines that end in what one read gave, and writes the answers.
+    fn answer_block<W: Write>(&mut self, block: &[u8], output: &mut W) -> Result<(), RunError>
+        ensures { (bytes : List ℕ) (start : Option (List ℕ))
+            → IsBetween bytes start (W.contents output.old) self.old
+            → MatchResult result
+            (λ _. IsBetween (bytes ++ block.now) start (W.contents output.new) self.new)
+            (λ error. (more : List ℕ)
+            → HasStopped (bytes ++ block.now ++ more) start (W.contents output.new) error) }
+    {
+        let taken = self.take(block);
+        self.write_answers(output)?;
+        Ok(taken?)
+    }
+
+    /// Answers the last line, writes the answer, and says whether every line was readable.
+    fn answer_last<W: Write>(&mut self, output: &mut W) -> Result<bool, RunError>
+        ensures { (bytes : List ℕ) (start : Option (List ℕ))
+            → IsBetween bytes start (W.contents output.old) self.old
+            → MatchResult result
+            (HasPrinted bytes start (W.contents output.new))
+            (HasStopped bytes start (W.contents output.new)) }
+    {
+        let ended = self.end_line();
+        self.write_answers(output)?;
+        ended?;
+        Ok(self.all_readable)
+    }
+
     /// Takes the next bytes of the input, and gathers the answers to the lines that end in them.
-    fn take(&mut self, block: &[u8]) -> Result<(), AllocError> {
+    fn take(&mut self, block: &[u8]) -> Result<(), AllocError>
+        ensures taken { (bytes before : List ℕ) → HasTaken bytes before self.old
+            → OnOk result (HasTaken (bytes ++ block.now) before self.new) }
+        // Also if memory is refused.
+        ensures so_far { (bytes before : List ℕ) → HasTaken bytes before self.old
+            → StopsAfter RunError.Memory (bytes ++ block.now)
+            (before ++ string_bytes self.new.answers) }
+    {
         let mut rest = block;
         while let Some((line, after)) = split_line(rest) {
             self.line.extend(line);
@@ -123,15 +164,7 @@ impl Session {
         ensures number { OnOk result
             (self.new.line.number ≡ min (self.old.line.number + 1) (2 ^ 64 - 1)) }
 
-        ensures too_long { LONGEST < vec_len self.old.line.bytes
-            → OnOk result (AddsBadLine self.old self.new) }
-        ensures forbidden { has_forbidden self.old.line.bytes.items ≡ true
-            → OnOk result (AddsBadLine self.old self.new) }
-        ensures no_text { ¬ All IsUtf8 (words_of self.old.line.bytes.items)
-            → OnOk result (AddsBadLine self.old self.new) }
-        ensures no_words { vec_len self.old.line.bytes ≤ LONGEST
-            → words_of self.old.line.bytes.items ≡ []
-            → OnOk result (IsUnanswered self.old self.new) }
+        ensures answered { OnOk result (AnswersLine self.old self.new) }
 
         // An answer is gathered whole or not at all.
         ensures err { OnErr result (string_bytes self.new.answers ≡ string_bytes self.old.answers) }
@@ -161,32 +194,51 @@ impl Session {
         ensures empty { OnOk result (string_bytes self.new.answers ≡ []) }
         ensures line { self.new.line ≡ self.old.line }
         ensures all_readable { self.new.all_readable ≡ self.old.all_readable }
+        ensures cut { OnErr result ((text : List ℕ) × (rest : List ℕ)
+            × (string_bytes self.old.answers ≡ text ++ rest)
+            × Appends (W.contents output.old) (W.contents output.new) text) }
         ensures err { IsOkUnless result RunError.Write }
         ensures nothing { string_bytes self.old.answers ≡ [] → IsOk result }
     {
         if self.answers.is_empty() {
             return Ok(());
         }
-        output
-            .write_all(self.answers.as_bytes())
-            .map_err(|_e| RunError::Write)?;
+        write_whole(output, self.answers.as_bytes())?;
         output.flush().map_err(|_e| RunError::Write)?;
         self.answers.clear();
         Ok(())
     }
 }
 
+/// Writes all of the bytes, or a beginning of them if a write fails.
+fn write_whole<W: Write>(output: &mut W, bytes: &[u8]) -> Result<(), RunError>
+    ensures written { OnOk result
+        (Appends (W.contents output.old) (W.contents output.new) bytes.now) }
+    ensures cut { OnErr result ((text : List ℕ) × (rest : List ℕ) × (bytes.now ≡ text ++ rest)
+        × Appends (W.contents output.old) (W.contents output.new) text) }
+    ensures err { IsOkUnless result RunError.Write }
+{
+    let mut rest = bytes;
+    for _ in 0..u64::MAX {
+        if rest.is_empty() {
+            return Ok(());
+        }
+        match output.write(rest) {
+            Ok(0) => return Err(RunError::Write),
+            Ok(count) => rest = &rest[count..],
+            Err(e) if e.kind() == ErrorKind::Interrupted => {}
+            Err(_) => return Err(RunError::Write),
+        }
+    }
+    Err(RunError::Write)
+}
+
 /// The kind of the reply to a line; an answer is written at the end of the text.
 fn write_reply_to(alloc: Global, line: &Line, text: &mut String) -> Result<ReplyKind, AllocError>
-    ensures too_long { LONGEST < vec_len line.now.bytes → result ≡ Ok ReplyKind.Unreadable }
-    ensures forbidden { has_forbidden line.now.bytes.items ≡ true
-        → result ≡ Ok ReplyKind.Unreadable }
-    ensures no_text { ¬ All IsUtf8 (words_of line.now.bytes.items)
-        → result ≡ Ok ReplyKind.Unreadable }
-    ensures no_words { vec_len line.now.bytes ≤ LONGEST → words_of line.now.bytes.items ≡ []
-        → result ≡ Ok ReplyKind.Nothing }
+    ensures { string_bytes text.old ≡ [] → IfOk result (λ kind.
+        IsReplyTo line.now.bytes.items (reply_of_kind kind (string_bytes text.new))) }
 {
-    write_reply(alloc, line.number, &line.bytes, text)
+    write_reply(alloc, &line.bytes, text)
 }
 
 /// What is printed for a line that can't be read.

@@ -1,5 +1,4 @@
 // What no clause says: which lines are answered how, and what a read or a write that fails comes to.
-mod built_ins;
 mod calls;
 mod candidates;
 mod constructors;
@@ -10,12 +9,9 @@ mod hostile;
 mod hostile_values;
 mod layout;
 mod names;
-mod operators;
 mod ranks;
 mod refusals;
 mod session;
 mod support;
 mod sweeps;
 mod templates;
-mod types;
-mod vector_constructors;

@@ -263,6 +263,7 @@ pub fn type_binary_op(
     }
 }
 
+#[inline(never)]
 fn refuse_binary(
     alloc: Global,
     operator: BinaryOperator,

@@ -1,2 +1,12 @@
+pub mod Answers
+pub mod Grammar
+pub mod Laws
+pub mod Layouts
+pub mod Numbers
+pub mod Reading
+pub mod Replies
+pub mod Requests
+pub mod Templates
+pub mod Texts
 pub mod Words
 pub mod internal

@@ -1,1 +1,6 @@
+pub mod Layers
+pub mod Leaves
+pub mod Replied
+pub mod Structs
 pub mod Taken
+pub mod Written

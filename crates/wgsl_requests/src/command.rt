@@ -1,10 +1,25 @@
 // What the program answers to a command.
-use crate::read::{read_last_type, read_pair, read_type_at, read_types};
+ghost use Rattle.std.specs.Prelude.{◌≡◌, ◌++◌, ◌∷◌, IfOk, MatchBool, Ok, OnOk, codes, map, option_map, string_bytes};
+ghost use Rattle.wgsl_syntax.specs.Operator.{binary_text, unary_text};
+ghost use Rattle.wgsl_rules.specs.types.Signatures.{Signature};
+ghost use Rattle.wgsl_rules.specs.types.Spelling.{spelling};
+ghost use Rattle.wgsl_rules.specs.errors.Refusals.{message};
+ghost use Rattle.wgsl_core.specs.View.{view};
+ghost use Rattle.wgsl_requests.specs.Answers.{IsCommonText, IsReply};
+ghost use Rattle.wgsl_requests.specs.Layouts.{IsLayoutText, IsOffsetsText, spaced};
+ghost use Rattle.wgsl_requests.specs.Reading.{Answers, ReadsWord};
+ghost use Rattle.wgsl_requests.specs.Requests.{IsCallee, NoRequest};
+ghost use Rattle.wgsl_requests.specs.Texts.{number_or_none, type_or_message, value_or_message};
+ghost use Rattle.wgsl_requests.specs.internal.Replied.{Replies, WritesOfStruct, callee_view};
+ghost use Rattle.wgsl_requests.specs.internal.Taken.{left};
+ghost use Rattle.wgsl_requests.specs.internal.Written.{Adds, IsRefusal, Shows};
+
+use crate::common::common_type;
+use crate::read::{read_last_type, read_pair, read_types};
 use crate::report::write_layout;
 use crate::template::read_template;
 use crate::words::{Unread, Words};
 use std::alloc::{AllocError, Global};
-use wgsl_typed::typed::{Typed, convert_to_common};
 use wgsl_types::builtin::{type_binary_op, type_builtin_fn, type_ctor, type_unary_op};
 use wgsl_types::conv::conversion_rank;
 use wgsl_types::error::Fail;
@@ -12,15 +27,18 @@ use wgsl_types::syntax::{BinaryOperator, UnaryOperator};
 use wgsl_types::tplt::TpltParam;
 use wgsl_types::ty::Type;
 
-/// Writes the answer to the command and the words after it, of the line of this number; false if they are no command.
+/// Writes the answer to the command and the words after it; false if they are no command.
 pub fn write_answer(
     alloc: Global,
-    line: u64,
     command: &str,
     words: &mut Words,
     text: &mut String,
-) -> Result<bool, AllocError> {
-    match answer_command(alloc, line, command, words, text) {
+) -> Result<bool, AllocError>
+    ensures { IfOk result (λ done. MatchBool done
+        (Adds (IsReply (command.now ∷ left words.old)) (string_bytes text.old) (string_bytes text.new))
+        (NoRequest (command.now ∷ left words.old))) }
+{
+    match answer_command(alloc, command, words, text) {
         Ok(()) => Ok(true),
         Err(Unread::Word) => Ok(false),
         Err(Unread::Memory(e)) => Err(e),
@@ -29,14 +47,16 @@ pub fn write_answer(
 
 fn answer_command(
     alloc: Global,
-    line: u64,
     command: &str,
     words: &mut Words,
     text: &mut String,
-) -> Result<(), Unread> {
+) -> Result<(), Unread>
+    ensures { Replies (command.now ∷ left words.old)
+        (string_bytes text.old) (string_bytes text.new) result }
+{
     match command {
         "rank" => rank(alloc, words, text),
-        "common" => common(alloc, line, words, text),
+        "common" => common(alloc, words, text),
         "unary" => unary(alloc, words, text),
         "binary" => binary(alloc, words, text),
         "size" => size(alloc, words, text),
@@ -49,7 +69,10 @@ fn answer_command(
 }
 
 /// `rank T U`: the rank of the conversion.
-fn rank(alloc: Global, words: &mut Words, text: &mut String) -> Result<(), Unread> {
+fn rank(alloc: Global, words: &mut Words, text: &mut String) -> Result<(), Unread>
+    ensures { Replies (codes "rank" ∷ left words.old)
+        (string_bytes text.old) (string_bytes text.new) result }
+{
     let types = read_pair(alloc, words)?;
     let rank = conversion_rank(&types[0], &types[1]);
     drop(types);
@@ -57,53 +80,43 @@ fn rank(alloc: Global, words: &mut Words, text: &mut String) -> Result<(), Unrea
 }
 
 /// `common T..`: the common type of all.
-fn common(alloc: Global, line: u64, words: &mut Words, text: &mut String) -> Result<(), Unread> {
-    let types = read_typed(alloc, line, words)?;
-    let written = write_common(alloc, &types, text);
+fn common(alloc: Global, words: &mut Words, text: &mut String) -> Result<(), Unread>
+    ensures { Replies (codes "common" ∷ left words.old)
+        (string_bytes text.old) (string_bytes text.new) result }
+{
+    let types = read_types(alloc, words)?;
+    let written = write_common(&types, text);
     drop(types);
     Ok(written?)
 }
 
-/// The types that all words that are left stand for, on the line of this number.
-fn read_typed(alloc: Global, line: u64, words: &mut Words) -> Result<Vec<Typed>, Unread> {
-    let mut types = Vec::with_capacity(alloc, 4)?;
-    while let Ok(word) = words.next() {
-        let ty = read_type_at(alloc, word, words)?;
-        types.push(Typed { ty, line })?;
-    }
-    Ok(types)
-}
-
 /// Writes the common type, or `none`.
-fn write_common(alloc: Global, types: &[Typed], text: &mut String) -> Result<(), AllocError> {
-    match convert_to_common(alloc, types)? {
-        Some(converted) => {
-            let written = write_first(&converted, text);
-            drop(converted);
-            written
-        }
-        None => text.push_str("none"),
-    }
-}
-
-fn write_first(types: &[Typed], text: &mut String) -> Result<(), AllocError> {
-    match types.first() {
-        Some(first) => write_type(text, &first.ty),
+fn write_common(types: &[Type], text: &mut String) -> Result<(), AllocError>
+    ensures { OnOk result (Adds (IsCommonText (map view types.now))
+        (string_bytes text.old) (string_bytes text.new)) }
+{
+    match common_type(types) {
+        Some(common) => write_type(text, common),
         None => text.push_str("none"),
     }
 }
 
 /// `unary OP T`: the type of the expression, or why it has none.
-fn unary(alloc: Global, words: &mut Words, text: &mut String) -> Result<(), Unread> {
-    let operator = read_unary(words)?;
+fn unary(alloc: Global, words: &mut Words, text: &mut String) -> Result<(), Unread>
+    ensures { Replies (codes "unary" ∷ left words.old)
+        (string_bytes text.old) (string_bytes text.new) result }
+{
+    let operator = unary_operator(words.next()?)?;
     let operand = read_last_type(alloc, words)?;
     let answer = type_unary_op(alloc, operator, &operand);
     drop(operand);
     Ok(write_type_or_refusal(text, answer)?)
 }
 
-fn read_unary(words: &mut Words) -> Result<UnaryOperator, Unread> {
-    match words.next()? {
+fn unary_operator(word: &str) -> Result<UnaryOperator, Unread>
+    ensures { ReadsWord (λ word operator. word ≡ unary_text operator) word.now result }
+{
+    match word {
         "!" => Ok(UnaryOperator::LogicalNegation),
         "-" => Ok(UnaryOperator::Negation),
         "~" => Ok(UnaryOperator::BitwiseComplement),
@@ -114,16 +127,21 @@ fn read_unary(words: &mut Words) -> Result<UnaryOperator, Unread> {
 }
 
 /// `binary OP T U`: the type of the expression, or why it has none.
-fn binary(alloc: Global, words: &mut Words, text: &mut String) -> Result<(), Unread> {
-    let operator = read_binary(words)?;
+fn binary(alloc: Global, words: &mut Words, text: &mut String) -> Result<(), Unread>
+    ensures { Replies (codes "binary" ∷ left words.old)
+        (string_bytes text.old) (string_bytes text.new) result }
+{
+    let operator = binary_operator(words.next()?)?;
     let types = read_pair(alloc, words)?;
     let answer = type_binary_op(alloc, operator, &types[0], &types[1]);
     drop(types);
     Ok(write_type_or_refusal(text, answer)?)
 }
 
-fn read_binary(words: &mut Words) -> Result<BinaryOperator, Unread> {
-    match words.next()? {
+fn binary_operator(word: &str) -> Result<BinaryOperator, Unread>
+    ensures { ReadsWord (λ word operator. word ≡ binary_text operator) word.now result }
+{
+    match word {
         "||" => Ok(BinaryOperator::ShortCircuitOr),
         "&&" => Ok(BinaryOperator::ShortCircuitAnd),
         "+" => Ok(BinaryOperator::Addition),
@@ -147,7 +165,10 @@ fn read_binary(words: &mut Words) -> Result<BinaryOperator, Unread> {
 }
 
 /// `size T`: the size and the alignment.
-fn size(alloc: Global, words: &mut Words, text: &mut String) -> Result<(), Unread> {
+fn size(alloc: Global, words: &mut Words, text: &mut String) -> Result<(), Unread>
+    ensures { Replies (codes "size" ∷ left words.old)
+        (string_bytes text.old) (string_bytes text.new) result }
+{
     let ty = read_last_type(alloc, words)?;
     let size = ty.size_of();
     let align = ty.align_of();
@@ -158,14 +179,20 @@ fn size(alloc: Global, words: &mut Words, text: &mut String) -> Result<(), Unrea
 }
 
 /// `offsets T` for a struct T: the offset of each member.
-fn offsets(alloc: Global, words: &mut Words, text: &mut String) -> Result<(), Unread> {
+fn offsets(alloc: Global, words: &mut Words, text: &mut String) -> Result<(), Unread>
+    ensures { Replies (codes "offsets" ∷ left words.old)
+        (string_bytes text.old) (string_bytes text.new) result }
+{
     let ty = read_last_type(alloc, words)?;
     let written = write_offsets(alloc, &ty, text);
     drop(ty);
     written
 }
 
-fn write_offsets(alloc: Global, ty: &Type, text: &mut String) -> Result<(), Unread> {
+fn write_offsets(alloc: Global, ty: &Type, text: &mut String) -> Result<(), Unread>
+    ensures { WritesOfStruct (λ name ms. IsOffsetsText ms) (view ty.now)
+        (string_bytes text.old) (string_bytes text.new) result }
+{
     let Type::Struct(read) = ty else {
         return Err(Unread::Word);
     };
@@ -176,14 +203,20 @@ fn write_offsets(alloc: Global, ty: &Type, text: &mut String) -> Result<(), Unre
 }
 
 /// `layout T` for a struct T: a report of its members and of the whole.
-fn layout(alloc: Global, words: &mut Words, text: &mut String) -> Result<(), Unread> {
+fn layout(alloc: Global, words: &mut Words, text: &mut String) -> Result<(), Unread>
+    ensures { Replies (codes "layout" ∷ left words.old)
+        (string_bytes text.old) (string_bytes text.new) result }
+{
     let ty = read_last_type(alloc, words)?;
     let written = write_layout_of(alloc, &ty, text);
     drop(ty);
     written
 }
 
-fn write_layout_of(alloc: Global, ty: &Type, text: &mut String) -> Result<(), Unread> {
+fn write_layout_of(alloc: Global, ty: &Type, text: &mut String) -> Result<(), Unread>
+    ensures { WritesOfStruct IsLayoutText (view ty.now)
+        (string_bytes text.old) (string_bytes text.new) result }
+{
     let Type::Struct(read) = ty else {
         return Err(Unread::Word);
     };
@@ -198,7 +231,10 @@ struct Callee<'t> {
     types: Vec<Type>,
 }
 
-fn read_callee<'t>(alloc: Global, words: &mut Words<'t>) -> Result<Callee<'t>, Unread> {
+fn read_callee<'t>(alloc: Global, words: &mut Words<'t>) -> Result<Callee<'t>, Unread>
+    ensures { Answers (λ callee. IsCallee (left words.old) (callee_view callee))
+        ((call : Signature) → ¬ IsCallee (left words.old) call) result }
+{
     let name = words.next()?;
     let template = read_template(alloc, words)?;
     let types = read_types(alloc, words)?;
@@ -210,7 +246,10 @@ fn read_callee<'t>(alloc: Global, words: &mut Words<'t>) -> Result<Callee<'t>, U
 }
 
 /// `ctor NAME P T..`: the type that the constructor makes, or why it makes none.
-fn ctor(alloc: Global, words: &mut Words, text: &mut String) -> Result<(), Unread> {
+fn ctor(alloc: Global, words: &mut Words, text: &mut String) -> Result<(), Unread>
+    ensures { Replies (codes "ctor" ∷ left words.old)
+        (string_bytes text.old) (string_bytes text.new) result }
+{
     let callee = read_callee(alloc, words)?;
     let made = type_ctor(
         alloc,
@@ -223,7 +262,10 @@ fn ctor(alloc: Global, words: &mut Words, text: &mut String) -> Result<(), Unrea
 }
 
 /// `call NAME P T..`: the type of the call, or why it has none; `no value` if it gives none.
-fn call(alloc: Global, words: &mut Words, text: &mut String) -> Result<(), Unread> {
+fn call(alloc: Global, words: &mut Words, text: &mut String) -> Result<(), Unread>
+    ensures { Replies (codes "call" ∷ left words.old)
+        (string_bytes text.old) (string_bytes text.new) result }
+{
     let callee = read_callee(alloc, words)?;
     let answer = type_builtin_fn(
         alloc,
@@ -239,21 +281,36 @@ fn call(alloc: Global, words: &mut Words, text: &mut String) -> Result<(), Unrea
 pub fn write_value_or_refusal(
     text: &mut String,
     answer: Result<Option<Type>, Fail>,
-) -> Result<(), AllocError> {
+) -> Result<(), AllocError>
+    ensures { OnOk result (Shows (option_map view)
+        (λ r. string_bytes text.new ≡ string_bytes text.old ++ value_or_message r) answer) }
+{
     let written = match &answer {
-        Ok(Some(ty)) => write_type(text, ty),
-        Ok(None) => text.push_str("no value"),
+        Ok(value) => write_value(text, value),
         Err(refused) => write_message(text, refused),
     };
     drop(answer);
     written
 }
 
+fn write_value(text: &mut String, value: &Option<Type>) -> Result<(), AllocError>
+    ensures { OnOk result (string_bytes text.new
+        ≡ string_bytes text.old ++ value_or_message (Ok (option_map view value.now))) }
+{
+    match value {
+        Some(ty) => write_type(text, ty),
+        None => text.push_str("no value"),
+    }
+}
+
 /// Writes a type, or the message of a refusal.
 pub fn write_type_or_refusal(
     text: &mut String,
     answer: Result<Type, Fail>,
-) -> Result<(), AllocError> {
+) -> Result<(), AllocError>
+    ensures { OnOk result (Shows view
+        (λ r. string_bytes text.new ≡ string_bytes text.old ++ type_or_message r) answer) }
+{
     let written = match &answer {
         Ok(ty) => write_type(text, ty),
         Err(refused) => write_message(text, refused),
@@ -262,12 +319,17 @@ pub fn write_type_or_refusal(
     written
 }
 
-fn write_type(text: &mut String, ty: &Type) -> Result<(), AllocError> {
+fn write_type(text: &mut String, ty: &Type) -> Result<(), AllocError>
+    ensures { OnOk result (string_bytes text.new ≡ string_bytes text.old ++ spelling (view ty.now)) }
+{
     write!(text, "{ty}")
 }
 
 /// Writes the message of a refusal.
-pub fn write_message(text: &mut String, refused: &Fail) -> Result<(), AllocError> {
+pub fn write_message(text: &mut String, refused: &Fail) -> Result<(), AllocError>
+    ensures { OnOk result (IsRefusal
+        (λ e. string_bytes text.new ≡ string_bytes text.old ++ message e) refused.now) }
+{
     match refused {
         Fail::Error(e) => write!(text, "{e}"),
         Fail::Memory(e) => Err(*e),
@@ -275,7 +337,9 @@ pub fn write_message(text: &mut String, refused: &Fail) -> Result<(), AllocError
 }
 
 /// Writes a number, or `none`.
-pub fn write_number_or_none(text: &mut String, number: Option<u32>) -> Result<(), AllocError> {
+pub fn write_number_or_none(text: &mut String, number: Option<u32>) -> Result<(), AllocError>
+    ensures { OnOk result (string_bytes text.new ≡ string_bytes text.old ++ number_or_none number) }
+{
     match number {
         Some(number) => write!(text, "{number}"),
         None => text.push_str("none"),
@@ -283,7 +347,9 @@ pub fn write_number_or_none(text: &mut String, number: Option<u32>) -> Result<()
 }
 
 /// Writes the numbers with one space between.
-fn write_spaced(text: &mut String, numbers: &[u32]) -> Result<(), AllocError> {
+fn write_spaced(text: &mut String, numbers: &[u32]) -> Result<(), AllocError>
+    ensures { OnOk result (string_bytes text.new ≡ string_bytes text.old ++ spaced numbers.now) }
+{
     let mut between = "";
     for number in numbers {
         text.push_str(between)?;

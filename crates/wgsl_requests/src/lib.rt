@@ -2,6 +2,10 @@
 #![tactic(auto)]
 
 pub mod command;
+pub mod common;
+pub mod laws;
+mod leaf;
+mod outer;
 pub mod read;
 mod report;
 pub mod request;

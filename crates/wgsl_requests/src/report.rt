@@ -1,4 +1,9 @@
 // The layout of a struct as a person reads it.
+ghost use Rattle.std.specs.Prelude.{◌≡◌, ◌++◌, OnOk, string_bytes};
+ghost use Rattle.wgsl_core.specs.View.{struct_view};
+ghost use Rattle.wgsl_requests.specs.Layouts.{IsLayoutText, struct_line};
+ghost use Rattle.wgsl_requests.specs.internal.Written.{Adds, placed_line, placed_lines};
+
 use std::alloc::{AllocError, Global};
 use wgsl_types::mem::{PlacedMember, StructLayout};
 use wgsl_types::ty::{StructMemberType, StructType};
@@ -11,7 +16,10 @@ pub fn write_layout(
     alloc: Global,
     structure: &StructType,
     text: &mut String,
-) -> Result<(), AllocError> {
+) -> Result<(), AllocError>
+    ensures { let struct = struct_view structure.now in OnOk result
+        (Adds (IsLayoutText struct.name struct.members) (string_bytes text.old) (string_bytes text.new)) }
+{
     match structure.layout(alloc)? {
         Some(layout) => {
             write_members(&structure.members, &layout.members, text)?;
@@ -25,7 +33,10 @@ fn write_members(
     members: &[StructMemberType],
     placed: &[PlacedMember],
     text: &mut String,
-) -> Result<(), AllocError> {
+) -> Result<(), AllocError>
+    ensures { OnOk result
+        (string_bytes text.new ≡ string_bytes text.old ++ placed_lines members.now placed.now) }
+{
     for (member, placed) in members.iter().zip(placed) {
         write_member(member, placed, text)?;
     }
@@ -33,7 +44,10 @@ fn write_members(
 }
 
 /// The struct's line: its size, a dash, its alignment and its name.
-fn write_last(name: &str, layout: &StructLayout, text: &mut String) -> Result<(), AllocError> {
+fn write_last(name: &str, layout: &StructLayout, text: &mut String) -> Result<(), AllocError>
+    ensures { OnOk result (string_bytes text.new
+        ≡ string_bytes text.old ++ struct_line name.now layout.now.size layout.now.align) }
+{
     let StructLayout { size, align, .. } = layout;
     write!(text, "{size:>10} {:>10} {align:>10} {name}", "-")
 }
@@ -43,7 +57,10 @@ fn write_member(
     member: &StructMemberType,
     placed: &PlacedMember,
     text: &mut String,
-) -> Result<(), AllocError> {
+) -> Result<(), AllocError>
+    ensures { OnOk result
+        (string_bytes text.new ≡ string_bytes text.old ++ placed_line member.now placed.now) }
+{
     let PlacedMember {
         offset,
         size,

@@ -1,5 +1,6 @@
 // One request, from its bytes to its reply.
-ghost use Rattle.std.specs.Prelude.{◌≡◌, ◌<◌, ◌≤◌, [], All, IfOk, IsUtf8, Ok, length, true};
+ghost use Rattle.std.specs.Prelude.{◌≡◌, ◌<◌, ◌≤◌, [], All, IfOk, IsUtf8, Ok, length, string_bytes, true};
+ghost use Rattle.wgsl_requests.specs.Replies.{IsReplyTo, reply_of_kind, reply_text};
 ghost use Rattle.wgsl_requests.specs.Words.{has_forbidden, words_of};
 
 use crate::command::write_answer;
@@ -29,27 +30,27 @@ pub enum ReplyKind {
     Unreadable,
 }
 
-/// The reply to the request on the line of this number.
-pub fn reply_to(alloc: Global, line: u64, request: &[u8]) -> Result<Reply, AllocError>
+/// The reply to the request.
+pub fn reply_to(alloc: Global, request: &[u8]) -> Result<Reply, AllocError>
     ensures too_long { LONGEST < length request.now → result ≡ Ok Reply.Unreadable }
     ensures forbidden { has_forbidden request.now ≡ true → result ≡ Ok Reply.Unreadable }
     ensures no_text { ¬ All IsUtf8 (words_of request.now)
         → IfOk result (λ reply. reply ≡ Reply.Unreadable) }
     ensures no_words { length request.now ≤ LONGEST → words_of request.now ≡ []
         → IfOk result (λ reply. reply ≡ Reply.Nothing) }
+    ensures reply { IfOk result (λ reply. IsReplyTo request.now (reply_text reply)) }
 {
     let mut text = String::new(alloc);
-    match write_reply(alloc, line, request, &mut text)? {
+    match write_reply(alloc, request, &mut text)? {
         ReplyKind::Nothing => Ok(Reply::Nothing),
         ReplyKind::Answer => Ok(Reply::Answer(text)),
         ReplyKind::Unreadable => Ok(Reply::Unreadable),
     }
 }
 
-/// The kind of the reply to the request on the line of this number. An answer is written at the end of the text.
+/// The kind of the reply to the request. An answer is written at the end of the text.
 pub fn write_reply(
     alloc: Global,
-    line: u64,
     request: &[u8],
     text: &mut String,
 ) -> Result<ReplyKind, AllocError>
@@ -58,6 +59,8 @@ pub fn write_reply(
     ensures no_text { ¬ All IsUtf8 (words_of request.now) → result ≡ Ok ReplyKind.Unreadable }
     ensures no_words { length request.now ≤ LONGEST → words_of request.now ≡ []
         → result ≡ Ok ReplyKind.Nothing }
+    ensures reply { string_bytes text.old ≡ []
+        → IfOk result (λ kind. IsReplyTo request.now (reply_of_kind kind (string_bytes text.new))) }
 {
     if request.len() > LONGEST {
         return Ok(ReplyKind::Unreadable);
@@ -71,7 +74,7 @@ pub fn write_reply(
     let Ok(command) = words.next() else {
         return Ok(ReplyKind::Nothing);
     };
-    if write_answer(alloc, line, command, &mut words, text)? {
+    if write_answer(alloc, command, &mut words, text)? {
         Ok(ReplyKind::Answer)
     } else {
         Ok(ReplyKind::Unreadable)

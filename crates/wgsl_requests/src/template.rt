@@ -1,14 +1,24 @@
 // The template parameters that words stand for.
-ghost use Rattle.wgsl_requests.specs.internal.Taken.{GoesOn};
+ghost use Rattle.std.specs.Prelude.{◌≢◌, ◌∷◌, codes, map, option_map};
+ghost use Rattle.wgsl_rules.specs.types.Literals.{Literal};
+ghost use Rattle.wgsl_core.specs.Instances.{literal_view, parameter_view};
+ghost use Rattle.wgsl_requests.specs.Numbers.{IsI32, IsI64};
+ghost use Rattle.wgsl_requests.specs.Reading.{Answers, OneWord, Reads, ReadsWord};
+ghost use Rattle.wgsl_requests.specs.Templates.{IsEnumerant, IsLiteral, ParameterAt, ParametersAt, TemplateAt};
+ghost use Rattle.wgsl_requests.specs.internal.Taken.{GoesOn, left};
 
-use crate::read::{parsed, read_type};
-use crate::words::{Unread, Words, number};
+use crate::read::read_type;
+use crate::words::{Unread, Words, begins_with_plus, medium, number, parsed};
 use std::alloc::Global;
 use wgsl_types::inst::{Instance, LiteralInstance};
+use wgsl_types::syntax::Enumerant;
 use wgsl_types::tplt::TpltParam;
 
 /// The template of a call: `-` for none, or `<`, parameters and `>`.
-pub fn read_template(alloc: Global, words: &mut Words) -> Result<Option<Vec<TpltParam>>, Unread> {
+pub fn read_template(alloc: Global, words: &mut Words) -> Result<Option<Vec<TpltParam>>, Unread>
+    ensures { Reads TemplateAt (option_map (λ ps. map parameter_view ps.items))
+        (left words.old) (left words.new) result }
+{
     match words.next()? {
         "-" => Ok(None),
         "<" => Ok(Some(read_parameters(alloc, words)?)),
@@ -17,54 +27,102 @@ pub fn read_template(alloc: Global, words: &mut Words) -> Result<Option<Vec<Tplt
 }
 
 /// Parameters up to `>`.
-fn read_parameters(alloc: Global, words: &mut Words) -> Result<Vec<TpltParam>, Unread> {
+fn read_parameters(alloc: Global, words: &mut Words) -> Result<Vec<TpltParam>, Unread>
+    ensures { Reads ParametersAt (λ ps. map parameter_view ps.items)
+        (left words.old) (left words.new) result }
+{
     let mut parameters = Vec::new(alloc);
-    while !words.is_empty() {
-        match words.next()? {
-            ">" => return Ok(parameters),
-            kind => parameters.push(read_parameter(alloc, kind, words)?)?,
+    while let Ok(word) = words.next() {
+        if word == ">" {
+            return Ok(parameters);
         }
+        parameters.push(read_parameter(alloc, word, words)?)?;
     }
     Err(Unread::Word)
 }
 
 /// A parameter: `t` and a type, `n` and a literal, or `e` and an enumerant.
 fn read_parameter(alloc: Global, kind: &str, words: &mut Words) -> Result<TpltParam, Unread>
-    ensures { GoesOn words.old words.new }
+    ensures goes_on { GoesOn words.old words.new }
+    ensures read { Reads ParameterAt parameter_view
+        (kind.now ∷ left words.old) (left words.new) result }
 {
     match kind {
         "t" => Ok(TpltParam::Ty(read_type(alloc, words)?)),
-        "n" => Ok(TpltParam::Instance(Instance::Literal(literal(words.next()?)?))),
-        "e" => Ok(TpltParam::Enumerant(parsed(words.next()?)?)),
+        "n" => Ok(TpltParam::Instance(Instance::Literal(read_literal(words)?))),
+        "e" => Ok(TpltParam::Enumerant(read_enumerant(words)?)),
         _ => Err(Unread::Word),
     }
 }
 
+fn read_literal(words: &mut Words) -> Result<LiteralInstance, Unread>
+    ensures goes_on { GoesOn words.old words.new }
+    ensures read { Reads (OneWord IsLiteral) literal_view (left words.old) (left words.new) result }
+{
+    literal(words.next()?)
+}
+
+fn read_enumerant(words: &mut Words) -> Result<Enumerant, Unread>
+    ensures goes_on { GoesOn words.old words.new }
+    ensures read { Reads (OneWord IsEnumerant) (λ enumerant. enumerant)
+        (left words.old) (left words.new) result }
+{
+    enumerant(words.next()?)
+}
+
+fn enumerant(word: &str) -> Result<Enumerant, Unread>
+    ensures { ReadsWord IsEnumerant word.now result }
+{
+    parsed(word)
+}
+
 /// A literal: `true`, `false`, or a number, with the suffix of its kind if it isn't abstract.
-fn literal(word: &str) -> Result<LiteralInstance, Unread> {
+fn literal(word: &str) -> Result<LiteralInstance, Unread>
+    ensures { Answers (λ l. IsLiteral word.now (literal_view l))
+        ((l : Literal) → IsLiteral word.now l → ⊥) result }
+{
     match word {
-        "true" => return Ok(LiteralInstance::Bool(true)),
-        "false" => return Ok(LiteralInstance::Bool(false)),
-        _ => {}
+        "true" => Ok(LiteralInstance::Bool(true)),
+        "false" => Ok(LiteralInstance::Bool(false)),
+        _ => number_literal(word),
     }
+}
+
+/// A number, with the suffix of its kind if it isn't abstract.
+fn number_literal(word: &str) -> Result<LiteralInstance, Unread>
+    ensures { Answers (λ l. IsLiteral word.now (literal_view l))
+        ((l : Literal) → word.now ≢ codes "true" → word.now ≢ codes "false"
+        → IsLiteral word.now l → ⊥) result }
+{
     if let Some(digits) = word.strip_suffix("li") {
         Ok(LiteralInstance::I64(signed(digits)?))
     } else if let Some(digits) = word.strip_suffix("lu") {
         Ok(LiteralInstance::U64(number(digits)?))
     } else if let Some(digits) = word.strip_suffix("i") {
-        Ok(LiteralInstance::I32(i32::try_from(signed(digits)?)?))
+        Ok(LiteralInstance::I32(signed_short(digits)?))
     } else if let Some(digits) = word.strip_suffix("u") {
-        Ok(LiteralInstance::U32(u32::try_from(number(digits)?)?))
+        Ok(LiteralInstance::U32(medium(digits)?))
     } else {
         Ok(LiteralInstance::AbstractInt(signed(word)?))
     }
 }
 
-/// A number with a minus or without: decimal digits alone, with leading zeros or without.
-fn signed(word: &str) -> Result<i64, Unread> {
-    let digits = word.strip_prefix("-").unwrap_or(word);
-    if !digits.bytes().all(|byte| byte.is_ascii_digit()) {
+/// A signed number of at most 64 bits.
+fn signed(word: &str) -> Result<i64, Unread>
+    ensures { ReadsWord IsI64 word.now result }
+{
+    if begins_with_plus(word) {
         return Err(Unread::Word);
     }
-    Ok(word.parse::<i64>()?)
+    parsed(word)
+}
+
+/// A signed number of at most 32 bits.
+fn signed_short(word: &str) -> Result<i32, Unread>
+    ensures { ReadsWord IsI32 word.now result }
+{
+    match i32::try_from(signed(word)?) {
+        Ok(short) => Ok(short),
+        Err(_) => Err(Unread::Word),
+    }
 }

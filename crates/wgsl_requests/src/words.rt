@@ -1,11 +1,13 @@
 // The words of a command, taken one after another.
-ghost use Rattle.std.specs.Prelude.{◌≡◌, ◌<◌, ◌≤◌, ◌∷◌, ◌↔◌, [], All, IsTrue, IsUtf8, MatchOption, MatchResult, OnOk, OnSome, length};
+ghost use Rattle.std.specs.Prelude.{◌≡◌, ◌<◌, ◌≤◌, ◌∷◌, ◌↔◌, [], All, Err, IsTrue, IsUtf8, MatchOption, MatchResult, Ok, OnOk, OnSome, length, slice_index};
 ghost use Rattle.std.specs.Str.{IsCharBoundary};
+ghost use Rattle.wgsl_requests.specs.Numbers.{IsAttribute, IsCount, IsLong, IsMedium, IsSmall};
+ghost use Rattle.wgsl_requests.specs.Reading.{Answers, OneWord, Reads, ReadsWord};
 ghost use Rattle.wgsl_requests.specs.Words.{words_of};
 
 use crate::split::{first_word, is_blank};
 use std::alloc::{AllocError, AllocFailed};
-use std::num::{ParseIntError, TryFromIntError};
+use std::str::FromStr;
 
 /// Why words were not read.
 #[derive(Drop)]
@@ -16,26 +18,24 @@ pub enum Unread {
 }
 
 impl From<AllocError> for Unread {
+    ghost use Rattle.std.specs.Prelude.{◌≡◌};
+    ghost use Rattle.wgsl_requests.specs.declared.words.Unread.TheVariants.{Memory};
+
+    ghost from_gives = { λ e unread. unread ≡ Memory e };
+
     fn from(e: AllocError) -> Unread {
         Unread::Memory(e)
     }
 }
 
 impl<T: Drop> From<AllocFailed<T>> for Unread {
+    ghost use Rattle.std.specs.Prelude.{◌≡◌, alloc_error};
+    ghost use Rattle.wgsl_requests.specs.declared.words.Unread.TheVariants.{Memory};
+
+    ghost from_gives = { λ e unread. unread ≡ Memory alloc_error };
+
     fn from(_e: AllocFailed<T>) -> Unread {
         Unread::Memory(AllocError)
-    }
-}
-
-impl From<TryFromIntError> for Unread {
-    fn from(_e: TryFromIntError) -> Unread {
-        Unread::Word
-    }
-}
-
-impl From<ParseIntError> for Unread {
-    fn from(_e: ParseIntError) -> Unread {
-        Unread::Word
     }
 }
 
@@ -90,47 +90,106 @@ impl<'t> Words<'t> {
         is_blank(&self.text[self.taken..])
     }
 
-    /// A number: decimal digits alone, with leading zeros or without.
+    /// A number of members.
     pub fn next_number(&mut self) -> Result<u64, Unread>
-        ensures { GoesOn self.old self.new }
+        ensures goes_on { GoesOn self.old self.new }
+        ensures read { Reads (OneWord IsLong) (λ n. n) (left self.old) (left self.new) result }
     {
         number(self.next()?)
     }
 
     /// A number of components, columns or rows.
     pub fn next_small(&mut self) -> Result<u8, Unread>
-        ensures { GoesOn self.old self.new }
+        ensures goes_on { GoesOn self.old self.new }
+        ensures read { Reads (OneWord IsSmall) (λ n. n) (left self.old) (left self.new) result }
     {
-        Ok(u8::try_from(self.next_number()?)?)
+        small(self.next()?)
     }
 
-    /// A number of elements, or `*` if it is not known.
+    /// A number of elements, or `*` if the array is runtime-sized.
     pub fn next_count(&mut self) -> Result<Option<usize>, Unread>
-        ensures { GoesOn self.old self.new }
+        ensures goes_on { GoesOn self.old self.new }
+        ensures read { Reads (OneWord IsCount) (λ n. n) (left self.old) (left self.new) result }
     {
-        let word = self.next()?;
-        if word == "*" {
-            return Ok(None);
-        }
-        Ok(Some(usize::try_from(number(word)?)?))
+        count(self.next()?)
     }
 
     /// An attribute of a member in bytes, or `-` if it has none.
     pub fn next_attribute(&mut self) -> Result<Option<u32>, Unread>
-        ensures { GoesOn self.old self.new }
+        ensures goes_on { GoesOn self.old self.new }
+        ensures read { Reads (OneWord IsAttribute) (λ n. n) (left self.old) (left self.new) result }
     {
-        let word = self.next()?;
-        if word == "-" {
-            return Ok(None);
-        }
-        Ok(Some(u32::try_from(number(word)?)?))
+        attribute(self.next()?)
     }
 }
 
-/// A number: decimal digits alone, with leading zeros or without.
-pub fn number(word: &str) -> Result<u64, Unread> {
-    if !word.bytes().all(|byte| byte.is_ascii_digit()) {
+/// A number: decimal digits, with leading zeros or without.
+pub fn number(word: &str) -> Result<u64, Unread>
+    ensures { ReadsWord IsLong word.now result }
+{
+    if begins_with_plus(word) {
         return Err(Unread::Word);
     }
-    Ok(word.parse::<u64>()?)
+    parsed(word)
+}
+
+/// Whether the word begins with a plus, which `parse` reads and no number of a request has.
+pub fn begins_with_plus(word: &str) -> bool
+    ensures { IsTrue result ↔ (slice_index word.now 0 ≡ 43) }
+{
+    let bytes = word.as_bytes();
+    !bytes.is_empty() && bytes[0] == b'+'
+}
+
+fn small(word: &str) -> Result<u8, Unread>
+    ensures { ReadsWord IsSmall word.now result }
+{
+    match u8::try_from(number(word)?) {
+        Ok(small) => Ok(small),
+        Err(_) => Err(Unread::Word),
+    }
+}
+
+/// A number of at most 32 bits.
+pub fn medium(word: &str) -> Result<u32, Unread>
+    ensures { ReadsWord IsMedium word.now result }
+{
+    match u32::try_from(number(word)?) {
+        Ok(medium) => Ok(medium),
+        Err(_) => Err(Unread::Word),
+    }
+}
+
+fn count(word: &str) -> Result<Option<usize>, Unread>
+    ensures { ReadsWord IsCount word.now result }
+{
+    if word == "*" {
+        return Ok(None);
+    }
+    match usize::try_from(number(word)?) {
+        Ok(count) => Ok(Some(count)),
+        Err(_) => Err(Unread::Word),
+    }
+}
+
+fn attribute(word: &str) -> Result<Option<u32>, Unread>
+    ensures { ReadsWord IsAttribute word.now result }
+{
+    if word == "-" {
+        return Ok(None);
+    }
+    Ok(Some(medium(word)?))
+}
+
+/// What a name is read as.
+pub fn parsed<T: FromStr>(word: &str) -> Result<T, Unread>
+where
+    T::Err: Drop,
+    ensures { Answers (λ x. T.from_str_gives word.now (Ok x))
+        ((e : T.Err) × T.from_str_gives word.now (Err e)) result }
+{
+    match T::from_str(word) {
+        Ok(value) => Ok(value),
+        Err(_) => Err(Unread::Word),
+    }
 }

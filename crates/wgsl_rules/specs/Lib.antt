@@ -7,5 +7,6 @@ pub mod operators
 pub mod templates
 pub mod constructors
 pub mod calls
+pub mod codes
 pub mod Laws
 pub mod internal

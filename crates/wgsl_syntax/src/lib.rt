@@ -4,6 +4,7 @@
 pub mod address;
 pub mod attribute;
 pub mod call;
+pub mod code;
 pub mod enumerant;
 pub mod layer;
 pub mod names;

@@ -61,6 +61,7 @@ fn count(arguments: &Arguments) -> usize
 }
 
 /// Whether the first arguments have the required shapes.
+#[inline(always)]
 fn begin_as(arguments: &Arguments, args: &[Type]) -> bool
     ensures { IsTrue result ↔ BeginAs (shapes_of arguments.now) (map view args.now) }
 {

@@ -9,15 +9,15 @@ ghost use Rattle.wgsl_core.specs.View.{view};
 ghost use Rattle.wgsl_core.specs.internal.Resolution.{element_view, resolved_view};
 
 use wgsl_core::conversion::convert_ty;
-use wgsl_core::operators::resolve::{Element, ResolvedType};
+use wgsl_core::operators::resolve::{Element, Extent, ResolvedType};
 use wgsl_core::ty::Type;
 use wgsl_core::ty::form::Form;
 use wgsl_syntax::call::Source;
-use wgsl_syntax::layer::Layer;
 use wgsl_syntax::scalar::Scalar;
 use wgsl_syntax::texture::{TextureDimensions, TextureType};
 
 /// The type that the source names, if the arguments have one.
+#[inline(always)]
 pub fn type_of_source(source: Source, args: &[Type]) -> Option<Element<'_>>
     ensures { IsSource source (map view args.now) (option_map element_view result) }
 {
@@ -114,7 +114,7 @@ pub fn bare(element: Option<Element<'_>>) -> Option<ResolvedType<'_>>
     ensures { option_map resolved_view result ≡ option_map element_view element.entry }
 {
     Some(ResolvedType {
-        layer: None,
+        extent: Extent::Single,
         element: element?,
     })
 }
@@ -125,7 +125,7 @@ pub fn in_vector(components: u8, element: Option<Element<'_>>) -> Option<Resolve
         ≡ option_map (vec components) (option_map element_view element.entry) }
 {
     Some(ResolvedType {
-        layer: Some(Layer::Vec(components)),
+        extent: Extent::Vector(components),
         element: element?,
     })
 }
@@ -150,7 +150,7 @@ pub fn transposed(ty: Option<&Type>) -> Option<ResolvedType<'_>>
 {
     match ty?.form() {
         Form::Matrix(columns, rows, component) => Some(ResolvedType {
-            layer: Some(Layer::Mat(rows, columns)),
+            extent: Extent::Matrix(rows, columns),
             element: Element::Type(component),
         }),
         _ => None,
@@ -162,13 +162,13 @@ pub fn texture_size<'a>(ty: Option<&'a Type>) -> Option<ResolvedType<'a>>
     ensures { option_map resolved_view result ≡ option_map (λ x. size_type (dimensions x))
         (option_and_then texture_in (option_map (λ t. view t.now) ty.entry)) }
 {
-    let layer = match texture(ty?)?.dimensions() {
-        TextureDimensions::D1 => None,
-        TextureDimensions::D2 => Some(Layer::Vec(2)),
-        TextureDimensions::D3 => Some(Layer::Vec(3)),
+    let extent = match texture(ty?)?.dimensions() {
+        TextureDimensions::D1 => Extent::Single,
+        TextureDimensions::D2 => Extent::Vector(2),
+        TextureDimensions::D3 => Extent::Vector(3),
     };
     Some(ResolvedType {
-        layer,
+        extent,
         element: Element::Scalar(Scalar::U32),
     })
 }

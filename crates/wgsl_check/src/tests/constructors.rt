@@ -36,138 +36,6 @@ fn constructors_are_known_by_their_names(rt: HostRuntime) {
     expect_known(&rt, &OTHERS, false);
 }
 
-#[test]
-fn arrays_are_made(rt: HostRuntime) -> Result<(), Fail> {
-    expect_answers(
-        &rt,
-        &[
-            ("ctor array < t f32 n 3 > AbstractInt", "array<f32, 3>"),
-            ("ctor array < t f32 n 3 > f32", "array<f32, 3>"),
-            ("ctor array < t f32 n 7 >", "array<f32, 7>"),
-            ("ctor array < t f32 >", "array<f32>"),
-            (
-                "ctor array < t f32 > f32",
-                "invalid template arguments to `array`",
-            ),
-            (
-                "ctor array < > f32",
-                "invalid template arguments to `array`",
-            ),
-            (
-                "ctor array < n 3 t f32 >",
-                "invalid template arguments to `array`",
-            ),
-            (
-                "ctor array < t f32 n 0u >",
-                "the array element count must evaluate to a `u32` or a `i32` greater than `0`",
-            ),
-            (
-                "ctor array < t f32 n -1 >",
-                "the array element count must evaluate to a `u32` or a `i32` greater than `0`",
-            ),
-            (
-                "ctor array < t f32 n true >",
-                "the array element count must evaluate to a `u32` or a `i32` greater than `0`",
-            ),
-            (
-                "ctor array < t f32 n 18446744073709551615lu >",
-                "array<f32, 18446744073709551615>",
-            ),
-            (
-                "ctor array < t i64 n 2 > AbstractInt AbstractInt",
-                "array<i64, 2>",
-            ),
-            (
-                "ctor array < t f32 n 2 > f32 i32 u32",
-                "cannot convert from `i32` to `f32`",
-            ),
-            ("ctor array -", "array elements are incompatible"),
-            ("ctor array - i32 u32", "array elements are incompatible"),
-            (
-                "ctor array - AbstractInt f32 AbstractFloat",
-                "array<f32, 3>",
-            ),
-        ],
-    )?;
-    Ok(())
-}
-
-#[test]
-fn scalars_are_made(rt: HostRuntime) -> Result<(), Fail> {
-    expect_answers(
-        &rt,
-        &[
-            ("ctor bool -", "bool"),
-            (
-                "ctor bool - vec 2 bool",
-                "invalid function call signature: `bool(vec2<bool>)`",
-            ),
-            ("ctor i32 - bool", "i32"),
-            (
-                "ctor i32 < t f32 >",
-                "invalid function call signature: `i32<f32>()`",
-            ),
-            ("ctor u32 - f64", "u32"),
-            (
-                "ctor u32 - f32 f32",
-                "invalid function call signature: `u32(f32, f32)`",
-            ),
-            ("ctor f32 - AbstractInt", "f32"),
-            (
-                "ctor f32 < > f32",
-                "invalid function call signature: `f32<>(f32)`",
-            ),
-            ("ctor f16 - u64", "f16"),
-            (
-                "ctor f16 - atomic i32",
-                "invalid function call signature: `f16(atomic<i32>)`",
-            ),
-            ("ctor i64 -", "i64"),
-            (
-                "ctor i64 < n -0 > i32",
-                "invalid function call signature: `i64<0>(i32)`",
-            ),
-            ("ctor u64 - AbstractFloat", "u64"),
-            (
-                "ctor u64 < e read > i32",
-                "invalid function call signature: `u64<read>(i32)`",
-            ),
-            ("ctor f64 - f16", "f64"),
-            (
-                "ctor f64 < n 007u > f64",
-                "invalid function call signature: `f64<7u>(f64)`",
-            ),
-            ("ctor foo -", "invalid function call signature: `foo()`"),
-            ("ctor - -", "invalid function call signature: `-()`"),
-        ],
-    )?;
-    Ok(())
-}
-
-#[test]
-fn templates_that_cannot_be_read_make_bad_lines(rt: HostRuntime) -> Result<(), Fail> {
-    expect_answers(
-        &rt,
-        &[
-            ("ctor vec3", "bad line 1"),
-            ("ctor vec3 < t f32", "bad line 2"),
-            ("ctor vec3 < f32 >", "bad line 3"),
-            ("ctor vec3 f32", "bad line 4"),
-            ("ctor array < t f32 n 4294967296u >", "bad line 5"),
-            ("ctor array < t f32 n -1u >", "bad line 6"),
-            ("ctor array < t f32 n 2147483648i >", "bad line 7"),
-            ("ctor array < t f32 n 9223372036854775808 >", "bad line 8"),
-            ("ctor array < t f32 n +1 >", "bad line 9"),
-            ("ctor array < t f32 n - >", "bad line 10"),
-            ("ctor array < e handle >", "bad line 11"),
-            ("ctor vec3 - f32 nothing", "bad line 12"),
-            ("call", "bad line 13"),
-            ("call max", "bad line 14"),
-        ],
-    )?;
-    Ok(())
-}
-
 /// `fits` if the struct is made of such arguments, or the message of the refusal.
 fn made_of(alloc: Global, made: &Type, args: &[Type]) -> Result<String, Fail> {
     let Type::Struct(made) = made else {
@@ -214,5 +82,21 @@ fn structs_are_made_of_their_members(rt: HostRuntime) -> Result<(), Fail> {
         let answer = struct_of_words(rt.alloc(), args)?;
         expect_text(&rt, args, &answer, wanted);
     }
+    Ok(())
+}
+
+#[test]
+fn components_are_counted_in_whole_numbers(rt: HostRuntime) -> Result<(), Fail> {
+    let mut line = String::from_str(rt.alloc(), "ctor vec4 -")?;
+    for _ in 0..130 {
+        line.push_str(" vec 2 f32")?;
+    }
+    expect_answers(
+        &rt,
+        &[(
+            line.as_str(),
+            "incorrect number of arguments to `vec4`, expected `4`, got `130`",
+        )],
+    )?;
     Ok(())
 }

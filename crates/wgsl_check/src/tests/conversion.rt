@@ -1,5 +1,5 @@
 // Common types, concrete types, and the generic conversions.
-use super::support::{expect_answers, expect_text, one_type, types};
+use super::support::{expect_text, one_type, types};
 use std::alloc::{AllocError, Global};
 use std::test::Fail;
 use wgsl_types::conv::{
@@ -7,31 +7,6 @@ use wgsl_types::conv::{
 };
 use wgsl_types::inst::{Instance, LiteralInstance};
 use wgsl_types::ty::Type;
-
-#[test]
-fn common_types_are_the_same_in_every_order(rt: HostRuntime) -> Result<(), Fail> {
-    expect_answers(
-        &rt,
-        &[
-            ("common AbstractInt f32 AbstractFloat", "f32"),
-            ("common AbstractInt AbstractFloat f32", "f32"),
-            ("common f32 AbstractInt AbstractFloat", "f32"),
-            ("common f32 AbstractFloat AbstractInt", "f32"),
-            ("common AbstractFloat AbstractInt f32", "f32"),
-            ("common AbstractFloat f32 AbstractInt", "f32"),
-            ("common i32 AbstractInt AbstractFloat", "none"),
-            ("common AbstractInt i64 AbstractFloat", "none"),
-            ("common", "none"),
-            ("common bool", "bool"),
-            (
-                "common ref function read AbstractInt AbstractInt i32",
-                "none",
-            ),
-            ("common i32 bad", "bad line 12"),
-        ],
-    )?;
-    Ok(())
-}
 
 #[test]
 fn literals_convert_as_their_types(rt: HostRuntime) {

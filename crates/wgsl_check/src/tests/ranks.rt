@@ -6,20 +6,6 @@ use std::test::Fail;
 use wgsl_types::conv::rank_steps;
 use wgsl_types::ty::Type;
 
-/// Each scalar with the ranks from it to each of them, in their order: of the hundred 19 are ranks.
-const RANKS: [(&str, &str); 10] = [
-    ("bool", "0 none none none none none none none none none"),
-    ("AbstractInt", "none 0 5 3 4 6 7 8 9 none"),
-    ("AbstractFloat", "none none 0 none none 1 2 none none none"),
-    ("i32", "none none none 0 none none none none none none"),
-    ("u32", "none none none none 0 none none none none none"),
-    ("f32", "none none none none none 0 none none none none"),
-    ("f16", "none none none none none none 0 none none none"),
-    ("i64", "none none none none none none none 0 none none"),
-    ("u64", "none none none none none none none none 0 none"),
-    ("f64", "none none none none none none none none none 0"),
-];
-
 fn expect_rank(
     rt: &(impl Abort + AllocGlobal),
     from: &str,
@@ -28,27 +14,6 @@ fn expect_rank(
 ) -> Result<(), AllocError> {
     let line = format!(in rt.alloc(); "rank {from} {to}")?;
     expect_answers(rt, &[(line.as_str(), rank)])
-}
-
-/// Compares the ranks from a scalar to each of them.
-fn expect_scalar_ranks(
-    rt: &(impl Abort + AllocGlobal),
-    from: &str,
-    ranks: &str,
-) -> Result<(), AllocError> {
-    let mut ranks = ranks.split(' ');
-    for (to, _ranks) in &RANKS {
-        expect_rank(rt, from, to, ranks.next().unwrap_or("a rank"))?;
-    }
-    Ok(())
-}
-
-#[test]
-fn every_pair_of_scalars_has_its_rank(rt: HostRuntime) -> Result<(), Fail> {
-    for (from, ranks) in &RANKS {
-        expect_scalar_ranks(&rt, from, ranks)?;
-    }
-    Ok(())
 }
 
 /// The structs that calls give, in threes of one function and shape: of AbstractFloat, of f32 and of f16.
@@ -111,55 +76,6 @@ fn result_structs_convert_to_those_of_their_function_and_shape(
     for (index, from) in RESULTS.iter().enumerate() {
         expect_result_ranks(&rt, index, from)?;
     }
-    Ok(())
-}
-
-#[test]
-fn other_structs_convert_to_themselves_alone(rt: HostRuntime) -> Result<(), Fail> {
-    expect_answers(
-        &rt,
-        &[
-            ("rank struct __a_abstract 0 struct b_f32 0", "none"),
-            ("rank struct A 1 a - - f32 struct A 1 a - - f32", "0"),
-            ("rank struct A 1 a - - f32 struct A 1 a - 4 f32", "none"),
-            (
-                "rank struct __modf_result_abstract 2 fract - - AbstractFloat whole - 16 AbstractFloat struct __modf_result_f32 2 fract - - f32 whole - - f32",
-                "none",
-            ),
-        ],
-    )?;
-    Ok(())
-}
-
-#[test]
-fn ranks_go_through_layers_and_loads(rt: HostRuntime) -> Result<(), Fail> {
-    expect_answers(
-        &rt,
-        &[
-            ("rank AbstractInt f16", "7"),
-            ("rank i32 u32", "none"),
-            ("rank vec 3 AbstractInt vec 3 u32", "4"),
-            ("rank array 2 vec 3 AbstractInt array 2 vec 3 f32", "6"),
-            ("rank array 2 vec 3 AbstractInt array 3 vec 3 f32", "none"),
-            ("rank array * AbstractInt array * i32", "3"),
-            ("rank array * AbstractInt array 2 i32", "none"),
-            ("rank mat 2 3 AbstractFloat mat 2 3 f16", "2"),
-            ("rank mat 2 3 AbstractFloat mat 3 2 f16", "none"),
-            ("rank ref function read_write i32 i32", "0"),
-            ("rank ref function read i32 i32", "0"),
-            ("rank ref function write i32 i32", "none"),
-            ("rank ref function atomic i32 i32", "none"),
-            ("rank ref function read AbstractInt i32", "none"),
-            ("rank array 2 ref function read i32 array 2 i32", "0"),
-            ("rank ref function read i32 ref function read i32", "0"),
-            ("rank ptr function read i32 i32", "none"),
-            (
-                "rank binding_array 2 AbstractInt binding_array 2 i32",
-                "none",
-            ),
-            ("rank atomic i32 i32", "none"),
-        ],
-    )?;
     Ok(())
 }
 

@@ -1,6 +1,6 @@
 // Refusals as they are printed, and the signatures in them.
 use super::support::texts::value_or_refusal;
-use super::support::{expect_answers, expect_reply, one_type, signature};
+use super::support::{expect_reply, one_type, signature};
 use std::alloc::{AllocError, Global};
 use std::process::Abort;
 use std::test::Fail;
@@ -9,36 +9,6 @@ use wgsl_types::error::{self, Error};
 use wgsl_types::inst::LiteralInstance;
 use wgsl_types::syntax::{BinaryOperator, UnaryOperator};
 use wgsl_types::ty::Type;
-
-#[test]
-fn signatures_are_printed_as_they_are_written(rt: HostRuntime) -> Result<(), Fail> {
-    expect_answers(
-        &rt,
-        &[
-            (
-                "call array < t f32 n 3 >",
-                "invalid function call signature: `array<f32, 3>()`",
-            ),
-            (
-                "call array < e read > i32 bool",
-                "invalid function call signature: `array<read>(i32, bool)`",
-            ),
-            (
-                "call array < > i32",
-                "invalid function call signature: `array<>(i32)`",
-            ),
-            (
-                "call array - i32 bool",
-                "invalid function call signature: `array(i32, bool)`",
-            ),
-            (
-                "call array < e function e write e rgba8unorm e vertex_return >",
-                "invalid function call signature: `array<function, write, rgba8unorm, vertex_return>()`",
-            ),
-        ],
-    )?;
-    Ok(())
-}
 
 #[test]
 fn no_function_has_the_empty_name(rt: HostRuntime) -> Result<(), Fail> {

@@ -1,13 +1,15 @@
 -- How the rules see a candidate whose types aren't built yet.
 use Rattle.std.specs.Prelude.{◌≡◌, Option, Some, None, option_map}
 use Rattle.wgsl_syntax.specs.declared.scalar.Scalar.TheVariants.{Bool, U32}
-use Rattle.wgsl_rules.specs.types.Types.{Layer, WgslType, scalar, within}
+use Rattle.wgsl_rules.specs.types.Types.{Layer, vec_of, mat_of, WgslType, scalar, within}
 use Rattle.wgsl_rules.specs.types.Kinds.{IsLeaf}
 use Rattle.wgsl_rules.specs.conversion.Common.{IsCommon}
 use Rattle.wgsl_rules.specs.operators.Answers.{BinaryCandidate}
 use Rattle.wgsl_core.specs.View.{view}
 use Rattle.wgsl_core.specs.declared.operators.resolve.Element.{Element}
 use Rattle.wgsl_core.specs.declared.operators.resolve.Element.TheVariants as elements
+use Rattle.wgsl_core.specs.declared.operators.resolve.Extent.{Extent}
+use Rattle.wgsl_core.specs.declared.operators.resolve.Extent.TheVariants as extents
 use Rattle.wgsl_core.specs.declared.operators.resolve.ResolvedType.{ResolvedType}
 use Rattle.wgsl_core.specs.declared.operators.resolve.Resolution.{Resolution}
 
@@ -15,12 +17,18 @@ abbrev pub around : Option Layer → WgslType → WgslType
 around None t = t
 around (Some l) t = within l t
 
+-- the layer around an element, if it isn't single
+abbrev pub extent_view : Extent → Option Layer
+extent_view extents.Single = None
+extent_view (extents.Vector n) = Some (vec_of n)
+extent_view (extents.Matrix c r) = Some (mat_of c r)
+
 abbrev pub element_view : Element → WgslType
 element_view (elements.Scalar s) = scalar s
 element_view (elements.Type t) = view t.now
 
 abbrev pub resolved_view : ResolvedType → WgslType
-resolved_view p = around (p.layer) (element_view p.element)
+resolved_view p = around (extent_view p.extent) (element_view p.element)
 
 abbrev pub resolution_view : Resolution → BinaryCandidate
 resolution_view f = record { lhs = resolved_view f.lhs; rhs = resolved_view f.rhs; result = resolved_view f.result }

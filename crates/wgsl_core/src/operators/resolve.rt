@@ -8,12 +8,12 @@ ghost use Rattle.wgsl_rules.specs.conversion.Conversion.{ConvertsTo};
 ghost use Rattle.wgsl_rules.specs.operators.Candidates.{IsArithmetic, IsSum, IsComparison, IsLogical, IsBitwise, IsOrAnd, IsShift};
 ghost use Rattle.wgsl_rules.specs.operators.Answers.{HasCandidate};
 ghost use Rattle.wgsl_core.specs.View.{view};
-ghost use Rattle.wgsl_core.specs.internal.Resolution.{around, resolved_view, resolution_view, IsInLayers, compared_at, shifted_at};
+ghost use Rattle.wgsl_core.specs.internal.Resolution.{around, extent_view, resolved_view, resolution_view, IsInLayers, compared_at, shifted_at};
 
 use crate::conversion::convert_ty;
 use crate::ty::Type;
 use crate::ty::clone::copy;
-use crate::ty::form::{Form, around as wrapped};
+use crate::ty::form::Form;
 use std::alloc::{AllocError, Global};
 use wgsl_syntax::layer::Layer;
 use wgsl_syntax::operator::BinaryOperator;
@@ -26,10 +26,19 @@ pub enum Element<'a> {
     Type(&'a Type),
 }
 
-/// A type that isn't built yet: an element, possibly in a layer.
+/// What is made of an element: the element itself, a vector with that many components, or a matrix with that many columns
+/// and rows.
+#[derive(Clone, Copy)]
+pub enum Extent {
+    Single,
+    Vector(u8),
+    Matrix(u8, u8),
+}
+
+/// A type that isn't built yet.
 #[derive(Clone, Copy)]
 pub struct ResolvedType<'a> {
-    pub layer: Option<Layer>,
+    pub extent: Extent,
     pub element: Element<'a>,
 }
 
@@ -46,22 +55,23 @@ impl<'a> ResolvedType<'a> {
         ensures { resolved_view result ≡ view ty.now }
     {
         ResolvedType {
-            layer: None,
+            extent: Extent::Single,
             element: Element::Type(ty),
         }
     }
 
-    /// A scalar, within the layer if there is one.
-    fn of_scalar(layer: Option<Layer>, of: Scalar) -> ResolvedType<'a>
-        ensures { resolved_view result ≡ around layer (scalar of) }
+    /// A scalar, or a vector or a matrix of it.
+    fn of_scalar(extent: Extent, of: Scalar) -> ResolvedType<'a>
+        ensures { resolved_view result ≡ around (extent_view extent) (scalar of) }
     {
         ResolvedType {
-            layer,
+            extent,
             element: Element::Scalar(of),
         }
     }
 
     /// Builds the type in memory.
+    #[inline(always)]
     pub fn build(self, alloc: Global) -> Result<Type, AllocError>
         ensures same { IfOk result (λ t. view t ≡ resolved_view self.entry) }
         ensures never_out_of_memory { IsLeaf (resolved_view self.entry) → IsOk result }
@@ -70,9 +80,10 @@ impl<'a> ResolvedType<'a> {
             Element::Scalar(scalar) => Type::from(scalar),
             Element::Type(ty) => copy(alloc, ty)?,
         };
-        match self.layer {
-            None => Ok(ty),
-            Some(layer) => wrapped(alloc, layer, ty),
+        match self.extent {
+            Extent::Single => Ok(ty),
+            Extent::Vector(components) => Ok(Type::Vec(components, Box::new(alloc, ty)?)),
+            Extent::Matrix(columns, rows) => Ok(Type::Mat(columns, rows, Box::new(alloc, ty)?)),
         }
     }
 }
@@ -134,15 +145,15 @@ fn arithmetic<'a>(operator: BinaryOperator, a: &'a Type, b: &'a Type) -> Option<
 {
     match a.form() {
         Form::Scalar(_) => match b.form() {
-            Form::Scalar(_) => in_layers(None, None, None, a, b),
+            Form::Scalar(_) => in_layers(Extent::Single, Extent::Single, Extent::Single, a, b),
             Form::Vector(n, f) => {
-                let vector = Some(Layer::Vec(n));
-                in_layers(None, vector, vector, a, f)
+                let vector = Extent::Vector(n);
+                in_layers(Extent::Single, vector, vector, a, f)
             }
             Form::Matrix(c, r, f) => {
-                let matrix = Some(Layer::Mat(c, r));
+                let matrix = Extent::Matrix(c, r);
                 if is_product(operator) {
-                    in_layers(None, matrix, matrix, a, f)
+                    in_layers(Extent::Single, matrix, matrix, a, f)
                 } else {
                     None
                 }
@@ -151,14 +162,14 @@ fn arithmetic<'a>(operator: BinaryOperator, a: &'a Type, b: &'a Type) -> Option<
         },
         Form::Vector(n, e) => match b.form() {
             Form::Scalar(_) => {
-                let vector = Some(Layer::Vec(n));
-                in_layers(vector, None, vector, e, b)
+                let vector = Extent::Vector(n);
+                in_layers(vector, Extent::Single, vector, e, b)
             }
-            Form::Vector(_, _) => in_layers(None, None, None, a, b),
+            Form::Vector(_, _) => in_layers(Extent::Single, Extent::Single, Extent::Single, a, b),
             Form::Matrix(c, r, f) => {
                 if is_product_over(operator, n, r) {
-                    let matrix = Some(Layer::Mat(c, r));
-                    in_layers(Some(Layer::Vec(n)), matrix, Some(Layer::Vec(c)), e, f)
+                    let matrix = Extent::Matrix(c, r);
+                    in_layers(Extent::Vector(n), matrix, Extent::Vector(c), e, f)
                 } else {
                     None
                 }
@@ -182,28 +193,27 @@ fn matrix_by<'a>(
         → HasCandidate operator (mat c r (view e.now)) (view b.now)
         (option_map resolution_view result) }
 {
-    let lhs = Layer::Mat(c, r);
+    let lhs = Extent::Matrix(c, r);
     match b.form() {
         Form::Scalar(_) => {
             if is_product(operator) {
-                in_layers(Some(lhs), None, Some(lhs), e, b)
+                in_layers(lhs, Extent::Single, lhs, e, b)
             } else {
                 None
             }
         }
         Form::Vector(n, f) => {
             if is_product_over(operator, c, n) {
-                in_layers(Some(lhs), Some(Layer::Vec(n)), Some(Layer::Vec(r)), e, f)
+                in_layers(lhs, Extent::Vector(n), Extent::Vector(r), e, f)
             } else {
                 None
             }
         }
         Form::Matrix(d, s, f) => {
-            let rhs = Layer::Mat(d, s);
             if is_product_over(operator, c, s) {
-                in_layers(Some(lhs), Some(rhs), Some(Layer::Mat(d, r)), e, f)
-            } else if is_sum_of(operator, lhs, rhs) {
-                in_layers(Some(lhs), Some(lhs), Some(lhs), e, f)
+                in_layers(lhs, Extent::Matrix(d, s), Extent::Matrix(d, r), e, f)
+            } else if is_sum_of(operator, Layer::Mat(c, r), Layer::Mat(d, s)) {
+                in_layers(lhs, lhs, lhs, e, f)
             } else {
                 None
             }
@@ -241,29 +251,30 @@ fn is_sum(operator: BinaryOperator) -> bool
     )
 }
 
-/// The candidate whose operands and result are the common type of two types, each within its layer if it has one.
+/// The candidate whose operands and result are made of the common type of two types.
+#[inline(always)]
 fn in_layers<'a>(
-    lhs: Option<Layer>,
-    rhs: Option<Layer>,
-    of_result: Option<Layer>,
+    lhs: Extent,
+    rhs: Extent,
+    of_result: Extent,
     a: &'a Type,
     b: &'a Type,
 ) -> Option<Resolution<'a>>
-    ensures { IsInLayers lhs rhs of_result (view a.now) (view b.now)
-        (option_map resolution_view result) }
+    ensures { IsInLayers (extent_view lhs) (extent_view rhs) (extent_view of_result)
+        (view a.now) (view b.now) (option_map resolution_view result) }
 {
     let element = Element::Type(convert_ty(a, b)?);
     Some(Resolution {
         lhs: ResolvedType {
-            layer: lhs,
+            extent: lhs,
             element,
         },
         rhs: ResolvedType {
-            layer: rhs,
+            extent: rhs,
             element,
         },
         result: ResolvedType {
-            layer: of_result,
+            extent: of_result,
             element,
         },
     })
@@ -276,20 +287,20 @@ fn comparison<'a>(a: &'a Type, b: &'a Type) -> Option<Resolution<'a>>
 {
     let common = convert_ty(a, b)?;
     match common.form() {
-        Form::Scalar(_) => Some(compared(common, None)),
-        Form::Vector(n, _) => Some(compared(common, Some(Layer::Vec(n)))),
+        Form::Scalar(_) => Some(compared(common, Extent::Single)),
+        Form::Vector(n, _) => Some(compared(common, Extent::Vector(n))),
         _ => None,
     }
 }
 
-/// The comparison of two operands of one type: the result is `bool`, in the layer if there is one.
-fn compared(ty: &Type, layer: Option<Layer>) -> Resolution<'_>
-    ensures { resolution_view result ≡ compared_at (view ty.now) layer }
+/// The comparison of two operands of one type: the result is `bool`, or a vector of it.
+fn compared(ty: &Type, extent: Extent) -> Resolution<'_>
+    ensures { resolution_view result ≡ compared_at (view ty.now) (extent_view extent) }
 {
     Resolution {
         lhs: ResolvedType::of(ty),
         rhs: ResolvedType::of(ty),
-        result: ResolvedType::of_scalar(layer, Scalar::Bool),
+        result: ResolvedType::of_scalar(extent, Scalar::Bool),
     }
 }
 
@@ -351,7 +362,7 @@ fn shift<'a>(a: &'a Type, b: &'a Type) -> Option<Resolution<'a>>
     match a.form() {
         Form::Scalar(_) => {
             if can_shift(a, b) {
-                Some(shifted(a, None))
+                Some(shifted(a, Extent::Single))
             } else {
                 None
             }
@@ -359,7 +370,7 @@ fn shift<'a>(a: &'a Type, b: &'a Type) -> Option<Resolution<'a>>
         Form::Vector(n, e) => match b.form() {
             Form::Vector(m, f) => {
                 if n == m && can_shift(e, f) {
-                    Some(shifted(a, Some(Layer::Vec(n))))
+                    Some(shifted(a, Extent::Vector(n)))
                 } else {
                     None
                 }
@@ -378,13 +389,13 @@ fn can_shift(ty: &Type, by: &Type) -> bool
     ty.is_integer() && by.is_convertible_to(&Type::U32)
 }
 
-/// The shift of a type by `u32`, in the layer if there is one.
-fn shifted(ty: &Type, layer: Option<Layer>) -> Resolution<'_>
-    ensures { resolution_view result ≡ shifted_at (view ty.now) layer }
+/// The shift of a type by `u32`, or by a vector of it.
+fn shifted(ty: &Type, extent: Extent) -> Resolution<'_>
+    ensures { resolution_view result ≡ shifted_at (view ty.now) (extent_view extent) }
 {
     Resolution {
         lhs: ResolvedType::of(ty),
-        rhs: ResolvedType::of_scalar(layer, Scalar::U32),
+        rhs: ResolvedType::of_scalar(extent, Scalar::U32),
         result: ResolvedType::of(ty),
     }
 }

@@ -1,10 +1,9 @@
-use Rattle.std.proofs.Common.{[], ◌∷◌, None, sym, ◌∙◌}
-use Rattle.wgsl_calls.specs.internal.Answers.{signature_of}
-use Rattle.wgsl_calls.proofs.OutOfMemory.{later_row, no_row}
+use Rattle.std.proofs.Common.{None, refl, subst}
+use Rattle.wgsl_calls.specs.internal.Answers.{signature_of, Chooses}
 use Rattle.wgsl_calls.proofs.call.chosen.Goals as goal
 
-pub returns-else-fits-3 : goal.returns-else-fits-3
-returns-else-fits-3 c =
-    rw c.in-Either.is
-    (later_row c.in-Either.row (c.in-Either.other ∷ []) (signature_of c.args.call.now) None (λ f. absurd (cc (sym (c.fits-in-Either.ensures.1 f) ∙ c.if-fits-2.false)))
-    (later_row c.in-Either.other [] (signature_of c.args.call.now) None (λ f. absurd (cc (sym (c.fits-else-fits-2.ensures.1 f) ∙ c.if-fits-3.false))) (no_row (signature_of c.args.call.now))))
+pub returns-in-Some : goal.returns-in-Some
+returns-in-Some c = subst (λ rows. Chooses rows (signature_of c.args.call.now) c.chosen_of.result) c.in-Some.ensures c.chosen_of.ensures
+
+pub returns-in-None : goal.returns-in-None
+returns-in-None c = subst (λ rows. Chooses rows (signature_of c.args.call.now) None) c.in-None.ensures refl

@@ -1,8 +1,12 @@
-use Rattle.std.proofs.Common.{◌-◌, length}
+use Rattle.std.proofs.Common.{◌-◌, length, map}
+use Rattle.wgsl_core.specs.Instances.{parameter_view}
+use Rattle.wgsl_requests.specs.internal.Taken.{left}
+use Rattle.wgsl_requests.proofs.TemplateReads.{Gathered}
 use Rattle.wgsl_requests.proofs.template.read_parameters.Given as goal
 
-abbrev pub invariant-loop-alloc : goal.invariant-loop-alloc
-invariant-loop-alloc l = Unit {0}
+-- the parameters that were read, and the words after them
+abbrev pub invariant-loop-word : goal.invariant-loop-word
+invariant-loop-word l = Gathered (left l.fn.words) (map parameter_view l.parameters.items) (left l.words)
 
-abbrev pub decreases-loop-alloc : goal.decreases-loop-alloc
-decreases-loop-alloc l = length l.words.text.now - l.words.taken
+abbrev pub decreases-loop-word : goal.decreases-loop-word
+decreases-loop-word l = length l.words.text.now - l.words.taken

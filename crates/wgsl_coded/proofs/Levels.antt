@@ -1,0 +1,127 @@
+-- One level of a type, and one member, are read at a time.
+use Rattle.std.proofs.Common.{◌≡◌, ℕ, zero, suc, ◌+◌, ◌-◌, ◌<◌, ◌≤◌, List, [], ◌∷◌, ◌++◌, Option, Some, None, refl, sym, ap, ◌∙◌, arith, length, take, drop, get_or}
+use Rattle.std.proofs.Math.Seq.{take-length}
+use Rattle.wgsl_syntax.specs.declared.code.Head.{Head}
+use Rattle.wgsl_rules.specs.types.Types.{WgslType, Members, no_members, member}
+use Rattle.wgsl_rules.specs.codes.Reading.{◌>>=◌, attribute_at, name_at}
+use Rattle.wgsl_rules.specs.codes.Decoding.{head_at, decode, members_at, parts_at}
+use Rattle.wgsl_core.specs.View.{Member, members_of}
+use Rattle.wgsl_coded.specs.declared.fault.Fault.{Fault}
+use Rattle.wgsl_coded.specs.declared.fault.Fault.TheVariants.{Memory, NoType}
+use Rattle.wgsl_coded.specs.Reads.{Fails}
+use Rattle.wgsl_coded.specs.Members.{member_at}
+
+pub one_level : (d w : ℕ) (ws : List ℕ) → 0 < d → decode d (w ∷ ws) ≡ (head_at w >>= λ h. parts_at (decode (d - 1)) h ws)
+unfolding decode
+one_level zero w ws h = absurd (omega (arith, h))
+one_level (suc d) w ws h = let e : suc d - 1 ≡ d = omega arith in rw e refl
+
+pub no_words : (d : ℕ) (ws : List ℕ) → length ws < 1 → decode d ws ≡ None
+unfolding decode
+no_words zero ws h = refl
+no_words (suc d) [] h = refl
+no_words (suc d) (w ∷ ws) h = absurd (omega (arith, h))
+
+pub level_of : (d : ℕ) (ws : List ℕ) (head : Head) → 0 < d → 0 < length ws → Some head ≡ head_at (get_or ws 0 0) →
+    decode d ws ≡ parts_at (decode (d - 1)) head (take (length ws - 1) (drop 1 ws))
+level_of d [] head hd h e = absurd (omega (arith, h))
+level_of d (w ∷ ws) head hd h e =
+    let rest : length (w ∷ ws) - 1 ≡ length ws = omega arith in
+    one_level d w ws hd ∙ rw (sym e, rest, take-length ws) refl
+
+pub no_level : (d : ℕ) (ws : List ℕ) → d ≡ 0 → decode d ws ≡ None
+unfolding decode
+no_level d ws e = rw e refl
+
+-- members before others
+abbrev pub before : List Member → Members → Members
+before [] ms = ms
+before (m ∷ front) ms = member m.name m.ty m.size m.align (before front ms)
+
+-- what is read, with members before it
+abbrev pub with_front : List Member → Option (Members × List ℕ) → Option (Members × List ℕ)
+with_front front read = read >>= λ ms. Some (before front ms.0, ms.1)
+
+-- what follows the type, the attributes and the name of a member may be read in one go
+module _ (inner : List ℕ → Option (WgslType × List ℕ)) (next : Member × List ℕ → Option (Members × List ℕ)) where
+  after_type : (name : List ℕ) (size align : Option ℕ) (o : Option (WgslType × List ℕ)) →
+      ((o >>= λ t. Some (record { name = name; ty = t.0; size = size; align = align }, t.1)) >>= next)
+      ≡ (o >>= λ t. next (record { name = name; ty = t.0; size = size; align = align }, t.1))
+  after_type name size align None = refl
+  after_type name size align (Some t) = refl
+
+  after_align : (name : List ℕ) (size : Option ℕ) (o : Option (Option ℕ × List ℕ)) →
+      ((o >>= λ align. inner align.1 >>= λ t. Some (record { name = name; ty = t.0; size = size; align = align.0 }, t.1)) >>= next)
+      ≡ (o >>= λ align. inner align.1 >>= λ t. next (record { name = name; ty = t.0; size = size; align = align.0 }, t.1))
+  after_align name size None = refl
+  after_align name size (Some align) = after_type name size align.0 (inner align.1)
+
+  after_size : (name : List ℕ) (o : Option (Option ℕ × List ℕ)) →
+      ((o >>= λ size. attribute_at size.1 >>= λ align. inner align.1 >>= λ t.
+      Some (record { name = name; ty = t.0; size = size.0; align = align.0 }, t.1)) >>= next)
+      ≡ (o >>= λ size. attribute_at size.1 >>= λ align. inner align.1 >>= λ t.
+      next (record { name = name; ty = t.0; size = size.0; align = align.0 }, t.1))
+  after_size name None = refl
+  after_size name (Some size) = after_align name size.0 (attribute_at size.1)
+
+  after_name : (o : Option (List ℕ × List ℕ)) →
+      ((o >>= λ name. attribute_at name.1 >>= λ size. attribute_at size.1 >>= λ align. inner align.1 >>= λ t.
+      Some (record { name = name.0; ty = t.0; size = size.0; align = align.0 }, t.1)) >>= next)
+      ≡ (o >>= λ name. attribute_at name.1 >>= λ size. attribute_at size.1 >>= λ align. inner align.1 >>= λ t.
+      next (record { name = name.0; ty = t.0; size = size.0; align = align.0 }, t.1))
+  after_name None = refl
+  after_name (Some name) = after_size name.0 (attribute_at name.1)
+
+-- several members are read one by one
+pub one_member : (inner : List ℕ → Option (WgslType × List ℕ)) (n : ℕ) (ws : List ℕ) →
+    members_at inner (suc n) ws ≡ (member_at inner ws >>= λ m. with_front (m.0 ∷ []) (members_at inner n m.1))
+one_member inner n ws = sym (after_name inner (λ m. with_front (m.0 ∷ []) (members_at inner n m.1)) (name_at ws))
+
+-- members before members
+before_more : (front : List Member) (m : Member) (ms : Members) → before (front ++ m ∷ []) ms ≡ before front (before (m ∷ []) ms)
+before_more [] m ms = refl
+before_more (n ∷ front) m ms = ap (member n.name n.ty n.size n.align) (before_more front m ms)
+
+pub front_more : (front : List Member) (m : Member) (read : Option (Members × List ℕ)) →
+    with_front (front ++ m ∷ []) read ≡ with_front front (with_front (m ∷ []) read)
+front_more front m None = refl
+front_more front m (Some ms) = ap (λ x. Some (x, ms.1)) (before_more front m ms.0)
+
+pub no_front : (read : Option (Members × List ℕ)) → with_front [] read ≡ read
+no_front None = refl
+no_front (Some ms) = refl
+
+pub before_none : (front : List Member) → before front no_members ≡ members_of front
+before_none [] = refl
+before_none (m ∷ front) = ap (member m.name m.ty m.size m.align) (before_none front)
+
+-- the loop over members: what the rest gives, with the members before it, is what the whole gives
+module _ (inner : List ℕ → Option (WgslType × List ℕ)) (front : List Member) (k n : ℕ) (rest : List ℕ) (whole : Option (Members × List ℕ))
+    (so_far : with_front front (members_at inner (n - k) rest) ≡ whole) where
+  next_member : k < n → with_front front (member_at inner rest >>= λ m. with_front (m.0 ∷ []) (members_at inner (n - (k + 1)) m.1)) ≡ whole
+  next_member h =
+      let one : n - k ≡ suc (n - (k + 1)) = omega (arith, h) in
+      ap (with_front front) (sym (one_member inner (n - (k + 1)) rest) ∙ ap (λ j. members_at inner j rest) (sym one)) ∙ so_far
+
+  pub goes_on : (m : Member) (after : List ℕ) → k < n → member_at inner rest ≡ Some (m, after) →
+      with_front (front ++ m ∷ []) (members_at inner (n - (k + 1)) after) ≡ whole
+  goes_on m after h e =
+      front_more front m _
+      ∙ ap (λ (read : Option (Member × List ℕ)). with_front front (read >>= λ m. with_front (m.0 ∷ []) (members_at inner (n - (k + 1)) m.1))) (sym e)
+      ∙ next_member h
+
+  pub stops : (fault : Fault) → k < n → Fails fault (member_at inner rest) → Fails fault whole
+  stops Memory h e = tt
+  stops NoType h e = sym (next_member h) ∙ rw e refl
+
+  pub ends : n ≤ k → whole ≡ Some (members_of front, rest)
+  ends h =
+      let none : n - k ≡ 0 = omega (arith, h) in
+      sym so_far ∙ rw none (ap (λ ms. Some (ms, rest)) (before_none front))
+
+-- a head that is none
+pub no_head_at : (d : ℕ) (ws : List ℕ) → 0 < length ws → None ≡ head_at (get_or ws 0 0) → decode d ws ≡ None
+unfolding decode
+no_head_at zero ws h e = refl
+no_head_at (suc d) [] h e = refl
+no_head_at (suc d) (w ∷ ws) h e = rw (sym e) refl

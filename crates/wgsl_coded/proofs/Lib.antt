@@ -1,0 +1,5 @@
+pub mod FirstWords
+pub mod Texts
+pub mod Levels
+pub mod Written
+pub mod Decoded

@@ -1,0 +1,120 @@
+// Names.
+ghost use Rattle.std.specs.Prelude.{◌≡◌, ◌++◌, IfOk, OnOk, length, string_bytes};
+ghost use Rattle.std.specs.List.{flat_map};
+ghost use Rattle.std.specs.Str.{bytes_eq};
+ghost use Rattle.wgsl_rules.specs.codes.Words.{bytes, name_code, packed};
+ghost use Rattle.wgsl_rules.specs.codes.Reading.{name_at, text_at, text_of, word_count};
+ghost use Rattle.wgsl_coded.specs.Reads.{Reads};
+
+use crate::fault::Fault;
+use crate::numbers::{read_number, word_of, write_number};
+use std::alloc::{AllocError, Global};
+
+/// The number of words that hold so many bytes.
+fn words_for(len: usize) -> usize
+    ensures { result ≡ word_count len }
+{
+    len / 4 + (len % 4 != 0) as usize
+}
+
+/// Whether the words are the bytes, four in a word.
+fn is_packed(text: &[u8], words: &[u32]) -> bool
+    ensures { result ≡ bytes_eq (packed text.now) words.now }
+{
+    let mut text = text;
+    let mut words = words;
+    while let [a, b, c, d, rest @ ..] = text {
+        let [word, others @ ..] = words else {
+            return false;
+        };
+        if *word != word_of(*a, *b, *c, *d) {
+            return false;
+        }
+        text = rest;
+        words = others;
+    }
+    match (text, words) {
+        ([], []) => true,
+        ([a], [word]) => *word == word_of(*a, 0, 0, 0),
+        ([a, b], [word]) => *word == word_of(*a, *b, 0, 0),
+        ([a, b, c], [word]) => *word == word_of(*a, *b, *c, 0),
+        _ => false,
+    }
+}
+
+/// The bytes of the words.
+#[tactic(auto, unfolding(wgsl_rules::specs::codes::Words::bytes))]
+fn unpack(alloc: Global, words: &[u32]) -> Result<Vec<u8>, AllocError>
+    ensures { IfOk result (λ v. v.items ≡ flat_map bytes words.now) }
+{
+    let mut unpacked = Vec::new(alloc);
+    for word in words {
+        unpacked.extend_from_slice(&word.to_le_bytes())?;
+    }
+    Ok(unpacked)
+}
+
+/// The text of `len` bytes in the words that hold so many.
+fn read_packed(alloc: Global, len: usize, words: &[u32]) -> Result<String, Fault>
+    ensures { Reads string_bytes result (text_of len words.now) }
+{
+    let mut text = unpack(alloc, words)?;
+    text.truncate(len);
+    if !is_packed(&text, words) {
+        return Err(Fault::NoType);
+    }
+    match String::from_utf8(text) {
+        Ok(text) => Ok(text),
+        Err(_) => Err(Fault::NoType),
+    }
+}
+
+/// A text of `len` bytes, and the words after it.
+fn read_text(alloc: Global, len: usize, words: &[u32]) -> Result<(String, &[u32]), Fault>
+    ensures { Reads (λ t. (string_bytes t.0, t.1.now)) result (text_at len words.now) }
+{
+    let count = words_for(len);
+    if words.len() < count {
+        return Err(Fault::NoType);
+    }
+    let (front, rest) = words.split_at(count);
+    Ok((read_packed(alloc, len, front)?, rest))
+}
+
+/// A name, and the words after it.
+#[tactic(auto, unfolding(wgsl_rules::specs::codes::Reading::name_at))]
+pub(crate) fn read_name(alloc: Global, words: &[u32]) -> Result<(String, &[u32]), Fault>
+    ensures { Reads (λ n. (string_bytes n.0, n.1.now)) result (name_at words.now) }
+{
+    match read_number(words) {
+        Some((len, rest)) => read_text(alloc, len, rest),
+        None => Err(Fault::NoType),
+    }
+}
+
+/// Writes bytes at the end, four in a word.
+fn write_packed(out: &mut Vec<u32>, text: &[u8]) -> Result<(), AllocError>
+    ensures { OnOk result (out.new.items ≡ out.old.items ++ packed text.now) }
+{
+    let mut text = text;
+    while let [a, b, c, d, rest @ ..] = text {
+        out.push(word_of(*a, *b, *c, *d))?;
+        text = rest;
+    }
+    match text {
+        [a] => out.push(word_of(*a, 0, 0, 0))?,
+        [a, b] => out.push(word_of(*a, *b, 0, 0))?,
+        [a, b, c] => out.push(word_of(*a, *b, *c, 0))?,
+        _ => {}
+    }
+    Ok(())
+}
+
+/// Writes a name at the end.
+#[tactic(auto, unfolding(wgsl_rules::specs::codes::Words::name_code))]
+pub(crate) fn write_name(out: &mut Vec<u32>, name: &str) -> Result<(), AllocError>
+    ensures { OnOk result (out.new.items ≡ out.old.items ++ name_code name.now) }
+{
+    write_number(out, name.len())?;
+    write_packed(out, name.as_bytes())
+}

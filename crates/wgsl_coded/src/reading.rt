@@ -1,0 +1,164 @@
+// Types are read from their codes.
+ghost use Rattle.std.specs.Prelude.{◌≡◌};
+ghost use Rattle.wgsl_syntax.specs.declared.code.Head.TheVariants as head;
+ghost use Rattle.wgsl_rules.specs.codes.Decoding.{counted_type, decode, leaf_type, members_at, parts_at, wrapped};
+ghost use Rattle.wgsl_core.specs.View.{view, member_view, struct_view};
+ghost use Rattle.wgsl_core.specs.ResultStruct.{struct_type};
+ghost use Rattle.wgsl_core.specs.internal.View.{members_view};
+ghost use Rattle.wgsl_coded.specs.Members.{member_at};
+ghost use Rattle.wgsl_coded.specs.Reads.{Reads};
+
+use crate::fault::Fault;
+use crate::heads::read_head;
+use crate::names::read_name;
+use crate::numbers::{read_attribute, read_number};
+use std::alloc::Global;
+use wgsl_core::ty::{StructMemberType, StructType, Type};
+use wgsl_syntax::code::{Counted, Head, LeafType, Wrapper};
+
+fn type_of_leaf(leaf: LeafType) -> Type
+    ensures { view result ≡ leaf_type leaf }
+{
+    match leaf {
+        LeafType::Scalar(scalar) => Type::from(scalar),
+        LeafType::Texture(texture) => Type::Texture(texture),
+        LeafType::Sampler(sampler) => Type::Sampler(sampler),
+        LeafType::RayQuery(flags) => Type::RayQuery(flags),
+        LeafType::AccelerationStructure(flags) => Type::AccelerationStructure(flags),
+    }
+}
+
+fn wrap(wrapper: Wrapper, inner: Box<Type>) -> Type
+    ensures { view result ≡ wrapped wrapper (view inner.value) }
+{
+    match wrapper {
+        Wrapper::Array => Type::Array(inner, None),
+        Wrapper::Vec(n) => Type::Vec(n, inner),
+        Wrapper::Mat(columns, rows) => Type::Mat(columns, rows, inner),
+        Wrapper::Atomic => Type::Atomic(inner),
+        Wrapper::Ptr(space, access) => Type::Ptr(space, inner, access),
+        Wrapper::Ref(space, access) => Type::Ref(space, inner, access),
+        Wrapper::BindingArray => Type::BindingArray(inner, None),
+    }
+}
+
+fn with_count(counted: Counted, count: usize, inner: Box<Type>) -> Type
+    ensures { view result ≡ counted_type counted count (view inner.value) }
+{
+    match counted {
+        Counted::Array => Type::Array(inner, Some(count)),
+        Counted::BindingArray => Type::BindingArray(inner, Some(count)),
+    }
+}
+
+/// The type that the words begin with, and the words after it.
+#[cycle(read)]
+pub(crate) fn read_type(alloc: Global, words: &[u32], depth: u8) -> Result<(Type, &[u32]), Fault>
+    ensures { Reads (λ t. (view t.0, t.1.now)) result (decode depth words.now) }
+{
+    let [first, rest @ ..] = words else {
+        return Err(Fault::NoType);
+    };
+    if depth == 0 {
+        return Err(Fault::NoType);
+    }
+    match read_head(*first) {
+        Some(head) => read_parts(alloc, head, rest, depth - 1),
+        None => Err(Fault::NoType),
+    }
+}
+
+/// The type with that head, whose parts the words begin with.
+#[cycle(read)]
+fn read_parts(alloc: Global, head: Head, words: &[u32], depth: u8) -> Result<(Type, &[u32]), Fault>
+    ensures { Reads (λ t. (view t.0, t.1.now)) result (parts_at (decode depth) head words.now) }
+{
+    match head {
+        Head::Leaf(leaf) => Ok((type_of_leaf(leaf), words)),
+        Head::Wrapper(wrapper) => {
+            let (inner, rest) = read_boxed(alloc, words, depth)?;
+            Ok((wrap(wrapper, inner), rest))
+        }
+        Head::Counted(counted) => {
+            let Some((count, rest)) = read_number(words) else {
+                return Err(Fault::NoType);
+            };
+            let (inner, rest) = read_boxed(alloc, rest, depth)?;
+            Ok((with_count(counted, count, inner), rest))
+        }
+        Head::Struct => {
+            let (ty, rest) = read_struct(alloc, words, depth)?;
+            Ok((Type::Struct(Box::new(alloc, ty)?), rest))
+        }
+    }
+}
+
+#[cycle(read)]
+#[inline(never)]
+fn read_boxed(alloc: Global, words: &[u32], depth: u8) -> Result<(Box<Type>, &[u32]), Fault>
+    ensures { Reads (λ t. (view t.0.value, t.1.now)) result (decode depth words.now) }
+{
+    let (ty, rest) = read_type(alloc, words, depth)?;
+    Ok((Box::new(alloc, ty)?, rest))
+}
+
+#[cycle(read)]
+#[inline(never)]
+fn read_struct(alloc: Global, words: &[u32], depth: u8) -> Result<(StructType, &[u32]), Fault>
+    ensures { Reads (λ s. (struct_type (struct_view s.0), s.1.now)) result
+        (parts_at (decode depth) head.Struct words.now) }
+{
+    let (name, rest) = read_name(alloc, words)?;
+    let Some((count, rest)) = read_number(rest) else {
+        return Err(Fault::NoType);
+    };
+    let (members, rest) = read_members(alloc, count, rest, depth)?;
+    Ok((StructType { name, members }, rest))
+}
+
+#[cycle(read)]
+fn read_members(
+    alloc: Global,
+    count: usize,
+    words: &[u32],
+    depth: u8,
+) -> Result<(Vec<StructMemberType>, &[u32]), Fault>
+    ensures { Reads (λ ms. (members_view ms.0.items, ms.1.now)) result
+        (members_at (decode depth) count words.now) }
+{
+    let mut members = Vec::new(alloc);
+    let mut rest = words;
+    for _ in 0..count {
+        match read_member(alloc, rest, depth) {
+            Ok((member, after)) => {
+                members.push(member)?;
+                rest = after;
+            }
+            Err(fault) => return Err(fault),
+        }
+    }
+    Ok((members, rest))
+}
+
+#[cycle(read)]
+fn read_member(alloc: Global, words: &[u32], depth: u8) -> Result<(StructMemberType, &[u32]), Fault>
+    ensures { Reads (λ m. (member_view m.0, m.1.now)) result (member_at (decode depth) words.now) }
+{
+    let (name, rest) = read_name(alloc, words)?;
+    let Some((size, rest)) = read_attribute(rest) else {
+        return Err(Fault::NoType);
+    };
+    let Some((align, rest)) = read_attribute(rest) else {
+        return Err(Fault::NoType);
+    };
+    let (ty, rest) = read_type(alloc, rest, depth)?;
+    Ok((
+        StructMemberType {
+            name,
+            ty,
+            size,
+            align,
+        },
+        rest,
+    ))
+}

@@ -1,0 +1,162 @@
+-- What stands at the front of words by the first word, and that no two leaves and no two layers stand there.
+use Rattle.std.proofs.Common.{◌≡◌, ◌++◌, ℕ, List, [], ◌∷◌, codes, refl, sym, ◌∙◌}
+use Rattle.std.specs.Bool.{MatchBool}
+use Rattle.std.specs.Option.{MatchOption}
+use Rattle.std.specs.Str.{bytes_eq}
+use Rattle.wgsl_syntax.specs.Address.{access_text, space_text}
+use Rattle.wgsl_syntax.specs.Names.{named, table}
+use Rattle.wgsl_syntax.specs.Scalar.{scalar_text, scalars}
+use Rattle.wgsl_syntax.specs.Texture.{sampler_text, samplers, texture_name}
+use Rattle.wgsl_syntax.specs.declared.address.AccessMode.{AccessMode}
+use Rattle.wgsl_syntax.specs.declared.address.AddressSpace.{AddressSpace}
+use Rattle.wgsl_syntax.specs.declared.scalar.Scalar.{Scalar}
+use Rattle.wgsl_syntax.specs.declared.scalar.Scalar.TheVariants.{Bool as BoolScalar}
+use Rattle.wgsl_syntax.specs.declared.texture.SamplerType.{SamplerType}
+use Rattle.wgsl_syntax.specs.declared.texture.SamplerType.TheVariants.{Sampler}
+use Rattle.wgsl_syntax.specs.declared.texture.TextureType.{TextureType}
+use Rattle.wgsl_syntax.specs.declared.texture.TextureType.TheVariants.{External}
+use Rattle.wgsl_syntax.proofs.Naming.{access_naming, space_naming}
+use Rattle.wgsl_rules.specs.types.Types.{WgslType, scalar, texture, sampler, ray_query, acceleration_structure}
+use Rattle.wgsl_requests.specs.declared.outer.Outer.{Outer}
+use Rattle.wgsl_requests.specs.declared.outer.Outer.TheVariants as outer
+use Rattle.wgsl_requests.specs.Grammar.{IsFlag, LayerAt, LeafAt, TypeAt, acceleration_structure_at, around, array_at, atomic_at, binding_array_at, layer_at, leaf_at, mat_at, ptr_at, ray_query_at, ref_at, sampler_at, scalar_at, struct_at, texture_at, texture_words, vec_at}
+use Rattle.wgsl_requests.specs.Numbers.{IsCount, IsSmall}
+use Rattle.wgsl_requests.specs.Reading.{Beginning, IsText, OneWord, Then}
+use Rattle.wgsl_requests.specs.internal.Layers.{InLayerAt, OtherAt}
+use Rattle.wgsl_requests.specs.internal.Leaves.{TextureAt}
+use Rattle.wgsl_requests.specs.internal.Structs.{StructAt}
+use Rattle.wgsl_requests.proofs.Meanings.{Made, OneThing, both_bool, both_option, count_one, flag_one, one_made, one_then, one_word, small_one, text_one}
+use Rattle.wgsl_requests.proofs.Textures.{one_texture}
+
+-- what a leaf is by its first word
+abbrev pub LeafForm : List (List ℕ) → WgslType → List (List ℕ) → Type 0
+LeafForm [] t rest = ⊥
+LeafForm (word ∷ words) t rest =
+    MatchBool (bytes_eq word (codes "ray_query")) (Made (OneWord IsFlag) ray_query words t rest)
+    (MatchBool (bytes_eq word (codes "acceleration_structure")) (Made (OneWord IsFlag) acceleration_structure words t rest)
+    (MatchOption (named (table sampler_text samplers) word) (Made TextureAt texture (word ∷ words) t rest) (λ s. (t ≡ sampler s) × (words ≡ rest))))
+
+texture_leaf : (x : TextureType) (rest : List (List ℕ)) → LeafForm (texture_name x ∷ (texture_words x ++ rest)) (texture x) rest
+texture_leaf External rest = (External, refl, refl)
+texture_leaf x rest = (x, refl, refl)
+
+pub leaf_form : {words rest : List (List ℕ)} {t : WgslType} → LeafAt words t rest → LeafForm words t rest
+leaf_form (ray_query_at {flag} {f} h) = (f, (flag, refl, h), refl)
+leaf_form (acceleration_structure_at {flag} {f} h) = (f, (flag, refl, h), refl)
+leaf_form (sampler_at Sampler) = (refl, refl)
+leaf_form (sampler_at _) = (refl, refl)
+leaf_form (texture_at {rest} x) = texture_leaf x rest
+
+one_sampler : (words : List (List ℕ)) (t u : WgslType) (rest more : List (List ℕ)) (s : SamplerType) → (t ≡ sampler s) × (words ≡ rest) → (u ≡ sampler s) × (words ≡ more) → (t ≡ u) × (rest ≡ more)
+one_sampler words t u rest more s p q = (p.0 ∙ sym q.0, sym p.1 ∙ q.1)
+
+one_leaf_form : OneThing LeafForm
+one_leaf_form [] t u rest more f g = absurd f
+one_leaf_form (word ∷ words) t u rest more f g =
+    both_bool _ _ _ _ _ _ (one_made (OneWord IsFlag) ray_query (one_word IsFlag flag_one) words t u rest more)
+    (both_bool _ _ _ _ _ _ (one_made (OneWord IsFlag) acceleration_structure (one_word IsFlag flag_one) words t u rest more)
+    (both_option _ _ _ _ _ _ (one_made TextureAt texture one_texture (word ∷ words) t u rest more)
+    (one_sampler words t u rest more))) f g
+
+pub one_leaf : OneThing LeafAt
+one_leaf words t u rest more f g = one_leaf_form words t u rest more (leaf_form f) (leaf_form g)
+
+-- what stands behind the words of layers
+abbrev pub TwoSmall : Beginning (ℕ × ℕ)
+TwoSmall = Then (OneWord IsSmall) (OneWord IsSmall)
+
+abbrev pub MemoryAt : Beginning (AddressSpace × AccessMode)
+MemoryAt = Then (OneWord (IsText space_text)) (OneWord (IsText access_text))
+
+abbrev pub Nothing : Beginning (Unit {0})
+Nothing words x rest = words ≡ rest
+
+-- what a layer is by its first word
+abbrev pub LayerForm : List (List ℕ) → Outer → List (List ℕ) → Type 0
+LayerForm [] layer rest = ⊥
+LayerForm (word ∷ words) layer rest =
+    MatchBool (bytes_eq word (codes "vec")) (Made (OneWord IsSmall) (λ n. outer.Vec n) words layer rest)
+    (MatchBool (bytes_eq word (codes "mat")) (Made TwoSmall (λ p. outer.Mat p.0 p.1) words layer rest)
+    (MatchBool (bytes_eq word (codes "array")) (Made (OneWord IsCount) (λ n. outer.Array n) words layer rest)
+    (MatchBool (bytes_eq word (codes "binding_array")) (Made (OneWord IsCount) (λ n. outer.BindingArray n) words layer rest)
+    (MatchBool (bytes_eq word (codes "atomic")) (Made Nothing (λ x. outer.Atomic) words layer rest)
+    (MatchBool (bytes_eq word (codes "ptr")) (Made MemoryAt (λ p. outer.Ptr p.0 p.1) words layer rest)
+    (MatchBool (bytes_eq word (codes "ref")) (Made MemoryAt (λ p. outer.Ref p.0 p.1) words layer rest) ⊥))))))
+
+pub layer_form : {words rest : List (List ℕ)} {layer : Outer} → LayerAt words layer rest → LayerForm words layer rest
+layer_form (vec_at {components} {n} h) = (n, (components, refl, h), refl)
+layer_form (mat_at {columns} {rows} {c} {r} {rest} h k) = ((c, r), (rows ∷ rest, (columns, refl, h), (rows, refl, k)), refl)
+layer_form (array_at {count} {n} h) = (n, (count, refl, h), refl)
+layer_form (binding_array_at {count} {n} h) = (n, (count, refl, h), refl)
+layer_form atomic_at = (tt, refl, refl)
+layer_form (ptr_at {rest} s m) = ((s, m), (access_text m ∷ rest, (space_text s, refl, refl), (access_text m, refl, refl)), refl)
+layer_form (ref_at {rest} s m) = ((s, m), (access_text m ∷ rest, (space_text s, refl, refl), (access_text m, refl, refl)), refl)
+
+one_two : OneThing TwoSmall
+one_two = one_then (OneWord IsSmall) (OneWord IsSmall) (one_word IsSmall small_one) (one_word IsSmall small_one)
+
+one_memory : OneThing MemoryAt
+one_memory = one_then (OneWord (IsText space_text)) (OneWord (IsText access_text))
+    (one_word (IsText space_text) (text_one space_text space_naming.distinct)) (one_word (IsText access_text) (text_one access_text access_naming.distinct))
+
+one_nothing : OneThing Nothing
+one_nothing words x y rest more f g = (refl, sym f ∙ g)
+
+one_layer_form : OneThing LayerForm
+one_layer_form [] l k rest more f g = absurd f
+one_layer_form (word ∷ words) l k rest more f g =
+    both_bool _ _ _ _ _ _ (one_made (OneWord IsSmall) (λ n. outer.Vec n) (one_word IsSmall small_one) words l k rest more)
+    (both_bool _ _ _ _ _ _ (one_made TwoSmall (λ p. outer.Mat p.0 p.1) one_two words l k rest more)
+    (both_bool _ _ _ _ _ _ (one_made (OneWord IsCount) (λ n. outer.Array n) (one_word IsCount count_one) words l k rest more)
+    (both_bool _ _ _ _ _ _ (one_made (OneWord IsCount) (λ n. outer.BindingArray n) (one_word IsCount count_one) words l k rest more)
+    (both_bool _ _ _ _ _ _ (one_made Nothing (λ x. outer.Atomic) one_nothing words l k rest more)
+    (both_bool _ _ _ _ _ _ (one_made MemoryAt (λ p. outer.Ptr p.0 p.1) one_memory words l k rest more)
+    (both_bool _ _ _ _ _ _ (one_made MemoryAt (λ p. outer.Ref p.0 p.1) one_memory words l k rest more) (λ x y. absurd x))))))) f g
+
+pub one_layer : OneThing LayerAt
+one_layer words l k rest more f g = one_layer_form words l k rest more (layer_form f) (layer_form g)
+
+-- what a type is by its first word
+abbrev pub Form : List (List ℕ) → WgslType → List (List ℕ) → Type 0
+Form [] t rest = ⊥
+Form (word ∷ words) t rest =
+    MatchOption (named (table scalar_text scalars) word)
+    (MatchBool (bytes_eq word (codes "struct")) (StructAt words t rest) (OtherAt (word ∷ words) t rest))
+    (λ s. (t ≡ scalar s) × (words ≡ rest))
+
+-- where a scalar, a leaf or a layer stands, any type that stands there is one
+pub scalar_both : (s : Scalar) (words : List (List ℕ)) (u : WgslType) (more : List (List ℕ)) → ((u ≡ scalar s) × (words ≡ more) → Form (scalar_text s ∷ words) u more)
+    × (Form (scalar_text s ∷ words) u more → (u ≡ scalar s) × (words ≡ more))
+scalar_both BoolScalar words u more = (λ x. x, λ x. x)
+scalar_both _ words u more = (λ x. x, λ x. x)
+
+texture_both : (x : TextureType) (rest : List (List ℕ)) (u : WgslType) (more : List (List ℕ)) →
+    (LeafAt (texture_name x ∷ (texture_words x ++ rest)) u more → Form (texture_name x ∷ (texture_words x ++ rest)) u more)
+    × (Form (texture_name x ∷ (texture_words x ++ rest)) u more → LeafAt (texture_name x ∷ (texture_words x ++ rest)) u more)
+texture_both External rest u more = (λ x. x, λ x. x)
+texture_both _ rest u more = (λ x. x, λ x. x)
+
+pub leaf_both : {words rest : List (List ℕ)} {t : WgslType} → LeafAt words t rest → (u : WgslType) (more : List (List ℕ)) →
+    (LeafAt words u more → Form words u more) × (Form words u more → LeafAt words u more)
+leaf_both (ray_query_at f) u more = (λ x. x, λ x. x)
+leaf_both (acceleration_structure_at f) u more = (λ x. x, λ x. x)
+leaf_both (sampler_at Sampler) u more = (λ x. x, λ x. x)
+leaf_both (sampler_at _) u more = (λ x. x, λ x. x)
+leaf_both (texture_at {rest} x) u more = texture_both x rest u more
+
+pub layer_both : {words rest : List (List ℕ)} {layer : Outer} → LayerAt words layer rest → (u : WgslType) (more : List (List ℕ)) →
+    (InLayerAt words u more → Form words u more) × (Form words u more → InLayerAt words u more)
+layer_both (vec_at f) u more = (λ x. x, λ x. x)
+layer_both (mat_at f g) u more = (λ x. x, λ x. x)
+layer_both (array_at f) u more = (λ x. x, λ x. x)
+layer_both (binding_array_at f) u more = (λ x. x, λ x. x)
+layer_both atomic_at u more = (λ x. x, λ x. x)
+layer_both (ptr_at s m) u more = (λ x. x, λ x. x)
+layer_both (ref_at s m) u more = (λ x. x, λ x. x)
+
+pub form : {words rest : List (List ℕ)} {t : WgslType} → TypeAt words t rest → Form words t rest
+form (scalar_at {rest} s) = (scalar_both s rest (scalar s) rest).0 (refl, refl)
+form (leaf_at {words} {rest} {t} d) = (leaf_both d t rest).0 d
+form (layer_at {words} {after} {rest} {layer} {t} d inner) = (layer_both d (around layer t) rest).0 (layer, after, d, (t, inner, refl))
+form (struct_at {name} {count} {n} {words} {rest} {ms} is d) =
+    record { name = name; count = count; number = n; after = words; members = ms; words_are = refl; is_count = is; members_at = d; type_is = refl }

@@ -1,0 +1,166 @@
+-- What is read of types inside layers.
+use Rattle.std.proofs.Common.{◌≡◌, ◌≢◌, ◌<◌, ◌+◌, ◌++◌, ℕ, suc, Bool, true, false, List, [], ◌∷◌, Option, Some, None, codes, length, take, set, refl, sym, ap, subst, ◌∙◌, arith}
+use Rattle.std.specs.Bool.{MatchBool}
+use Rattle.std.specs.Prelude.{OnSome, Result, Ok}
+use Rattle.std.proofs.Math.Seq.{take-suc-set}
+use Rattle.wgsl_syntax.specs.Scalar.{scalar_text, scalars}
+use Rattle.wgsl_syntax.specs.declared.scalar.Scalar.{Scalar}
+use Rattle.wgsl_syntax.specs.Texture.{texture_name}
+use Rattle.wgsl_syntax.specs.declared.scalar.Scalar.TheVariants.{Bool as BoolScalar}
+use Rattle.wgsl_syntax.specs.declared.texture.SamplerType.TheVariants.{Sampler}
+use Rattle.wgsl_syntax.specs.declared.texture.TextureType.{TextureType}
+use Rattle.wgsl_syntax.specs.declared.texture.TextureType.TheVariants.{External}
+use Rattle.wgsl_rules.specs.types.Types.{WgslType, scalar, struct}
+use Rattle.wgsl_requests.specs.declared.outer.Outer.{Outer}
+use Rattle.wgsl_requests.specs.declared.words.Unread.{Unread}
+use Rattle.wgsl_requests.specs.Grammar.{LayerAt, LeafAt, TypeAt, acceleration_structure_at, around, array_at, atomic_at, binding_array_at, layer_at, leaf_at, mat_at, ptr_at, ray_query_at, ref_at, sampler_at, scalar_at, struct_at, texture_at, vec_at}
+use Rattle.wgsl_requests.specs.Reading.{Beginning, NoneAt, Reads}
+use Rattle.wgsl_requests.specs.internal.Layers.{InLayerAt, InsideAt, OtherAt, ReadsLayer, ReadsNext, is_layer_word, wrapped}
+use Rattle.wgsl_requests.specs.internal.Structs.{StructAt}
+use Rattle.wgsl_requests.proofs.Readers.{answers_by}
+use Rattle.wgsl_requests.proofs.Meanings.{here, into_here, named_none, not_eq, past, past_option}
+use Rattle.wgsl_requests.proofs.Forms.{form, layer_both, one_layer}
+use Rattle.wgsl_requests.proofs.LayerReads.{wrapped-last}
+
+-- the words begin with the word of a layer
+abbrev pub BeginsLayer : List (List ℕ) → Type 0
+BeginsLayer [] = ⊥
+BeginsLayer (word ∷ words) = is_layer_word word ≡ true
+
+pub layer_word : {words rest : List (List ℕ)} {layer : Outer} → LayerAt words layer rest → BeginsLayer words
+layer_word (vec_at f) = refl
+layer_word (mat_at f g) = refl
+layer_word (array_at f) = refl
+layer_word (binding_array_at f) = refl
+layer_word atomic_at = refl
+layer_word (ptr_at s m) = refl
+layer_word (ref_at s m) = refl
+
+scalar_no_layer : (s : Scalar) → is_layer_word (scalar_text s) ≡ true → ⊥
+scalar_no_layer BoolScalar e = cc e
+scalar_no_layer _ e = cc e
+
+texture_no_layer : (x : TextureType) → is_layer_word (texture_name x) ≡ true → ⊥
+texture_no_layer External e = cc e
+texture_no_layer _ e = cc e
+
+leaf_no_layer : {words rest : List (List ℕ)} {t : WgslType} → LeafAt words t rest → BeginsLayer words → ⊥
+leaf_no_layer (ray_query_at f) e = cc e
+leaf_no_layer (acceleration_structure_at f) e = cc e
+leaf_no_layer (sampler_at Sampler) e = cc e
+leaf_no_layer (sampler_at _) e = cc e
+leaf_no_layer (texture_at x) e = texture_no_layer x e
+
+-- a type that begins with the word of a layer is inside one
+pub in_layer : {words rest : List (List ℕ)} {t : WgslType} → TypeAt words t rest → BeginsLayer words → InLayerAt words t rest
+in_layer (scalar_at s) e = absurd (scalar_no_layer s e)
+in_layer (leaf_at d) e = absurd (leaf_no_layer d e)
+in_layer (layer_at {words} {after} {rest} {layer} {t} d inner) e = (layer, after, d, (t, inner, refl))
+in_layer (struct_at is d) e = absurd (cc e)
+
+module _ (word : List ℕ) (words : List (List ℕ)) where
+  pub scalar_read : (s : Scalar) (t : WgslType) → word ≡ scalar_text s → t ≡ scalar s → TypeAt (word ∷ words) t words
+  scalar_read s t is seen = subst (λ t. TypeAt (word ∷ words) t words) (sym seen) (subst (λ w. TypeAt (w ∷ words) (scalar s) words) (sym is) (scalar_at s))
+
+  -- a struct is read
+  struct_type : (t : WgslType) (rest : List (List ℕ)) → word ≡ codes "struct" → StructAt words t rest → TypeAt (word ∷ words) t rest
+  struct_type t rest is s =
+      subst (λ w. TypeAt (w ∷ words) t rest) (sym is)
+      (subst (λ t. TypeAt (codes "struct" ∷ words) t rest) (sym s.type_is) (subst (λ ws. TypeAt (codes "struct" ∷ ws) (struct s.name s.members) rest) (sym s.words_are) (struct_at s.is_count s.members_at)))
+
+  pub struct_read : {A : Type 0} (view : A → WgslType) (after : List (List ℕ)) (r : Result A Unread) → word ≡ codes "struct" → Reads StructAt view words after r → Reads TypeAt view (word ∷ words) after r
+  struct_read view after r is h =
+      answers_by (λ x. StructAt words (view x) after) (λ x. TypeAt (word ∷ words) (view x) after) (NoneAt StructAt words) (NoneAt TypeAt (word ∷ words))
+      (λ x d. struct_type (view x) after is d) (λ none t rest d. none t rest (form (subst (λ w. TypeAt (w ∷ words) t rest) is d))) r h
+
+  -- any other type is read
+  other_type_by : (b : Bool) (t : WgslType) (rest : List (List ℕ)) → MatchBool b (InLayerAt (word ∷ words) t rest) (LeafAt (word ∷ words) t rest) → TypeAt (word ∷ words) t rest
+  other_type_by true t rest f = subst (λ t. TypeAt (word ∷ words) t rest) (sym f.3.2) (layer_at f.2 f.3.1)
+  other_type_by false t rest f = leaf_at f
+
+  pub other_read : {A : Type 0} (view : A → WgslType) (after : List (List ℕ)) (r : Result A Unread) → ((s : Scalar) → word ≡ scalar_text s → ⊥) → word ≢ codes "struct"
+      → Reads OtherAt view (word ∷ words) after r → Reads TypeAt view (word ∷ words) after r
+  other_read view after r no_scalar no_struct h =
+      answers_by (λ x. OtherAt (word ∷ words) (view x) after) (λ x. TypeAt (word ∷ words) (view x) after) (NoneAt OtherAt (word ∷ words)) (NoneAt TypeAt (word ∷ words))
+      (λ x d. other_type_by (is_layer_word word) (view x) after d)
+      (λ none t rest d. none t rest (past _ _ _ (not_eq word _ no_struct) (past_option _ _ _ (named_none scalar_text scalars word no_scalar) (form d)))) r h
+
+-- a layer, and what is inside, are read
+pub inside_read : {A : Type 0} (view : A → WgslType) (word : List ℕ) (words mid after : List (List ℕ)) (layer : Outer) (r : Result A Unread) → LayerAt (word ∷ words) layer mid
+    → Reads (InsideAt layer) view mid after r → Reads OtherAt view (word ∷ words) after r
+inside_read view word words mid after layer r d h =
+    answers_by (λ x. InsideAt layer mid (view x) after) (λ x. OtherAt (word ∷ words) (view x) after) (NoneAt (InsideAt layer) mid) (NoneAt OtherAt (word ∷ words))
+    (λ x f. into_here _ _ _ (layer_word d) (layer, mid, d, f))
+    (λ none t rest o.
+    let f = here _ _ _ (layer_word d) o in
+    let a = one_layer (word ∷ words) layer f.0 mid f.1 d f.2 in
+    none t rest (f.3.0, subst (λ ws. TypeAt ws f.3.0 rest) (sym a.1) f.3.1, f.3.2 ∙ ap (λ l. around l f.3.0) (sym a.0))) r h
+
+-- from the words after the first to all
+pub read_on : {A B : Type 0} (At : Beginning B) (view : A → B) (words : List (List ℕ)) (word : List ℕ) (mid after : List (List ℕ)) (r : Result A Unread) → words ≡ word ∷ mid
+    → Reads At view (word ∷ mid) after r → Reads At view words after r
+read_on At view words word mid after r e h = subst (λ ws. Reads At view ws after r) (sym e) h
+
+-- the words are a type inside these layers
+abbrev pub LayersAt : List Outer → List (List ℕ) → WgslType → List (List ℕ) → Type 0
+LayersAt layers words t rest = (inner : WgslType) × TypeAt words inner rest × (t ≡ wrapped layers inner)
+
+-- From the start on a type stands inside the outermost layer as one stands from now on inside these layers.
+pub record Nested (outermost : Outer) (start : List (List ℕ)) (layers : List Outer) (now : List (List ℕ)) : Type 0 where
+  pub forth : (t : WgslType) (rest : List (List ℕ)) → LayersAt layers now t rest → InsideAt outermost start t rest
+  pub back : (t : WgslType) (rest : List (List ℕ)) → InsideAt outermost start t rest → LayersAt layers now t rest
+
+pub nested_start : (outermost : Outer) (start : List (List ℕ)) (layers : List Outer) → layers ≡ outermost ∷ [] → Nested outermost start layers start
+nested_start outermost start layers e = subst (λ ls. Nested outermost start ls start) (sym e) (record { forth = λ t rest f. f; back = λ t rest f. f })
+
+module _ (outermost : Outer) (start : List (List ℕ)) (layers : List Outer) (now : List (List ℕ)) (h : Nested outermost start layers now) where
+  -- one more layer
+  pub nested_more : (layer : Outer) (mid : List (List ℕ)) (more : List Outer) → LayerAt now layer mid → more ≡ layers ++ layer ∷ [] → Nested outermost start more mid
+  nested_more layer mid more d e = subst (λ ls. Nested outermost start ls mid) (sym e) (record {
+    forth = λ t rest f. h.forth t rest (around layer f.0, layer_at d f.1, f.2 ∙ wrapped-last layers layer f.0);
+    back = λ t rest i.
+        let f = h.back t rest i in
+        let g : InLayerAt now f.0 rest = (layer_both d f.0 rest).1 (form f.1) in
+        let a = one_layer now layer g.0 mid g.1 d g.2 in (
+          g.3.0,
+          subst (λ ws. TypeAt ws g.3.0 rest) (sym a.1) g.3.1,
+          f.2 ∙ (ap (wrapped layers) (g.3.2 ∙ ap (λ l. around l g.3.0) (sym a.0)) ∙ sym (wrapped-last layers layer g.3.0)),
+        );
+  })
+
+  -- the type inside is read
+  pub nested_end : (after : List (List ℕ)) (t u : WgslType) → TypeAt now u after → t ≡ wrapped layers u → InsideAt outermost start t after
+  nested_end after t u d e = h.forth t after (u, d, e)
+
+  -- there is none
+  pub nested_none : NoneAt TypeAt now → NoneAt (InsideAt outermost) start
+  nested_none none t rest i = let f = h.back t rest i in none f.0 rest f.1
+
+-- a word begins a layer, but its words are none
+pub nested_no_layer : (outermost : Outer) (start : List (List ℕ)) (layers : List Outer) (word : List ℕ) (words : List (List ℕ)) → Nested outermost start layers (word ∷ words)
+    → (is_layer_word word ≡ true) × NoneAt LayerAt (word ∷ words) → NoneAt (InsideAt outermost) start
+nested_no_layer outermost start layers word words h none =
+    nested_none outermost start layers (word ∷ words) h (λ t rest d. let f : InLayerAt (word ∷ words) t rest = in_layer d none.0 in none.1 f.0 f.1 f.2)
+
+-- a scalar inside a layer
+pub scalar_inside : (layer : Outer) (words : List (List ℕ)) (word : List ℕ) (mid : List (List ℕ)) (s : Scalar) (inner t : WgslType) → words ≡ word ∷ mid → word ≡ scalar_text s → inner ≡ scalar s
+    → t ≡ around layer inner → InsideAt layer words t mid
+scalar_inside layer words word mid s inner t e is seen made = (inner, subst (λ ws. TypeAt ws inner mid) (sym e) (scalar_read word mid s inner is seen), made)
+
+-- what is found, where something is or nothing
+pub layer_of : (word : List ℕ) (before after : List (List ℕ)) (found : Option Outer) (layer : Outer) → found ≡ Some layer → ReadsLayer word before after (Ok found) → LayerAt (word ∷ before) layer after
+layer_of word before after found layer e h = subst (λ f. ReadsLayer word before after (Ok f)) e h
+
+pub next_of : (word : List ℕ) (before after : List (List ℕ)) (found : Option Outer) (layer : Outer) → found ≡ Some layer → ReadsNext word before after (Ok found) → LayerAt (word ∷ before) layer after
+next_of word before after found layer e h = subst (λ f. ReadsNext word before after (Ok f)) e h
+
+pub no_next_of : (word : List ℕ) (before after : List (List ℕ)) (found : Option Outer) → ((layer : Outer) → found ≡ Some layer → ⊥) → ReadsNext word before after (Ok found) → after ≡ before
+no_next_of word before after None none h = h
+no_next_of word before after (Some layer) none h = absurd (none layer refl)
+
+pub room_of : (found : Option Outer) (layer : Outer) (P : Type 0) → found ≡ Some layer → OnSome found P → P
+room_of found layer P e h = subst (λ f. OnSome f P) e h
+
+-- one more layer in the array
+pub take_set : (layers : List Outer) (n : ℕ) (layer : Outer) → n < length layers → take (n + 1) (set layers n layer) ≡ take n layers ++ layer ∷ []
+take_set layers n layer within = let e : n + 1 ≡ suc n = omega arith in rw e (take-suc-set layers n layer within)

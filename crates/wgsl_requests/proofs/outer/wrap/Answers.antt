@@ -1,0 +1,10 @@
+use Rattle.std.proofs.Common.{◌-◌, ap, arith, sym, ◌∙◌, take}
+use Rattle.wgsl_requests.specs.internal.Layers.{wrapped}
+use Rattle.wgsl_requests.proofs.LayerReads.{wrapped-take}
+use Rattle.wgsl_requests.proofs.outer.wrap.Goals as goal
+
+pub loop-left-preserved : goal.loop-left-preserved
+loop-left-preserved c = (
+  omega (arith, c.loop-left.invariant.0),
+  c.loop-left.invariant.1 ∙ (wrapped-take _ _ _ _ (omega (arith, c.loop-left-test.true)) c.loop-left.invariant.0 ∙ ap (wrapped (take (c.loop-left.left - 1) c.args.layers.now)) (sym c.in_ok-ty.ensures)),
+)

@@ -1,0 +1,43 @@
+-- What a request gets.
+use Rattle.std.specs.Prelude.{◌≡◌, ◌≢◌, ◌<◌, ◌≤◌, ℕ, List, [], All, IsUtf8, false, length, string_bytes, true}
+use Rattle.wgsl_requests.specs.Answers.{IsReply}
+use Rattle.wgsl_requests.specs.Requests.{NoRequest}
+use Rattle.wgsl_requests.specs.Words.{has_forbidden, words_of}
+use Rattle.wgsl_requests.specs.declared.request.Reply.{Reply}
+use Rattle.wgsl_requests.specs.declared.request.Reply.TheVariants as r
+use Rattle.wgsl_requests.specs.declared.request.ReplyKind.{ReplyKind}
+use Rattle.wgsl_requests.specs.declared.request.ReplyKind.TheVariants as k
+
+-- the reply to a request: nothing, a text, or that it can't be read
+pub data ReplyText : Type 0 where
+  nothing : ReplyText
+  answer : List ℕ → ReplyText
+  unreadable : ReplyText
+
+-- at most 4096 bytes of UTF-8, without a line feed and a NUL
+pub record IsLineOfText (bytes : List ℕ) : Type 0 where
+  pub short : length bytes ≤ 4096
+  pub allowed : has_forbidden bytes ≡ false
+  pub is_text : All IsUtf8 (words_of bytes)
+
+-- the reply to the bytes of a request
+pub data IsReplyTo (bytes : List ℕ) : ReplyText → Type 0 where
+  too_long : 4096 < length bytes → IsReplyTo bytes unreadable
+  forbidden : has_forbidden bytes ≡ true → IsReplyTo bytes unreadable
+  no_text : ¬ All IsUtf8 (words_of bytes) → IsReplyTo bytes unreadable
+  no_request : IsLineOfText bytes → words_of bytes ≢ [] → NoRequest (words_of bytes) → IsReplyTo bytes unreadable
+  no_words : IsLineOfText bytes → words_of bytes ≡ [] → IsReplyTo bytes nothing
+  answered : (text : List ℕ) → IsLineOfText bytes → words_of bytes ≢ [] → IsReply (words_of bytes) text →
+      IsReplyTo bytes (answer text)
+
+-- a reply of this kind, if this text was written for it
+abbrev pub reply_of_kind : ReplyKind → List ℕ → ReplyText
+reply_of_kind k.Nothing text = nothing
+reply_of_kind k.Answer text = answer text
+reply_of_kind k.Unreadable text = unreadable
+
+-- a reply, without the memory that holds its text
+abbrev pub reply_text : Reply → ReplyText
+reply_text r.Nothing = nothing
+reply_text (r.Answer text) = answer (string_bytes text)
+reply_text r.Unreadable = unreadable

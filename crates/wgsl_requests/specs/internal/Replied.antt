@@ -1,0 +1,33 @@
+-- What a command writes.
+use Rattle.std.specs.Prelude.{◌≡◌, ℕ, List, Result, map, option_map}
+use Rattle.wgsl_rules.specs.types.Types.{WgslType, struct, Members}
+use Rattle.wgsl_rules.specs.types.Signatures.{Signature}
+use Rattle.wgsl_core.specs.View.{view}
+use Rattle.wgsl_core.specs.Instances.{parameter_view}
+use Rattle.wgsl_requests.specs.Answers.{IsReply}
+use Rattle.wgsl_requests.specs.Reading.{Answers}
+use Rattle.wgsl_requests.specs.Requests.{NoRequest}
+use Rattle.wgsl_requests.specs.declared.command.Callee.{Callee}
+use Rattle.wgsl_requests.specs.declared.words.Unread.{Unread}
+use Rattle.wgsl_requests.specs.internal.Written.{Adds}
+
+-- The answer to the request that the words spell is written. The error is `Word` only if they
+-- spell none.
+abbrev pub Replies : List (List ℕ) → List ℕ → List ℕ → Result (Unit {0}) Unread → Type 0
+Replies words old new r = Answers (λ done. Adds (IsReply words) old new) (NoRequest words) r
+
+-- A text about the struct is written. The error is `Word` only if the type is no struct.
+abbrev pub WritesOfStruct : (List ℕ → Members → List ℕ → Type 0) → WgslType →
+    List ℕ → List ℕ → Result (Unit {0}) Unread → Type 0
+WritesOfStruct Is t old new r =
+    Answers (λ done. (name : List ℕ) × (ms : Members) × (t ≡ struct name ms)
+    × Adds (Is name ms) old new)
+    ((name : List ℕ) (ms : Members) → ¬ t ≡ struct name ms) r
+
+-- the call that is made
+abbrev pub callee_view : Callee → Signature
+callee_view callee = record {
+  name = callee.name.now;
+  template = option_map (λ ps. map parameter_view ps.items) callee.template;
+  arguments = map view callee.types.items;
+}

@@ -1,0 +1,33 @@
+-- What is written at the end of a text.
+use Rattle.std.specs.Prelude.{◌≡◌, ◌++◌, ℕ, List, [], ◌∷◌, Result, Ok, Err}
+use Rattle.wgsl_rules.specs.errors.Refusals.{Refusal}
+use Rattle.wgsl_core.specs.Answer.{refusal}
+use Rattle.wgsl_core.specs.View.{member_view}
+use Rattle.wgsl_core.specs.declared.error.Fail.{Fail}
+use Rattle.wgsl_core.specs.declared.error.Fail.TheVariants.{Error, Memory}
+use Rattle.wgsl_core.specs.declared.layout.PlacedMember.{PlacedMember}
+use Rattle.wgsl_core.specs.declared.ty.StructMemberType.{StructMemberType}
+use Rattle.wgsl_requests.specs.Layouts.{member_line}
+
+-- a text of which P holds is written at the end
+abbrev pub Adds : (List ℕ → Type 0) → List ℕ → List ℕ → Type 0
+Adds P old new = (text : List ℕ) × P text × (new ≡ old ++ text)
+
+-- P holds of the refusal; out of memory is none
+abbrev pub IsRefusal : (Refusal → Type 0) → Fail → Type 0
+IsRefusal P (Error e) = P (refusal e)
+IsRefusal P (Memory e) = ⊥
+
+-- P holds of the value as `seen` shows it, or of the refusal; out of memory is neither
+abbrev pub Shows : {A B : Type 0} → (A → B) → (Result B Refusal → Type 0) → Result A Fail → Type 0
+Shows seen P (Ok a) = P (Ok (seen a))
+Shows seen P (Err fail) = IsRefusal (λ e. P (Err e)) fail
+
+-- the line of a member with its layout
+abbrev pub placed_line : StructMemberType → PlacedMember → List ℕ
+placed_line m p = let seen = member_view m in member_line p.offset p.size p.align seen.name seen.ty
+
+-- a line for each member that has a layout
+abbrev pub placed_lines : List StructMemberType → List PlacedMember → List ℕ
+placed_lines (m ∷ ms) (p ∷ ps) = placed_line m p ++ placed_lines ms ps
+placed_lines ms ps = []

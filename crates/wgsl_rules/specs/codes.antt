@@ -1,0 +1,5 @@
+pub mod Words
+pub mod Heads
+pub mod Reading
+pub mod Codes
+pub mod Decoding
