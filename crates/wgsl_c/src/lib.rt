@@ -2,8 +2,6 @@
 #![tactic(auto)]
 
 mod hand_over;
-#[cfg(test)]
-mod tests;
 
 ghost use Rattle.std.specs.Prelude.{◌≡◌, ◌≢◌, ◌⊎◌, ◌<◌, ◌≤◌, [], All, IsUtf8, Ok, Result, drop, length, take, true};
 ghost use Rattle.std.specs.declared.alloc.AllocError.{AllocError};

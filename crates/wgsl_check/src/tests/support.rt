@@ -32,13 +32,6 @@ pub fn expect(
     assert_eq!(rt; target.flushed, target.taken.len());
 }
 
-/// The same, with whole reads and writes.
-pub fn expect_whole(rt: &(impl Abort + AllocGlobal), input: &[u8], readable: bool, output: &str) {
-    let source = Source::new(input, WHOLE);
-    let target = Target::new(rt.alloc(), WHOLE);
-    expect(rt, source, target, Ok(readable), output);
-}
-
 /// Asks each line, all in one run, and compares what is printed for it with the answer beside it. The answer to a line
 /// that can't be read begins `bad line`.
 pub fn expect_answers(
