@@ -8,7 +8,7 @@ use Rattle.wgsl_syntax.specs.declared.call.ReturnType.{ReturnType}
 use Rattle.wgsl_rules.specs.calls.Rows.{IsReturnType}
 use Rattle.wgsl_rules.specs.calls.Table.{call_table, rows_named}
 use Rattle.wgsl_rules.specs.calls.Answers.{IsAnswerOf, IsCallAnswer, IsLeastCallAnswer, IsLeafAnswer, IsLeafCall}
-use Rattle.wgsl_rules.proofs.calls.OneAnswer.{answer_once}
+use Rattle.wgsl_rules.proofs.calls.OneAnswer.{call_answer_once}
 use Rattle.wgsl_rules.proofs.calls.ChosenCalls.{call_is_least}
 use Rattle.wgsl_core.specs.View.{view}
 use Rattle.wgsl_core.specs.Answer.{refusal, AnswersAs, IsAnswered}
@@ -47,14 +47,10 @@ never_wanted (Err e) k f = f
 never_wanted (Ok None) k f = k
 never_wanted (Ok (Some t)) k f = k f
 
-one_answer : (c : Signature) (a b : Result (Option WgslType) Refusal) → c.template ≡ None → IsCallAnswer c a → IsCallAnswer c b → a ≡ b
-unfolding IsCallAnswer
-one_answer c a b n p q = answer_once (rows_named c.name call_table) c a b n p q
-
 pub leaf_answered : (c : Signature) (r : Result (Option «Type») Fail) → Answered (IsCallAnswer c) c.template r → IsLeafCall c → IsAnswered r
 unfolding IsLeafCall
 leaf_answered c (Ok t) k f = tt
 leaf_answered c (Err (fails.Error e)) k f = tt
 leaf_answered c (Err (fails.Memory m)) k f =
     let j = k f.0 in
-    never_wanted j.0 j.2 (subst IsLeafAnswer (one_answer c f.1 j.0 f.0 f.2 j.1) f.3)
+    never_wanted j.0 j.2 (subst IsLeafAnswer (call_answer_once c f.1 j.0 f.2 j.1) f.3)

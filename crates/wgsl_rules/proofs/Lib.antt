@@ -2,6 +2,8 @@ pub mod types
 pub mod conversion
 pub mod layout
 pub mod operators
+pub mod templates
+pub mod constructors
 pub mod calls
 pub mod codes
 pub mod Examples

@@ -4,4 +4,5 @@ pub mod OneSize
 pub mod StructSizes
 pub mod StructAligns
 pub mod Offsets
+pub mod OneLayout
 pub mod MatrixColumns

@@ -6,3 +6,4 @@ pub mod Groups
 pub mod Rows
 pub mod ChosenRows
 pub mod Unary
+pub mod OneAnswer

@@ -1,12 +1,12 @@
--- A call without a template has one answer.
-use Rattle.std.proofs.Common.{◌≡◌, List, [], ◌∷◌, Option, None, Some, Result, inl, inr, refl, sym, ap, subst, ◌∙◌, option_map}
+-- A call of a built-in function has at most one answer, with a template or without.
+use Rattle.std.proofs.Common.{◌≡◌, List, [], ◌∷◌, Option, None, Some, Result, Ok, Err, inl, inr, refl, sym, ap, subst, ◌∙◌, option_map}
 use Rattle.std.specs.Option.{option_and_then}
 use Rattle.wgsl_syntax.specs.declared.result_struct.ResultFunction.{ResultFunction}
 use Rattle.wgsl_rules.specs.types.Types.{WgslType, vec}
 use Rattle.wgsl_rules.specs.types.Inner.{inner_of}
 use Rattle.wgsl_rules.specs.conversion.Concrete.{concretized}
 use Rattle.wgsl_rules.specs.types.ResultStructs.{result_struct}
-use Rattle.wgsl_rules.specs.types.Signatures.{Signature}
+use Rattle.wgsl_rules.specs.types.Signatures.{Parameter, Signature}
 use Rattle.wgsl_rules.specs.errors.Refusals.{Refusal}
 use Rattle.wgsl_rules.specs.calls.ResultTypes.{IsResultOf}
 use Rattle.wgsl_syntax.specs.declared.call.Source.{Source}
@@ -15,8 +15,10 @@ use Rattle.wgsl_syntax.specs.declared.call.Source.TheVariants.{Argument, Inner, 
 use Rattle.wgsl_syntax.specs.declared.call.ReturnType.TheVariants.{Of, Concrete, AsLong, InVector, Transposed, TextureSize, ResultOf, ExchangeResult, RayIntersection, HitPositions, NoValue, ByTemplate}
 use Rattle.wgsl_syntax.specs.declared.call.Row.{Row}
 use Rattle.wgsl_rules.specs.calls.Rows.{return_type_of, first, second, third, IsCommonOf, IsSource, vector_like, IsResultFor, given, IsFromTemplate, IsReturnType}
-use Rattle.wgsl_rules.specs.calls.Answers.{IsAnswerOf}
+use Rattle.wgsl_rules.specs.calls.Table.{call_table, rows_named}
+use Rattle.wgsl_rules.specs.calls.Answers.{IsAnswerOf, IsCallAnswer}
 use Rattle.wgsl_rules.proofs.conversion.Commons.{common_once}
+use Rattle.wgsl_rules.proofs.templates.OneAnswer.{bitcast_template_once}
 use Rattle.wgsl_rules.proofs.calls.Fractions.{one_fraction}
 
 abbrev Answer : Type 0
@@ -55,25 +57,44 @@ result_for_once : (f : ResultFunction) (t c d : Option WgslType) → IsResultFor
 result_for_once f None c d p q = p ∙ sym q
 result_for_once f (Some t) c d p q = result_once f t c d p q
 
-return_type_once : (o : ReturnType) (c : Signature) (a b : Answer) → c.template ≡ None → IsReturnType o c a → IsReturnType o c b → a ≡ b
-return_type_once (Of x) c a b n p q = p.2 ∙ (ap (given c) (source_once x c.arguments p.0 q.0 p.1 q.1) ∙ sym q.2)
-return_type_once (Concrete x) c a b n p q = p.2 ∙ (ap (λ t. given c (option_map concretized t)) (source_once x c.arguments p.0 q.0 p.1 q.1) ∙ sym q.2)
-return_type_once (AsLong x) c a b n p q =
-    p.2 ∙ (ap (λ t. given c (option_and_then (λ f. option_and_then (vector_like f) t) (first c.arguments))) (source_once x c.arguments p.0 q.0 p.1 q.1) ∙ sym q.2)
-return_type_once (InVector k x) c a b n p q = p.2 ∙ (ap (λ t. given c (option_map (vec k) t)) (source_once x c.arguments p.0 q.0 p.1 q.1) ∙ sym q.2)
-return_type_once Transposed c a b n p q = p ∙ sym q
-return_type_once TextureSize c a b n p q = p ∙ sym q
-return_type_once (ResultOf f) c a b n p q = p.2 ∙ (ap (given c) (result_for_once f (first c.arguments) p.0 q.0 p.1 q.1) ∙ sym q.2)
-return_type_once ExchangeResult c a b n p q = p ∙ sym q
-return_type_once RayIntersection c a b n p q = p ∙ sym q
-return_type_once HitPositions c a b n p q = p ∙ sym q
-return_type_once NoValue c a b n p q = p ∙ sym q
-return_type_once ByTemplate c a b n p q =
-    subst (λ t. IsFromTemplate c t a) n p ∙ sym (subst (λ t. IsFromTemplate c t b) n q)
+from_template_once : (c : Signature) (template : Option (List Parameter)) (a b : Answer) → IsFromTemplate c template a → IsFromTemplate c template b → a ≡ b
+from_template_once c (Some ps) (Ok (Some t)) (Ok (Some u)) p q =
+    let e : Ok t ≡ Ok u = bitcast_template_once ps (Ok t) (Ok u) p q in
+    let same : t ≡ u = cc e in
+    ap (λ t. Ok (Some t)) same
+from_template_once c (Some ps) (Ok (Some t)) (Ok None) p q = absurd q
+from_template_once c (Some ps) (Ok (Some t)) (Err e) p q = absurd (cc (bitcast_template_once ps (Ok t) (Err e) p q))
+from_template_once c (Some ps) (Ok None) b p q = absurd p
+from_template_once c (Some ps) (Err d) (Ok (Some u)) p q = absurd (cc (bitcast_template_once ps (Err d) (Ok u) p q))
+from_template_once c (Some ps) (Err d) (Ok None) p q = absurd q
+from_template_once c (Some ps) (Err d) (Err e) p q =
+    let f : Err d ≡ Err e = bitcast_template_once ps (Err d) (Err e) p q in
+    let same : d ≡ e = cc f in
+    ap Err same
+from_template_once c None a b p q = p ∙ sym q
 
-pub answer_once : (rs : List Row) (c : Signature) (a b : Answer) → c.template ≡ None → IsAnswerOf rs c a → IsAnswerOf rs c b → a ≡ b
-answer_once [] c a b n p q = p ∙ sym q
-answer_once (r ∷ rs) c a b n (inl p) (inl q) = return_type_once (return_type_of r) c a b n p.1 q.1
-answer_once (r ∷ rs) c a b n (inl p) (inr q) = absurd (q.0 p.0)
-answer_once (r ∷ rs) c a b n (inr p) (inl q) = absurd (p.0 q.0)
-answer_once (r ∷ rs) c a b n (inr p) (inr q) = answer_once rs c a b n p.1 q.1
+return_type_once : (o : ReturnType) (c : Signature) (a b : Answer) → IsReturnType o c a → IsReturnType o c b → a ≡ b
+return_type_once (Of x) c a b p q = p.2 ∙ (ap (given c) (source_once x c.arguments p.0 q.0 p.1 q.1) ∙ sym q.2)
+return_type_once (Concrete x) c a b p q = p.2 ∙ (ap (λ t. given c (option_map concretized t)) (source_once x c.arguments p.0 q.0 p.1 q.1) ∙ sym q.2)
+return_type_once (AsLong x) c a b p q =
+    p.2 ∙ (ap (λ t. given c (option_and_then (λ f. option_and_then (vector_like f) t) (first c.arguments))) (source_once x c.arguments p.0 q.0 p.1 q.1) ∙ sym q.2)
+return_type_once (InVector k x) c a b p q = p.2 ∙ (ap (λ t. given c (option_map (vec k) t)) (source_once x c.arguments p.0 q.0 p.1 q.1) ∙ sym q.2)
+return_type_once Transposed c a b p q = p ∙ sym q
+return_type_once TextureSize c a b p q = p ∙ sym q
+return_type_once (ResultOf f) c a b p q = p.2 ∙ (ap (given c) (result_for_once f (first c.arguments) p.0 q.0 p.1 q.1) ∙ sym q.2)
+return_type_once ExchangeResult c a b p q = p ∙ sym q
+return_type_once RayIntersection c a b p q = p ∙ sym q
+return_type_once HitPositions c a b p q = p ∙ sym q
+return_type_once NoValue c a b p q = p ∙ sym q
+return_type_once ByTemplate c a b p q = from_template_once c c.template a b p q
+
+answer_once : (rs : List Row) (c : Signature) (a b : Answer) → IsAnswerOf rs c a → IsAnswerOf rs c b → a ≡ b
+answer_once [] c a b p q = p ∙ sym q
+answer_once (r ∷ rs) c a b (inl p) (inl q) = return_type_once (return_type_of r) c a b p.1 q.1
+answer_once (r ∷ rs) c a b (inl p) (inr q) = absurd (q.0 p.0)
+answer_once (r ∷ rs) c a b (inr p) (inl q) = absurd (p.0 q.0)
+answer_once (r ∷ rs) c a b (inr p) (inr q) = answer_once rs c a b p.1 q.1
+
+pub call_answer_once : (c : Signature) (a b : Answer) → IsCallAnswer c a → IsCallAnswer c b → a ≡ b
+unfolding IsCallAnswer
+call_answer_once c a b p q = answer_once (rows_named c.name call_table) c a b p q

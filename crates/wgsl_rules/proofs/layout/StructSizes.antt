@@ -229,7 +229,8 @@ not_empty no_members [] e known h = omega arith
 not_empty no_members (p ∷ ps) e known h = known
 not_empty (member name t size align ms) ps e known h = cc
 
-never_both : (ms : Members) (n : ℕ) → IsStructSize (HaveLayouts ms) n → HasNoSize ms → ⊥
+-- a struct with a size has none of the causes to have none
+pub never_both : (ms : Members) (n : ℕ) → IsStructSize (HaveLayouts ms) n → HasNoSize ms → ⊥
 never_both ms n h (unknown u) = not_unknown ms h.layouts h.known u
 never_both ms n h (zero_align u) = not_zero ms h.layouts h.known (all_aligned h.layouts h.aligned) u
 never_both ms n h (empty e) = not_empty ms h.layouts e h.known h.some_member

@@ -10,10 +10,10 @@ use Rattle.wgsl_rules.specs.conversion.Common.{IsCommon}
 use Rattle.wgsl_rules.specs.operators.Candidates.{IsArithmetic, IsSum, IsComparison, IsLogical, IsBitwise, IsOrAnd, IsShift}
 use Rattle.wgsl_rules.specs.operators.Rows.{IsRow, scalar_row, vector_row, scalar_vector_row, vector_scalar_row, matrix_row, scalar_matrix_row, matrix_scalar_row, vector_matrix_row, matrix_vector_row, matrix_matrix_row, comparison_row, comparison_vector_row, logical_row, bools_row, bit_row, shift_row, shift_vector_row}
 
-data Group : Type 0 where
+pub data Group : Type 0 where
   logicals arithmetics comparisons bits shifts : Group
 
-abbrev group : BinaryOperator → Group
+abbrev pub group : BinaryOperator → Group
 group ShortCircuitOr = logicals
 group ShortCircuitAnd = logicals
 group Addition = arithmetics
@@ -33,12 +33,12 @@ group BitwiseXor = bits
 group ShiftLeft = shifts
 group ShiftRight = shifts
 
-logicals_group : (o : BinaryOperator) → IsLogical o → group o ≡ logicals
+pub logicals_group : (o : BinaryOperator) → IsLogical o → group o ≡ logicals
 logicals_group ShortCircuitOr h = refl
 logicals_group ShortCircuitAnd h = refl
 logicals_group o h = absurd h
 
-arithmetics_group : (o : BinaryOperator) → IsArithmetic o → group o ≡ arithmetics
+pub arithmetics_group : (o : BinaryOperator) → IsArithmetic o → group o ≡ arithmetics
 arithmetics_group Addition h = refl
 arithmetics_group Subtraction h = refl
 arithmetics_group Multiplication h = refl
@@ -46,7 +46,7 @@ arithmetics_group Division h = refl
 arithmetics_group Remainder h = refl
 arithmetics_group o h = absurd h
 
-comparisons_group : (o : BinaryOperator) → IsComparison o → group o ≡ comparisons
+pub comparisons_group : (o : BinaryOperator) → IsComparison o → group o ≡ comparisons
 comparisons_group Equality h = refl
 comparisons_group Inequality h = refl
 comparisons_group LessThan h = refl
@@ -55,23 +55,23 @@ comparisons_group GreaterThan h = refl
 comparisons_group GreaterThanEqual h = refl
 comparisons_group o h = absurd h
 
-bits_group : (o : BinaryOperator) → IsBitwise o → group o ≡ bits
+pub bits_group : (o : BinaryOperator) → IsBitwise o → group o ≡ bits
 bits_group BitwiseOr h = refl
 bits_group BitwiseAnd h = refl
 bits_group BitwiseXor h = refl
 bits_group o h = absurd h
 
-or_and_group : (o : BinaryOperator) → IsOrAnd o → group o ≡ bits
+pub or_and_group : (o : BinaryOperator) → IsOrAnd o → group o ≡ bits
 or_and_group BitwiseOr h = refl
 or_and_group BitwiseAnd h = refl
 or_and_group o h = absurd h
 
-shifts_group : (o : BinaryOperator) → IsShift o → group o ≡ shifts
+pub shifts_group : (o : BinaryOperator) → IsShift o → group o ≡ shifts
 shifts_group ShiftLeft h = refl
 shifts_group ShiftRight h = refl
 shifts_group o h = absurd h
 
-sums_group : (o : BinaryOperator) → IsSum o → group o ≡ arithmetics
+pub sums_group : (o : BinaryOperator) → IsSum o → group o ≡ arithmetics
 sums_group Addition h = refl
 sums_group Subtraction h = refl
 sums_group o h = absurd h
