@@ -3,3 +3,8 @@ pub mod Heads
 pub mod Reading
 pub mod Codes
 pub mod Decoding
+pub mod Literals
+pub mod Signatures
+pub mod Refusals
+pub mod DecodingLiterals
+pub mod DecodingSignatures
