@@ -3,3 +3,7 @@ pub mod HeadsAgain
 pub mod Names
 pub mod TypesAgain
 pub mod Spelled
+pub mod Literals
+pub mod Enumerants
+pub mod Signatures
+pub mod Refusals

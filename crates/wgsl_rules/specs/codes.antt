@@ -8,3 +8,4 @@ pub mod Signatures
 pub mod Refusals
 pub mod DecodingLiterals
 pub mod DecodingSignatures
+pub mod DecodingRefusals

@@ -46,11 +46,11 @@ scalar_index : (s : Scalar) → (index scalar_type s < 256) × (slice_get scalar
 scalar_index scalar.Bool = (omega arith, refl)
 scalar_index s = (omega arith, refl)
 
-space_index : (s : AddressSpace) → (index space_type s < 256) × (slice_get spaces (index space_type s) ≡ Some s)
+pub space_index : (s : AddressSpace) → (index space_type s < 256) × (slice_get spaces (index space_type s) ≡ Some s)
 space_index space.Function = (omega arith, refl)
 space_index s = (omega arith, refl)
 
-access_index : (m : AccessMode) → (index access_type m < 256) × (slice_get access_modes (index access_type m) ≡ Some m)
+pub access_index : (m : AccessMode) → (index access_type m < 256) × (slice_get access_modes (index access_type m) ≡ Some m)
 access_index access.Read = (omega arith, refl)
 access_index m = (omega arith, refl)
 
@@ -62,7 +62,7 @@ sampler_index : (s : SamplerType) → (index sampler_type s < 256) × (slice_get
 sampler_index sampler.Sampler = (omega arith, refl)
 sampler_index s = (omega arith, refl)
 
-texel_index : (f : TexelFormat) → (index texel_type f < 256) × (slice_get texel_formats (index texel_type f) ≡ Some f)
+pub texel_index : (f : TexelFormat) → (index texel_type f < 256) × (slice_get texel_formats (index texel_type f) ≡ Some f)
 texel_index texel.Rgba8Unorm = (omega arith, refl)
 texel_index f = (omega arith, refl)
 

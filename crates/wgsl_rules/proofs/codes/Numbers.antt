@@ -38,6 +38,12 @@ number_is (low ∷ high ∷ ws) n h e =
     subst (IsFront number (low ∷ high ∷ ws)) (same_read (low + 2 ^ 32 * high, ws) n e) (halves, λ i. h (suc (suc i)))
 number_is ws n h e = absurd (cc e)
 
+pub number_fits : (ws : List ℕ) (n : ℕ × List ℕ) → AreWords ws → number_at ws ≡ Some n → n.0 < 2 ^ 64
+number_fits (low ∷ high ∷ ws) n h e =
+    let fits : low + 2 ^ 32 * high < 2 ^ 64 = omega (arith, h 0, h 1) in
+    subst (λ (n : ℕ × List ℕ). n.0 < 2 ^ 64) (same_read (low + 2 ^ 32 * high, ws) n e) fits
+number_fits ws n h e = absurd (cc e)
+
 pub attribute_again : (o : Option ℕ) (rest : List ℕ) → attribute_at (attribute o ++ rest) ≡ Some (o, rest)
 attribute_again None rest = refl
 attribute_again (Some n) rest = refl
