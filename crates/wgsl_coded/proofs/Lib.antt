@@ -3,3 +3,5 @@ pub mod Texts
 pub mod Levels
 pub mod Written
 pub mod Decoded
+pub mod Placed
+pub mod Replied

@@ -1,2 +1,5 @@
 pub mod Reads
 pub mod Members
+pub mod Requests
+pub mod Replies
+pub mod Seen

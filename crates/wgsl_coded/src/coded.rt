@@ -12,10 +12,10 @@ use std::alloc::{AllocError, Global};
 use wgsl_core::ty::Type;
 
 /// The greatest depth of a type that is read.
-const DEPTH: u8 = 255;
+pub(crate) const DEPTH: u8 = 255;
 
 #[tactic(auto, unfolding(wgsl_rules::specs::codes::Decoding::decoded))]
-fn read_whole(alloc: Global, words: &[u32]) -> Result<Type, Fault>
+pub(crate) fn read_whole(alloc: Global, words: &[u32]) -> Result<Type, Fault>
     ensures { Reads view result (decoded words.now) }
 {
     let (ty, rest) = read_type(alloc, words, DEPTH)?;

@@ -6,9 +6,9 @@ use std::alloc::{AllocError, AllocFailed};
 
 /// Why words are not read.
 #[derive(Clone, Copy)]
-pub(crate) enum Fault {
+pub enum Fault {
     Memory,
-    /// They are the code of no type.
+    /// They are the code of no type, or of nothing else that is asked for.
     NoType,
 }
 

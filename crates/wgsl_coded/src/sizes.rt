@@ -1,0 +1,90 @@
+// Sizes, alignments and offsets, over words.
+ghost use Rattle.std.specs.Prelude.{◌≡◌, ◌++◌, IfOk, OnOk, option_map};
+ghost use Rattle.wgsl_core.specs.View.{struct_view, view};
+ghost use Rattle.wgsl_core.specs.Layout.{layouts_of, offsets_of};
+ghost use Rattle.wgsl_coded.specs.Replies.{IsLayout, IsLayoutReply, IsReplyTo, IsSizeReply, layout_words, member_words};
+ghost use Rattle.wgsl_coded.specs.Requests.{members_in};
+ghost use Rattle.wgsl_coded.specs.Seen.{reply_words, seen, size_words};
+
+use crate::coded::read_whole;
+use crate::fault::Fault;
+use crate::numbers::write_number;
+use crate::reply::Reply;
+use std::alloc::{AllocError, Global};
+use wgsl_core::layout::{PlacedMember, StructLayout};
+use wgsl_core::ty::form::Form;
+use wgsl_core::ty::{StructType, Type};
+
+/// The size and the alignment of a type in bytes, each if the type has one.
+#[derive(Clone, Copy)]
+pub struct SizeAndAlign {
+    pub size: Option<u32>,
+    pub align: Option<u32>,
+}
+
+/// The size and the alignment of a type. The request is the type.
+pub fn size(alloc: Global, request: &[u32]) -> Result<SizeAndAlign, Fault>
+    ensures { IsSizeReply request.now (seen size_words result) }
+{
+    let ty = read_whole(alloc, request)?;
+    let size = ty.size_of();
+    let align = ty.align_of();
+    drop(ty);
+    Ok(SizeAndAlign { size, align })
+}
+
+/// The layout of a struct, refused without words if it has none. The request is the struct.
+pub fn layout(alloc: Global, request: &[u32]) -> Result<Reply, Fault>
+    ensures { IsLayoutReply request.now (seen reply_words result) }
+{
+    let ty = read_whole(alloc, request)?;
+    let reply = layout_of(alloc, &ty);
+    drop(ty);
+    reply
+}
+
+fn layout_of(alloc: Global, ty: &Type) -> Result<Reply, Fault>
+    ensures { IsReplyTo (members_in (view ty.now)) IsLayout (seen reply_words result) }
+{
+    let Some(structure) = struct_in(ty) else {
+        return Err(Fault::NoType);
+    };
+    match structure.layout(alloc)? {
+        Some(layout) => Ok(Reply::Answer(words_of_layout(alloc, &layout)?)),
+        None => Ok(Reply::Refusal(Vec::new(alloc))),
+    }
+}
+
+/// The struct, if the type is one.
+fn struct_in(ty: &Type) -> Option<&StructType>
+    ensures { option_map (λ s. (struct_view s.now).members) result ≡ members_in (view ty.now) }
+{
+    match ty.form() {
+        Form::Struct(structure) => Some(structure),
+        _ => None,
+    }
+}
+
+#[tactic(auto, using(crate::proofs::Placed::layouts_length, std::proofs::lemmas::List::append_assoc))]
+fn words_of_layout(alloc: Global, layout: &StructLayout) -> Result<Vec<u32>, AllocError>
+    ensures { let members = layout.now.members.items in IfOk result (λ words. words.items
+        ≡ layout_words (layouts_of members) (offsets_of members) layout.now.size layout.now.align) }
+{
+    let len = layout.members.len().saturating_mul(3).saturating_add(4);
+    let mut words = Vec::with_capacity(alloc, len)?;
+    write_number(&mut words, layout.members.len())?;
+    write_members(&mut words, &layout.members)?;
+    words.extend_from_slice(&[layout.size, layout.align])?;
+    Ok(words)
+}
+
+/// Writes the offset, the size and the alignment of each member at the end.
+fn write_members(out: &mut Vec<u32>, members: &[PlacedMember]) -> Result<(), AllocError>
+    ensures { OnOk result (out.new.items
+        ≡ out.old.items ++ member_words (layouts_of members.now) (offsets_of members.now)) }
+{
+    for member in members {
+        out.extend_from_slice(&[member.offset, member.size, member.align])?;
+    }
+    Ok(())
+}
