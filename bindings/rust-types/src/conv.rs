@@ -1,0 +1,143 @@
+//! Conversion of types, and of values that have a type (WGSL, "Conversion Rank").
+
+use crate::ask;
+use crate::code::Words;
+use crate::ffi::Call;
+pub use crate::ty::Ty;
+use crate::ty::Type;
+
+/// The rank of the conversion from `a` to `b`, or None if `a` doesn't convert to `b`.
+///
+/// ```
+/// use wgsl_types_proved::conv::conversion_rank;
+/// use wgsl_types_proved::Type;
+///
+/// assert_eq!(conversion_rank(&Type::AbstractInt, &Type::F32), Some(6));
+/// assert_eq!(conversion_rank(&Type::I32, &Type::U32), None);
+/// ```
+pub fn conversion_rank(a: &Type, b: &Type) -> Option<u32> {
+    let mut request = Words::new();
+    request.ty(a);
+    request.ty(b);
+    ask::option(Call::RANK, &request, |words| words.word())
+}
+
+/// The common type of two types (WGSL, "Overload Resolution"): the one to which the other converts; `b` if both do.
+pub fn convert_ty<'a>(a: &'a Type, b: &'a Type) -> Option<&'a Type> {
+    convert_all_ty([a, b])
+}
+
+/// The common type of the iterator's types, from left to right (WGSL, "Overload Resolution"). None if there is none, as
+/// for no types.
+pub fn convert_all_ty<'a>(types: impl IntoIterator<Item = &'a Type>) -> Option<&'a Type> {
+    let types: Vec<&Type> = types.into_iter().collect();
+    let mut request = Words::new();
+    request.types(types.iter().copied());
+    let common = ask::option(Call::COMMON, &request, |words| words.ty())?;
+    types.into_iter().rev().find(|ty| **ty == common)
+}
+
+impl Type {
+    /// Whether the type converts to `ty`.
+    pub fn is_convertible_to(&self, ty: &Type) -> bool {
+        conversion_rank(self, ty).is_some()
+    }
+
+    /// The type that is left once all references around it are loaded (WGSL, "Load Rule").
+    pub fn loaded(self) -> Type {
+        match self {
+            Type::Ref(_, ty, _) => ty.loaded(),
+            ty => ty,
+        }
+    }
+
+    /// The concrete type for the type (WGSL, "Abstract Numeric Types"): `i32` and `f32` for the abstract numbers, also
+    /// within arrays and vectors. A matrix of an abstract type becomes one of `f32`.
+    pub fn concretize(&self) -> Type {
+        match self {
+            Type::AbstractInt => Type::I32,
+            Type::AbstractFloat => Type::F32,
+            Type::Array(ty, count) => Type::array(*count, ty.concretize()),
+            Type::Vec(components, ty) => Type::vector(*components, ty.concretize()),
+            Type::Mat(columns, rows, ty) if ty.is_abstract() => {
+                Type::matrix(*columns, *rows, Type::F32)
+            }
+            _ => self.clone(),
+        }
+    }
+}
+
+/// A value that can be converted to a type (WGSL, "Conversion Rank").
+pub trait Convert: Sized + Clone + Ty {
+    /// The value converted to a type; None if it doesn't convert.
+    fn convert_to(&self, ty: &Type) -> Option<Self>;
+
+    /// The value with the elements of an array, a vector or a matrix converted to a type; None if they don't convert. Any
+    /// other value is converted as a whole.
+    fn convert_inner_to(&self, ty: &Type) -> Option<Self> {
+        self.convert_to(ty)
+    }
+
+    /// The value converted to the concrete type for its type; None if it doesn't convert.
+    fn concretize(&self) -> Option<Self> {
+        self.convert_to(&self.ty().concretize())
+    }
+}
+
+impl Convert for Type {
+    fn convert_to(&self, ty: &Type) -> Option<Type> {
+        self.is_convertible_to(ty).then(|| ty.clone())
+    }
+
+    fn convert_inner_to(&self, ty: &Type) -> Option<Type> {
+        match self {
+            Type::Array(element, count) => Some(Type::array(*count, element.convert_to(ty)?)),
+            Type::Vec(components, element) => {
+                Some(Type::vector(*components, element.convert_to(ty)?))
+            }
+            Type::Mat(columns, rows, element) => {
+                Some(Type::matrix(*columns, *rows, element.convert_to(ty)?))
+            }
+            _ => self.convert_to(ty),
+        }
+    }
+
+    fn concretize(&self) -> Option<Type> {
+        Some(Type::concretize(self))
+    }
+}
+
+/// Both values converted to their common type; None if there is none, or one of them doesn't convert.
+pub fn convert<T: Convert>(a: &T, b: &T) -> Option<(T, T)> {
+    let (a_type, b_type) = (a.ty(), b.ty());
+    let common = convert_ty(&a_type, &b_type)?;
+    Some((a.convert_to(common)?, b.convert_to(common)?))
+}
+
+/// Both values converted by `convert_inner_to` to the common type of their inner types; None if there is none, or one of
+/// them doesn't convert.
+pub fn convert_inner<T: Convert, U: Convert>(a: &T, b: &U) -> Option<(T, U)> {
+    let (a_type, b_type) = (a.inner_ty(), b.inner_ty());
+    let common = convert_ty(&a_type, &b_type)?;
+    Some((a.convert_inner_to(common)?, b.convert_inner_to(common)?))
+}
+
+/// All values converted to their common type, in order; None if there is none, as for an empty list, or if one doesn't
+/// convert.
+pub fn convert_all<T: Convert>(values: &[T]) -> Option<Vec<T>> {
+    let types: Vec<Type> = values.iter().map(Ty::ty).collect();
+    convert_all_to(values, convert_all_ty(&types)?)
+}
+
+/// All values converted to a type, in order; None if one doesn't convert.
+pub fn convert_all_to<T: Convert>(values: &[T], ty: &Type) -> Option<Vec<T>> {
+    values.iter().map(|value| value.convert_to(ty)).collect()
+}
+
+/// All values converted by `convert_inner_to` to a type, in order; None if one doesn't convert.
+pub fn convert_all_inner_to<T: Convert>(values: &[T], ty: &Type) -> Option<Vec<T>> {
+    values
+        .iter()
+        .map(|value| value.convert_inner_to(ty))
+        .collect()
+}

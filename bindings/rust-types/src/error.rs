@@ -1,0 +1,151 @@
+//! Why an expression has no type.
+
+use crate::inst::LiteralInstance;
+use crate::signature::CallSignature;
+use crate::syntax::{BinaryOperator, UnaryOperator};
+use crate::ty::Type;
+use std::fmt;
+
+/// Why an expression has no type, or no value (WGSL, "Errors").
+#[derive(Clone, Debug, PartialEq, Eq, Hash)]
+pub enum Error {
+    /// What isn't implemented.
+    Todo(String),
+    /// A type that should be a scalar.
+    NotScalar(Type),
+    /// A type that isn't constructible.
+    NotConstructible(Type),
+    /// A sampled type that is none of `i32`, `u32` and `f32`.
+    SampledType(Type),
+    /// The name of an unknown type.
+    UnknownType(String),
+    /// The name of a type that has a template and takes none.
+    UnexpectedTemplate(String),
+    /// The name of a type that takes a template and has none.
+    MissingTemplate(&'static str),
+    /// The type written, and the type that the reference refers to.
+    WriteRefType(Type, Type),
+    /// A write through a reference that can't be written.
+    NotWrite,
+    /// A read through a reference that can't be read.
+    NotRead,
+    /// A read and a write through a reference that doesn't allow both.
+    NotReadWrite,
+    /// A pointer into the handle space.
+    PtrHandle,
+    /// A pointer to a component of a vector.
+    PtrVecComp,
+    /// A type, and the type to which it doesn't convert.
+    Conversion(Type, Type),
+    /// A literal, and a type that it doesn't fit.
+    ConvOverflow(LiteralInstance, Type),
+    /// A type, and the name of a component that it lacks.
+    Component(Type, String),
+    /// A type that can't be indexed.
+    NotIndexable(Type),
+    /// An index, the type that is indexed, and the number of its components.
+    OutOfBounds(usize, Type, usize),
+    /// An operator, and an operand that it doesn't take.
+    Unary(UnaryOperator, Type),
+    /// An operator, and two operands that it doesn't take.
+    Binary(BinaryOperator, Type, Type),
+    /// Two operands that have no component-wise operation.
+    CompwiseBinary(Type, Type),
+    /// A sum that doesn't fit.
+    AddOverflow,
+    /// A difference that doesn't fit.
+    SubOverflow,
+    /// A product that doesn't fit.
+    MulOverflow,
+    /// A division by zero.
+    DivByZero,
+    /// A remainder of a division by zero.
+    RemZeroDiv,
+    /// The number of bits to shift by, and the value shifted.
+    ShlOverflow(u32, LiteralInstance),
+    /// The number of bits to shift by, and the value shifted.
+    ShrOverflow(u32, LiteralInstance),
+    /// A call that no overload takes.
+    Signature(CallSignature),
+    /// What is wrong with a call or a template, in words.
+    Builtin(&'static str),
+    /// The name of a template that doesn't take its parameters.
+    TemplateArgs(&'static str),
+    /// The name called, the number of arguments that it takes, and the number given.
+    ParamCount(String, usize, usize),
+    /// The type expected, and the type of the argument.
+    ParamType(Type, Type),
+}
+
+impl fmt::Display for Error {
+    fn fmt(&self, f: &mut fmt::Formatter<'_>) -> fmt::Result {
+        match self {
+            Error::Todo(v) => write!(f, "not implemented: `{v}`"),
+            Error::NotScalar(t) => write!(f, "expected a scalar type, got `{t}`"),
+            Error::NotConstructible(t) => write!(f, "`{t}` is not constructible"),
+            Error::SampledType(t) => write!(
+                f,
+                "invalid sampled type, expected `i32`, `u32` or `f32`, got `{t}`"
+            ),
+            Error::UnknownType(s) => write!(f, "unknown type `{s}`"),
+            Error::UnexpectedTemplate(s) => {
+                write!(f, "type `{s}` does not take any template arguments")
+            }
+            Error::MissingTemplate(s) => write!(f, "missing template arguments for type `{s}`"),
+            Error::WriteRefType(n, t) => write!(f, "cannot write a `{n}` to a reference to `{t}`"),
+            Error::NotWrite => f.write_str("attempt to write to a read-only reference"),
+            Error::NotRead => f.write_str("attempt to read a write-only reference"),
+            Error::NotReadWrite => f.write_str("reference is not read-write"),
+            Error::PtrHandle => f.write_str("cannot create a pointer in `handle` address space"),
+            Error::PtrVecComp => f.write_str("cannot create a pointer to a vector component"),
+            Error::Conversion(a, b) => write!(f, "cannot convert from `{a}` to `{b}`"),
+            Error::ConvOverflow(l, t) => write!(f, "overflow while converting `{l}` to `{t}`"),
+            Error::Component(t, s) => write!(f, "`{t}` has no component `{s}`"),
+            Error::NotIndexable(t) => write!(f, "`{t}` cannot be indexed"),
+            Error::OutOfBounds(i, t, n) => write!(
+                f,
+                "index `{i}` is out-of-bounds for `{t}` of `{n}` components"
+            ),
+            Error::Unary(o, t) => write!(f, "cannot use unary operator `{o}` on type `{t}`"),
+            Error::Binary(o, a, b) => write!(
+                f,
+                "cannot use binary operator `{o}` with operands `{a}` and `{b}`"
+            ),
+            Error::CompwiseBinary(a, b) => {
+                write!(
+                    f,
+                    "cannot apply component-wise binary operation on operands `{a}` and `{b}`"
+                )
+            }
+            Error::AddOverflow => f.write_str("attempt to add with overflow"),
+            Error::SubOverflow => f.write_str("attempt to subtract with overflow"),
+            Error::MulOverflow => f.write_str("attempt to multiply with overflow"),
+            Error::DivByZero => f.write_str("attempt to divide by zero"),
+            Error::RemZeroDiv => {
+                f.write_str("attempt to calculate the remainder with a divisor of zero")
+            }
+            Error::ShlOverflow(n, l) => write!(
+                f,
+                "attempt to shift left by `{n}`, which would overflow `{l}`"
+            ),
+            Error::ShrOverflow(n, l) => write!(
+                f,
+                "attempt to shift right by `{n}`, which would overflow `{l}`"
+            ),
+            Error::Signature(c) => write!(f, "invalid function call signature: `{c}`"),
+            Error::Builtin(s) => f.write_str(s),
+            Error::TemplateArgs(s) => write!(f, "invalid template arguments to `{s}`"),
+            Error::ParamCount(s, e, n) => {
+                write!(
+                    f,
+                    "incorrect number of arguments to `{s}`, expected `{e}`, got `{n}`"
+                )
+            }
+            Error::ParamType(e, t) => {
+                write!(f, "invalid parameter type, expected `{e}`, got `{t}`")
+            }
+        }
+    }
+}
+
+impl std::error::Error for Error {}

@@ -1,0 +1,48 @@
+//! WGSL's types, and the rules on them, from a proved library.
+//!
+//! The types are plain Rust data. Every rule is asked of the library: ranks and common types, operators, constructors,
+//! calls of built-in functions, sizes and layouts. Modules and names are those of the type layer of wgsl-types 0.3.2.
+//!
+//! ```
+//! use wgsl_types_proved::builtin::{type_binary_op, type_builtin_fn};
+//! use wgsl_types_proved::syntax::BinaryOperator;
+//! use wgsl_types_proved::ty::{StructType, Type};
+//!
+//! let sum = type_binary_op(BinaryOperator::Addition, &Type::AbstractInt, &Type::vector(3, Type::F32))?;
+//! assert_eq!(sum, Type::vector(3, Type::F32));
+//!
+//! let refused = type_builtin_fn("max", None, &[Type::I32, Type::U32]).unwrap_err();
+//! assert_eq!(refused.to_string(), "invalid function call signature: `max(i32, u32)`");
+//!
+//! let light = StructType::new("Light", [("intensity", Type::F32), ("position", Type::vector(3, Type::F32))]);
+//! assert_eq!(light.offsets(), Some(vec![0, 16]));
+//! # Ok::<(), wgsl_types_proved::Error>(())
+//! ```
+//!
+//! # Memory, stack and depth
+//!
+//! If memory runs out, a call ends the process, as `Vec` does. A call takes less than 320 KiB of stack.
+//!
+//! A call that asks the library panics if a type is more than [`ty::MAX_DEPTH`] levels deep. WGSL asks implementations for
+//! 15. If types come from untrusted input, look at [`Type::depth`] first.
+#![forbid(unsafe_op_in_unsafe_fn)]
+#![deny(unsafe_code)]
+#![warn(missing_docs)]
+
+mod ask;
+pub mod builtin;
+mod code;
+pub mod conv;
+pub mod error;
+mod ffi;
+pub mod inst;
+pub mod mem;
+mod signature;
+pub mod syntax;
+pub mod tplt;
+pub mod ty;
+
+pub use error::Error;
+pub use inst::Instance;
+pub use signature::{CallSignature, ShaderStage};
+pub use ty::Type;
