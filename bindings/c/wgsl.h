@@ -1,8 +1,12 @@
-/* The type rules of WGSL for C and C++: one call answers one request, which is a line of the program wgsl_check.
+/* The type rules of WGSL for C and C++.
+ *
+ * In texts: one call answers one request, which is a line of the program wgsl_check.
  *
  *     binary + AbstractInt vec 3 f32     is answered     vec3<f32>
  *
- * README.md lists the requests. Link with libwgsl.a or libwgsl.so. */
+ * In numbers: eight calls take and give types as words of 32 bits. wgsl_codes.h writes such words.
+ *
+ * README.md lists the requests in texts. Link with libwgsl.a or libwgsl.so. */
 #ifndef WGSL_H
 #define WGSL_H
 #include <stddef.h>
@@ -11,16 +15,19 @@
 extern "C" {
 #endif
 
-/* What wgsl_answer returns. */
+/* What the calls return. */
 enum {
-    WGSL_ANSWERED = 0,   /* The first *text_len bytes of the room are the answer: UTF-8, without a NUL at the end. */
-    WGSL_UNREADABLE = 2, /* The request is no command, is blank, isn't UTF-8, has a line feed or a NUL, or is too long. */
+    WGSL_ANSWERED = 0,   /* The answer is at the front of the room. An answer in text is UTF-8, without a NUL at the end. */
+    WGSL_RULED_OUT = 1,  /* WGSL's rules give no answer. Of the calls over numbers alone; the room has why. */
+    WGSL_UNREADABLE = 2, /* The request is no command, is blank, isn't UTF-8, has a line feed or a NUL, or is too long;
+                          * or the words are not what the call takes, or have a type of more than WGSL_DEEPEST levels. */
     WGSL_REFUSED = 3,    /* malloc or realloc gave no memory. All that the call had got is freed. */
-    WGSL_NO_ROOM = 4     /* The answer has *text_len bytes, which is more than there is room for: ask again with as many. */
+    WGSL_NO_ROOM = 4     /* The length that is set is more than there is room for: ask again with as much. */
 };
 
 enum {
-    WGSL_LONGEST = 4096,     /* A longer request is unreadable. */
+    WGSL_LONGEST = 4096,     /* A longer request in text is unreadable. */
+    WGSL_DEEPEST = 255,      /* So are words of a type with more levels. A scalar has one, a vector of it two. */
     WGSL_STACK = 320 * 1024  /* Bytes of stack that are enough for any request: at least twice what the deepest takes. */
 };
 
@@ -36,6 +43,96 @@ enum {
  *
  * The library keeps nothing between calls: any number of threads may call it at once. It returns for every request. */
 uint8_t wgsl_answer(const uint8_t *request, size_t request_len, uint8_t *room, size_t room_len, size_t *text_len);
+
+/* The eight calls over numbers. All lengths are in words. *len is set to the length of the answer, on WGSL_RULED_OUT to
+ * that of the refusal, on WGSL_NO_ROOM to that of the one that doesn't fit, and else to 0. The room is written on
+ * WGSL_ANSWERED and WGSL_RULED_OUT alone, and there its first *len words. The caller owes what it owes for wgsl_answer;
+ * pointers to words are aligned to 4, and lengths are below 2^61.
+ *
+ *   call              request                     answer                                              refusal
+ *   wgsl_rank         two types                   the rank of the conversion, one word                nothing
+ *   wgsl_common       a list of types             the common type                                     nothing
+ *   wgsl_unary        an operator, a type         the type of the result                              an error
+ *   wgsl_binary       an operator, two types      the types of the result and of the two operands     an error
+ *   wgsl_constructor  a signature                 the type of the result                              an error
+ *   wgsl_call         a signature                 the type of the result, or nothing without a value  an error
+ *   wgsl_size         a type                      the size and the alignment, each as an attribute    never
+ *   wgsl_layout       a struct                    the number of members; of each the offset, the      nothing
+ *                                                 size, the alignment; the struct's size, alignment
+ */
+uint8_t wgsl_rank(const uint32_t *request, size_t request_len, uint32_t *room, size_t room_len, size_t *len);
+uint8_t wgsl_common(const uint32_t *request, size_t request_len, uint32_t *room, size_t room_len, size_t *len);
+uint8_t wgsl_unary(const uint32_t *request, size_t request_len, uint32_t *room, size_t room_len, size_t *len);
+uint8_t wgsl_binary(const uint32_t *request, size_t request_len, uint32_t *room, size_t room_len, size_t *len);
+uint8_t wgsl_constructor(const uint32_t *request, size_t request_len, uint32_t *room, size_t room_len, size_t *len);
+uint8_t wgsl_call(const uint32_t *request, size_t request_len, uint32_t *room, size_t room_len, size_t *len);
+uint8_t wgsl_size(const uint32_t *request, size_t request_len, uint32_t *room, size_t room_len, size_t *len);
+uint8_t wgsl_layout(const uint32_t *request, size_t request_len, uint32_t *room, size_t room_len, size_t *len);
+
+/* The lowest byte of a code's first word. The three bytes above it are small numbers, or 0. After the word come the parts,
+ * in the order listed here, behind the semicolon. A number is two words, the lower first; an attribute is 0, or 1 and its
+ * word; a name is the number of its bytes, and those, four in a word, filled up with zeros; a list is the number of its
+ * items, and those. */
+enum {
+    WGSL_TAG_SCALAR = 0,                   /* the scalar */
+    WGSL_TAG_RUNTIME_ARRAY = 1,            /* nothing; the element */
+    WGSL_TAG_ARRAY = 2,                    /* nothing; the number of elements, the element */
+    WGSL_TAG_VEC = 3,                      /* components; the type of one */
+    WGSL_TAG_MAT = 4,                      /* columns, rows; the type of a component */
+    WGSL_TAG_STRUCT = 5,                   /* nothing; the name, the number of members; of each the name, the
+                                            * attributes `size` and `align`, the type */
+    WGSL_TAG_ATOMIC = 6,                   /* nothing; the type inside */
+    WGSL_TAG_PTR = 7,                      /* the address space, the access mode; the type */
+    WGSL_TAG_REF = 8,                      /* the same */
+    WGSL_TAG_TEXTURE = 9,                  /* the kind, and a sampled type, or a texel format and an access mode */
+    WGSL_TAG_SAMPLER = 10,                 /* the sampler */
+    WGSL_TAG_RUNTIME_BINDING_ARRAY = 11,   /* nothing; the element */
+    WGSL_TAG_BINDING_ARRAY = 12,           /* nothing; the number of elements, the element */
+    WGSL_TAG_RAY_QUERY = 13,               /* 1 with the flag `vertex_return`, else 0 */
+    WGSL_TAG_ACCELERATION_STRUCTURE = 14,  /* the same */
+
+    /* In templates alone: literals, with their value modulo 2^64 as a number; enumerants, with their index. */
+    WGSL_TAG_BOOL = 16, WGSL_TAG_ABSTRACT_INT, WGSL_TAG_I32, WGSL_TAG_U32, WGSL_TAG_I64, WGSL_TAG_U64,
+    WGSL_TAG_ACCESS_MODE = 24, WGSL_TAG_ADDRESS_SPACE, WGSL_TAG_TEXEL_FORMAT, WGSL_TAG_FLAGS
+};
+
+/* A signature is a name, a template and the list of the arguments' types. A template is 0 for none, or 1 and the list of
+ * its parameters: types, literals, enumerants. An operator is one word. */
+
+/* Scalars. */
+enum {
+    WGSL_SCALAR_BOOL, WGSL_SCALAR_ABSTRACT_INT, WGSL_SCALAR_ABSTRACT_FLOAT, WGSL_SCALAR_I32, WGSL_SCALAR_U32,
+    WGSL_SCALAR_F32, WGSL_SCALAR_F16, WGSL_SCALAR_I64, WGSL_SCALAR_U64, WGSL_SCALAR_F64
+};
+
+/* Unary operators: ! - ~ & * */
+enum {
+    WGSL_UNARY_LOGICAL_NEGATION, WGSL_UNARY_NEGATION, WGSL_UNARY_BITWISE_COMPLEMENT, WGSL_UNARY_ADDRESS_OF,
+    WGSL_UNARY_INDIRECTION
+};
+
+/* Binary operators: || && + - * / % == != < <= > >= | & ^ << >> */
+enum {
+    WGSL_BINARY_SHORT_CIRCUIT_OR, WGSL_BINARY_SHORT_CIRCUIT_AND, WGSL_BINARY_ADDITION, WGSL_BINARY_SUBTRACTION,
+    WGSL_BINARY_MULTIPLICATION, WGSL_BINARY_DIVISION, WGSL_BINARY_REMAINDER, WGSL_BINARY_EQUALITY,
+    WGSL_BINARY_INEQUALITY, WGSL_BINARY_LESS_THAN, WGSL_BINARY_LESS_THAN_EQUAL, WGSL_BINARY_GREATER_THAN,
+    WGSL_BINARY_GREATER_THAN_EQUAL, WGSL_BINARY_BITWISE_OR, WGSL_BINARY_BITWISE_AND, WGSL_BINARY_BITWISE_XOR,
+    WGSL_BINARY_SHIFT_LEFT, WGSL_BINARY_SHIFT_RIGHT
+};
+
+/* The first word of an error's code. Its fields follow, in the order in which the Rust crate's `Error` has them: a text as
+ * a name, a type or a signature as above, an index or a count as a number, a number of bits as one word, an operator as
+ * one word, a literal as above. */
+enum {
+    WGSL_ERROR_TODO, WGSL_ERROR_NOT_SCALAR, WGSL_ERROR_NOT_CONSTRUCTIBLE, WGSL_ERROR_SAMPLED_TYPE,
+    WGSL_ERROR_UNKNOWN_TYPE, WGSL_ERROR_UNEXPECTED_TEMPLATE, WGSL_ERROR_MISSING_TEMPLATE, WGSL_ERROR_WRITE_REF_TYPE,
+    WGSL_ERROR_NOT_WRITE, WGSL_ERROR_NOT_READ, WGSL_ERROR_NOT_READ_WRITE, WGSL_ERROR_PTR_HANDLE,
+    WGSL_ERROR_PTR_VEC_COMP, WGSL_ERROR_CONVERSION, WGSL_ERROR_CONV_OVERFLOW, WGSL_ERROR_COMPONENT,
+    WGSL_ERROR_NOT_INDEXABLE, WGSL_ERROR_OUT_OF_BOUNDS, WGSL_ERROR_UNARY, WGSL_ERROR_BINARY,
+    WGSL_ERROR_COMPWISE_BINARY, WGSL_ERROR_ADD_OVERFLOW, WGSL_ERROR_SUB_OVERFLOW, WGSL_ERROR_MUL_OVERFLOW,
+    WGSL_ERROR_DIV_BY_ZERO, WGSL_ERROR_REM_ZERO_DIV, WGSL_ERROR_SHL_OVERFLOW, WGSL_ERROR_SHR_OVERFLOW,
+    WGSL_ERROR_SIGNATURE, WGSL_ERROR_BUILTIN, WGSL_ERROR_TEMPLATE_ARGS, WGSL_ERROR_PARAM_COUNT, WGSL_ERROR_PARAM_TYPE
+};
 
 #ifdef __cplusplus
 }
