@@ -5,8 +5,8 @@ use Rattle.std.proofs.lemmas.Bool.{leb-true, leb-false}
 use Rattle.std.proofs.lemmas.List.{append-nil, take_all}
 use Rattle.std.proofs.lemmas.List.Folds.{list_all-append}
 use Rattle.std.specs.List.{list_all}
-use Rattle.wgsl_requests.proofs.Replies.{of_too_long}
-use Rattle.wgsl_requests.specs.Replies.{ReplyText, IsReplyTo, too_long}
+use Rattle.wgsl_requests.proofs.OneReply.{one_reply}
+use Rattle.wgsl_requests.specs.Replies.{ReplyText, unreadable, IsReplyTo, too_long}
 use Rattle.wgsl_check.specs.Output.{is_readable, next_number, printed, printed_from}
 use Rattle.wgsl_check.specs.Session.{number_after}
 
@@ -21,7 +21,7 @@ of_cut line reply is = test (nat_le (length line) 4096) refl
     test false e =
         let long : 4096 < length line = leb-false (length line) 4096 e in
         let cut : 4096 < length (take 4097 line) = omega (arith, long, length-take 4097 line) in
-        subst (IsReplyTo line) (sym (of_too_long (take 4097 line) reply cut is)) (too_long long)
+        subst (IsReplyTo line) (sym (one_reply (take 4097 line) reply unreadable is (too_long cut))) (too_long long)
 
 -- a beginning of a line that is cut, and more of it
 pub take-cut : (n : ℕ) (xs ys : List ℕ) → take n (take n xs ++ ys) ≡ take n (xs ++ ys)
@@ -33,10 +33,14 @@ and_true : (b : Bool) → (b && true) ≡ b
 and_true true = refl
 and_true false = refl
 
+pub printed-append : (n : ℕ) (replies more : List ReplyText) → printed_from n (replies ++ more) ≡ printed_from n replies ++ printed_from (number_after n replies) more
+printed-append n [] more = refl
+printed-append n (one ∷ replies) more =
+    ap (λ text. printed n one ++ text) (printed-append (next_number n) replies more) ∙ sym (append_assoc (printed n one) _ _)
+
 pub printed-push : (n : ℕ) (replies : List ReplyText) (reply : ReplyText) → printed_from n (replies ++ reply ∷ []) ≡ printed_from n replies ++ printed (number_after n replies) reply
-printed-push n [] reply = append-nil (printed n reply)
-printed-push n (one ∷ replies) reply =
-    ap (λ text. printed n one ++ text) (printed-push (next_number n) replies reply) ∙ sym (append_assoc (printed n one) _ _)
+printed-push n replies reply =
+    printed-append n replies (reply ∷ []) ∙ ap (λ text. printed_from n replies ++ text) (append-nil (printed (number_after n replies) reply))
 
 pub number-push : (n : ℕ) (replies : List ReplyText) (reply : ReplyText) → number_after n (replies ++ reply ∷ []) ≡ next_number (number_after n replies)
 number-push n [] reply = refl
