@@ -18,15 +18,17 @@ pub record IsPromised (request : List ℕ) (reply : Result Reply AllocError) : T
   pub no_text : ¬ All IsUtf8 (words_of request) → IfOk reply (λ r. r ≡ Unreadable)
   pub no_words : length request ≤ 4096 → words_of request ≡ [] → IfOk reply (λ r. r ≡ Nothing)
 
--- a text is written if there is room for it: at the start of the room, whose rest stays as it was
-pub record IsHandedText (text old new : List ℕ) (len status : ℕ) : Type 0 where
-  pub whole_length : len ≡ length text
-  pub fits : length text ≤ length old → status ≡ 0
-  pub written : length text ≤ length old → new ≡ text ++ drop (length text) old
-  pub no_room : length old < length text → status ≡ 4
-  pub unwritten : length old < length text → new ≡ old
+-- bytes or words are written if there is room for them: at the start of the room, whose rest stays
+-- as it was
+pub record IsWritten {T : Type 0} (wanted : ℕ) (items old new : List T) (len status : ℕ) :
+    Type 0 where
+  pub whole_length : len ≡ length items
+  pub fits : length items ≤ length old → status ≡ wanted
+  pub written : length items ≤ length old → new ≡ items ++ drop (length items) old
+  pub no_room : length old < length items → status ≡ 4
+  pub unwritten : length old < length items → new ≡ old
 
--- there is no text: the room stays as it was
+-- there is nothing to write: the room stays as it was
 pub record IsRefused (wanted : ℕ) (old new : List ℕ) (len status : ℕ) : Type 0 where
   pub answers : status ≡ wanted
   pub no_length : len ≡ 0
@@ -34,7 +36,8 @@ pub record IsRefused (wanted : ℕ) (old new : List ℕ) (len status : ℕ) : Ty
 
 -- the reply is handed over: the room before and after, the length, the status
 abbrev pub IsHandedOver : Result Reply AllocError → List ℕ → List ℕ → ℕ → ℕ → Type 0
-IsHandedOver (Ok (Answer text)) old new len status = IsHandedText (string_bytes text) old new len status
+IsHandedOver (Ok (Answer text)) old new len status =
+    IsWritten 0 (string_bytes text) old new len status
 IsHandedOver (Ok Nothing) old new len status = IsRefused 2 old new len status
 IsHandedOver (Ok Unreadable) old new len status = IsRefused 2 old new len status
 IsHandedOver (Err _) old new len status = IsRefused 3 old new len status

@@ -1,12 +1,14 @@
 // How a reply is handed over to C.
-ghost use Rattle.std.specs.Prelude.{◌≡◌, ◌++◌, ◌<◌, ◌≤◌, drop, length};
-ghost use Rattle.wgsl_c.specs.HandOver.{IsHandedOver};
+ghost use Rattle.wgsl_c.specs.HandOver.{IsHandedOver, IsWritten};
 
 use std::alloc::AllocError;
 use wgsl_requests::request::Reply;
 
 /// The answer is written.
 pub const ANSWERED: u8 = 0;
+
+/// The rules of WGSL refuse it.
+pub const RULED_OUT: u8 = 1;
 
 /// The request can't be read.
 pub const UNREADABLE: u8 = 2;
@@ -22,7 +24,7 @@ pub fn hand_over(reply: &Result<Reply, AllocError>, answer: &mut [u8], text_len:
     ensures { IsHandedOver reply.now answer.old answer.new text_len.new result }
 {
     match reply {
-        Ok(Reply::Answer(text)) => hand_over_text(text.as_bytes(), answer, text_len),
+        Ok(Reply::Answer(text)) => hand_over_items(ANSWERED, text.as_bytes(), answer, text_len),
         Ok(Reply::Nothing | Reply::Unreadable) => {
             *text_len = 0;
             UNREADABLE
@@ -34,18 +36,14 @@ pub fn hand_over(reply: &Result<Reply, AllocError>, answer: &mut [u8], text_len:
     }
 }
 
-fn hand_over_text(text: &[u8], answer: &mut [u8], text_len: &mut usize) -> u8
-    ensures len { text_len.new ≡ length text.now }
-    ensures fits { length text.now ≤ length answer.old → result ≡ 0 }
-    ensures written { length text.now ≤ length answer.old
-        → answer.new ≡ text.now ++ drop (length text.now) answer.old }
-    ensures no_room { length answer.old < length text.now → result ≡ 4 }
-    ensures unwritten { length answer.old < length text.now → answer.new ≡ answer.old }
+/// Writes bytes or words at the start of the room if there is room for them, sets the length, and returns the status.
+pub fn hand_over_items<T: Copy>(status: u8, items: &[T], room: &mut [T], len: &mut usize) -> u8
+    ensures { IsWritten status items.now room.old room.new len.new result }
 {
-    *text_len = text.len();
-    if answer.len() < text.len() {
+    *len = items.len();
+    if room.len() < items.len() {
         return NO_ROOM;
     }
-    answer[..text.len()].copy_from_slice(text);
-    ANSWERED
+    room[..items.len()].copy_from_slice(items);
+    status
 }

@@ -1,7 +1,9 @@
-//! The library for C: one function that answers a request.
+//! The library for C: one function that answers a request in text, and one function for each question in words.
 #![tactic(auto)]
 
 mod hand_over;
+mod hand_over_words;
+mod words;
 
 ghost use Rattle.std.specs.Prelude.{◌≡◌, ◌≢◌, ◌⊎◌, ◌<◌, ◌≤◌, [], All, IsUtf8, Ok, Result, drop, length, take, true};
 ghost use Rattle.std.specs.declared.alloc.AllocError.{AllocError};
