@@ -32,25 +32,19 @@ void __wrap_free(void *at) {
     __real_free(at);
 }
 
-static uint8_t wanted[LONG_ANSWER], room[LONG_ANSWER];
-
-static int is_untouched(void) {
-    for (size_t i = 0; i < sizeof room; i++)
-        if (room[i] != 0xAA) return 0;
-    return 1;
-}
+static Unit wanted[LONG_ANSWER], room[LONG_ANSWER];
 
 /* One call with that request for memory refused, or all from it on. */
-static void refuse(size_t k, long one, long from, int status, size_t text_len) {
+static void refuse(size_t k, long one, long from, int status, size_t wanted_len) {
     size_t len = 77;
     long before = live;
-    memset(room, 0xAA, sizeof room);
+    fill(room);
     asked = 0, refused = one, refused_from = from;
-    int found = ask(k, room, sizeof room, &len);
+    int found = ask(k, room, LONG_ANSWER, &len);
     refused = refused_from = -1;
-    if (found != WGSL_REFUSED || len || !is_untouched()) wrong(k, "refused memory is told otherwise");
+    if (found != WGSL_REFUSED || len || !is_filled(room, 0)) wrong(k, "refused memory is told otherwise");
     if (live != before) wrong(k, "memory is kept");
-    if (ask(k, room, sizeof room, &len) != status || len != text_len || memcmp(room, wanted, len))
+    if (ask(k, room, LONG_ANSWER, &len) != status || len != wanted_len || memcmp(room, wanted, len * sizeof(Unit)))
         wrong(k, "another answer after refused memory");
 }
 
@@ -60,7 +54,7 @@ int main(void) {
     for (size_t k = 0; k < count; k++) {
         size_t len = 0;
         asked = 0;
-        int status = ask(k, wanted, sizeof wanted, &len);
+        int status = ask(k, wanted, LONG_ANSWER, &len);
         long needed = asked;
         for (long n = 1; n <= needed; n++) {
             refuse(k, n, -1, status, len);

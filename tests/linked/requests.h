@@ -1,31 +1,79 @@
-/* What the tests of the linked library share: the requests, one per line of standard input. */
+/* What the tests of the linked library share: the requests, one per line of standard input. A line is a request in text, or
+ * with NUMBERS defined the name of a call and its request, words of 32 bits in hexadecimal. */
 #include "wgsl.h"
 #include <stdio.h>
 #include <stdlib.h>
 #include <string.h>
 
-enum { MOST = 2000, LONG_ANSWER = 1 << 16 };
+enum { MOST = 4000, LONG_ANSWER = 1 << 16 };
 
-static char *requests[MOST];
+static char *lines[MOST];
 static size_t lengths[MOST];
 static size_t count;
+
+static void wrong(size_t k, const char *what) {
+    printf("%s: %.1000s\n", what, lines[k]);
+    exit(1);
+}
+
+/* What requests and answers are made of, and one call. */
+#ifdef NUMBERS
+typedef uint32_t Unit;
+
+static const struct {
+    const char *name;
+    uint8_t (*call)(const uint32_t *, size_t, uint32_t *, size_t, size_t *);
+} calls[] = {
+    {"rank", wgsl_rank}, {"common", wgsl_common}, {"unary", wgsl_unary}, {"binary", wgsl_binary},
+    {"constructor", wgsl_constructor}, {"call", wgsl_call}, {"size", wgsl_size}, {"layout", wgsl_layout},
+};
+static Unit *requests[MOST];
+static size_t called[MOST];
+
+/* Reads the name of the call and the words. */
+static void read_line(size_t k) {
+    char *at = lines[k];
+    size_t name = strcspn(at, " ");
+    while (strlen(calls[called[k]].name) != name || memcmp(calls[called[k]].name, at, name))
+        if (++called[k] == sizeof calls / sizeof *calls) wrong(k, "no such call");
+    requests[k] = calloc(lengths[k] / 9 + 1, sizeof(Unit));
+    if (!requests[k]) exit(1);
+    lengths[k] = 0;
+    for (at += name; *at; lengths[k]++) requests[k][lengths[k]] = (Unit)strtoul(at, &at, 16);
+}
+
+static int ask(size_t k, Unit *room, size_t room_len, size_t *len) {
+    return calls[called[k]].call(requests[k], lengths[k], room, room_len, len);
+}
+#else
+typedef uint8_t Unit;
+
+static void read_line(size_t k) { (void)k; }
+
+static int ask(size_t k, Unit *room, size_t room_len, size_t *len) {
+    return wgsl_answer((const uint8_t *)lines[k], lengths[k], room, room_len, len);
+}
+#endif
 
 static void read_requests(void) {
     size_t capacity = 0;
     while (count < MOST) {
-        ssize_t len = getline(&requests[count], &capacity, stdin);
+        ssize_t len = getline(&lines[count], &capacity, stdin);
         if (len < 0) break;
-        lengths[count] = (size_t)len - (requests[count][len - 1] == '\n');
+        if (lines[count][len - 1] == '\n') lines[count][--len] = 0;
+        lengths[count] = (size_t)len;
+        read_line(count);
         count++;
         capacity = 0;
     }
 }
 
-static int ask(size_t k, uint8_t *room, size_t room_len, size_t *text_len) {
-    return wgsl_answer((const uint8_t *)requests[k], lengths[k], room, room_len, text_len);
-}
+/* Fills a room, and tells whether all of it from there on is as it was filled. */
+static inline void fill(Unit *room) { memset(room, 0xAA, LONG_ANSWER * sizeof(Unit)); }
 
-static void wrong(size_t k, const char *what) {
-    printf("%s: %.*s\n", what, (int)lengths[k], requests[k]);
-    exit(1);
+static inline int is_filled(const Unit *room, size_t from) {
+    const unsigned char *bytes = (const unsigned char *)room;
+    for (size_t i = from * sizeof(Unit); i < LONG_ANSWER * sizeof(Unit); i++)
+        if (bytes[i] != 0xAA) return 0;
+    return 1;
 }

@@ -1,22 +1,18 @@
 /* Asks each request with a room that is large enough, exact, too small by one, and empty. */
 #include "requests.h"
 
-static uint8_t large[LONG_ANSWER], room[LONG_ANSWER];
+static Unit large[LONG_ANSWER], room[LONG_ANSWER];
 
-/* Whether all bytes of the room from there on are as they were set. */
-static int is_untouched(size_t from) {
-    for (size_t i = from; i < sizeof room; i++)
-        if (room[i] != 0xAA) return 0;
-    return 1;
-}
+/* Whether a call that returns this has written to the room. */
+static int is_written(int status) { return status == WGSL_ANSWERED || status == WGSL_RULED_OUT; }
 
-static void expect(size_t k, size_t room_len, int wanted, size_t text_len) {
+static void expect(size_t k, size_t room_len, int wanted, size_t wanted_len) {
     size_t len = 77;
-    memset(room, 0xAA, sizeof room);
+    fill(room);
     int status = ask(k, room, room_len, &len);
-    if (status != wanted || len != text_len) wrong(k, "another status or length");
-    size_t written = status == WGSL_ANSWERED ? len : 0;
-    if (memcmp(room, large, written) || !is_untouched(written)) wrong(k, "other bytes are written");
+    if (status != wanted || len != wanted_len) wrong(k, "another status or length");
+    size_t written = is_written(status) ? len : 0;
+    if (memcmp(room, large, written * sizeof(Unit)) || !is_filled(room, written)) wrong(k, "the room is written otherwise");
 }
 
 /* A request of two lines is unreadable; requests.h has none. */
@@ -36,14 +32,14 @@ int main(void) {
     ask_two_lines();
     for (size_t k = 0; k < count; k++) {
         size_t len = 77;
-        int status = ask(k, large, sizeof large, &len);
-        if (status != WGSL_ANSWERED) {
+        int status = ask(k, large, LONG_ANSWER, &len);
+        if (!is_written(status)) {
             if (status != WGSL_UNREADABLE || len) wrong(k, "neither answered nor unreadable");
             expect(k, 0, status, 0);
             continue;
         }
-        expect(k, sizeof room, WGSL_ANSWERED, len);
-        expect(k, len, WGSL_ANSWERED, len);
+        expect(k, LONG_ANSWER, status, len);
+        expect(k, len, status, len);
         if (len) expect(k, len - 1, WGSL_NO_ROOM, len);
         if (len) expect(k, 0, WGSL_NO_ROOM, len);
     }

@@ -1,11 +1,6 @@
 /* Asks the deepest requests of every kind on a thread with the stack that wgsl.h promises to be enough, and prints how much
  * the deepest takes. It fails if that is more than half of what is promised. */
-#define _GNU_SOURCE
-#include "wgsl.h"
-#include <pthread.h>
-#include <stdio.h>
-#include <string.h>
-#include <sys/mman.h>
+#include "stack.h"
 
 static const char *const layers[] = {
     "vec 2 ", "mat 2 2 ", "array 1 ", "array * ", "binding_array * ", "atomic ",
@@ -26,23 +21,6 @@ static int status;
 static void *ask(void *none) {
     status = wgsl_answer((const uint8_t *)request, strlen(request), room, sizeof room, &text_len);
     return none;
-}
-
-static void *idle(void *none) { return none; }
-
-/* How many bytes of a stack of the promised size a thread touches. */
-static size_t touched(void *(*work)(void *)) {
-    pthread_attr_t attributes;
-    pthread_t thread;
-    unsigned char *low = mmap(NULL, WGSL_STACK, PROT_READ | PROT_WRITE, MAP_PRIVATE | MAP_ANONYMOUS, -1, 0);
-    size_t unused = 0;
-    if (low == MAP_FAILED) return WGSL_STACK;
-    memset(low, 0xA5, WGSL_STACK);
-    if (pthread_attr_init(&attributes) || pthread_attr_setstack(&attributes, low, WGSL_STACK)) return WGSL_STACK;
-    if (pthread_create(&thread, &attributes, work, NULL) || pthread_join(thread, NULL)) return WGSL_STACK;
-    while (unused < WGSL_STACK && low[unused] == 0xA5) unused++;
-    munmap(low, WGSL_STACK);
-    return WGSL_STACK - unused;
 }
 
 /* Writes the request with as many of these layers in each T as it has room for, and returns how many those are. */

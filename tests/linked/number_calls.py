@@ -1,0 +1,216 @@
+"""The calls over numbers of the linked library, compared with its call in text: the same questions have the same answers."""
+import ctypes
+import os
+
+from type_codes import BINARY, UNARY, NoCode, Random, Reader
+from type_codes import code, list_code, parameter_words, signature_code, signature_words, spelling, words
+
+CALLS = "rank common unary binary constructor call size layout".split()
+ROOM = 4096
+FILL = 0xAAAAAAAA
+
+
+class Library:
+    def __init__(self, folder):
+        shared = ctypes.CDLL(os.path.join(folder, "libwgsl.so"))
+        size, pointer = ctypes.c_size_t, ctypes.POINTER
+        self.calls = {}
+        for name, unit in [("answer", ctypes.c_uint8)] + [(name, ctypes.c_uint32) for name in CALLS]:
+            call = getattr(shared, f"wgsl_{name}")
+            call.argtypes = [pointer(unit), size, pointer(unit), size, pointer(size)]
+            call.restype = ctypes.c_uint8
+            self.calls[name] = call
+        self.room = (ctypes.c_uint32 * ROOM)(*[FILL] * ROOM)
+        self.text_room = (ctypes.c_uint8 * (1 << 16))()
+        self.len = ctypes.c_size_t()
+
+    def ask(self, name, given):
+        """The status and the words of the reply. Nothing else of the room is written."""
+        request = (ctypes.c_uint32 * max(len(given), 1))(*given)
+        status = self.calls[name](request, len(given), self.room, ROOM, ctypes.byref(self.len))
+        count = self.len.value if status in (0, 1) else 0
+        found = self.room[:count]
+        self.room[:count] = [FILL] * count
+        if self.room[count] != FILL or self.room[ROOM - 1] != FILL:
+            raise AssertionError(f"{name} {given} writes more than its reply")
+        return status, found
+
+    def text(self, request):
+        data = request.encode()
+        given = (ctypes.c_uint8 * len(data)).from_buffer_copy(data)
+        status = self.calls["answer"](given, len(data), self.text_room, 1 << 16, ctypes.byref(self.len))
+        return bytes(self.text_room[:self.len.value]).decode() if status == 0 else None
+
+
+# What the program prints for a reply.
+
+def signature_text(name, template, arguments):
+    shown = "" if template is None else f"<{', '.join(parameter_text(p) for p in template)}>"
+    return f"{name}{shown}({', '.join(spelling(t) for t in arguments)})"
+
+
+def parameter_text(parameter):
+    return spelling(parameter[1]) if parameter[0] == "type" else parameter_words(parameter)[2:]
+
+
+def message(reader):
+    """The message of a refusal, of those that calls give."""
+    kind, ty = reader.word(), lambda: spelling(reader.type())
+    if kind == 0:
+        return f"not implemented: `{reader.name()}`"
+    if kind == 3:
+        return f"invalid sampled type, expected `i32`, `u32` or `f32`, got `{ty()}`"
+    if kind == 11:
+        return "cannot create a pointer in `handle` address space"
+    if kind == 13:
+        return f"cannot convert from `{ty()}` to `{ty()}`"
+    if kind == 18:
+        return f"cannot use unary operator `{reader.pick(UNARY, reader.word())}` on type `{ty()}`"
+    if kind == 19:
+        return f"cannot use binary operator `{reader.pick(BINARY, reader.word())}` with operands `{ty()}` and `{ty()}`"
+    if kind == 28:
+        return f"invalid function call signature: `{signature_text(*reader.signature())}`"
+    if kind == 29:
+        return reader.name()
+    if kind == 30:
+        return f"invalid template arguments to `{reader.name()}`"
+    if kind == 31:
+        name, wanted, given = reader.name(), reader.number(), reader.number()
+        return f"incorrect number of arguments to `{name}`, expected `{wanted}`, got `{given}`"
+    raise AssertionError(f"no call refuses with {kind}")
+
+
+def shown_layout(reader):
+    """The numbers of a layout, in the order in which the program prints them."""
+    members = [[reader.word() for _ in range(3)] for _ in range(reader.number())]
+    return members + [[reader.word(), reader.word()]]
+
+
+def shown(name, status, found):
+    """What the program prints for the reply, or for a layout its numbers."""
+    reader = Reader(found)
+    attribute = lambda value: "none" if value is None else str(value)
+    forms = {
+        "rank": lambda: str(reader.word()),
+        "common": lambda: spelling(reader.type()),
+        "unary": lambda: spelling(reader.type()),
+        "binary": lambda: [spelling(reader.type()) for _ in range(3)][0],
+        "constructor": lambda: spelling(reader.type()),
+        "call": lambda: spelling(reader.type()) if found else "no value",
+        "size": lambda: f"{attribute(reader.attribute())} {attribute(reader.attribute())}",
+        "layout": lambda: shown_layout(reader),
+    }
+    if status == 1 and name in ("rank", "common", "layout"):
+        return "none" if not found else None
+    return reader.all((lambda: message(reader)) if status == 1 else forms[name])
+
+
+def printed_layout(text):
+    """The numbers that the program prints for a layout."""
+    *members, last = [line.split()[:3] for line in text.split("\n")]
+    return [[int(n) for n in line] for line in members] + [[int(last[0]), int(last[2])]]
+
+
+# Random questions.
+
+def question(rng):
+    """The name of a call, its request in words of 32 bits, and the request in text."""
+    name = rng.choice(CALLS)
+    if name in ("constructor", "call"):
+        signature = rng.signature()
+        return name, signature_code(*signature), f"{'ctor' if name[1] == 'o' else name} {signature_words(*signature)}"
+    if name in ("size", "layout"):
+        t = rng.struct() if name == "layout" else rng.type()
+        return name, code(t), f"{name} {words(t)}"
+    if name == "common":
+        types = alike(rng, rng.randrange(5))
+        return name, list_code([code(t) for t in types]), " ".join([name] + [words(t) for t in types])
+    if name == "rank":
+        a, b = alike(rng, 2)
+        return name, code(a) + code(b), f"rank {words(a)} {words(b)}"
+    operators = UNARY if name == "unary" else BINARY
+    index = rng.randrange(len(operators))
+    types = [rng.value() if rng.randrange(4) else rng.type(3) for _ in range(1 + (name == "binary"))]
+    return name, [index] + sum([code(t) for t in types], []), " ".join([name, operators[index]] + [words(t) for t in types])
+
+
+def alike(rng, count):
+    """Types that may convert to one another."""
+    layer = rng.choice([lambda t: t, lambda t: t, lambda t: ("vec", 3, t), lambda t: ("array", 2, ("mat", 2, 3, t))])
+    return [layer(rng.scalar()) if rng.randrange(5) else rng.type() for _ in range(count)]
+
+
+def lines(count, seed):
+    """Questions as the programs in C read them."""
+    rng = Random(seed)
+    asked = [question(rng) for _ in range(count)]
+    return "".join(" ".join([name] + [f"{word:08x}" for word in given]) + "\n" for name, given, _ in asked)
+
+
+def compare_texts(library, count):
+    rng = Random(1)
+    for _ in range(count):
+        name, given, request = question(rng)
+        text = library.text(request)
+        if text is None:
+            continue
+        wanted = printed_layout(text) if name == "layout" and text != "none" else text
+        found = shown(name, *library.ask(name, given))
+        if found != wanted:
+            raise AssertionError(f"{request}: {found} by numbers, {wanted} in text")
+
+
+def compare_types(library, count):
+    """The common type of one type is that type, part by part."""
+    rng = Random(2)
+    for _ in range(count):
+        given = code(rng.type(6))
+        if library.ask("common", [1, 0] + given) != (0, given):
+            raise AssertionError(f"{given} doesn't come back")
+
+
+# Broken words.
+
+def is_request(name, given):
+    reader = Reader(given)
+    operator = lambda operators: reader.pick(operators, reader.word())
+    forms = {
+        "rank": lambda: (reader.type(), reader.type()),
+        "common": lambda: reader.list(reader.type),
+        "unary": lambda: (operator(UNARY), reader.type()),
+        "binary": lambda: (operator(BINARY), reader.type(), reader.type()),
+        "constructor": reader.signature,
+        "call": reader.signature,
+        "size": reader.type,
+        "layout": lambda: given[:1] == [5] and reader.type() or reader.pick([], 0),
+    }
+    try:
+        reader.all(forms[name])
+    except NoCode:
+        return False
+    return True
+
+
+def changes(rng, given):
+    """The words with each one changed, and cut and lengthened at each place."""
+    for k, word in enumerate(given):
+        extremes = [0, 2**31, 2**32 - 1, word + 1 & 2**32 - 1]
+        for other in (word ^ 1 << rng.randrange(32), rng.randrange(8), rng.choice(extremes)):
+            yield given[:k] + [other] + given[k + 1:]
+        yield given[:k]
+        yield given[:k] + given[k + 1:]
+        yield given[:k] + [rng.choice([0, 1, word])] + given[k:]
+    yield given + [0]
+
+
+def compare_broken(library, count):
+    """Changed words are unreadable exactly if they are no request. Returns how many of them there were."""
+    rng, asked = Random(3), 0
+    for _ in range(count):
+        name, given, _ = question(rng)
+        for broken in changes(rng, given):
+            status, _ = library.ask(name, broken)
+            if (status == 2) == is_request(name, broken) or status == 3:
+                raise AssertionError(f"{name} {broken}: status {status}")
+            asked += 1
+    return asked

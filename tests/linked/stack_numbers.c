@@ -1,0 +1,89 @@
+/* Asks each call over numbers about the deepest types of every kind, on a thread with the stack that wgsl.h promises to be
+ * enough, and prints how much the deepest takes. It fails if that is more than half of what is promised. */
+#include "stack.h"
+
+enum { ROOM = 1 << 16 };
+
+static uint32_t request[ROOM], room[ROOM];
+static WgslWords words = {request, ROOM, 0};
+static size_t len;
+static int status;
+
+/* The layers, the last two of two levels; each leaves a type to be written. */
+enum { LAYERS = 11 };
+
+static void write_layer(int layer) {
+    switch (layer) {
+    case 0: wgsl_vec(&words, 2); break;
+    case 1: wgsl_mat(&words, 2, 2); break;
+    case 2: wgsl_array(&words, 1); break;
+    case 3: wgsl_runtime_array(&words); break;
+    case 4: wgsl_binding_array(&words, 1); break;
+    case 5: wgsl_runtime_binding_array(&words); break;
+    case 6: wgsl_atomic(&words); break;
+    case 7: wgsl_ptr(&words, WGSL_SPACE_FUNCTION, WGSL_ACCESS_READ); break;
+    case 8: wgsl_ref(&words, WGSL_SPACE_FUNCTION, WGSL_ACCESS_READ); break;
+    case 9: wgsl_vec(&words, 2); /* falls through */
+    default:
+        wgsl_struct(&words, "S", 1);
+        wgsl_member(&words, "a");
+    }
+}
+
+/* A type of so many levels, with a struct outside if one is asked for. */
+static void write_type(int layer, int levels, int in_struct) {
+    if (in_struct) write_layer(LAYERS - 1), levels--;
+    for (int step = layer == 9 ? 2 : 1; levels > step; levels -= step) write_layer(layer);
+    wgsl_scalar(&words, WGSL_SCALAR_F32);
+}
+
+static void *rank(void *none) { status = wgsl_rank(request, words.len, room, ROOM, &len); return none; }
+static void *common(void *none) { status = wgsl_common(request, words.len, room, ROOM, &len); return none; }
+static void *unary(void *none) { status = wgsl_unary(request, words.len, room, ROOM, &len); return none; }
+static void *binary(void *none) { status = wgsl_binary(request, words.len, room, ROOM, &len); return none; }
+static void *constructor(void *none) { status = wgsl_constructor(request, words.len, room, ROOM, &len); return none; }
+static void *call(void *none) { status = wgsl_call(request, words.len, room, ROOM, &len); return none; }
+static void *size(void *none) { status = wgsl_size(request, words.len, room, ROOM, &len); return none; }
+static void *layout(void *none) { status = wgsl_layout(request, words.len, room, ROOM, &len); return none; }
+
+/* Each call, what it is asked first, and how many types follow. S is a signature of two arguments, T one of one argument
+ * whose template has a type too. */
+static const struct {
+    void *(*ask)(void *);
+    char first;
+    const char *name;
+    int types;
+} asked[] = {
+    {rank, '-', "", 2}, {common, 'L', "", 2}, {unary, 'O', "", 1}, {binary, 'O', "", 2}, {constructor, 'S', "array", 2},
+    {constructor, 'S', "vec2", 2}, {constructor, 'T', "array", 2}, {call, 'S', "min", 2}, {call, 'S', "foo", 2},
+    {call, 'T', "bitcast", 2}, {size, '-', "", 1}, {layout, '-', "", 1},
+};
+
+static void write_request(size_t a, int layer, int levels) {
+    words.len = 0;
+    if (asked[a].first == 'L') wgsl_number(&words, 2);
+    if (asked[a].first == 'O') wgsl_word(&words, 4);
+    if (asked[a].first == 'S') wgsl_signature(&words, asked[a].name, 2);
+    if (asked[a].first == 'T') wgsl_signature_with(&words, asked[a].name, 1);
+    for (int k = 0; k < asked[a].types; k++) {
+        if (asked[a].first == 'T' && k) wgsl_arguments(&words, 1);
+        write_type(layer, levels, asked[a].ask == layout);
+    }
+}
+
+int main(void) {
+    size_t base = touched(idle), most = 0;
+    for (size_t a = 0; a < sizeof asked / sizeof *asked; a++)
+        for (int layer = 0; layer < LAYERS; layer++) {
+            write_request(a, layer, WGSL_DEEPEST);
+            size_t taken = touched(asked[a].ask) - base;
+            if (status != WGSL_ANSWERED && status != WGSL_RULED_OUT)
+                return printf("call %zu, layer %d: status %d\n", a, layer, status), 1;
+            if (taken > most) most = taken;
+            write_request(a, layer, WGSL_DEEPEST + 3);
+            touched(asked[a].ask);
+            if (status != WGSL_UNREADABLE) return printf("call %zu, layer %d: too deep a type is read\n", a, layer), 1;
+        }
+    printf("%zu bytes of stack at most\n", most);
+    return most > WGSL_STACK / 2;
+}
