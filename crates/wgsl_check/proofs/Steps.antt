@@ -7,9 +7,10 @@ use Rattle.std.specs.Prelude.{IfErr, IfOk, IfSome, MatchResult, OnErr, OnOk}
 use Rattle.wgsl_check.specs.declared.run.RunError.{RunError}
 use Rattle.wgsl_check.specs.declared.run.RunError.TheVariants.{Read, Write, Memory}
 use Rattle.wgsl_check.specs.declared.run.Session.{Session}
-use Rattle.wgsl_check.specs.Output.{Prints, PrintsUntil}
+use Rattle.wgsl_check.specs.Output.{Prints, PrintsFirst, PrintsUntil}
 use Rattle.wgsl_check.specs.Session.{AnswersLine, HasPrinted, HasStopped, HasTaken, IsAtStart, IsBetween, StopsAfter}
 use Rattle.wgsl_check.proofs.Bytes.{appends_more, appends_none}
+use Rattle.wgsl_check.proofs.OneText.{prints_first}
 use Rattle.wgsl_check.proofs.Taken.{cut_of_all, cut_of_first, taken_last, taken_none, taken_so_far, until_none}
 
 some_more : (text more : List ℕ) → more ≢ [] → text ++ more ≢ []
@@ -201,15 +202,15 @@ printed_known input start now (Err error) known = tt
 -- what `run` says of an error
 pub cut_known : (input start now : Option (List ℕ)) (result : Result Bool RunError)
     → IfSome input (λ bytes. MatchResult result (HasPrinted bytes start now) (HasStopped bytes start now))
-    → IfErr result (λ error. IfSome input (λ bytes. (text : List ℕ) × PrintsUntil error bytes text × Appends start now text))
+    → IfErr result (λ error. IfSome input (λ bytes. (text : List ℕ) × PrintsUntil error bytes text × PrintsFirst bytes text × Appends start now text))
 cut_known input start now (Ok readable) known = tt
 cut_known None start now (Err error) known = tt
-cut_known (Some bytes) start now (Err error) known = (known.text, known.prints, known.written)
+cut_known (Some bytes) start now (Err error) known = (known.text, known.prints, prints_first error bytes known.text known.prints, known.written)
 
 -- the run stops before it began
-pub none_known : (input start : Option (List ℕ)) → IfSome input (λ bytes. (text : List ℕ) × PrintsUntil Memory bytes text × Appends start start text)
+pub none_known : (input start : Option (List ℕ)) → IfSome input (λ bytes. (text : List ℕ) × PrintsUntil Memory bytes text × PrintsFirst bytes text × Appends start start text)
 none_known None start = tt
-none_known (Some bytes) start = ([], until_none bytes, appends_none start)
+none_known (Some bytes) start = ([], until_none bytes, prints_first Memory bytes [] (until_none bytes), appends_none start)
 
 -- an error that is passed on
 pub passed_on : (input start now : Option (List ℕ)) (result : Result Bool RunError) (error found : RunError) → result ≡ Err found → found ≡ error

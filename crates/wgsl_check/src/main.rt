@@ -1,6 +1,7 @@
 // The program: it reads one request per line from standard input, and prints the answers.
 #![tactic(auto)]
 
+mod laws;
 mod line;
 mod run;
 #[cfg(test)]

@@ -1,7 +1,7 @@
 // Lines in, answers out.
 ghost use Rattle.std.specs.Prelude.{◌≡◌, ◌+◌, ◌-◌, ◌^◌, ◌++◌, ℕ, List, [], IfErr, IfOk, IfSome, IsOk, IsOkUnless, OnErr, OnOk, MatchResult, Option, min, string_bytes};
 ghost use Rattle.std.specs.Io.KnownBytes.{Appends};
-ghost use Rattle.wgsl_check.specs.Output.{Prints, PrintsUntil, bad_line};
+ghost use Rattle.wgsl_check.specs.Output.{Prints, PrintsFirst, PrintsUntil, bad_line};
 ghost use Rattle.wgsl_check.specs.Status.{status_of};
 ghost use Rattle.wgsl_check.specs.declared.run.RunError.TheVariants.{Memory};
 ghost use Rattle.wgsl_requests.specs.Replies.{IsReplyTo, reply_of_kind};
@@ -45,7 +45,7 @@ pub fn run<R: Read, W: Write>(
         (text : List ℕ) × Prints bytes text readable
         × Appends (W.contents output.old) (W.contents output.new) text)) }
     ensures beginning { IfErr result (λ error. IfSome (R.remaining input.old) (λ bytes.
-        (text : List ℕ) × PrintsUntil error bytes text
+        (text : List ℕ) × PrintsUntil error bytes text × PrintsFirst bytes text
         × Appends (W.contents output.old) (W.contents output.new) text)) }
 {
     Session::new(alloc)?.answer_all(input, output)
