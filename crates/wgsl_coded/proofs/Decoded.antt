@@ -10,6 +10,7 @@ use Rattle.wgsl_rules.specs.codes.Decoding.{decode, decoded}
 use Rattle.wgsl_rules.proofs.codes.Numbers.{bind_some, same_read, AreWords}
 use Rattle.wgsl_rules.proofs.codes.TypesAgain.{code_again}
 use Rattle.wgsl_rules.proofs.codes.Spelled.{code_is}
+use Rattle.wgsl_rules.proofs.codes.Signatures.{IsReadBack}
 use Rattle.wgsl_core.specs.View.{view}
 use Rattle.wgsl_core.specs.declared.ty.Type.{«Type»}
 
@@ -41,7 +42,12 @@ pub only_of : (ws : List ℕ) (r : Result (Option «Type») AllocError) → IfOk
 only_of ws (Ok u) e t h k = e ∙ ap decoded k ∙ decoded_again t h
 only_of ws (Err e) k t h l = tt
 
+-- what is read back has only its own words
+pub one_spelling : {A : Type 0} (read : List ℕ → Option (A × List ℕ)) (spell : A → List ℕ) (x y : A) (rest others : List ℕ) →
+    IsReadBack read spell x → IsReadBack read spell y → spell x ++ rest ≡ spell y ++ others → (x ≡ y) × (rest ≡ others)
+one_spelling {A} read spell x y rest others first second e =
+    let same = same_read (x, rest) (y, others) (sym (first rest) ∙ ap read e ∙ second others) in
+    (ap (λ (p : A × List ℕ). p.0) same, ap (λ (p : A × List ℕ). p.1) same)
+
 pub one_code : (t u : WgslType) (rest others : List ℕ) → HasCode t 255 → HasCode u 255 → code t ++ rest ≡ code u ++ others → (t ≡ u) × (rest ≡ others)
-one_code t u rest others ht hu e =
-    let same = same_read (t, rest) (u, others) (sym (code_again t 255 rest ht) ∙ ap (decode 255) e ∙ code_again u 255 others hu) in
-    (ap (λ (p : WgslType × List ℕ). p.0) same, ap (λ (p : WgslType × List ℕ). p.1) same)
+one_code t u rest others ht hu = one_spelling (decode 255) code t u rest others (λ ws. code_again t 255 ws ht) (λ ws. code_again u 255 ws hu)

@@ -5,3 +5,4 @@ pub mod Written
 pub mod Decoded
 pub mod Placed
 pub mod Replied
+pub mod InOrder

@@ -1,6 +1,7 @@
 // The first words of codes.
 ghost use Rattle.std.specs.Prelude.{◌≡◌, slice_get};
 ghost use Rattle.wgsl_syntax.specs.Address.{spaces, access_modes};
+ghost use Rattle.wgsl_syntax.specs.Attribute.{flags};
 ghost use Rattle.wgsl_syntax.specs.Scalar.{scalars};
 ghost use Rattle.wgsl_syntax.specs.Texel.{texel_formats};
 ghost use Rattle.wgsl_syntax.specs.Texture.{sampled_types, samplers};
@@ -192,13 +193,13 @@ fn scalar_by(index: u8) -> Option<Scalar>
     by_index(&SCALARS, index)
 }
 
-fn space_by(index: u8) -> Option<AddressSpace>
+pub(crate) fn space_by(index: u8) -> Option<AddressSpace>
     ensures { result ≡ slice_get spaces index }
 {
     by_index(&SPACES, index)
 }
 
-fn access_by(index: u8) -> Option<AccessMode>
+pub(crate) fn access_by(index: u8) -> Option<AccessMode>
     ensures { result ≡ slice_get access_modes index }
 {
     by_index(&ACCESS_MODES, index)
@@ -222,7 +223,13 @@ fn flags_by(index: u8) -> Option<Option<AccelerationStructureFlags>>
     by_index(&FLAGS, index)
 }
 
-fn format_by(index: u8) -> Option<TexelFormat>
+pub(crate) fn flag_by(index: u8) -> Option<AccelerationStructureFlags>
+    ensures { result ≡ slice_get flags index }
+{
+    by_index(&[AccelerationStructureFlags::VertexReturn], index)
+}
+
+pub(crate) fn format_by(index: u8) -> Option<TexelFormat>
     ensures { result ≡ slice_get texel_formats index }
 {
     by_index(&TEXEL_FORMATS, index)

@@ -1,8 +1,14 @@
 // Laws of the codes: each function returns nothing, and its contract is the law.
 ghost use Rattle.std.specs.Prelude.{◌≡◌, ◌++◌, ◌<◌, ◌^◌, ℕ, List, Some, slice_index};
 ghost use Rattle.wgsl_rules.specs.types.Types.{WgslType};
+ghost use Rattle.wgsl_rules.specs.types.Signatures.{Signature};
+ghost use Rattle.wgsl_rules.specs.errors.Refusals.{Refusal};
 ghost use Rattle.wgsl_rules.specs.codes.Codes.{code, HasCode};
 ghost use Rattle.wgsl_rules.specs.codes.Decoding.{decode};
+ghost use Rattle.wgsl_rules.specs.codes.DecodingRefusals.{refusal_at};
+ghost use Rattle.wgsl_rules.specs.codes.DecodingSignatures.{signature_at, types_at};
+ghost use Rattle.wgsl_rules.specs.codes.Refusals.{refusal_code, RefusalHasCode};
+ghost use Rattle.wgsl_rules.specs.codes.Signatures.{list_code, ListHasCode, signature_code, SignatureHasCode};
 
 /// A type is read back from its code, whatever follows it.
 pub fn read_back()
@@ -21,4 +27,44 @@ pub fn read_is_coded()
 pub fn prefix_code()
     ensures { (t u : WgslType) (rest others : List ℕ) → HasCode t 255 → HasCode u 255
         → code t ++ rest ≡ code u ++ others → (t ≡ u) × (rest ≡ others) }
+{}
+
+/// A list of types is read back from its code, whatever follows it.
+pub fn types_read_back()
+    ensures { (ts : List WgslType) (depth : ℕ) (rest : List ℕ)
+        → ListHasCode (λ t. HasCode t depth) ts
+        → types_at (decode depth) (list_code code ts ++ rest) ≡ Some (ts, rest) }
+{}
+
+/// What is read as a list of types is coded by the words.
+pub fn types_are_coded()
+    ensures { (depth : ℕ) (words : List ℕ) (ts : List WgslType) (rest : List ℕ)
+        → ((i : ℕ) → slice_index words i < 2 ^ 32)
+        → types_at (decode depth) words ≡ Some (ts, rest) → words ≡ list_code code ts ++ rest }
+{}
+
+/// A signature is read back from its code, whatever follows it.
+pub fn signature_read_back()
+    ensures { (s : Signature) (depth : ℕ) (rest : List ℕ) → SignatureHasCode depth s
+        → signature_at (decode depth) (signature_code s ++ rest) ≡ Some (s, rest) }
+{}
+
+/// What is read as a signature is coded by the words.
+pub fn signature_is_coded()
+    ensures { (depth : ℕ) (words : List ℕ) (s : Signature) (rest : List ℕ)
+        → ((i : ℕ) → slice_index words i < 2 ^ 32)
+        → signature_at (decode depth) words ≡ Some (s, rest) → words ≡ signature_code s ++ rest }
+{}
+
+/// A refusal is read back from its code, whatever follows it.
+pub fn refusal_read_back()
+    ensures { (r : Refusal) (depth : ℕ) (rest : List ℕ) → RefusalHasCode depth r
+        → refusal_at (decode depth) (refusal_code r ++ rest) ≡ Some (r, rest) }
+{}
+
+/// No refusal's code begins another one's, so different refusals have different codes.
+pub fn refusal_prefix_code()
+    ensures { (r s : Refusal) (depth : ℕ) (rest others : List ℕ) → RefusalHasCode depth r
+        → RefusalHasCode depth s → refusal_code r ++ rest ≡ refusal_code s ++ others
+        → (r ≡ s) × (rest ≡ others) }
 {}

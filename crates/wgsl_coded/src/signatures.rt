@@ -1,0 +1,214 @@
+// Lists of types, template parameters, and the signatures of calls.
+ghost use Rattle.std.specs.Prelude.{◌≡◌, ◌++◌, OnOk, flat_map, map, option_map};
+ghost use Rattle.wgsl_rules.specs.codes.Codes.{code};
+ghost use Rattle.wgsl_rules.specs.codes.Decoding.{decode};
+ghost use Rattle.wgsl_rules.specs.codes.DecodingSignatures.{list_at, parameter_at, parts_in_order, signature_at, template_at, types_at};
+ghost use Rattle.wgsl_rules.specs.codes.Signatures.{list_code, parameter_code, signature_code, template_code};
+ghost use Rattle.wgsl_core.specs.View.{view};
+ghost use Rattle.wgsl_core.specs.Instances.{parameter_view, signature_view};
+ghost use Rattle.wgsl_coded.specs.Reads.{Reads};
+
+use crate::coded::DEPTH;
+use crate::fault::Fault;
+use crate::literals::{read_enumerant, read_literal, write_enumerant, write_literal};
+use crate::names::{read_name, write_name};
+use crate::numbers::{read_number, write_number};
+use crate::reading::read_type;
+use crate::writing::write;
+use std::alloc::{AllocError, Global};
+use wgsl_core::literal::Instance;
+use wgsl_core::signature::{CallSignature, TpltParam};
+use wgsl_core::ty::Type;
+
+/// That many types.
+fn read_types_in_order(
+    alloc: Global,
+    count: usize,
+    words: &[u32],
+) -> Result<(Vec<Type>, &[u32]), Fault>
+    ensures { Reads (λ ts. (map view ts.0.items, ts.1.now)) result
+        (parts_in_order (decode 255) count words.now) }
+{
+    let mut types = Vec::new(alloc);
+    let mut rest = words;
+    for _ in 0..count {
+        match read_type(alloc, rest, DEPTH) {
+            Ok((ty, after)) => {
+                types.push(ty)?;
+                rest = after;
+            }
+            Err(fault) => return Err(fault),
+        }
+    }
+    Ok((types, rest))
+}
+
+/// A list of types.
+pub(crate) fn read_types(alloc: Global, words: &[u32]) -> Result<(Vec<Type>, &[u32]), Fault>
+    ensures { Reads (λ ts. (map view ts.0.items, ts.1.now)) result
+        (types_at (decode 255) words.now) }
+{
+    match read_number(words) {
+        Some((count, rest)) => read_types_in_order(alloc, count, rest),
+        None => Err(Fault::NoType),
+    }
+}
+
+/// A template parameter.
+fn read_parameter(alloc: Global, words: &[u32]) -> Result<(TpltParam, &[u32]), Fault>
+    ensures { Reads (λ p. (parameter_view p.0, p.1.now)) result
+        (parameter_at (decode 255) words.now) }
+{
+    let [word, ..] = words else {
+        return Err(Fault::NoType);
+    };
+    let tag = *word % 256;
+    if tag < 16 {
+        let (ty, rest) = read_type(alloc, words, DEPTH)?;
+        return Ok((TpltParam::Ty(ty), rest));
+    }
+    if tag < 24 {
+        return match read_literal(words) {
+            Some((literal, rest)) => Ok((TpltParam::Instance(Instance::Literal(literal)), rest)),
+            None => Err(Fault::NoType),
+        };
+    }
+    match read_enumerant(words) {
+        Some((enumerant, rest)) => Ok((TpltParam::Enumerant(enumerant), rest)),
+        None => Err(Fault::NoType),
+    }
+}
+
+/// That many template parameters.
+fn read_parameters_in_order(
+    alloc: Global,
+    count: usize,
+    words: &[u32],
+) -> Result<(Vec<TpltParam>, &[u32]), Fault>
+    ensures { Reads (λ ps. (map parameter_view ps.0.items, ps.1.now)) result
+        (parts_in_order (parameter_at (decode 255)) count words.now) }
+{
+    let mut parameters = Vec::new(alloc);
+    let mut rest = words;
+    for _ in 0..count {
+        match read_parameter(alloc, rest) {
+            Ok((parameter, after)) => {
+                parameters.push(parameter)?;
+                rest = after;
+            }
+            Err(fault) => return Err(fault),
+        }
+    }
+    Ok((parameters, rest))
+}
+
+/// A list of template parameters.
+fn read_parameters(alloc: Global, words: &[u32]) -> Result<(Vec<TpltParam>, &[u32]), Fault>
+    ensures { Reads (λ ps. (map parameter_view ps.0.items, ps.1.now)) result
+        (list_at (parameter_at (decode 255)) words.now) }
+{
+    match read_number(words) {
+        Some((count, rest)) => read_parameters_in_order(alloc, count, rest),
+        None => Err(Fault::NoType),
+    }
+}
+
+/// A template, or that there is none.
+fn read_template(alloc: Global, words: &[u32]) -> Result<(Option<Vec<TpltParam>>, &[u32]), Fault>
+    ensures { Reads (λ t. (option_map (λ ps. map parameter_view ps.items) t.0, t.1.now)) result
+        (template_at (decode 255) words.now) }
+{
+    match words {
+        [0, rest @ ..] => Ok((None, rest)),
+        [1, rest @ ..] => {
+            let (parameters, rest) = read_parameters(alloc, rest)?;
+            Ok((Some(parameters), rest))
+        }
+        _ => Err(Fault::NoType),
+    }
+}
+
+/// The signature of a call.
+pub(crate) fn read_signature(alloc: Global, words: &[u32]) -> Result<(CallSignature, &[u32]), Fault>
+    ensures { Reads (λ c. (signature_view c.0, c.1.now)) result
+        (signature_at (decode 255) words.now) }
+{
+    let (name, rest) = read_name(alloc, words)?;
+    let (tplt, rest) = read_template(alloc, rest)?;
+    let (args, rest) = read_types(alloc, rest)?;
+    Ok((CallSignature { name, tplt, args }, rest))
+}
+
+fn write_types_in_order(out: &mut Vec<u32>, types: &Vec<Type>) -> Result<(), AllocError>
+    ensures { OnOk result (out.new.items
+        ≡ out.old.items ++ flat_map code (map view types.now.items)) }
+{
+    for ty in types {
+        write(out, ty)?;
+    }
+    Ok(())
+}
+
+/// Writes a list of types at the end.
+#[tactic(auto, using(std::proofs::lemmas::List::append_assoc))]
+fn write_types(out: &mut Vec<u32>, types: &Vec<Type>) -> Result<(), AllocError>
+    ensures { OnOk result (out.new.items
+        ≡ out.old.items ++ list_code code (map view types.now.items)) }
+{
+    write_number(out, types.len())?;
+    write_types_in_order(out, types)
+}
+
+fn write_parameter(out: &mut Vec<u32>, parameter: &TpltParam) -> Result<(), AllocError>
+    ensures { OnOk result (out.new.items
+        ≡ out.old.items ++ parameter_code (parameter_view parameter.now)) }
+{
+    match parameter {
+        TpltParam::Ty(ty) => write(out, ty),
+        TpltParam::Instance(Instance::Literal(literal)) => write_literal(out, literal),
+        TpltParam::Enumerant(enumerant) => write_enumerant(out, *enumerant),
+    }
+}
+
+fn write_parameters_in_order(
+    out: &mut Vec<u32>,
+    parameters: &Vec<TpltParam>,
+) -> Result<(), AllocError>
+    ensures { OnOk result (out.new.items
+        ≡ out.old.items ++ flat_map parameter_code (map parameter_view parameters.now.items)) }
+{
+    for parameter in parameters {
+        write_parameter(out, parameter)?;
+    }
+    Ok(())
+}
+
+/// Writes a template, or that there is none, at the end.
+#[tactic(auto, using(std::proofs::lemmas::List::append_assoc))]
+fn write_template(out: &mut Vec<u32>, template: &Option<Vec<TpltParam>>) -> Result<(), AllocError>
+    ensures { OnOk result (out.new.items ≡ out.old.items
+        ++ template_code (option_map (λ ps. map parameter_view ps.items) template.now)) }
+{
+    match template {
+        None => {
+            out.push(0)?;
+            Ok(())
+        }
+        Some(parameters) => {
+            out.push(1)?;
+            write_number(out, parameters.len())?;
+            write_parameters_in_order(out, parameters)
+        }
+    }
+}
+
+/// Writes the code of a call's signature at the end; fails only if out of memory.
+#[tactic(auto, using(std::proofs::lemmas::List::append_assoc))]
+pub fn write_signature(out: &mut Vec<u32>, signature: &CallSignature) -> Result<(), AllocError>
+    ensures { OnOk result (out.new.items
+        ≡ out.old.items ++ signature_code (signature_view signature.now)) }
+{
+    write_name(out, &signature.name)?;
+    write_template(out, &signature.tplt)?;
+    write_types(out, &signature.args)
+}
