@@ -1,8 +1,13 @@
 -- What the words of a request ask: they have one reading at most.
-use Rattle.std.specs.Prelude.{ℕ, List, Option, Some, None}
+use Rattle.std.specs.Prelude.{ℕ, List, Option, Some, None, length, nat_eq, if◌then◌else◌}
+use Rattle.wgsl_syntax.specs.declared.operator.BinaryOperator.{BinaryOperator}
+use Rattle.wgsl_syntax.specs.declared.operator.UnaryOperator.{UnaryOperator}
 use Rattle.wgsl_rules.specs.types.Types.{WgslType, struct, Members}
+use Rattle.wgsl_rules.specs.types.Signatures.{Signature}
 use Rattle.wgsl_rules.specs.codes.Reading.{◌>>=◌}
 use Rattle.wgsl_rules.specs.codes.Decoding.{decode, decoded}
+use Rattle.wgsl_rules.specs.codes.DecodingLiterals.{unary_operator_at, binary_operator_at}
+use Rattle.wgsl_rules.specs.codes.DecodingSignatures.{types_at, signature_at}
 
 -- one type, and then another
 abbrev pub two_types : List ℕ → Option (WgslType × WgslType)
@@ -19,3 +24,29 @@ members_in t = None
 -- a struct
 abbrev pub struct_members : List ℕ → Option Members
 struct_members ws = decoded ws >>= members_in
+
+-- a unary operator, and then a type
+abbrev pub unary_expression : List ℕ → Option (UnaryOperator × WgslType)
+unary_expression ws = do
+  o ← unary_operator_at ws
+  t ← decoded o.1
+  Some (o.0, t)
+
+-- a binary operator, and then two types
+abbrev pub binary_expression : List ℕ → Option (BinaryOperator × WgslType × WgslType)
+binary_expression ws = do
+  o ← binary_operator_at ws
+  ts ← two_types o.1
+  Some (o.0, ts.0, ts.1)
+
+-- what is read, if no words are left
+abbrev pub whole : {A : Type 0} → Option (A × List ℕ) → Option A
+whole read = read >>= λ x. if nat_eq (length x.1) 0 then Some x.0 else None
+
+-- a list of types
+abbrev pub all_types : List ℕ → Option (List WgslType)
+all_types ws = whole (types_at (decode 255) ws)
+
+-- the signature of a call
+abbrev pub call_signature : List ℕ → Option Signature
+call_signature ws = whole (signature_at (decode 255) ws)

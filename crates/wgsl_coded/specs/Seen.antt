@@ -1,7 +1,12 @@
 -- How the replies of the code are seen.
-use Rattle.std.specs.Prelude.{ℕ, [], ◌∷◌, ◌++◌, Option, Some, None, Result, Ok, Err}
+use Rattle.std.specs.Prelude.{◌≡◌, ℕ, List, [], ◌∷◌, ◌++◌, Option, Some, None, Result, Ok, Err}
 use Rattle.wgsl_rules.specs.codes.Words.{attribute}
+use Rattle.wgsl_rules.specs.codes.Refusals.{refusal_code}
+use Rattle.wgsl_core.specs.Answer.{refusal}
+use Rattle.wgsl_core.specs.declared.error.Fail.{Fail}
+use Rattle.wgsl_core.specs.declared.error.Fail.TheVariants.{Error}
 use Rattle.wgsl_coded.specs.declared.fault.Fault.{Fault}
+use Rattle.wgsl_coded.specs.declared.fault.Fault.TheVariants.{Memory}
 use Rattle.wgsl_coded.specs.declared.sizes.SizeAndAlign.{SizeAndAlign}
 use Rattle.wgsl_coded.specs.declared.reply.Reply.{Reply}
 use Rattle.wgsl_coded.specs.declared.reply.Reply.TheVariants.{Answer, Refusal}
@@ -25,3 +30,16 @@ size_words s = answered (attribute s.size ++ attribute s.align)
 abbrev pub reply_words : Reply → ReplyWords
 reply_words (Answer words) = answered words.items
 reply_words (Refusal words) = refused words.items
+
+-- the reply to a refusal of the library; out of memory is a fault
+abbrev pub RepliesWithRefusal : Fail → Result Reply Fault → Type 0
+RepliesWithRefusal (Error e) (Ok (Refusal ws)) = ws.items ≡ refusal_code (refusal e)
+RepliesWithRefusal fail (Err Memory) = Unit {0}
+RepliesWithRefusal fail reply = ⊥
+
+-- the reply to an answer of the library, whose words are these, or to a refusal
+abbrev pub RepliesWith : {A : Type 0} → (A → List ℕ) → Result A Fail → Result Reply Fault → Type 0
+RepliesWith words (Ok a) (Ok (Answer ws)) = ws.items ≡ words a
+RepliesWith words (Ok a) (Err Memory) = Unit {0}
+RepliesWith words (Ok a) reply = ⊥
+RepliesWith words (Err fail) reply = RepliesWithRefusal fail reply

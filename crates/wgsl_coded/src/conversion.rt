@@ -1,11 +1,16 @@
 // Conversion, over words.
-ghost use Rattle.wgsl_coded.specs.Replies.{IsRankReply};
-ghost use Rattle.wgsl_coded.specs.Seen.{rank_words, seen};
+ghost use Rattle.std.specs.Prelude.{Some, map};
+ghost use Rattle.wgsl_core.specs.View.{view};
+ghost use Rattle.wgsl_coded.specs.Replies.{IsCommonReply, IsCommonType, IsRankReply, IsReplyTo};
+ghost use Rattle.wgsl_coded.specs.Seen.{rank_words, reply_words, seen};
 
 use crate::fault::Fault;
-use crate::requests::read_two;
+use crate::reply::{Reply, words_of_type};
+use crate::requests::{read_all_types, read_two};
 use std::alloc::Global;
 use wgsl_core::conversion::conversion_rank;
+use wgsl_core::conversion::lists::common_of;
+use wgsl_core::ty::Type;
 
 /// The rank of the conversion from one type to another, or None if it doesn't convert. The request is the two types.
 pub fn rank(alloc: Global, request: &[u32]) -> Result<Option<u32>, Fault>
@@ -16,4 +21,24 @@ pub fn rank(alloc: Global, request: &[u32]) -> Result<Option<u32>, Fault>
     drop(source);
     drop(target);
     Ok(rank)
+}
+
+/// The code of the common type of a list of types, refused without words if there is none. The request is the list.
+pub fn common(alloc: Global, request: &[u32]) -> Result<Reply, Fault>
+    ensures { IsCommonReply request.now (seen reply_words result) }
+{
+    let types = read_all_types(alloc, request)?;
+    let reply = common_of_types(alloc, &types);
+    drop(types);
+    reply
+}
+
+#[tactic(auto, using(wgsl_rules::proofs::conversion::Lists::common_of_list))]
+fn common_of_types(alloc: Global, types: &[Type]) -> Result<Reply, Fault>
+    ensures { IsReplyTo (Some (map view types.now)) IsCommonType (seen reply_words result) }
+{
+    match common_of(types) {
+        Some(common) => Ok(Reply::Answer(words_of_type(alloc, common)?)),
+        None => Ok(Reply::Refusal(Vec::new(alloc))),
+    }
 }

@@ -2,6 +2,7 @@
 //! made over them.
 #![tactic(auto)]
 
+mod calls;
 mod coded;
 mod conversion;
 mod fault;
@@ -10,6 +11,7 @@ pub mod laws;
 mod literals;
 mod names;
 mod numbers;
+mod operators;
 mod reading;
 mod refusals;
 mod reply;
@@ -18,9 +20,11 @@ mod signatures;
 mod sizes;
 mod writing;
 
+pub use calls::{call, constructor};
 pub use coded::read;
-pub use conversion::rank;
+pub use conversion::{common, rank};
 pub use fault::Fault;
+pub use operators::{binary, unary};
 pub use refusals::write_error;
 pub use reply::Reply;
 pub use signatures::write_signature;

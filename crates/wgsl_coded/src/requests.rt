@@ -1,13 +1,19 @@
 // What requests ask is read.
+ghost use Rattle.std.specs.Prelude.{◌≡◌, map, slice_get};
+ghost use Rattle.wgsl_syntax.specs.Operator.{binary_operators, unary_operators};
+ghost use Rattle.wgsl_core.specs.Instances.{signature_view};
 ghost use Rattle.wgsl_core.specs.View.{view};
 ghost use Rattle.wgsl_coded.specs.Reads.{Reads};
-ghost use Rattle.wgsl_coded.specs.Requests.{two_types};
+ghost use Rattle.wgsl_coded.specs.Requests.{all_types, binary_expression, call_signature, two_types, unary_expression};
 
 use crate::coded::{DEPTH, read_whole};
 use crate::fault::Fault;
 use crate::reading::read_type;
+use crate::signatures::{read_signature, read_types};
 use std::alloc::Global;
+use wgsl_core::signature::CallSignature;
 use wgsl_core::ty::Type;
+use wgsl_syntax::operator::{BinaryOperator, UnaryOperator};
 
 /// One type, and then another.
 pub(crate) fn read_two(alloc: Global, words: &[u32]) -> Result<(Type, Type), Fault>
@@ -16,4 +22,101 @@ pub(crate) fn read_two(alloc: Global, words: &[u32]) -> Result<(Type, Type), Fau
     let (first, rest) = read_type(alloc, words, DEPTH)?;
     let second = read_whole(alloc, rest)?;
     Ok((first, second))
+}
+
+/// A list of types.
+pub(crate) fn read_all_types(alloc: Global, words: &[u32]) -> Result<Vec<Type>, Fault>
+    ensures { Reads (λ types. map view types.items) result (all_types words.now) }
+{
+    let (types, rest) = read_types(alloc, words)?;
+    if !rest.is_empty() {
+        drop(types);
+        return Err(Fault::NoType);
+    }
+    Ok(types)
+}
+
+/// The signature of a call.
+pub(crate) fn read_call(alloc: Global, words: &[u32]) -> Result<CallSignature, Fault>
+    ensures { Reads signature_view result (call_signature words.now) }
+{
+    let (call, rest) = read_signature(alloc, words)?;
+    if !rest.is_empty() {
+        drop(call);
+        return Err(Fault::NoType);
+    }
+    Ok(call)
+}
+
+/// A unary operator, and then a type.
+pub(crate) fn read_unary(alloc: Global, words: &[u32]) -> Result<(UnaryOperator, Type), Fault>
+    ensures { Reads (λ e. (e.0, view e.1)) result (unary_expression words.now) }
+{
+    let [word, rest @ ..] = words else {
+        return Err(Fault::NoType);
+    };
+    let Some(operator) = unary_operator_by(*word) else {
+        return Err(Fault::NoType);
+    };
+    let operand = read_whole(alloc, rest)?;
+    Ok((operator, operand))
+}
+
+/// A binary operator, and then two types.
+pub(crate) fn read_binary(
+    alloc: Global,
+    words: &[u32],
+) -> Result<(BinaryOperator, Type, Type), Fault>
+    ensures { Reads (λ e. (e.0, view e.1, view e.2)) result (binary_expression words.now) }
+{
+    let [word, rest @ ..] = words else {
+        return Err(Fault::NoType);
+    };
+    let Some(operator) = binary_operator_by(*word) else {
+        return Err(Fault::NoType);
+    };
+    let (left, right) = read_two(alloc, rest)?;
+    Ok((operator, left, right))
+}
+
+/// The unary operators by index, and so for the binary ones.
+const UNARY_OPERATORS: [UnaryOperator; 5] = [
+    UnaryOperator::LogicalNegation,
+    UnaryOperator::Negation,
+    UnaryOperator::BitwiseComplement,
+    UnaryOperator::AddressOf,
+    UnaryOperator::Indirection,
+];
+
+const BINARY_OPERATORS: [BinaryOperator; 18] = [
+    BinaryOperator::ShortCircuitOr,
+    BinaryOperator::ShortCircuitAnd,
+    BinaryOperator::Addition,
+    BinaryOperator::Subtraction,
+    BinaryOperator::Multiplication,
+    BinaryOperator::Division,
+    BinaryOperator::Remainder,
+    BinaryOperator::Equality,
+    BinaryOperator::Inequality,
+    BinaryOperator::LessThan,
+    BinaryOperator::LessThanEqual,
+    BinaryOperator::GreaterThan,
+    BinaryOperator::GreaterThanEqual,
+    BinaryOperator::BitwiseOr,
+    BinaryOperator::BitwiseAnd,
+    BinaryOperator::BitwiseXor,
+    BinaryOperator::ShiftLeft,
+    BinaryOperator::ShiftRight,
+];
+
+fn unary_operator_by(word: u32) -> Option<UnaryOperator>
+    ensures { result ≡ slice_get unary_operators word }
+{
+    UNARY_OPERATORS.get(word as usize).copied()
+}
+
+fn binary_operator_by(word: u32) -> Option<BinaryOperator>
+    ensures { result ≡ slice_get binary_operators word }
+{
+    BINARY_OPERATORS.get(word as usize).copied()
 }

@@ -1,0 +1,31 @@
+// Constructors and built-in functions, over words.
+ghost use Rattle.wgsl_coded.specs.Replies.{IsCallReply, IsConstructorReply};
+ghost use Rattle.wgsl_coded.specs.Seen.{reply_words, seen};
+
+use crate::fault::Fault;
+use crate::reply::{Reply, reply_with_type, reply_with_value};
+use crate::requests::read_call;
+use std::alloc::Global;
+use wgsl_calls::call::type_builtin_fn;
+use wgsl_calls::constructor::type_ctor;
+
+/// The type that a constructor makes, or its refusal. The request is the signature of the call.
+pub fn constructor(alloc: Global, request: &[u32]) -> Result<Reply, Fault>
+    ensures { IsConstructorReply request.now (seen reply_words result) }
+{
+    let call = read_call(alloc, request)?;
+    let answer = type_ctor(alloc, &call.name, call.tplt.as_deref(), &call.args);
+    drop(call);
+    reply_with_type(alloc, answer)
+}
+
+/// The type of the call of a built-in function, no words if it returns no value, or its refusal. The request is the
+/// signature of the call.
+pub fn call(alloc: Global, request: &[u32]) -> Result<Reply, Fault>
+    ensures { IsCallReply request.now (seen reply_words result) }
+{
+    let call = read_call(alloc, request)?;
+    let answer = type_builtin_fn(alloc, &call.name, call.tplt.as_deref(), &call.args);
+    drop(call);
+    reply_with_value(alloc, answer)
+}
