@@ -4,13 +4,13 @@
 // writes those words on 0 and 1 alone. The status is 0 for an answer, 1 for a refusal by WGSL's rules, 2 for words that
 // are no such request, 3 if memory was refused, and 4 if the room has fewer words than the answer or the refusal.
 ghost use Rattle.std.specs.Prelude.{Result};
-ghost use Rattle.wgsl_coded.specs.Replies.{IsLayoutReply, IsRankReply, IsSizeReply, ReplyWords};
+ghost use Rattle.wgsl_coded.specs.Replies.{IsBinaryReply, IsCallReply, IsCommonReply, IsConstructorReply, IsLayoutReply, IsRankReply, IsSizeReply, IsUnaryReply, ReplyWords};
 ghost use Rattle.wgsl_coded.specs.declared.fault.Fault.{Fault};
 ghost use Rattle.wgsl_c.specs.Words.{IsHandedReply, IsRoomKept};
 
 use crate::hand_over_words::{hand_over_rank, hand_over_reply, hand_over_size};
 use std::alloc::Global;
-use wgsl_coded::{layout, rank, size};
+use wgsl_coded::{binary, call, common, constructor, layout, rank, size, unary};
 
 /// The rank of the conversion from one type to another.
 #[unsafe(no_mangle)]
@@ -20,6 +20,76 @@ pub extern "C" fn wgsl_rank(alloc: Global, request: &[u32], room: &mut [u32], le
     ensures room { IsRoomKept room.old room.new len.new result }
 {
     hand_over_rank(rank(alloc, request), room, len)
+}
+
+/// The common type of a list of types.
+#[unsafe(no_mangle)]
+pub extern "C" fn wgsl_common(
+    alloc: Global,
+    request: &[u32],
+    room: &mut [u32],
+    len: &mut usize,
+) -> u8
+    ensures reply { (reply : Result ReplyWords Fault) × IsCommonReply request.now reply
+        × IsHandedReply reply room.old room.new len.new result }
+    ensures room { IsRoomKept room.old room.new len.new result }
+{
+    hand_over_reply(&common(alloc, request), room, len)
+}
+
+/// The type of a unary expression.
+#[unsafe(no_mangle)]
+pub extern "C" fn wgsl_unary(
+    alloc: Global,
+    request: &[u32],
+    room: &mut [u32],
+    len: &mut usize,
+) -> u8
+    ensures reply { (reply : Result ReplyWords Fault) × IsUnaryReply request.now reply
+        × IsHandedReply reply room.old room.new len.new result }
+    ensures room { IsRoomKept room.old room.new len.new result }
+{
+    hand_over_reply(&unary(alloc, request), room, len)
+}
+
+/// The type of a binary expression, and those to which its operands convert.
+#[unsafe(no_mangle)]
+pub extern "C" fn wgsl_binary(
+    alloc: Global,
+    request: &[u32],
+    room: &mut [u32],
+    len: &mut usize,
+) -> u8
+    ensures reply { (reply : Result ReplyWords Fault) × IsBinaryReply request.now reply
+        × IsHandedReply reply room.old room.new len.new result }
+    ensures room { IsRoomKept room.old room.new len.new result }
+{
+    hand_over_reply(&binary(alloc, request), room, len)
+}
+
+/// The type that a constructor makes.
+#[unsafe(no_mangle)]
+pub extern "C" fn wgsl_constructor(
+    alloc: Global,
+    request: &[u32],
+    room: &mut [u32],
+    len: &mut usize,
+) -> u8
+    ensures reply { (reply : Result ReplyWords Fault) × IsConstructorReply request.now reply
+        × IsHandedReply reply room.old room.new len.new result }
+    ensures room { IsRoomKept room.old room.new len.new result }
+{
+    hand_over_reply(&constructor(alloc, request), room, len)
+}
+
+/// The type of the call of a built-in function.
+#[unsafe(no_mangle)]
+pub extern "C" fn wgsl_call(alloc: Global, request: &[u32], room: &mut [u32], len: &mut usize) -> u8
+    ensures reply { (reply : Result ReplyWords Fault) × IsCallReply request.now reply
+        × IsHandedReply reply room.old room.new len.new result }
+    ensures room { IsRoomKept room.old room.new len.new result }
+{
+    hand_over_reply(&call(alloc, request), room, len)
 }
 
 /// The size and the alignment of a type.
