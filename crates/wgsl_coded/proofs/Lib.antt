@@ -6,3 +6,4 @@ pub mod Decoded
 pub mod Placed
 pub mod Replied
 pub mod InOrder
+pub mod Deep

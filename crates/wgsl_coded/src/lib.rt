@@ -5,6 +5,7 @@
 mod calls;
 mod coded;
 mod conversion;
+mod depth;
 mod fault;
 mod heads;
 pub mod laws;
@@ -23,6 +24,7 @@ mod writing;
 pub use calls::{call, constructor};
 pub use coded::read;
 pub use conversion::{common, rank};
+pub use depth::{is_read_back, write_and_read};
 pub use fault::Fault;
 pub use operators::{binary, unary};
 pub use refusals::write_error;

@@ -9,3 +9,4 @@ pub mod Refusals
 pub mod DecodingLiterals
 pub mod DecodingSignatures
 pub mod DecodingRefusals
+pub mod Depth
