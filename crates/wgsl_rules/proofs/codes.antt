@@ -7,3 +7,4 @@ pub mod Literals
 pub mod Enumerants
 pub mod Signatures
 pub mod Refusals
+pub mod Cases
