@@ -62,6 +62,13 @@ pub fn refusal_read_back()
         → refusal_at (decode depth) (refusal_code r ++ rest) ≡ Some (r, rest) }
 {}
 
+/// What is read as a refusal is coded by the words.
+pub fn refusal_is_coded()
+    ensures { (depth : ℕ) (words : List ℕ) (r : Refusal) (rest : List ℕ)
+        → ((i : ℕ) → slice_index words i < 2 ^ 32)
+        → refusal_at (decode depth) words ≡ Some (r, rest) → words ≡ refusal_code r ++ rest }
+{}
+
 /// No refusal's code begins another one's, so different refusals have different codes.
 pub fn refusal_prefix_code()
     ensures { (r s : Refusal) (depth : ℕ) (rest others : List ℕ) → RefusalHasCode depth r

@@ -7,4 +7,5 @@ pub mod Literals
 pub mod Enumerants
 pub mod Signatures
 pub mod Refusals
+pub mod RefusalsSpelled
 pub mod Cases

@@ -110,3 +110,17 @@ unary_again o rest = rw (unary_index o) refl
 
 pub binary_again : (o : BinaryOperator) (rest : List ℕ) → binary_operator_at (index binary_type o ∷ rest) ≡ Some (o, rest)
 binary_again o rest = rw (binary_index o) refl
+
+pub unary_is : (ws : List ℕ) (o : UnaryOperator × List ℕ) → AreWords ws → unary_operator_at ws ≡ Some o → IsFront (λ o. index unary_type o ∷ []) ws o
+unary_is [] o h e = absurd (cc e)
+unary_is (w ∷ ws) o h e =
+    let found = bind_some (slice_get unary_operators w) (λ o. Some (o, ws)) o e in
+    subst (IsFront (λ o. index unary_type o ∷ []) (w ∷ ws)) (same_read (found.0, ws) o found.2)
+    (ap (λ v. v ∷ ws) (index_is unary_type unary_operators refl w found.0 found.1), words_after w ws h)
+
+pub binary_is : (ws : List ℕ) (o : BinaryOperator × List ℕ) → AreWords ws → binary_operator_at ws ≡ Some o → IsFront (λ o. index binary_type o ∷ []) ws o
+binary_is [] o h e = absurd (cc e)
+binary_is (w ∷ ws) o h e =
+    let found = bind_some (slice_get binary_operators w) (λ o. Some (o, ws)) o e in
+    subst (IsFront (λ o. index binary_type o ∷ []) (w ∷ ws)) (same_read (found.0, ws) o found.2)
+    (ap (λ v. v ∷ ws) (index_is binary_type binary_operators refl w found.0 found.1), words_after w ws h)
