@@ -23,6 +23,7 @@ use wgsl_syntax::result_struct::{ResultPrecision, ResultStruct};
 use wgsl_syntax::scalar::Scalar;
 
 /// The rank of the conversion from `a` to `b` (WGSL, "Conversion Rank"), or None if `a` doesn't convert to `b`.
+#[inline(always)]
 pub fn conversion_rank(a: &Type, b: &Type) -> Option<u32>
     ensures { (w : ℕ) → (result ≡ Some w) ↔ Converts (view a.now) (view b.now) w }
 {
@@ -72,6 +73,7 @@ pub fn convert_ty<'a>(a: &'a Type, b: &'a Type) -> Option<&'a Type>
 
 impl Type {
     /// Whether the type converts to `ty`.
+    #[inline(always)]
     pub fn is_convertible_to(&self, ty: &Type) -> bool
         ensures { IsTrue result ↔ ConvertsTo (view self.now) (view ty.now) }
     {

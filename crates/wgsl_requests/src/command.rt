@@ -337,6 +337,7 @@ pub fn write_message(text: &mut String, refused: &Fail) -> Result<(), AllocError
 }
 
 /// Writes a number, or `none`.
+#[inline(always)]
 pub fn write_number_or_none(text: &mut String, number: Option<u32>) -> Result<(), AllocError>
     ensures { OnOk result (string_bytes text.new ≡ string_bytes text.old ++ number_or_none number) }
 {

@@ -129,6 +129,7 @@ fn read_next(count: usize, word: &str, words: &mut Words) -> Result<Option<Outer
 }
 
 /// The types that all words that are left stand for.
+#[inline(always)]
 pub fn read_types(alloc: Global, words: &mut Words) -> Result<Vec<Type>, Unread>
     ensures { Answers (λ types. TypesAt (left words.old) (map view types.items))
         ((ts : List WgslType) → TypesAt (left words.old) ts → ⊥) result }
@@ -141,6 +142,7 @@ pub fn read_types(alloc: Global, words: &mut Words) -> Result<Vec<Type>, Unread>
 }
 
 /// The two types that the words that are left stand for.
+#[inline(always)]
 pub fn read_pair(alloc: Global, words: &mut Words) -> Result<[Type; 2], Unread>
     ensures { Answers (λ types. TypesAt (left words.old) (map view types))
         ((t u : WgslType) → TypesAt (left words.old) (t ∷ u ∷ []) → ⊥) result }
@@ -150,6 +152,7 @@ pub fn read_pair(alloc: Global, words: &mut Words) -> Result<[Type; 2], Unread>
 }
 
 /// The type that the words that are left stand for.
+#[inline(always)]
 pub fn read_last_type(alloc: Global, words: &mut Words) -> Result<Type, Unread>
     ensures { Answers (λ ty. TypeAt (left words.old) (view ty) [])
         ((t : WgslType) → TypeAt (left words.old) t [] → ⊥) result }

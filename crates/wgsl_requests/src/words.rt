@@ -99,6 +99,7 @@ impl<'t> Words<'t> {
     }
 
     /// A number of components, columns or rows.
+    #[inline(always)]
     pub fn next_small(&mut self) -> Result<u8, Unread>
         ensures goes_on { GoesOn self.old self.new }
         ensures read { Reads (OneWord IsSmall) (λ n. n) (left self.old) (left self.new) result }
@@ -107,6 +108,7 @@ impl<'t> Words<'t> {
     }
 
     /// A number of elements, or `*` if the array is runtime-sized.
+    #[inline(always)]
     pub fn next_count(&mut self) -> Result<Option<usize>, Unread>
         ensures goes_on { GoesOn self.old self.new }
         ensures read { Reads (OneWord IsCount) (λ n. n) (left self.old) (left self.new) result }

@@ -19,6 +19,7 @@ pub struct Call<'a> {
 }
 
 /// Whether the row takes the call.
+#[inline(always)]
 pub fn fits(row: &Row, call: &Call<'_>) -> bool
     ensures { IsTrue result ↔ Fits row.now (signature_of call.now) }
 {
@@ -42,6 +43,7 @@ fn has_template(call: &Call<'_>) -> bool
 
 /// Whether there are as many arguments as required, and each has its shape.
 #[tactic(auto, using(crate::proofs::Fitting::as_many))]
+#[inline(always)]
 fn are(arguments: &Arguments, args: &[Type]) -> bool
     ensures { IsTrue result ↔ AllAre (shapes_of arguments.now) (map view args.now) }
 {
@@ -76,6 +78,7 @@ fn begin_as(arguments: &Arguments, args: &[Type]) -> bool
     }
 }
 
+#[inline(always)]
 fn first_are(shapes: &[Shape], args: &[Type]) -> bool
     ensures { IsTrue result ↔ BeginAs shapes.now (map view args.now) }
 {

@@ -106,6 +106,7 @@ fn floats(alloc: Global, layer: Layer) -> Result<Type, AllocError>
 }
 
 /// The scalar itself, or a vector of it, by the shape.
+#[inline(always)]
 fn shaped_type(alloc: Global, shape: ResultShape, of: Scalar) -> Result<Type, AllocError>
     ensures { IfOk result (λ t. view t ≡ shaped shape (scalar of)) }
 {
@@ -118,6 +119,7 @@ fn shaped_type(alloc: Global, shape: ResultShape, of: Scalar) -> Result<Type, Al
 }
 
 /// A struct of two members without attributes.
+#[inline(always)]
 fn pair(
     alloc: Global,
     name: &str,
@@ -138,6 +140,7 @@ fn pair(
 }
 
 /// Adds a member without attributes.
+#[inline(always)]
 fn push(
     members: &mut Vec<StructMemberType>,
     alloc: Global,
@@ -152,6 +155,7 @@ fn push(
     Ok(())
 }
 
+#[inline(always)]
 fn struct_of(alloc: Global, name: &str, members: Vec<StructMemberType>) -> Result<Type, AllocError>
     ensures { IfOk result (λ t. view t
         ≡ struct name.now (members_of (map member_view members.items))) }
