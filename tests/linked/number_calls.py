@@ -1,6 +1,7 @@
 """The calls over numbers of the linked library, compared with its call in text: the same questions have the same answers."""
 import ctypes
 import os
+import sys
 
 from type_codes import BINARY, UNARY, NoCode, Random, Reader
 from type_codes import code, list_code, parameter_words, signature_code, signature_words, spelling, words
@@ -32,7 +33,7 @@ class Library:
         found = self.room[:count]
         self.room[:count] = [FILL] * count
         if self.room[count] != FILL or self.room[ROOM - 1] != FILL:
-            raise AssertionError(f"{name} {given} writes more than its reply")
+            sys.exit(f"link: {name} {given} writes more than its reply")
         return status, found
 
     def text(self, request):
@@ -77,7 +78,7 @@ def message(reader):
     if kind == 31:
         name, wanted, given = reader.name(), reader.number(), reader.number()
         return f"incorrect number of arguments to `{name}`, expected `{wanted}`, got `{given}`"
-    raise AssertionError(f"no call refuses with {kind}")
+    sys.exit(f"link: no call refuses with {kind}")
 
 
 def shown_layout(reader):
@@ -157,7 +158,7 @@ def compare_texts(library, count):
         wanted = printed_layout(text) if name == "layout" and text != "none" else text
         found = shown(name, *library.ask(name, given))
         if found != wanted:
-            raise AssertionError(f"{request}: {found} by numbers, {wanted} in text")
+            sys.exit(f"link: {request}: {found} by numbers, {wanted} in text")
 
 
 def compare_types(library, count):
@@ -166,7 +167,7 @@ def compare_types(library, count):
     for _ in range(count):
         given = code(rng.type(6))
         if library.ask("common", [1, 0] + given) != (0, given):
-            raise AssertionError(f"{given} doesn't come back")
+            sys.exit(f"link: {given} doesn't come back")
 
 
 # Broken words.
@@ -211,6 +212,6 @@ def compare_broken(library, count):
         for broken in changes(rng, given):
             status, _ = library.ask(name, broken)
             if (status == 2) == is_request(name, broken) or status == 3:
-                raise AssertionError(f"{name} {broken}: status {status}")
+                sys.exit(f"link: {name} {broken}: status {status}")
             asked += 1
     return asked

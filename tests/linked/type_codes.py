@@ -203,10 +203,11 @@ class Reader:
     def texture(self, kind, a, b):
         if kind < 9:
             self.pick(SAMPLED, a)
+            self.pick([0], b)
         elif 10 <= kind < 15:
             self.pick(FORMATS, a)
             self.pick(ACCESS, b)
-        elif kind not in BARE_TEXTURES:
+        elif kind not in BARE_TEXTURES or a or b:
             raise NoCode
         return ("texture", kind, a, b)
 

@@ -46,3 +46,8 @@ pub use error::Error;
 pub use inst::Instance;
 pub use signature::{CallSignature, ShaderStage};
 pub use ty::Type;
+
+/// The example of the README is tested too.
+#[cfg(doctest)]
+#[doc = include_str!("../README.md")]
+struct Readme;
