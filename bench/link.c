@@ -1,10 +1,10 @@
-/* Prints how many nanoseconds of processor time a call of the library takes, for ten requests, the best of five rounds. */
-#include "wgsl.h"
+/* Prints how many nanoseconds of processor time a call of the library takes, for ten requests in text and four in numbers,
+ * the best of five rounds. */
+#include "wgsl_codes.h"
 #include <stdio.h>
-#include <string.h>
 #include <time.h>
 
-enum { ROUNDS = 5, CALLS = 100000 };
+enum { ROUNDS = 5, CALLS = 100000, WORDS = 64 };
 
 static const char *const requests[] = {
     "rank AbstractInt f32",
@@ -19,26 +19,88 @@ static const char *const requests[] = {
     "call textureSample - texture_2d f32 sampler vec 2 f32",
 };
 
+/* What is asked: a request in text, or a call over numbers with its words. */
+static const char *text;
+static uint8_t (*call)(const uint32_t *, size_t, uint32_t *, size_t, size_t *);
+static uint32_t request[WORDS];
+static WgslWords words = {request, WORDS, 0};
+
+static int ask(void) {
+    static uint8_t text_room[4096];
+    static uint32_t room[WORDS];
+    size_t len = 0;
+    if (call) return call(request, words.len, room, WORDS, &len);
+    return wgsl_answer((const uint8_t *)text, strlen(text), text_room, sizeof text_room, &len);
+}
+
 static double nanoseconds(void) {
     struct timespec time;
     clock_gettime(CLOCK_PROCESS_CPUTIME_ID, &time);
     return (double)time.tv_sec * 1e9 + (double)time.tv_nsec;
 }
 
-int main(void) {
-    static uint8_t room[4096];
-    for (size_t k = 0; k < sizeof requests / sizeof *requests; k++) {
-        const uint8_t *request = (const uint8_t *)requests[k];
-        size_t request_len = strlen(requests[k]), text_len = 0;
-        double best = 1e18;
-        for (int round = 0; round < ROUNDS; round++) {
-            double start = nanoseconds();
-            for (int call = 0; call < CALLS; call++)
-                if (wgsl_answer(request, request_len, room, sizeof room, &text_len) != WGSL_ANSWERED) return 1;
-            double taken = nanoseconds() - start;
-            if (taken < best) best = taken;
-        }
-        printf("%6.0f ns  %s\n", best / CALLS, requests[k]);
+static int measure(const char *name) {
+    double best = 1e18;
+    for (int round = 0; round < ROUNDS; round++) {
+        double start = nanoseconds();
+        for (int k = 0; k < CALLS; k++)
+            if (ask() != WGSL_ANSWERED) return 1;
+        double taken = nanoseconds() - start;
+        if (taken < best) best = taken;
     }
+    printf("%6.0f ns  %s\n", best / CALLS, name);
     return 0;
+}
+
+static void scalars(int a, int b) {
+    wgsl_scalar(&words, a);
+    wgsl_scalar(&words, b);
+}
+
+static int measure_rank(void) {
+    call = wgsl_rank;
+    words.len = 0;
+    scalars(WGSL_SCALAR_ABSTRACT_INT, WGSL_SCALAR_F32);
+    return measure("wgsl_rank: AbstractInt to f32");
+}
+
+static int measure_sum(void) {
+    call = wgsl_binary;
+    words.len = 0;
+    wgsl_word(&words, WGSL_BINARY_ADDITION);
+    wgsl_scalar(&words, WGSL_SCALAR_ABSTRACT_INT);
+    wgsl_vec(&words, 3);
+    wgsl_scalar(&words, WGSL_SCALAR_F32);
+    return measure("wgsl_binary: AbstractInt + vec3<f32>");
+}
+
+static int measure_clamp(void) {
+    call = wgsl_call;
+    words.len = 0;
+    wgsl_signature(&words, "clamp", 3);
+    scalars(WGSL_SCALAR_ABSTRACT_INT, WGSL_SCALAR_F32);
+    wgsl_scalar(&words, WGSL_SCALAR_ABSTRACT_FLOAT);
+    return measure("wgsl_call: clamp(AbstractInt, f32, AbstractFloat)");
+}
+
+static int measure_layout(void) {
+    call = wgsl_layout;
+    words.len = 0;
+    wgsl_struct(&words, "S", 3);
+    wgsl_member(&words, "a");
+    wgsl_scalar(&words, WGSL_SCALAR_F32);
+    wgsl_member(&words, "b");
+    wgsl_vec(&words, 3);
+    wgsl_scalar(&words, WGSL_SCALAR_F32);
+    wgsl_member(&words, "c");
+    wgsl_scalar(&words, WGSL_SCALAR_F32);
+    return measure("wgsl_layout: struct S { a: f32, b: vec3<f32>, c: f32 }");
+}
+
+int main(void) {
+    for (size_t k = 0; k < sizeof requests / sizeof *requests; k++) {
+        text = requests[k];
+        if (measure(text)) return 1;
+    }
+    return measure_rank() || measure_sum() || measure_clamp() || measure_layout();
 }

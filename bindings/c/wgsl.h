@@ -26,9 +26,10 @@ enum {
 };
 
 enum {
-    WGSL_LONGEST = 4096,     /* A longer request in text is unreadable. */
-    WGSL_DEEPEST = 255,      /* So are words of a type with more levels. A scalar has one, a vector of it two. */
-    WGSL_STACK = 320 * 1024  /* Bytes of stack that are enough for any request: at least twice what the deepest takes. */
+    WGSL_LONGEST = 4096,            /* A longer request in text is unreadable. */
+    WGSL_DEEPEST = 255,             /* So are words of a type with more levels. A scalar has one, a vector of it two. */
+    WGSL_STACK = 320 * 1024,        /* Bytes of stack that are enough for any request in text, */
+    WGSL_NUMBERS_STACK = 512 * 1024 /* and in numbers: at least twice what the deepest takes. */
 };
 
 /* Answers one request, and sets *text_len: to the length of the answer if it returns WGSL_ANSWERED or WGSL_NO_ROOM, and
@@ -46,8 +47,8 @@ uint8_t wgsl_answer(const uint8_t *request, size_t request_len, uint8_t *room, s
 
 /* The eight calls over numbers. All lengths are in words. *len is set to the length of the answer, on WGSL_RULED_OUT to
  * that of the refusal, on WGSL_NO_ROOM to that of the one that doesn't fit, and else to 0. The room is written on
- * WGSL_ANSWERED and WGSL_RULED_OUT alone, and there its first *len words. The caller owes what it owes for wgsl_answer;
- * pointers to words are aligned to 4, and lengths are below 2^61.
+ * WGSL_ANSWERED and WGSL_RULED_OUT alone, and there its first *len words. The caller owes what it owes for wgsl_answer, but
+ * WGSL_NUMBERS_STACK bytes of stack; pointers to words are aligned to 4, and lengths are below 2^61.
  *
  *   call              request                     answer                                              refusal
  *   wgsl_rank         two types                   the rank of the conversion, one word                nothing

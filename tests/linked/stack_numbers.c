@@ -72,18 +72,18 @@ static void write_request(size_t a, int layer, int levels) {
 }
 
 int main(void) {
-    size_t base = touched(idle), most = 0;
+    size_t base = touched(idle, WGSL_NUMBERS_STACK), most = 0;
     for (size_t a = 0; a < sizeof asked / sizeof *asked; a++)
         for (int layer = 0; layer < LAYERS; layer++) {
             write_request(a, layer, WGSL_DEEPEST);
-            size_t taken = touched(asked[a].ask) - base;
+            size_t taken = touched(asked[a].ask, WGSL_NUMBERS_STACK) - base;
             if (status != WGSL_ANSWERED && status != WGSL_RULED_OUT)
                 return printf("call %zu, layer %d: status %d\n", a, layer, status), 1;
             if (taken > most) most = taken;
             write_request(a, layer, WGSL_DEEPEST + 3);
-            touched(asked[a].ask);
+            touched(asked[a].ask, WGSL_NUMBERS_STACK);
             if (status != WGSL_UNREADABLE) return printf("call %zu, layer %d: too deep a type is read\n", a, layer), 1;
         }
     printf("%zu bytes of stack at most\n", most);
-    return most > WGSL_STACK / 2;
+    return most > WGSL_NUMBERS_STACK / 2;
 }
