@@ -7,7 +7,7 @@ use crate::ty::{Type, MAX_DEPTH};
 use std::alloc::{handle_alloc_error, Layout};
 
 /// Most answers have fewer words.
-const ROOM: usize = 64;
+const ROOM: usize = 32;
 
 /// The words of an answer, or of a refusal.
 enum Reply<'a> {

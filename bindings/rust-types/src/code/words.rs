@@ -1,7 +1,7 @@
 //! A buffer of words.
 
 /// So many words fit the stack: most requests are shorter.
-const INLINE: usize = 64;
+const INLINE: usize = 32;
 
 /// Words that are gathered on the stack, and in a `Vec` once they are more than fit there.
 pub(crate) struct Words {

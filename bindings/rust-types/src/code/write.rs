@@ -28,9 +28,12 @@ impl Words {
     pub(super) fn name(&mut self, name: &str) {
         self.number(name.len() as u64);
         for bytes in name.as_bytes().chunks(4) {
-            let mut word = [0; 4];
-            word[..bytes.len()].copy_from_slice(bytes);
-            self.push(u32::from_le_bytes(word));
+            self.push(
+                bytes
+                    .iter()
+                    .rev()
+                    .fold(0, |word, &byte| word << 8 | u32::from(byte)),
+            );
         }
     }
 
