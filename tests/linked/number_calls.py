@@ -119,7 +119,8 @@ def question(rng):
     name = rng.choice(CALLS)
     if name in ("constructor", "call"):
         signature = rng.signature()
-        return name, signature_code(*signature), f"{'ctor' if name[1] == 'o' else name} {signature_words(*signature)}"
+        command = "ctor" if name == "constructor" else name
+        return name, signature_code(*signature), f"{command} {signature_words(*signature)}"
     if name in ("size", "layout"):
         t = rng.struct() if name == "layout" else rng.type()
         return name, code(t), f"{name} {words(t)}"
@@ -154,6 +155,9 @@ def compare_texts(library, count):
         name, given, request = question(rng)
         text = library.text(request)
         if text is None:
+            # In text, no template has the address space `handle`.
+            if "e handle" not in request:
+                sys.exit(f"link: {request} is unreadable")
             continue
         wanted = printed_layout(text) if name == "layout" and text != "none" else text
         found = shown(name, *library.ask(name, given))

@@ -40,11 +40,7 @@ impl Scope {
     fn type_of(&self, expr: &Expr) -> Result<Type, Error> {
         match expr {
             Literal(literal) => Ok(literal.ty()),
-            Name(name) => self
-                .variables
-                .get(name)
-                .cloned()
-                .ok_or(Error::Builtin("unknown name")),
+            Name(name) => self.variables.get(name).cloned().ok_or(Error::Builtin("unknown name")),
             Unary(operator @ (UnaryOperator::AddressOf | UnaryOperator::Indirection), operand) => {
                 type_unary_op(*operator, &self.type_of(operand)?)
             }
@@ -70,10 +66,7 @@ impl Scope {
     }
 
     fn call(&self, name: &str, tplt: Option<&[TpltParam]>, args: &[Expr]) -> Result<Type, Error> {
-        let args: Vec<Type> = args
-            .iter()
-            .map(|arg| self.value(arg))
-            .collect::<Result<_, _>>()?;
+        let args: Vec<Type> = args.iter().map(|arg| self.value(arg)).collect::<Result<_, _>>()?;
         if let Some(of) = self.structs.get(name) {
             typecheck_struct_ctor(of, &args)?;
             return Ok(Type::Struct(Box::new(of.clone())));
@@ -132,12 +125,8 @@ fn component(ty: &Type, name: &str) -> Result<Type, Error> {
             member.map(|member| member.ty.clone()).ok_or_else(missing)
         }
         Type::Vec(count, of) => {
-            let fits = |letter| {
-                "xyzw"
-                    .chars()
-                    .take(usize::from(*count))
-                    .any(|known| known == letter)
-            };
+            let fits =
+                |letter| "xyzw".chars().take(usize::from(*count)).any(|known| known == letter);
             match name.len() {
                 _ if !name.chars().all(fits) => Err(missing()),
                 1 => Ok((**of).clone()),
@@ -173,18 +162,9 @@ fn binary(operator: BinaryOperator, lhs: Expr, rhs: Expr) -> Expr {
 fn light() -> Result<StructType, Error> {
     let four = TpltParam::Instance(Instance::Literal(LiteralInstance::U32(4)));
     let colours = ArrayTemplate::parse(&[TpltParam::Type(vec(3)), four])?.ty();
-    let members = [
-        ("intensity", Type::F32),
-        ("position", vec(3)),
-        ("colours", colours),
-    ];
-    let members = members
-        .into_iter()
-        .map(|(name, ty)| StructMemberType::new(name.to_string(), ty));
-    Ok(StructType {
-        name: "Light".to_string(),
-        members: members.collect(),
-    })
+    let members = [("intensity", Type::F32), ("position", vec(3)), ("colours", colours)];
+    let members = members.into_iter().map(|(name, ty)| StructMemberType::new(name.to_string(), ty));
+    Ok(StructType { name: "Light".to_string(), members: members.collect() })
 }
 
 fn show(what: &str, ty: Result<Type, Error>) {
@@ -199,65 +179,32 @@ fn show_statements(scope: &mut Scope) {
     use BinaryOperator::{Addition, Multiplication, ShiftLeft};
     let member = |name| Member(Box::new(Name("light")), name);
     let scaled = binary(Multiplication, member("position"), member("intensity"));
-    show(
-        "let p = light.position * ..intensity",
-        scope.declare("p", None, &scaled),
-    );
+    show("let p = light.position * ..intensity", scope.declare("p", None, &scaled));
     show(
         "var i = 1 << 3u",
-        scope.declare(
-            "i",
-            None,
-            &binary(ShiftLeft, int(1), Literal(LiteralInstance::U32(3))),
-        ),
+        scope.declare("i", None, &binary(ShiftLeft, int(1), Literal(LiteralInstance::U32(3)))),
     );
     let colour = Index(Box::new(member("colours")), Box::new(Name("i")));
-    show(
-        "var c = light.colours[i].xy",
-        scope.declare("c", None, &Member(Box::new(colour), "xy")),
-    );
+    show("var c = light.colours[i].xy", scope.declare("c", None, &Member(Box::new(colour), "xy")));
     show(
         "c + vec3(1)",
-        scope.type_of(&binary(
-            Addition,
-            Name("c"),
-            Call("vec3", None, vec![int(1)]),
-        )),
+        scope.type_of(&binary(Addition, Name("c"), Call("vec3", None, vec![int(1)]))),
     );
     show(
         "c = vec2(i, i)",
         scope.assign(&Name("c"), &Call("vec2", None, vec![Name("i"), Name("i")])),
     );
-    show(
-        "light.intensity = 1",
-        scope.assign(&member("intensity"), &int(1)),
-    );
-    show(
-        "&i",
-        scope.type_of(&Unary(UnaryOperator::AddressOf, Box::new(Name("i")))),
-    );
+    show("light.intensity = 1", scope.assign(&member("intensity"), &int(1)));
+    show("&i", scope.type_of(&Unary(UnaryOperator::AddressOf, Box::new(Name("i")))));
     show(
         "clamp(1, light.intensity, 2)",
-        scope.type_of(&Call(
-            "clamp",
-            None,
-            vec![int(1), member("intensity"), int(2)],
-        )),
+        scope.type_of(&Call("clamp", None, vec![int(1), member("intensity"), int(2)])),
     );
-    show(
-        "dot(p, c)",
-        scope.type_of(&Call("dot", None, vec![Name("p"), Name("c")])),
-    );
-    show(
-        "Light(1)",
-        scope.type_of(&Call("Light", None, vec![int(1)])),
-    );
+    show("dot(p, c)", scope.type_of(&Call("dot", None, vec![Name("p"), Name("c")])));
+    show("Light(1)", scope.type_of(&Call("Light", None, vec![int(1)])));
     show("p.w", scope.type_of(&Member(Box::new(Name("p")), "w")));
     let bits = Some(vec![TpltParam::Type(Type::U32)]);
-    show(
-        "bitcast<u32>(i)",
-        scope.type_of(&Call("bitcast", bits, vec![Name("i")])),
-    );
+    show("bitcast<u32>(i)", scope.type_of(&Call("bitcast", bits, vec![Name("i")])));
 }
 
 fn main() -> Result<(), Error> {
@@ -271,11 +218,7 @@ fn main() -> Result<(), Error> {
         );
     }
     let ty = Type::Struct(Box::new(light.clone()));
-    println!(
-        "{ty} size {}, align {}",
-        ty.size_of().unwrap_or(0),
-        ty.align_of().unwrap_or(0)
-    );
+    println!("{ty} size {}, align {}", ty.size_of().unwrap_or(0), ty.align_of().unwrap_or(0));
     let uniform = [
         TpltParam::Enumerant(Enumerant::AddressSpace(AddressSpace::Uniform)),
         TpltParam::Type(ty.clone()),
@@ -283,17 +226,11 @@ fn main() -> Result<(), Error> {
     ];
     let buffer = PtrTemplate::parse(&uniform)?;
     let mut scope = Scope::default();
-    scope.variables.insert(
-        "light",
-        Type::Ref(buffer.space, Box::new(buffer.ty), buffer.access),
-    );
+    scope.variables.insert("light", Type::Ref(buffer.space, Box::new(buffer.ty), buffer.access));
     scope.structs.insert("Light", light);
     show_statements(&mut scope);
     let numbers = [Type::AbstractInt, Type::AbstractFloat, Type::F16];
-    let ranks: Vec<_> = numbers
-        .iter()
-        .map(|ty| conversion_rank(ty, &Type::F16))
-        .collect();
+    let ranks: Vec<_> = numbers.iter().map(|ty| conversion_rank(ty, &Type::F16)).collect();
     println!("{:?} to {:?}", ranks, convert_all_ty(&numbers));
     Ok(())
 }

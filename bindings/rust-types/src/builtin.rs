@@ -88,11 +88,7 @@ pub fn typecheck_struct_ctor(of: &StructType, args: &[Type]) -> Result<(), Error
         return Ok(());
     }
     if args.len() != of.members.len() {
-        return Err(Error::ParamCount(
-            of.name.clone(),
-            of.members.len(),
-            args.len(),
-        ));
+        return Err(Error::ParamCount(of.name.clone(), of.members.len(), args.len()));
     }
     let mut pairs = of.members.iter().zip(args);
     match pairs.find(|(member, arg)| !arg.is_convertible_to(&member.ty)) {

@@ -136,8 +136,5 @@ pub fn convert_all_to<T: Convert>(values: &[T], ty: &Type) -> Option<Vec<T>> {
 
 /// All values converted by `convert_inner_to` to a type, in order; None if one doesn't convert.
 pub fn convert_all_inner_to<T: Convert>(values: &[T], ty: &Type) -> Option<Vec<T>> {
-    values
-        .iter()
-        .map(|value| value.convert_inner_to(ty))
-        .collect()
+    values.iter().map(|value| value.convert_inner_to(ty)).collect()
 }

@@ -83,10 +83,9 @@ impl fmt::Display for Error {
             Error::Todo(v) => write!(f, "not implemented: `{v}`"),
             Error::NotScalar(t) => write!(f, "expected a scalar type, got `{t}`"),
             Error::NotConstructible(t) => write!(f, "`{t}` is not constructible"),
-            Error::SampledType(t) => write!(
-                f,
-                "invalid sampled type, expected `i32`, `u32` or `f32`, got `{t}`"
-            ),
+            Error::SampledType(t) => {
+                write!(f, "invalid sampled type, expected `i32`, `u32` or `f32`, got `{t}`")
+            }
             Error::UnknownType(s) => write!(f, "unknown type `{s}`"),
             Error::UnexpectedTemplate(s) => {
                 write!(f, "type `{s}` does not take any template arguments")
@@ -102,15 +101,13 @@ impl fmt::Display for Error {
             Error::ConvOverflow(l, t) => write!(f, "overflow while converting `{l}` to `{t}`"),
             Error::Component(t, s) => write!(f, "`{t}` has no component `{s}`"),
             Error::NotIndexable(t) => write!(f, "`{t}` cannot be indexed"),
-            Error::OutOfBounds(i, t, n) => write!(
-                f,
-                "index `{i}` is out-of-bounds for `{t}` of `{n}` components"
-            ),
+            Error::OutOfBounds(i, t, n) => {
+                write!(f, "index `{i}` is out-of-bounds for `{t}` of `{n}` components")
+            }
             Error::Unary(o, t) => write!(f, "cannot use unary operator `{o}` on type `{t}`"),
-            Error::Binary(o, a, b) => write!(
-                f,
-                "cannot use binary operator `{o}` with operands `{a}` and `{b}`"
-            ),
+            Error::Binary(o, a, b) => {
+                write!(f, "cannot use binary operator `{o}` with operands `{a}` and `{b}`")
+            }
             Error::CompwiseBinary(a, b) => {
                 write!(
                     f,
@@ -124,22 +121,17 @@ impl fmt::Display for Error {
             Error::RemZeroDiv => {
                 f.write_str("attempt to calculate the remainder with a divisor of zero")
             }
-            Error::ShlOverflow(n, l) => write!(
-                f,
-                "attempt to shift left by `{n}`, which would overflow `{l}`"
-            ),
-            Error::ShrOverflow(n, l) => write!(
-                f,
-                "attempt to shift right by `{n}`, which would overflow `{l}`"
-            ),
+            Error::ShlOverflow(n, l) => {
+                write!(f, "attempt to shift left by `{n}`, which would overflow `{l}`")
+            }
+            Error::ShrOverflow(n, l) => {
+                write!(f, "attempt to shift right by `{n}`, which would overflow `{l}`")
+            }
             Error::Signature(c) => write!(f, "invalid function call signature: `{c}`"),
             Error::Builtin(s) => f.write_str(s),
             Error::TemplateArgs(s) => write!(f, "invalid template arguments to `{s}`"),
             Error::ParamCount(s, e, n) => {
-                write!(
-                    f,
-                    "incorrect number of arguments to `{s}`, expected `{e}`, got `{n}`"
-                )
+                write!(f, "incorrect number of arguments to `{s}`, expected `{e}`, got `{n}`")
             }
             Error::ParamType(e, t) => {
                 write!(f, "invalid parameter type, expected `{e}`, got `{t}`")

@@ -56,13 +56,7 @@ impl Call {
         // SAFETY: each pointer is that of a live slice with this length, or of `len`; the mutable ones overlap nothing,
         // and no slice has 2^61 words. The library is linked with one malloc, realloc and free.
         let status = unsafe {
-            (self.0)(
-                request.as_ptr(),
-                request.len(),
-                room.as_mut_ptr(),
-                room.len(),
-                &mut len,
-            )
+            (self.0)(request.as_ptr(), request.len(), room.as_mut_ptr(), room.len(), &mut len)
         };
         match status {
             0 => Status::Answered(len),

@@ -87,23 +87,14 @@ impl StructType {
 fn measure(write: impl FnOnce(&mut Words)) -> (Option<u32>, Option<u32>) {
     let mut request = Words::new();
     write(&mut request);
-    let measure = ask::option(Call::SIZE, &request, |words| {
-        Some((words.attribute()?, words.attribute()?))
-    });
+    let measure =
+        ask::option(Call::SIZE, &request, |words| Some((words.attribute()?, words.attribute()?)));
     measure.unwrap_or_default()
 }
 
 fn layout(words: &mut Reader<'_>) -> Option<StructLayout> {
     let members = words.list(|words| {
-        Some(PlacedMember {
-            offset: words.word()?,
-            size: words.word()?,
-            align: words.word()?,
-        })
+        Some(PlacedMember { offset: words.word()?, size: words.word()?, align: words.word()? })
     })?;
-    Some(StructLayout {
-        members,
-        size: words.word()?,
-        align: words.word()?,
-    })
+    Some(StructLayout { members, size: words.word()?, align: words.word()? })
 }

@@ -12,11 +12,7 @@ use wgsl_types_proved::Type;
 const ROUNDS: usize = 20_000;
 
 fn expect(request: &str, found: impl Display) {
-    assert_eq!(
-        answer(request).as_deref(),
-        Ok(found.to_string().as_str()),
-        "{request}"
-    );
+    assert_eq!(answer(request).as_deref(), Ok(found.to_string().as_str()), "{request}");
 }
 
 fn or_none<T: Display>(found: Option<T>) -> String {
@@ -43,15 +39,9 @@ fn ranks_and_common_types() {
     for _ in 0..ROUNDS {
         let types = random.like_types();
         let spelled: Vec<String> = types.iter().map(words).collect();
-        expect(
-            &format!("common {}", spelled.join(" ")),
-            or_none(convert_all_ty(&types)),
-        );
+        expect(&format!("common {}", spelled.join(" ")), or_none(convert_all_ty(&types)));
         if let [a, b, ..] = &types[..] {
-            expect(
-                &format!("rank {} {}", words(a), words(b)),
-                or_none(conversion_rank(a, b)),
-            );
+            expect(&format!("rank {} {}", words(a), words(b)), or_none(conversion_rank(a, b)));
         }
     }
 }
@@ -81,10 +71,7 @@ fn operators() {
         let (lhs, rhs) = random.pair();
         let request = format!("binary {operator} {} {}", words(&lhs), words(&rhs));
         expect(&request, or_message(type_binary_op(operator, &lhs, &rhs)));
-        expect(
-            &format!("unary {unary} {}", words(&lhs)),
-            or_message(type_unary_op(unary, &lhs)),
-        );
+        expect(&format!("unary {unary} {}", words(&lhs)), or_message(type_unary_op(unary, &lhs)));
     }
 }
 
@@ -94,15 +81,8 @@ fn constructors_and_calls() {
     for _ in 0..ROUNDS {
         let (name, tplt, args) = random.call();
         let spelled: Vec<String> = args.iter().map(words).collect();
-        let rest = format!(
-            "{name} {} {}",
-            template_words(tplt.as_deref()),
-            spelled.join(" ")
-        );
-        expect(
-            &format!("ctor {rest}"),
-            or_message(type_ctor(name, tplt.as_deref(), &args)),
-        );
+        let rest = format!("{name} {} {}", template_words(tplt.as_deref()), spelled.join(" "));
+        expect(&format!("ctor {rest}"), or_message(type_ctor(name, tplt.as_deref(), &args)));
         let found = type_builtin_fn(name, tplt.as_deref(), &args);
         expect(
             &format!("call {rest}"),

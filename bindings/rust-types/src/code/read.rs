@@ -129,12 +129,7 @@ impl<'a> Reader<'a> {
         let size = self.attribute()?;
         let align = self.attribute()?;
         let ty = self.ty()?;
-        Some(StructMemberType {
-            name,
-            ty,
-            size,
-            align,
-        })
+        Some(StructMemberType { name, ty, size, align })
     }
 
     pub(super) fn literal(&mut self) -> Option<LiteralInstance> {

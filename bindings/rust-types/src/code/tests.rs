@@ -34,10 +34,8 @@ fn boxed(ty: Type) -> Box<Type> {
 
 /// `struct Señor { a: f32, @size(16) @align(8) bcdef: vec3<f32> }`
 fn structure() -> StructType {
-    let mut of = StructType::new(
-        "Señor",
-        [("a", Type::F32), ("bcdef", Type::vector(3, Type::F32))],
-    );
+    let mut of =
+        StructType::new("Señor", [("a", Type::F32), ("bcdef", Type::vector(3, Type::F32))]);
     of.members[1].size = Some(16);
     of.members[1].align = Some(8);
     of
@@ -49,11 +47,7 @@ fn types() -> Vec<Type> {
     for &space in AddressSpace::ALL {
         for &access in AccessMode::ALL {
             types.push(Type::Ptr(space, boxed(Type::F32), access));
-            types.push(Type::Ref(
-                space,
-                boxed(Type::Atomic(boxed(Type::I64))),
-                access,
-            ));
+            types.push(Type::Ref(space, boxed(Type::Atomic(boxed(Type::I64))), access));
         }
     }
     types.extend(textures().into_iter().map(Type::Texture));
@@ -64,16 +58,10 @@ fn types() -> Vec<Type> {
     }
     for count in [None, Some(0), Some(4), Some(usize::MAX)] {
         types.push(Type::array(count, Type::matrix(255, 0, Type::F16)));
-        types.push(Type::BindingArray(
-            boxed(Type::vector(0, Type::Bool)),
-            count,
-        ));
+        types.push(Type::BindingArray(boxed(Type::vector(0, Type::Bool)), count));
     }
     types.push(Type::from(structure()));
-    types.push(Type::from(StructType::new(
-        "",
-        Vec::<(String, Type)>::new(),
-    )));
+    types.push(Type::from(StructType::new("", Vec::<(String, Type)>::new())));
     types
 }
 
@@ -120,43 +108,21 @@ fn a_type_is_its_first_word_and_its_parts() {
     assert_eq!(code(&Type::F32), [f32]);
     assert_eq!(code(&Type::F64), [0x0000_0900]);
     assert_eq!(code(&Type::array(None, Type::F32)), [0x0000_0001, f32]);
-    assert_eq!(
-        code(&Type::array(Some(0x1_0000_0004), Type::F32)),
-        [0x0000_0002, 4, 1, f32]
-    );
+    assert_eq!(code(&Type::array(Some(0x1_0000_0004), Type::F32)), [0x0000_0002, 4, 1, f32]);
     assert_eq!(code(&Type::vector(3, Type::F32)), [0x0000_0303, f32]);
     assert_eq!(code(&Type::matrix(2, 3, Type::F32)), [0x0003_0204, f32]);
     assert_eq!(code(&Type::Atomic(boxed(Type::F32))), [0x0000_0006, f32]);
-    let pointer = Type::Ptr(
-        AddressSpace::Storage,
-        boxed(Type::F32),
-        AccessMode::ReadWrite,
-    );
+    let pointer = Type::Ptr(AddressSpace::Storage, boxed(Type::F32), AccessMode::ReadWrite);
     assert_eq!(code(&pointer), [0x0002_0407, f32]);
     let reference = Type::Ref(AddressSpace::Function, boxed(Type::F32), AccessMode::Read);
     assert_eq!(code(&reference), [0x0000_0008, f32]);
-    assert_eq!(
-        code(&Type::Texture(TextureType::Sampled2D(SampledType::F32))),
-        [0x0002_0109]
-    );
+    assert_eq!(code(&Type::Texture(TextureType::Sampled2D(SampledType::F32))), [0x0002_0109]);
     let storage = TextureType::Storage3D(TexelFormat::R64Uint, AccessMode::Atomic);
     assert_eq!(code(&Type::Texture(storage)), [0x0328_0e09]);
-    assert_eq!(
-        code(&Type::Texture(TextureType::DepthCubeArray)),
-        [0x0000_1309]
-    );
-    assert_eq!(
-        code(&Type::Sampler(SamplerType::SamplerComparison)),
-        [0x0000_010a]
-    );
-    assert_eq!(
-        code(&Type::BindingArray(boxed(Type::F32), None)),
-        [0x0000_000b, f32]
-    );
-    assert_eq!(
-        code(&Type::BindingArray(boxed(Type::F32), Some(5))),
-        [0x0000_000c, 5, 0, f32]
-    );
+    assert_eq!(code(&Type::Texture(TextureType::DepthCubeArray)), [0x0000_1309]);
+    assert_eq!(code(&Type::Sampler(SamplerType::SamplerComparison)), [0x0000_010a]);
+    assert_eq!(code(&Type::BindingArray(boxed(Type::F32), None)), [0x0000_000b, f32]);
+    assert_eq!(code(&Type::BindingArray(boxed(Type::F32), Some(5))), [0x0000_000c, 5, 0, f32]);
     assert_eq!(code(&Type::RayQuery(None)), [0x0000_000d]);
     let flag = Some(AccelerationStructureFlags::VertexReturn);
     assert_eq!(code(&Type::AccelerationStructure(flag)), [0x0000_010e]);
@@ -168,18 +134,7 @@ fn a_struct_is_its_name_and_its_members() {
     let expected = [
         vec![5, 6, 0, word(*b"Se\xc3\xb1"), word(*b"or\0\0"), 2, 0],
         vec![1, 0, word(*b"a\0\0\0"), 0, 0, 0x500],
-        vec![
-            5,
-            0,
-            word(*b"bcde"),
-            word(*b"f\0\0\0"),
-            1,
-            16,
-            1,
-            8,
-            0x303,
-            0x500,
-        ],
+        vec![5, 0, word(*b"bcde"), word(*b"f\0\0\0"), 1, 16, 1, 8, 0x303, 0x500],
     ];
     assert_eq!(code(&Type::from(structure())), expected.concat());
 }
@@ -195,17 +150,11 @@ fn a_signature_is_its_name_template_and_arguments() {
     let name = [3, 0, u32::from_le_bytes(*b"abs\0")];
     let with = written(|words| words.signature("abs", Some(&tplt), &args));
     let parameters = [1, 3, 0, 0x500, 18, u32::MAX, u32::MAX, 0x281a];
-    assert_eq!(
-        with,
-        [&name[..], &parameters, &[2, 0, 0, 0x203, 0x400]].concat()
-    );
+    assert_eq!(with, [&name[..], &parameters, &[2, 0, 0, 0x203, 0x400]].concat());
     let without = written(|words| words.signature("abs", None, &args));
     assert_eq!(without, [&name[..], &[0, 2, 0, 0, 0x203, 0x400]].concat());
-    let signature = CallSignature {
-        name: "abs".to_string(),
-        tplt: Some(tplt.to_vec()),
-        args: args.to_vec(),
-    };
+    let signature =
+        CallSignature { name: "abs".to_string(), tplt: Some(tplt.to_vec()), args: args.to_vec() };
     assert_eq!(all(&with, Reader::signature), Some(signature));
 }
 
@@ -223,13 +172,7 @@ fn literals_are_read_back() {
         assert_eq!(written(|words| words.literal(literal)), words);
         assert_eq!(all(&words, Reader::literal), Some(literal));
     }
-    for words in [
-        [16, 2, 0],
-        [18, 0x8000_0000, 0],
-        [19, 0, 1],
-        [22, 0, 0],
-        [0x110, 0, 0],
-    ] {
+    for words in [[16, 2, 0], [18, 0x8000_0000, 0], [19, 0, 1], [22, 0, 0], [0x110, 0, 0]] {
         assert_eq!(all(&words, Reader::literal), None, "{words:?}");
     }
 }
@@ -276,10 +219,7 @@ fn a_name_is_text_with_zeros_after_it() {
 #[test]
 fn words_beyond_the_stack_are_kept_in_order() {
     let members = (0..100).map(|index| StructMemberType::new(format!("m{index}"), Type::F32));
-    let ty = Type::from(StructType {
-        name: "Long".to_string(),
-        members: members.collect(),
-    });
+    let ty = Type::from(StructType { name: "Long".to_string(), members: members.collect() });
     assert_eq!(code(&ty).len(), 6 + 100 * 6);
     assert_eq!(all(&code(&ty), Reader::ty), Some(ty));
 }
@@ -293,11 +233,7 @@ fn refusals() -> Vec<(Error, Vec<u32>)> {
     let literal = LiteralInstance::U32(7);
     let of_literal = vec![19, 7, 0];
     let a = || "a".to_string();
-    let signature = CallSignature {
-        name: a(),
-        tplt: None,
-        args: vec![t.clone(), u.clone()],
-    };
+    let signature = CallSignature { name: a(), tplt: None, args: vec![t.clone(), u.clone()] };
     vec![
         (Error::Todo(a()), name.clone()),
         (Error::NotScalar(u.clone()), of_u.clone()),
@@ -306,67 +242,34 @@ fn refusals() -> Vec<(Error, Vec<u32>)> {
         (Error::UnknownType(a()), name.clone()),
         (Error::UnexpectedTemplate(a()), name.clone()),
         (Error::MissingTemplate("array"), text.clone()),
-        (
-            Error::WriteRefType(t.clone(), u.clone()),
-            [&of_t[..], &of_u].concat(),
-        ),
+        (Error::WriteRefType(t.clone(), u.clone()), [&of_t[..], &of_u].concat()),
         (Error::NotWrite, vec![]),
         (Error::NotRead, vec![]),
         (Error::NotReadWrite, vec![]),
         (Error::PtrHandle, vec![]),
         (Error::PtrVecComp, vec![]),
-        (
-            Error::Conversion(t.clone(), u.clone()),
-            [&of_t[..], &of_u].concat(),
-        ),
-        (
-            Error::ConvOverflow(literal, u.clone()),
-            [&of_literal[..], &of_u].concat(),
-        ),
-        (
-            Error::Component(u.clone(), a()),
-            [&of_u[..], &name].concat(),
-        ),
+        (Error::Conversion(t.clone(), u.clone()), [&of_t[..], &of_u].concat()),
+        (Error::ConvOverflow(literal, u.clone()), [&of_literal[..], &of_u].concat()),
+        (Error::Component(u.clone(), a()), [&of_u[..], &name].concat()),
         (Error::NotIndexable(u.clone()), of_u.clone()),
-        (
-            Error::OutOfBounds(5, u.clone(), 2),
-            [&[5, 0][..], &of_u, &[2, 0]].concat(),
-        ),
-        (
-            Error::Unary(UnaryOperator::Indirection, u.clone()),
-            [&[4][..], &of_u].concat(),
-        ),
+        (Error::OutOfBounds(5, u.clone(), 2), [&[5, 0][..], &of_u, &[2, 0]].concat()),
+        (Error::Unary(UnaryOperator::Indirection, u.clone()), [&[4][..], &of_u].concat()),
         (
             Error::Binary(BinaryOperator::ShiftRight, t.clone(), u.clone()),
             [&[17][..], &of_t, &of_u].concat(),
         ),
-        (
-            Error::CompwiseBinary(t.clone(), u.clone()),
-            [&of_t[..], &of_u].concat(),
-        ),
+        (Error::CompwiseBinary(t.clone(), u.clone()), [&of_t[..], &of_u].concat()),
         (Error::AddOverflow, vec![]),
         (Error::SubOverflow, vec![]),
         (Error::MulOverflow, vec![]),
         (Error::DivByZero, vec![]),
         (Error::RemZeroDiv, vec![]),
-        (
-            Error::ShlOverflow(9, literal),
-            [&[9][..], &of_literal].concat(),
-        ),
-        (
-            Error::ShrOverflow(9, literal),
-            [&[9][..], &of_literal].concat(),
-        ),
-        (
-            Error::Signature(signature),
-            [&name[..], &[0, 2, 0], &of_t, &of_u].concat(),
-        ),
+        (Error::ShlOverflow(9, literal), [&[9][..], &of_literal].concat()),
+        (Error::ShrOverflow(9, literal), [&[9][..], &of_literal].concat()),
+        (Error::Signature(signature), [&name[..], &[0, 2, 0], &of_t, &of_u].concat()),
         (Error::Builtin("array"), text.clone()),
         (Error::TemplateArgs("array"), text),
-        (
-            Error::ParamCount(a(), 4, 3),
-            [&name[..], &[4, 0, 3, 0]].concat(),
-        ),
+        (Error::ParamCount(a(), 4, 3), [&name[..], &[4, 0, 3, 0]].concat()),
         (Error::ParamType(t, u), [&of_t[..], &of_u].concat()),
     ]
 }

@@ -13,11 +13,7 @@ pub(crate) struct Words {
 
 impl Words {
     pub(crate) fn new() -> Words {
-        Words {
-            inline: [0; INLINE],
-            len: 0,
-            longer: Vec::new(),
-        }
+        Words { inline: [0; INLINE], len: 0, longer: Vec::new() }
     }
 
     pub(crate) fn as_slice(&self) -> &[u32] {

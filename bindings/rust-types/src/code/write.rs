@@ -28,12 +28,7 @@ impl Words {
     pub(super) fn name(&mut self, name: &str) {
         self.number(name.len() as u64);
         for bytes in name.as_bytes().chunks(4) {
-            self.push(
-                bytes
-                    .iter()
-                    .rev()
-                    .fold(0, |word, &byte| word << 8 | u32::from(byte)),
-            );
+            self.push(bytes.iter().rev().fold(0, |word, &byte| word << 8 | u32::from(byte)));
         }
     }
 

@@ -34,18 +34,12 @@ impl From<SampledType> for Scalar {
 impl Scalar {
     /// Whether it is an integer, concrete or abstract.
     pub fn is_integer(self) -> bool {
-        matches!(
-            self,
-            Scalar::AbstractInt | Scalar::I32 | Scalar::U32 | Scalar::I64 | Scalar::U64
-        )
+        matches!(self, Scalar::AbstractInt | Scalar::I32 | Scalar::U32 | Scalar::I64 | Scalar::U64)
     }
 
     /// Whether it is a float, concrete or abstract.
     pub fn is_float(self) -> bool {
-        matches!(
-            self,
-            Scalar::AbstractFloat | Scalar::F32 | Scalar::F16 | Scalar::F64
-        )
+        matches!(self, Scalar::AbstractFloat | Scalar::F32 | Scalar::F16 | Scalar::F64)
     }
 
     /// Whether it is a number: an integer or a float.

@@ -101,11 +101,7 @@ impl PtrTemplate {
             return Err(Error::Builtin("pointer type must be storable"));
         }
         let access = access_in(*space, access)?;
-        Ok(PtrTemplate {
-            space: *space,
-            ty: ty.clone(),
-            access,
-        })
+        Ok(PtrTemplate { space: *space, ty: ty.clone(), access })
     }
 
     /// The pointer.
@@ -184,12 +180,8 @@ impl TextureTemplate {
 fn sampled_type(tplt: &[TpltParam]) -> Result<SampledType, Error> {
     match tplt {
         [TpltParam::Type(ty)] => ty.try_into(),
-        [_] => Err(Error::Builtin(
-            "texture sampled type must be `i32`, `u32` or `f32`",
-        )),
-        _ => Err(Error::Builtin(
-            "sampled texture types take a single template parameter",
-        )),
+        [_] => Err(Error::Builtin("texture sampled type must be `i32`, `u32` or `f32`")),
+        _ => Err(Error::Builtin("sampled texture types take a single template parameter")),
     }
 }
 
@@ -198,8 +190,6 @@ fn format_and_access(tplt: &[TpltParam]) -> Result<(TexelFormat, AccessMode), Er
         [TpltParam::Enumerant(Enumerant::TexelFormat(format)), TpltParam::Enumerant(Enumerant::AccessMode(access))] => {
             Ok((*format, *access))
         }
-        _ => Err(Error::Builtin(
-            "storage texture types take two template parameters",
-        )),
+        _ => Err(Error::Builtin("storage texture types take two template parameters")),
     }
 }

@@ -61,24 +61,14 @@ impl StructType {
         name: impl Into<String>,
         members: impl IntoIterator<Item = (N, Type)>,
     ) -> StructType {
-        let members = members
-            .into_iter()
-            .map(|(name, ty)| StructMemberType::new(name, ty));
-        StructType {
-            name: name.into(),
-            members: members.collect(),
-        }
+        let members = members.into_iter().map(|(name, ty)| StructMemberType::new(name, ty));
+        StructType { name: name.into(), members: members.collect() }
     }
 }
 
 impl StructMemberType {
     /// A member without attributes.
     pub fn new(name: impl Into<String>, ty: Type) -> StructMemberType {
-        StructMemberType {
-            name: name.into(),
-            ty,
-            size: None,
-            align: None,
-        }
+        StructMemberType { name: name.into(), ty, size: None, align: None }
     }
 }

@@ -32,12 +32,7 @@ impl Type {
             | Type::Ref(_, ty, _)
             | Type::BindingArray(ty, _) => 1 + ty.depth(),
             Type::Struct(of) => {
-                1 + of
-                    .members
-                    .iter()
-                    .map(|member| member.ty.depth())
-                    .max()
-                    .unwrap_or(0)
+                1 + of.members.iter().map(|member| member.ty.depth()).max().unwrap_or(0)
             }
             _ => 1,
         }

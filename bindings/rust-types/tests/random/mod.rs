@@ -30,12 +30,8 @@ const SPACES: [AddressSpace; 7] = [
     AddressSpace::Handle,
     AddressSpace::PushConstant,
 ];
-const ACCESS_MODES: [AccessMode; 4] = [
-    AccessMode::Read,
-    AccessMode::Write,
-    AccessMode::ReadWrite,
-    AccessMode::Atomic,
-];
+const ACCESS_MODES: [AccessMode; 4] =
+    [AccessMode::Read, AccessMode::Write, AccessMode::ReadWrite, AccessMode::Atomic];
 const TEXTURES: [TextureType; 8] = [
     TextureType::Sampled2D(SampledType::F32),
     TextureType::SampledCubeArray(SampledType::U32),
@@ -168,10 +164,7 @@ impl Random {
             }
         });
         let members = members.collect();
-        Type::from(StructType {
-            name: self.of(&["S", "Struct", "名"]).to_string(),
-            members,
-        })
+        Type::from(StructType { name: self.of(&["S", "Struct", "名"]).to_string(), members })
     }
 
     /// A scalar or a vector, mostly.
@@ -215,19 +208,19 @@ impl Random {
     /// A name, a template and arguments.
     pub fn call(&mut self) -> (&'static str, Option<Vec<TpltParam>>, Vec<Type>) {
         let name = self.of(&CALLED);
-        let tplt = (self.below(4) == 0).then(|| {
-            (0..self.below(3))
-                .map(|index| self.parameter(index))
-                .collect()
-        });
+        let tplt = (self.below(4) == 0)
+            .then(|| (0..self.below(3)).map(|index| self.parameter(index)).collect());
         let first = self.value();
-        let args = (0..self.below(5)).map(|_| {
-            if self.below(2) == 0 {
-                first.clone()
-            } else {
-                self.value()
-            }
-        });
+        let args =
+            (0..self.below(5)).map(
+                |_| {
+                    if self.below(2) == 0 {
+                        first.clone()
+                    } else {
+                        self.value()
+                    }
+                },
+            );
         (name, tplt, args.collect())
     }
 
@@ -285,11 +278,7 @@ pub fn words(ty: &Type) -> String {
             format!("struct {} {}", of.name, of.members.len()),
             |text, member| {
                 let (size, align) = (or_dash(member.size), or_dash(member.align));
-                format!(
-                    "{text} {} {size} {align} {}",
-                    member.name,
-                    words(&member.ty)
-                )
+                format!("{text} {} {size} {align} {}", member.name, words(&member.ty))
             },
         ),
         Type::Texture(texture) => texture.to_string().replace(['<', ',', '>'], " "),

@@ -3,8 +3,8 @@
 use super::Reader;
 use crate::error::Error;
 
-/// The texts that a refusal can have of those that every program shares.
-const TEXTS: [&str; 23] = [
+/// The names and messages that a refusal has as `&'static str`.
+const TEXTS: [&str; 24] = [
     "array",
     "atomic",
     "binding_array",
@@ -25,13 +25,14 @@ const TEXTS: [&str; 23] = [
     "storage texture types take two template parameters",
     "texture sampled type must be `i32`, `u32` or `f32`",
     "the array element count must evaluate to a `u32` or a `i32` greater than `0`",
+    "the binding_array element count must evaluate to a `u32` or a `i32` greater than `0`",
     "vector components are incompatible",
     "vector constructor expects scalar or vector arguments",
     "vector template type must be a scalar",
 ];
 
 impl Reader<'_> {
-    /// A text that every program shares.
+    /// A name or a message of the list.
     fn text(&mut self) -> Option<&'static str> {
         let name = self.name()?;
         TEXTS.into_iter().find(|text| *text == name)
