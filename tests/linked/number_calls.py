@@ -160,9 +160,19 @@ def compare_texts(library, count):
                 sys.exit(f"link: {request} is unreadable")
             continue
         wanted = printed_layout(text) if name == "layout" and text != "none" else text
-        found = shown(name, *library.ask(name, given))
+        found = shown_common(library, given) if name == "common" else shown(name, *library.ask(name, given))
         if found != wanted:
             sys.exit(f"link: {request}: {found} by numbers, {wanted} in text")
+
+
+def shown_common(library, given):
+    """The program prints a common type only if each type of the list converts to it; one that is loaded may not."""
+    status, common = library.ask("common", given)
+    reader = Reader(given)
+    for t in reader.list(reader.type):
+        if status == 0 and library.ask("rank", code(t) + common)[0] == 1:
+            return "none"
+    return shown("common", status, common)
 
 
 def compare_types(library, count):

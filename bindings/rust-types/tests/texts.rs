@@ -39,7 +39,10 @@ fn ranks_and_common_types() {
     for _ in 0..ROUNDS {
         let types = random.like_types();
         let spelled: Vec<String> = types.iter().map(words).collect();
-        expect(&format!("common {}", spelled.join(" ")), or_none(convert_all_ty(&types)));
+        // In text, each type has to convert to the common one, which one that is loaded may not.
+        let common = convert_all_ty(&types)
+            .filter(|common| types.iter().all(|ty| ty.is_convertible_to(common)));
+        expect(&format!("common {}", spelled.join(" ")), or_none(common));
         if let [a, b, ..] = &types[..] {
             expect(&format!("rank {} {}", words(a), words(b)), or_none(conversion_rank(a, b)));
         }

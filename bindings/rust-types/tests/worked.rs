@@ -48,6 +48,10 @@ fn common_types() {
     assert_eq!(convert_all_ty(&[AbstractInt, F32, AbstractFloat]), Some(&F32));
     assert_eq!(convert_all_ty(&[I32, AbstractInt, AbstractFloat]), None);
     assert_eq!(convert_all_ty(&[]), None);
+    assert_eq!(
+        convert_all_ty(&[reference(AccessMode::Read, AbstractInt), AbstractInt, I32]),
+        Some(&I32)
+    );
     let (first, second) = (F32, F32);
     assert!(std::ptr::eq(convert_ty(&first, &second).unwrap(), &second));
     assert_eq!(convert_ty(&F32, &AbstractInt), Some(&F32));
