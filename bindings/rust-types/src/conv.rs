@@ -3,8 +3,7 @@
 use crate::ask;
 use crate::code::Words;
 use crate::ffi::Call;
-pub use crate::ty::Ty;
-use crate::ty::Type;
+use crate::ty::{Ty, Type};
 
 /// The rank of the conversion from `a` to `b`, or None if `a` doesn't convert to `b`.
 ///
