@@ -27,11 +27,11 @@ impl Words {
     #[inline]
     pub(crate) fn push(&mut self, word: u32) {
         match self.inline.get_mut(self.len) {
-            Some(place) if self.longer.is_empty() => {
+            Some(place) => {
                 *place = word;
                 self.len += 1;
             }
-            _ => self.push_longer(word),
+            None => self.push_longer(word),
         }
     }
 
