@@ -1,4 +1,4 @@
-"""The calls over numbers of the linked library, compared with its call in text: the same questions have the same answers."""
+"""The calls over numbers of the linked library, compared with its call in text: the same questions, the same answers."""
 import ctypes
 import os
 import sys
@@ -147,6 +147,22 @@ def lines(count, seed):
     rng = Random(seed)
     asked = [question(rng) for _ in range(count)]
     return "".join(" ".join([name] + [f"{word:08x}" for word in given]) + "\n" for name, given, _ in asked)
+
+
+def codes_in_c():
+    """What codes.c writes."""
+    f32 = ("scalar", "f32")
+    types = [
+        ("vec", 3, f32), ("mat", 2, 4, f32), ("array", 2**32 + 4, f32), ("array", None, f32), ("binding_array", 7, f32),
+        ("binding_array", None, f32), ("atomic", f32), ("ptr", "storage", "read_write", f32),
+        ("ref", "push_constant", "read", f32), ("texture", 7, 1, 0), ("texture", 14, 40, 3), ("texture", 18, 0, 0),
+        ("sampler", "sampler_comparison"), ("ray_query", 1), ("acceleration_structure", 0),
+        ("struct", "Light", [("a", None, None, ("scalar", "AbstractInt")), ("größe", 32, None, ("scalar", "f64")),
+                             ("name", None, 16, f32)]),
+    ]
+    template = [("type", ("scalar", "i32")), ("literal", 2, -3), ("enumerant", 2, 40)]
+    codes = [code(t) for t in types] + [signature_code("min", None, [f32]), signature_code("array", template, [f32])]
+    return "".join(" ".join(f"{word:08x}" for word in words) + "\n" for words in codes)
 
 
 def compare_texts(library, count):
