@@ -1,7 +1,8 @@
 //! WGSL's types, and the rules on them, from a proved library.
 //!
-//! The types are plain Rust data. Every rule is asked of the library: ranks and common types, operators, constructors,
-//! calls of built-in functions, sizes and layouts. Modules and names are those of the type layer of wgsl-types 0.3.2.
+//! The types are plain Rust data. The library is asked for ranks and common types, operators, constructors, calls of
+//! built-in functions, sizes and layouts; the README lists what is plain Rust instead, such as predicates, texts and
+//! [`Type::concretize`]. Modules and names are those of the type layer of wgsl-types 0.3.2.
 //!
 //! ```
 //! use wgsl_types_proved::builtin::{type_binary_op, type_builtin_fn};
