@@ -243,23 +243,27 @@ fn names() {
     assert_eq!(LiteralInstance::I64(-3).ty(), Type::I64);
 }
 
-fn nested(levels: usize) -> Type {
-    (1..levels).fold(F32, |ty, _| Type::array(None, ty))
+fn nested(levels: usize, around: impl Fn(Type) -> Type) -> Type {
+    (1..levels).fold(F32, |ty, _| around(ty))
 }
 
 #[test]
 fn the_deepest_types_are_answered_on_a_small_stack() {
     let deepest = || {
-        let ty = nested(MAX_DEPTH);
-        assert_eq!(ty.depth(), MAX_DEPTH);
-        assert_eq!(convert_all_ty([&ty]), Some(&ty));
-        assert_eq!(ty.op_add(&ty), Err(Error::Binary(BinaryOperator::Addition, ty.clone(), ty)));
+        let arrays = nested(MAX_DEPTH, |ty| Type::array(None, ty));
+        let structs = nested(MAX_DEPTH, |ty| Type::from(StructType::new("S", [("a", ty)])));
+        for ty in [arrays, structs] {
+            assert_eq!(ty.depth(), MAX_DEPTH);
+            assert_eq!(convert_all_ty([&ty]), Some(&ty));
+            let refused = Error::Binary(BinaryOperator::Addition, ty.clone(), ty.clone());
+            assert_eq!(ty.op_add(&ty), Err(refused));
+        }
     };
-    thread::Builder::new().stack_size(1 << 20).spawn(deepest).unwrap().join().unwrap();
+    thread::Builder::new().stack_size(512 << 10).spawn(deepest).unwrap().join().unwrap();
 }
 
 #[test]
 #[should_panic(expected = "more than 255 levels deep")]
 fn deeper_types_panic() {
-    nested(MAX_DEPTH + 1).size_of();
+    nested(MAX_DEPTH + 1, |ty| Type::array(None, ty)).size_of();
 }
