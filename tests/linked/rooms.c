@@ -15,21 +15,8 @@ static void expect(size_t k, size_t room_len, int wanted, size_t wanted_len) {
     if (memcmp(room, large, written * sizeof(Unit)) || !is_filled(room, written)) wrong(k, "the room is written otherwise");
 }
 
-/* A request of two lines is unreadable; requests.h has none. */
-static void ask_two_lines(void) {
-    const char *request = "rank f32 f32\nrank f32 f32";
-    size_t len = 77;
-    memset(room, 0xAA, sizeof room);
-    int status = wgsl_answer((const uint8_t *)request, strlen(request), room, sizeof room, &len);
-    if (status != WGSL_UNREADABLE || len || !is_untouched(0)) {
-        printf("two lines: status %d, length %zu\n", status, len);
-        exit(1);
-    }
-}
-
 int main(void) {
     read_requests();
-    ask_two_lines();
     for (size_t k = 0; k < count; k++) {
         size_t len = 77;
         int status = ask(k, large, LONG_ANSWER, &len);
