@@ -1,15 +1,20 @@
 -- One level of a type, and one member, are read at a time.
 use Rattle.std.proofs.Common.{◌≡◌, ℕ, zero, suc, ◌+◌, ◌-◌, ◌<◌, ◌≤◌, List, [], ◌∷◌, ◌++◌, Option, Some, None, refl, sym, ap, ◌∙◌, arith, length, take, drop, get_or}
 use Rattle.std.proofs.Math.Seq.{take-length}
-use Rattle.wgsl_syntax.specs.declared.code.Head.{Head}
-use Rattle.wgsl_rules.specs.types.Types.{WgslType, Members, no_members, member}
+use Rattle.wgsl_syntax.specs.declared.code.Head.TheVariants.{Leaf, Wrapper}
+use Rattle.wgsl_syntax.specs.declared.code.LeafType.TheVariants as leaf
+use Rattle.wgsl_syntax.specs.declared.code.Wrapper.TheVariants as wrapper
+use Rattle.wgsl_syntax.specs.declared.scalar.Scalar.{Scalar}
+use Rattle.wgsl_rules.specs.types.Types.{WgslType, scalar, vec, Members, no_members, member}
 use Rattle.wgsl_rules.specs.codes.Reading.{◌>>=◌, attribute_at, name_at}
-use Rattle.wgsl_rules.specs.codes.Decoding.{head_at, decode, members_at, parts_at}
+use Rattle.wgsl_rules.specs.codes.Decoding.{head_at, decode, decoded, members_at, parts_at}
 use Rattle.wgsl_core.specs.View.{Member, members_of}
 use Rattle.wgsl_coded.specs.declared.fault.Fault.{Fault}
 use Rattle.wgsl_coded.specs.declared.fault.Fault.TheVariants.{Memory, NoType}
 use Rattle.wgsl_coded.specs.Reads.{Fails}
+use Rattle.wgsl_coded.specs.Levels.{level_at}
 use Rattle.wgsl_coded.specs.Members.{member_at}
+use Rattle.wgsl_coded.specs.Requests.{two_types}
 
 pub one_level : (d w : ℕ) (ws : List ℕ) → 0 < d → decode d (w ∷ ws) ≡ (head_at w >>= λ h. parts_at (decode (d - 1)) h ws)
 unfolding decode
@@ -22,12 +27,38 @@ no_words zero ws h = refl
 no_words (suc d) [] h = refl
 no_words (suc d) (w ∷ ws) h = absurd (omega (arith, h))
 
-pub level_of : (d : ℕ) (ws : List ℕ) (head : Head) → 0 < d → 0 < length ws → Some head ≡ head_at (get_or ws 0 0) →
-    decode d ws ≡ parts_at (decode (d - 1)) head (take (length ws - 1) (drop 1 ws))
-level_of d [] head hd h e = absurd (omega (arith, h))
-level_of d (w ∷ ws) head hd h e =
+pub level_of : (d : ℕ) (ws : List ℕ) → 0 < d → 0 < length ws →
+    decode d ws ≡ (head_at (get_or ws 0 0) >>= λ h. parts_at (decode (d - 1)) h (take (length ws - 1) (drop 1 ws)))
+level_of d [] hd h = absurd (omega (arith, h))
+level_of d (w ∷ ws) hd h =
     let rest : length (w ∷ ws) - 1 ≡ length ws = omega arith in
-    one_level d w ws hd ∙ rw (sym e, rest, take-length ws) refl
+    one_level d w ws hd ∙ rw (rest, take-length ws) refl
+
+-- a scalar is one word
+pub scalar_of : (d : ℕ) (ws : List ℕ) (s : Scalar) → 0 < d → 0 < length ws → head_at (get_or ws 0 0) ≡ Some (Leaf (leaf.Scalar s)) →
+    decode d ws ≡ Some (scalar s, take (length ws - 1) (drop 1 ws))
+scalar_of d ws s hd h e = level_of d ws hd h ∙ rw e refl
+
+-- a vector of a scalar is two words
+pub vector_of : (d first : ℕ) (ws : List ℕ) (n : ℕ) (s : Scalar) (t : WgslType) → 0 < d → head_at first ≡ Some (Wrapper (wrapper.Vec n)) → 0 < length ws →
+    head_at (get_or ws 0 0) ≡ Some (Leaf (leaf.Scalar s)) → t ≡ scalar s → level_at d first ws ≡ Some (vec n t, take (length ws - 1) (drop 1 ws))
+vector_of d first ws n s t hd e some inside k = rw (e, scalar_of d ws s hd some inside, k) refl
+
+of_two : (v w : ℕ) (s t : Scalar) → head_at v ≡ Some (Leaf (leaf.Scalar s)) → head_at w ≡ Some (Leaf (leaf.Scalar t)) →
+    two_types (v ∷ w ∷ []) ≡ Some (scalar s, scalar t)
+unfolding decoded
+of_two v w s t e k =
+    let first : decode 255 (v ∷ w ∷ []) ≡ Some (scalar s, w ∷ []) = one_level 255 v (w ∷ []) (omega arith) ∙ rw e refl in
+    let second : decode 255 (w ∷ []) ≡ Some (scalar t, []) = one_level 255 w [] (omega arith) ∙ rw k refl in
+    rw (first, second) refl
+
+-- two words are two scalars
+pub two_scalars : (ws : List ℕ) (s t : Scalar) → length ws ≡ 2 → head_at (get_or ws 0 0) ≡ Some (Leaf (leaf.Scalar s)) →
+    head_at (get_or ws 1 0) ≡ Some (Leaf (leaf.Scalar t)) → two_types ws ≡ Some (scalar s, scalar t)
+two_scalars [] s t h e k = absurd (omega (arith, h))
+two_scalars (v ∷ []) s t h e k = absurd (omega (arith, h))
+two_scalars (v ∷ w ∷ []) s t h e k = of_two v w s t e k
+two_scalars (v ∷ w ∷ x ∷ ws) s t h e k = absurd (omega (arith, h))
 
 pub no_level : (d : ℕ) (ws : List ℕ) → d ≡ 0 → decode d ws ≡ None
 unfolding decode
@@ -118,10 +149,3 @@ module _ (inner : List ℕ → Option (WgslType × List ℕ)) (front : List Memb
   ends h =
       let none : n - k ≡ 0 = omega (arith, h) in
       sym so_far ∙ rw none (ap (λ ms. Some (ms, rest)) (before_none front))
-
--- a head that is none
-pub no_head_at : (d : ℕ) (ws : List ℕ) → 0 < length ws → None ≡ head_at (get_or ws 0 0) → decode d ws ≡ None
-unfolding decode
-no_head_at zero ws h e = refl
-no_head_at (suc d) [] h e = refl
-no_head_at (suc d) (w ∷ ws) h e = rw (sym e) refl

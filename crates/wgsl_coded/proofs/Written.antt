@@ -2,7 +2,7 @@
 use Rattle.std.proofs.Common.{◌≡◌, ℕ, suc, ◌+◌, ◌<◌, List, [], ◌∷◌, ◌++◌, Result, Ok, Err, OnOk, refl, sym, ap, ◌∙◌, map, take, length, get_or, rules, string_bytes}
 use Rattle.std.proofs.lemmas.List.{append-nil, append_assoc, map_more}
 use Rattle.wgsl_syntax.specs.declared.code.Head.TheVariants.{Struct}
-use Rattle.wgsl_rules.specs.types.Types.{Members, no_members, struct}
+use Rattle.wgsl_rules.specs.types.Types.{WgslType, Members, no_members, struct}
 use Rattle.wgsl_rules.specs.codes.Words.{name_code, number}
 use Rattle.wgsl_rules.specs.codes.Heads.{head_word}
 use Rattle.wgsl_rules.specs.codes.Codes.{code, member_codes, member_count}
@@ -51,3 +51,9 @@ struct_written start headed named counted out name n ms h e k same m =
 pub on_ok : {T E P Q : Type 0} (r : Result T E) → (P → Q) → OnOk r P → OnOk r Q
 on_ok (Ok x) f h = f h
 on_ok (Err e) f h = tt
+
+-- a type in a layer is written after the layer's word
+pub in_layer : {T E : Type 0} (r : Result T E) (start headed out : List ℕ) (w : ℕ) (t u : WgslType) → code u ≡ w ∷ code t → headed ≡ start ++ (w ∷ []) →
+    OnOk r (out ≡ headed ++ code t) → OnOk r (out ≡ start ++ code u)
+in_layer r start headed out w t u spelled h k =
+    on_ok r (λ e. e ∙ ap (λ ws. ws ++ code t) h ∙ append_assoc start (w ∷ []) (code t) ∙ ap (λ ws. start ++ ws) (sym spelled)) k

@@ -1,4 +1,5 @@
 pub mod Reads
+pub mod Levels
 pub mod Members
 pub mod Requests
 pub mod Replies

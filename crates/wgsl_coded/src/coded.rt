@@ -14,6 +14,7 @@ use wgsl_core::ty::Type;
 /// The greatest depth of a type that is read.
 pub(crate) const DEPTH: u8 = 255;
 
+#[inline(always)]
 #[tactic(auto, unfolding(wgsl_rules::specs::codes::Decoding::decoded))]
 pub(crate) fn read_whole(alloc: Global, words: &[u32]) -> Result<Type, Fault>
     ensures { Reads view result (decoded words.now) }

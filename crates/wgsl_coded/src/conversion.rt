@@ -1,19 +1,39 @@
 // Conversion, over words.
-ghost use Rattle.std.specs.Prelude.{Some, map};
+ghost use Rattle.std.specs.Prelude.{◌≡◌, ◌↔◌, ℕ, Some, map};
+ghost use Rattle.wgsl_rules.specs.types.Types.{scalar};
+ghost use Rattle.wgsl_rules.specs.conversion.Conversion.{Converts};
 ghost use Rattle.wgsl_core.specs.View.{view};
 ghost use Rattle.wgsl_coded.specs.Replies.{IsCommonReply, IsCommonType, IsRankReply, IsReplyTo};
 ghost use Rattle.wgsl_coded.specs.Seen.{rank_words, reply_words, seen};
 
 use crate::fault::Fault;
 use crate::reply::{Reply, words_of_type};
-use crate::requests::{read_all_types, read_two};
+use crate::requests::{read_all_types, read_two, read_two_scalars};
 use std::alloc::Global;
 use wgsl_core::conversion::conversion_rank;
 use wgsl_core::conversion::lists::common_of;
 use wgsl_core::ty::Type;
+use wgsl_syntax::scalar::Scalar;
 
 /// The rank of the conversion from one type to another, or None if it doesn't convert. The request is the two types.
 pub fn rank(alloc: Global, request: &[u32]) -> Result<Option<u32>, Fault>
+    ensures { IsRankReply request.now (seen rank_words result) }
+{
+    match read_two_scalars(request) {
+        Some((source, target)) => Ok(rank_of_scalars(source, target)),
+        None => rank_of_types(alloc, request),
+    }
+}
+
+#[inline(always)]
+fn rank_of_scalars(source: Scalar, target: Scalar) -> Option<u32>
+    ensures { (w : ℕ) → (result ≡ Some w) ↔ Converts (scalar source) (scalar target) w }
+{
+    conversion_rank(&Type::from(source), &Type::from(target))
+}
+
+#[inline(never)]
+fn rank_of_types(alloc: Global, request: &[u32]) -> Result<Option<u32>, Fault>
     ensures { IsRankReply request.now (seen rank_words result) }
 {
     let (source, target) = read_two(alloc, request)?;

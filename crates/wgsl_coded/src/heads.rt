@@ -1,11 +1,13 @@
 // The first words of codes.
-ghost use Rattle.std.specs.Prelude.{◌≡◌, slice_get};
+ghost use Rattle.std.specs.Prelude.{◌≡◌, IfSome, Some, slice_get};
 ghost use Rattle.wgsl_syntax.specs.Address.{spaces, access_modes};
 ghost use Rattle.wgsl_syntax.specs.Attribute.{flags};
 ghost use Rattle.wgsl_syntax.specs.Scalar.{scalars};
 ghost use Rattle.wgsl_syntax.specs.Texel.{texel_formats};
 ghost use Rattle.wgsl_syntax.specs.Texture.{sampled_types, samplers};
 ghost use Rattle.wgsl_syntax.specs.declared.code.Head.TheVariants as head;
+ghost use Rattle.wgsl_syntax.specs.declared.code.LeafType.TheVariants as leaf;
+ghost use Rattle.wgsl_syntax.specs.declared.code.Wrapper.TheVariants as wrapper;
 ghost use Rattle.wgsl_rules.specs.codes.Heads.{flag_byte, head_word, texture_word};
 ghost use Rattle.wgsl_rules.specs.codes.Decoding.{flags_by_byte, head_at, head_of, texture_of};
 
@@ -296,6 +298,36 @@ pub(crate) fn read_head(word: u32) -> Option<Head>
     let head = head_by(tag, a, b, c)?;
     if word_of_head(head) == word {
         Some(head)
+    } else {
+        None
+    }
+}
+
+/// The scalar whose word this is.
+#[inline(always)]
+pub(crate) fn read_scalar(word: u32) -> Option<Scalar>
+    ensures { IfSome result (λ s. head_at word ≡ Some (head.Leaf (leaf.Scalar s))) }
+{
+    let [tag, index, _, _] = word.to_le_bytes();
+    if tag != 0 {
+        return None;
+    }
+    let scalar = scalar_by(index)?;
+    if word_of(0, scalar as u8, 0, 0) == word {
+        Some(scalar)
+    } else {
+        None
+    }
+}
+
+/// The number of components, if the word is a vector's.
+#[inline(always)]
+pub(crate) fn read_vector_head(word: u32) -> Option<u8>
+    ensures { IfSome result (λ n. head_at word ≡ Some (head.Wrapper (wrapper.Vec n))) }
+{
+    let [tag, components, _, _] = word.to_le_bytes();
+    if tag == 3 && word_of(3, components, 0, 0) == word {
+        Some(components)
     } else {
         None
     }

@@ -47,7 +47,7 @@ fn is_packed(text: &[u8], words: &[u32]) -> bool
 fn unpack(alloc: Global, words: &[u32]) -> Result<Vec<u8>, AllocError>
     ensures { IfOk result (λ v. v.items ≡ flat_map bytes words.now) }
 {
-    let mut unpacked = Vec::new(alloc);
+    let mut unpacked = Vec::with_capacity(alloc, words.len().saturating_mul(4))?;
     for word in words {
         unpacked.extend_from_slice(&word.to_le_bytes())?;
     }

@@ -1,12 +1,26 @@
 // Operators, over words.
-ghost use Rattle.wgsl_coded.specs.Replies.{IsBinaryReply, IsUnaryReply};
+ghost use Rattle.std.specs.Prelude.{◌≡◌, ◌++◌, IfOk, OnOk, Some};
+ghost use Rattle.wgsl_rules.specs.types.Types.{WgslType};
+ghost use Rattle.wgsl_rules.specs.codes.Codes.{code};
+ghost use Rattle.wgsl_rules.specs.codes.Refusals.{refusal_code};
+ghost use Rattle.wgsl_rules.specs.errors.Refusals as refused;
+ghost use Rattle.wgsl_rules.specs.operators.Answers.{IsCandidateAnswer};
+ghost use Rattle.wgsl_core.specs.View.{view};
+ghost use Rattle.wgsl_core.specs.internal.Resolution.{element_view, resolution_view, resolved_view};
+ghost use Rattle.wgsl_coded.specs.Replies.{IsAnswer, IsBinaryReply, IsReplyTo, IsUnaryReply, candidate_words};
 ghost use Rattle.wgsl_coded.specs.Seen.{reply_words, seen};
 
 use crate::fault::Fault;
-use crate::reply::{Reply, reply_with_candidate, reply_with_type};
+use crate::refusals::write_operands;
+use crate::reply::{Reply, new_words, reply_with_type};
 use crate::requests::{read_binary, read_unary};
-use std::alloc::Global;
-use wgsl_core::operators::{binary_candidate, type_unary_op};
+use crate::writing::{write, write_head, write_scalar};
+use std::alloc::{AllocError, Global};
+use wgsl_core::operators::resolve::{Element, Extent, Resolution, ResolvedType, resolve_operator};
+use wgsl_core::operators::type_unary_op;
+use wgsl_core::ty::Type;
+use wgsl_syntax::code::{Head, Wrapper};
+use wgsl_syntax::operator::BinaryOperator;
 
 /// The type of a unary expression, or its refusal. The request is the operator and the type of the operand.
 pub fn unary(alloc: Global, request: &[u32]) -> Result<Reply, Fault>
@@ -24,8 +38,76 @@ pub fn binary(alloc: Global, request: &[u32]) -> Result<Reply, Fault>
     ensures { IsBinaryReply request.now (seen reply_words result) }
 {
     let (operator, left, right) = read_binary(alloc, request)?;
-    let answer = binary_candidate(alloc, operator, &left, &right);
+    let reply = reply_to_binary(alloc, operator, &left, &right);
     drop(left);
     drop(right);
-    reply_with_candidate(alloc, answer)
+    reply
+}
+
+fn reply_to_binary(
+    alloc: Global,
+    operator: BinaryOperator,
+    left: &Type,
+    right: &Type,
+) -> Result<Reply, Fault>
+    ensures { IsReplyTo {A = BinaryOperator × WgslType × WgslType}
+        (Some (operator, view left.now, view right.now))
+        (λ e. IsAnswer candidate_words (IsCandidateAnswer e.0 e.1 e.2)) (seen reply_words result) }
+{
+    match resolve_operator(operator, left, right) {
+        Some(found) => Ok(Reply::Answer(words_of_resolution(alloc, &found)?)),
+        None => Ok(Reply::Refusal(words_of_operands(alloc, operator, left, right)?)),
+    }
+}
+
+/// The codes of a candidate's types.
+fn words_of_resolution(alloc: Global, found: &Resolution<'_>) -> Result<Vec<u32>, AllocError>
+    ensures { IfOk result (λ words. words.items ≡ candidate_words (resolution_view found.now)) }
+{
+    let mut words = new_words(alloc)?;
+    write_resolved(&mut words, found.result)?;
+    write_resolved(&mut words, found.lhs)?;
+    write_resolved(&mut words, found.rhs)?;
+    Ok(words)
+}
+
+/// Writes the code of a type that isn't built yet at the end.
+fn write_resolved(out: &mut Vec<u32>, ty: ResolvedType<'_>) -> Result<(), AllocError>
+    ensures { OnOk result (out.new.items ≡ out.old.items ++ code (resolved_view ty.entry)) }
+{
+    match ty.extent {
+        Extent::Single => write_element(out, ty.element),
+        Extent::Vector(components) => {
+            write_head(out, Head::Wrapper(Wrapper::Vec(components)))?;
+            write_element(out, ty.element)
+        }
+        Extent::Matrix(columns, rows) => {
+            write_head(out, Head::Wrapper(Wrapper::Mat(columns, rows)))?;
+            write_element(out, ty.element)
+        }
+    }
+}
+
+fn write_element(out: &mut Vec<u32>, element: Element<'_>) -> Result<(), AllocError>
+    ensures { OnOk result (out.new.items ≡ out.old.items ++ code (element_view element.entry)) }
+{
+    match element {
+        Element::Scalar(scalar) => write_scalar(out, scalar),
+        Element::Type(ty) => write(out, ty),
+    }
+}
+
+/// The code of the refusal of a binary operator.
+fn words_of_operands(
+    alloc: Global,
+    operator: BinaryOperator,
+    left: &Type,
+    right: &Type,
+) -> Result<Vec<u32>, AllocError>
+    ensures { IfOk result (λ words. words.items
+        ≡ refusal_code (refused.binary operator (view left.now) (view right.now))) }
+{
+    let mut words = new_words(alloc)?;
+    write_operands(&mut words, operator as u32, left, right)?;
+    Ok(words)
 }

@@ -1,20 +1,24 @@
 // Types are read from their codes.
-ghost use Rattle.std.specs.Prelude.{◌≡◌};
+ghost use Rattle.std.specs.Prelude.{◌≡◌, ◌<◌, IfSome, Some, length, slice_index};
 ghost use Rattle.wgsl_syntax.specs.declared.code.Head.TheVariants as head;
-ghost use Rattle.wgsl_rules.specs.codes.Decoding.{counted_type, decode, leaf_type, members_at, parts_at, wrapped};
+ghost use Rattle.wgsl_syntax.specs.declared.code.LeafType.TheVariants as leaf;
+ghost use Rattle.wgsl_syntax.specs.declared.code.Wrapper.TheVariants as wrapper;
+ghost use Rattle.wgsl_rules.specs.codes.Decoding.{counted_type, decode, head_at, leaf_type, members_at, parts_at, wrapped};
 ghost use Rattle.wgsl_core.specs.View.{view, member_view, struct_view};
 ghost use Rattle.wgsl_core.specs.ResultStruct.{struct_type};
 ghost use Rattle.wgsl_core.specs.internal.View.{members_view};
+ghost use Rattle.wgsl_coded.specs.Levels.{level_at};
 ghost use Rattle.wgsl_coded.specs.Members.{member_at};
 ghost use Rattle.wgsl_coded.specs.Reads.{Reads};
 
 use crate::fault::Fault;
-use crate::heads::read_head;
+use crate::heads::{read_head, read_scalar, read_vector_head};
 use crate::names::read_name;
 use crate::numbers::{read_attribute, read_number};
 use std::alloc::Global;
 use wgsl_core::ty::{StructMemberType, StructType, Type};
 use wgsl_syntax::code::{Counted, Head, LeafType, Wrapper};
+use wgsl_syntax::scalar::Scalar;
 
 fn type_of_leaf(leaf: LeafType) -> Type
     ensures { view result ≡ leaf_type leaf }
@@ -28,6 +32,7 @@ fn type_of_leaf(leaf: LeafType) -> Type
     }
 }
 
+#[inline(always)]
 fn wrap(wrapper: Wrapper, inner: Box<Type>) -> Type
     ensures { view result ≡ wrapped wrapper (view inner.value) }
 {
@@ -53,6 +58,7 @@ fn with_count(counted: Counted, count: usize, inner: Box<Type>) -> Type
 
 /// The type that the words begin with, and the words after it.
 #[cycle(read)]
+#[inline(always)]
 pub(crate) fn read_type(alloc: Global, words: &[u32], depth: u8) -> Result<(Type, &[u32]), Fault>
     ensures { Reads (λ t. (view t.0, t.1.now)) result (decode depth words.now) }
 {
@@ -62,10 +68,42 @@ pub(crate) fn read_type(alloc: Global, words: &[u32], depth: u8) -> Result<(Type
     if depth == 0 {
         return Err(Fault::NoType);
     }
-    match read_head(*first) {
-        Some(head) => read_parts(alloc, head, rest, depth - 1),
+    match read_scalar(*first) {
+        Some(scalar) => Ok((Type::from(scalar), rest)),
+        None => read_level(alloc, *first, rest, depth - 1),
+    }
+}
+
+/// The type with that first word, whose parts the words begin with.
+#[cycle(read)]
+#[inline(never)]
+fn read_level(alloc: Global, first: u32, words: &[u32], depth: u8) -> Result<(Type, &[u32]), Fault>
+    ensures { Reads (λ t. (view t.0, t.1.now)) result
+        (level_at depth first words.now) }
+{
+    if depth > 0 {
+        if let Some((components, of)) = read_vector(first, words) {
+            let of = Box::new(alloc, Type::from(of))?;
+            return Ok((wrap(Wrapper::Vec(components), of), &words[1..]));
+        }
+    }
+    match read_head(first) {
+        Some(head) => read_parts(alloc, head, words, depth),
         None => Err(Fault::NoType),
     }
+}
+
+/// The number of components and their type, if the words are a vector of a scalar.
+#[inline(always)]
+fn read_vector(first: u32, words: &[u32]) -> Option<(u8, Scalar)>
+    ensures some { IfSome result (λ v. head_at first ≡ Some (head.Wrapper (wrapper.Vec v.0))) }
+    ensures inside { IfSome result (λ v. 0 < length words.now
+        × head_at (slice_index words.now 0) ≡ Some (head.Leaf (leaf.Scalar v.1))) }
+{
+    let [inner, ..] = words else {
+        return None;
+    };
+    Some((read_vector_head(first)?, read_scalar(*inner)?))
 }
 
 /// The type with that head, whose parts the words begin with.
@@ -126,7 +164,7 @@ fn read_members(
     ensures { Reads (λ ms. (members_view ms.0.items, ms.1.now)) result
         (members_at (decode depth) count words.now) }
 {
-    let mut members = Vec::new(alloc);
+    let mut members = Vec::with_capacity(alloc, count.min(words.len() / 5))?;
     let mut rest = words;
     for _ in 0..count {
         match read_member(alloc, rest, depth) {

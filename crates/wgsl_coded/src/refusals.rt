@@ -114,7 +114,12 @@ fn write_operand(out: &mut Vec<u32>, operator: u32, ty: &Type) -> Result<(), All
 }
 
 #[tactic(auto, using(std::proofs::lemmas::List::append_assoc))]
-fn write_operands(out: &mut Vec<u32>, operator: u32, a: &Type, b: &Type) -> Result<(), AllocError>
+pub(crate) fn write_operands(
+    out: &mut Vec<u32>,
+    operator: u32,
+    a: &Type,
+    b: &Type,
+) -> Result<(), AllocError>
     ensures { OnOk result (out.new.items
         ≡ out.old.items ++ (19 ∷ operator ∷ code (view a.now) ++ code (view b.now))) }
 {

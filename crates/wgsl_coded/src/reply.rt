@@ -1,11 +1,10 @@
 // What the calls over words reply.
-ghost use Rattle.std.specs.Prelude.{◌≡◌, IfOk, option_map};
+ghost use Rattle.std.specs.Prelude.{◌≡◌, [], IfOk, option_map};
 ghost use Rattle.wgsl_rules.specs.codes.Codes.{code};
 ghost use Rattle.wgsl_rules.specs.codes.Refusals.{refusal_code};
 ghost use Rattle.wgsl_core.specs.Answer.{refusal};
-ghost use Rattle.wgsl_core.specs.Resolution.{candidate_view};
 ghost use Rattle.wgsl_core.specs.View.{view};
-ghost use Rattle.wgsl_coded.specs.Replies.{candidate_words, value_words};
+ghost use Rattle.wgsl_coded.specs.Replies.{value_words};
 ghost use Rattle.wgsl_coded.specs.Seen.{RepliesWith, RepliesWithRefusal};
 
 use crate::fault::Fault;
@@ -13,7 +12,6 @@ use crate::refusals::write_error;
 use crate::writing::write;
 use std::alloc::{AllocError, Global};
 use wgsl_core::error::{Error, Fail};
-use wgsl_core::operators::Candidate;
 use wgsl_core::ty::Type;
 
 /// The words of a reply.
@@ -33,23 +31,6 @@ pub(crate) fn reply_with_type(alloc: Global, answer: Result<Type, Fail>) -> Resu
         Ok(ty) => {
             let words = words_of_type(alloc, &ty);
             drop(ty);
-            Ok(Reply::Answer(words?))
-        }
-        Err(fail) => reply_with_refusal(alloc, fail),
-    }
-}
-
-/// The codes of a candidate's types, or of the refusal.
-pub(crate) fn reply_with_candidate(
-    alloc: Global,
-    answer: Result<Candidate, Fail>,
-) -> Result<Reply, Fault>
-    ensures { RepliesWith (λ c. candidate_words (candidate_view c)) answer result }
-{
-    match answer {
-        Ok(candidate) => {
-            let words = words_of_candidate(alloc, &candidate);
-            drop(candidate);
             Ok(Reply::Answer(words?))
         }
         Err(fail) => reply_with_refusal(alloc, fail),
@@ -86,21 +67,18 @@ fn reply_with_refusal(alloc: Global, fail: Fail) -> Result<Reply, Fault>
     }
 }
 
+/// A list for the words of a reply. Most replies need no more room.
+pub(crate) fn new_words(alloc: Global) -> Result<Vec<u32>, AllocError>
+    ensures { IfOk result (λ words. words.items ≡ []) }
+{
+    Vec::with_capacity(alloc, 16)
+}
+
 pub(crate) fn words_of_type(alloc: Global, ty: &Type) -> Result<Vec<u32>, AllocError>
     ensures { IfOk result (λ words. words.items ≡ code (view ty.now)) }
 {
-    let mut words = Vec::new(alloc);
+    let mut words = new_words(alloc)?;
     write(&mut words, ty)?;
-    Ok(words)
-}
-
-fn words_of_candidate(alloc: Global, candidate: &Candidate) -> Result<Vec<u32>, AllocError>
-    ensures { IfOk result (λ words. words.items ≡ candidate_words (candidate_view candidate.now)) }
-{
-    let mut words = Vec::new(alloc);
-    write(&mut words, &candidate.result)?;
-    write(&mut words, &candidate.lhs)?;
-    write(&mut words, &candidate.rhs)?;
     Ok(words)
 }
 
@@ -116,7 +94,7 @@ fn words_of_value(alloc: Global, value: &Option<Type>) -> Result<Vec<u32>, Alloc
 fn words_of_refusal(alloc: Global, error: &Error) -> Result<Vec<u32>, AllocError>
     ensures { IfOk result (λ words. words.items ≡ refusal_code (refusal error.now)) }
 {
-    let mut words = Vec::new(alloc);
+    let mut words = new_words(alloc)?;
     write_error(&mut words, error)?;
     Ok(words)
 }

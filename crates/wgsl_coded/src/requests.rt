@@ -1,6 +1,7 @@
 // What requests ask is read.
-ghost use Rattle.std.specs.Prelude.{◌≡◌, map, slice_get};
+ghost use Rattle.std.specs.Prelude.{◌≡◌, IfSome, Some, map, slice_get};
 ghost use Rattle.wgsl_syntax.specs.Operator.{binary_operators, unary_operators};
+ghost use Rattle.wgsl_rules.specs.types.Types.{scalar};
 ghost use Rattle.wgsl_core.specs.Instances.{signature_view};
 ghost use Rattle.wgsl_core.specs.View.{view};
 ghost use Rattle.wgsl_coded.specs.Reads.{Reads};
@@ -8,14 +9,28 @@ ghost use Rattle.wgsl_coded.specs.Requests.{all_types, binary_expression, call_s
 
 use crate::coded::{DEPTH, read_whole};
 use crate::fault::Fault;
+use crate::heads::read_scalar;
 use crate::reading::read_type;
 use crate::signatures::{read_signature, read_types};
 use std::alloc::Global;
 use wgsl_core::signature::CallSignature;
 use wgsl_core::ty::Type;
 use wgsl_syntax::operator::{BinaryOperator, UnaryOperator};
+use wgsl_syntax::scalar::Scalar;
+
+/// Both types, if they are scalars.
+#[inline(always)]
+pub(crate) fn read_two_scalars(words: &[u32]) -> Option<(Scalar, Scalar)>
+    ensures { IfSome result (λ s. two_types words.now ≡ Some (scalar s.0, scalar s.1)) }
+{
+    let [first, second] = words else {
+        return None;
+    };
+    Some((read_scalar(*first)?, read_scalar(*second)?))
+}
 
 /// One type, and then another.
+#[inline(always)]
 pub(crate) fn read_two(alloc: Global, words: &[u32]) -> Result<(Type, Type), Fault>
     ensures { Reads (λ types. (view types.0, view types.1)) result (two_types words.now) }
 {
@@ -63,6 +78,7 @@ pub(crate) fn read_unary(alloc: Global, words: &[u32]) -> Result<(UnaryOperator,
 }
 
 /// A binary operator, and then two types.
+#[inline(always)]
 pub(crate) fn read_binary(
     alloc: Global,
     words: &[u32],

@@ -29,7 +29,7 @@ fn read_types_in_order(
     ensures { Reads (λ ts. (map view ts.0.items, ts.1.now)) result
         (parts_in_order (decode 255) count words.now) }
 {
-    let mut types = Vec::new(alloc);
+    let mut types = Vec::with_capacity(alloc, count.min(words.len()))?;
     let mut rest = words;
     for _ in 0..count {
         match read_type(alloc, rest, DEPTH) {
@@ -88,7 +88,7 @@ fn read_parameters_in_order(
     ensures { Reads (λ ps. (map parameter_view ps.0.items, ps.1.now)) result
         (parts_in_order (parameter_at (decode 255)) count words.now) }
 {
-    let mut parameters = Vec::new(alloc);
+    let mut parameters = Vec::with_capacity(alloc, count.min(words.len()))?;
     let mut rest = words;
     for _ in 0..count {
         match read_parameter(alloc, rest) {

@@ -17,7 +17,8 @@ use wgsl_core::ty::{StructMemberType, StructType, Type};
 use wgsl_syntax::code::{Counted, Head, LeafType, Wrapper};
 use wgsl_syntax::scalar::Scalar;
 
-fn write_head(out: &mut Vec<u32>, head: Head) -> Result<(), AllocError>
+#[inline(always)]
+pub(crate) fn write_head(out: &mut Vec<u32>, head: Head) -> Result<(), AllocError>
     ensures { OnOk result (out.new.items ≡ out.old.items ++ (head_word head ∷ [])) }
 {
     out.push(word_of_head(head))?;
@@ -31,7 +32,8 @@ fn write_leaf(out: &mut Vec<u32>, leaf: LeafType) -> Result<(), AllocError>
     write_head(out, Head::Leaf(leaf))
 }
 
-fn write_scalar(out: &mut Vec<u32>, of: Scalar) -> Result<(), AllocError>
+#[inline(always)]
+pub(crate) fn write_scalar(out: &mut Vec<u32>, of: Scalar) -> Result<(), AllocError>
     ensures { OnOk result (out.new.items ≡ out.old.items ++ code (scalar of)) }
 {
     write_leaf(out, LeafType::Scalar(of))

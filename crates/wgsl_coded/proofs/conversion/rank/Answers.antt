@@ -1,5 +1,5 @@
 use Rattle.wgsl_coded.proofs.Replied.{asked_is, rank_is}
 use Rattle.wgsl_coded.proofs.conversion.rank.Goals as goal
 
-pub returns : goal.returns
-returns c = asked_is _ _ _ c.in_ok-source.ensures (rank_is _ _ _ c.conversion_rank-rank.ensures)
+pub returns-in-Some : goal.returns-in-Some
+returns-in-Some c = asked_is _ _ _ c.in-Some.ensures (rank_is _ _ _ c.rank_of_scalars.ensures)
