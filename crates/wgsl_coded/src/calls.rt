@@ -14,9 +14,12 @@ pub fn constructor(alloc: Global, request: &[u32]) -> Result<Reply, Fault>
     ensures { IsConstructorReply request.now (seen reply_words result) }
 {
     let call = read_call(alloc, request)?;
-    let answer = type_ctor(alloc, &call.name, call.tplt.as_deref(), &call.args);
+    let reply = reply_with_type(
+        alloc,
+        type_ctor(alloc, &call.name, call.tplt.as_deref(), &call.args),
+    );
     drop(call);
-    reply_with_type(alloc, answer)
+    reply
 }
 
 /// The type of the call of a built-in function, no words if it returns no value, or its refusal. The request is the
@@ -25,7 +28,10 @@ pub fn call(alloc: Global, request: &[u32]) -> Result<Reply, Fault>
     ensures { IsCallReply request.now (seen reply_words result) }
 {
     let call = read_call(alloc, request)?;
-    let answer = type_builtin_fn(alloc, &call.name, call.tplt.as_deref(), &call.args);
+    let reply = reply_with_value(
+        alloc,
+        type_builtin_fn(alloc, &call.name, call.tplt.as_deref(), &call.args),
+    );
     drop(call);
-    reply_with_value(alloc, answer)
+    reply
 }

@@ -37,10 +37,7 @@ fn rank_of_types(alloc: Global, request: &[u32]) -> Result<Option<u32>, Fault>
     ensures { IsRankReply request.now (seen rank_words result) }
 {
     let (source, target) = read_two(alloc, request)?;
-    let rank = conversion_rank(&source, &target);
-    drop(source);
-    drop(target);
-    Ok(rank)
+    Ok(conversion_rank(&source, &target))
 }
 
 /// The code of the common type of a list of types, refused without words if there is none. The request is the list.

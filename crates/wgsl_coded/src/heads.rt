@@ -58,6 +58,7 @@ fn word_of_texture(texture: TextureType) -> u32
 }
 
 /// The first word of a leaf.
+#[inline(always)]
 fn word_of_leaf(leaf: LeafType) -> u32
     ensures { result ≡ head_word (head.Leaf leaf) }
 {
@@ -87,6 +88,7 @@ fn word_of_wrapper(wrapper: Wrapper) -> u32
 }
 
 /// The first word of a code.
+#[inline(always)]
 pub(crate) fn word_of_head(head: Head) -> u32
     ensures { result ≡ head_word head }
 {

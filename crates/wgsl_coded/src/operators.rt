@@ -27,9 +27,7 @@ pub fn unary(alloc: Global, request: &[u32]) -> Result<Reply, Fault>
     ensures { IsUnaryReply request.now (seen reply_words result) }
 {
     let (operator, operand) = read_unary(alloc, request)?;
-    let answer = type_unary_op(alloc, operator, &operand);
-    drop(operand);
-    reply_with_type(alloc, answer)
+    reply_with_type(alloc, type_unary_op(alloc, operator, &operand))
 }
 
 /// The type of a binary expression with those that its operands convert to, or its refusal. The request is the operator
@@ -38,10 +36,7 @@ pub fn binary(alloc: Global, request: &[u32]) -> Result<Reply, Fault>
     ensures { IsBinaryReply request.now (seen reply_words result) }
 {
     let (operator, left, right) = read_binary(alloc, request)?;
-    let reply = reply_to_binary(alloc, operator, &left, &right);
-    drop(left);
-    drop(right);
-    reply
+    reply_to_binary(alloc, operator, &left, &right)
 }
 
 fn reply_to_binary(
@@ -72,6 +67,7 @@ fn words_of_resolution(alloc: Global, found: &Resolution<'_>) -> Result<Vec<u32>
 }
 
 /// Writes the code of a type that isn't built yet at the end.
+#[inline(always)]
 fn write_resolved(out: &mut Vec<u32>, ty: ResolvedType<'_>) -> Result<(), AllocError>
     ensures { OnOk result (out.new.items ≡ out.old.items ++ code (resolved_view ty.entry)) }
 {
@@ -88,12 +84,16 @@ fn write_resolved(out: &mut Vec<u32>, ty: ResolvedType<'_>) -> Result<(), AllocE
     }
 }
 
+#[inline(always)]
 fn write_element(out: &mut Vec<u32>, element: Element<'_>) -> Result<(), AllocError>
     ensures { OnOk result (out.new.items ≡ out.old.items ++ code (element_view element.entry)) }
 {
     match element {
         Element::Scalar(scalar) => write_scalar(out, scalar),
-        Element::Type(ty) => write(out, ty),
+        Element::Type(ty) => match ty.scalar() {
+            Some(scalar) => write_scalar(out, scalar),
+            None => write(out, ty),
+        },
     }
 }
 

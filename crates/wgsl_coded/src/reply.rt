@@ -74,6 +74,7 @@ pub(crate) fn new_words(alloc: Global) -> Result<Vec<u32>, AllocError>
     Vec::with_capacity(alloc, 16)
 }
 
+#[inline(always)]
 pub(crate) fn words_of_type(alloc: Global, ty: &Type) -> Result<Vec<u32>, AllocError>
     ensures { IfOk result (λ words. words.items ≡ code (view ty.now)) }
 {

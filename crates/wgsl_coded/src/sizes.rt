@@ -27,10 +27,10 @@ pub fn size(alloc: Global, request: &[u32]) -> Result<SizeAndAlign, Fault>
     ensures { IsSizeReply request.now (seen size_words result) }
 {
     let ty = read_whole(alloc, request)?;
-    let size = ty.size_of();
-    let align = ty.align_of();
-    drop(ty);
-    Ok(SizeAndAlign { size, align })
+    Ok(SizeAndAlign {
+        size: ty.size_of(),
+        align: ty.align_of(),
+    })
 }
 
 /// The layout of a struct, refused without words if it has none. The request is the struct.
@@ -38,9 +38,7 @@ pub fn layout(alloc: Global, request: &[u32]) -> Result<Reply, Fault>
     ensures { IsLayoutReply request.now (seen reply_words result) }
 {
     let ty = read_whole(alloc, request)?;
-    let reply = layout_of(alloc, &ty);
-    drop(ty);
-    reply
+    layout_of(alloc, &ty)
 }
 
 fn layout_of(alloc: Global, ty: &Type) -> Result<Reply, Fault>

@@ -25,6 +25,7 @@ pub(crate) fn write_head(out: &mut Vec<u32>, head: Head) -> Result<(), AllocErro
     Ok(())
 }
 
+#[inline(always)]
 #[tactic(auto, using(wgsl_rules::proofs::codes::Spelled::leaf_code))]
 fn write_leaf(out: &mut Vec<u32>, leaf: LeafType) -> Result<(), AllocError>
     ensures { OnOk result (out.new.items ≡ out.old.items ++ code (leaf_type leaf)) }
