@@ -1,7 +1,9 @@
 /* Prints how many nanoseconds of processor time a call of the library takes, for ten requests in text and four in numbers,
- * the best of five rounds. */
+ * the best of five rounds. With the index of a call in numbers, and how often to make it, it makes that call alone and prints its
+ * name. */
 #include "wgsl_codes.h"
 #include <stdio.h>
+#include <stdlib.h>
 #include <time.h>
 
 enum { ROUNDS = 5, CALLS = 100000, WORDS = 64 };
@@ -57,35 +59,28 @@ static void scalars(int a, int b) {
     wgsl_scalar(&words, b);
 }
 
-static int measure_rank(void) {
+static void ask_rank(void) {
     call = wgsl_rank;
-    words.len = 0;
     scalars(WGSL_SCALAR_ABSTRACT_INT, WGSL_SCALAR_F32);
-    return measure("wgsl_rank: AbstractInt to f32");
 }
 
-static int measure_sum(void) {
+static void ask_sum(void) {
     call = wgsl_binary;
-    words.len = 0;
     wgsl_word(&words, WGSL_BINARY_ADDITION);
     wgsl_scalar(&words, WGSL_SCALAR_ABSTRACT_INT);
     wgsl_vec(&words, 3);
     wgsl_scalar(&words, WGSL_SCALAR_F32);
-    return measure("wgsl_binary: AbstractInt + vec3<f32>");
 }
 
-static int measure_clamp(void) {
+static void ask_clamp(void) {
     call = wgsl_call;
-    words.len = 0;
     wgsl_signature(&words, "clamp", 3);
     scalars(WGSL_SCALAR_ABSTRACT_INT, WGSL_SCALAR_F32);
     wgsl_scalar(&words, WGSL_SCALAR_ABSTRACT_FLOAT);
-    return measure("wgsl_call: clamp(AbstractInt, f32, AbstractFloat)");
 }
 
-static int measure_layout(void) {
+static void ask_layout(void) {
     call = wgsl_layout;
-    words.len = 0;
     wgsl_struct(&words, "S", 3);
     wgsl_member(&words, "a");
     wgsl_scalar(&words, WGSL_SCALAR_F32);
@@ -94,13 +89,37 @@ static int measure_layout(void) {
     wgsl_scalar(&words, WGSL_SCALAR_F32);
     wgsl_member(&words, "c");
     wgsl_scalar(&words, WGSL_SCALAR_F32);
-    return measure("wgsl_layout: struct S { a: f32, b: vec3<f32>, c: f32 }");
 }
 
-int main(void) {
+/* The calls in numbers, and what each asks. */
+static const struct {
+    void (*set)(void);
+    const char *name;
+} calls[] = {
+    {ask_rank, "wgsl_rank: AbstractInt to f32"},
+    {ask_sum, "wgsl_binary: AbstractInt + vec3<f32>"},
+    {ask_clamp, "wgsl_call: clamp(AbstractInt, f32, AbstractFloat)"},
+    {ask_layout, "wgsl_layout: struct S { a: f32, b: vec3<f32>, c: f32 }"},
+};
+
+static int make_one(size_t index, long times) {
+    calls[index].set();
+    for (long k = 0; k < times; k++)
+        if (ask() != WGSL_ANSWERED) return 1;
+    puts(calls[index].name);
+    return 0;
+}
+
+int main(int count, char **arguments) {
+    if (count == 3) return make_one((size_t)atol(arguments[1]), atol(arguments[2]));
     for (size_t k = 0; k < sizeof requests / sizeof *requests; k++) {
         text = requests[k];
         if (measure(text)) return 1;
     }
-    return measure_rank() || measure_sum() || measure_clamp() || measure_layout();
+    for (size_t k = 0; k < sizeof calls / sizeof *calls; k++) {
+        words.len = 0;
+        calls[k].set();
+        if (measure(calls[k].name)) return 1;
+    }
+    return 0;
 }
