@@ -1,6 +1,6 @@
 -- The replies to some lines, and to one line more.
 use Prim.Native.Nat.{zero, suc}
-use Rattle.std.proofs.Common.{◌≡◌, ◌∙◌, ◌<◌, ◌≤◌, ℕ, nat_le, Bool, true, false, ◌&&◌, List, [], ◌∷◌, ◌++◌, ap, append_assoc, arith, length, length-take, refl, subst, sym, take}
+use Rattle.std.proofs.Common.{◌≡◌, ◌∙◌, ◌<◌, ◌≤◌, ℕ, nat_le, Bool, true, false, ◌&&◌, List, [], ◌∷◌, ◌++◌, ap, append_assoc, arith, length, length-append, length-take, refl, subst, sym, take}
 use Rattle.std.proofs.lemmas.Bool.{leb-true, leb-false}
 use Rattle.std.proofs.lemmas.List.{append-nil, take_all}
 use Rattle.std.proofs.lemmas.List.Folds.{list_all-append}
@@ -10,18 +10,25 @@ use Rattle.wgsl_requests.specs.Replies.{ReplyText, unreadable, IsReplyTo, too_lo
 use Rattle.wgsl_check.specs.Output.{is_readable, next_number, printed, printed_from}
 use Rattle.wgsl_check.specs.Session.{number_after}
 
--- of a line the first 4097 bytes decide the reply
-pub of_cut : (line : List ℕ) (reply : ReplyText) → IsReplyTo (take 4097 line) reply → IsReplyTo line reply
-of_cut line reply is = test (nat_le (length line) 4096) refl
+-- of the first bytes of a line 4097 decide the reply, whatever comes after them
+pub of_cut_first : (line more : List ℕ) (reply : ReplyText) → IsReplyTo (take 4097 line ++ more) reply → IsReplyTo (line ++ more) reply
+of_cut_first line more reply is = test (nat_le (length line) 4096) refl
   where
-    test : (v : Bool) → nat_le (length line) 4096 ≡ v → IsReplyTo line reply
+    test : (v : Bool) → nat_le (length line) 4096 ≡ v → IsReplyTo (line ++ more) reply
     test true e =
         let short : length line ≤ 4096 = leb-true (length line) 4096 e in
-        subst (λ bytes. IsReplyTo bytes reply) (take_all 4097 line (omega (arith, short))) is
+        subst (λ bytes. IsReplyTo (bytes ++ more) reply) (take_all 4097 line (omega (arith, short))) is
     test false e =
         let long : 4096 < length line = leb-false (length line) 4096 e in
-        let cut : 4096 < length (take 4097 line) = omega (arith, long, length-take 4097 line) in
-        subst (IsReplyTo line) (sym (one_reply (take 4097 line) reply unreadable is (too_long cut))) (too_long long)
+        let whole : 4096 < length (line ++ more) = omega (arith, long, length-append line more) in
+        let cut : 4096 < length (take 4097 line ++ more) = omega (arith, long, length-take 4097 line, length-append (take 4097 line) more) in
+        subst (IsReplyTo (line ++ more)) (sym (one_reply (take 4097 line ++ more) reply unreadable is (too_long cut))) (too_long whole)
+
+-- of a line the first 4097 bytes decide the reply
+pub of_cut : (line : List ℕ) (reply : ReplyText) → IsReplyTo (take 4097 line) reply → IsReplyTo line reply
+of_cut line reply is =
+    subst (λ bytes. IsReplyTo bytes reply) (append-nil line)
+    (of_cut_first line [] reply (subst (λ bytes. IsReplyTo bytes reply) (sym (append-nil (take 4097 line))) is))
 
 -- a beginning of a line that is cut, and more of it
 pub take-cut : (n : ℕ) (xs ys : List ℕ) → take n (take n xs ++ ys) ≡ take n (xs ++ ys)

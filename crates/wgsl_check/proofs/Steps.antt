@@ -1,6 +1,7 @@
 -- A step of a run: a block is answered, the last line is answered, a read failed.
 use Rattle.std.proofs.Common.{◌≡◌, ◌≢◌, ◌∙◌, ℕ, Bool, List, [], ◌∷◌, ◌++◌, Option, Result, Some, None, Ok, Err, ap, append_assoc, refl, string_bytes, subst, sym}
 use Rattle.std.proofs.lemmas.List.{append-nil}
+use Rattle.std.proofs.lemmas.List.Elements.{All-nil}
 use Rattle.std.specs.declared.alloc.AllocError.{AllocError}
 use Rattle.std.specs.Io.KnownBytes.{Appends, Consumes, IsAtEnd, Keeps}
 use Rattle.std.specs.Prelude.{IfErr, IfOk, IfSome, MatchResult, OnErr, OnOk}
@@ -69,12 +70,17 @@ module _ (bytes : List ℕ) (start before now : Option (List ℕ)) (old mid : Se
         (whole (string_bytes mid.answers) off) (some_more at.text (string_bytes mid.answers) off.some);
   }
 
+  all_lines : AnswersLine (old.line.bytes.items ++ []) old mid → Prints bytes (at.text ++ string_bytes mid.answers) mid.all_readable
+  all_lines a =
+      subst (λ b. Prints b (at.text ++ string_bytes mid.answers) mid.all_readable) (append-nil bytes)
+      (taken_last bytes at.text old mid at.taken [] a (All-nil (λ byte. byte ≢ 10)))
+
   -- the last line is answered, and the answer is written
-  pub last_done : (readable : Bool) → AnswersLine old mid → Appends before now (string_bytes mid.answers) → readable ≡ mid.all_readable → HasPrinted bytes start now readable
+  pub last_done : (readable : Bool) → AnswersLine (old.line.bytes.items ++ []) old mid → Appends before now (string_bytes mid.answers) → readable ≡ mid.all_readable → HasPrinted bytes start now readable
   last_done readable a written is = record {
     text = at.text ++ string_bytes mid.answers;
     written = appends_more start before now at.text (string_bytes mid.answers) at.written written;
-    prints = subst (Prints bytes (at.text ++ string_bytes mid.answers)) (sym is) (taken_last bytes at.text old mid at.taken a);
+    prints = subst (Prints bytes (at.text ++ string_bytes mid.answers)) (sym is) (all_lines a);
   }
 
   so_far : string_bytes mid.answers ≡ string_bytes old.answers → PrintsUntil Memory bytes (at.text ++ string_bytes mid.answers)
@@ -91,12 +97,12 @@ module _ (bytes : List ℕ) (start before now : Option (List ℕ)) (old mid : Se
   }
 
   -- a write of the last answer failed
-  pub last_cut : (ended : Result (Unit {0}) AllocError) → OnOk ended (AnswersLine old mid) → OnErr ended (string_bytes mid.answers ≡ string_bytes old.answers)
+  pub last_cut : (ended : Result (Unit {0}) AllocError) → OnOk ended (AnswersLine (old.line.bytes.items ++ []) old mid) → OnErr ended (string_bytes mid.answers ≡ string_bytes old.answers)
       → IsCutOff (string_bytes mid.answers) before now → HasStopped bytes start now Write
   last_cut (Ok _) a same off = record {
     text = at.text ++ off.text;
     written = appends_more start before now at.text off.text at.written off.written;
-    prints = cut_of_all bytes (at.text ++ off.text) off.rest (at.text ++ string_bytes mid.answers) mid.all_readable (taken_last bytes at.text old mid at.taken a)
+    prints = cut_of_all bytes (at.text ++ off.text) off.rest (at.text ++ string_bytes mid.answers) mid.all_readable (all_lines a)
         (whole (string_bytes mid.answers) off) (some_more at.text (string_bytes mid.answers) off.some);
   }
   last_cut (Err _) a same off = record {

@@ -10,7 +10,7 @@ use Rattle.wgsl_check.specs.declared.run.Session.{Session}
 use Rattle.wgsl_check.specs.Output.{is_readable, lines_of, next_number, printed, printed_from, Prints, PrintsLines, PrintsUntil, PrintsUpTo}
 use Rattle.wgsl_check.specs.Session.{AnswersLine, HasTaken, IsAtStart, StopsAfter}
 use Rattle.wgsl_check.proofs.Lines.{NoLineFeed, ends_last, ends_line, ends_more, ends_none, lines-some}
-use Rattle.wgsl_check.proofs.Replies.{number-push, of_cut, printed-push, readable-push, take-cut}
+use Rattle.wgsl_check.proofs.Replies.{number-push, of_cut_first, printed-push, readable-push, take-cut}
 
 -- before the first byte
 pub taken_none : (session : Session) → IsAtStart session → HasTaken [] [] session
@@ -44,12 +44,16 @@ taken_more bytes before more old new taken all kept number answers readable = re
   number = number ∙ taken.number;
 }
 
-module _ (bytes before : List ℕ) (old new : Session) (taken : HasTaken bytes before old) (a : AnswersLine old new) where
-  is_reply : IsReplyTo taken.begun a.reply
-  is_reply = of_cut taken.begun a.reply (subst (λ line. IsReplyTo line a.reply) taken.kept a.is_reply)
+-- the line that has begun ends with these bytes, and is answered
+module _ (bytes before : List ℕ) (old new : Session) (taken : HasTaken bytes before old) (end : List ℕ) (a : AnswersLine (old.line.bytes.items ++ end) old new) where
+  is_reply : IsReplyTo (taken.begun ++ end) a.reply
+  is_reply = of_cut_first taken.begun end a.reply (subst (λ begun. IsReplyTo (begun ++ end) a.reply) taken.kept a.is_reply)
 
-  each_more : AllZip IsReplyTo (taken.ended ++ taken.begun ∷ []) (taken.replies ++ a.reply ∷ [])
-  each_more = all_zipped_more IsReplyTo taken.ended taken.replies taken.begun a.reply taken.each is_reply
+  each_more : AllZip IsReplyTo (taken.ended ++ (taken.begun ++ end) ∷ []) (taken.replies ++ a.reply ∷ [])
+  each_more = all_zipped_more IsReplyTo taken.ended taken.replies (taken.begun ++ end) a.reply taken.each is_reply
+
+  no_feed : NoLineFeed end → NoLineFeed (taken.begun ++ end)
+  no_feed all = All-append (λ byte. byte ≢ 10) taken.begun end taken.no_line_feed all
 
   text_more : before ++ string_bytes new.answers ≡ printed_from 1 (taken.replies ++ a.reply ∷ [])
   text_more =
@@ -60,12 +64,12 @@ module _ (bytes before : List ℕ) (old new : Session) (taken : HasTaken bytes b
   readable_more : new.all_readable ≡ list_all is_readable (taken.replies ++ a.reply ∷ [])
   readable_more = a.all_readable ∙ (ap (λ b. b && is_readable a.reply) taken.all_readable ∙ sym (readable-push taken.replies a.reply))
 
-  -- the line has ended and is answered
-  pub taken_line : new.line.bytes.items ≡ [] → new.line.number ≡ next_number old.line.number → HasTaken (bytes ++ 10 ∷ []) before new
-  taken_line empty number = record {
-    ended = taken.ended ++ taken.begun ∷ [];
+  -- its line feed is taken too
+  pub taken_line : NoLineFeed end → new.line.bytes.items ≡ [] → new.line.number ≡ next_number old.line.number → HasTaken ((bytes ++ end) ++ 10 ∷ []) before new
+  taken_line all empty number = record {
+    ended = taken.ended ++ (taken.begun ++ end) ∷ [];
     begun = [];
-    lines = ends_line bytes taken.begun taken.ended taken.lines taken.no_line_feed;
+    lines = ends_line (bytes ++ end) (taken.begun ++ end) taken.ended (ends_more bytes taken.begun end taken.ended taken.lines) (no_feed all);
     no_line_feed = All-nil (λ byte. byte ≢ 10);
     replies = taken.replies ++ a.reply ∷ [];
     each = each_more;
@@ -75,11 +79,12 @@ module _ (bytes before : List ℕ) (old new : Session) (taken : HasTaken bytes b
     number = number ∙ (ap next_number taken.number ∙ sym (number-push 1 taken.replies a.reply));
   }
 
-  -- the input has ended, and its last line is answered
-  pub taken_last : Prints bytes (before ++ string_bytes new.answers) new.all_readable
-  taken_last = record {
+  -- the input ends there
+  pub taken_last : NoLineFeed end → Prints (bytes ++ end) (before ++ string_bytes new.answers) new.all_readable
+  taken_last all = record {
     replies = taken.replies ++ a.reply ∷ [];
-    each = subst (λ lines. AllZip IsReplyTo lines (taken.replies ++ a.reply ∷ [])) (sym (ends_last bytes taken.begun taken.ended taken.lines taken.no_line_feed)) each_more;
+    each = subst (λ lines. AllZip IsReplyTo lines (taken.replies ++ a.reply ∷ []))
+        (sym (ends_last (bytes ++ end) (taken.begun ++ end) taken.ended (ends_more bytes taken.begun end taken.ended taken.lines) (no_feed all))) each_more;
     text_is = text_more;
     readable_is = readable_more;
   }
@@ -142,17 +147,14 @@ pub record IsExtended (more : List ℕ) (old new : Session) : Type 0 where
   pub all_readable : new.all_readable ≡ old.all_readable
 
 module _ (bytes before block rest : List ℕ) (old : Session) (part : TakesPart bytes before block rest old) where
-  extended : (mid : Session) (line : List ℕ) → NoLineFeed line → IsExtended line old mid → HasTaken ((bytes ++ part.part) ++ line) before mid
-  extended mid line all e = taken_more (bytes ++ part.part) before line old mid part.taken all e.kept e.number e.answers e.all_readable
-
   -- a line of the block is taken with its line feed, and answered
-  pub part_line : (mid new : Session) (line after : List ℕ) → AnswersLine mid new → NoLineFeed line → rest ≡ line ++ 10 ∷ after → IsExtended line old mid
-      → new.line.bytes.items ≡ [] → new.line.number ≡ next_number mid.line.number → TakesPart bytes before block after new
-  part_line mid new line after a all is e empty number = record {
-    part = part.part ++ (line ++ 10 ∷ []);
-    block_is = part.block_is ∙ (ap (λ r. part.part ++ r) (is ∙ sym (append_assoc line (10 ∷ []) after)) ∙ sym (append_assoc part.part (line ++ 10 ∷ []) after));
-    taken = subst (λ b. HasTaken b before new) (append_assoc (bytes ++ part.part) line (10 ∷ []) ∙ append_assoc bytes part.part (line ++ 10 ∷ []))
-        (taken_line ((bytes ++ part.part) ++ line) before mid new (extended mid line all e) a empty number);
+  pub part_line : (new : Session) (end after : List ℕ) → AnswersLine (old.line.bytes.items ++ end) old new → NoLineFeed end → rest ≡ end ++ 10 ∷ after
+      → new.line.bytes.items ≡ [] → new.line.number ≡ next_number old.line.number → TakesPart bytes before block after new
+  part_line new end after a all is empty number = record {
+    part = part.part ++ (end ++ 10 ∷ []);
+    block_is = part.block_is ∙ (ap (λ r. part.part ++ r) (is ∙ sym (append_assoc end (10 ∷ []) after)) ∙ sym (append_assoc part.part (end ++ 10 ∷ []) after));
+    taken = subst (λ b. HasTaken b before new) (append_assoc (bytes ++ part.part) end (10 ∷ []) ∙ append_assoc bytes part.part (end ++ 10 ∷ []))
+        (taken_line (bytes ++ part.part) before old new part.taken end a all empty number);
   }
 
   whole : (bytes ++ part.part) ++ rest ≡ bytes ++ block
@@ -160,7 +162,9 @@ module _ (bytes before block rest : List ℕ) (old : Session) (part : TakesPart 
 
   -- the rest of the block has no line feed
   pub part_last : (mid : Session) → NoLineFeed rest → IsExtended rest old mid → HasTaken (bytes ++ block) before mid
-  part_last mid all e = subst (λ b. HasTaken b before mid) whole (extended mid rest all e)
+  part_last mid all e =
+      subst (λ b. HasTaken b before mid) whole
+      (taken_more (bytes ++ part.part) before rest old mid part.taken all e.kept e.number e.answers e.all_readable)
 
   -- memory is refused in the rest of the block
   pub part_stops : (new : Session) → string_bytes new.answers ≡ string_bytes old.answers → StopsAfter Memory (bytes ++ block) (before ++ string_bytes new.answers)

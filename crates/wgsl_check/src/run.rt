@@ -133,7 +133,7 @@ impl Session {
             (HasPrinted bytes start (W.contents output.new))
             (HasStopped bytes start (W.contents output.new)) }
     {
-        let ended = self.end_line();
+        let ended = self.end_line(b"");
         self.write_answers(output)?;
         ended?;
         Ok(self.all_readable)
@@ -149,28 +149,28 @@ impl Session {
             (before ++ string_bytes self.new.answers) }
     {
         let mut rest = block;
-        while let Some((line, after)) = split_line(rest) {
-            self.line.extend(line);
-            self.end_line()?;
+        while let Some((end, after)) = split_line(rest) {
+            self.end_line(end)?;
             rest = after;
         }
         self.line.extend(rest);
         Ok(())
     }
 
-    /// Answers the line that was read, and goes on to the next.
-    fn end_line(&mut self) -> Result<(), AllocError>
+    /// Answers the line that ends with these bytes, and goes on to the next.
+    fn end_line(&mut self, end: &[u8]) -> Result<(), AllocError>
         ensures empty { OnOk result (self.new.line.bytes.items ≡ []) }
         ensures number { OnOk result
             (self.new.line.number ≡ min (self.old.line.number + 1) (2 ^ 64 - 1)) }
 
-        ensures answered { OnOk result (AnswersLine self.old self.new) }
+        ensures answered { OnOk result
+            (AnswersLine (self.old.line.bytes.items ++ end.now) self.old self.new) }
 
         // An answer is gathered whole or not at all.
         ensures err { OnErr result (string_bytes self.new.answers ≡ string_bytes self.old.answers) }
     {
         self.answer.clear();
-        match write_reply_to(self.alloc, &self.line, &mut self.answer)? {
+        match write_reply_to(self.alloc, &mut self.line, end, &mut self.answer)? {
             ReplyKind::Nothing => {}
             ReplyKind::Answer => {
                 self.answer.push('\n')?;
@@ -233,11 +233,23 @@ fn write_whole<W: Write>(output: &mut W, bytes: &[u8]) -> Result<(), RunError>
     Err(RunError::Write)
 }
 
-/// The kind of the reply to a line; an answer is written at the end of the text.
-fn write_reply_to(alloc: Global, line: &Line, text: &mut String) -> Result<ReplyKind, AllocError>
-    ensures { string_bytes text.old ≡ [] → IfOk result (λ kind.
-        IsReplyTo line.now.bytes.items (reply_of_kind kind (string_bytes text.new))) }
+/// The kind of the reply to the line that ends with these bytes; an answer is written at the end of the text.
+///
+/// A line that lies whole in a block is not copied.
+fn write_reply_to(
+    alloc: Global,
+    line: &mut Line,
+    end: &[u8],
+    text: &mut String,
+) -> Result<ReplyKind, AllocError>
+    ensures reply { string_bytes text.old ≡ [] → IfOk result (λ kind.
+        IsReplyTo (line.old.bytes.items ++ end.now) (reply_of_kind kind (string_bytes text.new))) }
+    ensures number { line.new.number ≡ line.old.number }
 {
+    if line.bytes.is_empty() {
+        return write_reply(alloc, end, text);
+    }
+    line.extend(end);
     write_reply(alloc, &line.bytes, text)
 }
 
