@@ -1,5 +1,5 @@
 -- The first word of a request, and the words of what is left.
-use Rattle.std.proofs.Common.{All, ◌≤◌, ◌≡◌, ℕ, ◌+◌, ◌<◌, Bool, true, false, not, List, [], ◌∷◌, length, take, drop, refl, ap, sym, subst, ◌∙◌, arith}
+use Rattle.std.proofs.Common.{All, ◌≡◌, ℕ, ◌+◌, ◌<◌, Bool, true, false, not, List, [], ◌∷◌, length, take, drop, refl, ap, sym, subst, ◌∙◌, arith}
 use Rattle.std.specs.List.{filter, prefix_len, take_while}
 use Rattle.std.proofs.lemmas.List.Folds.{length-prefix_len}
 use Rattle.std.proofs.lemmas.List.Elements.{All-head, All-tail}
@@ -138,7 +138,7 @@ great : (b : ℕ) → 10 < b → is_forbidden b ≡ false
 great b more = grind (arith, common_steps, more)
 
 -- bytes that are all greater than 10 are allowed
-pub great-not_forbidden : (bytes : List ℕ) (least : ℕ) → All (λ byte. least ≤ byte) bytes → 10 < least → has_forbidden bytes ≡ false
-great-not_forbidden [] least all more = refl
-great-not_forbidden (b ∷ bs) least all more =
-    rw (great b (omega (arith, more, All-head (λ byte. least ≤ byte) b bs all))) (great-not_forbidden bs least (All-tail (λ byte. least ≤ byte) b bs all) more)
+pub great-not_forbidden : (bytes : List ℕ) → All (λ byte. 10 < byte) bytes → has_forbidden bytes ≡ false
+great-not_forbidden [] all = refl
+great-not_forbidden (b ∷ bs) all =
+    rw (great b (All-head (λ byte. 10 < byte) b bs all)) (great-not_forbidden bs (All-tail (λ byte. 10 < byte) b bs all))

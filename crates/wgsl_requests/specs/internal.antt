@@ -1,3 +1,4 @@
+pub mod Lanes
 pub mod Layers
 pub mod Leaves
 pub mod Replied

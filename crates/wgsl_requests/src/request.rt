@@ -49,6 +49,7 @@ pub fn reply_to(alloc: Global, request: &[u8]) -> Result<Reply, AllocError>
 }
 
 /// The kind of the reply to the request. An answer is written at the end of the text.
+#[inline(always)]
 pub fn write_reply(
     alloc: Global,
     request: &[u8],

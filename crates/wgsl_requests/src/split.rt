@@ -1,8 +1,11 @@
 // The first word of a text.
-ghost use Rattle.std.specs.Prelude.{◌≡◌, ◌<◌, ◌≤◌, ◌∷◌, ◌↔◌, [], All, IfSome, IsTrue, MatchOption, drop, length, not};
+ghost use Rattle.std.specs.Prelude.{◌≡◌, ◌+◌, ◌<◌, ◌≤◌, ◌∷◌, ◌↔◌, [], All, IfSome, IsTrue, MatchOption, drop, length, not};
 ghost use Rattle.std.specs.List.{take_while};
 ghost use Rattle.std.specs.Str.{IsCharBoundary};
+ghost use Rattle.wgsl_requests.specs.internal.Lanes.{AllFrom};
 ghost use Rattle.wgsl_requests.specs.Words.{has_forbidden, is_forbidden, is_separator, words_of};
+
+use std::simd::prelude::*;
 
 /// The first word of a text, and the index after it.
 #[inline(always)]
@@ -58,18 +61,50 @@ fn is_separator(byte: u8) -> bool
 pub fn has_forbidden(bytes: &[u8]) -> bool
     ensures { result ≡ has_forbidden bytes.now }
 {
-    least(bytes) <= b'\n' && bytes.iter().any(|byte| is_forbidden(*byte))
+    !are_great(bytes) && bytes.iter().any(|byte| is_forbidden(*byte))
 }
 
-/// The least byte, or 255 if there is none. Several bytes are compared at a time.
-fn least(bytes: &[u8]) -> u8
-    ensures { All (λ byte. result ≤ byte) bytes.now }
+/// Whether each byte is greater than a line feed, as far as 16 or 8 can be compared at a time.
+fn are_great(bytes: &[u8]) -> bool
+    ensures { IsTrue result → All (λ byte. 10 < byte) bytes.now }
 {
-    let mut least = u8::MAX;
-    for byte in bytes {
-        least = least.min(*byte);
+    let len = bytes.len();
+    if len >= 16 {
+        are_great_up_to(bytes, len - 16) && sixteen_are_great(bytes, len - 16)
+    } else {
+        len >= 8 && eight_are_great(bytes, 0) && eight_are_great(bytes, len - 8)
     }
-    least
+}
+
+/// Whether each byte before the end is greater than a line feed. The bytes are compared 16 at a time.
+fn are_great_up_to(bytes: &[u8], end: usize) -> bool
+    requires { end + 16 ≤ length bytes.now }
+    ensures { IsTrue result → AllFrom (λ byte. 10 < byte) 0 end bytes.now }
+{
+    let mut at = 0;
+    while at < end {
+        if !sixteen_are_great(bytes, at) {
+            return false;
+        }
+        at += 16;
+    }
+    true
+}
+
+fn sixteen_are_great(bytes: &[u8], at: usize) -> bool
+    requires { at + 16 ≤ length bytes.now }
+    ensures { IsTrue result → AllFrom (λ byte. 10 < byte) at (at + 16) bytes.now }
+{
+    let small = u8x16::from_slice(&bytes[at..]).simd_le(u8x16::splat(b'\n'));
+    small.to_bitmask() == 0
+}
+
+fn eight_are_great(bytes: &[u8], at: usize) -> bool
+    requires { at + 8 ≤ length bytes.now }
+    ensures { IsTrue result → AllFrom (λ byte. 10 < byte) at (at + 8) bytes.now }
+{
+    let small = u8x8::from_slice(&bytes[at..]).simd_le(u8x8::splat(b'\n'));
+    small.to_bitmask() == 0
 }
 
 /// A line feed or a NUL.
