@@ -15,6 +15,7 @@ ghost use Rattle.wgsl_requests.specs.internal.Taken.{left};
 ghost use Rattle.wgsl_requests.specs.internal.Written.{Adds, IsRefusal, Shows};
 
 use crate::common::common_type;
+use crate::number::write_number;
 use crate::read::{read_last_type, read_pair, read_types};
 use crate::report::write_layout;
 use crate::template::read_template;
@@ -342,7 +343,7 @@ pub fn write_number_or_none(text: &mut String, number: Option<u32>) -> Result<()
     ensures { OnOk result (string_bytes text.new ≡ string_bytes text.old ++ number_or_none number) }
 {
     match number {
-        Some(number) => write!(text, "{number}"),
+        Some(number) => write_number(text, number),
         None => text.push_str("none"),
     }
 }
@@ -354,7 +355,7 @@ fn write_spaced(text: &mut String, numbers: &[u32]) -> Result<(), AllocError>
     let mut between = "";
     for number in numbers {
         text.push_str(between)?;
-        write!(text, "{number}")?;
+        write_number(text, *number)?;
         between = " ";
     }
     Ok(())
