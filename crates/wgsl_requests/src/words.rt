@@ -60,10 +60,8 @@ impl<'t> Words<'t> {
             (λ words. left words ≡ words_of request.now) }
         ensures text { OnSome result (All IsUtf8 (words_of request.now)) }
     {
-        match std::str::from_utf8(request) {
-            Ok(text) => Some(Words { text, taken: 0 }),
-            Err(_) => None,
-        }
+        let text = text_of(request)?;
+        Some(Words { text, taken: 0 })
     }
 
     /// The next word.
@@ -122,6 +120,20 @@ impl<'t> Words<'t> {
         ensures read { Reads (OneWord IsAttribute) (λ n. n) (left self.old) (left self.new) result }
     {
         attribute(self.next()?)
+    }
+}
+
+/// The bytes as a text, or `None` if they are not UTF-8. It is seen at once that they are if they are ASCII.
+fn text_of(bytes: &[u8]) -> Option<&str>
+    ensures { MatchOption result (¬ IsUtf8 bytes.now)
+        (λ text. (text.now ≡ bytes.now) × IsUtf8 bytes.now) }
+{
+    if bytes.is_ascii() {
+        return Some(unsafe { std::str::from_utf8_unchecked(bytes) });
+    }
+    match std::str::from_utf8(bytes) {
+        Ok(text) => Some(text),
+        Err(_) => None,
     }
 }
 
