@@ -5,6 +5,7 @@ pub mod command;
 pub mod common;
 pub mod laws;
 mod leaf;
+mod marks;
 mod number;
 mod outer;
 pub mod read;

@@ -1,10 +1,12 @@
 // The words of a command, taken one after another.
-ghost use Rattle.std.specs.Prelude.{◌≡◌, ◌<◌, ◌≤◌, ◌∷◌, ◌↔◌, [], All, Err, IsTrue, IsUtf8, MatchOption, MatchResult, Ok, OnOk, OnSome, length, slice_index};
+ghost use Rattle.std.specs.Prelude.{◌≡◌, ◌<◌, ◌≤◌, ◌∷◌, ◌↔◌, [], All, Err, IfSome, IsTrue, IsUtf8, MatchOption, MatchResult, Ok, OnOk, OnSome, drop, length, slice_index};
 ghost use Rattle.std.specs.Str.{IsCharBoundary};
 ghost use Rattle.wgsl_requests.specs.Numbers.{IsAttribute, IsCount, IsLong, IsMedium, IsSmall};
 ghost use Rattle.wgsl_requests.specs.Reading.{Answers, OneWord, Reads, ReadsWord};
 ghost use Rattle.wgsl_requests.specs.Words.{words_of};
+ghost use Rattle.wgsl_requests.specs.internal.Marks.{IsMarked, marks_of};
 
+use crate::marks::{first_marked, is_marked, marks};
 use crate::split::{first_word, is_blank};
 use std::alloc::{AllocError, AllocFailed};
 use std::str::FromStr;
@@ -43,9 +45,12 @@ impl<T: Drop> From<AllocFailed<T>> for Unread {
 #[derive(Drop)]
 pub struct Words<'t> {
     text: &'t str,
+    /// Which of its bytes belong to words, if they are marked.
+    marks: u64,
     taken: usize,
     ghost within: { taken ≤ length text.now },
     ghost boundary: { IsCharBoundary text.now taken },
+    ghost marked: { IsMarked text.now → marks ≡ marks_of text.now },
 }
 
 impl<'t> Words<'t> {
@@ -61,7 +66,29 @@ impl<'t> Words<'t> {
         ensures text { OnSome result (All IsUtf8 (words_of request.now)) }
     {
         let text = text_of(request)?;
-        Some(Words { text, taken: 0 })
+        let marks = marks(text);
+        Some(Words {
+            text,
+            marks,
+            taken: 0,
+        })
+    }
+
+    /// The first of the words that are left, and how many of the bytes that are left end with it.
+    #[inline(always)]
+    fn first_left(&self) -> Option<(&'t str, usize)>
+        ensures words { let rest = drop self.now.taken self.now.text.now in MatchOption result
+            (left self.now ≡ [])
+            (λ found. left self.now ≡ found.0.now ∷ words_of (drop found.1 rest)) }
+        ensures found { let rest = drop self.now.taken self.now.text.now in IfSome result
+            (λ found. IsCharBoundary rest found.1 × (0 < found.1) × (found.1 ≤ length rest)) }
+    {
+        let rest = &self.text[self.taken..];
+        if is_marked(self.text) {
+            first_marked(rest, self.marks >> self.taken)
+        } else {
+            first_word(rest)
+        }
     }
 
     /// The next word.
@@ -72,7 +99,7 @@ impl<'t> Words<'t> {
             (λ word. left self.old ≡ word.now ∷ left self.new)
             (λ e. left self.old ≡ []) }
     {
-        match first_word(&self.text[self.taken..]) {
+        match self.first_left() {
             Some((word, len)) => {
                 self.taken += len;
                 Ok(word)
@@ -85,7 +112,11 @@ impl<'t> Words<'t> {
     pub fn is_empty(&self) -> bool
         ensures { IsTrue result ↔ (left self.now ≡ []) }
     {
-        is_blank(&self.text[self.taken..])
+        if is_marked(self.text) {
+            self.marks >> self.taken == 0
+        } else {
+            is_blank(&self.text[self.taken..])
+        }
     }
 
     /// A number of members.

@@ -1,0 +1,88 @@
+// Texts whose bytes are marked, so that a word is found without a look at its bytes.
+ghost use Rattle.std.specs.Prelude.{◌≡◌, ◌+◌, ◌<◌, ◌≤◌, ◌∷◌, ◌↔◌, [], IfSome, IsTrue, MatchOption, drop, length};
+ghost use Rattle.std.specs.Simd.Lanes.{chunk};
+ghost use Rattle.std.specs.Str.{IsCharBoundary};
+ghost use Rattle.wgsl_requests.specs.Words.{words_of};
+ghost use Rattle.wgsl_requests.specs.internal.Marks.{IsMarked, marks_of};
+
+use std::simd::prelude::*;
+
+/// Whether the bytes of a text are marked: those of a text that is neither very short nor long.
+#[inline(always)]
+pub fn is_marked(text: &str) -> bool
+    ensures { IsTrue result ↔ IsMarked text.now }
+{
+    text.len() >= 8 && text.len() < 64
+}
+
+/// The first word of a text with these marks, and the index after it.
+#[inline(always)]
+pub fn first_marked(text: &str, marks: u64) -> Option<(&str, usize)>
+    requires short { length text.now < 64 }
+    requires marked { marks ≡ marks_of text.now }
+    ensures words { MatchOption result
+        (words_of text.now ≡ [])
+        (λ found. words_of text.now ≡ found.0.now ∷ words_of (drop found.1 text.now)) }
+    ensures boundary { IfSome result (λ found. IsCharBoundary text.now found.1) }
+    ensures some { IfSome result (λ found. 0 < found.1) }
+    ensures within { IfSome result (λ found. found.1 ≤ length text.now) }
+{
+    if marks == 0 {
+        return None;
+    }
+    let gap = marks.trailing_zeros() as usize;
+    let rest = &text[gap..];
+    let len = (marks >> gap).trailing_ones() as usize;
+    Some((&rest[..len], gap + len))
+}
+
+/// The marks of a text, if it is marked.
+pub fn marks(text: &str) -> u64
+    ensures { IsMarked text.now → result ≡ marks_of text.now }
+{
+    if is_marked(text) {
+        marks_of(text.as_bytes())
+    } else {
+        0
+    }
+}
+
+/// The marks of some bytes. Several are compared at a time, and some of them twice.
+fn marks_of(bytes: &[u8]) -> u64
+    requires { IsMarked bytes.now }
+    ensures { result ≡ marks_of bytes.now }
+{
+    let len = bytes.len();
+    if len < 16 {
+        return eight_marks(bytes, 0) | eight_marks(bytes, len - 8) << (len - 8);
+    }
+    let mut marks = sixteen_marks(bytes, len - 16) << (len - 16);
+    let mut at = 0;
+    while at < len - 16 {
+        marks |= sixteen_marks(bytes, at) << at;
+        at += 16;
+    }
+    marks
+}
+
+/// The marks of 16 bytes.
+fn sixteen_marks(bytes: &[u8], at: usize) -> u64
+    requires { at + 16 ≤ length bytes.now }
+    ensures { result ≡ marks_of (chunk at 16 bytes.now) }
+{
+    let lanes = u8x16::from_slice(&bytes[at..]);
+    lanes.simd_ne(u8x16::splat(b' ')).to_bitmask()
+        & lanes.simd_ne(u8x16::splat(b'\t')).to_bitmask()
+        & lanes.simd_ne(u8x16::splat(b'\r')).to_bitmask()
+}
+
+/// The marks of 8 bytes.
+fn eight_marks(bytes: &[u8], at: usize) -> u64
+    requires { at + 8 ≤ length bytes.now }
+    ensures { result ≡ marks_of (chunk at 8 bytes.now) }
+{
+    let lanes = u8x8::from_slice(&bytes[at..]);
+    lanes.simd_ne(u8x8::splat(b' ')).to_bitmask()
+        & lanes.simd_ne(u8x8::splat(b'\t')).to_bitmask()
+        & lanes.simd_ne(u8x8::splat(b'\r')).to_bitmask()
+}
