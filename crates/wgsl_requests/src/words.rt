@@ -59,6 +59,7 @@ impl<'t> Words<'t> {
     /// The words of a request, or `None` if it is not UTF-8.
     ///
     /// Only ASCII separates words, so a request is UTF-8 if each of its words is.
+    #[inline(always)]
     pub fn of(request: &'t [u8]) -> Option<Words<'t>>
         ensures words { MatchOption result
             (¬ All IsUtf8 (words_of request.now))
