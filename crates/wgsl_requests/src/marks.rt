@@ -5,7 +5,7 @@ ghost use Rattle.std.specs.Str.{IsCharBoundary};
 ghost use Rattle.wgsl_requests.specs.Words.{words_of};
 ghost use Rattle.wgsl_requests.specs.internal.Marks.{IsMarked, marks_of};
 
-use std::simd::prelude::*;
+use std::simd::Simd;
 
 /// Whether the bytes of a text are marked: those of a text that is neither very short nor long.
 #[inline(always)]
@@ -54,35 +54,25 @@ fn marks_of(bytes: &[u8]) -> u64
 {
     let len = bytes.len();
     if len < 16 {
-        return eight_marks(bytes, 0) | eight_marks(bytes, len - 8) << (len - 8);
+        return next_marks::<8>(bytes, 0) | next_marks::<8>(bytes, len - 8) << (len - 8);
     }
-    let mut marks = sixteen_marks(bytes, len - 16) << (len - 16);
+    let mut marks = next_marks::<16>(bytes, len - 16) << (len - 16);
     let mut at = 0;
     while at < len - 16 {
-        marks |= sixteen_marks(bytes, at) << at;
+        marks |= next_marks::<16>(bytes, at) << at;
         at += 16;
     }
     marks
 }
 
-/// The marks of 16 bytes.
-fn sixteen_marks(bytes: &[u8], at: usize) -> u64
-    requires { at + 16 ≤ length bytes.now }
-    ensures { result ≡ marks_of (chunk at 16 bytes.now) }
+/// The marks of N bytes.
+fn next_marks<const N: usize>(bytes: &[u8], at: usize) -> u64
+    requires few { (0 < N) × (N ≤ 64) }
+    requires room { at + N ≤ length bytes.now }
+    ensures { result ≡ marks_of (chunk at N bytes.now) }
 {
-    let lanes = u8x16::from_slice(&bytes[at..]);
-    lanes.simd_ne(u8x16::splat(b' ')).to_bitmask()
-        & lanes.simd_ne(u8x16::splat(b'\t')).to_bitmask()
-        & lanes.simd_ne(u8x16::splat(b'\r')).to_bitmask()
-}
-
-/// The marks of 8 bytes.
-fn eight_marks(bytes: &[u8], at: usize) -> u64
-    requires { at + 8 ≤ length bytes.now }
-    ensures { result ≡ marks_of (chunk at 8 bytes.now) }
-{
-    let lanes = u8x8::from_slice(&bytes[at..]);
-    lanes.simd_ne(u8x8::splat(b' ')).to_bitmask()
-        & lanes.simd_ne(u8x8::splat(b'\t')).to_bitmask()
-        & lanes.simd_ne(u8x8::splat(b'\r')).to_bitmask()
+    let lanes = Simd::<u8, N>::from_slice(&bytes[at..]);
+    lanes.simd_ne(Simd::splat(b' ')).to_bitmask()
+        & lanes.simd_ne(Simd::splat(b'\t')).to_bitmask()
+        & lanes.simd_ne(Simd::splat(b'\r')).to_bitmask()
 }

@@ -5,7 +5,7 @@ ghost use Rattle.std.specs.Str.{IsCharBoundary};
 ghost use Rattle.wgsl_requests.specs.internal.Lanes.{AllFrom};
 ghost use Rattle.wgsl_requests.specs.Words.{has_forbidden, is_forbidden, is_separator, words_of};
 
-use std::simd::prelude::*;
+use std::simd::Simd;
 
 /// The first word of a text, and the index after it.
 #[inline(always)]
@@ -70,9 +70,9 @@ fn are_great(bytes: &[u8]) -> bool
 {
     let len = bytes.len();
     if len >= 16 {
-        are_great_up_to(bytes, len - 16) && sixteen_are_great(bytes, len - 16)
+        are_great_up_to(bytes, len - 16) && next_are_great::<16>(bytes, len - 16)
     } else {
-        len >= 8 && eight_are_great(bytes, 0) && eight_are_great(bytes, len - 8)
+        len >= 8 && next_are_great::<8>(bytes, 0) && next_are_great::<8>(bytes, len - 8)
     }
 }
 
@@ -83,7 +83,7 @@ fn are_great_up_to(bytes: &[u8], end: usize) -> bool
 {
     let mut at = 0;
     while at < end {
-        if !sixteen_are_great(bytes, at) {
+        if !next_are_great::<16>(bytes, at) {
             return false;
         }
         at += 16;
@@ -91,19 +91,13 @@ fn are_great_up_to(bytes: &[u8], end: usize) -> bool
     true
 }
 
-fn sixteen_are_great(bytes: &[u8], at: usize) -> bool
-    requires { at + 16 ≤ length bytes.now }
-    ensures { IsTrue result → AllFrom (λ byte. 10 < byte) at (at + 16) bytes.now }
+/// Whether each of the next N bytes is greater than a line feed.
+fn next_are_great<const N: usize>(bytes: &[u8], at: usize) -> bool
+    requires few { (0 < N) × (N ≤ 64) }
+    requires room { at + N ≤ length bytes.now }
+    ensures { IsTrue result → AllFrom (λ byte. 10 < byte) at (at + N) bytes.now }
 {
-    let small = u8x16::from_slice(&bytes[at..]).simd_le(u8x16::splat(b'\n'));
-    small.to_bitmask() == 0
-}
-
-fn eight_are_great(bytes: &[u8], at: usize) -> bool
-    requires { at + 8 ≤ length bytes.now }
-    ensures { IsTrue result → AllFrom (λ byte. 10 < byte) at (at + 8) bytes.now }
-{
-    let small = u8x8::from_slice(&bytes[at..]).simd_le(u8x8::splat(b'\n'));
+    let small = Simd::<u8, N>::from_slice(&bytes[at..]).simd_le(Simd::splat(b'\n'));
     small.to_bitmask() == 0
 }
 

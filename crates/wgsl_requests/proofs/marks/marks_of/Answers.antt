@@ -7,8 +7,8 @@ returns-then-len-lt16 c =
     let bytes = c.args.bytes.now in
     let start = length bytes - 8 in
     let short = c.requires.1 in
-    let first = c.eight_marks.ensures in
-    let last = c.eight_marks-then-len-lt16.ensures in
+    let first = c.next_marks.ensures in
+    let last = c.next_marks-then-len-lt16.ensures in
     let front = within_front bytes 8 _ c.requires.0 short first in
     let back = within_back bytes 8 _ c.requires.0 short last in
     all_marked bytes _ (within_or bytes _ _ front back)
@@ -22,9 +22,9 @@ loop-at-init c =
     let bytes = c.args.bytes.now in
     let short = c.requires.1 in
     record {
-      within = within_back bytes 16 _ c.if-len-lt16.false short c.sixteen_marks.ensures;
+      within = within_back bytes 16 _ c.if-len-lt16.false short c.next_marks-2.ensures;
       first = covers_nothing bytes _ 0;
-      last = covers_back bytes 16 _ c.if-len-lt16.false short c.sixteen_marks.ensures;
+      last = covers_back bytes 16 _ c.if-len-lt16.false short c.next_marks-2.ensures;
     }
 
 pub loop-at-preserved : goal.loop-at-preserved
@@ -34,7 +34,7 @@ loop-at-preserved c =
     let short = c.requires.1 in
     let room : at + 16 ≤ length bytes = omega (arith, c.loop-at-test.true) in
     let all = c.loop-at.invariant in
-    let here = c.sixteen_marks-in-loop-at.ensures in
+    let here = c.next_marks-in-loop-at.ensures in
     let next = within_placed bytes at 16 _ room short here in
     record {
       within = within_or bytes _ _ all.within next;
