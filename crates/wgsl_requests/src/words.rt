@@ -66,13 +66,14 @@ impl<'t> Words<'t> {
             (λ words. left words ≡ words_of request.now) }
         ensures text { OnSome result (All IsUtf8 (words_of request.now)) }
     {
-        let text = text_of(request)?;
-        let marks = marks(text);
-        Some(Words {
-            text,
-            marks,
-            taken: 0,
-        })
+        match std::str::from_utf8(request) {
+            Ok(text) => Some(Words {
+                text,
+                marks: marks(text),
+                taken: 0,
+            }),
+            Err(_) => None,
+        }
     }
 
     /// The first of the words that are left, and how many of the bytes that are left end with it.
@@ -152,20 +153,6 @@ impl<'t> Words<'t> {
         ensures read { Reads (OneWord IsAttribute) (λ n. n) (left self.old) (left self.new) result }
     {
         attribute(self.next()?)
-    }
-}
-
-/// The bytes as a text, or `None` if they are not UTF-8. It is seen at once that they are if they are ASCII.
-fn text_of(bytes: &[u8]) -> Option<&str>
-    ensures { MatchOption result (¬ IsUtf8 bytes.now)
-        (λ text. (text.now ≡ bytes.now) × IsUtf8 bytes.now) }
-{
-    if bytes.is_ascii() {
-        return Some(unsafe { std::str::from_utf8_unchecked(bytes) });
-    }
-    match std::str::from_utf8(bytes) {
-        Ok(text) => Some(text),
-        Err(_) => None,
     }
 }
 

@@ -4,10 +4,10 @@ use Rattle.wgsl_requests.proofs.Cuts.{text_of_words}
 use Rattle.wgsl_requests.proofs.words.Words.of.Goals as goal
 
 pub invariant_of-result-clause-boundary : goal.invariant_of-result-clause-boundary
-invariant_of-result-clause-boundary c = IsCharBoundary-start _ (subst IsUtf8 (sym c.in_ok-text.ensures.0) c.in_ok-text.ensures.1)
+invariant_of-result-clause-boundary c = IsCharBoundary-start c.in-Ok.text.now (subst IsUtf8 (sym c.in-Ok.ensures.cases.0) c.in-Ok.ensures.cases.1)
 
-pub returns-clause-text : goal.returns-clause-text
-returns-clause-text c = (text_of_words _).0 c.in_ok-text.ensures.1
+pub returns-in-Ok-clause-text : goal.returns-in-Ok-clause-text
+returns-in-Ok-clause-text c = (text_of_words _).0 c.in-Ok.ensures.cases.1
 
-pub returns-in_err-text-clause-words : goal.returns-in_err-text-clause-words
-returns-in_err-text-clause-words c = rw c.from_residual.ensures (λ all. c.in_err-text.ensures ((text_of_words _).1 all))
+pub returns-in-Err-clause-words : goal.returns-in-Err-clause-words
+returns-in-Err-clause-words c = λ all. c.in-Err.ensures.cases.0 ((text_of_words _).1 all)
