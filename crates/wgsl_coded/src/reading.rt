@@ -154,6 +154,7 @@ fn read_struct(alloc: Global, words: &[u32], depth: u8) -> Result<(StructType, &
     Ok((StructType { name, members }, rest))
 }
 
+/// That many members. One takes five words at least, so there is never more room than the words can fill.
 #[cycle(read)]
 fn read_members(
     alloc: Global,
