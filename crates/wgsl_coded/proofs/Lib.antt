@@ -4,6 +4,8 @@ pub mod Levels
 pub mod Written
 pub mod Decoded
 pub mod Placed
+pub mod Ascii
+pub mod LaidOut
 pub mod Replied
 pub mod InOrder
 pub mod Deep

@@ -1,7 +1,9 @@
 pub mod Reads
 pub mod Levels
 pub mod Members
+pub mod Names
 pub mod Requests
 pub mod Replies
 pub mod Seen
 pub mod Within
+pub mod Layouts

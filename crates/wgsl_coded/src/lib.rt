@@ -13,6 +13,7 @@ mod literals;
 mod names;
 mod numbers;
 mod operators;
+mod placing;
 mod reading;
 mod refusals;
 mod reply;

@@ -1,9 +1,10 @@
 // Names.
-ghost use Rattle.std.specs.Prelude.{◌≡◌, ◌++◌, IfOk, OnOk, length, string_bytes};
+ghost use Rattle.std.specs.Prelude.{◌≡◌, ◌∷◌, ◌++◌, [], IfOk, IfSome, IsTrue, OnOk, length, string_bytes};
 ghost use Rattle.std.specs.List.{flat_map};
 ghost use Rattle.std.specs.Str.{bytes_eq};
 ghost use Rattle.wgsl_rules.specs.codes.Words.{bytes, name_code, packed};
 ghost use Rattle.wgsl_rules.specs.codes.Reading.{name_at, text_at, text_of, word_count};
+ghost use Rattle.wgsl_coded.specs.Names.{IsAsciiText, IsNamed};
 ghost use Rattle.wgsl_coded.specs.Reads.{Reads};
 
 use crate::fault::Fault;
@@ -90,6 +91,59 @@ pub(crate) fn read_name(alloc: Global, words: &[u32]) -> Result<(String, &[u32])
         Some((len, rest)) => read_text(alloc, len, rest),
         None => Err(Fault::NoType),
     }
+}
+
+/// Whether the first bytes of the word are ASCII, so many, and the others 0.
+fn is_ascii(count: usize, word: u32) -> bool
+    ensures { IsTrue result → IsAsciiText count (word ∷ []) [] }
+{
+    let [a, b, c, d] = word.to_le_bytes();
+    if a.max(b).max(c).max(d) >= 128 {
+        return false;
+    }
+    match count {
+        1 => word == word_of(a, 0, 0, 0),
+        2 => word == word_of(a, b, 0, 0),
+        3 => word == word_of(a, b, c, 0),
+        _ => count == 4,
+    }
+}
+
+/// The words after a text of that many bytes, if it is ASCII.
+fn after_ascii(count: usize, words: &[u32]) -> Option<&[u32]>
+    ensures { IfSome result (λ rest. IsAsciiText count words.now rest.now) }
+{
+    let mut left = count;
+    let mut rest = words;
+    while left > 4 {
+        let [word, after @ ..] = rest else {
+            return None;
+        };
+        if !is_ascii(4, *word) {
+            return None;
+        }
+        left -= 4;
+        rest = after;
+    }
+    if left == 0 {
+        return Some(rest);
+    }
+    let [word, after @ ..] = rest else {
+        return None;
+    };
+    if is_ascii(left, *word) {
+        Some(after)
+    } else {
+        None
+    }
+}
+
+/// The words after a name, if it is ASCII. Nothing is allocated.
+pub(crate) fn after_ascii_name(words: &[u32]) -> Option<&[u32]>
+    ensures { IfSome result (λ rest. IsNamed words.now rest.now) }
+{
+    let (count, rest) = read_number(words)?;
+    after_ascii(count, rest)
 }
 
 /// Writes bytes at the end, four in a word.

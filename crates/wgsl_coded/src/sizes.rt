@@ -9,6 +9,7 @@ ghost use Rattle.wgsl_coded.specs.Seen.{reply_words, seen, size_words};
 use crate::coded::read_whole;
 use crate::fault::Fault;
 use crate::numbers::write_number;
+use crate::placing::layout_while_reading;
 use crate::reply::Reply;
 use std::alloc::{AllocError, Global};
 use wgsl_core::layout::{PlacedMember, StructLayout};
@@ -35,6 +36,15 @@ pub fn size(alloc: Global, request: &[u32]) -> Result<SizeAndAlign, Fault>
 
 /// The layout of a struct, refused without words if it has none. The request is the struct.
 pub fn layout(alloc: Global, request: &[u32]) -> Result<Reply, Fault>
+    ensures { IsLayoutReply request.now (seen reply_words result) }
+{
+    match layout_while_reading(alloc, request)? {
+        Some(words) => Ok(Reply::Answer(words)),
+        None => layout_of_type(alloc, request),
+    }
+}
+
+fn layout_of_type(alloc: Global, request: &[u32]) -> Result<Reply, Fault>
     ensures { IsLayoutReply request.now (seen reply_words result) }
 {
     let ty = read_whole(alloc, request)?;

@@ -1,0 +1,90 @@
+-- Texts in ASCII are read word by word.
+use Rattle.std.proofs.Common.{◌≡◌, ℕ, zero, suc, ◌<◌, ◌≤◌, ◌-◌, ◌^◌, List, [], ◌∷◌, ◌++◌, Option, Some, None, IfSome, refl, sym, ap, subst, ◌∙◌, arith, length, get_or, take, drop}
+use Rattle.std.specs.Prelude.{IsAscii}
+use Rattle.std.specs.Int.{w32, to_le_bytes}
+use Rattle.std.proofs.Math.Seq.{take-length}
+use Rattle.std.proofs.lemmas.Nat.{from_le_bytes-to_le_bytes_4}
+use Rattle.std.proofs.lemmas.Str.{IsUtf8-from_ascii}
+use Rattle.wgsl_rules.specs.codes.Words.{name_code, number, packed, word}
+use Rattle.wgsl_rules.specs.codes.Reading.{name_at, number_at}
+use Rattle.wgsl_rules.proofs.codes.Names.{name_again}
+use Rattle.wgsl_rules.proofs.codes.Numbers.{AreWords, number_is, number_fits}
+use Rattle.wgsl_coded.specs.Names.{IsAsciiText, IsNamed}
+
+no_ascii : IsAscii []
+no_ascii i = omega arith
+
+ascii_more : (b : ℕ) (bs : List ℕ) → b < 128 → IsAscii bs → IsAscii (b ∷ bs)
+ascii_more b bs h more zero = h
+ascii_more b bs h more (suc i) = more i
+
+ascii_one : (a : ℕ) → a < 128 → IsAscii (a ∷ [])
+ascii_one a h = ascii_more a [] h no_ascii
+
+ascii_two : (a b : ℕ) → a < 128 → b < 128 → IsAscii (a ∷ b ∷ [])
+ascii_two a b h k = ascii_more a (b ∷ []) h (ascii_one b k)
+
+ascii_three : (a b c : ℕ) → a < 128 → b < 128 → c < 128 → IsAscii (a ∷ b ∷ c ∷ [])
+ascii_three a b c h k l = ascii_more a (b ∷ c ∷ []) h (ascii_two b c k l)
+
+pub four_bytes : (w : ℕ) (bs : List ℕ) → w < 2 ^ 32 → bs ≡ to_le_bytes w32 w → get_or bs 0 0 < 128 → get_or bs 1 0 < 128 → get_or bs 2 0 < 128 → get_or bs 3 0 < 128 →
+    IsAsciiText 4 (w ∷ []) []
+unfolding word
+four_bytes w bs fits e h k l m =
+    let text : List ℕ = get_or bs 0 0 ∷ get_or bs 1 0 ∷ get_or bs 2 0 ∷ get_or bs 3 0 ∷ [] in
+    record {
+      text = text;
+      ascii = ascii_more (get_or bs 0 0) (get_or bs 1 0 ∷ get_or bs 2 0 ∷ get_or bs 3 0 ∷ []) h (ascii_three (get_or bs 1 0) (get_or bs 2 0) (get_or bs 3 0) k l m);
+      long = refl;
+      spelled = ap (λ v. v ∷ []) (rw e (sym (from_le_bytes-to_le_bytes_4 w fits)));
+    }
+
+-- nothing is left to read
+pub no_text_left : (ws : List ℕ) → IsAsciiText 0 ws ws
+no_text_left ws = record { text = []; ascii = no_ascii; long = refl; spelled = refl }
+
+-- the last word of a text, and what follows it
+pub last_word : (n w : ℕ) (ws : List ℕ) → IsAsciiText n (w ∷ []) [] → IsAsciiText n (w ∷ ws) ws
+last_word n w ws h = record { text = h.text; ascii = h.ascii; long = h.long; spelled = ends (packed h.text) h.spelled }
+  where
+    ends : (front : List ℕ) → w ∷ [] ≡ front ++ [] → w ∷ ws ≡ front ++ ws
+    ends [] e = absurd (cc e)
+    ends (v ∷ []) e = ap (λ vs. vs ++ ws) e
+    ends (v ∷ u ∷ front) e = absurd (cc e)
+
+-- a word of four bytes, and the text after it
+pub next_word : (n w : ℕ) (ws rest : List ℕ) → 4 ≤ n → IsAsciiText 4 (w ∷ []) [] → IsAsciiText (n - 4) ws rest → IsAsciiText n (w ∷ ws) rest
+next_word n w ws rest h first more = joined first.text first.ascii first.long first.spelled
+  where
+    joined : (text : List ℕ) → IsAscii text → length text ≡ 4 → w ∷ [] ≡ packed text ++ [] → IsAsciiText n (w ∷ ws) rest
+    joined (a ∷ b ∷ c ∷ d ∷ []) ascii long e = record {
+      text = a ∷ b ∷ c ∷ d ∷ more.text;
+      ascii = ascii_more a (b ∷ c ∷ d ∷ more.text) (ascii 0) (ascii_more b (c ∷ d ∷ more.text) (ascii 1) (ascii_more c (d ∷ more.text) (ascii 2) (ascii_more d more.text (ascii 3) more.ascii)));
+      long = omega (arith, more.long);
+      spelled = ap (λ vs. vs ++ ws) e ∙ ap (λ vs. word a b c d ∷ vs) more.spelled;
+    }
+    joined [] ascii long e = absurd (omega (arith, long))
+    joined (a ∷ []) ascii long e = absurd (omega (arith, long))
+    joined (a ∷ b ∷ []) ascii long e = absurd (omega (arith, long))
+    joined (a ∷ b ∷ c ∷ []) ascii long e = absurd (omega (arith, long))
+    joined (a ∷ b ∷ c ∷ d ∷ f ∷ text) ascii long e = absurd (omega (arith, long))
+
+-- the first word of words and the others, as a slice has them
+pub next_in : (n : ℕ) (ws end : List ℕ) → 4 ≤ n → 0 < length ws → IsAsciiText 4 (get_or ws 0 0 ∷ []) [] → IsAsciiText (n - 4) (take (length ws - 1) (drop 1 ws)) end → IsAsciiText n ws end
+next_in n [] end h some first more = absurd (omega (arith, some))
+next_in n (w ∷ ws) end h some first more =
+    let len : length (w ∷ ws) - 1 ≡ length ws = omega arith in
+    let rest : take (length (w ∷ ws) - 1) (drop 1 (w ∷ ws)) ≡ ws = ap (λ k. take k ws) len ∙ take-length ws in
+    next_word n w ws end h first (subst (λ vs. IsAsciiText (n - 4) vs end) rest more)
+
+-- a text in ASCII after its length is a name
+pub ascii_named : (n : ℕ) (ws inside rest : List ℕ) → AreWords ws → number_at ws ≡ Some (n, inside) → IsAsciiText n inside rest → IsNamed ws rest
+unfolding name_code
+ascii_named n ws inside rest words e h =
+    let front = number_is ws (n, inside) words e in
+    let whole : ws ≡ name_code h.text ++ rest = front.0 ∙ ap (λ vs. number n ++ vs) h.spelled ∙ rw h.long refl in
+    (h.text, ap name_at whole ∙ name_again h.text rest (record { bytes = λ i. omega (arith, h.ascii i); utf8 = IsUtf8-from_ascii h.text h.ascii; short = omega (arith, h.long, number_fits ws (n, inside) words e) }))
+
+pub if_some : {A : Type 0} (P Q : A → Type 0) (o : Option A) → ((a : A) → P a → Q a) → IfSome o P → IfSome o Q
+if_some P Q None f h = tt
+if_some P Q (Some a) f h = f a h

@@ -1,0 +1,33 @@
+-- Structs whose members are laid out as they are read.
+use Rattle.std.specs.Prelude.{◌≡◌, ℕ, List, [], ◌++◌, Some, length}
+use Rattle.wgsl_rules.specs.types.Types.{struct, Members}
+use Rattle.wgsl_rules.specs.codes.Reading.{◌>>=◌}
+use Rattle.wgsl_rules.specs.codes.Decoding.{decode, members_at}
+use Rattle.wgsl_rules.specs.layout.Placement.{MemberLayout}
+use Rattle.wgsl_rules.specs.layout.Layout.{HasSize, HasAlignment, IsGiven, IsStructLayout}
+use Rattle.wgsl_core.specs.View.{Member}
+use Rattle.wgsl_coded.specs.Members.{member_at}
+use Rattle.wgsl_coded.specs.Replies.{member_words}
+
+-- the words are a struct's if the rest begins with so many members
+abbrev pub IsStructHead : List ℕ → ℕ → List ℕ → Type 0
+IsStructHead ws count rest = (name : List ℕ) × (decode 255 ws
+    ≡ (members_at (decode 254) count rest >>= λ ms. Some (struct name ms.0, ms.1)))
+
+-- the words begin with a member of that size and that alignment, and then comes the rest
+pub record IsSizedMember (ws : List ℕ) (layout : MemberLayout) (rest : List ℕ) : Type 0 where
+  pub member : Member
+  pub read : member_at (decode 254) ws ≡ Some (member, rest)
+  pub size : IsGiven member.size (HasSize member.ty) layout.size
+  pub align : IsGiven member.align (HasAlignment member.ty) layout.align
+
+-- All of the words are so many members. The words of their layouts are written after the old ones,
+-- and the struct has that size and that alignment.
+pub record AreLaidOut (count : ℕ) (ws old new : List ℕ) (size align : ℕ) : Type 0 where
+  pub members : Members
+  pub read : members_at (decode 254) count ws ≡ Some (members, [])
+  pub layouts : List MemberLayout
+  pub offsets : List ℕ
+  pub laid_out : IsStructLayout members layouts offsets size align
+  pub one_each : length layouts ≡ count
+  pub written : new ≡ old ++ member_words layouts offsets
