@@ -42,12 +42,14 @@ fn write_size(found: SizeAndAlign, room: &mut [u32], len: &mut usize) -> u8
 }
 
 /// Hands over the words of a reply.
+#[inline(always)]
 pub fn hand_over_reply(reply: &Result<Reply, Fault>, room: &mut [u32], len: &mut usize) -> u8
     ensures reply { IsHandedReply (seen reply_words reply.now) room.old room.new len.new result }
     ensures room { IsRoomKept room.old room.new len.new result }
 {
     match reply {
         Ok(Reply::Answer(words)) => hand_over_items(ANSWERED, words, room, len),
+        Ok(Reply::Short(words)) => hand_over_items(ANSWERED, words.as_slice(), room, len),
         Ok(Reply::Refusal(words)) => hand_over_items(RULED_OUT, words, room, len),
         Err(fault) => hand_over_fault(*fault, len),
     }

@@ -4,6 +4,7 @@ pub mod Members
 pub mod Names
 pub mod Requests
 pub mod Replies
+pub mod Short
 pub mod Seen
 pub mod Within
 pub mod Layouts

@@ -9,8 +9,9 @@ use Rattle.wgsl_coded.specs.declared.fault.Fault.{Fault}
 use Rattle.wgsl_coded.specs.declared.fault.Fault.TheVariants.{Memory}
 use Rattle.wgsl_coded.specs.declared.sizes.SizeAndAlign.{SizeAndAlign}
 use Rattle.wgsl_coded.specs.declared.reply.Reply.{Reply}
-use Rattle.wgsl_coded.specs.declared.reply.Reply.TheVariants.{Answer, Refusal}
+use Rattle.wgsl_coded.specs.declared.reply.Reply.TheVariants.{Answer, Short, Refusal}
 use Rattle.wgsl_coded.specs.Replies.{ReplyWords, answered, refused}
+use Rattle.wgsl_coded.specs.Short.{short_items}
 
 -- what a call returned, its value seen as words
 abbrev pub seen : {X : Type 0} → (X → ReplyWords) → Result X Fault → Result ReplyWords Fault
@@ -29,6 +30,7 @@ size_words s = answered (attribute s.size ++ attribute s.align)
 -- the words of a reply
 abbrev pub reply_words : Reply → ReplyWords
 reply_words (Answer words) = answered words.items
+reply_words (Short words) = answered (short_items words)
 reply_words (Refusal words) = refused words.items
 
 -- the reply to a refusal of the library; out of memory is a fault
@@ -40,6 +42,7 @@ RepliesWithRefusal fail reply = ⊥
 -- the reply to an answer of the library, whose words are these, or to a refusal
 abbrev pub RepliesWith : {A : Type 0} → (A → List ℕ) → Result A Fail → Result Reply Fault → Type 0
 RepliesWith words (Ok a) (Ok (Answer ws)) = ws.items ≡ words a
+RepliesWith words (Ok a) (Ok (Short ws)) = short_items ws ≡ words a
 RepliesWith words (Ok a) (Err Memory) = Unit {0}
 RepliesWith words (Ok a) reply = ⊥
 RepliesWith words (Err fail) reply = RepliesWithRefusal fail reply

@@ -7,7 +7,7 @@ ghost use Rattle.wgsl_coded.specs.Replies.{IsCommonReply, IsCommonType, IsRankRe
 ghost use Rattle.wgsl_coded.specs.Seen.{rank_words, reply_words, seen};
 
 use crate::fault::Fault;
-use crate::reply::{Reply, words_of_type};
+use crate::reply::{Reply, reply_with_code};
 use crate::requests::{read_all_types, read_two, read_two_scalars};
 use std::alloc::Global;
 use wgsl_core::conversion::conversion_rank;
@@ -55,7 +55,7 @@ fn common_of_types(alloc: Global, types: &[Type]) -> Result<Reply, Fault>
     ensures { IsReplyTo (Some (map view types.now)) IsCommonType (seen reply_words result) }
 {
     match common_of(types) {
-        Some(common) => Ok(Reply::Answer(words_of_type(alloc, common)?)),
+        Some(common) => Ok(reply_with_code(alloc, common)?),
         None => Ok(Reply::Refusal(Vec::new(alloc))),
     }
 }

@@ -4,11 +4,12 @@ ghost use Rattle.wgsl_rules.specs.codes.Codes.{code};
 ghost use Rattle.wgsl_rules.specs.codes.Refusals.{refusal_code};
 ghost use Rattle.wgsl_core.specs.Answer.{refusal};
 ghost use Rattle.wgsl_core.specs.View.{view};
-ghost use Rattle.wgsl_coded.specs.Replies.{value_words};
-ghost use Rattle.wgsl_coded.specs.Seen.{RepliesWith, RepliesWithRefusal};
+ghost use Rattle.wgsl_coded.specs.Replies.{answered, value_words};
+ghost use Rattle.wgsl_coded.specs.Seen.{RepliesWith, RepliesWithRefusal, reply_words};
 
 use crate::fault::Fault;
 use crate::refusals::write_error;
+use crate::short::{ShortWords, short_code};
 use crate::writing::write;
 use std::alloc::{AllocError, Global};
 use wgsl_core::error::{Error, Fail};
@@ -19,6 +20,8 @@ use wgsl_core::ty::Type;
 pub enum Reply {
     /// The answer.
     Answer(Vec<u32>),
+    /// The answer, if it is short.
+    Short(ShortWords),
     /// The code of the refusal; no words where there is nothing to say but no.
     Refusal(Vec<u32>),
 }
@@ -29,9 +32,9 @@ pub(crate) fn reply_with_type(alloc: Global, answer: Result<Type, Fail>) -> Resu
 {
     match answer {
         Ok(ty) => {
-            let words = words_of_type(alloc, &ty);
+            let reply = reply_with_code(alloc, &ty);
             drop(ty);
-            Ok(Reply::Answer(words?))
+            Ok(reply?)
         }
         Err(fail) => reply_with_refusal(alloc, fail),
     }
@@ -46,9 +49,9 @@ pub(crate) fn reply_with_value(
 {
     match answer {
         Ok(value) => {
-            let words = words_of_value(alloc, &value);
+            let reply = reply_with_value_code(alloc, &value);
             drop(value);
-            Ok(Reply::Answer(words?))
+            Ok(reply?)
         }
         Err(fail) => reply_with_refusal(alloc, fail),
     }
@@ -75,7 +78,7 @@ pub(crate) fn new_words(alloc: Global) -> Result<Vec<u32>, AllocError>
 }
 
 #[inline(always)]
-pub(crate) fn words_of_type(alloc: Global, ty: &Type) -> Result<Vec<u32>, AllocError>
+fn words_of_type(alloc: Global, ty: &Type) -> Result<Vec<u32>, AllocError>
     ensures { IfOk result (λ words. words.items ≡ code (view ty.now)) }
 {
     let mut words = new_words(alloc)?;
@@ -83,12 +86,23 @@ pub(crate) fn words_of_type(alloc: Global, ty: &Type) -> Result<Vec<u32>, AllocE
     Ok(words)
 }
 
-fn words_of_value(alloc: Global, value: &Option<Type>) -> Result<Vec<u32>, AllocError>
-    ensures { IfOk result (λ words. words.items ≡ value_words (option_map view value.now)) }
+#[inline(always)]
+pub(crate) fn reply_with_code(alloc: Global, ty: &Type) -> Result<Reply, AllocError>
+    ensures { IfOk result (λ reply. reply_words reply ≡ answered (code (view ty.now))) }
+{
+    match short_code(ty) {
+        Some(words) => Ok(Reply::Short(words)),
+        None => Ok(Reply::Answer(words_of_type(alloc, ty)?)),
+    }
+}
+
+fn reply_with_value_code(alloc: Global, value: &Option<Type>) -> Result<Reply, AllocError>
+    ensures { IfOk result (λ reply. reply_words reply
+        ≡ answered (value_words (option_map view value.now))) }
 {
     match value {
-        Some(ty) => words_of_type(alloc, ty),
-        None => Ok(Vec::new(alloc)),
+        Some(ty) => reply_with_code(alloc, ty),
+        None => Ok(Reply::Short(ShortWords::new())),
     }
 }
 

@@ -18,7 +18,7 @@ use wgsl_syntax::code::{Counted, Head, LeafType, Wrapper};
 use wgsl_syntax::scalar::Scalar;
 
 #[inline(always)]
-pub(crate) fn write_head(out: &mut Vec<u32>, head: Head) -> Result<(), AllocError>
+fn write_head(out: &mut Vec<u32>, head: Head) -> Result<(), AllocError>
     ensures { OnOk result (out.new.items ≡ out.old.items ++ (head_word head ∷ [])) }
 {
     out.push(word_of_head(head))?;
@@ -34,7 +34,7 @@ fn write_leaf(out: &mut Vec<u32>, leaf: LeafType) -> Result<(), AllocError>
 }
 
 #[inline(always)]
-pub(crate) fn write_scalar(out: &mut Vec<u32>, of: Scalar) -> Result<(), AllocError>
+fn write_scalar(out: &mut Vec<u32>, of: Scalar) -> Result<(), AllocError>
     ensures { OnOk result (out.new.items ≡ out.old.items ++ code (scalar of)) }
 {
     write_leaf(out, LeafType::Scalar(of))
