@@ -107,6 +107,7 @@ fn push_element(out: &mut ShortWords, element: Element<'_>) -> bool
 }
 
 /// The codes of a candidate's types, whatever they are.
+#[inline(never)]
 fn words_of_resolution(alloc: Global, found: &Resolution<'_>) -> Result<Vec<u32>, AllocError>
     ensures { IfOk result (λ words. words.items ≡ candidate_words (resolution_view found.now)) }
 {

@@ -31,11 +31,7 @@ pub(crate) fn reply_with_type(alloc: Global, answer: Result<Type, Fail>) -> Resu
     ensures { RepliesWith (λ t. code (view t)) answer result }
 {
     match answer {
-        Ok(ty) => {
-            let reply = reply_with_code(alloc, &ty);
-            drop(ty);
-            Ok(reply?)
-        }
+        Ok(ty) => Ok(reply_with_code(alloc, &ty)?),
         Err(fail) => reply_with_refusal(alloc, fail),
     }
 }
@@ -48,11 +44,7 @@ pub(crate) fn reply_with_value(
     ensures { RepliesWith (λ t. value_words (option_map view t)) answer result }
 {
     match answer {
-        Ok(value) => {
-            let reply = reply_with_value_code(alloc, &value);
-            drop(value);
-            Ok(reply?)
-        }
+        Ok(value) => Ok(reply_with_value_code(alloc, &value)?),
         Err(fail) => reply_with_refusal(alloc, fail),
     }
 }
