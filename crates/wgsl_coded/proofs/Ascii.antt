@@ -77,13 +77,16 @@ next_in n (w ∷ ws) end h some first more =
     let rest : take (length (w ∷ ws) - 1) (drop 1 (w ∷ ws)) ≡ ws = ap (λ k. take k ws) len ∙ take-length ws in
     next_word n w ws end h first (subst (λ vs. IsAsciiText (n - 4) vs end) rest more)
 
--- a text in ASCII after its length is a name
-pub ascii_named : (n : ℕ) (ws inside rest : List ℕ) → AreWords ws → number_at ws ≡ Some (n, inside) → IsAsciiText n inside rest → IsNamed ws rest
+-- a text in ASCII after its length is read as a name
+pub ascii_name_at : (n : ℕ) (ws inside rest : List ℕ) → AreWords ws → number_at ws ≡ Some (n, inside) → (h : IsAsciiText n inside rest) → name_at ws ≡ Some (h.text, rest)
 unfolding name_code
-ascii_named n ws inside rest words e h =
+ascii_name_at n ws inside rest words e h =
     let front = number_is ws (n, inside) words e in
     let whole : ws ≡ name_code h.text ++ rest = front.0 ∙ ap (λ vs. number n ++ vs) h.spelled ∙ rw h.long refl in
-    (h.text, ap name_at whole ∙ name_again h.text rest (record { bytes = λ i. omega (arith, h.ascii i); utf8 = IsUtf8-from_ascii h.text h.ascii; short = omega (arith, h.long, number_fits ws (n, inside) words e) }))
+    ap name_at whole ∙ name_again h.text rest (record { bytes = λ i. omega (arith, h.ascii i); utf8 = IsUtf8-from_ascii h.text h.ascii; short = omega (arith, h.long, number_fits ws (n, inside) words e) })
+
+pub ascii_named : (n : ℕ) (ws inside rest : List ℕ) → AreWords ws → number_at ws ≡ Some (n, inside) → IsAsciiText n inside rest → IsNamed ws rest
+ascii_named n ws inside rest words e h = (h.text, ascii_name_at n ws inside rest words e h)
 
 pub if_some : {A : Type 0} (P Q : A → Type 0) (o : Option A) → ((a : A) → P a → Q a) → IfSome o P → IfSome o Q
 if_some P Q None f h = tt

@@ -5,7 +5,9 @@ pub mod Written
 pub mod Decoded
 pub mod Placed
 pub mod Ascii
+pub mod ShortText
 pub mod LaidOut
 pub mod Replied
 pub mod InOrder
+pub mod InSequence
 pub mod Deep

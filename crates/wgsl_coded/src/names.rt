@@ -94,7 +94,7 @@ pub(crate) fn read_name(alloc: Global, words: &[u32]) -> Result<(String, &[u32])
 }
 
 /// Whether the first bytes of the word are ASCII, so many, and the others 0.
-fn is_ascii(count: usize, word: u32) -> bool
+pub(crate) fn is_ascii(count: usize, word: u32) -> bool
     ensures { IsTrue result → IsAsciiText count (word ∷ []) [] }
 {
     let [a, b, c, d] = word.to_le_bytes();
