@@ -60,7 +60,7 @@ fn reply_to_binary(
     }
 }
 
-/// The codes of a candidate's types, if they are scalars, vectors and matrices of scalars.
+/// The codes of a candidate's types, if they are short.
 #[inline(always)]
 fn short_candidate(found: &Resolution<'_>) -> Option<ShortWords>
     ensures { IfSome result (λ words. short_items words

@@ -1,4 +1,4 @@
-// Words of short replies, which take no memory.
+// Words of short replies, which do not allocate.
 ghost use Rattle.std.specs.Prelude.{◌≡◌, ◌++◌, ◌∷◌, [], IfSome, IsTrue};
 ghost use Rattle.wgsl_rules.specs.types.Types.{scalar};
 ghost use Rattle.wgsl_rules.specs.codes.Codes.{code};
