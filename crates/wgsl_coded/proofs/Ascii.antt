@@ -1,5 +1,5 @@
 -- Texts in ASCII are read word by word.
-use Rattle.std.proofs.Common.{◌≡◌, ℕ, zero, suc, ◌<◌, ◌≤◌, ◌-◌, ◌^◌, List, [], ◌∷◌, ◌++◌, Option, Some, None, IfSome, refl, sym, ap, subst, ◌∙◌, arith, length, get_or, take, drop}
+use Rattle.std.proofs.Common.{◌≡◌, ℕ, zero, suc, ◌<◌, ◌≤◌, ◌-◌, ◌^◌, List, [], ◌∷◌, ◌++◌, Some, refl, sym, ap, subst, ◌∙◌, arith, length, get_or, take, drop}
 use Rattle.std.specs.Prelude.{IsAscii}
 use Rattle.std.specs.Int.{w32, to_le_bytes}
 use Rattle.std.proofs.Math.Seq.{take-length}
@@ -39,19 +39,6 @@ four_bytes w bs fits e h k l m =
       spelled = ap (λ v. v ∷ []) (rw e (sym (from_le_bytes-to_le_bytes_4 w fits)));
     }
 
--- nothing is left to read
-pub no_text_left : (ws : List ℕ) → IsAsciiText 0 ws ws
-no_text_left ws = record { text = []; ascii = no_ascii; long = refl; spelled = refl }
-
--- the last word of a text, and what follows it
-pub last_word : (n w : ℕ) (ws : List ℕ) → IsAsciiText n (w ∷ []) [] → IsAsciiText n (w ∷ ws) ws
-last_word n w ws h = record { text = h.text; ascii = h.ascii; long = h.long; spelled = ends (packed h.text) h.spelled }
-  where
-    ends : (front : List ℕ) → w ∷ [] ≡ front ++ [] → w ∷ ws ≡ front ++ ws
-    ends [] e = absurd (cc e)
-    ends (v ∷ []) e = ap (λ vs. vs ++ ws) e
-    ends (v ∷ u ∷ front) e = absurd (cc e)
-
 -- a word of four bytes, and the text after it
 pub next_word : (n w : ℕ) (ws rest : List ℕ) → 4 ≤ n → IsAsciiText 4 (w ∷ []) [] → IsAsciiText (n - 4) ws rest → IsAsciiText n (w ∷ ws) rest
 next_word n w ws rest h first more = joined first.text first.ascii first.long first.spelled
@@ -87,7 +74,3 @@ ascii_name_at n ws inside rest words e h =
 
 pub ascii_named : (n : ℕ) (ws inside rest : List ℕ) → AreWords ws → number_at ws ≡ Some (n, inside) → IsAsciiText n inside rest → IsNamed ws rest
 ascii_named n ws inside rest words e h = (h.text, ascii_name_at n ws inside rest words e h)
-
-pub if_some : {A : Type 0} (P Q : A → Type 0) (o : Option A) → ((a : A) → P a → Q a) → IfSome o P → IfSome o Q
-if_some P Q None f h = tt
-if_some P Q (Some a) f h = f a h

@@ -5,7 +5,7 @@ use Rattle.wgsl_rules.specs.codes.Reading.{◌>>=◌}
 use Rattle.wgsl_rules.specs.codes.Decoding.{decode, decoded}
 use Rattle.wgsl_rules.specs.codes.DecodingSignatures.{parts_in_order}
 use Rattle.wgsl_coded.specs.Requests.{two_types, whole}
-use Rattle.wgsl_coded.specs.PlainCalls.{arguments_at}
+use Rattle.wgsl_coded.specs.Callees.{arguments_at}
 
 -- what is made of what is read, if no words are left
 if_ended : {A B : Type 0} (b : Bool) (x : A) (f : A → B) → (if b then Some (f x) else None) ≡ ((if b then Some x else None) >>= λ x. Some (f x))

@@ -1,5 +1,5 @@
 -- Members are laid out one after another.
-use Rattle.std.proofs.Common.{◌≡◌, ℕ, ◌+◌, ◌-◌, ◌<◌, ◌≤◌, ◌^◌, max, List, [], ◌∷◌, ◌++◌, Option, Some, None, refl, sym, ap, subst, ◌∙◌, arith, length, map, append_assoc, IsSomeAnd, IfSome, Result, Ok, Err, IfOk}
+use Rattle.std.proofs.Common.{◌≡◌, ℕ, ◌+◌, ◌-◌, ◌<◌, ◌≤◌, ◌^◌, max, List, [], ◌∷◌, ◌++◌, Option, Some, None, refl, sym, ap, ◌∙◌, arith, length, map, append_assoc, IsSomeAnd}
 use Rattle.std.specs.Int.{next_multiple_of}
 use Rattle.std.specs.Option.{option_or}
 use Rattle.std.proofs.lemmas.List.{append-nil, length-append}
@@ -164,15 +164,3 @@ struct_laid_out ws rest words all count size align head h e =
 pub given : (attribute found all : Option ℕ) (n : ℕ) (P : ℕ → Type 0) → all ≡ option_or attribute found → all ≡ Some n → IsExactly found P → IsGiven attribute P n
 given None found all n P e k h = (h n).0 (sym e ∙ k)
 given (Some m) found all n P e k h = same_Some n m (sym k ∙ e)
-
-pub some_holds : {A : Type 0} (o : Option A) (a : A) (P : A → Type 0) → o ≡ Some a → IfSome o P → P a
-some_holds None a P e h = absurd (cc e)
-some_holds (Some b) a P e h = subst P (same_Some b a e) h
-
-pub no_more : (ws : List ℕ) → length ws ≡ 0 → ws ≡ []
-no_more [] e = refl
-no_more (w ∷ ws) e = absurd (omega (arith, e))
-
-pub ok_holds : {A E : Type 0} (r : Result A E) (a : A) (P : A → Type 0) → r ≡ Ok a → IfOk r P → P a
-ok_holds (Ok b) a P e h = subst P (let same : b ≡ a = cc e in same) h
-ok_holds (Err f) a P e h = absurd (cc e)

@@ -11,3 +11,4 @@ pub mod Replied
 pub mod InOrder
 pub mod InSequence
 pub mod Deep
+pub mod Called

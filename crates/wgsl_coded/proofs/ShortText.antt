@@ -70,12 +70,6 @@ pub record AreCopied (len at : ℕ) (ws rest kept : List ℕ) : Type 0 where
   pub spelled : ws ≡ packed (take (min at len) kept) ++ rest
   pub ascii : IsAscii (take (min at len) kept)
 
--- at the start nothing is copied
-pub none_copied : (len : ℕ) (ws kept : List ℕ) → length kept ≡ 32 → AreCopied len 0 ws ws kept
-none_copied len ws kept h =
-    let none : min 0 len ≡ 0 = omega arith in
-    record { aligned = refl; long = h; spelled = rw none refl; ascii = rw none (λ i. omega arith) }
-
 -- the text in the bytes of one word
 word_text : (n w : ℕ) (bs : List ℕ) → 0 < n → n ≤ 4 → bs ≡ to_le_bytes w32 w → IsAsciiText n (w ∷ []) [] → (w ∷ [] ≡ packed (first n bs)) × IsAscii (first n bs)
 unfolding bytes

@@ -55,8 +55,3 @@ on_ok (Err e) f h = tt
 -- a type in a layer comes after the layer's word
 pub after_layer : (start headed out : List ℕ) (w : ℕ) (t u : WgslType) → code u ≡ w ∷ code t → headed ≡ start ++ (w ∷ []) → out ≡ headed ++ code t → out ≡ start ++ code u
 after_layer start headed out w t u spelled h e = e ∙ ap (λ ws. ws ++ code t) h ∙ append_assoc start (w ∷ []) (code t) ∙ ap (λ ws. start ++ ws) (sym spelled)
-
-pub in_layer : {T E : Type 0} (r : Result T E) (start headed out : List ℕ) (w : ℕ) (t u : WgslType) → code u ≡ w ∷ code t → headed ≡ start ++ (w ∷ []) →
-    OnOk r (out ≡ headed ++ code t) → OnOk r (out ≡ start ++ code u)
-in_layer r start headed out w t u spelled h k =
-    on_ok r (after_layer start headed out w t u spelled h) k

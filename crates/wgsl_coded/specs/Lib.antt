@@ -8,4 +8,4 @@ pub mod Short
 pub mod Seen
 pub mod Within
 pub mod Layouts
-pub mod PlainCalls
+pub mod Callees

@@ -14,7 +14,6 @@ mod names;
 mod numbers;
 mod operators;
 mod placing;
-mod plain_calls;
 mod reading;
 mod refusals;
 mod reply;
