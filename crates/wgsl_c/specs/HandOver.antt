@@ -2,7 +2,7 @@
 use Rattle.std.specs.Prelude.{◌≡◌, ◌⊎◌, ◌<◌, ◌≤◌, ◌++◌, ℕ, List, [], All, IfOk, IsUtf8, Result, Ok, Err, drop, length, string_bytes, true}
 use Rattle.std.specs.declared.alloc.AllocError.{AllocError}
 use Rattle.wgsl_requests.specs.Replies.{IsReplyTo, reply_text}
-use Rattle.wgsl_requests.specs.Words.{has_forbidden, words_of}
+use Rattle.wgsl_requests.specs.Words.{has_line_feed, words_of}
 use Rattle.wgsl_requests.specs.declared.request.Reply.{Reply}
 use Rattle.wgsl_requests.specs.declared.request.Reply.TheVariants.{Nothing, Answer, Unreadable}
 
@@ -14,7 +14,7 @@ IsStatus status = (status ≡ 0) ⊎ (status ≡ 2) ⊎ (status ≡ 3) ⊎ (stat
 pub record IsPromised (request : List ℕ) (reply : Result Reply AllocError) : Type 0 where
   pub which : IfOk reply (λ r. IsReplyTo request (reply_text r))
   pub too_long : 4096 < length request → reply ≡ Ok Unreadable
-  pub forbidden : has_forbidden request ≡ true → reply ≡ Ok Unreadable
+  pub forbidden : has_line_feed request ≡ true → reply ≡ Ok Unreadable
   pub no_text : ¬ All IsUtf8 (words_of request) → IfOk reply (λ r. r ≡ Unreadable)
   pub no_words : length request ≤ 4096 → words_of request ≡ [] → IfOk reply (λ r. r ≡ Nothing)
 

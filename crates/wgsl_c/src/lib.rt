@@ -7,7 +7,7 @@ mod words;
 
 ghost use Rattle.std.specs.Prelude.{◌≡◌, ◌≢◌, ◌⊎◌, ◌<◌, ◌≤◌, [], All, IsUtf8, Ok, Result, drop, length, take, true};
 ghost use Rattle.std.specs.declared.alloc.AllocError.{AllocError};
-ghost use Rattle.wgsl_requests.specs.Words.{has_forbidden, words_of};
+ghost use Rattle.wgsl_requests.specs.Words.{has_line_feed, words_of};
 ghost use Rattle.wgsl_requests.specs.declared.request.Reply.{Reply};
 ghost use Rattle.wgsl_c.specs.HandOver.{IsHandedOver, IsPromised, IsStatus};
 
@@ -19,7 +19,7 @@ use wgsl_requests::request::reply_to;
 ///
 /// The status is 0 if the answer is written, 2 if the request can't be read, 3 if memory was refused, and 4 if the answer is
 /// longer than the room for it. `text_len` is the length of the answer in bytes, on status 4 too, and else 0. The answer is
-/// written on status 0 alone, without a NUL at its end.
+/// written on status 0 alone, without a NUL after it.
 #[unsafe(no_mangle)]
 pub extern "C" fn wgsl_answer(
     alloc: Global,
@@ -39,7 +39,7 @@ pub extern "C" fn wgsl_answer(
     ensures no_room { result ≡ 4 → length answer.old < text_len.new }
     ensures unwritten { result ≢ 0 → answer.new ≡ answer.old }
     ensures too_long { 4096 < length request.now → result ≡ 2 }
-    ensures forbidden { has_forbidden request.now ≡ true → result ≡ 2 }
+    ensures forbidden { has_line_feed request.now ≡ true → result ≡ 2 }
     ensures no_text { ¬ All IsUtf8 (words_of request.now) → (result ≡ 2) ⊎ (result ≡ 3) }
     ensures no_words { words_of request.now ≡ [] → (result ≡ 2) ⊎ (result ≡ 3) }
 {

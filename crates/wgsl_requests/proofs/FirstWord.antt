@@ -4,7 +4,7 @@ use Rattle.std.specs.List.{filter, prefix_len, take_while}
 use Rattle.std.proofs.lemmas.List.Folds.{length-prefix_len}
 use Rattle.std.proofs.lemmas.List.Elements.{All-head, All-tail}
 use Rattle.std.proofs.lemmas.Grind.{common_steps}
-use Rattle.wgsl_requests.specs.Words.{pieces, has_bytes, has_forbidden, is_forbidden, is_separator, words_of}
+use Rattle.wgsl_requests.specs.Words.{pieces, has_bytes, has_line_feed, is_line_feed, is_separator, words_of}
 
 abbrev pub gap_len : (ℕ → Bool) → List ℕ → ℕ
 gap_len cuts bytes = prefix_len cuts bytes
@@ -111,17 +111,17 @@ words_of-first bytes rest gap len at is ends h =
     ends ∙ length-prefix_len (λ byte. not (is_separator byte)) rest in
     rw whole (sym (words-gap is_separator bytes) ∙ (ap (words is_separator) same ∙ begins h))
 
--- a separator is not forbidden
-allowed : (b : ℕ) → is_separator b ≡ true → is_forbidden b ≡ false
-allowed b e = grind (arith, common_steps, e)
+-- a separator is no line feed
+no_line_feed : (b : ℕ) → is_separator b ≡ true → is_line_feed b ≡ false
+no_line_feed b e = grind (arith, common_steps, e)
 
--- bytes without a word are separators, so none is forbidden
-pub blank-not_forbidden : (bytes : List ℕ) → words_of bytes ≡ [] → has_forbidden bytes ≡ false
-blank-not_forbidden [] none = refl
-blank-not_forbidden (b ∷ bs) none = step (is_separator b) refl (blank-not_forbidden bs)
+-- bytes without a word are separators, so none is a line feed
+pub blank-no_line_feed : (bytes : List ℕ) → words_of bytes ≡ [] → has_line_feed bytes ≡ false
+blank-no_line_feed [] none = refl
+blank-no_line_feed (b ∷ bs) none = step (is_separator b) refl (blank-no_line_feed bs)
   where
-    step : (v : Bool) → is_separator b ≡ v → (words_of bs ≡ [] → has_forbidden bs ≡ false) → has_forbidden (b ∷ bs) ≡ false
-    step true e rest = rw (allowed b e) (rest (sym (words-cut is_separator b bs e) ∙ none))
+    step : (v : Bool) → is_separator b ≡ v → (words_of bs ≡ [] → has_line_feed bs ≡ false) → has_line_feed (b ∷ bs) ≡ false
+    step true e rest = rw (no_line_feed b e) (rest (sym (words-cut is_separator b bs e) ∙ none))
     step false e rest = let never : ⊥ = cc (sym (words-word is_separator b bs e) ∙ none) in absurd never
 
 -- the separators in front of bytes without a word are all of them
@@ -133,12 +133,12 @@ blank-gap (b ∷ bs) none = step (is_separator b) refl (blank-gap bs)
     step true e rest = rw e (omega (arith, rest (sym (words-cut is_separator b bs e) ∙ none)))
     step false e rest = let never : ⊥ = cc (sym (words-word is_separator b bs e) ∙ none) in absurd never
 
--- a line feed and a NUL are at most 10
-great : (b : ℕ) → 10 < b → is_forbidden b ≡ false
+-- what is greater than a line feed is none
+great : (b : ℕ) → 10 < b → is_line_feed b ≡ false
 great b more = grind (arith, common_steps, more)
 
--- bytes that are all greater than 10 are allowed
-pub great-not_forbidden : (bytes : List ℕ) → All (λ byte. 10 < byte) bytes → has_forbidden bytes ≡ false
-great-not_forbidden [] all = refl
-great-not_forbidden (b ∷ bs) all =
-    rw (great b (All-head (λ byte. 10 < byte) b bs all)) (great-not_forbidden bs (All-tail (λ byte. 10 < byte) b bs all))
+-- nor is any byte, if all are greater
+pub great-no_line_feed : (bytes : List ℕ) → All (λ byte. 10 < byte) bytes → has_line_feed bytes ≡ false
+great-no_line_feed [] all = refl
+great-no_line_feed (b ∷ bs) all =
+    rw (great b (All-head (λ byte. 10 < byte) b bs all)) (great-no_line_feed bs (All-tail (λ byte. 10 < byte) b bs all))

@@ -2,7 +2,7 @@
 use Rattle.std.specs.Prelude.{◌≡◌, ◌≢◌, ◌<◌, ◌≤◌, ℕ, List, [], All, IsUtf8, false, length, string_bytes, true}
 use Rattle.wgsl_requests.specs.Answers.{IsReply}
 use Rattle.wgsl_requests.specs.Requests.{NoRequest}
-use Rattle.wgsl_requests.specs.Words.{has_forbidden, words_of}
+use Rattle.wgsl_requests.specs.Words.{has_line_feed, words_of}
 use Rattle.wgsl_requests.specs.declared.request.Reply.{Reply}
 use Rattle.wgsl_requests.specs.declared.request.Reply.TheVariants as r
 use Rattle.wgsl_requests.specs.declared.request.ReplyKind.{ReplyKind}
@@ -14,16 +14,16 @@ pub data ReplyText : Type 0 where
   answer : List ℕ → ReplyText
   unreadable : ReplyText
 
--- at most 4096 bytes of UTF-8, without a line feed and a NUL
+-- at most 4096 bytes of UTF-8, without a line feed
 pub record IsLineOfText (bytes : List ℕ) : Type 0 where
   pub short : length bytes ≤ 4096
-  pub allowed : has_forbidden bytes ≡ false
+  pub allowed : has_line_feed bytes ≡ false
   pub is_text : All IsUtf8 (words_of bytes)
 
 -- the reply to the bytes of a request
 pub data IsReplyTo (bytes : List ℕ) : ReplyText → Type 0 where
   too_long : 4096 < length bytes → IsReplyTo bytes unreadable
-  forbidden : has_forbidden bytes ≡ true → IsReplyTo bytes unreadable
+  forbidden : has_line_feed bytes ≡ true → IsReplyTo bytes unreadable
   no_text : ¬ All IsUtf8 (words_of bytes) → IsReplyTo bytes unreadable
   no_request : IsLineOfText bytes → words_of bytes ≢ [] → NoRequest (words_of bytes) → IsReplyTo bytes unreadable
   no_words : IsLineOfText bytes → words_of bytes ≡ [] → IsReplyTo bytes nothing

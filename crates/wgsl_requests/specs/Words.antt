@@ -25,9 +25,9 @@ has_bytes (_ ∷ _) = true
 abbrev pub words_of : List ℕ → List (List ℕ)
 words_of bytes = filter has_bytes (pieces is_separator bytes)
 
--- a request is one line of text: it has no line feed and no NUL
-abbrev pub is_forbidden : ℕ → Bool
-is_forbidden byte = nat_eq byte 10 || nat_eq byte 0
+abbrev pub is_line_feed : ℕ → Bool
+is_line_feed byte = nat_eq byte 10
 
-abbrev pub has_forbidden : List ℕ → Bool
-has_forbidden bytes = list_any is_forbidden bytes
+-- a request is one line, so it has none
+abbrev pub has_line_feed : List ℕ → Bool
+has_line_feed bytes = list_any is_line_feed bytes

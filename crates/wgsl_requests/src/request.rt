@@ -1,10 +1,10 @@
 // One request, from its bytes to its reply.
 ghost use Rattle.std.specs.Prelude.{◌≡◌, ◌<◌, ◌≤◌, [], All, IfOk, IsUtf8, Ok, length, string_bytes, true};
 ghost use Rattle.wgsl_requests.specs.Replies.{IsReplyTo, reply_of_kind, reply_text};
-ghost use Rattle.wgsl_requests.specs.Words.{has_forbidden, words_of};
+ghost use Rattle.wgsl_requests.specs.Words.{has_line_feed, words_of};
 
 use crate::command::write_answer;
-use crate::split::has_forbidden;
+use crate::split::has_line_feed;
 use crate::words::Words;
 use std::alloc::{AllocError, Global};
 
@@ -18,7 +18,7 @@ pub enum Reply {
     Nothing,
     /// The answer, without a line feed at its end.
     Answer(String),
-    /// The request is too long, has a line feed or a NUL, is not UTF-8, or is no command.
+    /// The request is too long, has a line feed, is not UTF-8, or is no command.
     Unreadable,
 }
 
@@ -33,7 +33,7 @@ pub enum ReplyKind {
 /// The reply to the request.
 pub fn reply_to(alloc: Global, request: &[u8]) -> Result<Reply, AllocError>
     ensures too_long { LONGEST < length request.now → result ≡ Ok Reply.Unreadable }
-    ensures forbidden { has_forbidden request.now ≡ true → result ≡ Ok Reply.Unreadable }
+    ensures forbidden { has_line_feed request.now ≡ true → result ≡ Ok Reply.Unreadable }
     ensures no_text { ¬ All IsUtf8 (words_of request.now)
         → IfOk result (λ reply. reply ≡ Reply.Unreadable) }
     ensures no_words { length request.now ≤ LONGEST → words_of request.now ≡ []
@@ -56,7 +56,7 @@ pub fn write_reply(
     text: &mut String,
 ) -> Result<ReplyKind, AllocError>
     ensures too_long { LONGEST < length request.now → result ≡ Ok ReplyKind.Unreadable }
-    ensures forbidden { has_forbidden request.now ≡ true → result ≡ Ok ReplyKind.Unreadable }
+    ensures forbidden { has_line_feed request.now ≡ true → result ≡ Ok ReplyKind.Unreadable }
     ensures no_text { ¬ All IsUtf8 (words_of request.now) → result ≡ Ok ReplyKind.Unreadable }
     ensures no_words { length request.now ≤ LONGEST → words_of request.now ≡ []
         → result ≡ Ok ReplyKind.Nothing }
@@ -66,7 +66,7 @@ pub fn write_reply(
     if request.len() > LONGEST {
         return Ok(ReplyKind::Unreadable);
     }
-    if has_forbidden(request) {
+    if has_line_feed(request) {
         return Ok(ReplyKind::Unreadable);
     }
     let Some(mut words) = Words::of(request) else {

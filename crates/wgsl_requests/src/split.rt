@@ -3,7 +3,7 @@ ghost use Rattle.std.specs.Prelude.{◌≡◌, ◌+◌, ◌<◌, ◌≤◌, ◌�
 ghost use Rattle.std.specs.List.{take_while};
 ghost use Rattle.std.specs.Str.{IsCharBoundary};
 ghost use Rattle.wgsl_requests.specs.internal.Lanes.{AllFrom};
-ghost use Rattle.wgsl_requests.specs.Words.{has_forbidden, is_forbidden, is_separator, words_of};
+ghost use Rattle.wgsl_requests.specs.Words.{has_line_feed, is_line_feed, is_separator, words_of};
 
 use std::simd::Simd;
 
@@ -57,11 +57,11 @@ fn is_separator(byte: u8) -> bool
     matches!(byte, b' ' | b'\t' | b'\r')
 }
 
-/// Whether a byte stands there that no request may have.
-pub fn has_forbidden(bytes: &[u8]) -> bool
-    ensures { result ≡ has_forbidden bytes.now }
+/// Whether one of the bytes is a line feed.
+pub fn has_line_feed(bytes: &[u8]) -> bool
+    ensures { result ≡ has_line_feed bytes.now }
 {
-    !are_great(bytes) && bytes.iter().any(|byte| is_forbidden(*byte))
+    !are_great(bytes) && bytes.iter().any(|byte| is_line_feed(*byte))
 }
 
 /// Whether each byte is greater than a line feed, as far as 16 or 8 can be compared at a time.
@@ -101,9 +101,8 @@ fn next_are_great<const N: usize>(bytes: &[u8], at: usize) -> bool
     small.to_bitmask() == 0
 }
 
-/// A line feed or a NUL.
-fn is_forbidden(byte: u8) -> bool
-    ensures { result ≡ is_forbidden byte }
+fn is_line_feed(byte: u8) -> bool
+    ensures { result ≡ is_line_feed byte }
 {
-    matches!(byte, b'\n' | b'\0')
+    byte == b'\n'
 }

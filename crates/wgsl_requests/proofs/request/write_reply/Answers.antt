@@ -4,34 +4,34 @@ use Rattle.wgsl_requests.specs.Answers.{IsReply}
 use Rattle.wgsl_requests.specs.Requests.{NoRequest}
 use Rattle.wgsl_requests.specs.internal.Written.{Adds}
 use Rattle.wgsl_requests.specs.Replies.{IsLineOfText, too_long, forbidden, no_text, no_request, no_words, answered}
-use Rattle.wgsl_requests.specs.Words.{has_forbidden, words_of}
-use Rattle.wgsl_requests.proofs.FirstWord.{blank-not_forbidden}
+use Rattle.wgsl_requests.specs.Words.{has_line_feed, words_of}
+use Rattle.wgsl_requests.proofs.FirstWord.{blank-no_line_feed}
 use Rattle.wgsl_requests.proofs.request.write_reply.Goals as goal
 
 -- bytes that passed the three tests
-line : (bytes : List ℕ) (found : Bool) → length bytes ≤ 4096 → found ≡ has_forbidden bytes → found ≡ false → All IsUtf8 (words_of bytes) → IsLineOfText bytes
+line : (bytes : List ℕ) (found : Bool) → length bytes ≤ 4096 → found ≡ has_line_feed bytes → found ≡ false → All IsUtf8 (words_of bytes) → IsLineOfText bytes
 line bytes found short is none text = record { short = short; allowed = sym is ∙ none; is_text = text }
 
 -- a list with a first word
 begins : (word : List ℕ) (words rest : List (List ℕ)) → words ≡ word ∷ rest → words ≢ []
 begins word words rest is none = let never : ⊥ = cc (sym is ∙ none) in never
 
-pub returns-then-has_forbidden-clause-no_words : goal.returns-then-has_forbidden-clause-no_words
-returns-then-has_forbidden-clause-no_words c = λ _ none.
-    absurd (cc (sym c.if-has_forbidden.true ∙ (c.has_forbidden.ensures ∙ blank-not_forbidden c.args.request.now none)))
+pub returns-then-has_line_feed-clause-no_words : goal.returns-then-has_line_feed-clause-no_words
+returns-then-has_line_feed-clause-no_words c = λ _ none.
+    absurd (cc (sym c.if-has_line_feed.true ∙ (c.has_line_feed.ensures ∙ blank-no_line_feed c.args.request.now none)))
 
 pub returns-then-request-gt-LONGEST-clause-reply : goal.returns-then-request-gt-LONGEST-clause-reply
 returns-then-request-gt-LONGEST-clause-reply c = λ _. too_long (first_of (search rules, omega arith))
 
-pub returns-then-has_forbidden-clause-reply : goal.returns-then-has_forbidden-clause-reply
-returns-then-has_forbidden-clause-reply c = λ _. forbidden (sym c.has_forbidden.ensures ∙ c.if-has_forbidden.true)
+pub returns-then-has_line_feed-clause-reply : goal.returns-then-has_line_feed-clause-reply
+returns-then-has_line_feed-clause-reply c = λ _. forbidden (sym c.has_line_feed.ensures ∙ c.if-has_line_feed.true)
 
 pub returns-in_default-clause-reply : goal.returns-in_default-clause-reply
 returns-in_default-clause-reply c = λ _. no_text c.in_default.ensures.words
 
 pub returns-in_default-next-clause-reply : goal.returns-in_default-next-clause-reply
 returns-in_default-next-clause-reply c = λ _.
-    no_words (line _ _ (first_of (search rules, omega arith)) c.has_forbidden.ensures c.if-has_forbidden.false c.in-Some.ensures.text)
+    no_words (line _ _ (first_of (search rules, omega arith)) c.has_line_feed.ensures c.if-has_line_feed.false c.in-Some.ensures.text)
     (sym c.in-Some.ensures.words ∙ c.in_default-next.ensures.word)
 
 -- what was written to an empty text
@@ -51,11 +51,11 @@ told_false true P N e m = absurd (cc e)
 pub returns-then-branch-clause-reply : goal.returns-then-branch-clause-reply
 returns-then-branch-clause-reply c = λ empty.
     let first = sym c.in-Some.ensures.words ∙ c.in-Ok.ensures.word in
-    answered _ (line _ _ (first_of (search rules, omega arith)) c.has_forbidden.ensures c.if-has_forbidden.false c.in-Some.ensures.text)
+    answered _ (line _ _ (first_of (search rules, omega arith)) c.has_line_feed.ensures c.if-has_line_feed.false c.in-Some.ensures.text)
     (begins _ _ _ first) (written _ _ _ _ (sym first) empty (told_true _ _ _ c.if-branch.true c.in_ok-write_answer.ensures))
 
 pub returns-else-branch-clause-reply : goal.returns-else-branch-clause-reply
 returns-else-branch-clause-reply c = λ _.
     let first = sym c.in-Some.ensures.words ∙ c.in-Ok.ensures.word in
-    no_request (line _ _ (first_of (search rules, omega arith)) c.has_forbidden.ensures c.if-has_forbidden.false c.in-Some.ensures.text)
+    no_request (line _ _ (first_of (search rules, omega arith)) c.has_line_feed.ensures c.if-has_line_feed.false c.in-Some.ensures.text)
     (begins _ _ _ first) (subst NoRequest (sym first) (told_false _ _ _ c.if-branch.false c.in_ok-write_answer.ensures))
