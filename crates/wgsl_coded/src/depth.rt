@@ -102,8 +102,10 @@ pub fn is_read_back(ty: &Type) -> bool
 
 /// What `read` reads of what `write` writes: the type, if it is at most 255 levels deep.
 pub fn write_and_read(alloc: Global, ty: &Type) -> Result<Option<Type>, AllocError>
-    ensures { depth (view ty.now) ≤ 255
+    ensures same { depth (view ty.now) ≤ 255
         → IfOk result (λ t. option_map view t ≡ Some (view ty.now)) }
+    // Also of deeper types.
+    ensures exact { IfOk result (λ t. option_map view t ≡ decoded (code (view ty.now))) }
 {
     is_read_back(ty);
     let mut words = Vec::new(alloc);
