@@ -6,7 +6,6 @@ mod conversion;
 mod copies;
 mod failing;
 mod hostile;
-mod hostile_values;
 mod layout;
 mod names;
 mod ranks;

@@ -1,5 +1,5 @@
 // Ranks of conversions.
-use super::support::{expect_answers, nested};
+use super::support::expect_answers;
 use std::alloc::AllocError;
 use std::process::Abort;
 use std::test::Fail;
@@ -76,14 +76,6 @@ fn result_structs_convert_to_those_of_their_function_and_shape(
     for (index, from) in RESULTS.iter().enumerate() {
         expect_result_ranks(&rt, index, from)?;
     }
-    Ok(())
-}
-
-#[test]
-fn vectors_may_be_nested_300_deep(rt: HostRuntime) -> Result<(), Fail> {
-    let from = nested(rt.alloc(), "vec 2 ", 300, "AbstractInt")?;
-    let to = nested(rt.alloc(), "vec 2 ", 300, "f32")?;
-    expect_rank(&rt, &from, &to, "6")?;
     Ok(())
 }
 

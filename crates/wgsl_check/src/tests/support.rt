@@ -150,16 +150,6 @@ pub fn signature(alloc: Global) -> Result<CallSignature, Fail> {
     })
 }
 
-/// The last words, with the first before them, repeated.
-pub fn nested(alloc: Global, outer: &str, depth: usize, core: &str) -> Result<String, AllocError> {
-    let mut words = String::new(alloc);
-    for _ in 0..depth {
-        words.push_str(outer)?;
-    }
-    words.push_str(core)?;
-    Ok(words)
-}
-
 /// The spelling of a type that is let go.
 pub fn spelled(alloc: Global, ty: Type) -> Result<String, AllocError> {
     let text = ty.to_string(alloc);

@@ -1,8 +1,4 @@
 // Sixty types: each scalar, and its vectors of two and of three, two matrices and an array of it.
-use super::types;
-use std::alloc::Global;
-use std::test::Fail;
-use wgsl_types::ty::Type;
 
 /// Each type in words, as it is spelled, and as its concrete type is spelled.
 pub const SIXTY: [(&str, &str, &str); 60] = [
@@ -83,13 +79,3 @@ pub const SIXTY: [(&str, &str, &str); 60] = [
     ("mat 2 3 f64", "mat2x3<f64>", "mat2x3<f64>"),
     ("array 2 f64", "array<f64, 2>", "array<f64, 2>"),
 ];
-
-/// The types of the table.
-pub fn sixty_types(alloc: Global) -> Result<Vec<Type>, Fail> {
-    let mut words = String::new(alloc);
-    for (ty, _spelling, _concrete) in &SIXTY {
-        words.push_str(ty)?;
-        words.push(' ')?;
-    }
-    types(alloc, &words)
-}

@@ -1,8 +1,6 @@
 // What the program writes of an answer, as a text of its own.
 use std::alloc::{AllocError, Global};
-use wgsl_requests::command::{
-    write_message, write_number_or_none, write_type_or_refusal, write_value_or_refusal,
-};
+use wgsl_requests::command::{write_message, write_number_or_none, write_value_or_refusal};
 use wgsl_types::error::Fail;
 use wgsl_types::ty::Type;
 
@@ -13,13 +11,6 @@ pub fn value_or_refusal(
 ) -> Result<String, AllocError> {
     let mut text = String::new(alloc);
     write_value_or_refusal(&mut text, answer)?;
-    Ok(text)
-}
-
-/// A type, or the message of a refusal.
-pub fn type_or_refusal(alloc: Global, answer: Result<Type, Fail>) -> Result<String, AllocError> {
-    let mut text = String::new(alloc);
-    write_type_or_refusal(&mut text, answer)?;
     Ok(text)
 }
 
