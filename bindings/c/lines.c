@@ -15,7 +15,7 @@ static int ask(const char *line, size_t len, Room *room, size_t *text_len) {
     int status = wgsl_answer((const uint8_t *)line, len, room->at, room->len, text_len);
     if (status != WGSL_NO_ROOM) return status;
     uint8_t *more = realloc(room->at, *text_len);
-    if (!more) return WGSL_REFUSED;
+    if (!more) return WGSL_OUT_OF_MEMORY;
     memset(more + room->len, 0, *text_len - room->len);
     *room = (Room){more, *text_len};
     return wgsl_answer((const uint8_t *)line, len, room->at, room->len, text_len);
@@ -26,12 +26,12 @@ int main(void) {
     char *line = NULL;
     size_t capacity = 0, text_len = 0;
     int readable = 1;
-    if (!room.at) return WGSL_REFUSED;
+    if (!room.at) return WGSL_OUT_OF_MEMORY;
     for (unsigned long number = 1;; number++) {
         ssize_t len = getline(&line, &capacity, stdin);
         if (len < 0) break;
         if (len && line[len - 1] == '\n') len--;
-        if (strspn(line, " \t\r") >= (size_t)len) continue;
+        if (len <= WGSL_LONGEST && strspn(line, " \t\r") >= (size_t)len) continue;
         switch (ask(line, (size_t)len, &room, &text_len)) {
         case WGSL_ANSWERED:
             fwrite(room.at, 1, text_len, stdout);
@@ -42,7 +42,7 @@ int main(void) {
             readable = 0;
             break;
         default:
-            return WGSL_REFUSED;
+            return WGSL_OUT_OF_MEMORY;
         }
     }
     free(line);

@@ -6,7 +6,11 @@
  *
  * In numbers: eight calls take and give types as words of 32 bits. wgsl_codes.h writes such words.
  *
- * README.md lists the requests in texts. Link with libwgsl.a or libwgsl.so. */
+ * README.md lists the requests in texts. Link with libwgsl.a or libwgsl.so, which run on x86-64 Linux, on processors with
+ * SSE4.2. wgsl_codes.h needs C99, this header C99 or C++11.
+ *
+ * Types are not validated: counts of components, columns, rows and elements, names, and the attributes `size` and `align`
+ * are taken as they are, as in `vec 7 bool` and `array 0 f32`. */
 #ifndef WGSL_H
 #define WGSL_H
 #include <stddef.h>
@@ -15,19 +19,26 @@
 extern "C" {
 #endif
 
+#define WGSL_VERSION "0.1.0"
+
+/* The version of the library that is linked: WGSL_VERSION, if it is the one of this header. */
+const char *wgsl_version(void);
+
 /* What the calls return. */
 enum {
-    WGSL_ANSWERED = 0,   /* The answer is at the front of the room. An answer in text is UTF-8, without a NUL at the end. */
-    WGSL_RULED_OUT = 1,  /* WGSL's rules give no answer. Of the calls over numbers alone; the room has why. */
-    WGSL_UNREADABLE = 2, /* The request is no command, is blank, isn't UTF-8, has a line feed or a NUL, or is too long;
-                          * or the words are not what the call takes, or have a type of more than WGSL_DEEPEST levels. */
-    WGSL_REFUSED = 3,    /* malloc or realloc gave no memory. All that the call had got is freed. */
-    WGSL_NO_ROOM = 4     /* The length that is set is more than there is room for: ask again with as much. */
+    WGSL_ANSWERED = 0,      /* The answer is at the front of the room. In text it is UTF-8, without a NUL at its end, but
+                             * with those that the names in it have. */
+    WGSL_RULED_OUT = 1,     /* WGSL's rules give no answer. Of the calls over numbers alone; the room has why. */
+    WGSL_UNREADABLE = 2,    /* The request is no command, is blank, isn't UTF-8, has a line feed, or is too long; or the
+                             * words are not what the call takes, or have a type of more than WGSL_DEEPEST levels. */
+    WGSL_OUT_OF_MEMORY = 3, /* malloc or realloc gave no memory. All that the call had got is freed. */
+    WGSL_NO_ROOM = 4        /* The length that is set is more than there is room for: ask again with as much. */
 };
 
 enum {
     WGSL_LONGEST = 4096,            /* A longer request in text is unreadable. */
-    WGSL_DEEPEST = 255,             /* So are words of a type with more levels. A scalar has one, a vector of it two. */
+    WGSL_DEEPEST = 255,             /* So are words of a type with more levels. A scalar has one, a vector of it two. An
+                                     * array of elements with 255 is answered with 256, and no call takes it. */
     WGSL_STACK = 320 * 1024,        /* Bytes of stack that are enough for any request in text, */
     WGSL_NUMBERS_STACK = 512 * 1024 /* and in numbers: at least twice what the deepest takes. */
 };
@@ -60,7 +71,10 @@ uint8_t wgsl_answer(const uint8_t *request, size_t request_len, uint8_t *room, s
  *   wgsl_size         a type                      the size and the alignment, each as an attribute    never
  *   wgsl_layout       a struct                    the number of members; of each the offset, the      nothing
  *                                                 size, the alignment; the struct's size, alignment
- */
+ *
+ * wgsl_common folds the list from left to right. In text `common` answers with that type if each type of the list converts
+ * to it, and else with `none`. They differ for a reference beside two types that are no references: for `ref function read
+ * AbstractInt`, `AbstractInt` and `i32` the call answers with `i32`, and the text is `none`. */
 uint8_t wgsl_rank(const uint32_t *request, size_t request_len, uint32_t *room, size_t room_len, size_t *len);
 uint8_t wgsl_common(const uint32_t *request, size_t request_len, uint32_t *room, size_t room_len, size_t *len);
 uint8_t wgsl_unary(const uint32_t *request, size_t request_len, uint32_t *room, size_t room_len, size_t *len);

@@ -42,7 +42,7 @@ static void refuse(size_t k, long one, long from, int status, size_t wanted_len)
     asked = 0, refused = one, refused_from = from;
     int found = ask(k, room, LONG_ANSWER, &len);
     refused = refused_from = -1;
-    if (found != WGSL_REFUSED || len || !is_filled(room, 0)) wrong(k, "refused memory is told otherwise");
+    if (found != WGSL_OUT_OF_MEMORY || len || !is_filled(room, 0)) wrong(k, "refused memory is told otherwise");
     if (live != before) wrong(k, "memory is kept");
     if (ask(k, room, LONG_ANSWER, &len) != status || len != wanted_len || memcmp(room, wanted, len * sizeof(Unit)))
         wrong(k, "another answer after refused memory");

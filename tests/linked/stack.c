@@ -47,7 +47,7 @@ int main(int arguments, char **argument) {
     for (size_t h = 0; h < sizeof heads / sizeof *heads; h++)
         for (size_t l = 0; l < sizeof layers / sizeof *layers; l++) {
             size_t deep = write_request(heads[h], layers[l]), taken = touched(ask, WGSL_STACK) - base;
-            if (status == WGSL_REFUSED || status == WGSL_NO_ROOM) return printf("%s of %s: status %d\n", heads[h], layers[l], status), 1;
+            if (status == WGSL_OUT_OF_MEMORY || status == WGSL_NO_ROOM) return printf("%s of %s: status %d\n", heads[h], layers[l], status), 1;
             if (all) printf("%7zu bytes, %4zu a layer, status %d: %s of %zu %s\n", taken, taken / deep, status, heads[h], deep, layers[l]);
             if (taken > most) most = taken;
         }

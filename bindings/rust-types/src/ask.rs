@@ -58,7 +58,7 @@ fn reply(status: Status, room: &[u32]) -> Reply<'_> {
         Status::Answered(len) => Reply::Answer(&room[..len]),
         Status::Refused(len) => Reply::Refusal(&room[..len]),
         Status::Unreadable => panic!("a type is more than {MAX_DEPTH} levels deep"),
-        Status::Memory => handle_alloc_error(Layout::new::<Type>()),
+        Status::OutOfMemory => handle_alloc_error(Layout::new::<Type>()),
         Status::NoRoom(_) => unreachable!("the same request has the same answer"),
     }
 }

@@ -33,8 +33,8 @@ pub(crate) enum Status {
     Refused(usize),
     /// The words are no request of that call.
     Unreadable,
-    /// Memory was refused.
-    Memory,
+    /// Memory ran out.
+    OutOfMemory,
     /// The answer, or the refusal, has that many words, for which there is no room.
     NoRoom(usize),
 }
@@ -61,7 +61,7 @@ impl Call {
         match status {
             0 => Status::Answered(len),
             1 => Status::Refused(len),
-            3 => Status::Memory,
+            3 => Status::OutOfMemory,
             4 => Status::NoRoom(len),
             _ => Status::Unreadable,
         }

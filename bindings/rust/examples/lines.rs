@@ -2,23 +2,24 @@
 
 use std::io::{self, BufRead, BufWriter, Write};
 use std::process::ExitCode;
-use wgsl_requests::{answer, Refused};
+use wgsl_requests::{answer, Error};
 
 fn main() -> io::Result<ExitCode> {
     let mut output = BufWriter::new(io::stdout().lock());
     let mut readable = true;
-    for (index, line) in io::stdin().lock().lines().enumerate() {
+    for (index, line) in io::stdin().lock().split(b'\n').enumerate() {
         let line = line?;
-        if line.trim_matches([' ', '\t', '\r']).is_empty() {
+        if line.len() <= 4096 && line.iter().all(|byte| b" \t\r".contains(byte)) {
             continue;
         }
-        match answer(&line) {
+        let request = std::str::from_utf8(&line).map_err(|_| Error::Unreadable);
+        match request.and_then(answer) {
             Ok(text) => writeln!(output, "{text}")?,
-            Err(Refused::Unreadable) => {
+            Err(Error::Unreadable) => {
                 readable = false;
                 writeln!(output, "bad line {}", index + 1)?;
             }
-            Err(Refused::Memory) => return Ok(ExitCode::from(3)),
+            Err(Error::OutOfMemory) => return Ok(ExitCode::from(3)),
         }
     }
     output.flush()?;

@@ -1,12 +1,15 @@
 //! The type rules of WGSL, from a proved library: one call answers one request, a line of the program `wgsl_check`.
 //!
 //! ```
-//! use wgsl_requests::{answer, Refused};
+//! use wgsl_requests::{answer, Error};
 //!
 //! assert_eq!(answer("binary + AbstractInt vec 3 f32"), Ok("vec3<f32>".to_string()));
 //! assert_eq!(answer("rank i32 f32"), Ok("none".to_string()));
-//! assert_eq!(answer("binary + i32"), Err(Refused::Unreadable));
+//! assert_eq!(answer("binary + i32"), Err(Error::Unreadable));
 //! ```
+//!
+//! The environment variable `WGSL_LIB` names the folder where `./build_library FOLDER` wrote the library. A relative folder
+//! is looked for where cargo is called and in each folder above. `cargo check` and `cargo doc` need no library.
 
 use std::fmt;
 
@@ -23,23 +26,23 @@ extern "C" {
 
 /// Why a request has no answer.
 #[derive(Clone, Copy, Debug, PartialEq, Eq)]
-pub enum Refused {
-    /// The request is no command, is blank, has a line feed or a NUL, or has more than 4096 bytes.
+pub enum Error {
+    /// The request is no command, is blank, has a line feed, or has more than 4096 bytes.
     Unreadable,
     /// There was no memory.
-    Memory,
+    OutOfMemory,
 }
 
-impl fmt::Display for Refused {
+impl fmt::Display for Error {
     fn fmt(&self, f: &mut fmt::Formatter<'_>) -> fmt::Result {
         f.write_str(match self {
-            Refused::Unreadable => "the request is unreadable",
-            Refused::Memory => "out of memory",
+            Error::Unreadable => "the request is unreadable",
+            Error::OutOfMemory => "out of memory",
         })
     }
 }
 
-impl std::error::Error for Refused {}
+impl std::error::Error for Error {}
 
 /// Most answers have fewer bytes.
 const ROOM: usize = 256;
@@ -47,13 +50,13 @@ const ROOM: usize = 256;
 /// Answers one request. If WGSL's rules refuse the expression, the message is the answer.
 ///
 /// The deepest request takes less than 160 KiB of stack.
-pub fn answer(request: &str) -> Result<String, Refused> {
+pub fn answer(request: &str) -> Result<String, Error> {
     let mut room = [0; ROOM];
     match ask(request, &mut room)? {
         Reply::Answer(len) => text(&room[..len]),
         Reply::NoRoom(len) => {
             let mut room = Vec::new();
-            room.try_reserve_exact(len).map_err(|_| Refused::Memory)?;
+            room.try_reserve_exact(len).map_err(|_| Error::OutOfMemory)?;
             room.resize(len, 0);
             match ask(request, &mut room)? {
                 Reply::Answer(len) => text(&room[..len]),
@@ -69,7 +72,7 @@ enum Reply {
     NoRoom(usize),
 }
 
-fn ask(request: &str, room: &mut [u8]) -> Result<Reply, Refused> {
+fn ask(request: &str, room: &mut [u8]) -> Result<Reply, Error> {
     let mut len = 0;
     // SAFETY: each pointer is that of a live slice with this length, or of `len`; the mutable ones overlap nothing, and no
     // slice has 2^63 bytes. The library is linked with one malloc, realloc and free.
@@ -78,16 +81,17 @@ fn ask(request: &str, room: &mut [u8]) -> Result<Reply, Refused> {
     };
     match status {
         0 => Ok(Reply::Answer(len)),
-        3 => Err(Refused::Memory),
+        2 => Err(Error::Unreadable),
+        3 => Err(Error::OutOfMemory),
         4 => Ok(Reply::NoRoom(len)),
-        _ => Err(Refused::Unreadable),
+        status => unreachable!("bindings/c/wgsl.h has no status {status}"),
     }
 }
 
-fn text(bytes: &[u8]) -> Result<String, Refused> {
+fn text(bytes: &[u8]) -> Result<String, Error> {
     let answer = std::str::from_utf8(bytes).expect("an answer is UTF-8");
     let mut text = String::new();
-    text.try_reserve_exact(answer.len()).map_err(|_| Refused::Memory)?;
+    text.try_reserve_exact(answer.len()).map_err(|_| Error::OutOfMemory)?;
     text.push_str(answer);
     Ok(text)
 }
