@@ -1,4 +1,4 @@
-/* Writes types, calls and templates as words for the calls of wgsl.h.
+/* Writes types, calls and templates as words for the calls of wgsl.h, in C99 or C++11.
  *
  * A code is written from the outside in: `vec3<f32>` is wgsl_vec(&words, 3) and then wgsl_scalar(&words, WGSL_SCALAR_F32).
  * Each function writes one part of a code; its comment says what has to follow. */
@@ -51,6 +51,13 @@ enum {
     WGSL_FORMAT_RGB10A2UINT, WGSL_FORMAT_RGB10A2UNORM, WGSL_FORMAT_RG11B10FLOAT, WGSL_FORMAT_R64UINT
 };
 
+/* A conversion, which C and C++ write differently. */
+#ifdef __cplusplus
+#define WGSL_AS(type, value) static_cast<type>(value)
+#else
+#define WGSL_AS(type, value) ((type)(value))
+#endif
+
 /* Where words are written. `len` counts all that were written; those beyond `room` are counted and not stored. */
 typedef struct {
     uint32_t *at;
@@ -68,12 +75,13 @@ static inline void wgsl_word(WgslWords *words, uint32_t word) {
 
 /* A first word: its tag, and up to three small numbers. */
 static inline void wgsl_head(WgslWords *words, int tag, int a, int b, int c) {
-    wgsl_word(words, (uint32_t)tag | (uint32_t)a << 8 | (uint32_t)b << 16 | (uint32_t)c << 24);
+    uint32_t numbers = WGSL_AS(uint32_t, a) | WGSL_AS(uint32_t, b) << 8 | WGSL_AS(uint32_t, c) << 16;
+    wgsl_word(words, WGSL_AS(uint32_t, tag) | numbers << 8);
 }
 
 static inline void wgsl_number(WgslWords *words, uint64_t number) {
-    wgsl_word(words, (uint32_t)number);
-    wgsl_word(words, (uint32_t)(number >> 32));
+    wgsl_word(words, WGSL_AS(uint32_t, number));
+    wgsl_word(words, WGSL_AS(uint32_t, number >> 32));
 }
 
 /* A name of so many bytes of UTF-8. */
@@ -81,7 +89,7 @@ static inline void wgsl_name_of(WgslWords *words, const char *name, size_t len) 
     wgsl_number(words, len);
     for (size_t i = 0; i < len; i += 4) {
         uint32_t word = 0;
-        for (size_t k = i; k < len && k < i + 4; k++) word |= (uint32_t)(unsigned char)name[k] << 8 * (k - i);
+        for (size_t k = i; k < len && k < i + 4; k++) word |= WGSL_AS(uint32_t, name[k] & 255) << 8 * (k - i);
         wgsl_word(words, word);
     }
 }
@@ -183,7 +191,7 @@ static inline void wgsl_arguments(WgslWords *words, uint64_t arguments) { wgsl_n
 /* A literal as a parameter, by its tag, such as WGSL_TAG_I32: whole. The value is extended by its sign. */
 static inline void wgsl_literal(WgslWords *words, int tag, int64_t value) {
     wgsl_head(words, tag, 0, 0, 0);
-    wgsl_number(words, (uint64_t)value);
+    wgsl_number(words, WGSL_AS(uint64_t, value));
 }
 
 /* An enumerant as a parameter, by its tag, such as WGSL_TAG_ACCESS_MODE, and its index: whole. */
