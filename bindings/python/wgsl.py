@@ -3,78 +3,127 @@
     >>> answer("binary + AbstractInt vec 3 f32")
     'vec3<f32>'
 
-libwgsl.so is looked for beside this file, or where the environment variable WGSL_LIBRARY says.
+The environment variable WGSL_LIB names the folder where ./build_library FOLDER wrote libwgsl.so. A relative folder is looked
+for in the working directory and in each folder above. If the variable isn't set, the library is beside this file.
 """
 import ctypes
 import os
 import sys
-import threading
 
 __all__ = ["Unreadable", "answer"]
+__version__ = "0.1.0"
 
-_BESIDE = os.path.join(os.path.dirname(os.path.abspath(__file__)), "libwgsl.so")
-_library = ctypes.CDLL(os.environ.get("WGSL_LIBRARY", _BESIDE))
-_library.wgsl_answer.restype = ctypes.c_uint8
-_library.wgsl_answer.argtypes = [
-    ctypes.c_char_p,
-    ctypes.c_size_t,
-    ctypes.c_char_p,
-    ctypes.c_size_t,
-    ctypes.POINTER(ctypes.c_size_t),
-]
-_ANSWERED, _REFUSED, _NO_ROOM = 0, 3, 4
+_LIBRARY = "libwgsl.so"
+_TO_DO = f"set it to the folder where ./build_library FOLDER wrote {_LIBRARY}"
+
+
+def _folders():
+    """The folders in which the library may be, and what is wrong if it is in none of them."""
+    given = os.environ.get("WGSL_LIB")
+    if given is None:
+        here = os.path.dirname(os.path.abspath(__file__))
+        return [here], f"WGSL_LIB is not set, and there is no {_LIBRARY} in {here!r}"
+    if not given:
+        return [], "WGSL_LIB is empty"
+    missing = f"WGSL_LIB is {given!r}, but there is no {os.path.join(given, _LIBRARY)!r}"
+    if os.path.isabs(given):
+        return [given], missing
+    above = [os.getcwd()]
+    while os.path.dirname(above[-1]) != above[-1]:
+        above.append(os.path.dirname(above[-1]))
+    return [os.path.join(folder, given) for folder in above], f"{missing} in {above[0]!r}, nor above"
+
+
+def _find():
+    """Where the library is. Raises ImportError, which says what to do, if it isn't found."""
+    folders, missing = _folders()
+    for path in (os.path.join(folder, _LIBRARY) for folder in folders):
+        if os.path.isfile(path):
+            return path
+    if any(os.path.isfile(folder) for folder in folders):
+        missing = f"WGSL_LIB is {os.environ['WGSL_LIB']!r}, a file"
+    raise ImportError(f"{missing}: {_TO_DO}")
+
+
+def _load():
+    """The call of the library."""
+    path = _find()
+    try:
+        call = ctypes.CDLL(path).wgsl_answer
+    except (OSError, AttributeError) as error:
+        raise ImportError(f"{error}: write the library again with ./build_library FOLDER") from None
+    size, pointer = ctypes.c_size_t, ctypes.POINTER
+    call.restype = ctypes.c_uint8
+    call.argtypes = [ctypes.c_char_p, size, ctypes.c_char_p, size, pointer(size)]
+    return call
+
+
+try:
+    _wgsl_answer = _load()
+except ImportError as wrong:
+    if __name__ == "__main__":
+        sys.exit(f"wgsl: {wrong}")
+    raise
+
+# The statuses of wgsl.h. Most answers have fewer than 256 bytes.
+_ANSWERED, _UNREADABLE, _OUT_OF_MEMORY, _NO_ROOM = 0, 2, 3, 4
+_ROOM = 256
 
 
 class Unreadable(ValueError):
     """The request is no command, is blank, isn't one line of text, or has more than 4096 bytes."""
 
 
-class _Room(threading.local):
-    """Where the answers of a thread are written, since other threads may run during a call."""
-
-    def __init__(self):
-        self.bytes = ctypes.create_string_buffer(256)
-        self.length = ctypes.c_size_t(0)
-
-
-_room = _Room()
-
-
-def _ask(request):
-    return _library.wgsl_answer(request, len(request), _room.bytes, len(_room.bytes), ctypes.byref(_room.length))
+def _ask(request, room_len):
+    """The status, the room with the answer, and its length. Each call has its own room: other threads may ask meanwhile."""
+    room, length = (ctypes.c_char * room_len)(), ctypes.c_size_t()
+    status = _wgsl_answer(request, len(request), room, room_len, ctypes.byref(length))
+    return status, room, length.value
 
 
 def answer(request: str) -> str:
     """Answers one request. If WGSL's rules refuse the expression, the message is the answer.
 
-    Raises Unreadable, or MemoryError.
+    Raises Unreadable, or MemoryError if memory runs out.
     """
-    encoded = request.encode("utf-8", "surrogateescape")
-    status = _ask(encoded)
+    if not isinstance(request, str):
+        raise TypeError(f"a request is a str, not {type(request).__name__}")
+    # A lone surrogate is passed as bytes that aren't UTF-8, which the library doesn't read.
+    encoded = request.encode("utf-8", "surrogatepass")
+    status, room, length = _ask(encoded, _ROOM)
     if status == _NO_ROOM:
-        _room.bytes = ctypes.create_string_buffer(_room.length.value)
-        status = _ask(encoded)
+        status, room, length = _ask(encoded, length)
     if status == _ANSWERED:
-        return ctypes.string_at(_room.bytes, _room.length.value).decode()
-    if status == _REFUSED:
-        raise MemoryError
-    raise Unreadable(request)
+        return room[:length].decode()
+    if status == _UNREADABLE:
+        raise Unreadable(request)
+    if status == _OUT_OF_MEMORY:
+        raise MemoryError("there was no memory for an answer")
+    raise RuntimeError(f"wgsl.h has no status {status}")
+
+
+def _answer_lines(lines, output):
+    """Writes the answer to each line, and returns the exit status."""
+    status = 0
+    for number, line in enumerate(lines, 1):
+        request = line.removesuffix("\n")
+        if len(request) <= 4096 and not request.strip(" \t\r"):
+            continue
+        try:
+            output.write(answer(request) + "\n")
+        except Unreadable:
+            output.write(f"bad line {number}\n")
+            status = 2
+        except MemoryError:
+            return 3
+    return status
 
 
 def main() -> int:
     """Answers each line of standard input, as the program wgsl_check does."""
-    status = 0
-    lines = open(sys.stdin.fileno(), encoding="utf-8", errors="surrogateescape", newline="\n", closefd=False)
-    for number, line in enumerate(lines, 1):
-        request = line.removesuffix("\n")
-        if not request.strip(" \t\r"):
-            continue
-        try:
-            print(answer(request))
-        except Unreadable:
-            print("bad line", number)
-            status = 2
-    return status
+    text = {"encoding": "utf-8", "errors": "surrogateescape", "newline": "\n", "closefd": False}
+    with open(sys.stdin.fileno(), **text) as lines, open(sys.stdout.fileno(), "w", **text) as output:
+        return _answer_lines(lines, output)
 
 
 if __name__ == "__main__":
