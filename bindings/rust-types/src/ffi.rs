@@ -61,9 +61,10 @@ impl Call {
         match status {
             0 => Status::Answered(len),
             1 => Status::Refused(len),
+            2 => Status::Unreadable,
             3 => Status::OutOfMemory,
             4 => Status::NoRoom(len),
-            _ => Status::Unreadable,
+            status => unreachable!("bindings/c/wgsl.h has no status {status}"),
         }
     }
 }
