@@ -1,0 +1,61 @@
+"""The Python module over the linked library, and over a stub in its place."""
+import os
+import sys
+
+from tools import BINDINGS, LINKED, compare, expect_shown, failure, run, write_shown
+
+FOLDER = os.path.join(BINDINGS, "python")
+MODULE = os.path.join(FOLDER, "wgsl.py")
+TO_DO = "set it to the folder where ./build_library FOLDER wrote libwgsl.so"
+
+FOUND = {"PYTHONPATH": FOLDER, "PYTHONDONTWRITEBYTECODE": "1"}
+
+
+def check_python(top, asked, wanted):
+    """The module as a program, the program of docs/USING.md, and threads. A relative folder is found from below."""
+    compare("Python", wanted, run(sys.executable, MODULE, asked=asked, statuses=(2,), WGSL_LIB=os.path.join(top, "out")))
+    below = os.path.join(top, "below", "that")
+    os.makedirs(below)
+    shown = write_shown("python", os.path.join(below, "shown.py"))
+    expect_shown("Python", run(sys.executable, shown, where=below, WGSL_LIB="out", **FOUND))
+    program = os.path.join(LINKED, "python_threads.py")
+    threads = run(sys.executable, program, asked=asked, where=top, WGSL_LIB="out", **FOUND)
+    print(f"link: Python: {threads.decode().strip()}")
+
+
+def check_python_statuses(top):
+    program = os.path.join(LINKED, "python_statuses.py")
+    printed = run(sys.executable, program, where=top, WGSL_LIB="stub", **FOUND)
+    print(f"link: Python: {printed.decode().strip()}")
+
+
+def write_wrong_libraries(top):
+    """A folder with a file that is no library, and one with a library that has no call."""
+    for name in ("no_library", "no_call"):
+        os.mkdir(os.path.join(top, name))
+    with open(os.path.join(top, "no_library", "libwgsl.so"), "w") as file:
+        file.write("no library\n")
+    run("cc", "-x", "c", "-shared", "-o", os.path.join(top, "no_call", "libwgsl.so"), "-", asked=b"int other;\n")
+
+
+def check_python_folders(top):
+    """Without the library the module and the program say in one line what to do."""
+    write_wrong_libraries(top)
+    again = "write the library again with ./build_library FOLDER"
+    wrong = [
+        ({}, f"WGSL_LIB is not set, and there is no libwgsl.so in '{FOLDER}': {TO_DO}"),
+        ({"WGSL_LIB": ""}, f"WGSL_LIB is empty: {TO_DO}"),
+        ({"WGSL_LIB": "none"}, f"WGSL_LIB is 'none', but there is no 'none/libwgsl.so' in '{top}', nor above: {TO_DO}"),
+        ({"WGSL_LIB": top}, f"WGSL_LIB is '{top}', but there is no '{top}/libwgsl.so': {TO_DO}"),
+        ({"WGSL_LIB": "out/libwgsl.so"}, f"WGSL_LIB is 'out/libwgsl.so', a file: {TO_DO}"),
+        ({"WGSL_LIB": "no_library"}, f"{top}/no_library/libwgsl.so: file too short: {again}"),
+        ({"WGSL_LIB": "no_call"}, f"{top}/no_call/libwgsl.so: undefined symbol: wgsl_answer: {again}"),
+    ]
+    for given, why in wrong:
+        raised = failure(sys.executable, "-c", "import wgsl", where=top, **given, **FOUND)
+        if raised.count("Traceback") != 1 or raised.splitlines()[-1] != f"ImportError: {why}":
+            sys.exit(f"link: with {given} Python raises {raised}")
+        said = failure(sys.executable, MODULE, where=top, **given)
+        if said != f"wgsl: {why}\n":
+            sys.exit(f"link: with {given} wgsl.py writes {said}")
+    print(f"link: {len(wrong)} wrong values of WGSL_LIB are told in Python")
