@@ -1,0 +1,50 @@
+"""What the Python module makes of the statuses of a stub (stub.c) in the library's place, and of what is no request."""
+from concurrent.futures import ThreadPoolExecutor
+
+import wgsl
+
+TURNS = 200
+
+
+def expect(condition, what):
+    if not condition:
+        raise SystemExit(f"link: in Python {what}")
+
+
+def expect_raised(kind, request, message=None):
+    try:
+        found = wgsl.answer(request)
+    except Exception as error:
+        expect(type(error) is kind, f"{request!r:.60} raises {error!r:.200}")
+        expect(message in (None, str(error)), f"{request!r:.60} raises {error!r:.200}")
+    else:
+        expect(False, f"{request!r:.60} is answered by {found!r:.60}")
+
+
+def check_statuses():
+    for needed in ("", " 1", " 256", " 257", " 5000"):
+        expect_raised(MemoryError, "memory" + needed)
+    for request in ("other", "", " "):
+        expect_raised(wgsl.Unreadable, request, request)
+    for status in (1, 5, 255):
+        expect_raised(RuntimeError, f"status {status}", f"wgsl.h has no status {status}")
+    for wrong in (b"say a", bytearray(b"say a"), None, 3, ["say a"]):
+        expect_raised(TypeError, wrong, f"a request is a str, not {type(wrong).__name__}")
+
+
+def meet(letter):
+    """How many answers of that letter are wrong, each asked for while another thread has its answer in its room. Some need a
+    larger room."""
+    texts = [letter * (1 + turn * 7 % 700) for turn in range(TURNS)]
+    return sum(wgsl.answer("meet " + text) != text for text in texts)
+
+
+def check_threads():
+    with ThreadPoolExecutor(2) as pool:
+        wrong = sum(pool.map(meet, "ab"))
+    expect(not wrong, f"{wrong} of {2 * TURNS} answers are another thread's")
+
+
+check_statuses()
+check_threads()
+print(f"{2 * TURNS} answers while another thread asks")

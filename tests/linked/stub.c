@@ -1,0 +1,80 @@
+/* Stands in the library's place, to see what each language makes of a status. The first word of a request says what is
+ * returned:
+ *
+ *   say TEXT    the answer TEXT
+ *   meet TEXT   the answer TEXT, once another thread has its answer in its room too
+ *   memory      out of memory
+ *   memory N    out of memory, once there is room for N bytes
+ *   status N    the status N
+ *
+ * Any other request is unreadable. The calls over numbers are always out of memory. */
+#include "wgsl.h"
+#include <sched.h>
+#include <stdatomic.h>
+#include <stdlib.h>
+#include <string.h>
+
+/* The rest of a request that begins with the word, or NULL. */
+static const char *after(const char *word, const char *request, size_t len) {
+    size_t word_len = strlen(word);
+    if (len < word_len || memcmp(request, word, word_len)) return NULL;
+    return len == word_len ? request + len : request[word_len] == ' ' ? request + word_len + 1 : NULL;
+}
+
+static int number_at(const char *digits, const char *end) {
+    int number = 0;
+    for (; digits < end; digits++) number = number * 10 + (*digits - '0');
+    return number;
+}
+
+static uint8_t say(const char *text, const char *end, uint8_t *room, size_t room_len, size_t *text_len) {
+    *text_len = (size_t)(end - text);
+    if (room_len < *text_len) return WGSL_NO_ROOM;
+    memcpy(room, text, *text_len);
+    return WGSL_ANSWERED;
+}
+
+/* Waits until a second call has come, for some seconds at most, and no more if none came in that time. */
+static void meet(void) {
+    static atomic_uint came, alone;
+    unsigned mine = atomic_fetch_add(&came, 1);
+    for (long turn = 0; atomic_load(&came) <= (mine | 1) && !atomic_load(&alone); turn++) {
+        sched_yield();
+        if (turn == 10000000) atomic_store(&alone, 1);
+    }
+}
+
+uint8_t wgsl_answer(const uint8_t *bytes, size_t len, uint8_t *room, size_t room_len, size_t *text_len) {
+    const char *request = (const char *)bytes, *end = request + len, *rest;
+    *text_len = 0;
+    if ((rest = after("say", request, len))) return say(rest, end, room, room_len, text_len);
+    if ((rest = after("meet", request, len))) {
+        uint8_t status = say(rest, end, room, room_len, text_len);
+        if (status == WGSL_ANSWERED) meet();
+        return status;
+    }
+    if ((rest = after("memory", request, len))) {
+        size_t needed = (size_t)number_at(rest, end);
+        if (room_len >= needed) return WGSL_OUT_OF_MEMORY;
+        *text_len = needed;
+        return WGSL_NO_ROOM;
+    }
+    if ((rest = after("status", request, len))) return (uint8_t)number_at(rest, end);
+    return WGSL_UNREADABLE;
+}
+
+#define OUT_OF_MEMORY(name) \
+    uint8_t name(const uint32_t *request, size_t request_len, uint32_t *room, size_t room_len, size_t *len) { \
+        (void)request, (void)request_len, (void)room, (void)room_len; \
+        *len = 0; \
+        return WGSL_OUT_OF_MEMORY; \
+    }
+
+OUT_OF_MEMORY(wgsl_rank)
+OUT_OF_MEMORY(wgsl_common)
+OUT_OF_MEMORY(wgsl_unary)
+OUT_OF_MEMORY(wgsl_binary)
+OUT_OF_MEMORY(wgsl_constructor)
+OUT_OF_MEMORY(wgsl_call)
+OUT_OF_MEMORY(wgsl_size)
+OUT_OF_MEMORY(wgsl_layout)
