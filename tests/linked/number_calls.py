@@ -7,7 +7,7 @@ from type_codes import BINARY, UNARY, NoCode, Random, Reader
 from type_codes import code, list_code, parameter_words, signature_code, signature_words, spelling, words
 
 CALLS = "rank common unary binary constructor call size layout".split()
-ROOM = 4096
+ROOM = 1 << 14
 FILL = 0xAAAAAAAA
 
 
@@ -198,6 +198,24 @@ def compare_types(library, count):
         given = code(rng.type(6))
         if library.ask("common", [1, 0] + given) != (0, given):
             sys.exit(f"link: {given} doesn't come back")
+
+
+def compare_known(library):
+    """Where the two calls differ, and the types that are answered and not asked about."""
+    scalars = [("scalar", name) for name in ("AbstractInt", "AbstractInt", "i32")]
+    listed = [("ref", "function", "read", scalars[0])] + scalars[1:]
+    by_numbers = library.ask("common", list_code([code(t) for t in listed]))
+    in_text = library.text("common " + " ".join(words(t) for t in listed))
+    if (by_numbers, in_text) != ((0, code(scalars[2])), "none"):
+        sys.exit(f"link: the common type with a reference is {by_numbers} by numbers, {in_text} in text")
+    deepest = scalars[2]
+    for _ in range(254):
+        deepest = ("array", 1, deepest)
+    deeper = code(("array", 2, deepest))
+    if library.ask("constructor", signature_code("array", None, [deepest] * 2)) != (0, deeper):
+        sys.exit("link: an array of elements with 255 levels isn't answered")
+    if library.ask("size", code(deepest))[0] != 0 or library.ask("size", deeper)[0] != 2:
+        sys.exit("link: a type of 255 levels isn't asked about, or one of 256 is")
 
 
 # Broken words.

@@ -1,5 +1,6 @@
 /* Refuses each request for memory of each call in turn, and then all from it on. Linked with malloc, realloc and free
- * wrapped. The call says so, writes nothing and keeps nothing, and the same call then answers as before. */
+ * wrapped. The call says so, writes nothing and keeps nothing, and the same call then answers as before. Prints how many
+ * requests for memory each call makes, one number per line. */
 #include "requests.h"
 
 static long asked, live, refused = -1, refused_from = -1;
@@ -49,7 +50,6 @@ static void refuse(size_t k, long one, long from, int status, size_t wanted_len)
 }
 
 int main(void) {
-    long all = 0;
     read_requests();
     for (size_t k = 0; k < count; k++) {
         size_t len = 0;
@@ -60,8 +60,7 @@ int main(void) {
             refuse(k, n, -1, status, len);
             refuse(k, -1, n, status, len);
         }
-        all += needed;
+        printf("%ld\n", needed);
     }
-    printf("%ld requests for memory\n", all);
     return 0;
 }
