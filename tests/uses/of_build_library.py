@@ -5,7 +5,7 @@ import signal
 
 from use import BELOW, LIBRARY, add, end_of, equal, expect, read, wait_for_end
 
-WRITTEN = ["libwgsl.a", "libwgsl.so", "wgsl.h", "wgsl_codes.h"]
+WRITTEN = ["libwgsl.a", "libwgsl.so", "libwgsl.so.0", "wgsl.h", "wgsl_codes.h"]
 
 
 def _writes(use, folder, *said, at=None):
@@ -135,6 +135,11 @@ def no_compiler(use):
 def no_archiver(use):
     use.without("ar")
     _refused(use, "built", "build_library: there is no `ar` on the path")
+
+
+def no_objcopy(use):
+    use.without("objcopy")
+    _refused(use, "built", "build_library: there is no `objcopy` on the path")
 
 
 def compiler_that_is_not_there(use):

@@ -15,7 +15,9 @@ LIBRARY = [f"rt lib {crate}" for crate in BELOW + ["wgsl_coded", "wgsl_c"]]
 # What a use gives to standard input, and what the stand-in for the program answers.
 GIVEN, ANSWERS = "a\nb\n", "answer to a\nanswer to b\n"
 # The programs that the scripts call, for uses that lack one.
-TOOLS = "ar as bash cat cc cp date dirname find ld mkdir mktemp mv readlink rm sed sleep sort tail touch wc".split()
+TOOLS = (
+    "ar as bash cat cc cp date dirname find install ld ln mkdir mktemp mv objcopy readlink rm sed sleep sort tail touch wc"
+).split()
 OLD = 1_000_000_000
 
 
