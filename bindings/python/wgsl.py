@@ -46,20 +46,22 @@ def _find():
 
 
 def _load():
-    """The call of the library."""
+    """The calls of the library: the one that answers, and the one that explains why it doesn't."""
     path = _find()
     try:
-        call = ctypes.CDLL(path).wgsl_answer
+        library = ctypes.CDLL(path)
+        calls = library.wgsl_answer, library.wgsl_explain
     except (OSError, AttributeError) as error:
         raise ImportError(f"{error}: write the library again with ./build_library FOLDER") from None
     size, pointer = ctypes.c_size_t, ctypes.POINTER
-    call.restype = ctypes.c_uint8
-    call.argtypes = [ctypes.c_char_p, size, ctypes.c_char_p, size, pointer(size)]
-    return call
+    for call in calls:
+        call.restype = ctypes.c_uint8
+        call.argtypes = [ctypes.c_char_p, size, ctypes.c_char_p, size, pointer(size)]
+    return calls
 
 
 try:
-    _wgsl_answer = _load()
+    _wgsl_answer, _wgsl_explain = _load()
 except ImportError as wrong:
     if __name__ == "__main__":
         sys.exit(f"wgsl: {wrong}")
@@ -71,14 +73,35 @@ _ROOM = 256
 
 
 class Unreadable(ValueError):
-    """The request is no command, is blank, isn't one line of text, or has more than 4096 bytes."""
+    """The request is no command, is blank, isn't one line of text, or has more than 4096 bytes.
+
+    Its text says why: the column in bytes, the number of the word, and what was expected there.
+    """
+
+    def __init__(self, why, request):
+        super().__init__(why)
+        self.request = request
 
 
-def _ask(request, room_len):
+def _ask_once(call, request, room_len):
     """The status, the room with the answer, and its length. Each call has its own room: other threads may ask meanwhile."""
     room, length = (ctypes.c_char * room_len)(), ctypes.c_size_t()
-    status = _wgsl_answer(request, len(request), room, room_len, ctypes.byref(length))
+    status = call(request, len(request), room, room_len, ctypes.byref(length))
     return status, room, length.value
+
+
+def _ask(call, request):
+    """What a call says, or None. Raises MemoryError if memory runs out."""
+    status, room, length = _ask_once(call, request, _ROOM)
+    if status == _NO_ROOM:
+        status, room, length = _ask_once(call, request, length)
+    if status == _ANSWERED:
+        return room[:length].decode()
+    if status == _UNREADABLE:
+        return None
+    if status == _OUT_OF_MEMORY:
+        raise MemoryError("there was no memory for an answer")
+    raise RuntimeError(f"wgsl.h has no status {status}")
 
 
 def answer(request: str) -> str:
@@ -90,16 +113,10 @@ def answer(request: str) -> str:
         raise TypeError(f"a request is a str, not {type(request).__name__}")
     # A lone surrogate is passed as bytes that aren't UTF-8, which the library doesn't read.
     encoded = request.encode("utf-8", "surrogatepass")
-    status, room, length = _ask(encoded, _ROOM)
-    if status == _NO_ROOM:
-        status, room, length = _ask(encoded, length)
-    if status == _ANSWERED:
-        return room[:length].decode()
-    if status == _UNREADABLE:
-        raise Unreadable(request)
-    if status == _OUT_OF_MEMORY:
-        raise MemoryError("there was no memory for an answer")
-    raise RuntimeError(f"wgsl.h has no status {status}")
+    text = _ask(_wgsl_answer, encoded)
+    if text is None:
+        raise Unreadable(_ask(_wgsl_explain, encoded) or "", request)
+    return text
 
 
 def _answer_lines(lines, output):
@@ -111,8 +128,9 @@ def _answer_lines(lines, output):
             continue
         try:
             output.write(answer(request) + "\n")
-        except Unreadable:
+        except Unreadable as unreadable:
             output.write(f"bad line {number}\n")
+            print(f"line {number}: {unreadable}", file=sys.stderr)
             status = 2
         except MemoryError:
             return 3

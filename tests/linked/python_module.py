@@ -2,7 +2,7 @@
 import os
 import sys
 
-from tools import BINDINGS, LINKED, compare, expect_shown, failure, run, write_shown
+from tools import BINDINGS, LINKED, answers_and_notes, compare_both, expect_shown, failure, run, write_shown
 
 FOLDER = os.path.join(BINDINGS, "python")
 MODULE = os.path.join(FOLDER, "wgsl.py")
@@ -13,7 +13,8 @@ FOUND = {"PYTHONPATH": FOLDER, "PYTHONDONTWRITEBYTECODE": "1"}
 
 def check_python(top, asked, wanted):
     """The module as a program, the program of docs/USING.md, and threads. A relative folder is found from below."""
-    compare("Python", wanted, run(sys.executable, MODULE, asked=asked, statuses=(2,), WGSL_LIB=os.path.join(top, "out")))
+    given = answers_and_notes(sys.executable, MODULE, asked=asked, WGSL_LIB=os.path.join(top, "out"))
+    compare_both("Python", wanted, given)
     below = os.path.join(top, "below", "that")
     os.makedirs(below)
     shown = write_shown("python", os.path.join(below, "shown.py"))

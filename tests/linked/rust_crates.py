@@ -6,7 +6,7 @@ import shutil
 import signal
 import sys
 
-from tools import BINDINGS, LINKED, TOP, compare, expect_shown, failure, run, write_shown
+from tools import BINDINGS, LINKED, TOP, answers_and_notes, compare, compare_both, expect_shown, failure, run, write_shown
 
 CRATES = ["rust", "rust-types"]
 TO_DO = "set it to the folder where ./build_library FOLDER wrote libwgsl.a"
@@ -35,7 +35,7 @@ def check_rust(crates, asked, wanted):
     write_shown("rust", crates.path("rust", "examples", "shown.rs"))
     crates.cargo("rust", "test", WGSL_LIB="out")
     examples = crates.path("rust", "target", "debug", "examples")
-    compare("Rust, asked in text,", wanted, run(os.path.join(examples, "lines"), asked=asked, statuses=(2,)))
+    compare_both("Rust", wanted, answers_and_notes(os.path.join(examples, "lines"), asked=asked))
     expect_shown("Rust", run(os.path.join(examples, "shown")))
 
 

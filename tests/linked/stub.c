@@ -7,7 +7,8 @@
  *   memory N    out of memory, once there is room for N bytes
  *   status N    the status N
  *
- * Any other request is unreadable. The calls over numbers are always out of memory. */
+ * Any other request is unreadable, which is explained by the request itself. The calls over numbers are always out of
+ * memory. */
 #include "wgsl.h"
 #include <sched.h>
 #include <stdatomic.h>
@@ -61,6 +62,11 @@ uint8_t wgsl_answer(const uint8_t *bytes, size_t len, uint8_t *room, size_t room
     }
     if ((rest = after("status", request, len))) return (uint8_t)number_at(rest, end);
     return WGSL_UNREADABLE;
+}
+
+uint8_t wgsl_explain(const uint8_t *bytes, size_t len, uint8_t *room, size_t room_len, size_t *text_len) {
+    const char *request = (const char *)bytes;
+    return say(request, request + len, room, room_len, text_len);
 }
 
 #define OUT_OF_MEMORY(name) \

@@ -57,6 +57,18 @@ def compare(language, wanted, given):
     print(f"link: {language} prints what is wanted")
 
 
+def answers_and_notes(*command, **more):
+    """What a program prints for lines of which one is bad, and what it notes on those: `line N: ` and why."""
+    done = end(*command, statuses=(2,), **more)
+    return done.stdout, re.sub(rb"(?m)^(?:wgsl_check: )?line (\d+)[:,] ", rb"line \1: ", done.stderr)
+
+
+def compare_both(language, wanted, given):
+    """Compares the answers of two programs, and their notes."""
+    compare(f"{language}, asked in text,", wanted[0], given[0])
+    compare(f"{language}, on what can't be read,", wanted[1], given[1])
+
+
 def write_shown(language, path, index=0):
     """Writes a program in that language of docs/USING.md, as it stands: the first over texts, the second over numbers."""
     with open(os.path.join(TOP, "docs", "USING.md"), encoding="utf-8") as file:

@@ -5,7 +5,7 @@
 //!
 //! assert_eq!(answer("binary + AbstractInt vec 3 f32"), Ok("vec3<f32>".to_string()));
 //! assert_eq!(answer("rank i32 f32"), Ok("none".to_string()));
-//! assert_eq!(answer("binary + i32"), Err(Error::Unreadable));
+//! assert_eq!(answer("binary + i32"), Err(Error::Unreadable("column 13, word 4: a type is missing".to_string())));
 //! ```
 //!
 //! The environment variable `WGSL_LIB` names the folder where `./build_library FOLDER` wrote the library. A relative folder
@@ -13,32 +13,31 @@
 
 use std::fmt;
 
+// As in bindings/c/wgsl.h.
 extern "C" {
-    // As in bindings/c/wgsl.h.
-    fn wgsl_answer(
-        request: *const u8,
-        request_len: usize,
-        room: *mut u8,
-        room_len: usize,
-        text_len: *mut usize,
-    ) -> u8;
+    fn wgsl_answer(request: *const u8, request_len: usize, room: *mut u8, room_len: usize, text_len: *mut usize) -> u8;
+    fn wgsl_explain(request: *const u8, request_len: usize, room: *mut u8, room_len: usize, text_len: *mut usize) -> u8;
 }
 
+/// One of these two.
+type Call = unsafe extern "C" fn(*const u8, usize, *mut u8, usize, *mut usize) -> u8;
+
 /// Why a request has no answer.
-#[derive(Clone, Copy, Debug, PartialEq, Eq)]
+#[derive(Clone, Debug, PartialEq, Eq)]
 pub enum Error {
-    /// The request is no command, is blank, has a line feed, or has more than 4096 bytes.
-    Unreadable,
+    /// The request is no command, is blank, has a line feed, or has more than 4096 bytes. The text says why: the column in
+    /// bytes, the number of the word, and what was expected there.
+    Unreadable(String),
     /// There was no memory.
     OutOfMemory,
 }
 
 impl fmt::Display for Error {
     fn fmt(&self, f: &mut fmt::Formatter<'_>) -> fmt::Result {
-        f.write_str(match self {
-            Error::Unreadable => "the request is unreadable",
-            Error::OutOfMemory => "out of memory",
-        })
+        match self {
+            Error::Unreadable(why) => write!(f, "the request is unreadable: {why}"),
+            Error::OutOfMemory => f.write_str("out of memory"),
+        }
     }
 }
 
@@ -51,16 +50,25 @@ const ROOM: usize = 256;
 ///
 /// The deepest request takes less than 160 KiB of stack.
 pub fn answer(request: &str) -> Result<String, Error> {
+    match ask(wgsl_answer, request)? {
+        Some(answer) => Ok(answer),
+        None => Err(Error::Unreadable(ask(wgsl_explain, request)?.unwrap_or_default())),
+    }
+}
+
+/// What a call says, if it says something.
+fn ask(call: Call, request: &str) -> Result<Option<String>, Error> {
     let mut room = [0; ROOM];
-    match ask(request, &mut room)? {
-        Reply::Answer(len) => text(&room[..len]),
+    match ask_once(call, request, &mut room)? {
+        Reply::Answer(len) => text(&room[..len]).map(Some),
+        Reply::Unreadable => Ok(None),
         Reply::NoRoom(len) => {
             let mut room = Vec::new();
             room.try_reserve_exact(len).map_err(|_| Error::OutOfMemory)?;
             room.resize(len, 0);
-            match ask(request, &mut room)? {
-                Reply::Answer(len) => text(&room[..len]),
-                Reply::NoRoom(_) => unreachable!("the same request has the same answer"),
+            match ask_once(call, request, &mut room)? {
+                Reply::Answer(len) => text(&room[..len]).map(Some),
+                _ => unreachable!("the same request has the same answer"),
             }
         }
     }
@@ -69,19 +77,18 @@ pub fn answer(request: &str) -> Result<String, Error> {
 /// The length of an answer, and whether there was room for it.
 enum Reply {
     Answer(usize),
+    Unreadable,
     NoRoom(usize),
 }
 
-fn ask(request: &str, room: &mut [u8]) -> Result<Reply, Error> {
+fn ask_once(call: Call, request: &str, room: &mut [u8]) -> Result<Reply, Error> {
     let mut len = 0;
     // SAFETY: each pointer is that of a live slice with this length, or of `len`; the mutable ones overlap nothing, and no
     // slice has 2^63 bytes. The library is linked with one malloc, realloc and free.
-    let status = unsafe {
-        wgsl_answer(request.as_ptr(), request.len(), room.as_mut_ptr(), room.len(), &mut len)
-    };
+    let status = unsafe { call(request.as_ptr(), request.len(), room.as_mut_ptr(), room.len(), &mut len) };
     match status {
         0 => Ok(Reply::Answer(len)),
-        2 => Err(Error::Unreadable),
+        2 => Ok(Reply::Unreadable),
         3 => Err(Error::OutOfMemory),
         4 => Ok(Reply::NoRoom(len)),
         status => unreachable!("bindings/c/wgsl.h has no status {status}"),
