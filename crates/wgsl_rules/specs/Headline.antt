@@ -20,8 +20,9 @@ pub record IsLeastCandidate (n : Name) (ts us : List WgslType) (r : WgslType) : 
   pub least : (vs : List WgslType) (s : WgslType) (ws : List ℕ) → IsCandidate n vs s →
       HasRanks ts vs ws → (vs ≡ us) × (s ≡ r) ⊎ IsNowhereMore ranks ws × IsSomewhereLess ranks ws
 
--- Binary operators, and the functions of `Name` without a template, return the result of the least
--- candidate. They refuse (None) exactly if none takes the operands, or in `RefusedThoughTaken`.
+-- The chosen answer: the result of the least candidate, and None exactly if no candidate takes the
+-- operands. Binary operators return it, and functions of `Name` without a template. The functions
+-- refuse some calls that a candidate takes: see `IsChosenCall`, in calls/Answers.
 pub record IsChosenAnswer (n : Name) (ts : List WgslType) (r : Option WgslType) : Type 0 where
   pub some : (t : WgslType) → (r ≡ Some t) ↔ ((us : List WgslType) × IsLeastCandidate n ts us t)
   pub none : (r ≡ None) ↔ ((us : List WgslType) (t : WgslType) → IsCandidate n us t → ¬ Takes us ts)
