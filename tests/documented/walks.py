@@ -64,19 +64,17 @@ def read_walks():
 
 
 def compare_rows(name, rows):
-    """Each file of a walk is there once, and each function that a row names is in its file, or in the one it is said to be in."""
+    """Each file of a walk is there once. Each function that a row names is in its file, or in that which the row says."""
     files = [file for file, _ in rows]
-    faults = [f"MAP.md, walk of {name}: {file} isn't there" for file in files if not os.path.exists(os.path.join(TOP, file))]
-    faults += [f"MAP.md, walk of {name}: {file} is there twice" for file in sorted(set(files)) if files.count(file) > 1]
-    if faults:
-        return faults
-    for file, said in rows:
+    faults = [f"{file} isn't there" for file in files if not os.path.exists(os.path.join(TOP, file))]
+    faults += [f"{file} is named twice" for file in sorted(set(files)) if files.count(file) > 1]
+    for file, said in [] if faults else rows:
         for function, other in ENTERED.findall(said):
             places = [path for path in files if path.endswith("/" + other)] if other else [file]
-            if not any(function in (found for _, _, found in functions(path)) for path in places):
-                if other or function not in name.split():
-                    faults.append(f"MAP.md, walk of {name}: {function} isn't in {other or file}")
-    return faults
+            is_there = any(function in (found for _, _, found in functions(path)) for path in places)
+            if not is_there and (other or function not in name.split()):
+                faults.append(f"{function} isn't in {other or file}")
+    return [f"MAP.md, walk of {name}: {fault}" for fault in faults]
 
 
 def homes():
