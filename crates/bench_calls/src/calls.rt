@@ -4,6 +4,7 @@
 use std::alloc::Global;
 use wgsl_requests::read::{read_last_type, read_pair, read_types};
 use wgsl_requests::template::read_template;
+use wgsl_requests::wanted::{Misfit, Wanted};
 use wgsl_requests::words::{Unread, Words, medium};
 use wgsl_types::builtin::{type_binary_op, type_builtin_fn, type_ctor, type_unary_op};
 use wgsl_types::conv::{conversion_rank, convert_all_ty};
@@ -14,10 +15,10 @@ use wgsl_types::ty::Type;
 /// Makes the call of a request as often as the number before it says, and counts the calls that give a value.
 pub fn repeat(alloc: Global, request: &str) -> Result<u64, Unread> {
     let Some(mut words) = Words::of(request.as_bytes()) else {
-        return Err(Unread::Word);
+        return Err(Unread::Word(Misfit::LeftOver));
     };
-    let times = medium(words.next()?)?;
-    match words.next()? {
+    let times = medium(words.next(Wanted::Elements)?, Wanted::Elements)?;
+    match words.next(Wanted::Command)? {
         "rank" => ranks(alloc, times, &mut words),
         "common" => common_types(alloc, times, &mut words),
         "unary" => unaries(alloc, times, &mut words),
@@ -25,7 +26,7 @@ pub fn repeat(alloc: Global, request: &str) -> Result<u64, Unread> {
         "size" => sizes(alloc, times, &mut words),
         "ctor" => constructors(alloc, times, &mut words),
         "call" => calls(alloc, times, &mut words),
-        _ => Err(Unread::Word),
+        _ => Err(Unread::Word(Misfit::Wrong(Wanted::Command))),
     }
 }
 
@@ -63,9 +64,9 @@ fn common_types(alloc: Global, times: u32, words: &mut Words) -> Result<u64, Unr
 }
 
 fn unaries(alloc: Global, times: u32, words: &mut Words) -> Result<u64, Unread> {
-    let operator = match words.next()? {
+    let operator = match words.next(Wanted::UnaryOperator)? {
         "-" => UnaryOperator::Negation,
-        _ => return Err(Unread::Word),
+        _ => return Err(Unread::Word(Misfit::Wrong(Wanted::UnaryOperator))),
     };
     let operand = read_last_type(alloc, words)?;
     let mut given: u64 = 0;
@@ -78,11 +79,11 @@ fn unaries(alloc: Global, times: u32, words: &mut Words) -> Result<u64, Unread> 
 }
 
 fn binaries(alloc: Global, times: u32, words: &mut Words) -> Result<u64, Unread> {
-    let operator = match words.next()? {
+    let operator = match words.next(Wanted::BinaryOperator)? {
         "+" => BinaryOperator::Addition,
         "*" => BinaryOperator::Multiplication,
         "<<" => BinaryOperator::ShiftLeft,
-        _ => return Err(Unread::Word),
+        _ => return Err(Unread::Word(Misfit::Wrong(Wanted::BinaryOperator))),
     };
     let types = read_pair(alloc, words)?;
     let mut given: u64 = 0;
@@ -108,7 +109,7 @@ fn sizes(alloc: Global, times: u32, words: &mut Words) -> Result<u64, Unread> {
 }
 
 fn constructors(alloc: Global, times: u32, words: &mut Words) -> Result<u64, Unread> {
-    let name = words.next()?;
+    let name = words.next(Wanted::Name)?;
     let template = read_template(alloc, words)?;
     let types = read_types(alloc, words)?;
     let mut given: u64 = 0;
@@ -122,7 +123,7 @@ fn constructors(alloc: Global, times: u32, words: &mut Words) -> Result<u64, Unr
 }
 
 fn calls(alloc: Global, times: u32, words: &mut Words) -> Result<u64, Unread> {
-    let name = words.next()?;
+    let name = words.next(Wanted::Name)?;
     let template = read_template(alloc, words)?;
     let types = read_types(alloc, words)?;
     let mut given: u64 = 0;

@@ -1,12 +1,12 @@
 -- What C is handed.
 use Rattle.std.specs.Prelude.{◌≡◌, ◌⊎◌, ◌<◌, ◌≤◌, ◌++◌, ℕ, List, [], All, IfOk, IsUtf8, Result, Ok, Err, drop, length, string_bytes, true}
 use Rattle.std.specs.declared.alloc.AllocError.{AllocError}
-use Rattle.wgsl_requests.specs.Replies.{IsReplyTo, reply_text}
+use Rattle.wgsl_requests.specs.Replies.{IsExplanation, IsReplyTo, reply_text}
 use Rattle.wgsl_requests.specs.Words.{has_line_feed, words_of}
 use Rattle.wgsl_requests.specs.declared.request.Reply.{Reply}
 use Rattle.wgsl_requests.specs.declared.request.Reply.TheVariants.{Nothing, Answer, Unreadable}
 
--- 0 answered, 2 unreadable, 3 memory refused, 4 no room
+-- 0 answered or explained, 2 unreadable or nothing to explain, 3 out of memory, 4 no room
 abbrev pub IsStatus : ℕ → Type 0
 IsStatus status = (status ≡ 0) ⊎ (status ≡ 2) ⊎ (status ≡ 3) ⊎ (status ≡ 4)
 
@@ -17,6 +17,10 @@ pub record IsPromised (request : List ℕ) (reply : Result Reply AllocError) : T
   pub forbidden : has_line_feed request ≡ true → reply ≡ Ok Unreadable
   pub no_text : ¬ All IsUtf8 (words_of request) → IfOk reply (λ r. r ≡ Unreadable)
   pub no_words : length request ≤ 4096 → words_of request ≡ [] → IfOk reply (λ r. r ≡ Nothing)
+
+-- what the library promises of an explanation: there is one exactly if the request has no answer
+abbrev pub IsExplained : List ℕ → Result Reply AllocError → Type 0
+IsExplained request reply = IfOk reply (λ r. IsExplanation request r)
 
 -- bytes or words are written if there is room for them: at the start of the room, whose rest stays
 -- as it was

@@ -10,11 +10,11 @@ pub const ANSWERED: u8 = 0;
 /// The rules of WGSL refuse it.
 pub const RULED_OUT: u8 = 1;
 
-/// The request can't be read.
+/// The request can't be read, or there is nothing to explain of it.
 pub const UNREADABLE: u8 = 2;
 
-/// Memory was refused.
-pub const REFUSED: u8 = 3;
+/// Out of memory.
+pub const OUT_OF_MEMORY: u8 = 3;
 
 /// The answer is longer than the room for it.
 pub const NO_ROOM: u8 = 4;
@@ -31,7 +31,7 @@ pub fn hand_over(reply: &Result<Reply, AllocError>, answer: &mut [u8], text_len:
         }
         Err(_) => {
             *text_len = 0;
-            REFUSED
+            OUT_OF_MEMORY
         }
     }
 }

@@ -3,7 +3,7 @@ ghost use Rattle.std.specs.Prelude.{Err, List, ℕ};
 ghost use Rattle.wgsl_coded.specs.Seen.{rank_words, reply_words, seen, size_words};
 ghost use Rattle.wgsl_c.specs.Words.{IsHandedReply, IsRoomKept};
 
-use crate::hand_over::{ANSWERED, REFUSED, RULED_OUT, UNREADABLE, hand_over_items};
+use crate::hand_over::{ANSWERED, OUT_OF_MEMORY, RULED_OUT, UNREADABLE, hand_over_items};
 use wgsl_coded::{Fault, Reply, SizeAndAlign};
 
 /// Hands over a rank, or that there is none.
@@ -62,6 +62,6 @@ fn hand_over_fault(fault: Fault, len: &mut usize) -> u8
     *len = 0;
     match fault {
         Fault::NoType => UNREADABLE,
-        Fault::Memory => REFUSED,
+        Fault::Memory => OUT_OF_MEMORY,
     }
 }

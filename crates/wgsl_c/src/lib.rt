@@ -1,4 +1,5 @@
-//! The library for C: one function that answers a request in text, and one function for each question in words.
+//! The library for C: a function that answers a request in text, one that explains why a request can't be read, and one
+//! function for each question in words.
 #![tactic(auto)]
 
 mod hand_over;
@@ -9,15 +10,15 @@ ghost use Rattle.std.specs.Prelude.{◌≡◌, ◌≢◌, ◌⊎◌, ◌<◌, �
 ghost use Rattle.std.specs.declared.alloc.AllocError.{AllocError};
 ghost use Rattle.wgsl_requests.specs.Words.{has_line_feed, words_of};
 ghost use Rattle.wgsl_requests.specs.declared.request.Reply.{Reply};
-ghost use Rattle.wgsl_c.specs.HandOver.{IsHandedOver, IsPromised, IsStatus};
+ghost use Rattle.wgsl_c.specs.HandOver.{IsExplained, IsHandedOver, IsPromised, IsStatus};
 
 use hand_over::hand_over;
 use std::alloc::Global;
-use wgsl_requests::request::reply_to;
+use wgsl_requests::request::{explain, reply_to};
 
 /// Answers one request, as the program answers a line.
 ///
-/// The status is 0 if the answer is written, 2 if the request can't be read, 3 if memory was refused, and 4 if the answer is
+/// The status is 0 if the answer is written, 2 if the request can't be read, 3 if memory runs out, and 4 if the answer is
 /// longer than the room for it. `text_len` is the length of the answer in bytes, on status 4 too, and else 0. The answer is
 /// written on status 0 alone, without a NUL after it.
 #[unsafe(no_mangle)]
@@ -44,4 +45,30 @@ pub extern "C" fn wgsl_answer(
     ensures no_words { words_of request.now ≡ [] → (result ≡ 2) ⊎ (result ≡ 3) }
 {
     hand_over(&reply_to(alloc, request), answer, text_len)
+}
+
+/// Explains why a request can't be read.
+///
+/// The status is 0 if the explanation is written, 2 if there is nothing to explain, since the request has an answer, 3 if
+/// memory runs out, and 4 if the explanation is longer than the room for it. `text_len` is the length of the explanation in
+/// bytes, on status 4 too, and else 0. The explanation is written on status 0 alone, without a NUL after it.
+#[unsafe(no_mangle)]
+pub extern "C" fn wgsl_explain(
+    alloc: Global,
+    request: &[u8],
+    room: &mut [u8],
+    text_len: &mut usize,
+) -> u8
+    // What is explained is handed over, and what holds of it is said again.
+    ensures reply { (reply : Result Reply AllocError) × IsExplained request.now reply
+        × IsHandedOver reply room.old room.new text_len.new result }
+
+    ensures status { IsStatus result }
+    ensures explained { result ≡ 0 → text_len.new ≤ length room.old }
+    ensures text { result ≡ 0 → IsUtf8 (take text_len.new room.new) }
+    ensures rest { result ≡ 0 → drop text_len.new room.new ≡ drop text_len.new room.old }
+    ensures no_room { result ≡ 4 → length room.old < text_len.new }
+    ensures unwritten { result ≢ 0 → room.new ≡ room.old }
+{
+    hand_over(&explain(alloc, request), room, text_len)
 }

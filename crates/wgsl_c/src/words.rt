@@ -2,7 +2,7 @@
 //
 // Each sets `len`: on the statuses 0, 1 and 4 to the number of words of the answer or of the refusal, and else to 0. It
 // writes those words on 0 and 1 alone. The status is 0 for an answer, 1 for a refusal by WGSL's rules, 2 for words that
-// are no such request, 3 if memory was refused, and 4 if the room has fewer words than the answer or the refusal.
+// are no such request, 3 if memory runs out, and 4 if the room has fewer words than the answer or the refusal.
 ghost use Rattle.std.specs.Prelude.{Result};
 ghost use Rattle.wgsl_coded.specs.Replies.{IsBinaryReply, IsCallReply, IsCommonReply, IsConstructorReply, IsLayoutReply, IsRankReply, IsSizeReply, IsUnaryReply, ReplyWords};
 ghost use Rattle.wgsl_coded.specs.declared.fault.Fault.{Fault};

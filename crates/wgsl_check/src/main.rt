@@ -1,4 +1,5 @@
-// The program: it reads one request per line from standard input, and prints the answers.
+// The program: it reads one request per line from standard input, prints the answers, and notes on standard error why
+// lines can't be read.
 #![tactic(auto)]
 
 mod laws;
@@ -13,6 +14,7 @@ use std::process::ExitCode;
 fn main(rt: HostRuntime) -> ExitCode {
     let mut input = rt.stdin();
     let mut output = rt.stdout();
-    let outcome = run(rt.alloc(), &mut input, &mut output);
+    let mut notes = rt.stderr();
+    let outcome = run(rt.alloc(), &mut input, &mut output, &mut notes);
     ExitCode::from(status(&outcome))
 }

@@ -4,12 +4,14 @@ ghost use Rattle.std.specs.Io.KnownBytes.{Appends};
 ghost use Rattle.wgsl_check.specs.Output.{Prints, PrintsFirst, PrintsUntil, bad_line};
 ghost use Rattle.wgsl_check.specs.Status.{status_of};
 ghost use Rattle.wgsl_check.specs.declared.run.RunError.TheVariants.{Memory};
-ghost use Rattle.wgsl_requests.specs.Replies.{IsReplyTo, reply_of_kind};
+ghost use Rattle.wgsl_check.specs.Session.{reply_of_kind};
+ghost use Rattle.wgsl_requests.specs.Replies.{IsReplyTo};
 
 use crate::line::{Line, split_line};
 use std::alloc::{AllocError, Global};
 use std::io::{ErrorKind, Read, Write};
 use wgsl_requests::request::{ReplyKind, write_reply};
+use wgsl_requests::why::{Why, write_why};
 
 /// Why a run stopped.
 #[derive(Clone, Copy, Debug, PartialEq, Eq)]
@@ -18,7 +20,7 @@ pub enum RunError {
     Read,
     /// A write failed.
     Write,
-    /// Memory was refused.
+    /// Out of memory.
     Memory,
 }
 
@@ -35,11 +37,13 @@ const BLOCK: usize = 4096;
 
 /// Answers each line of the input, and says whether every one was readable.
 ///
-/// The answers to what one read gave are written before the next read.
-pub fn run<R: Read, W: Write>(
+/// The answers to what one read gave are written before the next read, and a note on each line of it that is bad
+/// after them. A note that can't be written is left out.
+pub fn run<R: Read, W: Write, N: Write>(
     alloc: Global,
     input: &mut R,
     output: &mut W,
+    notes: &mut N,
 ) -> Result<bool, RunError>
     ensures printed { IfOk result (λ readable. IfSome (R.remaining input.old) (λ bytes.
         (text : List ℕ) × Prints bytes text readable
@@ -48,7 +52,7 @@ pub fn run<R: Read, W: Write>(
         (text : List ℕ) × PrintsUntil error bytes text × PrintsFirst bytes text
         × Appends (W.contents output.old) (W.contents output.new) text)) }
 {
-    Session::new(alloc)?.answer_all(input, output)
+    Session::new(alloc)?.answer_all(input, output, notes)
 }
 
 /// The exit status of a run.
@@ -71,6 +75,8 @@ struct Session {
     /// The answer to the line.
     answer: String,
     answers: String,
+    /// Why lines can't be read.
+    notes: String,
     all_readable: bool,
 }
 
@@ -85,14 +91,16 @@ impl Session {
             line: Line::first(alloc)?,
             answer: String::new(alloc),
             answers: String::new(alloc),
+            notes: String::new(alloc),
             all_readable: true,
         })
     }
 
-    fn answer_all<R: Read, W: Write>(
+    fn answer_all<R: Read, W: Write, N: Write>(
         &mut self,
         input: &mut R,
         output: &mut W,
+        notes: &mut N,
     ) -> Result<bool, RunError>
         ensures { IsAtStart self.old → IfSome (R.remaining input.old) (λ bytes.
             MatchResult result
@@ -102,8 +110,8 @@ impl Session {
         let mut block = [0u8; BLOCK];
         for _ in 0..u64::MAX {
             match input.read(&mut block) {
-                Ok(0) => return self.answer_last(output),
-                Ok(count) => self.answer_block(&block[..count], output)?,
+                Ok(0) => return self.answer_last(output, notes),
+                Ok(count) => self.answer_block(&block[..count], output, notes)?,
                 Err(e) if e.kind() == ErrorKind::Interrupted => {}
                 Err(_) => return Err(RunError::Read),
             }
@@ -111,8 +119,13 @@ impl Session {
         Err(RunError::Read)
     }
 
-    /// Answers the lines that end in what one read gave, and writes the answers.
-    fn answer_block<W: Write>(&mut self, block: &[u8], output: &mut W) -> Result<(), RunError>
+    /// Answers the lines that end in what one read gave, and writes the answers and the notes.
+    fn answer_block<W: Write, N: Write>(
+        &mut self,
+        block: &[u8],
+        output: &mut W,
+        notes: &mut N,
+    ) -> Result<(), RunError>
         ensures { (bytes : List ℕ) (start : Option (List ℕ))
             → IsBetween bytes start (W.contents output.old) self.old
             → MatchResult result
@@ -122,11 +135,16 @@ impl Session {
     {
         let taken = self.take(block);
         self.write_answers(output)?;
+        write_notes(notes, &mut self.notes);
         Ok(taken?)
     }
 
-    /// Answers the last line, writes the answer, and says whether every line was readable.
-    fn answer_last<W: Write>(&mut self, output: &mut W) -> Result<bool, RunError>
+    /// Answers the last line, writes the answer or the note, and says whether every line was readable.
+    fn answer_last<W: Write, N: Write>(
+        &mut self,
+        output: &mut W,
+        notes: &mut N,
+    ) -> Result<bool, RunError>
         ensures { (bytes : List ℕ) (start : Option (List ℕ))
             → IsBetween bytes start (W.contents output.old) self.old
             → MatchResult result
@@ -135,6 +153,7 @@ impl Session {
     {
         let ended = self.end_line(b"");
         self.write_answers(output)?;
+        write_notes(notes, &mut self.notes);
         ended?;
         Ok(self.all_readable)
     }
@@ -176,7 +195,8 @@ impl Session {
                 self.answer.push('\n')?;
                 self.answers.push_str(&self.answer)?;
             }
-            ReplyKind::Unreadable => {
+            ReplyKind::Unreadable(why) => {
+                push_note(&self.line, end, why, &mut self.notes)?;
                 let text = bad_line(self.alloc, self.line.number)?;
                 self.answers.push_str(&text)?;
                 self.all_readable = false;
@@ -231,6 +251,31 @@ fn write_whole<W: Write>(output: &mut W, bytes: &[u8]) -> Result<(), RunError>
         }
     }
     Err(RunError::Write)
+}
+
+/// Writes the notes that were gathered, as far as they can be written.
+fn write_notes<N: Write>(output: &mut N, notes: &mut String) {
+    if !notes.is_empty() {
+        let _written = write_whole(output, notes.as_bytes());
+        notes.clear();
+    }
+}
+
+/// Gathers a note on the line that ends with these bytes: why it can't be read.
+fn push_note(line: &Line, end: &[u8], why: Why, notes: &mut String) -> Result<(), AllocError> {
+    let number = line.number;
+    let before = match why {
+        Why::Word(_) => ",",
+        _ => ":",
+    };
+    write!(notes, "wgsl_check: line {number}{before} ")?;
+    let bytes = if line.bytes.is_empty() {
+        end
+    } else {
+        &line.bytes
+    };
+    write_why(bytes, why, notes)?;
+    notes.push('\n')
 }
 
 /// The kind of the reply to the line that ends with these bytes; an answer is written at the end of the text.

@@ -8,11 +8,11 @@ use Rattle.wgsl_requests.specs.declared.words.Unread.{Unread}
 use Rattle.wgsl_requests.specs.declared.words.Unread.TheVariants.{Word, Memory}
 
 pub refuses : (N M : Type 0) → (N → M) → (e : Unread) → Refuses N e → Refuses M e
-refuses N M f Word n = f n
+refuses N M f (Word misfit) n = f n
 refuses N M f (Memory e) n = tt
 
 pub refuses_any : (N : Type 0) (e : Unread) → N → Refuses N e
-refuses_any N Word n = n
+refuses_any N (Word misfit) n = n
 refuses_any N (Memory e) n = tt
 
 -- the exit of a `?`, where the callee's refusal is one of the caller's

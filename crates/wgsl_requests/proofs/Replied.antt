@@ -82,12 +82,12 @@ size_replied words t s a old first second new d is_size is_align e f g =
 -- what is written of a struct
 pub offsets_replied : (words : List (List ℕ)) (t : WgslType) (old new : List ℕ) (r : Result (Unit {0}) Unread) → TypeAt words t [] → WritesOfStruct (λ name ms. IsOffsetsText ms) t old new r → Replies (codes "offsets" ∷ words) old new r
 offsets_replied words t old new (Ok x) d w = replied old new (offsets_words (subst (λ t. TypeAt words t []) w.2 d)) (w.3.0, offsets_are w.3.1, w.3.2)
-offsets_replied words t old new (Err Word) d none = no_offsets words (other_struct words t d none)
+offsets_replied words t old new (Err (Word misfit)) d none = no_offsets words (other_struct words t d none)
 offsets_replied words t old new (Err (Memory e)) d none = tt
 
 pub layout_replied : (words : List (List ℕ)) (t : WgslType) (old new : List ℕ) (r : Result (Unit {0}) Unread) → TypeAt words t [] → WritesOfStruct IsLayoutText t old new r → Replies (codes "layout" ∷ words) old new r
 layout_replied words t old new (Ok x) d w = replied old new (layout_words (subst (λ t. TypeAt words t []) w.2 d)) (w.3.0, layout_is w.3.1, w.3.2)
-layout_replied words t old new (Err Word) d none = no_layout words (other_struct words t d none)
+layout_replied words t old new (Err (Word misfit)) d none = no_layout words (other_struct words t d none)
 layout_replied words t old new (Err (Memory e)) d none = tt
 
 pub ctor_replied : (words : List (List ℕ)) (c : Signature) (r : Result «Type» Fail) (old new : List ℕ) → IsCallee words c

@@ -10,7 +10,7 @@ Beginning A = List (List ℕ) → A → List (List ℕ) → Type 0
 
 -- the error is `Word` only if N holds; of memory nothing is said
 abbrev pub Refuses : Type 0 → Unread → Type 0
-Refuses N Word = N
+Refuses N (Word misfit) = N
 Refuses N (Memory e) = Unit {0}
 
 -- P holds of the value, and the error is `Word` only if N holds

@@ -1,5 +1,5 @@
 -- What a request gets.
-use Rattle.std.specs.Prelude.{◌≡◌, ◌≢◌, ◌<◌, ◌≤◌, ℕ, List, [], All, IsUtf8, false, length, string_bytes, true}
+use Rattle.std.specs.Prelude.{◌≡◌, ◌≢◌, ◌<◌, ◌≤◌, ◌++◌, ◌⊎◌, ℕ, List, [], All, IsUtf8, false, length, string_bytes, true}
 use Rattle.wgsl_requests.specs.Answers.{IsReply}
 use Rattle.wgsl_requests.specs.Requests.{NoRequest}
 use Rattle.wgsl_requests.specs.Words.{has_line_feed, words_of}
@@ -30,14 +30,27 @@ pub data IsReplyTo (bytes : List ℕ) : ReplyText → Type 0 where
   answered : (text : List ℕ) → IsLineOfText bytes → words_of bytes ≢ [] → IsReply (words_of bytes) text →
       IsReplyTo bytes (answer text)
 
--- a reply of this kind, if this text was written for it
-abbrev pub reply_of_kind : ReplyKind → List ℕ → ReplyText
-reply_of_kind k.Nothing text = nothing
-reply_of_kind k.Answer text = answer text
-reply_of_kind k.Unreadable text = unreadable
+-- a request of this kind can't be read
+abbrev pub IsUnreadable : ReplyKind → Type 0
+IsUnreadable k.Nothing = ⊥
+IsUnreadable k.Answer = ⊥
+IsUnreadable (k.Unreadable why) = Unit {0}
+
+-- the reply is of this kind, and an answer is written at the end of the text
+abbrev pub WritesReply : List ℕ → ReplyKind → List ℕ → List ℕ → Type 0
+WritesReply bytes k.Nothing old new = IsReplyTo bytes nothing
+WritesReply bytes k.Answer old new =
+    (text : List ℕ) × IsReplyTo bytes (answer text) × (new ≡ old ++ text)
+WritesReply bytes (k.Unreadable why) old new = IsReplyTo bytes unreadable
 
 -- a reply, without the memory that holds its text
 abbrev pub reply_text : Reply → ReplyText
 reply_text r.Nothing = nothing
 reply_text (r.Answer text) = answer (string_bytes text)
 reply_text r.Unreadable = unreadable
+
+-- what is explained: a sentence for a request that is not answered, and nothing for one that is
+abbrev pub IsExplanation : List ℕ → Reply → Type 0
+IsExplanation bytes r.Nothing = (text : List ℕ) × IsReplyTo bytes (answer text)
+IsExplanation bytes (r.Answer text) = IsReplyTo bytes nothing ⊎ IsReplyTo bytes unreadable
+IsExplanation bytes r.Unreadable = ⊥

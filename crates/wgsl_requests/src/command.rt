@@ -1,5 +1,5 @@
 // What the program answers to a command.
-ghost use Rattle.std.specs.Prelude.{◌≡◌, ◌++◌, ◌∷◌, IfOk, MatchBool, Ok, OnOk, codes, map, option_map, string_bytes};
+ghost use Rattle.std.specs.Prelude.{◌≡◌, ◌++◌, ◌∷◌, IfOk, MatchOption, Ok, OnOk, codes, map, option_map, string_bytes};
 ghost use Rattle.wgsl_syntax.specs.Operator.{binary_text, unary_text};
 ghost use Rattle.wgsl_rules.specs.types.Signatures.{Signature};
 ghost use Rattle.wgsl_rules.specs.types.Spelling.{spelling};
@@ -19,6 +19,7 @@ use crate::number::write_number;
 use crate::read::{read_last_type, read_pair, read_types};
 use crate::report::write_layout;
 use crate::template::read_template;
+use crate::wanted::{Misfit, Misread, Wanted};
 use crate::words::{Unread, Words};
 use std::alloc::{AllocError, Global};
 use wgsl_types::builtin::{type_binary_op, type_builtin_fn, type_ctor, type_unary_op};
@@ -28,20 +29,23 @@ use wgsl_types::syntax::{BinaryOperator, UnaryOperator};
 use wgsl_types::tplt::TpltParam;
 use wgsl_types::ty::Type;
 
-/// Writes the answer to the command and the words after it; false if they are no command.
+/// Writes the answer to the command and the words after it, or returns what is wrong with them if they are no command.
 pub fn write_answer(
     alloc: Global,
     command: &str,
     words: &mut Words,
     text: &mut String,
-) -> Result<bool, AllocError>
-    ensures { IfOk result (λ done. MatchBool done
+) -> Result<Option<Misread>, AllocError>
+    ensures { IfOk result (λ misread. MatchOption misread
         (Adds (IsReply (command.now ∷ left words.old)) (string_bytes text.old) (string_bytes text.new))
-        (NoRequest (command.now ∷ left words.old))) }
+        (λ misread. NoRequest (command.now ∷ left words.old))) }
 {
     match answer_command(alloc, command, words, text) {
-        Ok(()) => Ok(true),
-        Err(Unread::Word) => Ok(false),
+        Ok(()) => Ok(None),
+        Err(Unread::Word(misfit)) => Ok(Some(Misread {
+            misfit,
+            taken: words.taken(),
+        })),
         Err(Unread::Memory(e)) => Err(e),
     }
 }
@@ -65,7 +69,7 @@ fn answer_command(
         "layout" => layout(alloc, words, text),
         "ctor" => ctor(alloc, words, text),
         "call" => call(alloc, words, text),
-        _ => Err(Unread::Word),
+        _ => Err(Unread::Word(Misfit::Wrong(Wanted::Command))),
     }
 }
 
@@ -107,7 +111,7 @@ fn unary(alloc: Global, words: &mut Words, text: &mut String) -> Result<(), Unre
     ensures { Replies (codes "unary" ∷ left words.old)
         (string_bytes text.old) (string_bytes text.new) result }
 {
-    let operator = unary_operator(words.next()?)?;
+    let operator = unary_operator(words.next(Wanted::UnaryOperator)?)?;
     let operand = read_last_type(alloc, words)?;
     let answer = type_unary_op(alloc, operator, &operand);
     drop(operand);
@@ -123,7 +127,7 @@ fn unary_operator(word: &str) -> Result<UnaryOperator, Unread>
         "~" => Ok(UnaryOperator::BitwiseComplement),
         "&" => Ok(UnaryOperator::AddressOf),
         "*" => Ok(UnaryOperator::Indirection),
-        _ => Err(Unread::Word),
+        _ => Err(Unread::Word(Misfit::Wrong(Wanted::UnaryOperator))),
     }
 }
 
@@ -132,7 +136,7 @@ fn binary(alloc: Global, words: &mut Words, text: &mut String) -> Result<(), Unr
     ensures { Replies (codes "binary" ∷ left words.old)
         (string_bytes text.old) (string_bytes text.new) result }
 {
-    let operator = binary_operator(words.next()?)?;
+    let operator = binary_operator(words.next(Wanted::BinaryOperator)?)?;
     let types = read_pair(alloc, words)?;
     let answer = type_binary_op(alloc, operator, &types[0], &types[1]);
     drop(types);
@@ -161,7 +165,7 @@ fn binary_operator(word: &str) -> Result<BinaryOperator, Unread>
         "^" => Ok(BinaryOperator::BitwiseXor),
         "<<" => Ok(BinaryOperator::ShiftLeft),
         ">>" => Ok(BinaryOperator::ShiftRight),
-        _ => Err(Unread::Word),
+        _ => Err(Unread::Word(Misfit::Wrong(Wanted::BinaryOperator))),
     }
 }
 
@@ -195,7 +199,7 @@ fn write_offsets(alloc: Global, ty: &Type, text: &mut String) -> Result<(), Unre
         (string_bytes text.old) (string_bytes text.new) result }
 {
     let Type::Struct(read) = ty else {
-        return Err(Unread::Word);
+        return Err(Unread::Word(Misfit::NoStruct));
     };
     match read.offsets(alloc)? {
         Some(offsets) => Ok(write_spaced(text, &offsets)?),
@@ -219,7 +223,7 @@ fn write_layout_of(alloc: Global, ty: &Type, text: &mut String) -> Result<(), Un
         (string_bytes text.old) (string_bytes text.new) result }
 {
     let Type::Struct(read) = ty else {
-        return Err(Unread::Word);
+        return Err(Unread::Word(Misfit::NoStruct));
     };
     Ok(write_layout(alloc, read, text)?)
 }
@@ -236,7 +240,7 @@ fn read_callee<'t>(alloc: Global, words: &mut Words<'t>) -> Result<Callee<'t>, U
     ensures { Answers (λ callee. IsCallee (left words.old) (callee_view callee))
         ((call : Signature) → ¬ IsCallee (left words.old) call) result }
 {
-    let name = words.next()?;
+    let name = words.next(Wanted::Name)?;
     let template = read_template(alloc, words)?;
     let types = read_types(alloc, words)?;
     Ok(Callee {

@@ -11,6 +11,7 @@ ghost use Rattle.wgsl_requests.specs.internal.Leaves.{SampledAt, StorageAt, Text
 ghost use Rattle.wgsl_requests.specs.internal.Taken.{GoesOn, left};
 
 use crate::outer::access;
+use crate::wanted::{Misfit, Wanted};
 use crate::words::{Unread, Words, parsed};
 use std::str::FromStr;
 use wgsl_types::syntax::{AccelerationStructureFlags, AccessMode, SampledType, TexelFormat};
@@ -36,7 +37,7 @@ fn read_flag(words: &mut Words) -> Result<Option<AccelerationStructureFlags>, Un
     ensures goes_on { GoesOn words.old words.new }
     ensures read { Reads (OneWord IsFlag) (λ flag. flag) (left words.old) (left words.new) result }
 {
-    flag(words.next()?)
+    flag(words.next(Wanted::Flag)?)
 }
 
 fn flag(word: &str) -> Result<Option<AccelerationStructureFlags>, Unread>
@@ -44,7 +45,7 @@ fn flag(word: &str) -> Result<Option<AccelerationStructureFlags>, Unread>
 {
     match word {
         "-" => Ok(None),
-        _ => Ok(Some(parsed(word)?)),
+        _ => Ok(Some(parsed(word, Wanted::Flag)?)),
     }
 }
 
@@ -99,17 +100,22 @@ fn read_sampled(name: &str, words: &mut Words) -> Result<TextureType, Unread>
     ensures read { Reads (SampledAt name.now) (λ texture. texture)
         (left words.old) (left words.new) result }
 {
-    let sampled = sampled(words.next()?)?;
+    let sampled = sampled(words.next(Wanted::SampledType)?)?;
     match sampled_texture(name, sampled) {
         Some(texture) => Ok(texture),
-        None => Err(Unread::Word),
+        None => Err(Unread::Word(Misfit::NoTexture)),
     }
 }
 
 fn sampled(word: &str) -> Result<SampledType, Unread>
     ensures { ReadsWord (IsText sampled_text) word.now result }
 {
-    parsed(word)
+    parsed(word, Wanted::SampledType)
+}
+
+/// Whether textures of this name have a sampled type.
+pub fn is_sampled(name: &str) -> bool {
+    sampled_texture(name, SampledType::F32).is_some()
 }
 
 fn sampled_texture(name: &str, sampled: SampledType) -> Option<TextureType>
@@ -138,7 +144,7 @@ fn read_storage(name: &str, words: &mut Words) -> Result<TextureType, Unread>
     let (format, access) = read_texels(words)?;
     match storage_texture(name, format, access) {
         Some(texture) => Ok(texture),
-        None => Err(Unread::Word),
+        None => Err(Unread::Word(Misfit::NoTexture)),
     }
 }
 
@@ -147,15 +153,15 @@ fn read_texels(words: &mut Words) -> Result<(TexelFormat, AccessMode), Unread>
     ensures read { Reads (Then (OneWord (IsText texel_text)) (OneWord (IsText access_text)))
         (λ texels. texels) (left words.old) (left words.new) result }
 {
-    let format = texel_format(words.next()?)?;
-    let access = access(words.next()?)?;
+    let format = texel_format(words.next(Wanted::TexelFormat)?)?;
+    let access = access(words.next(Wanted::AccessMode)?)?;
     Ok((format, access))
 }
 
 fn texel_format(word: &str) -> Result<TexelFormat, Unread>
     ensures { ReadsWord (IsText texel_text) word.now result }
 {
-    parsed(word)
+    parsed(word, Wanted::TexelFormat)
 }
 
 fn storage_texture(name: &str, format: TexelFormat, access: AccessMode) -> Option<TextureType>

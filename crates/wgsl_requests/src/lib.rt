@@ -13,4 +13,6 @@ mod report;
 pub mod request;
 pub mod split;
 pub mod template;
+pub mod wanted;
+pub mod why;
 pub mod words;

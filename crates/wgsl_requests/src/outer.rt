@@ -7,6 +7,7 @@ ghost use Rattle.wgsl_requests.specs.Reading.{IsText, OneWord, Reads, ReadsWord,
 ghost use Rattle.wgsl_requests.specs.internal.Layers.{ReadsLayer, wrapped};
 ghost use Rattle.wgsl_requests.specs.internal.Taken.{GoesOn, left};
 
+use crate::wanted::Wanted;
 use crate::words::{Unread, Words, parsed};
 use std::alloc::{AllocError, Global};
 use wgsl_types::syntax::{AccessMode, AddressSpace};
@@ -62,8 +63,11 @@ pub fn read_outer(word: &str, words: &mut Words) -> Result<Option<Outer>, Unread
     ensures read { ReadsLayer word.now (left words.old) (left words.new) result }
 {
     match word {
-        "vec" => Ok(Some(Outer::Vec(words.next_small()?))),
-        "mat" => Ok(Some(Outer::Mat(words.next_small()?, words.next_small()?))),
+        "vec" => Ok(Some(Outer::Vec(words.next_small(Wanted::Components)?))),
+        "mat" => Ok(Some(Outer::Mat(
+            words.next_small(Wanted::Columns)?,
+            words.next_small(Wanted::Rows)?,
+        ))),
         "array" => Ok(Some(Outer::Array(words.next_count()?))),
         "binding_array" => Ok(Some(Outer::BindingArray(words.next_count()?))),
         "atomic" => Ok(Some(Outer::Atomic)),
@@ -85,8 +89,8 @@ fn read_memory(words: &mut Words) -> Result<(AddressSpace, AccessMode), Unread>
     ensures read { Reads (Then (OneWord (IsText space_text)) (OneWord (IsText access_text)))
         (λ memory. memory) (left words.old) (left words.new) result }
 {
-    let space = space(words.next()?)?;
-    let access = access(words.next()?)?;
+    let space = space(words.next(Wanted::AddressSpace)?)?;
+    let access = access(words.next(Wanted::AccessMode)?)?;
     Ok((space, access))
 }
 
@@ -95,7 +99,7 @@ fn space(word: &str) -> Result<AddressSpace, Unread>
 {
     match word {
         "handle" => Ok(AddressSpace::Handle),
-        _ => parsed(word),
+        _ => parsed(word, Wanted::AddressSpace),
     }
 }
 
@@ -103,5 +107,5 @@ fn space(word: &str) -> Result<AddressSpace, Unread>
 pub fn access(word: &str) -> Result<AccessMode, Unread>
     ensures { ReadsWord (IsText access_text) word.now result }
 {
-    parsed(word)
+    parsed(word, Wanted::AccessMode)
 }

@@ -12,6 +12,7 @@ ghost use Rattle.wgsl_requests.specs.internal.Taken.{GoesOn, left};
 
 use crate::leaf::read_leaf;
 use crate::outer::{Outer, read_outer, wrap};
+use crate::wanted::{Misfit, Wanted};
 use crate::words::{Unread, Words};
 use std::alloc::Global;
 use std::str::FromStr;
@@ -28,7 +29,7 @@ pub fn read_type(alloc: Global, words: &mut Words) -> Result<Type, Unread>
     ensures one { OnOk result (words.old.taken < words.new.taken) }
     ensures read { Reads TypeAt view (left words.old) (left words.new) result }
 {
-    let word = words.next()?;
+    let word = words.next(Wanted::Type)?;
     read_type_at(alloc, word, words)
 }
 
@@ -80,7 +81,7 @@ fn read_inside(alloc: Global, outer: Outer, words: &mut Words) -> Result<Type, U
     ensures goes_on { GoesOn words.old words.new }
     ensures read { Reads (InsideAt outer) view (left words.old) (left words.new) result }
 {
-    let word = words.next()?;
+    let word = words.next(Wanted::Type)?;
     match read_scalar(word) {
         Some(ty) => Ok(outer.around(alloc, ty)?),
         None => read_layers(alloc, outer, word, words),
@@ -108,7 +109,7 @@ fn read_layers(
     while let Some(layer) = read_next(count, word, words)? {
         layers[count] = layer;
         count += 1;
-        word = words.next()?;
+        word = words.next(Wanted::Type)?;
     }
     let innermost = read_type_at(alloc, word, words)?;
     Ok(wrap(alloc, &layers[..count], innermost)?)
@@ -135,7 +136,7 @@ pub fn read_types(alloc: Global, words: &mut Words) -> Result<Vec<Type>, Unread>
         ((ts : List WgslType) → TypesAt (left words.old) ts → ⊥) result }
 {
     let mut types = Vec::with_capacity(alloc, 4)?;
-    while let Ok(word) = words.next() {
+    while let Ok(word) = words.next(Wanted::Type) {
         types.push(read_type_at(alloc, word, words)?)?;
     }
     Ok(types)
@@ -162,7 +163,7 @@ pub fn read_last_type(alloc: Global, words: &mut Words) -> Result<Type, Unread>
         Ok(ty)
     } else {
         drop(ty);
-        Err(Unread::Word)
+        Err(Unread::Word(Misfit::LeftOver))
     }
 }
 
@@ -173,7 +174,7 @@ fn read_struct(alloc: Global, words: &mut Words) -> Result<Type, Unread>
     ensures goes_on { GoesOn words.old words.new }
     ensures read { Reads StructAt view (left words.old) (left words.new) result }
 {
-    let name = String::from_str(alloc, words.next()?)?;
+    let name = String::from_str(alloc, words.next(Wanted::Name)?)?;
     let count = words.next_number()?;
     let mut members = Vec::new(alloc);
     for _ in 0..count {
@@ -188,9 +189,9 @@ fn read_member(alloc: Global, words: &mut Words) -> Result<StructMemberType, Unr
     ensures goes_on { GoesOn words.old words.new }
     ensures read { Reads MemberAt member_view (left words.old) (left words.new) result }
 {
-    let name = String::from_str(alloc, words.next()?)?;
-    let size = words.next_attribute()?;
-    let align = words.next_attribute()?;
+    let name = String::from_str(alloc, words.next(Wanted::Name)?)?;
+    let size = words.next_attribute(Wanted::SizeAttribute)?;
+    let align = words.next_attribute(Wanted::AlignAttribute)?;
     let ty = read_type(alloc, words)?;
     Ok(StructMemberType {
         name,

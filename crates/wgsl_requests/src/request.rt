@@ -1,10 +1,12 @@
 // One request, from its bytes to its reply.
-ghost use Rattle.std.specs.Prelude.{◌≡◌, ◌<◌, ◌≤◌, [], All, IfOk, IsUtf8, Ok, length, string_bytes, true};
-ghost use Rattle.wgsl_requests.specs.Replies.{IsReplyTo, reply_of_kind, reply_text};
+ghost use Rattle.std.specs.Prelude.{◌≡◌, ◌<◌, ◌≤◌, [], All, IfOk, IsOkAnd, IsUtf8, Ok, length, string_bytes, true};
+ghost use Rattle.wgsl_requests.specs.Replies.{IsExplanation, IsReplyTo, IsUnreadable, WritesReply, reply_text};
 ghost use Rattle.wgsl_requests.specs.Words.{has_line_feed, words_of};
 
 use crate::command::write_answer;
 use crate::split::has_line_feed;
+use crate::wanted::Wanted;
+use crate::why::{Why, write_why};
 use crate::words::Words;
 use std::alloc::{AllocError, Global};
 
@@ -27,7 +29,7 @@ pub enum Reply {
 pub enum ReplyKind {
     Nothing,
     Answer,
-    Unreadable,
+    Unreadable(Why),
 }
 
 /// The reply to the request.
@@ -44,7 +46,7 @@ pub fn reply_to(alloc: Global, request: &[u8]) -> Result<Reply, AllocError>
     match write_reply(alloc, request, &mut text)? {
         ReplyKind::Nothing => Ok(Reply::Nothing),
         ReplyKind::Answer => Ok(Reply::Answer(text)),
-        ReplyKind::Unreadable => Ok(Reply::Unreadable),
+        ReplyKind::Unreadable(_) => Ok(Reply::Unreadable),
     }
 }
 
@@ -55,29 +57,49 @@ pub fn write_reply(
     request: &[u8],
     text: &mut String,
 ) -> Result<ReplyKind, AllocError>
-    ensures too_long { LONGEST < length request.now → result ≡ Ok ReplyKind.Unreadable }
-    ensures forbidden { has_line_feed request.now ≡ true → result ≡ Ok ReplyKind.Unreadable }
-    ensures no_text { ¬ All IsUtf8 (words_of request.now) → result ≡ Ok ReplyKind.Unreadable }
+    ensures too_long { LONGEST < length request.now
+        → result ≡ Ok (ReplyKind.Unreadable Why.TooLong) }
+    ensures forbidden { has_line_feed request.now ≡ true → IsOkAnd result IsUnreadable }
+    ensures no_text { ¬ All IsUtf8 (words_of request.now) → IsOkAnd result IsUnreadable }
     ensures no_words { length request.now ≤ LONGEST → words_of request.now ≡ []
         → result ≡ Ok ReplyKind.Nothing }
-    ensures reply { string_bytes text.old ≡ []
-        → IfOk result (λ kind. IsReplyTo request.now (reply_of_kind kind (string_bytes text.new))) }
+    ensures reply { IfOk result (λ kind.
+        WritesReply request.now kind (string_bytes text.old) (string_bytes text.new)) }
 {
     if request.len() > LONGEST {
-        return Ok(ReplyKind::Unreadable);
+        return Ok(ReplyKind::Unreadable(Why::TooLong));
     }
     if has_line_feed(request) {
-        return Ok(ReplyKind::Unreadable);
+        return Ok(ReplyKind::Unreadable(Why::LineFeed));
     }
     let Some(mut words) = Words::of(request) else {
-        return Ok(ReplyKind::Unreadable);
+        return Ok(ReplyKind::Unreadable(Why::NotUtf8));
     };
-    let Ok(command) = words.next() else {
+    let Ok(command) = words.next(Wanted::Command) else {
         return Ok(ReplyKind::Nothing);
     };
-    if write_answer(alloc, command, &mut words, text)? {
-        Ok(ReplyKind::Answer)
-    } else {
-        Ok(ReplyKind::Unreadable)
+    match write_answer(alloc, command, &mut words, text)? {
+        None => Ok(ReplyKind::Answer),
+        Some(misread) => Ok(ReplyKind::Unreadable(Why::Word(misread))),
     }
+}
+
+/// Why the request can't be read: the sentence is the answer. There is nothing to explain of a request that is answered.
+pub fn explain(alloc: Global, request: &[u8]) -> Result<Reply, AllocError>
+    ensures { IfOk result (λ reply. IsExplanation request.now reply) }
+{
+    let mut text = String::new(alloc);
+    let kind = write_reply(alloc, request, &mut text);
+    drop(text);
+    match kind? {
+        ReplyKind::Answer => Ok(Reply::Nothing),
+        ReplyKind::Nothing => Ok(Reply::Answer(String::from_str(alloc, "no words")?)),
+        ReplyKind::Unreadable(why) => Ok(Reply::Answer(reason(alloc, request, why)?)),
+    }
+}
+
+fn reason(alloc: Global, request: &[u8], why: Why) -> Result<String, AllocError> {
+    let mut text = String::new(alloc);
+    write_why(request, why, &mut text)?;
+    Ok(text)
 }

@@ -8,6 +8,7 @@ ghost use Rattle.wgsl_requests.specs.Templates.{IsEnumerant, IsLiteral, Paramete
 ghost use Rattle.wgsl_requests.specs.internal.Taken.{GoesOn, left};
 
 use crate::read::read_type;
+use crate::wanted::{Misfit, Wanted};
 use crate::words::{Unread, Words, begins_with_plus, medium, number, parsed};
 use std::alloc::Global;
 use wgsl_types::inst::{Instance, LiteralInstance};
@@ -19,10 +20,10 @@ pub fn read_template(alloc: Global, words: &mut Words) -> Result<Option<Vec<Tplt
     ensures { Reads TemplateAt (option_map (λ ps. map parameter_view ps.items))
         (left words.old) (left words.new) result }
 {
-    match words.next()? {
+    match words.next(Wanted::Template)? {
         "-" => Ok(None),
         "<" => Ok(Some(read_parameters(alloc, words)?)),
-        _ => Err(Unread::Word),
+        _ => Err(Unread::Word(Misfit::Wrong(Wanted::Template))),
     }
 }
 
@@ -32,13 +33,13 @@ fn read_parameters(alloc: Global, words: &mut Words) -> Result<Vec<TpltParam>, U
         (left words.old) (left words.new) result }
 {
     let mut parameters = Vec::new(alloc);
-    while let Ok(word) = words.next() {
+    while let Ok(word) = words.next(Wanted::Parameter) {
         if word == ">" {
             return Ok(parameters);
         }
         parameters.push(read_parameter(alloc, word, words)?)?;
     }
-    Err(Unread::Word)
+    Err(Unread::Word(Misfit::Missing(Wanted::Parameter)))
 }
 
 /// A parameter: `t` and a type, `n` and a literal, or `e` and an enumerant.
@@ -51,7 +52,7 @@ fn read_parameter(alloc: Global, kind: &str, words: &mut Words) -> Result<TpltPa
         "t" => Ok(TpltParam::Ty(read_type(alloc, words)?)),
         "n" => Ok(TpltParam::Instance(Instance::Literal(read_literal(words)?))),
         "e" => Ok(TpltParam::Enumerant(read_enumerant(words)?)),
-        _ => Err(Unread::Word),
+        _ => Err(Unread::Word(Misfit::Wrong(Wanted::Parameter))),
     }
 }
 
@@ -59,7 +60,7 @@ fn read_literal(words: &mut Words) -> Result<LiteralInstance, Unread>
     ensures goes_on { GoesOn words.old words.new }
     ensures read { Reads (OneWord IsLiteral) literal_view (left words.old) (left words.new) result }
 {
-    literal(words.next()?)
+    literal(words.next(Wanted::Literal)?)
 }
 
 fn read_enumerant(words: &mut Words) -> Result<Enumerant, Unread>
@@ -67,13 +68,13 @@ fn read_enumerant(words: &mut Words) -> Result<Enumerant, Unread>
     ensures read { Reads (OneWord IsEnumerant) (λ enumerant. enumerant)
         (left words.old) (left words.new) result }
 {
-    enumerant(words.next()?)
+    enumerant(words.next(Wanted::Enumerant)?)
 }
 
 fn enumerant(word: &str) -> Result<Enumerant, Unread>
     ensures { ReadsWord IsEnumerant word.now result }
 {
-    parsed(word)
+    parsed(word, Wanted::Enumerant)
 }
 
 /// A literal: `true`, `false`, or a number, with the suffix of its kind if it isn't abstract.
@@ -97,11 +98,11 @@ fn number_literal(word: &str) -> Result<LiteralInstance, Unread>
     if let Some(digits) = word.strip_suffix("li") {
         Ok(LiteralInstance::I64(signed(digits)?))
     } else if let Some(digits) = word.strip_suffix("lu") {
-        Ok(LiteralInstance::U64(number(digits)?))
+        Ok(LiteralInstance::U64(number(digits, Wanted::Literal)?))
     } else if let Some(digits) = word.strip_suffix("i") {
         Ok(LiteralInstance::I32(signed_short(digits)?))
     } else if let Some(digits) = word.strip_suffix("u") {
-        Ok(LiteralInstance::U32(medium(digits)?))
+        Ok(LiteralInstance::U32(medium(digits, Wanted::Literal)?))
     } else {
         Ok(LiteralInstance::AbstractInt(signed(word)?))
     }
@@ -112,9 +113,9 @@ fn signed(word: &str) -> Result<i64, Unread>
     ensures { ReadsWord IsI64 word.now result }
 {
     if begins_with_plus(word) {
-        return Err(Unread::Word);
+        return Err(Unread::Word(Misfit::Wrong(Wanted::Literal)));
     }
-    parsed(word)
+    parsed(word, Wanted::Literal)
 }
 
 /// A signed number of at most 32 bits.
@@ -123,6 +124,6 @@ fn signed_short(word: &str) -> Result<i32, Unread>
 {
     match i32::try_from(signed(word)?) {
         Ok(short) => Ok(short),
-        Err(_) => Err(Unread::Word),
+        Err(_) => Err(Unread::Word(Misfit::Wrong(Wanted::Literal))),
     }
 }

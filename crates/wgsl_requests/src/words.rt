@@ -8,6 +8,7 @@ ghost use Rattle.wgsl_requests.specs.internal.Marks.{IsMarked, marks_of};
 
 use crate::marks::{first_marked, is_marked, marks};
 use crate::split::{first_word, is_blank};
+use crate::wanted::{Misfit, Wanted};
 use std::alloc::{AllocError, AllocFailed};
 use std::str::FromStr;
 
@@ -15,7 +16,7 @@ use std::str::FromStr;
 #[derive(Drop)]
 pub enum Unread {
     /// A word is missing, left over or not one that may stand there.
-    Word,
+    Word(Misfit),
     Memory(AllocError),
 }
 
@@ -93,8 +94,8 @@ impl<'t> Words<'t> {
         }
     }
 
-    /// The next word.
-    pub fn next(&mut self) -> Result<&'t str, Unread>
+    /// The next word, of which this is wanted.
+    pub fn next(&mut self, wanted: Wanted) -> Result<&'t str, Unread>
         ensures goes_on { GoesOn self.old self.new }
         ensures one { OnOk result (self.old.taken < self.new.taken) }
         ensures word { MatchResult result
@@ -106,8 +107,13 @@ impl<'t> Words<'t> {
                 self.taken += len;
                 Ok(word)
             }
-            None => Err(Unread::Word),
+            None => Err(Unread::Word(Misfit::Missing(wanted))),
         }
+    }
+
+    /// How many bytes were taken.
+    pub fn taken(&self) -> usize {
+        self.taken
     }
 
     /// Whether every word is taken.
@@ -126,16 +132,16 @@ impl<'t> Words<'t> {
         ensures goes_on { GoesOn self.old self.new }
         ensures read { Reads (OneWord IsLong) (λ n. n) (left self.old) (left self.new) result }
     {
-        number(self.next()?)
+        number(self.next(Wanted::Members)?, Wanted::Members)
     }
 
     /// A number of components, columns or rows.
     #[inline(always)]
-    pub fn next_small(&mut self) -> Result<u8, Unread>
+    pub fn next_small(&mut self, wanted: Wanted) -> Result<u8, Unread>
         ensures goes_on { GoesOn self.old self.new }
         ensures read { Reads (OneWord IsSmall) (λ n. n) (left self.old) (left self.new) result }
     {
-        small(self.next()?)
+        small(self.next(wanted)?, wanted)
     }
 
     /// A number of elements, or `*` if the array is runtime-sized.
@@ -144,26 +150,26 @@ impl<'t> Words<'t> {
         ensures goes_on { GoesOn self.old self.new }
         ensures read { Reads (OneWord IsCount) (λ n. n) (left self.old) (left self.new) result }
     {
-        count(self.next()?)
+        count(self.next(Wanted::Elements)?)
     }
 
     /// An attribute of a member in bytes, or `-` if it has none.
-    pub fn next_attribute(&mut self) -> Result<Option<u32>, Unread>
+    pub fn next_attribute(&mut self, wanted: Wanted) -> Result<Option<u32>, Unread>
         ensures goes_on { GoesOn self.old self.new }
         ensures read { Reads (OneWord IsAttribute) (λ n. n) (left self.old) (left self.new) result }
     {
-        attribute(self.next()?)
+        attribute(self.next(wanted)?, wanted)
     }
 }
 
 /// A number: decimal digits, with leading zeros or without.
-pub fn number(word: &str) -> Result<u64, Unread>
+pub fn number(word: &str, wanted: Wanted) -> Result<u64, Unread>
     ensures { ReadsWord IsLong word.now result }
 {
     if begins_with_plus(word) {
-        return Err(Unread::Word);
+        return Err(Unread::Word(Misfit::Wrong(wanted)));
     }
-    parsed(word)
+    parsed(word, wanted)
 }
 
 /// Whether the word begins with a plus, which `parse` reads and no number of a request has.
@@ -174,22 +180,22 @@ pub fn begins_with_plus(word: &str) -> bool
     !bytes.is_empty() && bytes[0] == b'+'
 }
 
-fn small(word: &str) -> Result<u8, Unread>
+fn small(word: &str, wanted: Wanted) -> Result<u8, Unread>
     ensures { ReadsWord IsSmall word.now result }
 {
-    match u8::try_from(number(word)?) {
+    match u8::try_from(number(word, wanted)?) {
         Ok(small) => Ok(small),
-        Err(_) => Err(Unread::Word),
+        Err(_) => Err(Unread::Word(Misfit::Wrong(wanted))),
     }
 }
 
 /// A number of at most 32 bits.
-pub fn medium(word: &str) -> Result<u32, Unread>
+pub fn medium(word: &str, wanted: Wanted) -> Result<u32, Unread>
     ensures { ReadsWord IsMedium word.now result }
 {
-    match u32::try_from(number(word)?) {
+    match u32::try_from(number(word, wanted)?) {
         Ok(medium) => Ok(medium),
-        Err(_) => Err(Unread::Word),
+        Err(_) => Err(Unread::Word(Misfit::Wrong(wanted))),
     }
 }
 
@@ -199,23 +205,23 @@ fn count(word: &str) -> Result<Option<usize>, Unread>
     if word == "*" {
         return Ok(None);
     }
-    match usize::try_from(number(word)?) {
+    match usize::try_from(number(word, Wanted::Elements)?) {
         Ok(count) => Ok(Some(count)),
-        Err(_) => Err(Unread::Word),
+        Err(_) => Err(Unread::Word(Misfit::Wrong(Wanted::Elements))),
     }
 }
 
-fn attribute(word: &str) -> Result<Option<u32>, Unread>
+fn attribute(word: &str, wanted: Wanted) -> Result<Option<u32>, Unread>
     ensures { ReadsWord IsAttribute word.now result }
 {
     if word == "-" {
         return Ok(None);
     }
-    Ok(Some(medium(word)?))
+    Ok(Some(medium(word, wanted)?))
 }
 
 /// What a name is read as.
-pub fn parsed<T: FromStr>(word: &str) -> Result<T, Unread>
+pub fn parsed<T: FromStr>(word: &str, wanted: Wanted) -> Result<T, Unread>
 where
     T::Err: Drop,
     ensures { Answers (λ x. T.from_str_gives word.now (Ok x))
@@ -223,6 +229,6 @@ where
 {
     match T::from_str(word) {
         Ok(value) => Ok(value),
-        Err(_) => Err(Unread::Word),
+        Err(_) => Err(Unread::Word(Misfit::Wrong(wanted))),
     }
 }

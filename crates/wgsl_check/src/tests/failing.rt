@@ -120,7 +120,8 @@ fn expect_cut(
     let mut source = Source::new(input.as_bytes(), most_read);
     let mut target = Target::new(rt.alloc(), most_written);
     target.fails_after = Some(before);
-    let outcome = run(rt.alloc(), &mut source, &mut target);
+    let mut notes = Target::new(rt.alloc(), WHOLE);
+    let outcome = run(rt.alloc(), &mut source, &mut target, &mut notes);
     assert_eq!(rt; outcome, Err(RunError::Write));
     let is_beginning = answers.as_bytes().starts_with(&target.taken);
     assert!(rt; is_beginning && (most_written > 1 || target.taken.len() == before));
@@ -155,6 +156,51 @@ fn a_run_ends_at_the_write_that_fails(rt: HostRuntime) -> Result<(), Fail> {
 }
 
 #[test]
+fn an_interrupted_write_changes_nothing_anywhere(rt: HostRuntime) -> Result<(), Fail> {
+    let input = input(rt.alloc())?;
+    let answers = answers(rt.alloc(), LINES.len())?;
+    for before in 0..answers.len() {
+        let mut target = Target::new(rt.alloc(), 1);
+        target.fails_after = Some(before);
+        target.failure = ErrorKind::Interrupted;
+        let source = Source::new(input.as_bytes(), WHOLE);
+        expect(&rt, source, target, Ok(false), &answers);
+    }
+    Ok(())
+}
+
+/// The lines that something is printed for.
+const PRINTED: [usize; 12] = [1, 2, 3, 4, 5, 6, 8, 9, 10, 11, 12, 13];
+
+/// The flush after the answer to this line fails: the answer is written, and no other after it.
+fn expect_stuck(
+    rt: &(impl Abort + AllocGlobal),
+    before: usize,
+    line: usize,
+) -> Result<(), AllocError> {
+    let input = input(rt.alloc())?;
+    let mut source = Source::new(input.as_bytes(), 1);
+    let mut target = Target::new(rt.alloc(), WHOLE);
+    target.stuck_after = Some(before);
+    let mut notes = Target::new(rt.alloc(), WHOLE);
+    let outcome = run(rt.alloc(), &mut source, &mut target, &mut notes);
+    assert_eq!(rt; outcome, Err(RunError::Write));
+    let written = answers(rt.alloc(), line)?;
+    assert_eq!(rt; target.taken.as_slice(), written.as_bytes());
+    let flushed = answers(rt.alloc(), line.saturating_sub(1))?;
+    assert_eq!(rt; target.flushed, flushed.len());
+    Ok(())
+}
+
+#[test]
+fn a_run_ends_at_the_flush_that_fails(rt: HostRuntime) -> Result<(), Fail> {
+    for (before, line) in PRINTED.iter().enumerate() {
+        expect_stuck(&rt, before, *line)?;
+    }
+    Ok(())
+}
+
+#[test]
 fn a_writer_that_takes_nothing_ends_every_run(rt: HostRuntime) -> Result<(), Fail> {
     let input = input(rt.alloc())?;
     for most_read in &[1, 100, WHOLE] {
@@ -173,7 +219,8 @@ fn expect_part(
 ) -> Result<(), AllocError> {
     let mut source = Source::new(part, most_read);
     let mut target = Target::new(rt.alloc(), 1);
-    let outcome = run(rt.alloc(), &mut source, &mut target);
+    let mut notes = Target::new(rt.alloc(), 1);
+    let outcome = run(rt.alloc(), &mut source, &mut target, &mut notes);
     let printed = std::str::from_utf8(&target.taken).unwrap_or("");
     let before = answers(rt.alloc(), lines_in(part))?;
     let last = printed.strip_prefix(before.as_str()).unwrap_or("otherwise");

@@ -11,6 +11,7 @@ use std::test::Fail;
 use streams::{Source, Target};
 use wgsl_requests::read::{read_type, read_types};
 use wgsl_requests::template::read_template;
+use wgsl_requests::wanted::Misfit;
 use wgsl_requests::words::{Unread, Words};
 use wgsl_types::CallSignature;
 use wgsl_types::tplt::TpltParam;
@@ -27,7 +28,9 @@ pub fn expect(
     outcome: Result<bool, RunError>,
     output: &str,
 ) {
-    assert_eq!(rt; run(rt.alloc(), &mut source, &mut target), outcome);
+    let mut notes = Target::new(rt.alloc(), WHOLE);
+    let ended = run(rt.alloc(), &mut source, &mut target, &mut notes);
+    assert_eq!(rt; ended, outcome);
     assert_eq!(rt; target.taken.as_slice(), output.as_bytes());
     assert_eq!(rt; target.flushed, target.taken.len());
 }
@@ -41,7 +44,8 @@ pub fn expect_answers(
     let input = input_of(rt.alloc(), rows)?;
     let mut source = Source::new(input.as_bytes(), WHOLE);
     let mut target = Target::new(rt.alloc(), WHOLE);
-    let outcome = run(rt.alloc(), &mut source, &mut target);
+    let mut notes = Target::new(rt.alloc(), 0);
+    let outcome = run(rt.alloc(), &mut source, &mut target, &mut notes);
     expect_printed(rt, rows, std::str::from_utf8(&target.taken).unwrap_or(""));
     assert_eq!(rt; outcome, Ok(are_readable(rows)));
     assert_eq!(rt; target.flushed, target.taken.len());
@@ -116,7 +120,7 @@ fn read_whole(alloc: Global, words: &mut Words) -> Result<Type, Unread> {
         return read;
     }
     drop(read);
-    Err(Unread::Word)
+    Err(Unread::Word(Misfit::LeftOver))
 }
 
 /// The template parameters that the words stand for, from `<` to `>`.
@@ -133,7 +137,7 @@ pub fn template(alloc: Global, text: &str) -> Result<Vec<TpltParam>, Fail> {
 
 fn failure(unread: Unread) -> Fail {
     match unread {
-        Unread::Word => "no such word".into(),
+        Unread::Word(_) => "no such word".into(),
         Unread::Memory(e) => e.into(),
     }
 }

@@ -1,16 +1,28 @@
-use Rattle.std.proofs.Common.{◌≡◌, ◌∙◌, ℕ, List, [], arith, Result, Ok, Err, subst, take}
+use Rattle.std.proofs.Common.{◌≡◌, ◌∙◌, ℕ, List, [], ◌++◌, ap, arith, Result, Ok, Err, subst, sym, take}
 use Rattle.std.proofs.lemmas.Grind.{common_steps}
 use Rattle.std.proofs.lemmas.List.{nil_from_length}
 use Rattle.std.specs.Prelude.{IfOk}
 use Rattle.wgsl_requests.specs.declared.request.ReplyKind.{ReplyKind}
-use Rattle.wgsl_requests.specs.Replies.{IsReplyTo, reply_of_kind}
+use Rattle.wgsl_requests.specs.declared.request.ReplyKind.TheVariants as k
+use Rattle.wgsl_requests.specs.Replies.{IsReplyTo, WritesReply, answer}
+use Rattle.wgsl_check.specs.Session.{reply_of_kind}
 use Rattle.wgsl_check.proofs.Replies.{of_cut}
 use Rattle.wgsl_check.proofs.run.write_reply_to.Goals as goal
+
+-- what is written to an empty text
+of_kind : (kind : ReplyKind) (bytes old new : List ℕ) → old ≡ [] → WritesReply bytes kind old new → IsReplyTo bytes (reply_of_kind kind new)
+of_kind k.Nothing bytes old new empty w = w
+of_kind k.Answer bytes old new empty w = subst (λ text. IsReplyTo bytes (answer text)) (sym (w.2 ∙ ap (λ text. text ++ w.0) empty)) w.1
+of_kind (k.Unreadable why) bytes old new empty w = w
+
+of_written : {E : Type 0} (r : Result ReplyKind E) (bytes old new : List ℕ) → old ≡ [] → IfOk r (λ kind. WritesReply bytes kind old new) → IfOk r (λ kind. IsReplyTo bytes (reply_of_kind kind new))
+of_written (Ok kind) bytes old new empty w = of_kind kind bytes old new empty w
+of_written (Err e) bytes old new empty w = tt
 
 pub returns-then-is_empty-clause-reply : goal.returns-then-is_empty-clause-reply
 returns-then-is_empty-clause-reply c =
     let none : c.args.line.now.bytes.items ≡ [] = nil_from_length _ (grind (arith, common_steps, c.is_empty.ensures, c.if-is_empty.true)) in
-    rw none c.write_reply.ensures.reply
+    λ empty. rw none (of_written c.write_reply.result _ _ _ empty c.write_reply.ensures.reply)
 
 -- of a line that is cut
 of_cut_line : {E : Type 0} (r : Result ReplyKind E) (line cut text : List ℕ) → cut ≡ take 4097 line → IfOk r (λ kind. IsReplyTo cut (reply_of_kind kind text)) → IfOk r (λ kind. IsReplyTo line (reply_of_kind kind text))
@@ -18,4 +30,4 @@ of_cut_line (Ok kind) line cut text e is = of_cut line _ (subst (λ bytes. IsRep
 of_cut_line (Err e) line cut text _ is = tt
 
 pub returns-clause-reply : goal.returns-clause-reply
-returns-clause-reply c = λ empty. of_cut_line c.write_reply-2.result _ _ _ (c.deref.ensures.value ∙ c.extend.ensures.gathered) (c.write_reply-2.ensures.reply empty)
+returns-clause-reply c = λ empty. of_cut_line c.write_reply-2.result _ _ _ (c.deref.ensures.value ∙ c.extend.ensures.gathered) (of_written c.write_reply-2.result _ _ _ empty c.write_reply-2.ensures.reply)

@@ -46,6 +46,10 @@ pub struct Target {
     pub most: usize,
     /// How many writes come before the one that fails.
     pub fails_after: Option<usize>,
+    /// How it fails.
+    pub failure: ErrorKind,
+    /// How many flushes come before the one that fails.
+    pub stuck_after: Option<usize>,
     /// How many bytes it had taken when it was last flushed.
     pub flushed: usize,
 }
@@ -56,6 +60,8 @@ impl Target {
             taken: Vec::new(alloc),
             most,
             fails_after: None,
+            failure: ErrorKind::Other,
+            stuck_after: None,
             flushed: 0,
         }
     }
@@ -64,7 +70,8 @@ impl Target {
 impl Write for Target {
     fn write(&mut self, buffer: &[u8]) -> Result<usize> {
         if self.fails_after == Some(0) {
-            return Err(Error::from(ErrorKind::Other));
+            self.fails_after = None;
+            return Err(Error::from(self.failure));
         }
         self.fails_after = self.fails_after.map(|writes| writes.saturating_sub(1));
         let count = self.most.min(buffer.len());
@@ -73,6 +80,11 @@ impl Write for Target {
     }
 
     fn flush(&mut self) -> Result<()> {
+        if self.stuck_after == Some(0) {
+            self.stuck_after = None;
+            return Err(Error::from(ErrorKind::Other));
+        }
+        self.stuck_after = self.stuck_after.map(|flushes| flushes.saturating_sub(1));
         self.flushed = self.taken.len();
         Ok(())
     }

@@ -1,5 +1,5 @@
-use Rattle.std.proofs.Common.{◌≡◌, ◌≢◌, ◌≤◌, ◌∙◌, ℕ, Bool, true, false, List, [], ◌∷◌, ◌++◌, All, IsUtf8, ap, arith, length, rules, subst, sym}
-use Rattle.std.specs.Bool.{MatchBool}
+use Rattle.std.proofs.Common.{◌≡◌, ◌≢◌, ◌≤◌, ◌∙◌, ℕ, Bool, true, false, List, [], ◌∷◌, ◌++◌, All, IsUtf8, arith, length, rules, subst, sym}
+use Rattle.std.specs.Prelude.{MatchOption, Option, None, Some, string_bytes}
 use Rattle.wgsl_requests.specs.Answers.{IsReply}
 use Rattle.wgsl_requests.specs.Requests.{NoRequest}
 use Rattle.wgsl_requests.specs.internal.Written.{Adds}
@@ -21,41 +21,40 @@ returns-then-has_line_feed-clause-no_words c = λ _ none.
     absurd (cc (sym c.if-has_line_feed.true ∙ (c.has_line_feed.ensures ∙ blank-no_line_feed c.args.request.now none)))
 
 pub returns-then-request-gt-LONGEST-clause-reply : goal.returns-then-request-gt-LONGEST-clause-reply
-returns-then-request-gt-LONGEST-clause-reply c = λ _. too_long (first_of (search rules, omega arith))
+returns-then-request-gt-LONGEST-clause-reply c = too_long (first_of (search rules, omega arith))
 
 pub returns-then-has_line_feed-clause-reply : goal.returns-then-has_line_feed-clause-reply
-returns-then-has_line_feed-clause-reply c = λ _. forbidden (sym c.has_line_feed.ensures ∙ c.if-has_line_feed.true)
+returns-then-has_line_feed-clause-reply c = forbidden (sym c.has_line_feed.ensures ∙ c.if-has_line_feed.true)
 
 pub returns-in_default-clause-reply : goal.returns-in_default-clause-reply
-returns-in_default-clause-reply c = λ _. no_text c.in_default.ensures.words
+returns-in_default-clause-reply c = no_text c.in_default.ensures.words
 
 pub returns-in_default-next-clause-reply : goal.returns-in_default-next-clause-reply
-returns-in_default-next-clause-reply c = λ _.
+returns-in_default-next-clause-reply c =
     no_words (line _ _ (first_of (search rules, omega arith)) c.has_line_feed.ensures c.if-has_line_feed.false c.in-Some.ensures.text)
     (sym c.in-Some.ensures.words ∙ c.in_default-next.ensures.word)
 
--- what was written to an empty text
-written : (words all : List (List ℕ)) (old new : List ℕ) → words ≡ all → old ≡ [] → Adds (IsReply words) old new → IsReply all new
-written words all old new same empty w =
-    subst (λ ws. IsReply ws new) same (subst (λ x. IsReply words x) (sym (w.2 ∙ ap (λ x. x ++ w.0) empty)) w.1)
+-- what was written for all of the words
+written : (words all : List (List ℕ)) (old new : List ℕ) → words ≡ all → Adds (IsReply words) old new → Adds (IsReply all) old new
+written words all old new same w = subst (λ ws. Adds (IsReply ws) old new) same w
 
--- the answer of write_answer, if it is true, and if it is false
-told_true : (b : Bool) (P N : Type 0) → b ≡ true → MatchBool b P N → P
-told_true true P N e m = m
-told_true false P N e m = absurd (cc e)
+-- what write_answer promises where it finds nothing wrong, and where it does
+told_none : {A : Type 0} (found : Option A) (P N : Type 0) → found ≡ None → MatchOption found P (λ misread. N) → P
+told_none None P N e m = m
+told_none (Some a) P N e m = absurd (cc e)
 
-told_false : (b : Bool) (P N : Type 0) → b ≡ false → MatchBool b P N → N
-told_false false P N e m = m
-told_false true P N e m = absurd (cc e)
+told_some : {A : Type 0} (found : Option A) (a : A) (P N : Type 0) → found ≡ Some a → MatchOption found P (λ misread. N) → N
+told_some None a P N e m = absurd (cc e)
+told_some (Some b) a P N e m = m
 
-pub returns-then-branch-clause-reply : goal.returns-then-branch-clause-reply
-returns-then-branch-clause-reply c = λ empty.
+pub returns-in-None-clause-reply : goal.returns-in-None-clause-reply
+returns-in-None-clause-reply c =
     let first = sym c.in-Some.ensures.words ∙ c.in-Ok.ensures.word in
-    answered _ (line _ _ (first_of (search rules, omega arith)) c.has_line_feed.ensures c.if-has_line_feed.false c.in-Some.ensures.text)
-    (begins _ _ _ first) (written _ _ _ _ (sym first) empty (told_true _ _ _ c.if-branch.true c.in_ok-write_answer.ensures))
+    let w = written _ _ _ _ (sym first) (told_none _ _ _ c.in-None.is c.in_ok-write_answer.ensures) in
+    (w.0, answered _ (line _ _ (first_of (search rules, omega arith)) c.has_line_feed.ensures c.if-has_line_feed.false c.in-Some.ensures.text) (begins _ _ _ first) w.1, w.2)
 
-pub returns-else-branch-clause-reply : goal.returns-else-branch-clause-reply
-returns-else-branch-clause-reply c = λ _.
+pub returns-in-Some-2-clause-reply : goal.returns-in-Some-2-clause-reply
+returns-in-Some-2-clause-reply c =
     let first = sym c.in-Some.ensures.words ∙ c.in-Ok.ensures.word in
     no_request (line _ _ (first_of (search rules, omega arith)) c.has_line_feed.ensures c.if-has_line_feed.false c.in-Some.ensures.text)
-    (begins _ _ _ first) (subst NoRequest (sym first) (told_false _ _ _ c.if-branch.false c.in_ok-write_answer.ensures))
+    (begins _ _ _ first) (subst NoRequest (sym first) (told_some _ _ _ _ c.in-Some-2.is c.in_ok-write_answer.ensures))

@@ -1,0 +1,157 @@
+// Why a request can't be read, as a person reads it.
+use crate::leaf::is_sampled;
+use crate::wanted::{Misfit, Misread, Wanted};
+use crate::words::Words;
+use std::alloc::AllocError;
+
+/// Why a request can't be read.
+#[derive(Clone, Copy)]
+pub enum Why {
+    TooLong,
+    LineFeed,
+    NotUtf8,
+    Word(Misread),
+}
+
+/// How many bytes of a word are written.
+const SHOWN: usize = 64;
+
+/// Writes why the request can't be read.
+pub fn write_why(request: &[u8], why: Why, text: &mut String) -> Result<(), AllocError> {
+    let reason = match why {
+        Why::TooLong => "more than 4096 bytes",
+        Why::LineFeed => "a line feed",
+        Why::NotUtf8 => "not UTF-8",
+        Why::Word(misread) => return write_misread(request, misread, text),
+    };
+    text.push_str(reason)
+}
+
+/// Writes the place and the fault of the word that can't be read.
+fn write_misread(request: &[u8], misread: Misread, text: &mut String) -> Result<(), AllocError> {
+    let taken = words_up_to(request, misread.taken);
+    let number = match misread.misfit {
+        Misfit::Wrong(_) => taken,
+        Misfit::Missing(_) | Misfit::LeftOver => taken.saturating_add(1),
+        Misfit::NoStruct => 2,
+        Misfit::NoTexture => taken.saturating_sub(1),
+    };
+    match texture_name(request, number, misread.misfit) {
+        Some(name) => write_fault(request, name, Some(Wanted::Type), text),
+        None => write_fault(request, number, wanted(misread.misfit), text),
+    }
+}
+
+/// What is wanted of the word, or `None` if nothing is.
+fn wanted(misfit: Misfit) -> Option<Wanted> {
+    match misfit {
+        Misfit::Missing(wanted) | Misfit::Wrong(wanted) => Some(wanted),
+        Misfit::LeftOver => None,
+        Misfit::NoStruct => Some(Wanted::Struct),
+        Misfit::NoTexture => Some(Wanted::Type),
+    }
+}
+
+/// The number of the word before this one, if a sampled type is wanted after it and it is not the name of a texture.
+///
+/// A word that no other type begins with is read as such a name, and only tested when its sampled type is there.
+fn texture_name(request: &[u8], number: usize, misfit: Misfit) -> Option<usize> {
+    match wanted(misfit) {
+        Some(Wanted::SampledType) => {
+            let name = number.saturating_sub(1);
+            let (word, _end) = word_at(request, name)?;
+            if is_sampled(word) { None } else { Some(name) }
+        }
+        _ => None,
+    }
+}
+
+/// Writes the place of the word with this number, and that it is missing, is not what is wanted, or is left over.
+fn write_fault(
+    request: &[u8],
+    number: usize,
+    wanted: Option<Wanted>,
+    text: &mut String,
+) -> Result<(), AllocError> {
+    match word_at(request, number) {
+        Some((word, end)) => {
+            write_place(end.saturating_sub(word.len()), number, text)?;
+            write_word(word, text)?;
+            write_verdict(wanted, text)
+        }
+        None => {
+            write_place(request.len(), number, text)?;
+            write_missing(wanted.unwrap_or(Wanted::Type), text)
+        }
+    }
+}
+
+/// Writes the column after that many bytes, and the number of the word there.
+fn write_place(before: usize, number: usize, text: &mut String) -> Result<(), AllocError> {
+    let column = before.saturating_add(1);
+    write!(text, "column {column}, word {number}: ")
+}
+
+fn write_missing(wanted: Wanted, text: &mut String) -> Result<(), AllocError> {
+    let article = wanted.article();
+    let noun = wanted.noun();
+    write!(text, "{article} {noun} is missing")
+}
+
+fn write_verdict(wanted: Option<Wanted>, text: &mut String) -> Result<(), AllocError> {
+    match wanted {
+        Some(wanted) => {
+            text.push_str(" is no ")?;
+            text.push_str(wanted.noun())
+        }
+        None => text.push_str(" is left over"),
+    }
+}
+
+/// Writes a word between backticks: its first bytes, and `..` if there are more.
+fn write_word(word: &str, text: &mut String) -> Result<(), AllocError> {
+    text.push('`')?;
+    for byte in word.as_bytes().iter().take(SHOWN) {
+        write_byte(*byte, text)?;
+    }
+    if word.len() > SHOWN {
+        text.push_str("..")?;
+    }
+    text.push('`')
+}
+
+/// Writes a byte as itself, if it can be printed and is ASCII, else by its number.
+fn write_byte(byte: u8, text: &mut String) -> Result<(), AllocError> {
+    if byte.is_ascii_graphic() && byte != b'\\' {
+        text.push(char::from(byte))
+    } else {
+        write!(text, "\\x{byte:02x}")
+    }
+}
+
+/// How many words end within the first bytes of a request.
+fn words_up_to(request: &[u8], taken: usize) -> usize {
+    let Some(mut words) = Words::of(request) else {
+        return 0;
+    };
+    for count in 0..taken {
+        if words.next(Wanted::Name).is_err() || words.taken() > taken {
+            return count;
+        }
+    }
+    taken
+}
+
+/// The word with this number, from 1 on, and how many bytes of the request end with it.
+fn word_at(request: &[u8], number: usize) -> Option<(&str, usize)> {
+    let mut words = Words::of(request)?;
+    for _ in 1..number {
+        if words.next(Wanted::Name).is_err() {
+            return None;
+        }
+    }
+    match words.next(Wanted::Name) {
+        Ok(word) => Some((word, words.taken())),
+        Err(_) => None,
+    }
+}
