@@ -94,7 +94,7 @@ impl<'t> Words<'t> {
         }
     }
 
-    /// The next word, of which this is wanted.
+    /// The next word. If none is left, what is wanted is said to be missing.
     pub fn next(&mut self, wanted: Wanted) -> Result<&'t str, Unread>
         ensures goes_on { GoesOn self.old self.new }
         ensures one { OnOk result (self.old.taken < self.new.taken) }

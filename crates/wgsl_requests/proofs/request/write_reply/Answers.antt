@@ -1,5 +1,5 @@
-use Rattle.std.proofs.Common.{◌≡◌, ◌≢◌, ◌≤◌, ◌∙◌, ℕ, Bool, true, false, List, [], ◌∷◌, ◌++◌, All, IsUtf8, arith, length, rules, subst, sym}
-use Rattle.std.specs.Prelude.{MatchOption, Option, None, Some, string_bytes}
+use Rattle.std.proofs.Common.{◌≡◌, ◌≢◌, ◌≤◌, ◌∙◌, ℕ, Bool, false, List, [], ◌∷◌, All, IsUtf8, arith, length, rules, subst, sym}
+use Rattle.std.specs.Prelude.{MatchOption, Option, None, Some}
 use Rattle.wgsl_requests.specs.Answers.{IsReply}
 use Rattle.wgsl_requests.specs.Requests.{NoRequest}
 use Rattle.wgsl_requests.specs.internal.Written.{Adds}
