@@ -7,6 +7,7 @@ pub mod operators
 pub mod templates
 pub mod constructors
 pub mod calls
+pub mod standard
 pub mod codes
 pub mod Laws
 pub mod internal

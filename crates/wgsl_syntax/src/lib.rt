@@ -9,6 +9,7 @@ pub mod enumerant;
 pub mod layer;
 pub mod names;
 pub mod operator;
+pub mod overload;
 pub mod result_struct;
 pub mod scalar;
 pub mod texel;

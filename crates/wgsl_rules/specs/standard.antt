@@ -1,0 +1,4 @@
+pub mod Overloads
+pub mod Choice
+pub mod Tables
+pub mod Refusal

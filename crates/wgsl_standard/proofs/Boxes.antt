@@ -1,0 +1,254 @@
+-- The instances of an overload that take operands are those that agree with a binding: a condition on each letter alone.
+use Rattle.std.proofs.Common.{◌≡◌, ℕ, ◌↔◌, ◌==◌, List, [], ◌∷◌, Option, Some, None, Bool, true, false, cond, refl, sym, ◌∙◌, ap, subst, true≢false}
+use Rattle.std.specs.Prelude.{IsTrue, option_map, option_and_then}
+use Rattle.std.proofs.lemmas.Bool.{eq-eqb, eqb-true}
+use Rattle.wgsl_syntax.specs.declared.scalar.Scalar.{Scalar}
+use Rattle.wgsl_syntax.specs.declared.overload.Component.{Component}
+use Rattle.wgsl_syntax.specs.declared.overload.Component.TheVariants.{T, U, The}
+use Rattle.wgsl_syntax.specs.declared.overload.Count.{Count}
+use Rattle.wgsl_syntax.specs.declared.overload.Count.TheVariants.{N, M, K, Exactly}
+use Rattle.wgsl_syntax.specs.declared.overload.Shape.{Shape}
+use Rattle.wgsl_syntax.specs.declared.overload.Shape.TheVariants as shapes
+use Rattle.wgsl_syntax.specs.declared.overload.Pattern.{Pattern}
+use Rattle.wgsl_syntax.specs.declared.overload.Dimensions.{Dimensions}
+use Rattle.wgsl_syntax.specs.declared.overload.Dimensions.TheVariants.{Single, Vector, Matrix}
+use Rattle.wgsl_rules.specs.standard.Choice.{Operand}
+use Rattle.wgsl_syntax.specs.declared.overload.Instance.{Instance}
+use Rattle.wgsl_standard.specs.declared.binding.Binding.{Binding}
+use Rattle.wgsl_rules.specs.standard.Overloads.{count_in, one_or_vector, dimensions_in, component_in}
+use Rattle.wgsl_standard.specs.internal.Binding.{converts, may_be, join, join_to, with_t, with_u, bind_component, same_count, bind_count, same_width, with_width, bind_shape, bind_parts, bind, bind_all}
+use Rattle.wgsl_standard.specs.internal.Parts.{parts_of}
+use Rattle.wgsl_standard.proofs.Parts.{pair_of}
+use Rattle.wgsl_standard.proofs.Scalars.{Reaches, JoinsTo, joins}
+
+abbrev pub Meets : Bool → Option Scalar → Scalar → Type 0
+Meets c None g = Unit {0}
+Meets c (Some a) g = Reaches a g × IsTrue (may_be c g)
+
+abbrev pub Same : {A : Type 0} → Option A → A → Type 0
+Same None x = Unit {0}
+Same (Some y) x = y ≡ x
+
+-- what a binding says of the letters
+pub record Agrees (c : Bool) (b : Binding) (i : Instance) : Type 0 where
+  pub t : Meets c b.t i.t
+  pub u : Meets c b.u i.u
+  pub width : Same b.width i.width
+  pub n : Same b.n i.n
+  pub m : Same b.m i.m
+  pub k : Same b.k i.k
+
+-- exactly the instances with P agree with the binding; without a binding no instance has P
+abbrev pub Boxes : Bool → (Instance → Type 0) → Option Binding → Type 0
+Boxes c P None = (i : Instance) → P i → ⊥
+Boxes c P (Some b) = (i : Instance) → P i ↔ Agrees c b i
+
+same_box : (c : Bool) (P Q : Instance → Type 0) → ((i : Instance) → P i ↔ Q i) → (r : Option Binding) → Boxes c P r → Boxes c Q r
+same_box c P Q e None h = λ i q. h i ((e i).1 q)
+same_box c P Q e (Some b) h = λ i. (λ q. (h i).0 ((e i).1 q), λ a. (e i).0 ((h i).1 a))
+
+-- one requirement after another
+chain : (c : Bool) (P Q : Instance → Type 0) (f : Binding → Option Binding) → ((b : Binding) → Boxes c (λ i. Agrees c b i × Q i) (f b)) →
+    (r : Option Binding) → Boxes c P r → Boxes c (λ i. P i × Q i) (option_and_then f r)
+chain c P Q f k None h = λ i q. h i q.0
+chain c P Q f k (Some b) h = same_box c (λ i. Agrees c b i × Q i) (λ i. P i × Q i) (λ i. (λ q. ((h i).1 q.0, q.1), λ q. ((h i).0 q.0, q.1))) (f b) (k b)
+
+-- a letter for scalars
+
+abbrev LetterBox : Bool → Option Scalar → Scalar → Option Scalar → Type 0
+LetterBox c l s None = (g : Scalar) → Meets c l g → Reaches s g → ⊥
+LetterBox c l s (Some r) = (g : Scalar) → (Meets c l g × Reaches s g × IsTrue (may_be c g)) ↔ Meets c (Some r) g
+
+letter_box : (c : Bool) (l : Option Scalar) (s : Scalar) → LetterBox c l s (join_to l s)
+letter_box c None s = λ g. (λ h. (h.1, h.2), λ h. (tt, h.0, h.1))
+letter_box c (Some a) s = turn (join a s) (joins a s)
+  where
+    turn : (r : Option Scalar) → JoinsTo a s r → LetterBox c (Some a) s r
+    turn None f = λ g m k. f g m.0 k
+    turn (Some j) f = λ g. (λ h. ((f g).0 (h.0.0, h.1), h.2), λ h. let q = (f g).1 h.0 in ((q.0, h.1), q.1, h.1))
+
+-- the operand's scalar converts to the component, which may be abstract or need not
+abbrev pub Receives : Bool → Instance → Component → Scalar → Type 0
+Receives c i p s = Reaches s (component_in i p) × IsTrue (may_be c (component_in i p))
+
+component_boxes : (c : Bool) (b : Binding) (p : Component) (s : Scalar) → Boxes c (λ i. Agrees c b i × Receives c i p s) (bind_component c b p s)
+component_boxes c b T s = turn (join_to b.t s) (letter_box c b.t s)
+  where
+    turn : (r : Option Scalar) → LetterBox c b.t s r → Boxes c (λ i. Agrees c b i × Receives c i T s) (option_map (with_t b) r)
+    turn None f = λ i h. f i.t h.0.t h.1.0
+    turn (Some r) f = λ i. (
+      λ h. record { t = (f i.t).0 (h.0.t, h.1.0, h.1.1); u = h.0.u; width = h.0.width; n = h.0.n; m = h.0.m; k = h.0.k },
+      λ h. let q = (f i.t).1 h.t in (record { t = q.0; u = h.u; width = h.width; n = h.n; m = h.m; k = h.k }, (q.1, q.2)),
+    )
+component_boxes c b U s = turn (join_to b.u s) (letter_box c b.u s)
+  where
+    turn : (r : Option Scalar) → LetterBox c b.u s r → Boxes c (λ i. Agrees c b i × Receives c i U s) (option_map (with_u b) r)
+    turn None f = λ i h. f i.u h.0.u h.1.0
+    turn (Some r) f = λ i. (
+      λ h. record { t = h.0.t; u = (f i.u).0 (h.0.u, h.1.0, h.1.1); width = h.0.width; n = h.0.n; m = h.0.m; k = h.0.k },
+      λ h. let q = (f i.u).1 h.u in (record { t = h.t; u = q.0; width = h.width; n = h.n; m = h.m; k = h.k }, (q.1, q.2)),
+    )
+component_boxes c b (The g) s = by_converts (converts s g) refl
+  where
+    by_may : (y : Bool) → may_be c g ≡ y → Reaches s g → Boxes c (λ i. Agrees c b i × Receives c i (The g) s) (cond y (Some b) None)
+    by_may true e h = λ i. (λ k. k.0, λ k. (k, (h, e)))
+    by_may false e h = λ i k. true≢false (sym k.1.1 ∙ e)
+
+    by_converts : (x : Bool) → converts s g ≡ x → Boxes c (λ i. Agrees c b i × Receives c i (The g) s) (cond x (cond (may_be c g) (Some b) None) None)
+    by_converts true e = by_may (may_be c g) refl e
+    by_converts false e = λ i k. true≢false (sym k.1.0 ∙ e)
+
+-- a letter for numbers
+
+abbrev pub SameBox : {A : Type 0} → Option A → A → Option A → Type 0
+SameBox {A} l n None = (x : A) → Same l x → x ≡ n → ⊥
+SameBox {A} l n (Some r) = (x : A) → (Same l x × (x ≡ n)) ↔ (r ≡ x)
+
+count_box : (l : Option ℕ) (n : ℕ) → SameBox l n (same_count l n)
+count_box None n = λ x. (λ h. sym h.1, λ h. (tt, sym h))
+count_box (Some m) n = turn (m == n) refl
+  where
+    turn : (y : Bool) → (m == n) ≡ y → SameBox (Some m) n (cond y (Some m) None)
+    turn true e = λ x. (λ h. h.0, λ h. (h, sym h ∙ eqb-true m n e))
+    turn false e = λ x h k. true≢false (sym (eq-eqb m n (h ∙ k)) ∙ e)
+
+count_boxes : (c : Bool) (b : Binding) (p : Count) (n : ℕ) → Boxes c (λ i. Agrees c b i × (count_in i p ≡ n)) (bind_count b p n)
+count_boxes c b N n = turn (same_count b.n n) (count_box b.n n)
+  where
+    turn : (r : Option ℕ) → SameBox b.n n r → Boxes c (λ i. Agrees c b i × (i.n ≡ n)) (option_map (λ x. record b { n = Some x }) r)
+    turn None f = λ i h. f i.n h.0.n h.1
+    turn (Some r) f = λ i. (
+      λ h. record { t = h.0.t; u = h.0.u; width = h.0.width; n = (f i.n).0 (h.0.n, h.1); m = h.0.m; k = h.0.k },
+      λ h. let q = (f i.n).1 h.n in (record { t = h.t; u = h.u; width = h.width; n = q.0; m = h.m; k = h.k }, q.1),
+    )
+count_boxes c b M n = turn (same_count b.m n) (count_box b.m n)
+  where
+    turn : (r : Option ℕ) → SameBox b.m n r → Boxes c (λ i. Agrees c b i × (i.m ≡ n)) (option_map (λ x. record b { m = Some x }) r)
+    turn None f = λ i h. f i.m h.0.m h.1
+    turn (Some r) f = λ i. (
+      λ h. record { t = h.0.t; u = h.0.u; width = h.0.width; n = h.0.n; m = (f i.m).0 (h.0.m, h.1); k = h.0.k },
+      λ h. let q = (f i.m).1 h.m in (record { t = h.t; u = h.u; width = h.width; n = h.n; m = q.0; k = h.k }, q.1),
+    )
+count_boxes c b K n = turn (same_count b.k n) (count_box b.k n)
+  where
+    turn : (r : Option ℕ) → SameBox b.k n r → Boxes c (λ i. Agrees c b i × (i.k ≡ n)) (option_map (λ x. record b { k = Some x }) r)
+    turn None f = λ i h. f i.k h.0.k h.1
+    turn (Some r) f = λ i. (
+      λ h. record { t = h.0.t; u = h.0.u; width = h.0.width; n = h.0.n; m = h.0.m; k = (f i.k).0 (h.0.k, h.1) },
+      λ h. let q = (f i.k).1 h.k in (record { t = h.t; u = h.u; width = h.width; n = h.n; m = h.m; k = q.0 }, q.1),
+    )
+count_boxes c b (Exactly m) n = turn (m == n) refl
+  where
+    turn : (y : Bool) → (m == n) ≡ y → Boxes c (λ i. Agrees c b i × (m ≡ n)) (cond y (Some b) None)
+    turn true e = λ i. (λ h. h.0, λ h. (h, eqb-true m n e))
+    turn false e = λ i h. true≢false (sym (eq-eqb m n h.1) ∙ e)
+
+-- a scalar or a vector
+
+width_box : (l : Option (Option ℕ)) (w : Option ℕ) → SameBox l w (same_width l w)
+width_box None w = λ x. (λ h. sym h.1, λ h. (tt, sym h))
+width_box (Some None) None = λ x. (λ h. h.0, λ h. (h, sym h))
+width_box (Some (Some m)) (Some n) = turn (m == n) refl
+  where
+    turn : (y : Bool) → (m == n) ≡ y → SameBox (Some (Some m)) (Some n) (cond y (Some (Some m)) None)
+    turn true e = λ x. (λ h. h.0, λ h. (h, sym h ∙ ap Some (eqb-true m n e)))
+    turn false e = λ x h k. let q : Some m ≡ Some n = h ∙ k in true≢false (sym (eq-eqb m n (cc q)) ∙ e)
+width_box (Some None) (Some n) = λ x h k. let q : None ≡ Some n = h ∙ k in cc q
+width_box (Some (Some m)) None = λ x h k. let q : Some m ≡ None = h ∙ k in cc q
+
+width_boxes : (c : Bool) (b : Binding) (w : Option ℕ) → Boxes c (λ i. Agrees c b i × (i.width ≡ w)) (option_map (with_width b) (same_width b.width w))
+width_boxes c b w = turn (same_width b.width w) (width_box b.width w)
+  where
+    turn : (r : Option (Option ℕ)) → SameBox b.width w r → Boxes c (λ i. Agrees c b i × (i.width ≡ w)) (option_map (with_width b) r)
+    turn None f = λ i h. f i.width h.0.width h.1
+    turn (Some r) f = λ i. (
+      λ h. record { t = h.0.t; u = h.0.u; width = (f i.width).0 (h.0.width, h.1); n = h.0.n; m = h.0.m; k = h.0.k },
+      λ h. let q = (f i.width).1 h.width in (record { t = h.t; u = h.u; width = q.0; n = h.n; m = h.m; k = h.k }, q.1),
+    )
+
+width_single : (w : Option ℕ) → (w ≡ None) ↔ (one_or_vector w ≡ Single)
+width_single None = (λ h. refl, λ h. refl)
+width_single (Some n) = (λ h. absurd (cc h), λ h. absurd (cc h))
+
+width_vector : (w : Option ℕ) (k : ℕ) → (w ≡ Some k) ↔ (one_or_vector w ≡ Vector k)
+width_vector None k = (λ h. absurd (cc h), λ h. absurd (cc h))
+width_vector (Some n) k = (λ h. cc h, λ h. cc h)
+
+pub width_matrix : (w : Option ℕ) (k l : ℕ) → one_or_vector w ≡ Matrix k l → ⊥
+width_matrix None k l h = cc h
+width_matrix (Some n) k l h = cc h
+
+shape_boxes : (c : Bool) (b : Binding) (p : Shape) (o : Dimensions) → Boxes c (λ i. Agrees c b i × (dimensions_in i p ≡ o)) (bind_shape b p o)
+shape_boxes c b shapes.One Single = λ i. (λ h. h.0, λ h. (h, refl))
+shape_boxes c b shapes.One (Vector k) = λ i h. cc h.1
+shape_boxes c b shapes.One (Matrix k l) = λ i h. cc h.1
+shape_boxes c b (shapes.Vector n) Single = λ i h. cc h.1
+shape_boxes c b (shapes.Vector n) (Vector k) =
+    same_box c (λ i. Agrees c b i × (count_in i n ≡ k)) (λ i. Agrees c b i × (Vector (count_in i n) ≡ Vector k)) (λ i. (λ h. (h.0, ap Vector h.1), λ h. (h.0, cc (h.1)))) (bind_count b n k) (count_boxes c b n k)
+shape_boxes c b (shapes.Vector n) (Matrix k l) = λ i h. cc h.1
+shape_boxes c b (shapes.Matrix m n) Single = λ i h. cc h.1
+shape_boxes c b (shapes.Matrix m n) (Vector k) = λ i h. cc h.1
+shape_boxes c b (shapes.Matrix m n) (Matrix k l) =
+    same_box c (λ i. (Agrees c b i × (count_in i m ≡ k)) × (count_in i n ≡ l)) (λ i. Agrees c b i × (Matrix (count_in i m) (count_in i n) ≡ Matrix k l))
+    (λ i. (λ h. (h.0.0, cc (h.0.1, h.1)), λ h. ((h.0, cc (h.1)), cc (h.1))))
+    (bind_shape b (shapes.Matrix m n) (Matrix k l))
+    (chain c (λ i. Agrees c b i × (count_in i m ≡ k)) (λ i. count_in i n ≡ l) (λ b. bind_count b n l) (λ b. count_boxes c b n l) (bind_count b m k) (count_boxes c b m k))
+shape_boxes c b shapes.OneOrVector Single =
+    same_box c (λ i. Agrees c b i × (i.width ≡ None)) (λ i. Agrees c b i × (one_or_vector i.width ≡ Single)) (λ i. (λ h. (h.0, (width_single i.width).0 h.1), λ h. (h.0, (width_single i.width).1 h.1))) (option_map (with_width b) (same_width b.width None)) (width_boxes c b None)
+shape_boxes c b shapes.OneOrVector (Vector k) =
+    same_box c (λ i. Agrees c b i × (i.width ≡ Some k)) (λ i. Agrees c b i × (one_or_vector i.width ≡ Vector k)) (λ i. (λ h. (h.0, (width_vector i.width k).0 h.1), λ h. (h.0, (width_vector i.width k).1 h.1))) (option_map (with_width b) (same_width b.width (Some k))) (width_boxes c b (Some k))
+shape_boxes c b shapes.OneOrVector (Matrix k l) = λ i h. width_matrix i.width k l h.1
+
+-- a parameter takes an operand that has these parts
+abbrev FitsParts : Bool → Instance → Pattern → Dimensions × Scalar → Type 0
+FitsParts c i p d = (dimensions_in i p.shape ≡ d.0) × Receives c i p.component d.1
+
+parts_boxes : (c : Bool) (b : Binding) (p : Pattern) (d : Dimensions × Scalar) → Boxes c (λ i. Agrees c b i × FitsParts c i p d) (bind_parts c b p d)
+parts_boxes c b p d =
+    same_box c (λ i. (Agrees c b i × (dimensions_in i p.shape ≡ d.0)) × Receives c i p.component d.1) (λ i. Agrees c b i × FitsParts c i p d)
+    (λ i. (λ h. (h.0.0, (h.0.1, h.1)), λ h. ((h.0, h.1.0), h.1.1)))
+    (bind_parts c b p d)
+    (chain c (λ i. Agrees c b i × (dimensions_in i p.shape ≡ d.0)) (λ i. Receives c i p.component d.1) (λ b. bind_component c b p.component d.1)
+    (λ b. component_boxes c b p.component d.1) (bind_shape b p.shape d.0) (shape_boxes c b p.shape d.0))
+
+-- a parameter takes an operand
+pub record Fit (c : Bool) (i : Instance) (p : Pattern) (x : Operand) : Type 0 where
+  pub scalar : Scalar
+  pub parts : parts_of x.of_type ≡ Some (dimensions_in i p.shape, scalar)
+  pub receives : Receives c i p.component scalar
+
+-- two parameters that take an operand
+pub same_operand : (c : Bool) (i j : Instance) (p q : Pattern) (x : Operand) → (f : Fit c i p x) → Fit c j q x →
+    (dimensions_in i p.shape ≡ dimensions_in j q.shape) × Reaches f.scalar (component_in j q.component)
+same_operand c i j p q x f g =
+    let k = pair_of (dimensions_in i p.shape, f.scalar) (dimensions_in j q.shape, g.scalar) (sym f.parts ∙ g.parts) in
+    (k.0, subst (λ s. Reaches s (component_in j q.component)) (sym k.1) g.receives.0)
+
+fits_so : (c : Bool) (i : Instance) (p : Pattern) (x : Operand) (d : Dimensions × Scalar) → parts_of x.of_type ≡ Some d → FitsParts c i p d ↔ Fit c i p x
+fits_so c i p x d e = (
+  λ h. record { scalar = d.1; parts = e ∙ ap (λ o. Some (o, d.1)) (sym h.0); receives = h.1 },
+  λ f. let k = pair_of d (dimensions_in i p.shape, f.scalar) (sym e ∙ f.parts) in (sym k.0, subst (Receives c i p.component) (sym k.1) f.receives),
+)
+
+pub bind_boxes : (c : Bool) (b : Binding) (p : Pattern) (x : Operand) → Boxes c (λ i. Agrees c b i × Fit c i p x) (bind c b p x)
+bind_boxes c b p x = turn (parts_of x.of_type) refl
+  where
+    turn : (r : Option (Dimensions × Scalar)) → parts_of x.of_type ≡ r → Boxes c (λ i. Agrees c b i × Fit c i p x) (option_and_then (bind_parts c b p) r)
+    turn None e = λ i h. let q = sym e ∙ h.1.parts in cc q
+    turn (Some d) e = same_box c (λ i. Agrees c b i × FitsParts c i p d) (λ i. Agrees c b i × Fit c i p x)
+        (λ i. (λ h. (h.0, (fits_so c i p x d e).0 h.1), λ h. (h.0, (fits_so c i p x d e).1 h.1))) (bind_parts c b p d) (parts_boxes c b p d)
+
+abbrev pub AllFit : Bool → Instance → List Pattern → List Operand → Type 0
+AllFit c i [] [] = Unit {0}
+AllFit c i (p ∷ ps) (x ∷ xs) = Fit c i p x × AllFit c i ps xs
+AllFit c i ps xs = ⊥
+
+pub all_boxes : (c : Bool) (b : Binding) (ps : List Pattern) (xs : List Operand) → Boxes c (λ i. Agrees c b i × AllFit c i ps xs) (bind_all c b ps xs)
+all_boxes c b [] [] = λ i. (λ h. h.0, λ h. (h, tt))
+all_boxes c b [] (x ∷ xs) = λ i h. h.1
+all_boxes c b (p ∷ ps) [] = λ i h. h.1
+all_boxes c b (p ∷ ps) (x ∷ xs) =
+    same_box c (λ i. (Agrees c b i × Fit c i p x) × AllFit c i ps xs) (λ i. Agrees c b i × (Fit c i p x × AllFit c i ps xs))
+    (λ i. (λ h. (h.0.0, (h.0.1, h.1)), λ h. ((h.0, h.1.0), h.1.1)))
+    (bind_all c b (p ∷ ps) (x ∷ xs))
+    (chain c (λ i. Agrees c b i × Fit c i p x) (λ i. AllFit c i ps xs) (λ b. bind_all c b ps xs) (λ b. all_boxes c b ps xs) (bind c b p x) (bind_boxes c b p x))

@@ -1,0 +1,144 @@
+-- The instance that is found: it takes the operands, and no other that takes them has a lower scalar anywhere.
+use Rattle.std.proofs.Common.{◌≡◌, ℕ, ◌<◌, ◌⊎◌, List, [], ◌∷◌, Option, Some, None, Bool, true, false, cond, refl, sym, ◌∙◌, subst, inl, inr, true≢false}
+use Rattle.std.specs.Prelude.{IsTrue, option_map, option_and_then}
+use Rattle.wgsl_syntax.specs.declared.scalar.Scalar.{Scalar}
+use Rattle.wgsl_syntax.specs.declared.scalar.Scalar.TheVariants.{Bool as BoolScalar, AbstractInt, AbstractFloat, I32, U32, F32, F16, I64, U64, F64}
+use Rattle.wgsl_rules.proofs.conversion.Steps.{scalar_depth}
+use Rattle.wgsl_syntax.specs.declared.overload.Kind.{Kind}
+use Rattle.wgsl_syntax.specs.declared.overload.Component.{Component}
+use Rattle.wgsl_syntax.specs.declared.overload.Component.TheVariants.{T, U, The}
+use Rattle.wgsl_syntax.specs.declared.overload.Pattern.{Pattern}
+use Rattle.wgsl_syntax.specs.declared.overload.Overload.{Overload}
+use Rattle.wgsl_rules.specs.standard.Choice.{Operand}
+use Rattle.wgsl_syntax.specs.declared.overload.Instance.{Instance}
+use Rattle.wgsl_standard.specs.declared.binding.Binding.{Binding}
+use Rattle.wgsl_rules.specs.standard.Overloads.{is_of_kind, component_in, patterns_of, kind_of_t, kind_of_u, IsInstance}
+use Rattle.wgsl_standard.specs.internal.Binding.{may_be, bind_all, free, targets, is_bound, first_of_kind, pick, or_zero, or_none, instance_at, settle, instance_of}
+use Rattle.wgsl_standard.proofs.Scalars.{Member, IsPicked, picked}
+use Rattle.wgsl_standard.proofs.Boxes.{Meets, Same, Agrees, Boxes, AllFit, all_boxes}
+use Rattle.wgsl_standard.proofs.BoundLetters.{Binds, BindsAll, binding_binds}
+
+-- a letter of which nothing is required
+
+abbrev IsSome : Kind → List Scalar → Option Scalar → Type 0
+IsSome k ss (Some s) = IsTrue (is_of_kind k s)
+IsSome k ss None = (g : Scalar) → IsTrue (is_of_kind k g) → Member g ss → ⊥
+
+some_step : (k : Kind) (s : Scalar) (ss : List Scalar) → IsSome k ss (first_of_kind false k ss) → IsSome k (s ∷ ss) (first_of_kind false k (s ∷ ss))
+some_step k s ss f = turn (is_of_kind k s) refl
+  where
+    rest : (x : Option Scalar) → IsSome k ss x → (¬ IsTrue (is_of_kind k s)) → IsSome k (s ∷ ss) x
+    rest (Some x) f n = f
+    rest None f n = λ g h m. elim m [
+      | inl e ↦ n (subst (λ g. IsTrue (is_of_kind k g)) e h)
+      | inr m ↦ f g h m
+    ]
+
+    turn : (x : Bool) → is_of_kind k s ≡ x → IsSome k (s ∷ ss) (cond x (cond (may_be false s) (Some s) (first_of_kind false k ss)) (first_of_kind false k ss))
+    turn true e = e
+    turn false e = rest (first_of_kind false k ss) f (λ h. true≢false (sym h ∙ e))
+
+some_found : (k : Kind) (ss : List Scalar) → IsSome k ss (first_of_kind false k ss)
+some_found k [] = λ g h m. m
+some_found k (s ∷ ss) = some_step k s ss (some_found k ss)
+
+each_listed : (g : Scalar) → Member g (targets None)
+each_listed BoolScalar = inl refl
+each_listed AbstractInt = inr (inl refl)
+each_listed I32 = inr (inr (inl refl))
+each_listed U32 = inr (inr (inr (inl refl)))
+each_listed AbstractFloat = inr (inr (inr (inr (inl refl))))
+each_listed F32 = inr (inr (inr (inr (inr (inl refl)))))
+each_listed F16 = inr (inr (inr (inr (inr (inr (inl refl))))))
+each_listed I64 = inr (inr (inr (inr (inr (inr (inr (inl refl)))))))
+each_listed U64 = inr (inr (inr (inr (inr (inr (inr (inr (inl refl))))))))
+each_listed F64 = inr (inr (inr (inr (inr (inr (inr (inr (inr (inl refl)))))))))
+
+-- what a letter stands for in the end
+record IsLetter (c : Bool) (k : Kind) (l : Option Scalar) (s : Scalar) : Type 0 where
+  kind : IsTrue (is_of_kind k s)
+  meets : Meets c l s
+  least : IsTrue (is_bound l) → (g : Scalar) → IsTrue (is_of_kind k g) → Meets c l g → (g ≡ s) ⊎ (scalar_depth s < scalar_depth g)
+
+abbrev LetterOr : Bool → Kind → Option Scalar → Option Scalar → Type 0
+LetterOr c k l (Some s) = IsLetter c k l s
+LetterOr c k l None = (g : Scalar) → IsTrue (is_of_kind k g) → Meets c l g → ⊥
+
+letter : (c : Bool) (k : Kind) (l : Option Scalar) → LetterOr c k l (pick c k l)
+letter c k None = turn (first_of_kind false k (targets None)) (some_found k (targets None))
+  where
+    turn : (x : Option Scalar) → IsSome k (targets None) x → LetterOr c k None x
+    turn (Some s) f = record { kind = f; meets = tt; least = λ b. absurd (true≢false (sym b)) }
+    turn None f = λ g h m. f g h (each_listed g)
+letter c k (Some a) = turn (pick c k (Some a)) (picked c k a)
+  where
+    turn : (x : Option Scalar) → IsPicked c k a x → LetterOr c k (Some a) x
+    turn (Some s) f = record { kind = f.kind; meets = (f.taken, f.may); least = λ b g h m. f.least g h m.1 m.0 }
+    turn None f = λ g h m. f g h m.1 m.0
+
+-- no lower, and where it isn't the same lower
+abbrev pub IsNear : Instance → Instance → Component → Type 0
+IsNear i j p = (component_in j p ≡ component_in i p) ⊎ (scalar_depth (component_in i p) < scalar_depth (component_in j p))
+
+abbrev pub AllNear : Instance → Instance → List Pattern → Type 0
+AllNear i j [] = Unit {0}
+AllNear i j (p ∷ ps) = IsNear i j p.component × AllNear i j ps
+
+-- the instance that is found, or none that takes the operands
+pub record IsLeastInstance (c : Bool) (o : Overload) (ps : List Pattern) (xs : List Operand) (i : Instance) : Type 0 where
+  pub admitted : IsInstance o i
+  pub fits : AllFit c i ps xs
+  pub least : (j : Instance) → IsInstance o j → AllFit c j ps xs → AllNear i j ps
+
+abbrev pub LeastOr : Bool → Overload → List Pattern → List Operand → Option Instance → Type 0
+LeastOr c o ps xs (Some i) = IsLeastInstance c o ps xs i
+LeastOr c o ps xs None = (j : Instance) → IsInstance o j → AllFit c j ps xs → ⊥
+
+free_agrees : (c : Bool) (i : Instance) → Agrees c free i
+free_agrees c i = record { t = tt; u = tt; width = tt; n = tt; m = tt; k = tt }
+
+same_or_zero : (l : Option ℕ) → Same l (or_zero l)
+same_or_zero None = tt
+same_or_zero (Some n) = refl
+
+same_or_none : (l : Option (Option ℕ)) → Same l (or_none l)
+same_or_none None = tt
+same_or_none (Some n) = refl
+
+near : (c : Bool) (o : Overload) (b : Binding) (t u : Scalar) → IsLetter c (kind_of_t o) b.t t → IsLetter c (kind_of_u o) b.u u → (j : Instance) → IsInstance o j → Agrees c b j →
+    (p : Component) → Binds b p → IsNear (instance_at b t u) j p
+near c o b t u f g j a q T h = f.least h j.t a.t q.t
+near c o b t u f g j a q U h = g.least h j.u a.u q.u
+near c o b t u f g j a q (The s) h = inl refl
+
+all_near : (c : Bool) (o : Overload) (b : Binding) (t u : Scalar) → IsLetter c (kind_of_t o) b.t t → IsLetter c (kind_of_u o) b.u u → (j : Instance) → IsInstance o j → Agrees c b j →
+    (ps : List Pattern) → BindsAll ps b → AllNear (instance_at b t u) j ps
+all_near c o b t u f g j a q [] h = tt
+all_near c o b t u f g j a q (p ∷ ps) h = (near c o b t u f g j a q p.component h.0, all_near c o b t u f g j a q ps h.1)
+
+settled : (c : Bool) (o : Overload) (ps : List Pattern) (xs : List Operand) (b : Binding) → ((i : Instance) → (Agrees c free i × AllFit c i ps xs → Agrees c b i) × (Agrees c b i → Agrees c free i × AllFit c i ps xs)) → BindsAll ps b →
+    LeastOr c o ps xs (settle c o b)
+settled c o ps xs b f h = at_t (pick c (kind_of_t o) b.t) (letter c (kind_of_t o) b.t)
+  where
+    at_u : (t : Scalar) → IsLetter c (kind_of_t o) b.t t → (x : Option Scalar) → LetterOr c (kind_of_u o) b.u x → LeastOr c o ps xs (option_map (instance_at b t) x)
+    at_u t k None n = λ j a q. n j.u a.u ((f j).0 (free_agrees c j, q)).u
+    at_u t k (Some u) m = record {
+      admitted = record { t = k.kind; u = m.kind };
+      fits = ((f (instance_at b t u)).1 (record { t = k.meets; u = m.meets; width = same_or_none b.width; n = same_or_zero b.n; m = same_or_zero b.m; k = same_or_zero b.k })).1;
+      least = λ j a q. all_near c o b t u k m j a ((f j).0 (free_agrees c j, q)) ps h;
+    }
+
+    at_t : (x : Option Scalar) → LetterOr c (kind_of_t o) b.t x → LeastOr c o ps xs (option_and_then (λ t. option_map (instance_at b t) (pick c (kind_of_u o) b.u)) x)
+    at_t None n = λ j a q. n j.t a.t ((f j).0 (free_agrees c j, q)).t
+    at_t (Some t) k = at_u t k (pick c (kind_of_u o) b.u) (letter c (kind_of_u o) b.u)
+
+pub least_among : (c : Bool) (o : Overload) (ps : List Pattern) (xs : List Operand) → LeastOr c o ps xs (option_and_then (settle c o) (bind_all c free ps xs))
+least_among c o ps xs = turn (bind_all c free ps xs) refl (all_boxes c free ps xs)
+  where
+    turn : (r : Option Binding) → bind_all c free ps xs ≡ r → Boxes c (λ i. Agrees c free i × AllFit c i ps xs) r →
+        LeastOr c o ps xs (option_and_then (settle c o) r)
+    turn None e f = λ j a q. f j (free_agrees c j, q)
+    turn (Some b) e f = settled c o ps xs b (λ i. ((f i).0, (f i).1)) (binding_binds c free b ps xs e)
+
+pub least_instance : (c : Bool) (o : Overload) (xs : List Operand) → LeastOr c o (patterns_of o) xs (instance_of c o xs)
+least_instance c o xs = least_among c o (patterns_of o) xs

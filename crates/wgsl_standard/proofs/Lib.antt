@@ -1,0 +1,11 @@
+pub mod Scalars
+pub mod Parts
+pub mod Boxes
+pub mod Ranks
+pub mod BoundLetters
+pub mod LeastInstances
+pub mod Choices
+pub mod OneChoice
+pub mod Lengths
+pub mod FirstParameters
+pub mod Unambiguous

@@ -1,0 +1,7 @@
+use Rattle.std.proofs.Common.{◌≡◌, drop}
+use Rattle.wgsl_standard.specs.internal.Binding.{must_be_concrete}
+use Rattle.wgsl_standard.specs.Operands.{operands_view}
+use Rattle.wgsl_standard.proofs.resolve.must_be_concrete.Given as goal
+
+abbrev pub invariant-loop-operand : goal.invariant-loop-operand
+invariant-loop-operand l = must_be_concrete (operands_view (drop l.operand-index l.operands)) ≡ must_be_concrete (operands_view l.operands)

@@ -1,0 +1,4 @@
+pub mod Parts
+pub mod Binding
+pub mod Choices
+pub mod Ambiguity

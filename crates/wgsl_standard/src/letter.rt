@@ -1,0 +1,142 @@
+// The letters for scalars: what operands require of them, and the least scalar of a kind.
+ghost use Rattle.std.specs.Prelude.{◌≡◌};
+ghost use Rattle.wgsl_rules.specs.standard.Overloads.{is_of_kind as is_in_kind};
+ghost use Rattle.wgsl_standard.specs.internal.Binding.{converts as converts_to, may_be as may_stand, join as joined, join_to as joined_to, first_of_kind as first_in, pick as picked};
+
+use wgsl_syntax::overload::Kind;
+use wgsl_syntax::scalar::Scalar;
+
+/// What a letter stands for, if one more operand converts to it.
+pub fn join_to(letter: Option<Scalar>, scalar: Scalar) -> Option<Scalar>
+    ensures { result ≡ joined_to letter scalar }
+{
+    match letter {
+        None => Some(scalar),
+        Some(before) => join(before, scalar),
+    }
+}
+
+fn join(a: Scalar, b: Scalar) -> Option<Scalar>
+    ensures { result ≡ joined a b }
+{
+    if converts(a, b) {
+        Some(b)
+    } else if converts(b, a) {
+        Some(a)
+    } else {
+        None
+    }
+}
+
+/// Whether the first scalar converts to the second.
+pub fn converts(a: Scalar, b: Scalar) -> bool
+    ensures { result ≡ converts_to a b }
+{
+    match a {
+        Scalar::AbstractInt => !matches!(b, Scalar::Bool | Scalar::F64),
+        Scalar::AbstractFloat => matches!(b, Scalar::AbstractFloat | Scalar::F32 | Scalar::F16),
+        Scalar::Bool => matches!(b, Scalar::Bool),
+        Scalar::I32 => matches!(b, Scalar::I32),
+        Scalar::U32 => matches!(b, Scalar::U32),
+        Scalar::F32 => matches!(b, Scalar::F32),
+        Scalar::F16 => matches!(b, Scalar::F16),
+        Scalar::I64 => matches!(b, Scalar::I64),
+        Scalar::U64 => matches!(b, Scalar::U64),
+        Scalar::F64 => matches!(b, Scalar::F64),
+    }
+}
+
+/// Whether a parameter may have this scalar.
+pub fn may_be(concrete: bool, scalar: Scalar) -> bool
+    ensures { result ≡ may_stand concrete scalar }
+{
+    if concrete {
+        !matches!(scalar, Scalar::AbstractInt | Scalar::AbstractFloat)
+    } else {
+        true
+    }
+}
+
+/// What a letter stands for in the end.
+pub fn pick(concrete: bool, kind: Kind, letter: Option<Scalar>) -> Option<Scalar>
+    ensures { result ≡ picked concrete kind letter }
+{
+    match letter {
+        None => first_of_kind(
+            false,
+            kind,
+            &[
+                Scalar::Bool,
+                Scalar::AbstractInt,
+                Scalar::I32,
+                Scalar::U32,
+                Scalar::AbstractFloat,
+                Scalar::F32,
+                Scalar::F16,
+                Scalar::I64,
+                Scalar::U64,
+                Scalar::F64,
+            ],
+        ),
+        Some(Scalar::AbstractInt) => first_of_kind(
+            concrete,
+            kind,
+            &[
+                Scalar::AbstractInt,
+                Scalar::I32,
+                Scalar::U32,
+                Scalar::AbstractFloat,
+                Scalar::F32,
+                Scalar::F16,
+                Scalar::I64,
+                Scalar::U64,
+            ],
+        ),
+        Some(Scalar::AbstractFloat) => first_of_kind(
+            concrete,
+            kind,
+            &[Scalar::AbstractFloat, Scalar::F32, Scalar::F16],
+        ),
+        Some(scalar) => first_of_kind(concrete, kind, &[scalar]),
+    }
+}
+
+fn first_of_kind(concrete: bool, kind: Kind, scalars: &[Scalar]) -> Option<Scalar>
+    ensures { result ≡ first_in concrete kind scalars.now }
+{
+    for scalar in scalars {
+        if is_of_kind(kind, *scalar) && may_be(concrete, *scalar) {
+            return Some(*scalar);
+        }
+    }
+    None
+}
+
+fn is_of_kind(kind: Kind, scalar: Scalar) -> bool
+    ensures { result ≡ is_in_kind kind scalar }
+{
+    match kind {
+        Kind::AnyScalar => true,
+        Kind::ConcreteScalar => !matches!(scalar, Scalar::AbstractInt | Scalar::AbstractFloat),
+        Kind::Number => !matches!(scalar, Scalar::Bool),
+        Kind::SignedNumber => !matches!(scalar, Scalar::Bool | Scalar::U32 | Scalar::U64),
+        Kind::ConcreteNumber => !matches!(
+            scalar,
+            Scalar::Bool | Scalar::AbstractInt | Scalar::AbstractFloat
+        ),
+        Kind::Integer => matches!(
+            scalar,
+            Scalar::AbstractInt | Scalar::I32 | Scalar::U32 | Scalar::I64 | Scalar::U64
+        ),
+        Kind::SignedInteger => matches!(scalar, Scalar::AbstractInt | Scalar::I32 | Scalar::I64),
+        Kind::ConcreteInteger => matches!(
+            scalar,
+            Scalar::I32 | Scalar::U32 | Scalar::I64 | Scalar::U64
+        ),
+        Kind::Float => matches!(
+            scalar,
+            Scalar::AbstractFloat | Scalar::F32 | Scalar::F16 | Scalar::F64
+        ),
+        Kind::ConcreteFloat => matches!(scalar, Scalar::F32 | Scalar::F16 | Scalar::F64),
+    }
+}

@@ -1,0 +1,52 @@
+// Which operand of a call is refused.
+ghost use Rattle.std.specs.Prelude.{◌≡◌, ◌↔◌, IsTrue};
+ghost use Rattle.wgsl_rules.specs.standard.Refusal.{SomeTakesFirst, IsRefusedAt};
+ghost use Rattle.wgsl_standard.specs.Operands.{operands_view};
+ghost use Rattle.wgsl_standard.specs.internal.Binding.{takes_first as it_takes_first, some_takes_first as one_takes_first};
+
+use crate::binding::bind_first;
+use crate::operand::Operand;
+use crate::overload::parameters_of;
+use crate::resolve::{must_be_concrete, settle};
+use wgsl_syntax::overload::Overload;
+
+/// The index of the first operand so that no overload takes the operands up to it as its first ones; None if there is none.
+#[tactic(auto, using(crate::proofs::FirstParameters::none_refused_seen))]
+pub fn refused_at(overloads: &[Overload], operands: &[Operand]) -> Option<usize>
+    ensures { IsRefusedAt overloads.now (operands_view operands.now) result }
+{
+    for n in 0..operands.len() {
+        if !some_takes_first(overloads, &operands[..n + 1]) {
+            return Some(n);
+        }
+    }
+    None
+}
+
+#[tactic(auto, using(crate::proofs::FirstParameters::some_takes_first_is))]
+fn some_takes_first(overloads: &[Overload], operands: &[Operand]) -> bool
+    ensures { IsTrue result ↔ SomeTakesFirst overloads.now (operands_view operands.now) }
+{
+    any_takes_first(overloads, operands)
+}
+
+fn any_takes_first(overloads: &[Overload], operands: &[Operand]) -> bool
+    ensures { result ≡ one_takes_first overloads.now (operands_view operands.now) }
+{
+    for overload in overloads {
+        if takes_first(overload, operands) {
+            return true;
+        }
+    }
+    false
+}
+
+fn takes_first(overload: &Overload, operands: &[Operand]) -> bool
+    ensures { result ≡ it_takes_first overload.now (operands_view operands.now) }
+{
+    let concrete = must_be_concrete(operands);
+    match bind_first(concrete, parameters_of(overload), operands) {
+        Some(binding) => settle(concrete, overload, binding).is_some(),
+        None => false,
+    }
+}

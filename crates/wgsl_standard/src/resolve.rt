@@ -1,0 +1,88 @@
+// The choice of an overload for operands (WGSL, "Overload Resolution"). It does not allocate.
+ghost use Rattle.std.specs.Prelude.{◌≡◌, option_map};
+ghost use Rattle.wgsl_rules.specs.standard.Choice.{IsChosen, ChoiceIsUnique};
+ghost use Rattle.wgsl_rules.specs.standard.Tables.{IsUnambiguous};
+ghost use Rattle.wgsl_standard.specs.Operands.{operands_view};
+ghost use Rattle.wgsl_standard.specs.internal.Binding.{must_be_concrete as must_all_be_concrete, instance_at as instance_there, settle as settled, instance_of as least_instance, first_of as first_chosen};
+ghost use Rattle.wgsl_standard.specs.internal.Choices.{choice_view};
+
+use crate::binding::{Binding, bind_all};
+use crate::letter::pick;
+use crate::operand::Operand;
+use crate::overload::{kind_of_t, kind_of_u, parameters_of};
+use wgsl_syntax::overload::{Instance, Overload};
+use wgsl_syntax::scalar::Scalar;
+
+/// An overload that is chosen, by its index, and what its letters stand for.
+#[derive(Clone, Copy)]
+pub struct Choice {
+    pub index: usize,
+    pub instance: Instance,
+}
+
+/// The overload of a table that is preferred for operands, if one takes them.
+#[tactic(auto, using(crate::proofs::Choices::found))]
+pub fn resolve(overloads: &[Overload], operands: &[Operand]) -> Option<Choice>
+    requires { IsUnambiguous overloads.now }
+    ensures { IsChosen overloads.now (operands_view operands.now) (option_map choice_view result) }
+{
+    first_of(must_be_concrete(operands), overloads, operands)
+}
+
+fn first_of(concrete: bool, overloads: &[Overload], operands: &[Operand]) -> Option<Choice>
+    ensures { option_map choice_view result ≡ first_chosen concrete overloads.now (operands_view operands.now) }
+{
+    for index in 0..overloads.len() {
+        if let Some(instance) = instance_of(concrete, &overloads[index], operands) {
+            return Some(Choice { index, instance });
+        }
+    }
+    None
+}
+
+/// Whether the parameters must be concrete: an operand isn't a const-expression.
+pub fn must_be_concrete(operands: &[Operand]) -> bool
+    ensures { result ≡ must_all_be_concrete (operands_view operands.now) }
+{
+    for operand in operands {
+        if !operand.is_constant {
+            return true;
+        }
+    }
+    false
+}
+
+/// The least instance of the overload that takes the operands.
+fn instance_of(concrete: bool, overload: &Overload, operands: &[Operand]) -> Option<Instance>
+    ensures { result ≡ least_instance concrete overload.now (operands_view operands.now) }
+{
+    let binding = bind_all(concrete, parameters_of(overload), operands)?;
+    settle(concrete, overload, binding)
+}
+
+/// What the letters stand for in the end.
+pub fn settle(concrete: bool, overload: &Overload, binding: Binding) -> Option<Instance>
+    ensures { result ≡ settled concrete overload.now binding }
+{
+    let t = pick(concrete, kind_of_t(overload), binding.t)?;
+    let u = pick(concrete, kind_of_u(overload), binding.u)?;
+    Some(instance_at(binding, t, u))
+}
+
+fn instance_at(binding: Binding, t: Scalar, u: Scalar) -> Instance
+    ensures { result ≡ instance_there binding t u }
+{
+    Instance {
+        t,
+        u,
+        width: binding.width.unwrap_or(None),
+        n: binding.n.unwrap_or(0),
+        m: binding.m.unwrap_or(0),
+        k: binding.k.unwrap_or(0),
+    }
+}
+
+/// At most one candidate is preferred for operands.
+pub fn choice_is_unique()
+    ensures { ChoiceIsUnique }
+{}
