@@ -2,3 +2,9 @@ pub mod Overloads
 pub mod Choice
 pub mod Tables
 pub mod Refusal
+pub mod Patterns
+pub mod Operators
+pub mod Functions
+pub mod BitFunctions
+pub mod Constructors
+pub mod Names

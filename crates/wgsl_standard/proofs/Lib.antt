@@ -9,3 +9,5 @@ pub mod OneChoice
 pub mod Lengths
 pub mod FirstParameters
 pub mod Unambiguous
+pub mod OperatorTables
+pub mod NamedTables

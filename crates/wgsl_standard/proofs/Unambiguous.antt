@@ -29,7 +29,7 @@ use Rattle.wgsl_standard.proofs.Boxes.{width_matrix, same_operand, AllFit}
 use Rattle.wgsl_standard.proofs.Ranks.{ranks_below, ranks_less}
 use Rattle.wgsl_standard.proofs.Choices.{depths, taken}
 
-both : (a b : Bool) → IsTrue (a && b) → IsTrue a × IsTrue b
+pub both : (a b : Bool) → IsTrue (a && b) → IsTrue a × IsTrue b
 both true b h = (refl, h)
 both false b h = absurd (true≢false (sym h))
 

@@ -2,9 +2,14 @@
 #![tactic(auto)]
 
 pub mod binding;
+pub mod constructors;
+pub mod functions;
 pub mod instance;
 pub mod letter;
+pub mod names;
 pub mod operand;
+pub mod operators;
 pub mod overload;
+pub mod pattern;
 pub mod refusal;
 pub mod resolve;

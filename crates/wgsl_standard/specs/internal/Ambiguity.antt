@@ -144,3 +144,8 @@ has_one_result o = has_component (result_of o).component (patterns_of o) && has_
 abbrev pub is_unambiguous : List Overload → Bool
 is_unambiguous [] = true
 is_unambiguous (o ∷ os) = has_one_result o && (is_preferred_to_all o os && is_unambiguous os)
+
+-- whether all tables of a list with names are unambiguous
+abbrev pub rows_unambiguous : List (List ℕ × List Overload) → Bool
+rows_unambiguous [] = true
+rows_unambiguous (row ∷ rows) = is_unambiguous row.1 && rows_unambiguous rows

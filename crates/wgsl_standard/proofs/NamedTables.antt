@@ -1,0 +1,36 @@
+-- The tables of functions and constructors are unambiguous.
+use Rattle.std.proofs.Common.{◌≡◌, ℕ, List, [], ◌∷◌, Option, Some, None, refl, sym, subst}
+use Rattle.std.specs.Prelude.{IfSome, IsTrue, option_map, bytes_eq, Bool, true, false, if◌then◌else◌}
+use Rattle.std.specs.Borrow.{Bor}
+use Rattle.wgsl_syntax.specs.declared.overload.Overload.{Overload}
+use Rattle.wgsl_rules.specs.standard.Names.{function_table, constructor_table, overloads_named}
+use Rattle.wgsl_rules.specs.standard.Tables.{IsUnambiguous}
+use Rattle.wgsl_standard.specs.internal.Ambiguity.{is_unambiguous, rows_unambiguous}
+use Rattle.wgsl_standard.proofs.Unambiguous.{both, unambiguous_is}
+
+abbrev IfUnambiguous : Option (List Overload) → Type 0
+IfUnambiguous None = Unit {0}
+IfUnambiguous (Some os) = IsUnambiguous os
+
+named_unambiguous : (name : List ℕ) (rows : List (List ℕ × List Overload)) → IsTrue (rows_unambiguous rows) → IfUnambiguous (overloads_named name rows)
+named_unambiguous name [] h = tt
+named_unambiguous name (row ∷ rows) h = turn (bytes_eq name row.0) (named_unambiguous name rows (both (is_unambiguous row.1) (rows_unambiguous rows) h).1)
+  where
+    turn : (b : Bool) → IfUnambiguous (overloads_named name rows) → IfUnambiguous (if b then Some row.1 else overloads_named name rows)
+    turn true f = unambiguous_is row.1 (both (is_unambiguous row.1) (rows_unambiguous rows) h).0
+    turn false f = f
+
+seen : (r : Option (Bor (List Overload))) (s : Option (List Overload)) → option_map (λ o. o.now) r ≡ s → IfUnambiguous s → IfSome r (λ o. IsUnambiguous o.now)
+seen r s e h = turn r (subst IfUnambiguous (sym e) h)
+  where
+    turn : (r : Option (Bor (List Overload))) → IfUnambiguous (option_map (λ o. o.now) r) → IfSome r (λ o. IsUnambiguous o.now)
+    turn None h = tt
+    turn (Some o) h = h
+
+pub function_unambiguous : (name : List ℕ) (r : Option (Bor (List Overload))) → option_map (λ o. o.now) r ≡ overloads_named name function_table → IfSome r (λ o. IsUnambiguous o.now)
+unfolding function_table
+function_unambiguous name r e = seen r (overloads_named name function_table) e (named_unambiguous name function_table refl)
+
+pub constructor_unambiguous : (name : List ℕ) (r : Option (Bor (List Overload))) → option_map (λ o. o.now) r ≡ overloads_named name constructor_table → IfSome r (λ o. IsUnambiguous o.now)
+unfolding constructor_table
+constructor_unambiguous name r e = seen r (overloads_named name constructor_table) e (named_unambiguous name constructor_table refl)

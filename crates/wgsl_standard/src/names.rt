@@ -1,0 +1,201 @@
+// The overloads of a name.
+ghost use Rattle.std.specs.Prelude.{◌≡◌, map, option_map, IfSome};
+ghost use Rattle.wgsl_rules.specs.standard.Names.{function_table, constructor_table, overloads_named};
+ghost use Rattle.wgsl_rules.specs.standard.Tables.{IsUnambiguous};
+ghost use Rattle.wgsl_standard.specs.internal.Sets.{function_row, constructor_row};
+
+use crate::constructors::{ConstructorSet, constructor_overloads};
+use crate::functions::{FunctionSet, function_overloads};
+use wgsl_syntax::overload::Overload;
+
+/// The overloads of a built-in function of values, if the name is one.
+#[tactic(auto, using(crate::proofs::NamedTables::function_unambiguous))]
+pub fn function_named(name: &str) -> Option<&'static [Overload]>
+    ensures row { option_map (λ o. o.now) result ≡ overloads_named name.now function_table }
+    ensures unambiguous { IfSome result (λ o. IsUnambiguous o.now) }
+{
+    find_function(name, functions())
+}
+
+fn find_function(name: &str, functions: &[(&str, FunctionSet)]) -> Option<&'static [Overload]>
+    ensures { option_map (λ o. o.now) result ≡ overloads_named name.now (map function_row functions.now) }
+{
+    for (listed, set) in functions {
+        if name == *listed {
+            return Some(function_overloads(*set));
+        }
+    }
+    None
+}
+
+/// The overloads of a constructor without a template, if the name is one.
+#[tactic(auto, using(crate::proofs::NamedTables::constructor_unambiguous))]
+pub fn constructor_named(name: &str) -> Option<&'static [Overload]>
+    ensures row { option_map (λ o. o.now) result ≡ overloads_named name.now constructor_table }
+    ensures unambiguous { IfSome result (λ o. IsUnambiguous o.now) }
+{
+    find_constructor(name, constructors())
+}
+
+fn find_constructor(
+    name: &str,
+    constructors: &[(&str, ConstructorSet)],
+) -> Option<&'static [Overload]>
+    ensures { option_map (λ o. o.now) result ≡ overloads_named name.now (map constructor_row constructors.now) }
+{
+    for (listed, set) in constructors {
+        if name == *listed {
+            return Some(constructor_overloads(*set));
+        }
+    }
+    None
+}
+
+/// The built-in functions of values, sorted by the bytes of their names.
+pub fn functions() -> &'static [(&'static str, FunctionSet)]
+    ensures { map function_row result.now ≡ function_table }
+{
+    &FUNCTIONS
+}
+
+/// The constructors without a template, sorted by the bytes of their names.
+pub fn constructors() -> &'static [(&'static str, ConstructorSet)]
+    ensures { map constructor_row result.now ≡ constructor_table }
+{
+    &CONSTRUCTORS
+}
+
+static FUNCTIONS: [(&str, FunctionSet); 112] = [
+    ("abs", FunctionSet::NumberFunction),
+    ("acos", FunctionSet::FloatFunction),
+    ("acosh", FunctionSet::FloatFunction),
+    ("all", FunctionSet::BoolTest),
+    ("any", FunctionSet::BoolTest),
+    ("asin", FunctionSet::FloatFunction),
+    ("asinh", FunctionSet::FloatFunction),
+    ("atan", FunctionSet::FloatFunction),
+    ("atan2", FunctionSet::FloatPair),
+    ("atanh", FunctionSet::FloatFunction),
+    ("ceil", FunctionSet::FloatFunction),
+    ("clamp", FunctionSet::NumberTriple),
+    ("cos", FunctionSet::FloatFunction),
+    ("cosh", FunctionSet::FloatFunction),
+    ("countLeadingZeros", FunctionSet::BitFunction),
+    ("countOneBits", FunctionSet::BitFunction),
+    ("countTrailingZeros", FunctionSet::BitFunction),
+    ("cross", FunctionSet::CrossProduct),
+    ("degrees", FunctionSet::FloatFunction),
+    ("determinant", FunctionSet::MatrixDeterminant),
+    ("distance", FunctionSet::PointDistance),
+    ("dot", FunctionSet::DotProduct),
+    ("dot4I8Packed", FunctionSet::PackedDotSigned),
+    ("dot4U8Packed", FunctionSet::PackedDotUnsigned),
+    ("dpdx", FunctionSet::F32Function),
+    ("dpdxCoarse", FunctionSet::F32Function),
+    ("dpdxFine", FunctionSet::F32Function),
+    ("dpdy", FunctionSet::F32Function),
+    ("dpdyCoarse", FunctionSet::F32Function),
+    ("dpdyFine", FunctionSet::F32Function),
+    ("exp", FunctionSet::FloatFunction),
+    ("exp2", FunctionSet::FloatFunction),
+    ("extractBits", FunctionSet::BitsExtraction),
+    ("faceForward", FunctionSet::FaceForward),
+    ("firstLeadingBit", FunctionSet::BitFunction),
+    ("firstTrailingBit", FunctionSet::BitFunction),
+    ("floor", FunctionSet::FloatFunction),
+    ("fma", FunctionSet::FloatTriple),
+    ("fract", FunctionSet::FloatFunction),
+    ("fwidth", FunctionSet::F32Function),
+    ("fwidthCoarse", FunctionSet::F32Function),
+    ("fwidthFine", FunctionSet::F32Function),
+    ("insertBits", FunctionSet::BitsInsertion),
+    ("inverseSqrt", FunctionSet::FloatFunction),
+    ("ldexp", FunctionSet::Scaling),
+    ("length", FunctionSet::VectorLength),
+    ("log", FunctionSet::FloatFunction),
+    ("log2", FunctionSet::FloatFunction),
+    ("max", FunctionSet::NumberPair),
+    ("min", FunctionSet::NumberPair),
+    ("mix", FunctionSet::Blend),
+    ("normalize", FunctionSet::VectorFunction),
+    ("pack2x16float", FunctionSet::PackTwo),
+    ("pack2x16snorm", FunctionSet::PackTwo),
+    ("pack2x16unorm", FunctionSet::PackTwo),
+    ("pack4x8snorm", FunctionSet::PackFour),
+    ("pack4x8unorm", FunctionSet::PackFour),
+    ("pack4xI8", FunctionSet::PackFourSigned),
+    ("pack4xI8Clamp", FunctionSet::PackFourSigned),
+    ("pack4xU8", FunctionSet::PackFourUnsigned),
+    ("pack4xU8Clamp", FunctionSet::PackFourUnsigned),
+    ("pow", FunctionSet::FloatPair),
+    ("quadBroadcast", FunctionSet::Shuffle),
+    ("quadSwapDiagonal", FunctionSet::ConcreteFunction),
+    ("quadSwapX", FunctionSet::ConcreteFunction),
+    ("quadSwapY", FunctionSet::ConcreteFunction),
+    ("quantizeToF16", FunctionSet::F32Function),
+    ("radians", FunctionSet::FloatFunction),
+    ("reflect", FunctionSet::VectorPair),
+    ("refract", FunctionSet::Refraction),
+    ("reverseBits", FunctionSet::BitFunction),
+    ("round", FunctionSet::FloatFunction),
+    ("saturate", FunctionSet::FloatFunction),
+    ("select", FunctionSet::Selection),
+    ("sign", FunctionSet::SignedFunction),
+    ("sin", FunctionSet::FloatFunction),
+    ("sinh", FunctionSet::FloatFunction),
+    ("smoothstep", FunctionSet::FloatTriple),
+    ("sqrt", FunctionSet::FloatFunction),
+    ("step", FunctionSet::FloatPair),
+    ("subgroupAdd", FunctionSet::ConcreteFunction),
+    ("subgroupAll", FunctionSet::Vote),
+    ("subgroupAnd", FunctionSet::BitFunction),
+    ("subgroupAny", FunctionSet::Vote),
+    ("subgroupBallot", FunctionSet::Ballot),
+    ("subgroupBroadcast", FunctionSet::Shuffle),
+    ("subgroupBroadcastFirst", FunctionSet::ConcreteFunction),
+    ("subgroupElect", FunctionSet::Election),
+    ("subgroupExclusiveAdd", FunctionSet::ConcreteFunction),
+    ("subgroupExclusiveMul", FunctionSet::ConcreteFunction),
+    ("subgroupInclusiveAdd", FunctionSet::ConcreteFunction),
+    ("subgroupInclusiveMul", FunctionSet::ConcreteFunction),
+    ("subgroupMax", FunctionSet::ConcreteFunction),
+    ("subgroupMin", FunctionSet::ConcreteFunction),
+    ("subgroupMul", FunctionSet::ConcreteFunction),
+    ("subgroupOr", FunctionSet::BitFunction),
+    ("subgroupShuffle", FunctionSet::Shuffle),
+    ("subgroupShuffleDown", FunctionSet::RelativeShuffle),
+    ("subgroupShuffleUp", FunctionSet::RelativeShuffle),
+    ("subgroupShuffleXor", FunctionSet::RelativeShuffle),
+    ("subgroupXor", FunctionSet::BitFunction),
+    ("tan", FunctionSet::FloatFunction),
+    ("tanh", FunctionSet::FloatFunction),
+    ("transpose", FunctionSet::Transposition),
+    ("trunc", FunctionSet::FloatFunction),
+    ("unpack2x16float", FunctionSet::UnpackTwo),
+    ("unpack2x16snorm", FunctionSet::UnpackTwo),
+    ("unpack2x16unorm", FunctionSet::UnpackTwo),
+    ("unpack4x8snorm", FunctionSet::UnpackFour),
+    ("unpack4x8unorm", FunctionSet::UnpackFour),
+    ("unpack4xI8", FunctionSet::UnpackFourSigned),
+    ("unpack4xU8", FunctionSet::UnpackFourUnsigned),
+];
+
+static CONSTRUCTORS: [(&str, ConstructorSet); 17] = [
+    ("bool", ConstructorSet::BoolConversion),
+    ("f16", ConstructorSet::F16Conversion),
+    ("f32", ConstructorSet::F32Conversion),
+    ("i32", ConstructorSet::I32Conversion),
+    ("mat2x2", ConstructorSet::Mat2x2Constructor),
+    ("mat2x3", ConstructorSet::Mat2x3Constructor),
+    ("mat2x4", ConstructorSet::Mat2x4Constructor),
+    ("mat3x2", ConstructorSet::Mat3x2Constructor),
+    ("mat3x3", ConstructorSet::Mat3x3Constructor),
+    ("mat3x4", ConstructorSet::Mat3x4Constructor),
+    ("mat4x2", ConstructorSet::Mat4x2Constructor),
+    ("mat4x3", ConstructorSet::Mat4x3Constructor),
+    ("mat4x4", ConstructorSet::Mat4x4Constructor),
+    ("u32", ConstructorSet::U32Conversion),
+    ("vec2", ConstructorSet::Vec2Constructor),
+    ("vec3", ConstructorSet::Vec3Constructor),
+    ("vec4", ConstructorSet::Vec4Constructor),
+];
