@@ -2,6 +2,7 @@ pub mod Overloads
 pub mod Choice
 pub mod Tables
 pub mod Refusal
+pub mod Answers
 pub mod Patterns
 pub mod Operators
 pub mod Functions

@@ -11,3 +11,4 @@ pub mod FirstParameters
 pub mod Unambiguous
 pub mod OperatorTables
 pub mod NamedTables
+pub mod StandardAnswers

@@ -1,6 +1,7 @@
 //! WGSL's own overloads, and the choice among them.
 #![tactic(auto)]
 
+pub mod answer;
 pub mod binding;
 pub mod constructors;
 pub mod functions;
