@@ -12,3 +12,4 @@ pub mod Unambiguous
 pub mod OperatorTables
 pub mod NamedTables
 pub mod StandardAnswers
+pub mod SortedTables

@@ -14,3 +14,4 @@ pub mod overload;
 pub mod pattern;
 pub mod refusal;
 pub mod resolve;
+pub mod resolved;

@@ -1,6 +1,7 @@
 // The overloads of a name.
 ghost use Rattle.std.specs.Prelude.{◌≡◌, map, option_map, IfSome};
-ghost use Rattle.wgsl_rules.specs.standard.Names.{function_table, constructor_table, overloads_named};
+ghost use Rattle.wgsl_rules.specs.calls.Names.{IsRising};
+ghost use Rattle.wgsl_rules.specs.standard.Names.{function_table, constructor_table, names_of, overloads_named};
 ghost use Rattle.wgsl_rules.specs.standard.Tables.{IsUnambiguous};
 ghost use Rattle.wgsl_standard.specs.internal.Sets.{function_row, constructor_row};
 
@@ -64,6 +65,12 @@ pub fn constructors() -> &'static [(&'static str, ConstructorSet)]
 {
     &CONSTRUCTORS
 }
+
+/// The names of the functions, and those of the constructors, are sorted by their bytes, and distinct.
+pub fn names_sorted()
+    ensures functions { IsRising (names_of function_table) }
+    ensures constructors { IsRising (names_of constructor_table) }
+{}
 
 static FUNCTIONS: [(&str, FunctionSet); 112] = [
     ("abs", FunctionSet::NumberFunction),

@@ -14,7 +14,7 @@ use borrow.Author.Count.{below_more}
 use Rattle.wgsl_rules.specs.calls.Names.{IsRising, IsNameAt, name_at}
 use Rattle.wgsl_rules.specs.calls.Names.{call_names}
 
-abbrev rises : List (List ℕ) → Bool
+abbrev pub rises : List (List ℕ) → Bool
 rises [] = true
 rises (x ∷ []) = true
 rises (x ∷ y ∷ xs) = is_lt (slice_cmp nat_cmp x y) && rises (y ∷ xs)
@@ -44,7 +44,7 @@ above_head x (y ∷ ns) h (suc j) b =
     let p = both (is_lt (slice_cmp nat_cmp x y)) (rises (y ∷ ns)) h in
     nat_list_cmp_total.trans x y (name_at ns j) (less_of _ p.0) (above_head y ns p.1 j (omega arith))
 
-rises_far : (ns : List (List ℕ)) → rises ns ≡ true → IsRising ns
+pub rises_far : (ns : List (List ℕ)) → rises ns ≡ true → IsRising ns
 rises_far [] h i j l b = absurd (omega arith)
 rises_far (x ∷ ns) h zero zero l b = absurd (omega arith)
 rises_far (x ∷ ns) h zero (suc j) l b = above_head x ns h j (omega arith)

@@ -13,3 +13,8 @@ pub record IsStandardAnswer (os : List Overload) (xs : List Operand) (r : Option
 abbrev pub IsNamedAnswer : Option (List Overload) → List Operand → Option WgslType → Type 0
 IsNamedAnswer (Some os) xs r = IsStandardAnswer os xs r
 IsNamedAnswer None xs r = r ≡ None
+
+-- What a call resolves to: the index of the overload, the types of its parameters, and its result.
+abbrev pub IsResolution : List Overload → List Operand → Option (ℕ × List WgslType × WgslType) → Type 0
+IsResolution os xs (Some c) = IsPreferred os xs c.0 c.1 c.2
+IsResolution os xs None = NoneTakes os xs

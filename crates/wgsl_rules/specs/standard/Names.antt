@@ -1,5 +1,5 @@
 -- The built-in functions of values and the constructors without a template, sorted by name, each with its overloads.
-use Rattle.std.specs.Prelude.{ℕ, List, [], ◌∷◌, Option, Some, None, codes, bytes_eq, if◌then◌else◌}
+use Rattle.std.specs.Prelude.{ℕ, List, [], ◌∷◌, map, Option, Some, None, codes, bytes_eq, if◌then◌else◌}
 use Rattle.wgsl_syntax.specs.declared.overload.Overload.{Overload}
 use Rattle.wgsl_rules.specs.standard.Functions.{float_function, number_function, signed_function, bit_function, concrete_function, f32_function, float_pair, number_pair, float_triple, number_triple, blend, selection, scaling, cross_product, dot_product, vector_length, point_distance, face_forward, vector_function, vector_pair, refraction, matrix_determinant, transposition}
 use Rattle.wgsl_rules.specs.standard.BitFunctions.{bits_extraction, bits_insertion, bool_test, packed_dot_signed, packed_dot_unsigned, pack_two, pack_four, pack_four_signed, pack_four_unsigned, unpack_two, unpack_four, unpack_four_signed, unpack_four_unsigned, vote, election, ballot, shuffle, relative_shuffle}
@@ -9,6 +9,9 @@ use Rattle.wgsl_rules.specs.standard.Constructors.{bool_conversion, i32_conversi
 abbrev pub overloads_named : List ℕ → List (List ℕ × List Overload) → Option (List Overload)
 overloads_named name [] = None
 overloads_named name (row ∷ rows) = if bytes_eq name row.0 then Some row.1 else overloads_named name rows
+
+abbrev pub names_of : List (List ℕ × List Overload) → List (List ℕ)
+names_of rows = map (λ row. row.0) rows
 
 unfoldable pub function_table : List (List ℕ × List Overload)
 function_table =

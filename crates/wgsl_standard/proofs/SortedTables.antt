@@ -1,0 +1,13 @@
+-- The names of the tables are sorted and distinct.
+use Rattle.std.proofs.Common.{refl}
+use Rattle.wgsl_rules.specs.calls.Names.{IsRising}
+use Rattle.wgsl_rules.proofs.calls.SortedNames.{rises_far}
+use Rattle.wgsl_rules.specs.standard.Names.{function_table, constructor_table, names_of}
+
+pub functions_sorted : IsRising (names_of function_table)
+unfolding function_table
+functions_sorted = rises_far (names_of function_table) refl
+
+pub constructors_sorted : IsRising (names_of constructor_table)
+unfolding constructor_table
+constructors_sorted = rises_far (names_of constructor_table) refl
