@@ -12,7 +12,8 @@ fn main() -> io::Result<ExitCode> {
         if line.len() <= 4096 && line.iter().all(|byte| b" \t\r".contains(byte)) {
             continue;
         }
-        let request = std::str::from_utf8(&line).map_err(|_| Error::Unreadable("not UTF-8".to_string()));
+        let request =
+            std::str::from_utf8(&line).map_err(|_| Error::Unreadable("not UTF-8".to_string()));
         match request.and_then(answer) {
             Ok(text) => writeln!(output, "{text}")?,
             Err(Error::Unreadable(why)) => {

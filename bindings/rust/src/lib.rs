@@ -15,8 +15,20 @@ use std::fmt;
 
 // As in bindings/c/wgsl.h.
 extern "C" {
-    fn wgsl_answer(request: *const u8, request_len: usize, room: *mut u8, room_len: usize, text_len: *mut usize) -> u8;
-    fn wgsl_explain(request: *const u8, request_len: usize, room: *mut u8, room_len: usize, text_len: *mut usize) -> u8;
+    fn wgsl_answer(
+        request: *const u8,
+        request_len: usize,
+        room: *mut u8,
+        room_len: usize,
+        text_len: *mut usize,
+    ) -> u8;
+    fn wgsl_explain(
+        request: *const u8,
+        request_len: usize,
+        room: *mut u8,
+        room_len: usize,
+        text_len: *mut usize,
+    ) -> u8;
 }
 
 /// One of these two.
@@ -85,7 +97,8 @@ fn ask_once(call: Call, request: &str, room: &mut [u8]) -> Result<Reply, Error> 
     let mut len = 0;
     // SAFETY: each pointer is that of a live slice with this length, or of `len`; the mutable ones overlap nothing, and no
     // slice has 2^63 bytes. The library is linked with one malloc, realloc and free.
-    let status = unsafe { call(request.as_ptr(), request.len(), room.as_mut_ptr(), room.len(), &mut len) };
+    let status =
+        unsafe { call(request.as_ptr(), request.len(), room.as_mut_ptr(), room.len(), &mut len) };
     match status {
         0 => Ok(Reply::Answer(len)),
         2 => Ok(Reply::Unreadable),
