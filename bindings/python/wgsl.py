@@ -105,7 +105,8 @@ def _ask(call, request):
 
 
 def answer(request: str) -> str:
-    """Answers one request. If WGSL's rules refuse the expression, the message is the answer.
+    """Answers one request. If WGSL's rules refuse the expression, the message is the answer. Names in requests and answers
+    may have NULs.
 
     Raises Unreadable, or MemoryError if memory runs out.
     """

@@ -58,7 +58,8 @@ impl std::error::Error for Error {}
 /// Most answers have fewer bytes.
 const ROOM: usize = 256;
 
-/// Answers one request. If WGSL's rules refuse the expression, the message is the answer.
+/// Answers one request. If WGSL's rules refuse the expression, the message is the answer. Names in requests and in answers
+/// may have NULs.
 ///
 /// The deepest request takes less than 160 KiB of stack.
 pub fn answer(request: &str) -> Result<String, Error> {
