@@ -122,7 +122,7 @@ has_folders() {
 }
 
 # Has a file built from a crate by a command, unless it is built. The file is then as old as the start, so that what is
-# edited meanwhile is newer.
+# edited meanwhile is newer. `touch` would open it without `-c`, and then nobody could run it.
 ensure_built() {
     local file=$1 crate=$2 list started signal
     ! is_built "$file" "$crate" || return 0
@@ -135,7 +135,7 @@ ensure_built() {
     done
     "${@:3}" || return 1
     trap - INT QUIT TERM HUP
-    touch -d "@$started" "$file" && keep_list "$file" "$list"
+    touch -cd "@$started" "$file" && keep_list "$file" "$list"
 }
 
 # Ends what runs, and then this script by the same signal.

@@ -153,7 +153,8 @@ def compiler_that_takes_no_such_argument(use):
 
 
 def compiler_with_arguments(use):
-    """As ccache has them. Each call has the arguments."""
+    """As ccache has them. Each call has the arguments, none of which names files."""
+    add(use.path("-DX=1"))
     wrapper, calls = os.path.join(use.folder, "wrapper"), os.path.join(use.folder, "calls")
     add(wrapper, f'#!/bin/sh\necho "$@" >>"{calls}"\nexec "$@"\n')
     os.chmod(wrapper, 0o755)

@@ -81,13 +81,26 @@ def source_that_is_edited_meanwhile(use):
     _again(use)
 
 
-def line_of_a_crate_below(use):
-    use.build()
-    lines = read(use.path("crates.txt")).replace("wgsl_types: wgsl_syntax", "wgsl_types: wgsl_typed, wgsl_syntax")
+def _replace(use, old, new):
+    """Writes a line of crates.txt otherwise."""
+    lines = read(use.path("crates.txt"))
+    assert old in lines, lines
     os.remove(use.path("crates.txt"))
-    add(use.path("crates.txt"), lines)
+    add(use.path("crates.txt"), lines.replace(old, new))
+
+
+def line_of_a_crate_below_with_one_more(use):
+    use.build()
+    _replace(use, "\nwgsl_types: wgsl_syntax ", "\nwgsl_types: wgsl_typed, wgsl_syntax ")
     expect(use.run("./wgsl_check"), 0, ANSWERS, "8 of 8")
     equal(len(use.calls()), 8)
+
+
+def line_of_a_crate_below_with_one_less(use):
+    """It still stands on that one, by another."""
+    use.build()
+    _replace(use, "\nwgsl_types: wgsl_syntax ", "\nwgsl_types: ")
+    _again(use)
 
 
 def line_of_another_crate(use):

@@ -2,6 +2,7 @@
 import os
 import pty
 import re
+import select
 import shutil
 import signal
 import subprocess
@@ -33,6 +34,7 @@ def first_run_on_a_terminal(use):
     os.close(theirs)
     said = ""
     while not re.search(r"\r\x1b\[Kwgsl_check: 3 of 7: wgsl_core, 3 of 9 functions, [1-9]\d* s", said):
+        assert select.select([ours], [], [], 30)[0], said
         said += os.read(ours, 65536).decode()
     use.unsay("slow-wgsl_core")
     equal(end_of(begun)[:2], (0, ""))
@@ -237,8 +239,10 @@ def first_run_interrupted_and_again(use):
 
 
 def two_first_runs_at_once(use):
-    for begun in [use.start("./wgsl_check") for _ in range(2)]:
-        expect(end_of(begun), 0, "", "7 of 7")
+    """The second may begin when the first has ended, and then it says nothing."""
+    ended = [end_of(begun) for begun in [use.start("./wgsl_check") for _ in range(2)]]
+    assert all(end[:2] == (0, "") and ("7 of 7" in end[2] or not end[2]) for end in ended), ended
+    assert any(said for _, _, said in ended), ended
 
 
 def run_from_elsewhere(use):
