@@ -98,7 +98,6 @@ fn build(alloc: Global, chosen: Option<(Pattern, Instance)>) -> Result<Option<Ty
 }
 
 /// The result of the overload that is chosen, and what its letters stand for.
-
 fn chosen_result(overloads: &[Overload], operands: &[Operand<'_>]) -> Option<(Pattern, Instance)>
     requires { IsUnambiguous overloads.now }
     ensures { IsStandardAnswer overloads.now (operands_view operands.now)
