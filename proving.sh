@@ -114,7 +114,7 @@ has_folders() {
     fi
     for crate in $crates; do
         folder=$top/crates/$crate
-        if [ ! -d "$folder" ] || ! mkdir -p "$folder/out" 2>/dev/null || [ ! -w "$folder/out" ]; then
+        if ! { [ -d "$folder" ] && mkdir -p "$folder/out" && : >"$folder/out/log"; } 2>/dev/null; then
             say "cannot write in $folder/out"
             return 1
         fi

@@ -102,8 +102,12 @@ def folder_below_a_file(use):
     _refused(use, "crates.txt/library", "build_library: cannot write in crates.txt/library", "Not a directory")
 
 
-def folder_that_nobody_writes_in(use):
+def folder_that_cannot_be_made(use):
     _refused(use, "/proc/library", "build_library: cannot write in /proc/library")
+
+
+def folder_that_takes_no_files(use):
+    _refused(use, "/proc", "build_library: cannot write in /proc")
 
 
 def work_that_cannot_be_kept(use):
@@ -237,6 +241,13 @@ def change_after_the_gate(use):
     add(use.path("crates", "wgsl_calls", "proofs", "f", "Answers.antt"))
     _writes(use, "built", "8 of 8")
     equal(use.calls(), LIBRARY)
+
+
+def line_of_another_crate_after_the_gate(use):
+    use.build_as_gate()
+    add(use.path("crates.txt"), "hover: wgsl_types\n")
+    _writes(use, "built", "1 of 1")
+    equal(use.calls(), ["rattle build wgsl_c"])
 
 
 def own_change_after_the_gate(use):

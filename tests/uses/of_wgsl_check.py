@@ -138,6 +138,12 @@ def folder_that_cannot_be_written(use):
     equal(use.calls(), [])
 
 
+def folder_that_takes_no_files(use):
+    os.symlink("/proc", use.path("crates", "wgsl_rules", "out"))
+    expect(use.run("./wgsl_check"), 4, "", f"cannot write in {use.path('crates', 'wgsl_rules', 'out')}")
+    equal(use.calls(), [])
+
+
 def crate_without_a_folder(use):
     shutil.rmtree(use.path("crates", "wgsl_rules"))
     expect(use.run("./wgsl_check"), 4, "", f"cannot write in {use.path('crates', 'wgsl_rules', 'out')}")
