@@ -59,7 +59,7 @@ pub extern "C" fn wgsl_explain(
     room: &mut [u8],
     text_len: &mut usize,
 ) -> u8
-    // What is explained is handed over, and what holds of it is said again.
+    // What the caller gets; the clauses below follow from it.
     ensures reply { (reply : Result Reply AllocError) × IsExplained request.now reply
         × IsHandedOver reply room.old room.new text_len.new result }
 

@@ -253,7 +253,7 @@ fn write_whole<W: Write>(output: &mut W, bytes: &[u8]) -> Result<(), RunError>
     Err(RunError::Write)
 }
 
-/// Writes the notes that were gathered, as far as they can be written.
+/// Writes the notes that were gathered. Those that can't be written are left out.
 fn write_notes<N: Write>(output: &mut N, notes: &mut String) {
     if !notes.is_empty() {
         let _written = write_whole(output, notes.as_bytes());
