@@ -59,7 +59,7 @@ def program_that_is_not_built(use):
 def side_by_side(use):
     """Each program waits for the other."""
     for name, other in (("one", "two"), ("two", "one")):
-        waits = f"while [ ! -e {other} ]; do tries=$((tries + 1)); [ $tries -lt 500 ] || exit 1; sleep 0.02; done"
+        waits = f"while [ ! -e {other} ]; do tries=$((tries + 1)); [ $tries -lt 6000 ] || exit 1; sleep 0.02; done"
         _program(use, name, f"touch {name}", "tries=0", waits)
     equal(use.run("./test")[0], 0)
 

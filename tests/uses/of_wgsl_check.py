@@ -34,7 +34,7 @@ def first_run_on_a_terminal(use):
     os.close(theirs)
     said = ""
     while not re.search(r"\r\x1b\[Kwgsl_check: 3 of 7: wgsl_core, 3 of 9 functions, [1-9]\d* s", said):
-        assert select.select([ours], [], [], 30)[0], said
+        assert select.select([ours], [], [], 120)[0], said
         said += os.read(ours, 65536).decode()
     use.unsay("slow-wgsl_core")
     equal(end_of(begun)[:2], (0, ""))

@@ -83,7 +83,7 @@ class Use:
 
     def run(self, *command, given=GIVEN, at=None, **more):
         """Runs a command: its status, its standard output and its standard error."""
-        how = {"capture_output": True, "text": True, "timeout": 60, **more}
+        how = {"capture_output": True, "text": True, "timeout": 120, **more}
         if "stdin" not in how:
             how["input"] = given
         done = subprocess.run(command, cwd=at or self.top, env=self.env, **how)
@@ -158,12 +158,12 @@ class Use:
 
 def end_of(begun):
     """What a command that was started has done when it has ended."""
-    printed, said = begun.communicate(timeout=20)
+    printed, said = begun.communicate(timeout=120)
     return begun.returncode, printed, said
 
 
 def wait_until(is_so, why):
-    for _ in range(2000):
+    for _ in range(12000):
         if is_so():
             return
         time.sleep(0.01)
