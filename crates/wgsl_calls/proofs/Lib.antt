@@ -4,5 +4,4 @@ pub mod Constructed
 pub mod Fractions
 pub mod Fitting
 pub mod OutOfMemory
-pub mod Built
 pub mod Named

@@ -22,7 +22,6 @@ ghost use Rattle.wgsl_rules.specs.Laws.{OneChoice};
 mod find;
 mod fit;
 mod hint;
-mod result_type;
 mod rows;
 pub(crate) mod shape;
 mod source;
@@ -30,7 +29,6 @@ mod table;
 
 use crate::call::find::rows_of;
 use crate::call::fit::{Call, fits};
-use crate::call::result_type::{exchange_result, hit_positions, ray_intersection, result_struct};
 use crate::call::rows::Rows;
 use crate::call::source::{
     argument, as_long, bare, in_vector, inner, texture_size, transposed, type_of_source,
@@ -38,6 +36,7 @@ use crate::call::source::{
 use crate::template::BitcastTemplate;
 pub use find::{find_call, names_match_table, names_sorted};
 use std::alloc::{AllocError, Global};
+use wgsl_core::ty::result_type::{exchange_result, hit_positions, ray_intersection, result_struct};
 use wgsl_core::error::{Error, Fail};
 use wgsl_core::operators::resolve::{Element, ResolvedType};
 use wgsl_core::signature::{CallSignature, TpltParam};

@@ -14,3 +14,4 @@ pub mod Lists
 pub mod Converted
 pub mod Slices
 pub mod Vectors
+pub mod Built

@@ -14,6 +14,7 @@ mod eq;
 pub mod form;
 mod kinds;
 pub mod result_struct;
+pub mod result_type;
 mod show;
 
 use crate::error::{Error, Fail};

@@ -1,3 +1,4 @@
+pub mod Resources
 pub mod Overloads
 pub mod Choice
 pub mod Tables
@@ -7,5 +8,9 @@ pub mod Patterns
 pub mod Operators
 pub mod Functions
 pub mod BitFunctions
+pub mod MemoryFunctions
+pub mod Textures
+pub mod Sampling
 pub mod Constructors
+pub mod Templates
 pub mod Names

@@ -2,24 +2,31 @@
 use Rattle.std.proofs.Common.{◌≡◌, ℕ, ◌↔◌, ◌==◌, List, [], ◌∷◌, Option, Some, None, Bool, true, false, cond, refl, sym, ◌∙◌, ap, subst, true≢false}
 use Rattle.std.specs.Prelude.{IsTrue, option_map, option_and_then}
 use Rattle.std.proofs.lemmas.Bool.{eq-eqb, eqb-true}
+use Rattle.std.specs.Bool.{Decides}
 use Rattle.wgsl_syntax.specs.declared.scalar.Scalar.{Scalar}
 use Rattle.wgsl_syntax.specs.declared.overload.Component.{Component}
-use Rattle.wgsl_syntax.specs.declared.overload.Component.TheVariants.{T, U, The}
+use Rattle.wgsl_syntax.specs.declared.overload.Component.TheVariants.{T, U, V, W, The}
 use Rattle.wgsl_syntax.specs.declared.overload.Count.{Count}
 use Rattle.wgsl_syntax.specs.declared.overload.Count.TheVariants.{N, M, K, Exactly}
 use Rattle.wgsl_syntax.specs.declared.overload.Shape.{Shape}
 use Rattle.wgsl_syntax.specs.declared.overload.Shape.TheVariants as shapes
 use Rattle.wgsl_syntax.specs.declared.overload.Pattern.{Pattern}
+use Rattle.wgsl_syntax.specs.declared.overload.Pattern.TheVariants as patterns
+use Rattle.wgsl_syntax.specs.declared.texture.TextureType.{TextureType}
+use Rattle.wgsl_rules.specs.types.Types.{WgslType, texture, sampler}
+use Rattle.wgsl_rules.specs.standard.Resources.{letter_of}
+use Rattle.wgsl_core.specs.Equality.{type_eq, type_eq_decides}
 use Rattle.wgsl_syntax.specs.declared.overload.Dimensions.{Dimensions}
 use Rattle.wgsl_syntax.specs.declared.overload.Dimensions.TheVariants.{Single, Vector, Matrix}
 use Rattle.wgsl_rules.specs.standard.Choice.{Operand}
 use Rattle.wgsl_syntax.specs.declared.overload.Instance.{Instance}
 use Rattle.wgsl_standard.specs.declared.binding.Binding.{Binding}
-use Rattle.wgsl_rules.specs.standard.Overloads.{count_in, one_or_vector, dimensions_in, component_in}
-use Rattle.wgsl_standard.specs.internal.Binding.{converts, may_be, join, join_to, with_t, with_u, bind_component, same_count, bind_count, same_width, with_width, bind_shape, bind_parts, bind, bind_all}
+use Rattle.wgsl_rules.specs.standard.Overloads.{count_in, one_or_vector, dimensions_in, component_in, Names}
+use Rattle.wgsl_standard.specs.internal.Binding.{converts, may_be, join, join_to, with_t, with_u, with_v, with_w, bind_component, same_count, bind_count, same_width, with_width, bind_shape, bind_parts, bind_letter, bind_if, bind, bind_all}
 use Rattle.wgsl_standard.specs.internal.Parts.{parts_of}
 use Rattle.wgsl_standard.proofs.Parts.{pair_of}
-use Rattle.wgsl_standard.proofs.Scalars.{Reaches, JoinsTo, joins}
+use Rattle.wgsl_standard.proofs.Scalars.{Reaches, JoinsTo, joins, concrete_reaches, reaches_itself, may_either}
+use Rattle.wgsl_standard.proofs.Letters.{IsConcreteLetter, concrete_letter}
 
 abbrev pub Meets : Bool → Option Scalar → Scalar → Type 0
 Meets c None g = Unit {0}
@@ -33,6 +40,8 @@ Same (Some y) x = y ≡ x
 pub record Agrees (c : Bool) (b : Binding) (i : Instance) : Type 0 where
   pub t : Meets c b.t i.t
   pub u : Meets c b.u i.u
+  pub v : Meets c b.v i.v
+  pub w : Meets c b.w i.w
   pub width : Same b.width i.width
   pub n : Same b.n i.n
   pub m : Same b.m i.m
@@ -77,16 +86,32 @@ component_boxes c b T s = turn (join_to b.t s) (letter_box c b.t s)
     turn : (r : Option Scalar) → LetterBox c b.t s r → Boxes c (λ i. Agrees c b i × Receives c i T s) (option_map (with_t b) r)
     turn None f = λ i h. f i.t h.0.t h.1.0
     turn (Some r) f = λ i. (
-      λ h. record { t = (f i.t).0 (h.0.t, h.1.0, h.1.1); u = h.0.u; width = h.0.width; n = h.0.n; m = h.0.m; k = h.0.k },
-      λ h. let q = (f i.t).1 h.t in (record { t = q.0; u = h.u; width = h.width; n = h.n; m = h.m; k = h.k }, (q.1, q.2)),
+      λ h. record { t = (f i.t).0 (h.0.t, h.1.0, h.1.1); u = h.0.u; v = h.0.v; w = h.0.w; width = h.0.width; n = h.0.n; m = h.0.m; k = h.0.k },
+      λ h. let q = (f i.t).1 h.t in (record { t = q.0; u = h.u; v = h.v; w = h.w; width = h.width; n = h.n; m = h.m; k = h.k }, (q.1, q.2)),
     )
 component_boxes c b U s = turn (join_to b.u s) (letter_box c b.u s)
   where
     turn : (r : Option Scalar) → LetterBox c b.u s r → Boxes c (λ i. Agrees c b i × Receives c i U s) (option_map (with_u b) r)
     turn None f = λ i h. f i.u h.0.u h.1.0
     turn (Some r) f = λ i. (
-      λ h. record { t = h.0.t; u = (f i.u).0 (h.0.u, h.1.0, h.1.1); width = h.0.width; n = h.0.n; m = h.0.m; k = h.0.k },
-      λ h. let q = (f i.u).1 h.u in (record { t = h.t; u = q.0; width = h.width; n = h.n; m = h.m; k = h.k }, (q.1, q.2)),
+      λ h. record { t = h.0.t; u = (f i.u).0 (h.0.u, h.1.0, h.1.1); v = h.0.v; w = h.0.w; width = h.0.width; n = h.0.n; m = h.0.m; k = h.0.k },
+      λ h. let q = (f i.u).1 h.u in (record { t = h.t; u = q.0; v = h.v; w = h.w; width = h.width; n = h.n; m = h.m; k = h.k }, (q.1, q.2)),
+    )
+component_boxes c b V s = turn (join_to b.v s) (letter_box c b.v s)
+  where
+    turn : (r : Option Scalar) → LetterBox c b.v s r → Boxes c (λ i. Agrees c b i × Receives c i V s) (option_map (with_v b) r)
+    turn None f = λ i h. f i.v h.0.v h.1.0
+    turn (Some r) f = λ i. (
+      λ h. record { t = h.0.t; u = h.0.u; v = (f i.v).0 (h.0.v, h.1.0, h.1.1); w = h.0.w; width = h.0.width; n = h.0.n; m = h.0.m; k = h.0.k },
+      λ h. let q = (f i.v).1 h.v in (record { t = h.t; u = h.u; v = q.0; w = h.w; width = h.width; n = h.n; m = h.m; k = h.k }, (q.1, q.2)),
+    )
+component_boxes c b W s = turn (join_to b.w s) (letter_box c b.w s)
+  where
+    turn : (r : Option Scalar) → LetterBox c b.w s r → Boxes c (λ i. Agrees c b i × Receives c i W s) (option_map (with_w b) r)
+    turn None f = λ i h. f i.w h.0.w h.1.0
+    turn (Some r) f = λ i. (
+      λ h. record { t = h.0.t; u = h.0.u; v = h.0.v; w = (f i.w).0 (h.0.w, h.1.0, h.1.1); width = h.0.width; n = h.0.n; m = h.0.m; k = h.0.k },
+      λ h. let q = (f i.w).1 h.w in (record { t = h.t; u = h.u; v = h.v; w = q.0; width = h.width; n = h.n; m = h.m; k = h.k }, (q.1, q.2)),
     )
 component_boxes c b (The g) s = by_converts (converts s g) refl
   where
@@ -118,24 +143,24 @@ count_boxes c b N n = turn (same_count b.n n) (count_box b.n n)
     turn : (r : Option ℕ) → SameBox b.n n r → Boxes c (λ i. Agrees c b i × (i.n ≡ n)) (option_map (λ x. record b { n = Some x }) r)
     turn None f = λ i h. f i.n h.0.n h.1
     turn (Some r) f = λ i. (
-      λ h. record { t = h.0.t; u = h.0.u; width = h.0.width; n = (f i.n).0 (h.0.n, h.1); m = h.0.m; k = h.0.k },
-      λ h. let q = (f i.n).1 h.n in (record { t = h.t; u = h.u; width = h.width; n = q.0; m = h.m; k = h.k }, q.1),
+      λ h. record { t = h.0.t; u = h.0.u; v = h.0.v; w = h.0.w; width = h.0.width; n = (f i.n).0 (h.0.n, h.1); m = h.0.m; k = h.0.k },
+      λ h. let q = (f i.n).1 h.n in (record { t = h.t; u = h.u; v = h.v; w = h.w; width = h.width; n = q.0; m = h.m; k = h.k }, q.1),
     )
 count_boxes c b M n = turn (same_count b.m n) (count_box b.m n)
   where
     turn : (r : Option ℕ) → SameBox b.m n r → Boxes c (λ i. Agrees c b i × (i.m ≡ n)) (option_map (λ x. record b { m = Some x }) r)
     turn None f = λ i h. f i.m h.0.m h.1
     turn (Some r) f = λ i. (
-      λ h. record { t = h.0.t; u = h.0.u; width = h.0.width; n = h.0.n; m = (f i.m).0 (h.0.m, h.1); k = h.0.k },
-      λ h. let q = (f i.m).1 h.m in (record { t = h.t; u = h.u; width = h.width; n = h.n; m = q.0; k = h.k }, q.1),
+      λ h. record { t = h.0.t; u = h.0.u; v = h.0.v; w = h.0.w; width = h.0.width; n = h.0.n; m = (f i.m).0 (h.0.m, h.1); k = h.0.k },
+      λ h. let q = (f i.m).1 h.m in (record { t = h.t; u = h.u; v = h.v; w = h.w; width = h.width; n = h.n; m = q.0; k = h.k }, q.1),
     )
 count_boxes c b K n = turn (same_count b.k n) (count_box b.k n)
   where
     turn : (r : Option ℕ) → SameBox b.k n r → Boxes c (λ i. Agrees c b i × (i.k ≡ n)) (option_map (λ x. record b { k = Some x }) r)
     turn None f = λ i h. f i.k h.0.k h.1
     turn (Some r) f = λ i. (
-      λ h. record { t = h.0.t; u = h.0.u; width = h.0.width; n = h.0.n; m = h.0.m; k = (f i.k).0 (h.0.k, h.1) },
-      λ h. let q = (f i.k).1 h.k in (record { t = h.t; u = h.u; width = h.width; n = h.n; m = h.m; k = q.0 }, q.1),
+      λ h. record { t = h.0.t; u = h.0.u; v = h.0.v; w = h.0.w; width = h.0.width; n = h.0.n; m = h.0.m; k = (f i.k).0 (h.0.k, h.1) },
+      λ h. let q = (f i.k).1 h.k in (record { t = h.t; u = h.u; v = h.v; w = h.w; width = h.width; n = h.n; m = h.m; k = q.0 }, q.1),
     )
 count_boxes c b (Exactly m) n = turn (m == n) refl
   where
@@ -162,8 +187,8 @@ width_boxes c b w = turn (same_width b.width w) (width_box b.width w)
     turn : (r : Option (Option ℕ)) → SameBox b.width w r → Boxes c (λ i. Agrees c b i × (i.width ≡ w)) (option_map (with_width b) r)
     turn None f = λ i h. f i.width h.0.width h.1
     turn (Some r) f = λ i. (
-      λ h. record { t = h.0.t; u = h.0.u; width = (f i.width).0 (h.0.width, h.1); n = h.0.n; m = h.0.m; k = h.0.k },
-      λ h. let q = (f i.width).1 h.width in (record { t = h.t; u = h.u; width = q.0; n = h.n; m = h.m; k = h.k }, q.1),
+      λ h. record { t = h.0.t; u = h.0.u; v = h.0.v; w = h.0.w; width = (f i.width).0 (h.0.width, h.1); n = h.0.n; m = h.0.m; k = h.0.k },
+      λ h. let q = (f i.width).1 h.width in (record { t = h.t; u = h.u; v = h.v; w = h.w; width = q.0; n = h.n; m = h.m; k = h.k }, q.1),
     )
 
 width_single : (w : Option ℕ) → (w ≡ None) ↔ (one_or_vector w ≡ Single)
@@ -199,44 +224,81 @@ shape_boxes c b shapes.OneOrVector (Vector k) =
     same_box c (λ i. Agrees c b i × (i.width ≡ Some k)) (λ i. Agrees c b i × (one_or_vector i.width ≡ Vector k)) (λ i. (λ h. (h.0, (width_vector i.width k).0 h.1), λ h. (h.0, (width_vector i.width k).1 h.1))) (option_map (with_width b) (same_width b.width (Some k))) (width_boxes c b (Some k))
 shape_boxes c b shapes.OneOrVector (Matrix k l) = λ i h. width_matrix i.width k l h.1
 
--- a parameter takes an operand that has these parts
-abbrev FitsParts : Bool → Instance → Pattern → Dimensions × Scalar → Type 0
-FitsParts c i p d = (dimensions_in i p.shape ≡ d.0) × Receives c i p.component d.1
+-- a parameter that is a value takes an operand that has these parts
+abbrev FitsParts : Bool → Instance → Shape → Component → Dimensions × Scalar → Type 0
+FitsParts c i s e d = (dimensions_in i s ≡ d.0) × Receives c i e d.1
 
-parts_boxes : (c : Bool) (b : Binding) (p : Pattern) (d : Dimensions × Scalar) → Boxes c (λ i. Agrees c b i × FitsParts c i p d) (bind_parts c b p d)
-parts_boxes c b p d =
-    same_box c (λ i. (Agrees c b i × (dimensions_in i p.shape ≡ d.0)) × Receives c i p.component d.1) (λ i. Agrees c b i × FitsParts c i p d)
+parts_boxes : (c : Bool) (b : Binding) (s : Shape) (e : Component) (d : Dimensions × Scalar) → Boxes c (λ i. Agrees c b i × FitsParts c i s e d) (bind_parts c b s e d)
+parts_boxes c b s e d =
+    same_box c (λ i. (Agrees c b i × (dimensions_in i s ≡ d.0)) × Receives c i e d.1) (λ i. Agrees c b i × FitsParts c i s e d)
     (λ i. (λ h. (h.0.0, (h.0.1, h.1)), λ h. ((h.0, h.1.0), h.1.1)))
-    (bind_parts c b p d)
-    (chain c (λ i. Agrees c b i × (dimensions_in i p.shape ≡ d.0)) (λ i. Receives c i p.component d.1) (λ b. bind_component c b p.component d.1)
-    (λ b. component_boxes c b p.component d.1) (bind_shape b p.shape d.0) (shape_boxes c b p.shape d.0))
+    (bind_parts c b s e d)
+    (chain c (λ i. Agrees c b i × (dimensions_in i s ≡ d.0)) (λ i. Receives c i e d.1) (λ b. bind_component c b e d.1)
+    (λ b. component_boxes c b e d.1) (bind_shape b s d.0) (shape_boxes c b s d.0))
 
--- a parameter takes an operand
-pub record Fit (c : Bool) (i : Instance) (p : Pattern) (x : Operand) : Type 0 where
+-- a parameter that is a value takes an operand of a type
+pub record FitsValue (c : Bool) (i : Instance) (s : Shape) (e : Component) (t : WgslType) : Type 0 where
   pub scalar : Scalar
-  pub parts : parts_of x.of_type ≡ Some (dimensions_in i p.shape, scalar)
-  pub receives : Receives c i p.component scalar
+  pub parts : parts_of t ≡ Some (dimensions_in i s, scalar)
+  pub receives : Receives c i e scalar
 
 -- two parameters that take an operand
-pub same_operand : (c : Bool) (i j : Instance) (p q : Pattern) (x : Operand) → (f : Fit c i p x) → Fit c j q x →
-    (dimensions_in i p.shape ≡ dimensions_in j q.shape) × Reaches f.scalar (component_in j q.component)
-same_operand c i j p q x f g =
-    let k = pair_of (dimensions_in i p.shape, f.scalar) (dimensions_in j q.shape, g.scalar) (sym f.parts ∙ g.parts) in
-    (k.0, subst (λ s. Reaches s (component_in j q.component)) (sym k.1) g.receives.0)
+pub same_operand : (c : Bool) (i j : Instance) (s : Shape) (e : Component) (r : Shape) (g : Component) (t : WgslType) → (f : FitsValue c i s e t) → FitsValue c j r g t →
+    (dimensions_in i s ≡ dimensions_in j r) × Reaches f.scalar (component_in j g)
+same_operand c i j s e r g t f h =
+    let k = pair_of (dimensions_in i s, f.scalar) (dimensions_in j r, h.scalar) (sym f.parts ∙ h.parts) in
+    (k.0, subst (λ a. Reaches a (component_in j g)) (sym k.1) h.receives.0)
 
-fits_so : (c : Bool) (i : Instance) (p : Pattern) (x : Operand) (d : Dimensions × Scalar) → parts_of x.of_type ≡ Some d → FitsParts c i p d ↔ Fit c i p x
-fits_so c i p x d e = (
-  λ h. record { scalar = d.1; parts = e ∙ ap (λ o. Some (o, d.1)) (sym h.0); receives = h.1 },
-  λ f. let k = pair_of d (dimensions_in i p.shape, f.scalar) (sym e ∙ f.parts) in (sym k.0, subst (Receives c i p.component) (sym k.1) f.receives),
+fits_so : (c : Bool) (i : Instance) (s : Shape) (e : Component) (t : WgslType) (d : Dimensions × Scalar) → parts_of t ≡ Some d → FitsParts c i s e d ↔ FitsValue c i s e t
+fits_so c i s e t d q = (
+  λ h. record { scalar = d.1; parts = q ∙ ap (λ o. Some (o, d.1)) (sym h.0); receives = h.1 },
+  λ f. let k = pair_of d (dimensions_in i s, f.scalar) (sym q ∙ f.parts) in (sym k.0, subst (Receives c i e) (sym k.1) f.receives),
 )
 
-pub bind_boxes : (c : Bool) (b : Binding) (p : Pattern) (x : Operand) → Boxes c (λ i. Agrees c b i × Fit c i p x) (bind c b p x)
-bind_boxes c b p x = turn (parts_of x.of_type) refl
+value_boxes : (c : Bool) (b : Binding) (s : Shape) (e : Component) (t : WgslType) → Boxes c (λ i. Agrees c b i × FitsValue c i s e t) (option_and_then (bind_parts c b s e) (parts_of t))
+value_boxes c b s e t = turn (parts_of t) refl
   where
-    turn : (r : Option (Dimensions × Scalar)) → parts_of x.of_type ≡ r → Boxes c (λ i. Agrees c b i × Fit c i p x) (option_and_then (bind_parts c b p) r)
-    turn None e = λ i h. let q = sym e ∙ h.1.parts in cc q
-    turn (Some d) e = same_box c (λ i. Agrees c b i × FitsParts c i p d) (λ i. Agrees c b i × Fit c i p x)
-        (λ i. (λ h. (h.0, (fits_so c i p x d e).0 h.1), λ h. (h.0, (fits_so c i p x d e).1 h.1))) (bind_parts c b p d) (parts_boxes c b p d)
+    turn : (r : Option (Dimensions × Scalar)) → parts_of t ≡ r → Boxes c (λ i. Agrees c b i × FitsValue c i s e t) (option_and_then (bind_parts c b s e) r)
+    turn None q = λ i h. let k = sym q ∙ h.1.parts in cc k
+    turn (Some d) q = same_box c (λ i. Agrees c b i × FitsParts c i s e d) (λ i. Agrees c b i × FitsValue c i s e t)
+        (λ i. (λ h. (h.0, (fits_so c i s e t d q).0 h.1), λ h. (h.0, (fits_so c i s e t d q).1 h.1))) (bind_parts c b s e d) (parts_boxes c b s e d)
+
+-- a type that is asked for
+exact_boxes : (c : Bool) (b : Binding) (t u : WgslType) → Boxes c (λ i. Agrees c b i × (t ≡ u)) (bind_if (type_eq t u) b)
+exact_boxes c b t u = turn (type_eq t u) (type_eq_decides t u)
+  where
+    turn : (y : Bool) → Decides y (t ≡ u) → Boxes c (λ i. Agrees c b i × (t ≡ u)) (bind_if y b)
+    turn true d = λ i. (λ h. h.0, λ h. (h, d.0 refl))
+    turn false d = λ i h. true≢false (sym (d.1 h.1))
+
+-- a texture or a pointer of a set, which is concrete and says what T is
+
+letter_receives : (c : Bool) (s g : Scalar) → IsTrue (may_be true s) → (Reaches s g × IsTrue (may_be c g)) ↔ (s ≡ g)
+letter_receives c s g m = (
+  λ h. concrete_reaches s g m h.0,
+  λ e. subst (λ g. Reaches s g × IsTrue (may_be c g)) e (reaches_itself s, may_either c s m),
+)
+
+letter_boxes : (c : Bool) (b : Binding) (l : Option (Option Scalar)) → IsConcreteLetter l → Boxes c (λ i. Agrees c b i × Names l i.t) (bind_letter c b l)
+letter_boxes c b None m = λ i h. h.1
+letter_boxes c b (Some None) m = λ i. (λ h. h.0, λ h. (h, tt))
+letter_boxes c b (Some (Some s)) m =
+    same_box c (λ i. Agrees c b i × Receives c i T s) (λ i. Agrees c b i × (s ≡ i.t))
+    (λ i. (λ h. (h.0, (letter_receives c s i.t m).0 h.1), λ h. (h.0, (letter_receives c s i.t m).1 h.1)))
+    (bind_component c b T s) (component_boxes c b T s)
+
+-- a parameter takes an operand
+abbrev pub Fit : Bool → Instance → Pattern → Operand → Type 0
+Fit c i (patterns.Value s e) x = FitsValue c i s e x.of_type
+Fit c i (patterns.Sampler s) x = x.of_type ≡ sampler s
+Fit c i (patterns.Texture t) x = x.of_type ≡ texture t
+Fit c i (patterns.Resource r) x = Names (letter_of r x.of_type) i.t
+
+pub bind_boxes : (c : Bool) (b : Binding) (p : Pattern) (x : Operand) → Boxes c (λ i. Agrees c b i × Fit c i p x) (bind c b p x)
+bind_boxes c b (patterns.Value s e) x = value_boxes c b s e x.of_type
+bind_boxes c b (patterns.Sampler s) x = exact_boxes c b x.of_type (sampler s)
+bind_boxes c b (patterns.Texture t) x = exact_boxes c b x.of_type (texture t)
+bind_boxes c b (patterns.Resource r) x = letter_boxes c b (letter_of r x.of_type) (concrete_letter r x.of_type)
 
 abbrev pub AllFit : Bool → Instance → List Pattern → List Operand → Type 0
 AllFit c i [] [] = Unit {0}

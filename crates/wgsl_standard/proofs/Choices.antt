@@ -1,89 +1,127 @@
 -- In a table, the first overload that takes the operands has the preferred candidate at its least instance.
-use Rattle.std.proofs.Common.{◌≡◌, ℕ, zero, suc, ◌≤◌, ◌⊎◌, List, [], ◌∷◌, map, Option, Some, None, Bool, refl, sym, ◌∙◌, ap, subst, inl, inr, arith, le_refl}
+use Rattle.std.proofs.Common.{◌≡◌, ℕ, zero, suc, ◌<◌, ◌≤◌, ◌⊎◌, List, [], ◌∷◌, map, Option, Some, None, Bool, refl, sym, ◌∙◌, ap, subst, inl, inr, arith, le_refl}
 use Rattle.std.specs.Prelude.{slice_get, option_map}
 use Rattle.wgsl_rules.specs.types.Types.{WgslType}
 use Rattle.wgsl_rules.specs.operators.Choice.{IsNowhereMore, IsSomewhereLess}
-use Rattle.wgsl_rules.proofs.conversion.Steps.{scalar_depth}
+use Rattle.wgsl_rules.proofs.conversion.Steps.{scalar_depth, depth}
 use Rattle.wgsl_syntax.specs.declared.overload.Pattern.{Pattern}
+use Rattle.wgsl_syntax.specs.declared.overload.Pattern.TheVariants as patterns
+use Rattle.wgsl_syntax.specs.declared.overload.Component.{Component}
 use Rattle.wgsl_syntax.specs.declared.overload.Overload.{Overload}
 use Rattle.wgsl_rules.specs.standard.Choice.{Operand}
 use Rattle.wgsl_syntax.specs.declared.overload.Instance.{Instance}
-use Rattle.wgsl_rules.specs.standard.Overloads.{dimensions_in, component_in, type_in, patterns_of, result_of, IsInstance, parameters_in, IsCandidateOf}
-use Rattle.wgsl_rules.specs.standard.Choice.{TakesOperands, IsChosen}
+use Rattle.wgsl_rules.specs.standard.Overloads.{type_with, dimensions_in, component_in, patterns_of, result_of, result_in, AreParameters, IsInstance, IsCandidateOf}
+use Rattle.wgsl_rules.specs.standard.Choice.{TakesOperands, parameter_for, parameters_for, result_for, IsChosen}
 use Rattle.wgsl_rules.specs.standard.Tables.{HasOneResult, IsPreferredTo, IsPreferredToAll, AreInOrder, IsUnambiguous}
 use Rattle.wgsl_standard.specs.internal.Binding.{must_be_concrete, instance_of, or_later, later, first_of}
-use Rattle.wgsl_standard.proofs.Boxes.{same_operand, AllFit}
-use Rattle.wgsl_standard.proofs.Ranks.{ranks_fit, fit_ranks, fit_values, constant_takable, takable_constant, ranks_below, ranks_less}
-use Rattle.wgsl_standard.proofs.LeastInstances.{IsNear, AllNear, IsLeastInstance, LeastOr, least_instance}
+use Rattle.wgsl_standard.proofs.Boxes.{same_operand, Fit, AllFit}
+use Rattle.wgsl_standard.proofs.Ranks.{depth_type_with, ranks_fit, parameters_are, ForOperands, fit_ranks, fit_values, constant_takable, takable_constant, ranks_below, ranks_less}
+use Rattle.wgsl_standard.proofs.LeastInstances.{IsNear, IsNearFor, AllNear, IsLeastInstance, LeastOr, least_instance}
 
-abbrev pub depths : Instance → List Pattern → List ℕ
-depths i ps = map (λ p. scalar_depth (component_in i p.component)) ps
+-- the parameters for operands, compared by their depths
 
-near_below : (i j : Instance) (ps : List Pattern) → AllNear i j ps → IsNowhereMore (depths i ps) (depths j ps)
-near_below i j [] h = tt
-near_below i j (p ∷ ps) h = (here h.0, near_below i j ps h.1)
-  where
-    here : IsNear i j p.component → scalar_depth (component_in i p.component) ≤ scalar_depth (component_in j p.component)
-    here (inl e) = subst (λ s. scalar_depth (component_in i p.component) ≤ scalar_depth s) (sym e) (le_refl (scalar_depth (component_in i p.component)))
-    here (inr d) = omega (arith, d)
+near_component : (i j : Instance) (e : Component) → IsNear i j e → scalar_depth (component_in i e) ≤ scalar_depth (component_in j e)
+near_component i j e (inl q) = subst (λ s. scalar_depth (component_in i e) ≤ scalar_depth s) (sym q) (le_refl (scalar_depth (component_in i e)))
+near_component i j e (inr d) = omega (arith, d)
+
+near_parameter : (i j : Instance) (p : Pattern) (t : WgslType) → IsNearFor i j p → depth (parameter_for i p t) ≤ depth (parameter_for j p t)
+near_parameter i j (patterns.Value s e) t h =
+    omega (arith, near_component i j e h, depth_type_with (dimensions_in i s) (component_in i e), depth_type_with (dimensions_in j s) (component_in j e))
+near_parameter i j (patterns.Sampler s) t h = le_refl _
+near_parameter i j (patterns.Texture x) t h = le_refl _
+near_parameter i j (patterns.Resource r) t h = le_refl _
+
+near_below : (c : Bool) (i j : Instance) (ps : List Pattern) (xs : List Operand) → AllFit c i ps xs → AllNear i j ps →
+    IsNowhereMore (map depth (parameters_for i ps xs)) (map depth (parameters_for j ps xs))
+near_below c i j [] [] f h = tt
+near_below c i j [] (x ∷ xs) f h = absurd f
+near_below c i j (p ∷ ps) [] f h = absurd f
+near_below c i j (p ∷ ps) (x ∷ xs) f h = (near_parameter i j p x.of_type h.0, near_below c i j ps xs f.1 h.1)
+
+near_same : (c : Bool) (i j : Instance) (p : Pattern) (x : Operand) → Fit c i p x → Fit c j p x → IsNearFor i j p →
+    (parameter_for j p x.of_type ≡ parameter_for i p x.of_type) ⊎ (depth (parameter_for i p x.of_type) < depth (parameter_for j p x.of_type))
+near_same c i j (patterns.Value s e) x f g (inl q) =
+    let o : dimensions_in j s ≡ dimensions_in i s = (same_operand c j i s e s e x.of_type g f).0 in
+    inl (cc (o, q))
+near_same c i j (patterns.Value s e) x f g (inr d) =
+    inr (omega (arith, d, depth_type_with (dimensions_in i s) (component_in i e), depth_type_with (dimensions_in j s) (component_in j e)))
+near_same c i j (patterns.Sampler s) x f g h = inl refl
+near_same c i j (patterns.Texture t) x f g h = inl refl
+near_same c i j (patterns.Resource r) x f g h = inl refl
 
 near_less : (c : Bool) (i j : Instance) (ps : List Pattern) (xs : List Operand) → AllFit c i ps xs → AllFit c j ps xs → AllNear i j ps →
-    (map (type_in j) ps ≡ map (type_in i) ps) ⊎ IsSomewhereLess (depths i ps) (depths j ps)
-near_less c i j [] xs f g h = inl refl
+    (parameters_for j ps xs ≡ parameters_for i ps xs) ⊎ IsSomewhereLess (map depth (parameters_for i ps xs)) (map depth (parameters_for j ps xs))
+near_less c i j [] [] f g h = inl refl
+near_less c i j [] (x ∷ xs) f g h = absurd f
 near_less c i j (p ∷ ps) [] f g h = absurd f
-near_less c i j (p ∷ ps) (x ∷ xs) f g h = turn h.0 (near_less c i j ps xs f.1 g.1 h.1)
+near_less c i j (p ∷ ps) (x ∷ xs) f g h = turn (near_same c i j p x f.0 g.0 h.0) (near_less c i j ps xs f.1 g.1 h.1)
   where
-    turn : IsNear i j p.component → (map (type_in j) ps ≡ map (type_in i) ps) ⊎ IsSomewhereLess (depths i ps) (depths j ps) →
-        (map (type_in j) (p ∷ ps) ≡ map (type_in i) (p ∷ ps)) ⊎ IsSomewhereLess (depths i (p ∷ ps)) (depths j (p ∷ ps))
+    turn : (parameter_for j p x.of_type ≡ parameter_for i p x.of_type) ⊎ (depth (parameter_for i p x.of_type) < depth (parameter_for j p x.of_type)) →
+        (parameters_for j ps xs ≡ parameters_for i ps xs) ⊎ IsSomewhereLess (map depth (parameters_for i ps xs)) (map depth (parameters_for j ps xs)) →
+        (parameters_for j (p ∷ ps) (x ∷ xs) ≡ parameters_for i (p ∷ ps) (x ∷ xs)) ⊎
+        IsSomewhereLess (map depth (parameters_for i (p ∷ ps) (x ∷ xs))) (map depth (parameters_for j (p ∷ ps) (x ∷ xs)))
     turn (inr d) r = inr (inl d)
     turn (inl e) (inr r) = inr (inr r)
-    turn (inl e) (inl q) =
-        let o : dimensions_in j p.shape ≡ dimensions_in i p.shape = (same_operand c j i p p x g.0 f.0).0 in
-        inl (cc (o, e, q))
+    turn (inl e) (inl q) = inl (cc (e, q))
 
--- the ranks of a candidate are those of an instance that takes the operands
-pub record Taken (o : Overload) (xs : List Operand) (us : List WgslType) (r : WgslType) (ws : List ℕ) : Type 0 where
+-- a candidate that takes operands is that of an instance that fits them
+pub record Taken (o : Overload) (xs : List Operand) (us : List WgslType) (r : Option WgslType) (ws : List ℕ) : Type 0 where
   pub instance : Instance
   pub admitted : IsInstance o instance
-  pub parameters : us ≡ parameters_in instance o
-  pub result : r ≡ type_in instance (result_of o)
-  pub takes : TakesOperands (parameters_in instance o) xs ws
+  pub parameters : us ≡ parameters_for instance (patterns_of o) xs
   pub fits : AllFit (must_be_concrete xs) instance (patterns_of o) xs
 
-pub taken : (o : Overload) (xs : List Operand) (us : List WgslType) (r : WgslType) (ws : List ℕ) → IsCandidateOf o us r → TakesOperands us xs ws → Taken o xs us r ws
-taken o xs us r ws h k =
-    let m = subst (λ us. TakesOperands us xs ws) h.parameters k in
-    record {
-      instance = h.instance;
-      admitted = h.admitted;
-      parameters = h.parameters;
-      result = h.result;
-      takes = m;
-      fits = ranks_fit (must_be_concrete xs) h.instance (patterns_of o) xs ws m.values m.converts (constant_takable xs (parameters_in h.instance o) m.constant);
-    }
+pub taken : (o : Overload) (xs : List Operand) (us : List WgslType) (r : Option WgslType) (ws : List ℕ) → IsCandidateOf o us r → TakesOperands us xs ws → Taken o xs us r ws
+taken o xs us r ws h k = record {
+  instance = h.instance;
+  admitted = h.admitted;
+  parameters = parameters_are h.instance (patterns_of o) us xs ws h.parameters k.values k.converts;
+  fits = ranks_fit (must_be_concrete xs) h.instance (patterns_of o) us xs ws h.parameters k.values k.converts (constant_takable xs us k.constant);
+}
 
-found_takes : (o : Overload) (xs : List Operand) (i : Instance) → AllFit (must_be_concrete xs) i (patterns_of o) xs → (ws : List ℕ) × TakesOperands (parameters_in i o) xs ws
+-- the candidate of an instance that fits operands takes them
+
+pub found_candidate : (o : Overload) (xs : List Operand) (i : Instance) → IsInstance o i → AllFit (must_be_concrete xs) i (patterns_of o) xs →
+    IsCandidateOf o (parameters_for i (patterns_of o) xs) (result_for i o xs)
+found_candidate o xs i a f = record { instance = i; admitted = a; parameters = (fit_ranks (must_be_concrete xs) i (patterns_of o) xs f).parameters; result = refl }
+
+found_takes : (o : Overload) (xs : List Operand) (i : Instance) → AllFit (must_be_concrete xs) i (patterns_of o) xs → (ws : List ℕ) × TakesOperands (parameters_for i (patterns_of o) xs) xs ws
 found_takes o xs i f =
-    let k = fit_ranks (must_be_concrete xs) i (patterns_of o) xs f in
-    (k.0.0, record { values = fit_values (must_be_concrete xs) i (patterns_of o) xs f; converts = k.0.1; constant = takable_constant xs (parameters_in i o) k.1 })
+    let k = fit_ranks (must_be_concrete xs) i (patterns_of o) xs f in (
+      k.ranks,
+      record {
+        values = fit_values (must_be_concrete xs) i (patterns_of o) xs f;
+        converts = k.converts;
+        constant = takable_constant xs (parameters_for i (patterns_of o) xs) k.takable;
+      },
+    )
 
 -- within an overload, the least instance is preferred
 within_one : (o : Overload) (xs : List Operand) (i : Instance) → HasOneResult o → IsLeastInstance (must_be_concrete xs) o (patterns_of o) xs i →
-    (ranks : List ℕ) → TakesOperands (parameters_in i o) xs ranks → (vs : List WgslType) (s : WgslType) (ws : List ℕ) → IsCandidateOf o vs s → TakesOperands vs xs ws →
-    (vs ≡ parameters_in i o) × (s ≡ type_in i (result_of o)) ⊎ IsNowhereMore ranks ws × IsSomewhereLess ranks ws
+    (ranks : List ℕ) → TakesOperands (parameters_for i (patterns_of o) xs) xs ranks → (vs : List WgslType) (s : Option WgslType) (ws : List ℕ) → IsCandidateOf o vs s → TakesOperands vs xs ws →
+    (vs ≡ parameters_for i (patterns_of o) xs) × (s ≡ result_for i o xs) ⊎ IsNowhereMore ranks ws × IsSomewhereLess ranks ws
 within_one o xs i d l ranks k vs s ws h m =
     let t = taken o xs vs s ws h m in
     let n = l.least t.instance t.admitted t.fits in
     turn t n (near_less (must_be_concrete xs) i t.instance (patterns_of o) xs l.fits t.fits n)
   where
     turn : (t : Taken o xs vs s ws) → AllNear i t.instance (patterns_of o) →
-        (parameters_in t.instance o ≡ parameters_in i o) ⊎ IsSomewhereLess (depths i (patterns_of o)) (depths t.instance (patterns_of o)) →
-        (vs ≡ parameters_in i o) × (s ≡ type_in i (result_of o)) ⊎ IsNowhereMore ranks ws × IsSomewhereLess ranks ws
-    turn t n (inl e) = inl (t.parameters ∙ e, t.result ∙ d t.instance i e)
-    turn t n (inr q) = inr (
-      ranks_below i t.instance (patterns_of o) (patterns_of o) xs ranks ws k.values k.converts t.takes.converts (near_below i t.instance (patterns_of o) n),
-      ranks_less i t.instance (patterns_of o) (patterns_of o) xs ranks ws k.values k.converts t.takes.converts q,
-    )
+        (parameters_for t.instance (patterns_of o) xs ≡ parameters_for i (patterns_of o) xs) ⊎
+        IsSomewhereLess (map depth (parameters_for i (patterns_of o) xs)) (map depth (parameters_for t.instance (patterns_of o) xs)) →
+        (vs ≡ parameters_for i (patterns_of o) xs) × (s ≡ result_for i o xs) ⊎ IsNowhereMore ranks ws × IsSomewhereLess ranks ws
+    turn t n (inl e) =
+        let q : vs ≡ parameters_for i (patterns_of o) xs = t.parameters ∙ e in
+        inl (q, d (parameters_for i (patterns_of o) xs) s (result_for i o xs) (subst (λ vs. IsCandidateOf o vs s) q h) (found_candidate o xs i l.admitted l.fits))
+    turn t n (inr q) =
+        let less : IsSomewhereLess (map depth (parameters_for i (patterns_of o) xs)) (map depth vs) =
+        subst (λ vs. IsSomewhereLess (map depth (parameters_for i (patterns_of o) xs)) (map depth vs)) (sym t.parameters) q in
+        let below : IsNowhereMore (map depth (parameters_for i (patterns_of o) xs)) (map depth vs) =
+        subst (λ vs. IsNowhereMore (map depth (parameters_for i (patterns_of o) xs)) (map depth vs)) (sym t.parameters)
+        (near_below (must_be_concrete xs) i t.instance (patterns_of o) xs l.fits n) in
+        inr (
+          ranks_below (parameters_for i (patterns_of o) xs) vs xs ranks ws k.values k.converts m.converts below,
+          ranks_less (parameters_for i (patterns_of o) xs) vs xs ranks ws k.values k.converts m.converts less,
+        )
 
 preferred_at : (o : Overload) (os : List Overload) → IsPreferredToAll o os → (k : ℕ) (p : Overload) → slice_get os k ≡ Some p → IsPreferredTo o p
 preferred_at o [] h k p e = absurd (cc e)
@@ -94,7 +132,7 @@ first_found : (o : Overload) (os : List Overload) (xs : List Operand) → HasOne
     IsLeastInstance (must_be_concrete xs) o (patterns_of o) xs i → IsChosen (o ∷ os) xs (Some (0, i))
 first_found o os xs d a i l =
     let k = found_takes o xs i l.fits in
-    let own : IsCandidateOf o (parameters_in i o) (type_in i (result_of o)) = record { instance = i; admitted = l.admitted; parameters = refl; result = refl } in (
+    let own : IsCandidateOf o (parameters_for i (patterns_of o) xs) (result_for i o xs) = found_candidate o xs i l.admitted l.fits in (
       o,
       refl,
       record {
@@ -105,21 +143,21 @@ first_found o os xs d a i l =
       },
     )
   where
-    against : IsCandidateOf o (parameters_in i o) (type_in i (result_of o)) → (ranks : List ℕ) → TakesOperands (parameters_in i o) xs ranks → (j : ℕ) (vs : List WgslType) (s : WgslType) (ws : List ℕ) (p : Overload) → slice_get (o ∷ os) j ≡ Some p → IsCandidateOf p vs s → TakesOperands vs xs ws →
-        (j ≡ 0) × (vs ≡ parameters_in i o) × (s ≡ type_in i (result_of o)) ⊎ IsNowhereMore ranks ws × IsSomewhereLess ranks ws
+    against : IsCandidateOf o (parameters_for i (patterns_of o) xs) (result_for i o xs) → (ranks : List ℕ) → TakesOperands (parameters_for i (patterns_of o) xs) xs ranks → (j : ℕ) (vs : List WgslType) (s : Option WgslType) (ws : List ℕ) (p : Overload) → slice_get (o ∷ os) j ≡ Some p → IsCandidateOf p vs s → TakesOperands vs xs ws →
+        (j ≡ 0) × (vs ≡ parameters_for i (patterns_of o) xs) × (s ≡ result_for i o xs) ⊎ IsNowhereMore ranks ws × IsSomewhereLess ranks ws
     against own ranks k zero vs s ws p e h m =
         let q : o ≡ p = cc e in
         elim (within_one o xs i d l ranks k vs s ws (subst (λ p. IsCandidateOf p vs s) (sym q) h) m) [
           | inl f ↦ inl (refl, f.0, f.1)
           | inr f ↦ inr f
         ]
-    against own ranks k (suc j) vs s ws p e h m = inr (preferred_at o os a j p e xs (parameters_in i o) vs (type_in i (result_of o)) s ranks ws own k h m)
+    against own ranks k (suc j) vs s ws p e h m = inr (preferred_at o os a j p e xs (parameters_for i (patterns_of o) xs) vs (result_for i o xs) s ranks ws own k h m)
 
 not_first : (o : Overload) (os : List Overload) (xs : List Operand) → ((i : Instance) → IsInstance o i → AllFit (must_be_concrete xs) i (patterns_of o) xs → ⊥) →
     (r : Option (ℕ × Instance)) → IsChosen os xs r → IsChosen (o ∷ os) xs (option_map later r)
 not_first o os xs n None f = λ j us r ws h m. against j us r ws h.overload h.here h.candidate m
   where
-    against : (j : ℕ) (us : List WgslType) (r : WgslType) (ws : List ℕ) (p : Overload) → slice_get (o ∷ os) j ≡ Some p → IsCandidateOf p us r → TakesOperands us xs ws → ⊥
+    against : (j : ℕ) (us : List WgslType) (r : Option WgslType) (ws : List ℕ) (p : Overload) → slice_get (o ∷ os) j ≡ Some p → IsCandidateOf p us r → TakesOperands us xs ws → ⊥
     against zero us r ws p e h m =
         let q : o ≡ p = cc e in
         let t = taken o xs us r ws (subst (λ p. IsCandidateOf p us r) (sym q) h) m in
@@ -136,8 +174,8 @@ not_first o os xs n (Some q) f = (
   },
 )
   where
-    against : (j : ℕ) (vs : List WgslType) (s : WgslType) (ws : List ℕ) (p : Overload) → slice_get (o ∷ os) j ≡ Some p → IsCandidateOf p vs s → TakesOperands vs xs ws →
-        (j ≡ suc q.0) × (vs ≡ parameters_in q.1 f.0) × (s ≡ type_in q.1 (result_of f.0)) ⊎ IsNowhereMore f.2.ranks ws × IsSomewhereLess f.2.ranks ws
+    against : (j : ℕ) (vs : List WgslType) (s : Option WgslType) (ws : List ℕ) (p : Overload) → slice_get (o ∷ os) j ≡ Some p → IsCandidateOf p vs s → TakesOperands vs xs ws →
+        (j ≡ suc q.0) × (vs ≡ parameters_for q.1 (patterns_of f.0) xs) × (s ≡ result_for q.1 f.0 xs) ⊎ IsNowhereMore f.2.ranks ws × IsSomewhereLess f.2.ranks ws
     against zero vs s ws p e h m =
         let q : o ≡ p = cc e in
         let t = taken o xs vs s ws (subst (λ p. IsCandidateOf p vs s) (sym q) h) m in

@@ -6,8 +6,8 @@ use Rattle.wgsl_syntax.specs.declared.overload.Overload.{Overload}
 use Rattle.wgsl_rules.specs.standard.Choice.{Operand}
 use Rattle.wgsl_syntax.specs.declared.overload.Instance.{Instance}
 use Rattle.wgsl_standard.specs.declared.binding.Binding.{Binding}
-use Rattle.wgsl_rules.specs.standard.Overloads.{type_in, patterns_of}
-use Rattle.wgsl_rules.specs.standard.Choice.{TakesOperands}
+use Rattle.wgsl_rules.specs.standard.Overloads.{patterns_of}
+use Rattle.wgsl_rules.specs.standard.Choice.{parameters_for}
 use Rattle.wgsl_rules.specs.standard.Refusal.{TakesFirst, SomeTakesFirst, IsRefusedAt}
 use Rattle.std.proofs.lemmas.List.{take-map, length-map}
 use Rattle.wgsl_standard.specs.internal.Binding.{must_be_concrete, bind, bind_all, bind_first, free, settle, is_instance, takes_first, some_takes_first}
@@ -24,26 +24,25 @@ first_all c b (p ∷ ps) [] = refl
 first_all c b [] (x ∷ xs) = refl
 first_all c b (p ∷ ps) (x ∷ xs) = chained (λ b. bind_first c b ps xs) (λ b. bind_all c b (take (length xs) ps) xs) (λ b. first_all c b ps xs) (bind c b p x)
 
-take_map : (i : Instance) (n : ℕ) (ps : List Pattern) → take n (map (type_in i) ps) ≡ map (type_in i) (take n ps)
-take_map i zero ps = refl
-take_map i (suc n) [] = refl
-take_map i (suc n) (p ∷ ps) = ap (λ us. type_in i p ∷ us) (take_map i n ps)
-
 takes_first_so : (o : Overload) (xs : List Operand) (r : Option Instance) → LeastOr (must_be_concrete xs) o (take (length xs) (patterns_of o)) xs r → IsTrue (is_instance r) ↔ TakesFirst o xs
 takes_first_so o xs None n = (
   λ h. absurd (true≢false (sym h)),
-  λ h. let m = subst (λ us. TakesOperands us xs h.ranks) (take_map h.instance (length xs) (patterns_of o)) h.takes in
-      absurd (n h.instance h.admitted (ranks_fit (must_be_concrete xs) h.instance (take (length xs) (patterns_of o)) xs h.ranks m.values m.converts
-      (constant_takable xs (map (type_in h.instance) (take (length xs) (patterns_of o))) m.constant))),
+  λ h. absurd (n h.instance h.admitted (ranks_fit (must_be_concrete xs) h.instance (take (length xs) (patterns_of o)) h.types xs h.ranks h.parameters h.takes.values h.takes.converts
+      (constant_takable xs h.types h.takes.constant))),
 )
 takes_first_so o xs (Some i) l = (
   λ h. let k = fit_ranks (must_be_concrete xs) i (take (length xs) (patterns_of o)) xs l.fits in
       record {
         instance = i;
         admitted = l.admitted;
-        ranks = k.0.0;
-        takes = subst (λ us. TakesOperands us xs k.0.0) (sym (take_map i (length xs) (patterns_of o)))
-            (record { values = fit_values (must_be_concrete xs) i (take (length xs) (patterns_of o)) xs l.fits; converts = k.0.1; constant = takable_constant xs (map (type_in i) (take (length xs) (patterns_of o))) k.1 });
+        types = parameters_for i (take (length xs) (patterns_of o)) xs;
+        parameters = k.parameters;
+        ranks = k.ranks;
+        takes = record {
+          values = fit_values (must_be_concrete xs) i (take (length xs) (patterns_of o)) xs l.fits;
+          converts = k.converts;
+          constant = takable_constant xs (parameters_for i (take (length xs) (patterns_of o)) xs) k.takable;
+        };
       },
   λ h. refl,
 )

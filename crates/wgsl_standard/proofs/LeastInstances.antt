@@ -6,17 +6,18 @@ use Rattle.wgsl_syntax.specs.declared.scalar.Scalar.TheVariants.{Bool as BoolSca
 use Rattle.wgsl_rules.proofs.conversion.Steps.{scalar_depth}
 use Rattle.wgsl_syntax.specs.declared.overload.Kind.{Kind}
 use Rattle.wgsl_syntax.specs.declared.overload.Component.{Component}
-use Rattle.wgsl_syntax.specs.declared.overload.Component.TheVariants.{T, U, The}
+use Rattle.wgsl_syntax.specs.declared.overload.Component.TheVariants.{T, U, V, W, The}
 use Rattle.wgsl_syntax.specs.declared.overload.Pattern.{Pattern}
+use Rattle.wgsl_syntax.specs.declared.overload.Pattern.TheVariants as patterns
 use Rattle.wgsl_syntax.specs.declared.overload.Overload.{Overload}
 use Rattle.wgsl_rules.specs.standard.Choice.{Operand}
 use Rattle.wgsl_syntax.specs.declared.overload.Instance.{Instance}
 use Rattle.wgsl_standard.specs.declared.binding.Binding.{Binding}
-use Rattle.wgsl_rules.specs.standard.Overloads.{is_of_kind, component_in, patterns_of, kind_of_t, kind_of_u, IsInstance}
+use Rattle.wgsl_rules.specs.standard.Overloads.{is_of_kind, component_in, patterns_of, kind_of_t, kind_of_u, kind_of_v, kind_of_w, IsInstance}
 use Rattle.wgsl_standard.specs.internal.Binding.{may_be, bind_all, free, targets, is_bound, first_of_kind, pick, or_zero, or_none, instance_at, settle, instance_of}
 use Rattle.wgsl_standard.proofs.Scalars.{Member, IsPicked, picked}
 use Rattle.wgsl_standard.proofs.Boxes.{Meets, Same, Agrees, Boxes, AllFit, all_boxes}
-use Rattle.wgsl_standard.proofs.BoundLetters.{Binds, BindsAll, binding_binds}
+use Rattle.wgsl_standard.proofs.BoundLetters.{Binds, BindsFor, BindsAll, binding_binds}
 
 -- a letter of which nothing is required
 
@@ -80,9 +81,13 @@ letter c k (Some a) = turn (pick c k (Some a)) (picked c k a)
 abbrev pub IsNear : Instance → Instance → Component → Type 0
 IsNear i j p = (component_in j p ≡ component_in i p) ⊎ (scalar_depth (component_in i p) < scalar_depth (component_in j p))
 
+abbrev pub IsNearFor : Instance → Instance → Pattern → Type 0
+IsNearFor i j (patterns.Value s e) = IsNear i j e
+IsNearFor i j p = Unit {0}
+
 abbrev pub AllNear : Instance → Instance → List Pattern → Type 0
 AllNear i j [] = Unit {0}
-AllNear i j (p ∷ ps) = IsNear i j p.component × AllNear i j ps
+AllNear i j (p ∷ ps) = IsNearFor i j p × AllNear i j ps
 
 -- the instance that is found, or none that takes the operands
 pub record IsLeastInstance (c : Bool) (o : Overload) (ps : List Pattern) (xs : List Operand) (i : Instance) : Type 0 where
@@ -95,7 +100,7 @@ LeastOr c o ps xs (Some i) = IsLeastInstance c o ps xs i
 LeastOr c o ps xs None = (j : Instance) → IsInstance o j → AllFit c j ps xs → ⊥
 
 free_agrees : (c : Bool) (i : Instance) → Agrees c free i
-free_agrees c i = record { t = tt; u = tt; width = tt; n = tt; m = tt; k = tt }
+free_agrees c i = record { t = tt; u = tt; v = tt; w = tt; width = tt; n = tt; m = tt; k = tt }
 
 same_or_zero : (l : Option ℕ) → Same l (or_zero l)
 same_or_zero None = tt
@@ -105,32 +110,74 @@ same_or_none : (l : Option (Option ℕ)) → Same l (or_none l)
 same_or_none None = tt
 same_or_none (Some n) = refl
 
-near : (c : Bool) (o : Overload) (b : Binding) (t u : Scalar) → IsLetter c (kind_of_t o) b.t t → IsLetter c (kind_of_u o) b.u u → (j : Instance) → IsInstance o j → Agrees c b j →
-    (p : Component) → Binds b p → IsNear (instance_at b t u) j p
-near c o b t u f g j a q T h = f.least h j.t a.t q.t
-near c o b t u f g j a q U h = g.least h j.u a.u q.u
-near c o b t u f g j a q (The s) h = inl refl
+-- what the letters of a binding stand for
+record AreLetters (c : Bool) (o : Overload) (b : Binding) (t u v w : Scalar) : Type 0 where
+  for_t : IsLetter c (kind_of_t o) b.t t
+  for_u : IsLetter c (kind_of_u o) b.u u
+  for_v : IsLetter c (kind_of_v o) b.v v
+  for_w : IsLetter c (kind_of_w o) b.w w
 
-all_near : (c : Bool) (o : Overload) (b : Binding) (t u : Scalar) → IsLetter c (kind_of_t o) b.t t → IsLetter c (kind_of_u o) b.u u → (j : Instance) → IsInstance o j → Agrees c b j →
-    (ps : List Pattern) → BindsAll ps b → AllNear (instance_at b t u) j ps
-all_near c o b t u f g j a q [] h = tt
-all_near c o b t u f g j a q (p ∷ ps) h = (near c o b t u f g j a q p.component h.0, all_near c o b t u f g j a q ps h.1)
+near : (c : Bool) (o : Overload) (b : Binding) (t u v w : Scalar) → AreLetters c o b t u v w → (j : Instance) → IsInstance o j → Agrees c b j →
+    (p : Component) → Binds b p → IsNear (instance_at b t u v w) j p
+near c o b t u v w f j a q T h = f.for_t.least h j.t a.t q.t
+near c o b t u v w f j a q U h = f.for_u.least h j.u a.u q.u
+near c o b t u v w f j a q V h = f.for_v.least h j.v a.v q.v
+near c o b t u v w f j a q W h = f.for_w.least h j.w a.w q.w
+near c o b t u v w f j a q (The s) h = inl refl
 
-settled : (c : Bool) (o : Overload) (ps : List Pattern) (xs : List Operand) (b : Binding) → ((i : Instance) → (Agrees c free i × AllFit c i ps xs → Agrees c b i) × (Agrees c b i → Agrees c free i × AllFit c i ps xs)) → BindsAll ps b →
-    LeastOr c o ps xs (settle c o b)
+near_for : (c : Bool) (o : Overload) (b : Binding) (t u v w : Scalar) → AreLetters c o b t u v w → (j : Instance) → IsInstance o j → Agrees c b j →
+    (p : Pattern) → BindsFor p b → IsNearFor (instance_at b t u v w) j p
+near_for c o b t u v w f j a q (patterns.Value s e) h = near c o b t u v w f j a q e h
+near_for c o b t u v w f j a q (patterns.Sampler s) h = tt
+near_for c o b t u v w f j a q (patterns.Texture x) h = tt
+near_for c o b t u v w f j a q (patterns.Resource r) h = tt
+
+all_near : (c : Bool) (o : Overload) (b : Binding) (t u v w : Scalar) → AreLetters c o b t u v w → (j : Instance) → IsInstance o j → Agrees c b j →
+    (ps : List Pattern) → BindsAll ps b → AllNear (instance_at b t u v w) j ps
+all_near c o b t u v w f j a q [] h = tt
+all_near c o b t u v w f j a q (p ∷ ps) h = (near_for c o b t u v w f j a q p h.0, all_near c o b t u v w f j a q ps h.1)
+
+abbrev IsBox : Bool → Binding → List Pattern → List Operand → Type 0
+IsBox c b ps xs = (i : Instance) → (Agrees c free i × AllFit c i ps xs → Agrees c b i) × (Agrees c b i → Agrees c free i × AllFit c i ps xs)
+
+settled : (c : Bool) (o : Overload) (ps : List Pattern) (xs : List Operand) (b : Binding) → IsBox c b ps xs → BindsAll ps b → LeastOr c o ps xs (settle c o b)
 settled c o ps xs b f h = at_t (pick c (kind_of_t o) b.t) (letter c (kind_of_t o) b.t)
   where
-    at_u : (t : Scalar) → IsLetter c (kind_of_t o) b.t t → (x : Option Scalar) → LetterOr c (kind_of_u o) b.u x → LeastOr c o ps xs (option_map (instance_at b t) x)
-    at_u t k None n = λ j a q. n j.u a.u ((f j).0 (free_agrees c j, q)).u
-    at_u t k (Some u) m = record {
-      admitted = record { t = k.kind; u = m.kind };
-      fits = ((f (instance_at b t u)).1 (record { t = k.meets; u = m.meets; width = same_or_none b.width; n = same_or_zero b.n; m = same_or_zero b.m; k = same_or_zero b.k })).1;
-      least = λ j a q. all_near c o b t u k m j a ((f j).0 (free_agrees c j, q)) ps h;
+    at_all : (t u v w : Scalar) → AreLetters c o b t u v w → IsLeastInstance c o ps xs (instance_at b t u v w)
+    at_all t u v w k = record {
+      admitted = record { t = k.for_t.kind; u = k.for_u.kind; v = k.for_v.kind; w = k.for_w.kind };
+      fits = ((f (instance_at b t u v w)).1 (record {
+        t = k.for_t.meets;
+        u = k.for_u.meets;
+        v = k.for_v.meets;
+        w = k.for_w.meets;
+        width = same_or_none b.width;
+        n = same_or_zero b.n;
+        m = same_or_zero b.m;
+        k = same_or_zero b.k;
+      })).1;
+      least = λ j a q. all_near c o b t u v w k j a ((f j).0 (free_agrees c j, q)) ps h;
     }
 
-    at_t : (x : Option Scalar) → LetterOr c (kind_of_t o) b.t x → LeastOr c o ps xs (option_and_then (λ t. option_map (instance_at b t) (pick c (kind_of_u o) b.u)) x)
-    at_t None n = λ j a q. n j.t a.t ((f j).0 (free_agrees c j, q)).t
-    at_t (Some t) k = at_u t k (pick c (kind_of_u o) b.u) (letter c (kind_of_u o) b.u)
+    at_w : (t u v : Scalar) → IsLetter c (kind_of_t o) b.t t → IsLetter c (kind_of_u o) b.u u → IsLetter c (kind_of_v o) b.v v → (x : Option Scalar) → LetterOr c (kind_of_w o) b.w x →
+        LeastOr c o ps xs (option_map (instance_at b t u v) x)
+    at_w t u v k m n None g = λ j a q. g j.w a.w ((f j).0 (free_agrees c j, q)).w
+    at_w t u v k m n (Some w) g = at_all t u v w (record { for_t = k; for_u = m; for_v = n; for_w = g })
+
+    at_v : (t u : Scalar) → IsLetter c (kind_of_t o) b.t t → IsLetter c (kind_of_u o) b.u u → (x : Option Scalar) → LetterOr c (kind_of_v o) b.v x →
+        LeastOr c o ps xs (option_and_then (λ v. option_map (instance_at b t u v) (pick c (kind_of_w o) b.w)) x)
+    at_v t u k m None g = λ j a q. g j.v a.v ((f j).0 (free_agrees c j, q)).v
+    at_v t u k m (Some v) g = at_w t u v k m g (pick c (kind_of_w o) b.w) (letter c (kind_of_w o) b.w)
+
+    at_u : (t : Scalar) → IsLetter c (kind_of_t o) b.t t → (x : Option Scalar) → LetterOr c (kind_of_u o) b.u x →
+        LeastOr c o ps xs (option_and_then (λ u. option_and_then (λ v. option_map (instance_at b t u v) (pick c (kind_of_w o) b.w)) (pick c (kind_of_v o) b.v)) x)
+    at_u t k None g = λ j a q. g j.u a.u ((f j).0 (free_agrees c j, q)).u
+    at_u t k (Some u) g = at_v t u k g (pick c (kind_of_v o) b.v) (letter c (kind_of_v o) b.v)
+
+    at_t : (x : Option Scalar) → LetterOr c (kind_of_t o) b.t x →
+        LeastOr c o ps xs (option_and_then (λ t. option_and_then (λ u. option_and_then (λ v. option_map (instance_at b t u v) (pick c (kind_of_w o) b.w)) (pick c (kind_of_v o) b.v)) (pick c (kind_of_u o) b.u)) x)
+    at_t None g = λ j a q. g j.t a.t ((f j).0 (free_agrees c j, q)).t
+    at_t (Some t) g = at_u t g (pick c (kind_of_u o) b.u) (letter c (kind_of_u o) b.u)
 
 pub least_among : (c : Bool) (o : Overload) (ps : List Pattern) (xs : List Operand) → LeastOr c o ps xs (option_and_then (settle c o) (bind_all c free ps xs))
 least_among c o ps xs = turn (bind_all c free ps xs) refl (all_boxes c free ps xs)

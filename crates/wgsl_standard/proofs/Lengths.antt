@@ -1,11 +1,11 @@
 -- As many operands as parameters.
-use Rattle.std.proofs.Common.{◌≡◌, ◌≢◌, ℕ, ◌<◌, ◌≤◌, zero, suc, List, [], ◌∷◌, length, replicate, Option, Some, None, Bool, refl, ap, arith}
+use Rattle.std.proofs.Common.{◌≡◌, ◌≢◌, ℕ, ◌+◌, ◌<◌, ◌≤◌, zero, suc, List, [], ◌∷◌, length, replicate, Option, Some, None, Bool, refl, ap, arith}
 use Rattle.std.specs.Prelude.{option_and_then}
 use Rattle.std.proofs.lemmas.List.{length-replicate}
 use Rattle.wgsl_syntax.specs.declared.overload.Pattern.{Pattern}
 use Rattle.wgsl_rules.specs.standard.Choice.{Operand}
 use Rattle.wgsl_standard.specs.declared.binding.Binding.{Binding}
-use Rattle.wgsl_standard.specs.internal.Binding.{bind, bind_all, bind_same, bind_first}
+use Rattle.wgsl_standard.specs.internal.Binding.{bind, bind_all, bind_same, bind_then_same, bind_first}
 
 never : (f : Binding → Option Binding) → ((b : Binding) → f b ≡ None) → (r : Option Binding) → option_and_then f r ≡ None
 never f h None = refl
@@ -49,3 +49,21 @@ same_first c b p (suc n) (x ∷ xs) h =
 
 pub too_many_times : (c : Bool) (b : Binding) (p : Pattern) (n : ℕ) (xs : List Operand) → n < length xs → bind_first c b (replicate n p) xs ≡ None
 too_many_times c b p n xs h = too_many c b (replicate n p) xs (omega (arith, h, length-replicate n p))
+
+-- a parameter of one type, and the others of another
+
+pub then_same_all : (c : Bool) (b : Binding) (p q : Pattern) (n : ℕ) (xs : List Operand) → length xs ≡ n + 1 → bind_then_same c b p q xs ≡ bind_all c b (p ∷ replicate n q) xs
+then_same_all c b p q n [] e = absurd (omega (arith, e))
+then_same_all c b p q n (x ∷ xs) e =
+    and_then_same (λ b. bind_same c b q xs) (λ b. bind_all c b (replicate n q) xs) (λ b. same_all c b q n xs (omega (arith, e))) (bind c b p x)
+
+pub and_times : (c : Bool) (b : Binding) (p q : Pattern) (n : ℕ) (xs : List Operand) → length xs ≢ n + 1 → bind_all c b (p ∷ replicate n q) xs ≡ None
+and_times c b p q n xs h = unequal_lengths c b (p ∷ replicate n q) xs (λ e. h (omega (arith, e, length-replicate n q)))
+
+pub then_same_first : (c : Bool) (b : Binding) (p q : Pattern) (n : ℕ) (xs : List Operand) → 0 < length xs → length xs ≤ n + 1 → bind_then_same c b p q xs ≡ bind_first c b (p ∷ replicate n q) xs
+then_same_first c b p q n [] k h = absurd (omega (arith, k))
+then_same_first c b p q n (x ∷ xs) k h =
+    and_then_same (λ b. bind_same c b q xs) (λ b. bind_first c b (replicate n q) xs) (λ b. same_first c b q n xs (omega (arith, h))) (bind c b p x)
+
+pub too_many_and_times : (c : Bool) (b : Binding) (p q : Pattern) (n : ℕ) (xs : List Operand) → n + 1 < length xs → bind_first c b (p ∷ replicate n q) xs ≡ None
+too_many_and_times c b p q n xs h = too_many c b (p ∷ replicate n q) xs (omega (arith, h, length-replicate n q))

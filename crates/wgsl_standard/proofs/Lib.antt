@@ -1,5 +1,6 @@
 pub mod Scalars
 pub mod Parts
+pub mod Letters
 pub mod Boxes
 pub mod Ranks
 pub mod BoundLetters
@@ -8,6 +9,7 @@ pub mod Choices
 pub mod OneChoice
 pub mod Lengths
 pub mod FirstParameters
+pub mod Groups
 pub mod Unambiguous
 pub mod OperatorTables
 pub mod NamedTables

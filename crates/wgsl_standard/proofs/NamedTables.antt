@@ -3,7 +3,7 @@ use Rattle.std.proofs.Common.{◌≡◌, ℕ, List, [], ◌∷◌, Option, Some,
 use Rattle.std.specs.Prelude.{IfSome, IsTrue, option_map, bytes_eq, Bool, true, false, if◌then◌else◌}
 use Rattle.std.specs.Borrow.{Bor}
 use Rattle.wgsl_syntax.specs.declared.overload.Overload.{Overload}
-use Rattle.wgsl_rules.specs.standard.Names.{function_table, constructor_table, overloads_named}
+use Rattle.wgsl_rules.specs.standard.Names.{function_table, constructor_table, template_function_table, template_constructor_table, overloads_named}
 use Rattle.wgsl_rules.specs.standard.Tables.{IsUnambiguous}
 use Rattle.wgsl_standard.specs.internal.Ambiguity.{is_unambiguous, rows_unambiguous}
 use Rattle.wgsl_standard.proofs.Unambiguous.{both, unambiguous_is}
@@ -34,3 +34,10 @@ function_unambiguous name r e = seen r (overloads_named name function_table) e (
 pub constructor_unambiguous : (name : List ℕ) (r : Option (Bor (List Overload))) → option_map (λ o. o.now) r ≡ overloads_named name constructor_table → IfSome r (λ o. IsUnambiguous o.now)
 unfolding constructor_table
 constructor_unambiguous name r e = seen r (overloads_named name constructor_table) e (named_unambiguous name constructor_table refl)
+
+pub template_function_unambiguous : (name : List ℕ) (r : Option (Bor (List Overload))) → option_map (λ o. o.now) r ≡ overloads_named name template_function_table → IfSome r (λ o. IsUnambiguous o.now)
+template_function_unambiguous name r e = seen r (overloads_named name template_function_table) e (named_unambiguous name template_function_table refl)
+
+pub template_constructor_unambiguous : (name : List ℕ) (r : Option (Bor (List Overload))) → option_map (λ o. o.now) r ≡ overloads_named name template_constructor_table → IfSome r (λ o. IsUnambiguous o.now)
+unfolding template_constructor_table
+template_constructor_unambiguous name r e = seen r (overloads_named name template_constructor_table) e (named_unambiguous name template_constructor_table refl)

@@ -1,5 +1,5 @@
 -- At most one candidate is preferred to all others.
-use Rattle.std.proofs.Common.{◌≡◌, ℕ, List, [], ◌∷◌, sym, inl, inr, arith}
+use Rattle.std.proofs.Common.{◌≡◌, ℕ, List, [], ◌∷◌, Option, sym, inl, inr, arith}
 use Rattle.wgsl_rules.specs.types.Types.{WgslType}
 use Rattle.wgsl_rules.specs.operators.Choice.{IsNowhereMore, IsSomewhereLess}
 use Rattle.wgsl_syntax.specs.declared.overload.Overload.{Overload}
@@ -13,7 +13,7 @@ contrary (v ∷ vs) [] h k = h
 contrary (v ∷ vs) (w ∷ ws) h (inl k) = omega (arith, h.0, k)
 contrary (v ∷ vs) (w ∷ ws) h (inr k) = contrary vs ws h.1 k
 
-pub chosen_once : (os : List Overload) (xs : List Operand) (k l : ℕ) (us vs : List WgslType) (r s : WgslType) →
+pub chosen_once : (os : List Overload) (xs : List Operand) (k l : ℕ) (us vs : List WgslType) (r s : Option WgslType) →
     IsPreferred os xs k us r → IsPreferred os xs l vs s → (k ≡ l) × (us ≡ vs) × (r ≡ s)
 chosen_once os xs k l us vs r s a b =
     elim (b.least k us r a.ranks a.candidate a.takes) [

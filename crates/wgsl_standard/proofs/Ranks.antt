@@ -3,7 +3,7 @@ use Rattle.std.proofs.Common.{◌≡◌, ℕ, ◌+◌, ◌⊎◌, List, [], ◌�
 use Rattle.std.specs.Prelude.{IsTrue}
 use Rattle.wgsl_syntax.specs.declared.scalar.Scalar.{Scalar}
 use Rattle.wgsl_syntax.specs.declared.scalar.Scalar.TheVariants.{Bool as BoolScalar, AbstractInt, AbstractFloat, I32, U32, F32, F16, I64, U64, F64}
-use Rattle.wgsl_rules.specs.types.Types.{WgslType, vec_of, mat_of, scalar, within}
+use Rattle.wgsl_rules.specs.types.Types.{WgslType, vec_of, mat_of, scalar, within, texture, sampler}
 use Rattle.wgsl_rules.specs.conversion.Conversion.{Converts, IsValueType}
 use Rattle.wgsl_rules.specs.conversion.Concrete.{IsAbstract}
 use Rattle.wgsl_rules.specs.operators.Choice.{HasRanks, IsNowhereMore, IsSomewhereLess}
@@ -11,17 +11,22 @@ use Rattle.wgsl_rules.proofs.conversion.Steps.{scalar_depth, depth}
 use Rattle.wgsl_rules.proofs.conversion.Order.{value_converts}
 use Rattle.wgsl_rules.proofs.conversion.Equations.{converts_from_scalar, converts_from_within, converts_within, converts_inside}
 use Rattle.wgsl_syntax.specs.declared.overload.Pattern.{Pattern}
+use Rattle.wgsl_syntax.specs.declared.overload.Pattern.TheVariants as patterns
+use Rattle.wgsl_syntax.specs.declared.overload.Shape.{Shape}
+use Rattle.wgsl_syntax.specs.declared.overload.Component.{Component}
 use Rattle.wgsl_syntax.specs.declared.overload.Dimensions.{Dimensions}
 use Rattle.wgsl_syntax.specs.declared.overload.Dimensions.TheVariants.{Single, Vector, Matrix}
 use Rattle.wgsl_rules.specs.standard.Choice.{Operand}
 use Rattle.wgsl_syntax.specs.declared.overload.Instance.{Instance}
-use Rattle.wgsl_rules.specs.standard.Overloads.{type_with, dimensions_in, component_in, type_in}
-use Rattle.wgsl_rules.specs.standard.Choice.{types_of, AreValues, AreConstant, AreConcrete}
+use Rattle.wgsl_rules.specs.standard.Overloads.{type_with, dimensions_in, component_in, Names, IsParameter, AreParameters}
+use Rattle.wgsl_rules.specs.standard.Choice.{types_of, AreValues, AreConstant, AreConcrete, parameter_for, parameters_for}
+use Rattle.wgsl_rules.specs.standard.Resources.{letter_of}
+use Rattle.wgsl_standard.proofs.Letters.{only_itself, to_itself, member_alone, member_concrete, member_value}
 use Rattle.wgsl_standard.specs.internal.Parts.{parts_of}
 use Rattle.wgsl_standard.specs.internal.Binding.{may_be, must_be_concrete}
 use Rattle.wgsl_standard.proofs.Parts.{parts_once, parts_again, parts_taken}
 use Rattle.wgsl_standard.proofs.Scalars.{Reaches, reaches_rank, rank_reaches, reaches_depth}
-use Rattle.wgsl_standard.proofs.Boxes.{AllFit}
+use Rattle.wgsl_standard.proofs.Boxes.{FitsValue, Fit, AllFit}
 
 -- what a conversion between flat types is
 record IsFlat (o p : Dimensions) (s g : Scalar) (w : ℕ) : Type 0 where
@@ -105,50 +110,127 @@ takable_cons : (c : Bool) (o : Dimensions) (s : Scalar) (us : List WgslType) →
 takable_cons true o s us h k = (type_with_concrete o s h, k)
 takable_cons false o s us h k = tt
 
--- operands fit exactly if they convert
+concrete_cons : (c : Bool) (u : WgslType) (us : List WgslType) → (¬ IsAbstract u) → AreTakable c us → AreTakable c (u ∷ us)
+concrete_cons true u us h k = (h, k)
+concrete_cons false u us h k = tt
 
-pub ranks_fit : (c : Bool) (i : Instance) (ps : List Pattern) (xs : List Operand) (ws : List ℕ) → AreValues xs →
-    HasRanks (types_of xs) (map (type_in i) ps) ws → AreTakable c (map (type_in i) ps) → AllFit c i ps xs
-ranks_fit c i [] [] ws v h k = tt
-ranks_fit c i [] (x ∷ xs) ws v h k = absurd h
-ranks_fit c i (p ∷ ps) [] ws v h k = absurd h
-ranks_fit c i (p ∷ ps) (x ∷ xs) [] v h k = absurd h
-ranks_fit c i (p ∷ ps) (x ∷ xs) (w ∷ ws) v h k =
-    let t = parts_taken x.of_type (dimensions_in i p.shape) (component_in i p.component) w v.0 h.0 in
-    let q = subst (λ u. Converts u (type_in i p) w) t.2 h.0 in
-    let f = flat t.0 (dimensions_in i p.shape) t.1 (component_in i p.component) w q in
-    let m = takable_head c (type_in i p) (map (type_in i) ps) (dimensions_in i p.shape) (component_in i p.component) refl k in (
-      record { scalar = t.1; parts = ap parts_of t.2 ∙ (parts_once t.0 t.1 ∙ ap (λ o. Some (o, t.1)) (sym f.dimensions)); receives = (f.reaches, m) },
-      ranks_fit c i ps xs ws v.1 h.1 (takable_tail c (type_in i p) (map (type_in i) ps) k),
-    )
+-- an operand fits a parameter exactly if it converts to it
 
-pub fit_ranks : (c : Bool) (i : Instance) (ps : List Pattern) (xs : List Operand) → AllFit c i ps xs →
-    ((ws : List ℕ) × HasRanks (types_of xs) (map (type_in i) ps) ws) × AreTakable c (map (type_in i) ps)
-fit_ranks true i [] [] h = (([], tt), tt)
-fit_ranks false i [] [] h = (([], tt), tt)
+converts_value : (c : Bool) (o : Dimensions) (e : Scalar) (t : WgslType) (w : ℕ) → IsValueType t → Converts t (type_with o e) w →
+    (s : Scalar) × (parts_of t ≡ Some (o, s)) × Reaches s e
+converts_value c o e t w v h =
+    let k = parts_taken t o e w v h in
+    let q = subst (λ t. Converts t (type_with o e) w) k.2 h in
+    let f = flat k.0 o k.1 e w q in
+    (k.1, ap parts_of k.2 ∙ (parts_once k.0 k.1 ∙ ap (λ d. Some (d, k.1)) (sym f.dimensions)), f.reaches)
+
+converts_fits : (c : Bool) (i : Instance) (p : Pattern) (u : WgslType) (us : List WgslType) (x : Operand) (w : ℕ) → IsValueType x.of_type → IsParameter i p u →
+    Converts x.of_type u w → AreTakable c (u ∷ us) → Fit c i p x
+converts_fits c i (patterns.Value s e) u us x w v m h k =
+    let q = converts_value c (dimensions_in i s) (component_in i e) x.of_type w v (subst (λ u. Converts x.of_type u w) m h) in
+    record { scalar = q.0; parts = q.1; receives = (q.2, takable_head c u us (dimensions_in i s) (component_in i e) m k) }
+converts_fits c i (patterns.Sampler s) u us x w v m h k = only_itself x.of_type (sampler s) w v tt (subst (λ u. Converts x.of_type u w) m h)
+converts_fits c i (patterns.Texture t) u us x w v m h k = only_itself x.of_type (texture t) w v tt (subst (λ u. Converts x.of_type u w) m h)
+converts_fits c i (patterns.Resource r) u us x w v m h k =
+    let e = only_itself x.of_type u w v (member_alone r u i.t m) h in
+    subst (λ t. Names (letter_of r t) i.t) (sym e) m
+
+pub ranks_fit : (c : Bool) (i : Instance) (ps : List Pattern) (us : List WgslType) (xs : List Operand) (ws : List ℕ) → AreParameters i ps us → AreValues xs →
+    HasRanks (types_of xs) us ws → AreTakable c us → AllFit c i ps xs
+ranks_fit c i [] [] [] ws m v h k = tt
+ranks_fit c i [] [] (x ∷ xs) ws m v h k = absurd h
+ranks_fit c i [] (u ∷ us) xs ws m v h k = absurd m
+ranks_fit c i (p ∷ ps) [] xs ws m v h k = absurd m
+ranks_fit c i (p ∷ ps) (u ∷ us) [] ws m v h k = absurd h
+ranks_fit c i (p ∷ ps) (u ∷ us) (x ∷ xs) [] m v h k = absurd h
+ranks_fit c i (p ∷ ps) (u ∷ us) (x ∷ xs) (w ∷ ws) m v h k =
+    (converts_fits c i p u us x w v.0 m.0 h.0 k, ranks_fit c i ps us xs ws m.1 v.1 h.1 (takable_tail c u us k))
+
+-- the parameters are then those for the operands
+
+parameter_is : (i : Instance) (p : Pattern) (u : WgslType) (x : Operand) (w : ℕ) → IsValueType x.of_type → IsParameter i p u → Converts x.of_type u w → u ≡ parameter_for i p x.of_type
+parameter_is i (patterns.Value s e) u x w v m h = m
+parameter_is i (patterns.Sampler s) u x w v m h = m
+parameter_is i (patterns.Texture t) u x w v m h = m
+parameter_is i (patterns.Resource r) u x w v m h = sym (only_itself x.of_type u w v (member_alone r u i.t m) h)
+
+pub parameters_are : (i : Instance) (ps : List Pattern) (us : List WgslType) (xs : List Operand) (ws : List ℕ) → AreParameters i ps us → AreValues xs →
+    HasRanks (types_of xs) us ws → us ≡ parameters_for i ps xs
+parameters_are i [] [] xs ws m v h = refl
+parameters_are i [] (u ∷ us) xs ws m v h = absurd m
+parameters_are i (p ∷ ps) [] xs ws m v h = absurd m
+parameters_are i (p ∷ ps) (u ∷ us) [] ws m v h = absurd h
+parameters_are i (p ∷ ps) (u ∷ us) (x ∷ xs) [] m v h = absurd h
+parameters_are i (p ∷ ps) (u ∷ us) (x ∷ xs) (w ∷ ws) m v h =
+    let a = parameter_is i p u x w v.0 m.0 h.0 in
+    let b = parameters_are i ps us xs ws m.1 v.1 h.1 in
+    cc (a, b)
+
+-- what fits converts
+
+fit_parameter : (c : Bool) (i : Instance) (p : Pattern) (x : Operand) → Fit c i p x → IsParameter i p (parameter_for i p x.of_type)
+fit_parameter c i (patterns.Value s e) x f = refl
+fit_parameter c i (patterns.Sampler s) x f = refl
+fit_parameter c i (patterns.Texture t) x f = refl
+fit_parameter c i (patterns.Resource r) x f = f
+
+fit_converts : (c : Bool) (i : Instance) (p : Pattern) (x : Operand) → Fit c i p x → (w : ℕ) × Converts x.of_type (parameter_for i p x.of_type) w
+fit_converts c i (patterns.Value s e) x f =
+    let r = reaches_rank f.scalar (component_in i e) f.receives.0 in
+    let m = type_with_converts (dimensions_in i s) f.scalar (component_in i e) r.0 r.1 in
+    let q = parts_again x.of_type (dimensions_in i s) f.scalar f.parts in
+    (r.0, subst (λ t. Converts t (type_with (dimensions_in i s) (component_in i e)) r.0) (sym q) m)
+fit_converts c i (patterns.Sampler s) x f = (0, to_itself x.of_type (sampler s) tt f)
+fit_converts c i (patterns.Texture t) x f = (0, to_itself x.of_type (texture t) tt f)
+fit_converts c i (patterns.Resource r) x f = (0, to_itself x.of_type x.of_type (member_alone r x.of_type i.t f) refl)
+
+fit_takable : (c : Bool) (i : Instance) (p : Pattern) (x : Operand) (us : List WgslType) → Fit c i p x → AreTakable c us → AreTakable c (parameter_for i p x.of_type ∷ us)
+fit_takable c i (patterns.Value s e) x us f k = takable_cons c (dimensions_in i s) (component_in i e) us f.receives.1 k
+fit_takable c i (patterns.Sampler s) x us f k = concrete_cons c (sampler s) us (λ a. true≢false (sym a)) k
+fit_takable c i (patterns.Texture t) x us f k = concrete_cons c (texture t) us (λ a. true≢false (sym a)) k
+fit_takable c i (patterns.Resource r) x us f k = concrete_cons c x.of_type us (member_concrete r x.of_type i.t f) k
+
+-- the parameters for operands that fit
+pub record ForOperands (c : Bool) (i : Instance) (ps : List Pattern) (xs : List Operand) : Type 0 where
+  pub parameters : AreParameters i ps (parameters_for i ps xs)
+  pub ranks : List ℕ
+  pub converts : HasRanks (types_of xs) (parameters_for i ps xs) ranks
+  pub takable : AreTakable c (parameters_for i ps xs)
+
+no_operands : (c : Bool) (i : Instance) → ForOperands c i [] []
+no_operands true i = record { parameters = tt; ranks = []; converts = tt; takable = tt }
+no_operands false i = record { parameters = tt; ranks = []; converts = tt; takable = tt }
+
+pub fit_ranks : (c : Bool) (i : Instance) (ps : List Pattern) (xs : List Operand) → AllFit c i ps xs → ForOperands c i ps xs
+fit_ranks c i [] [] h = no_operands c i
 fit_ranks c i [] (x ∷ xs) h = absurd h
 fit_ranks c i (p ∷ ps) [] h = absurd h
 fit_ranks c i (p ∷ ps) (x ∷ xs) h =
     let k = fit_ranks c i ps xs h.1 in
-    let r = reaches_rank h.0.scalar (component_in i p.component) h.0.receives.0 in
-    let m = type_with_converts (dimensions_in i p.shape) h.0.scalar (component_in i p.component) r.0 r.1 in
-    let e = parts_again x.of_type (dimensions_in i p.shape) h.0.scalar h.0.parts in (
-      (r.0 ∷ k.0.0, (subst (λ t. Converts t (type_in i p) r.0) (sym e) m, k.0.1)),
-      takable_cons c (dimensions_in i p.shape) (component_in i p.component) (map (type_in i) ps) h.0.receives.1 k.1,
-    )
+    let r = fit_converts c i p x h.0 in
+    record {
+      parameters = (fit_parameter c i p x h.0, k.parameters);
+      ranks = r.0 ∷ k.ranks;
+      converts = (r.1, k.converts);
+      takable = fit_takable c i p x (parameters_for i ps xs) h.0 k.takable;
+    }
 
 is_value : (o : Dimensions) (s : Scalar) → IsValueType (type_with o s)
 is_value Single s = tt
 is_value (Vector n) s = tt
 is_value (Matrix c r) s = tt
 
+fit_value : (c : Bool) (i : Instance) (p : Pattern) (x : Operand) → Fit c i p x → IsValueType x.of_type
+fit_value c i (patterns.Value s e) x f = subst IsValueType (sym (parts_again x.of_type (dimensions_in i s) f.scalar f.parts)) (is_value (dimensions_in i s) f.scalar)
+fit_value c i (patterns.Sampler s) x f = subst IsValueType (sym f) tt
+fit_value c i (patterns.Texture t) x f = subst IsValueType (sym f) tt
+fit_value c i (patterns.Resource r) x f = member_value r x.of_type i.t f
+
 pub fit_values : (c : Bool) (i : Instance) (ps : List Pattern) (xs : List Operand) → AllFit c i ps xs → AreValues xs
 fit_values c i [] [] h = tt
 fit_values c i [] (x ∷ xs) h = absurd h
 fit_values c i (p ∷ ps) [] h = absurd h
-fit_values c i (p ∷ ps) (x ∷ xs) h =
-    let e = parts_again x.of_type (dimensions_in i p.shape) h.0.scalar h.0.parts in
-    (subst IsValueType (sym e) (is_value (dimensions_in i p.shape) h.0.scalar), fit_values c i ps xs h.1)
+fit_values c i (p ∷ ps) (x ∷ xs) h = (fit_value c i p x h.0, fit_values c i ps xs h.1)
 
 -- parameters must be concrete exactly if an operand isn't a const-expression
 
@@ -179,39 +261,29 @@ takable_constant xs us h = turn (must_be_concrete xs) refl h
     turn true e h = inr h
     turn false e h = inl (constants xs e)
 
--- ranks compare as depths do
+-- ranks compare as depths do, since each is the depth of the parameter less that of the operand
 
--- each rank is the depth of the parameter less that of the operand
-rank_depth : (i : Instance) (p : Pattern) (t : WgslType) (w : ℕ) → IsValueType t → Converts t (type_in i p) w → scalar_depth (component_in i p.component) ≡ depth t + w
-rank_depth i p t w v h = sym (depth_type_with (dimensions_in i p.shape) (component_in i p.component)) ∙ (value_converts v h).1
+pub ranks_below : (us vs : List WgslType) (xs : List Operand) (ms ws : List ℕ) → AreValues xs → HasRanks (types_of xs) us ms → HasRanks (types_of xs) vs ws →
+    IsNowhereMore (map depth us) (map depth vs) → IsNowhereMore ms ws
+ranks_below [] [] [] [] [] d h k m = tt
+ranks_below [] [] [] [] (w ∷ ws) d h k m = absurd k
+ranks_below [] [] [] (n ∷ ms) ws d h k m = absurd h
+ranks_below [] (v ∷ vs) [] ms ws d h k m = absurd k
+ranks_below (u ∷ us) vs [] ms ws d h k m = absurd h
+ranks_below [] vs (x ∷ xs) ms ws d h k m = absurd h
+ranks_below (u ∷ us) [] (x ∷ xs) ms ws d h k m = absurd k
+ranks_below (u ∷ us) (v ∷ vs) (x ∷ xs) [] ws d h k m = absurd h
+ranks_below (u ∷ us) (v ∷ vs) (x ∷ xs) (n ∷ ms) [] d h k m = absurd k
+ranks_below (u ∷ us) (v ∷ vs) (x ∷ xs) (n ∷ ms) (w ∷ ws) d h k m =
+    (omega (arith, (value_converts d.0 h.0).1, (value_converts d.0 k.0).1, m.0), ranks_below us vs xs ms ws d.1 h.1 k.1 m.1)
 
-pub ranks_below : (i j : Instance) (ps qs : List Pattern) (xs : List Operand) (vs ws : List ℕ) → AreValues xs →
-    HasRanks (types_of xs) (map (type_in i) ps) vs → HasRanks (types_of xs) (map (type_in j) qs) ws →
-    IsNowhereMore (map (λ p. scalar_depth (component_in i p.component)) ps) (map (λ p. scalar_depth (component_in j p.component)) qs) → IsNowhereMore vs ws
-ranks_below i j [] [] [] [] [] d h k m = tt
-ranks_below i j [] qs [] [] (w ∷ ws) d h k m = absurd (extra qs k)
-  where
-    extra : (qs : List Pattern) → HasRanks [] (map (type_in j) qs) (w ∷ ws) → ⊥
-    extra [] k = k
-    extra (q ∷ qs) k = k
-ranks_below i j [] qs [] (v ∷ vs) ws d h k m = absurd h
-ranks_below i j [] qs (x ∷ xs) vs ws d h k m = absurd h
-ranks_below i j (p ∷ ps) qs [] vs ws d h k m = absurd h
-ranks_below i j (p ∷ ps) [] xs vs ws d h k m = absurd m
-ranks_below i j [] (q ∷ qs) xs vs ws d h k m = absurd m
-ranks_below i j (p ∷ ps) (q ∷ qs) (x ∷ xs) [] ws d h k m = absurd h
-ranks_below i j (p ∷ ps) (q ∷ qs) (x ∷ xs) (v ∷ vs) [] d h k m = absurd k
-ranks_below i j (p ∷ ps) (q ∷ qs) (x ∷ xs) (v ∷ vs) (w ∷ ws) d h k m =
-    (omega (arith, rank_depth i p x.of_type v d.0 h.0, rank_depth j q x.of_type w d.0 k.0, m.0), ranks_below i j ps qs xs vs ws d.1 h.1 k.1 m.1)
-
-pub ranks_less : (i j : Instance) (ps qs : List Pattern) (xs : List Operand) (vs ws : List ℕ) → AreValues xs →
-    HasRanks (types_of xs) (map (type_in i) ps) vs → HasRanks (types_of xs) (map (type_in j) qs) ws →
-    IsSomewhereLess (map (λ p. scalar_depth (component_in i p.component)) ps) (map (λ p. scalar_depth (component_in j p.component)) qs) → IsSomewhereLess vs ws
-ranks_less i j [] qs xs vs ws d h k m = absurd m
-ranks_less i j (p ∷ ps) [] xs vs ws d h k m = absurd m
-ranks_less i j (p ∷ ps) (q ∷ qs) [] vs ws d h k m = absurd h
-ranks_less i j (p ∷ ps) (q ∷ qs) (x ∷ xs) [] ws d h k m = absurd h
-ranks_less i j (p ∷ ps) (q ∷ qs) (x ∷ xs) (v ∷ vs) [] d h k m = absurd k
-ranks_less i j (p ∷ ps) (q ∷ qs) (x ∷ xs) (v ∷ vs) (w ∷ ws) d h k (inl m) =
-    inl (omega (arith, rank_depth i p x.of_type v d.0 h.0, rank_depth j q x.of_type w d.0 k.0, m))
-ranks_less i j (p ∷ ps) (q ∷ qs) (x ∷ xs) (v ∷ vs) (w ∷ ws) d h k (inr m) = inr (ranks_less i j ps qs xs vs ws d.1 h.1 k.1 m)
+pub ranks_less : (us vs : List WgslType) (xs : List Operand) (ms ws : List ℕ) → AreValues xs → HasRanks (types_of xs) us ms → HasRanks (types_of xs) vs ws →
+    IsSomewhereLess (map depth us) (map depth vs) → IsSomewhereLess ms ws
+ranks_less [] vs xs ms ws d h k m = absurd m
+ranks_less (u ∷ us) [] xs ms ws d h k m = absurd m
+ranks_less (u ∷ us) (v ∷ vs) [] ms ws d h k m = absurd h
+ranks_less (u ∷ us) (v ∷ vs) (x ∷ xs) [] ws d h k m = absurd h
+ranks_less (u ∷ us) (v ∷ vs) (x ∷ xs) (n ∷ ms) [] d h k m = absurd k
+ranks_less (u ∷ us) (v ∷ vs) (x ∷ xs) (n ∷ ms) (w ∷ ws) d h k (inl m) =
+    inl (omega (arith, (value_converts d.0 h.0).1, (value_converts d.0 k.0).1, m))
+ranks_less (u ∷ us) (v ∷ vs) (x ∷ xs) (n ∷ ms) (w ∷ ws) d h k (inr m) = inr (ranks_less us vs xs ms ws d.1 h.1 k.1 m)

@@ -212,3 +212,37 @@ picked c k a = turn (first_of_kind c k (targets (Some a))) (first_found c k (tar
       least = λ g h m i. f.least g h m (target_member a g i);
     }
     turn None f = λ g h m i. f g h m (target_member a g i)
+
+-- a concrete scalar converts to itself alone
+
+alone : (a g : Scalar) → Member g (a ∷ []) → a ≡ g
+alone a g (inl e) = sym e
+alone a g (inr n) = absurd n
+
+pub concrete_reaches : (a g : Scalar) → IsTrue (may_be true a) → Reaches a g → a ≡ g
+concrete_reaches AbstractInt g m h = absurd (true≢false (sym m))
+concrete_reaches AbstractFloat g m h = absurd (true≢false (sym m))
+concrete_reaches BoolScalar g m h = alone BoolScalar g (target_member BoolScalar g h)
+concrete_reaches I32 g m h = alone I32 g (target_member I32 g h)
+concrete_reaches U32 g m h = alone U32 g (target_member U32 g h)
+concrete_reaches F32 g m h = alone F32 g (target_member F32 g h)
+concrete_reaches F16 g m h = alone F16 g (target_member F16 g h)
+concrete_reaches I64 g m h = alone I64 g (target_member I64 g h)
+concrete_reaches U64 g m h = alone U64 g (target_member U64 g h)
+concrete_reaches F64 g m h = alone F64 g (target_member F64 g h)
+
+pub reaches_itself : (a : Scalar) → Reaches a a
+reaches_itself BoolScalar = refl
+reaches_itself AbstractInt = refl
+reaches_itself AbstractFloat = refl
+reaches_itself I32 = refl
+reaches_itself U32 = refl
+reaches_itself F32 = refl
+reaches_itself F16 = refl
+reaches_itself I64 = refl
+reaches_itself U64 = refl
+reaches_itself F64 = refl
+
+pub may_either : (c : Bool) (s : Scalar) → IsTrue (may_be true s) → IsTrue (may_be c s)
+may_either true s m = m
+may_either false s m = refl

@@ -2,7 +2,7 @@
 use Rattle.std.proofs.Common.{refl}
 use Rattle.wgsl_rules.specs.calls.Names.{IsRising}
 use Rattle.wgsl_rules.proofs.calls.SortedNames.{rises_far}
-use Rattle.wgsl_rules.specs.standard.Names.{function_table, constructor_table, names_of}
+use Rattle.wgsl_rules.specs.standard.Names.{function_table, constructor_table, template_constructor_table, names_of}
 
 pub functions_sorted : IsRising (names_of function_table)
 unfolding function_table
@@ -11,3 +11,7 @@ functions_sorted = rises_far (names_of function_table) refl
 pub constructors_sorted : IsRising (names_of constructor_table)
 unfolding constructor_table
 constructors_sorted = rises_far (names_of constructor_table) refl
+
+pub templates_sorted : IsRising (names_of template_constructor_table)
+unfolding template_constructor_table
+templates_sorted = rises_far (names_of template_constructor_table) refl

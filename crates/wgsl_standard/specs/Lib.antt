@@ -1,3 +1,4 @@
 pub mod Operands
 pub mod Resolved
+pub mod Answered
 pub mod internal

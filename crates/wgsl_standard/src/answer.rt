@@ -1,110 +1,194 @@
 // The types of operators and calls by WGSL's own overloads.
-ghost use Rattle.std.specs.Prelude.{◌≡◌, [], ◌∷◌, IfOk, option_map};
+ghost use Rattle.std.specs.Prelude.{◌≡◌, [], ◌∷◌, option_map, IfOk, IfSome, IsTrue};
 ghost use Rattle.wgsl_core.specs.View.{view};
-ghost use Rattle.wgsl_rules.specs.standard.Overloads.{type_in};
+ghost use Rattle.wgsl_rules.specs.standard.Choice.{result_for as result_there};
 ghost use Rattle.wgsl_rules.specs.standard.Tables.{IsUnambiguous};
-ghost use Rattle.wgsl_rules.specs.standard.Answers.{IsStandardAnswer, IsNamedAnswer};
+ghost use Rattle.wgsl_rules.specs.standard.Answers.{IsStandardAnswer, IsNamedAnswer, is_template as may_be_template, template_operand, IsTemplateAnswer, IsCallAnswer};
 ghost use Rattle.wgsl_rules.specs.standard.Operators.{binary_overloads as binary_there, unary_overloads as unary_there};
-ghost use Rattle.wgsl_rules.specs.standard.Names.{function_table, constructor_table, overloads_named};
+ghost use Rattle.wgsl_rules.specs.standard.Names.{function_table, constructor_table, template_function_table, template_constructor_table, overloads_named};
+ghost use Rattle.wgsl_standard.specs.Answered.{AnswersType};
 ghost use Rattle.wgsl_standard.specs.Operands.{operand_view, operands_view};
 
-use crate::instance::type_of;
-use crate::names::{constructor_named, function_named};
+use crate::instance::result_for;
+use crate::names::{
+    constructor_named, function_named, template_constructor_named, template_function_named,
+};
 use crate::operand::Operand;
 use crate::operators::{binary_overloads, unary_overloads};
-use crate::overload::result_of;
 use crate::resolve::resolve;
 use std::alloc::{AllocError, Global};
 use wgsl_core::ty::Type;
+use wgsl_core::ty::form::Form;
 use wgsl_syntax::operator::{BinaryOperator, UnaryOperator};
-use wgsl_syntax::overload::{Instance, Overload, Pattern};
+use wgsl_syntax::overload::{Instance, Overload};
 
-/// The type of a binary expression; None if no candidate takes the operands.
+/// Why a call has no type.
+#[derive(Debug, Drop)]
+pub enum Unresolved {
+    /// No candidate takes the operands, or nothing has the name.
+    NoOverload,
+    OutOfMemory(AllocError),
+}
+
+impl From<AllocError> for Unresolved {
+    ghost use Rattle.std.specs.Prelude.{◌≡◌};
+    ghost use Rattle.wgsl_standard.specs.declared.answer.Unresolved.TheVariants.{OutOfMemory};
+
+    ghost from_gives = { λ e f. f ≡ OutOfMemory e };
+
+    fn from(e: AllocError) -> Unresolved {
+        Unresolved::OutOfMemory(e)
+    }
+}
+
+/// The type of a binary expression (WGSL, "Logical Expressions" to "Bit Expressions").
 pub fn type_binary_op(
     alloc: Global,
     operator: BinaryOperator,
     lhs: Operand<'_>,
     rhs: Operand<'_>,
-) -> Result<Option<Type>, AllocError>
-    ensures { IfOk result (λ r. IsStandardAnswer (binary_there operator)
-        (operand_view lhs.entry ∷ operand_view rhs.entry ∷ []) (option_map view r)) }
+) -> Result<Option<Type>, Unresolved>
+    ensures { AnswersType (IsStandardAnswer (binary_there operator)
+        (operand_view lhs.entry ∷ operand_view rhs.entry ∷ [])) result }
 {
     result_type(alloc, binary_overloads(operator), &[lhs, rhs])
 }
 
-/// The type of a unary expression; None if no candidate takes the operand. `&` and `*` have no candidate here.
+/// The type of a unary expression. `&` and `*` have no candidates.
 pub fn type_unary_op(
     alloc: Global,
     operator: UnaryOperator,
     operand: Operand<'_>,
-) -> Result<Option<Type>, AllocError>
-    ensures { IfOk result (λ r. IsStandardAnswer (unary_there operator)
-        (operand_view operand.entry ∷ []) (option_map view r)) }
+) -> Result<Option<Type>, Unresolved>
+    ensures { AnswersType (IsStandardAnswer (unary_there operator) (operand_view operand.entry ∷ [])) result }
 {
     result_type(alloc, unary_overloads(operator), &[operand])
 }
 
-/// The type of a call of a built-in function of values; None if no candidate takes the arguments, or there is no such
-/// function.
+/// The type of a call of a built-in function, or None if it has no value (WGSL, "Built-in Functions").
 pub fn type_builtin_fn(
     alloc: Global,
     name: &str,
+    template: Option<&Type>,
     arguments: &[Operand<'_>],
-) -> Result<Option<Type>, AllocError>
-    ensures { IfOk result (λ r. IsNamedAnswer (overloads_named name.now function_table)
-        (operands_view arguments.now) (option_map view r)) }
+) -> Result<Option<Type>, Unresolved>
+    ensures { AnswersType (IsCallAnswer (overloads_named name.now function_table) (overloads_named name.now template_function_table)
+        (option_map (λ t. view t.now) template.entry) (operands_view arguments.now)) result }
 {
-    match function_named(name) {
-        Some(overloads) => result_type(alloc, overloads, arguments),
-        None => Ok(None),
+    match template {
+        Some(template) => {
+            templated_type(alloc, template_function_named(name), template, arguments)
+        }
+        None => named_type(alloc, function_named(name), arguments),
     }
 }
 
-/// The type of a call of a constructor without a template; None if no candidate takes the arguments, or there is no such
-/// constructor.
+/// The type that a constructor makes (WGSL, "Constructor Built-in Functions"). Those of arrays and structs have no
+/// overloads.
 pub fn type_ctor(
     alloc: Global,
     name: &str,
+    template: Option<&Type>,
     arguments: &[Operand<'_>],
-) -> Result<Option<Type>, AllocError>
-    ensures { IfOk result (λ r. IsNamedAnswer (overloads_named name.now constructor_table)
-        (operands_view arguments.now) (option_map view r)) }
+) -> Result<Option<Type>, Unresolved>
+    ensures { AnswersType (IsCallAnswer (overloads_named name.now constructor_table) (overloads_named name.now template_constructor_table)
+        (option_map (λ t. view t.now) template.entry) (operands_view arguments.now)) result }
 {
-    match constructor_named(name) {
-        Some(overloads) => result_type(alloc, overloads, arguments),
-        None => Ok(None),
+    match template {
+        Some(template) => {
+            templated_type(alloc, template_constructor_named(name), template, arguments)
+        }
+        None => named_type(alloc, constructor_named(name), arguments),
     }
 }
 
-/// The type of a call of a function with these overloads; None if no candidate takes the operands.
+/// The type of a call by the overloads of its name, if it has any.
+fn named_type(
+    alloc: Global,
+    overloads: Option<&[Overload]>,
+    operands: &[Operand<'_>],
+) -> Result<Option<Type>, Unresolved>
+    requires { IfSome overloads (λ o. IsUnambiguous o.now) }
+    ensures { AnswersType (IsNamedAnswer (option_map (λ o. o.now) overloads.entry) (operands_view operands.now)) result }
+{
+    match overloads {
+        Some(overloads) => result_type(alloc, overloads, operands),
+        None => Err(Unresolved::NoOverload),
+    }
+}
+
+/// The same with a template, which is the first operand.
+fn templated_type(
+    alloc: Global,
+    overloads: Option<&[Overload]>,
+    template: &Type,
+    operands: &[Operand<'_>],
+) -> Result<Option<Type>, Unresolved>
+    requires { IfSome overloads (λ o. IsUnambiguous o.now) }
+    ensures { AnswersType (IsTemplateAnswer (option_map (λ o. o.now) overloads.entry) (view template.now) (operands_view operands.now)) result }
+{
+    if !is_template(template) {
+        return Err(Unresolved::NoOverload);
+    }
+    let all = operands_with(alloc, template, operands)?;
+    named_type(alloc, overloads, &all)
+}
+
+/// Whether the type may be a template: it is concrete, and no reference.
+fn is_template(ty: &Type) -> bool
+    ensures { result ≡ may_be_template (view ty.now) }
+{
+    match ty.form() {
+        Form::Reference(_, _, _) => false,
+        _ => !ty.is_abstract(),
+    }
+}
+
+/// The operands of a call, with its template in front.
+fn operands_with<'a>(
+    alloc: Global,
+    template: &'a Type,
+    operands: &[Operand<'a>],
+) -> Result<Vec<Operand<'a>>, AllocError>
+    requires { IsTrue (may_be_template (view template.now)) }
+    ensures { IfOk result (λ v. operands_view v.items
+        ≡ template_operand (view template.now) ∷ operands_view operands.now) }
+{
+    let mut all = Vec::with_capacity(alloc, 1)?;
+    all.push(Operand {
+        ty: template,
+        is_constant: true,
+    })?;
+    all.extend_from_slice(operands)?;
+    Ok(all)
+}
+
+/// The type of a call with these overloads.
 pub fn result_type(
     alloc: Global,
     overloads: &[Overload],
     operands: &[Operand<'_>],
-) -> Result<Option<Type>, AllocError>
+) -> Result<Option<Type>, Unresolved>
     requires { IsUnambiguous overloads.now }
-    ensures { IfOk result (λ r. IsStandardAnswer overloads.now (operands_view operands.now) (option_map view r)) }
+    ensures { AnswersType (IsStandardAnswer overloads.now (operands_view operands.now)) result }
 {
-    build(alloc, chosen_result(overloads, operands))
-}
-
-fn build(alloc: Global, chosen: Option<(Pattern, Instance)>) -> Result<Option<Type>, AllocError>
-    ensures { IfOk result (λ r. option_map view r ≡ option_map (λ c. type_in c.1 c.0) chosen) }
-{
-    match chosen {
-        Some((pattern, instance)) => Ok(Some(type_of(alloc, &instance, pattern)?)),
-        None => Ok(None),
+    match chosen(overloads, operands) {
+        Some((overload, instance)) => Ok(result_for(alloc, &instance, overload, operands)?),
+        None => Err(Unresolved::NoOverload),
     }
 }
 
-/// The result of the overload that is chosen, and what its letters stand for.
-fn chosen_result(overloads: &[Overload], operands: &[Operand<'_>]) -> Option<(Pattern, Instance)>
+/// The overload that is chosen, and what its letters stand for.
+fn chosen<'a>(
+    overloads: &'a [Overload],
+    operands: &[Operand<'_>],
+) -> Option<(&'a Overload, Instance)>
     requires { IsUnambiguous overloads.now }
     ensures { IsStandardAnswer overloads.now (operands_view operands.now)
-        (option_map (λ c. type_in c.1 c.0) result) }
+        (option_map (λ c. result_there c.1 c.0.now (operands_view operands.now)) result) }
 {
     match resolve(overloads, operands) {
-        Some(choice) => Some((result_of(&overloads[choice.index]), choice.instance)),
+        Some(choice) => Some((&overloads[choice.index], choice.instance)),
         None => None,
     }
 }

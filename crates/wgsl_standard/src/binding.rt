@@ -1,12 +1,15 @@
 // What operands require of the letters of an overload.
-ghost use Rattle.std.specs.Prelude.{◌≡◌, option_map};
-ghost use Rattle.wgsl_syntax.specs.declared.overload.Parameters.TheVariants.{Times};
+ghost use Rattle.std.specs.Prelude.{◌≡◌, ◌<◌, length, option_map};
+ghost use Rattle.wgsl_syntax.specs.declared.overload.Parameters.TheVariants.{Times, AndTimes};
 ghost use Rattle.wgsl_rules.specs.standard.Overloads.{in_order};
+ghost use Rattle.wgsl_core.specs.View.{view};
 ghost use Rattle.wgsl_standard.specs.Operands.{operand_view, operands_view};
-ghost use Rattle.wgsl_standard.specs.internal.Binding.{bind_component as component_bound, same_count as counted, bind_count as count_bound, same_width as width_bound, with_width, bind_shape as shape_bound, bind as bound, bind_all as all_bound, bind_same as same_bound, bind_first as first_bound, free};
+ghost use Rattle.wgsl_standard.specs.internal.Binding.{bind_component as component_bound, same_count as counted, bind_count as count_bound, same_width as width_bound, with_width, bind_shape as shape_bound, bind_letter as letter_bound, bind_if, bind_pattern as pattern_bound, bind as bound, bind_all as all_bound, bind_same as same_bound, bind_then_same as then_same_bound, bind_first as first_bound, free};
 
 use crate::letter::{converts, join_to, may_be};
-use crate::operand::{Operand, parts_of};
+use crate::operand::{Operand, loaded, parts_of};
+use crate::resource::{is_sampler, is_texture, letter_of};
+use wgsl_core::ty::Type;
 use wgsl_syntax::overload::{Component, Count, Dimensions, Parameters, Pattern, Shape};
 use wgsl_syntax::scalar::Scalar;
 
@@ -16,6 +19,8 @@ pub struct Binding {
     /// The letter stands for a scalar to which this one converts.
     pub t: Option<Scalar>,
     pub u: Option<Scalar>,
+    pub v: Option<Scalar>,
+    pub w: Option<Scalar>,
     /// It stands for exactly this.
     pub width: Option<Option<u8>>,
     pub n: Option<u8>,
@@ -33,7 +38,17 @@ pub fn bind_all(concrete: bool, parameters: &Parameters, operands: &[Operand]) -
         Parameters::Two(a, b) => bind_list(concrete, &[*a, *b], operands),
         Parameters::Three(a, b, c) => bind_list(concrete, &[*a, *b, *c], operands),
         Parameters::Four(a, b, c, d) => bind_list(concrete, &[*a, *b, *c, *d], operands),
+        Parameters::Five(a, b, c, d, e) => bind_list(concrete, &[*a, *b, *c, *d, *e], operands),
+        Parameters::Six(a, b, c, d, e, f) => {
+            bind_list(concrete, &[*a, *b, *c, *d, *e, *f], operands)
+        }
+        Parameters::Seven(a, b, c, d, e, f, g) => {
+            bind_list(concrete, &[*a, *b, *c, *d, *e, *f, *g], operands)
+        }
         Parameters::Times(count, pattern) => bind_times(concrete, *count, *pattern, operands),
+        Parameters::AndTimes(first, count, pattern) => {
+            bind_and_times(concrete, *first, *count, *pattern, operands)
+        }
     }
 }
 
@@ -54,16 +69,51 @@ fn bind_times(concrete: bool, count: u8, pattern: Pattern, operands: &[Operand])
     ensures { result ≡ all_bound concrete free (in_order (Times count pattern)) (operands_view operands.now) }
 {
     if operands.len() == count as usize {
-        bind_same(concrete, pattern, operands)
+        bind_same(concrete, FREE, pattern, operands)
     } else {
         None
     }
 }
 
-fn bind_same(concrete: bool, pattern: Pattern, operands: &[Operand]) -> Option<Binding>
-    ensures { result ≡ same_bound concrete free pattern (operands_view operands.now) }
+fn bind_and_times(
+    concrete: bool,
+    first: Pattern,
+    count: u8,
+    pattern: Pattern,
+    operands: &[Operand],
+) -> Option<Binding>
+    ensures { result ≡ all_bound concrete free (in_order (AndTimes first count pattern)) (operands_view operands.now) }
 {
-    let mut binding = FREE;
+    if operands.len() == count as usize + 1 {
+        bind_then_same(concrete, first, pattern, operands)
+    } else {
+        None
+    }
+}
+
+/// The first operand by one pattern, and the others by another.
+fn bind_then_same(
+    concrete: bool,
+    first: Pattern,
+    pattern: Pattern,
+    operands: &[Operand],
+) -> Option<Binding>
+    requires { 0 < length operands.now }
+    ensures { result ≡ then_same_bound concrete free first pattern (operands_view operands.now) }
+{
+    let binding = bind(concrete, FREE, first, &operands[0])?;
+    bind_same(concrete, binding, pattern, &operands[1..])
+}
+
+fn bind_same(
+    concrete: bool,
+    start: Binding,
+    pattern: Pattern,
+    operands: &[Operand],
+) -> Option<Binding>
+    ensures { result ≡ same_bound concrete start pattern (operands_view operands.now) }
+{
+    let mut binding = start;
     for operand in operands {
         binding = bind(concrete, binding, pattern, operand)?;
     }
@@ -79,7 +129,17 @@ pub fn bind_first(concrete: bool, parameters: &Parameters, operands: &[Operand])
         Parameters::Two(a, b) => first_list(concrete, &[*a, *b], operands),
         Parameters::Three(a, b, c) => first_list(concrete, &[*a, *b, *c], operands),
         Parameters::Four(a, b, c, d) => first_list(concrete, &[*a, *b, *c, *d], operands),
+        Parameters::Five(a, b, c, d, e) => first_list(concrete, &[*a, *b, *c, *d, *e], operands),
+        Parameters::Six(a, b, c, d, e, f) => {
+            first_list(concrete, &[*a, *b, *c, *d, *e, *f], operands)
+        }
+        Parameters::Seven(a, b, c, d, e, f, g) => {
+            first_list(concrete, &[*a, *b, *c, *d, *e, *f, *g], operands)
+        }
         Parameters::Times(count, pattern) => first_times(concrete, *count, *pattern, operands),
+        Parameters::AndTimes(first, count, pattern) => {
+            first_and_times(concrete, *first, *count, *pattern, operands)
+        }
     }
 }
 
@@ -100,7 +160,26 @@ fn first_times(concrete: bool, count: u8, pattern: Pattern, operands: &[Operand]
     ensures { result ≡ first_bound concrete free (in_order (Times count pattern)) (operands_view operands.now) }
 {
     if operands.len() <= count as usize {
-        bind_same(concrete, pattern, operands)
+        bind_same(concrete, FREE, pattern, operands)
+    } else {
+        None
+    }
+}
+
+fn first_and_times(
+    concrete: bool,
+    first: Pattern,
+    count: u8,
+    pattern: Pattern,
+    operands: &[Operand],
+) -> Option<Binding>
+    ensures { result ≡ first_bound concrete free (in_order (AndTimes first count pattern)) (operands_view operands.now) }
+{
+    if operands.is_empty() {
+        return Some(FREE);
+    }
+    if operands.len() <= count as usize + 1 {
+        bind_then_same(concrete, first, pattern, operands)
     } else {
         None
     }
@@ -110,6 +189,8 @@ fn first_times(concrete: bool, count: u8, pattern: Pattern, operands: &[Operand]
 const FREE: Binding = Binding {
     t: None,
     u: None,
+    v: None,
+    w: None,
     width: None,
     n: None,
     m: None,
@@ -119,9 +200,38 @@ const FREE: Binding = Binding {
 fn bind(concrete: bool, binding: Binding, pattern: Pattern, operand: &Operand) -> Option<Binding>
     ensures { result ≡ bound concrete binding pattern (operand_view operand.now) }
 {
-    let (dimensions, scalar) = parts_of(operand.ty)?;
-    let binding = bind_shape(binding, pattern.shape, dimensions)?;
-    bind_component(concrete, binding, pattern.component, scalar)
+    bind_pattern(concrete, binding, pattern, loaded(operand.ty))
+}
+
+fn bind_pattern(concrete: bool, binding: Binding, pattern: Pattern, ty: &Type) -> Option<Binding>
+    ensures { result ≡ pattern_bound concrete binding pattern (view ty.now) }
+{
+    match pattern {
+        Pattern::Value(shape, component) => {
+            let (dimensions, scalar) = parts_of(ty)?;
+            let binding = bind_shape(binding, shape, dimensions)?;
+            bind_component(concrete, binding, component, scalar)
+        }
+        Pattern::Sampler(sampler) => keep_if(is_sampler(ty, sampler), binding),
+        Pattern::Texture(texture) => keep_if(is_texture(ty, texture), binding),
+        Pattern::Resource(resource) => bind_letter(concrete, binding, letter_of(resource, ty)),
+    }
+}
+
+fn keep_if(fits: bool, binding: Binding) -> Option<Binding>
+    ensures { result ≡ bind_if fits binding }
+{
+    if fits { Some(binding) } else { None }
+}
+
+fn bind_letter(concrete: bool, binding: Binding, letter: Option<Option<Scalar>>) -> Option<Binding>
+    ensures { result ≡ letter_bound concrete binding letter }
+{
+    match letter {
+        None => None,
+        Some(None) => Some(binding),
+        Some(Some(scalar)) => bind_component(concrete, binding, Component::T, scalar),
+    }
 }
 
 fn bind_component(
@@ -140,6 +250,14 @@ fn bind_component(
         Component::U => {
             let u = Some(join_to(binding.u, scalar)?);
             Some(Binding { u, ..binding })
+        }
+        Component::V => {
+            let v = Some(join_to(binding.v, scalar)?);
+            Some(Binding { v, ..binding })
+        }
+        Component::W => {
+            let w = Some(join_to(binding.w, scalar)?);
+            Some(Binding { w, ..binding })
         }
         Component::The(given) => {
             if converts(scalar, given) && may_be(concrete, given) {

@@ -1,25 +1,144 @@
 // The types of parameters and results, for what the letters stand for.
-ghost use Rattle.std.specs.Prelude.{◌≡◌, IfOk};
+ghost use Rattle.std.specs.Prelude.{◌≡◌, IfOk, option_map};
 ghost use Rattle.wgsl_core.specs.View.{view};
-ghost use Rattle.wgsl_rules.specs.standard.Overloads.{type_with, type_in, count_in as count_there, dimensions_in as dimensions_there, component_in as component_there};
+ghost use Rattle.wgsl_rules.specs.standard.Resources.{precision_of as precision_there};
+ghost use Rattle.wgsl_rules.specs.standard.Overloads.{type_with, type_in as type_there, pointee_of, in_order, count_in as count_there, dimensions_in as dimensions_there, component_in as component_there};
+ghost use Rattle.wgsl_rules.specs.standard.Choice.{parameter_for as parameter_there, parameters_for, result_for as result_there};
+ghost use Rattle.wgsl_standard.specs.Operands.{operand_view, operands_view};
+ghost use Rattle.wgsl_standard.specs.internal.Binding.{first_pattern as first_there};
 
+use crate::operand::{Operand, loaded};
+use crate::overload::{parameters_of, result_of};
 use std::alloc::{AllocError, Global};
 use wgsl_core::ty::Type;
-use wgsl_syntax::overload::{Component, Count, Dimensions, Instance, Pattern, Shape};
+use wgsl_core::ty::result_type::{exchange_result, result_struct};
+use wgsl_syntax::overload::{
+    Component, Count, Dimensions, Instance, Overload, Parameters, Pattern, Returns, Shape,
+};
+use wgsl_syntax::result_struct::{ResultPrecision, ResultStruct};
 use wgsl_syntax::scalar::Scalar;
 
-/// The type of a parameter or a result, for what the letters stand for.
-pub fn type_of(alloc: Global, instance: &Instance, pattern: Pattern) -> Result<Type, AllocError>
-    ensures { IfOk result (λ t. view t ≡ type_in instance.now pattern) }
+/// The result of a call that an overload takes, for what the letters stand for; None if there is no value.
+pub fn result_for(
+    alloc: Global,
+    instance: &Instance,
+    overload: &Overload,
+    operands: &[Operand<'_>],
+) -> Result<Option<Type>, AllocError>
+    ensures { IfOk result (λ r. option_map view r ≡ result_there instance.now overload.now (operands_view operands.now)) }
 {
-    build(
-        alloc,
-        dimensions_in(instance, pattern.shape),
-        component_in(instance, pattern.component),
-    )
+    match result_of(overload) {
+        Returns::NoValue => Ok(None),
+        Returns::Gives(pattern) => type_in(alloc, instance, pattern),
+        Returns::GivesStruct(function, shape) => {
+            let precision = precision_of(instance.t);
+            let of = ResultStruct {
+                function,
+                shape,
+                precision,
+            };
+            Ok(Some(result_struct(alloc, of)?))
+        }
+        Returns::GivesExchange => Ok(Some(exchange_result(alloc, &Type::from(instance.t))?)),
+        Returns::GivesPointee => pointee(alloc, instance, parameters_of(overload), operands),
+    }
 }
 
-fn build(alloc: Global, dimensions: Dimensions, scalar: Scalar) -> Result<Type, AllocError>
+fn precision_of(scalar: Scalar) -> ResultPrecision
+    ensures { result ≡ precision_there scalar }
+{
+    match scalar {
+        Scalar::F32 => ResultPrecision::F32,
+        Scalar::F16 => ResultPrecision::F16,
+        _ => ResultPrecision::Abstract,
+    }
+}
+
+/// The type to which the first parameter points.
+fn pointee(
+    alloc: Global,
+    instance: &Instance,
+    parameters: &Parameters,
+    operands: &[Operand<'_>],
+) -> Result<Option<Type>, AllocError>
+    ensures { IfOk result (λ r. option_map view r
+        ≡ pointee_of (parameters_for instance.now (in_order parameters.now) (operands_view operands.now))) }
+{
+    match first_pattern(parameters) {
+        Some(pattern) => match operands.first() {
+            Some(operand) => {
+                let parameter = parameter_for(alloc, instance, pattern, operand)?;
+                let inner = parameter.inner().clone(alloc)?;
+                Ok(Some(inner))
+            }
+            None => Ok(None),
+        },
+        None => Ok(None),
+    }
+}
+
+fn first_pattern(parameters: &Parameters) -> Option<Pattern>
+    ensures { result ≡ first_there (in_order parameters.now) }
+{
+    match parameters {
+        Parameters::Nothing => None,
+        Parameters::One(a) => Some(*a),
+        Parameters::Two(a, _) => Some(*a),
+        Parameters::Three(a, _, _) => Some(*a),
+        Parameters::Four(a, _, _, _) => Some(*a),
+        Parameters::Five(a, _, _, _, _) => Some(*a),
+        Parameters::Six(a, _, _, _, _, _) => Some(*a),
+        Parameters::Seven(a, _, _, _, _, _, _) => Some(*a),
+        Parameters::Times(count, a) => { if *count == 0 { None } else { Some(*a) } }
+        Parameters::AndTimes(a, _, _) => Some(*a),
+    }
+}
+
+/// The type of a parameter for its operand.
+pub fn parameter_for(
+    alloc: Global,
+    instance: &Instance,
+    pattern: Pattern,
+    operand: &Operand<'_>,
+) -> Result<Type, AllocError>
+    ensures { IfOk result (λ t. view t ≡ parameter_there instance.now pattern (operand_view operand.now).of_type) }
+{
+    match pattern {
+        Pattern::Value(shape, component) => value_type(
+            alloc,
+            dimensions_in(instance, shape),
+            component_in(instance, component),
+        ),
+        Pattern::Sampler(sampler) => Ok(Type::Sampler(sampler)),
+        Pattern::Texture(texture) => Ok(Type::Texture(texture)),
+        Pattern::Resource(_) => loaded(operand.ty).clone(alloc),
+    }
+}
+
+/// The type of a parameter or a result, if the letters say what it is.
+pub fn type_in(
+    alloc: Global,
+    instance: &Instance,
+    pattern: Pattern,
+) -> Result<Option<Type>, AllocError>
+    ensures { IfOk result (λ r. option_map view r ≡ type_there instance.now pattern) }
+{
+    match pattern {
+        Pattern::Value(shape, component) => {
+            let ty = value_type(
+                alloc,
+                dimensions_in(instance, shape),
+                component_in(instance, component),
+            )?;
+            Ok(Some(ty))
+        }
+        Pattern::Sampler(sampler) => Ok(Some(Type::Sampler(sampler))),
+        Pattern::Texture(texture) => Ok(Some(Type::Texture(texture))),
+        Pattern::Resource(_) => Ok(None),
+    }
+}
+
+fn value_type(alloc: Global, dimensions: Dimensions, scalar: Scalar) -> Result<Type, AllocError>
     ensures { IfOk result (λ t. view t ≡ type_with dimensions scalar) }
 {
     let element = Type::from(scalar);
@@ -61,6 +180,8 @@ fn component_in(instance: &Instance, component: Component) -> Scalar
     match component {
         Component::T => instance.t,
         Component::U => instance.u,
+        Component::V => instance.v,
+        Component::W => instance.w,
         Component::The(scalar) => scalar,
     }
 }

@@ -138,5 +138,7 @@ fn is_of_kind(kind: Kind, scalar: Scalar) -> bool
             Scalar::AbstractFloat | Scalar::F32 | Scalar::F16 | Scalar::F64
         ),
         Kind::ConcreteFloat => matches!(scalar, Scalar::F32 | Scalar::F16 | Scalar::F64),
+        Kind::Number32 => matches!(scalar, Scalar::I32 | Scalar::U32 | Scalar::F32),
+        Kind::ShortFloat => { matches!(scalar, Scalar::AbstractFloat | Scalar::F32 | Scalar::F16) }
     }
 }

@@ -1,15 +1,16 @@
 // The overloads of a name.
 ghost use Rattle.std.specs.Prelude.{◌≡◌, map, option_map, IfSome};
 ghost use Rattle.wgsl_rules.specs.calls.Names.{IsRising};
-ghost use Rattle.wgsl_rules.specs.standard.Names.{function_table, constructor_table, names_of, overloads_named};
+ghost use Rattle.wgsl_rules.specs.standard.Names.{function_table, constructor_table, template_function_table, template_constructor_table, names_of, overloads_named};
 ghost use Rattle.wgsl_rules.specs.standard.Tables.{IsUnambiguous};
-ghost use Rattle.wgsl_standard.specs.internal.Sets.{function_row, constructor_row};
+ghost use Rattle.wgsl_standard.specs.internal.Sets.{function_row, constructor_row, template_row};
 
 use crate::constructors::{ConstructorSet, constructor_overloads};
 use crate::functions::{FunctionSet, function_overloads};
+use crate::templates::{BITCAST, TemplateSet, template_overloads};
 use wgsl_syntax::overload::Overload;
 
-/// The overloads of a built-in function of values, if the name is one.
+/// The overloads of a built-in function, if the name is one.
 #[tactic(auto, using(crate::proofs::NamedTables::function_unambiguous))]
 pub fn function_named(name: &str) -> Option<&'static [Overload]>
     ensures row { option_map (λ o. o.now) result ≡ overloads_named name.now function_table }
@@ -52,7 +53,46 @@ fn find_constructor(
     None
 }
 
-/// The built-in functions of values, sorted by the bytes of their names.
+/// The overloads of a built-in function with a template, if the name is one. The template is the first parameter.
+#[tactic(auto, using(crate::proofs::NamedTables::template_function_unambiguous))]
+pub fn template_function_named(name: &str) -> Option<&'static [Overload]>
+    ensures row { option_map (λ o. o.now) result ≡ overloads_named name.now template_function_table }
+    ensures unambiguous { IfSome result (λ o. IsUnambiguous o.now) }
+{
+    template_function(name)
+}
+
+fn template_function(name: &str) -> Option<&'static [Overload]>
+    ensures { option_map (λ o. o.now) result ≡ overloads_named name.now template_function_table }
+{
+    if name == "bitcast" {
+        Some(&BITCAST)
+    } else {
+        None
+    }
+}
+
+/// The overloads of a constructor with a template, if the name is one. The template is the first parameter.
+#[tactic(auto, using(crate::proofs::NamedTables::template_constructor_unambiguous))]
+pub fn template_constructor_named(name: &str) -> Option<&'static [Overload]>
+    ensures row { option_map (λ o. o.now) result ≡ overloads_named name.now template_constructor_table }
+    ensures unambiguous { IfSome result (λ o. IsUnambiguous o.now) }
+{
+    find_template(name, templates())
+}
+
+fn find_template(name: &str, templates: &[(&str, TemplateSet)]) -> Option<&'static [Overload]>
+    ensures { option_map (λ o. o.now) result ≡ overloads_named name.now (map template_row templates.now) }
+{
+    for (listed, set) in templates {
+        if name == *listed {
+            return Some(template_overloads(*set));
+        }
+    }
+    None
+}
+
+/// The built-in functions, sorted by the bytes of their names.
 pub fn functions() -> &'static [(&'static str, FunctionSet)]
     ensures { map function_row result.now ≡ function_table }
 {
@@ -66,23 +106,43 @@ pub fn constructors() -> &'static [(&'static str, ConstructorSet)]
     &CONSTRUCTORS
 }
 
-/// The names of the functions, and those of the constructors, are sorted by their bytes, and distinct.
+/// The constructors with a template, sorted by the bytes of their names.
+pub fn templates() -> &'static [(&'static str, TemplateSet)]
+    ensures { map template_row result.now ≡ template_constructor_table }
+{
+    &TEMPLATES
+}
+
+/// The names of each table are sorted by their bytes, and distinct.
 pub fn names_sorted()
     ensures functions { IsRising (names_of function_table) }
     ensures constructors { IsRising (names_of constructor_table) }
+    ensures templates { IsRising (names_of template_constructor_table) }
 {}
 
-static FUNCTIONS: [(&str, FunctionSet); 112] = [
+static FUNCTIONS: [(&str, FunctionSet); 145] = [
     ("abs", FunctionSet::NumberFunction),
     ("acos", FunctionSet::FloatFunction),
     ("acosh", FunctionSet::FloatFunction),
     ("all", FunctionSet::BoolTest),
     ("any", FunctionSet::BoolTest),
+    ("arrayLength", FunctionSet::ArrayLength),
     ("asin", FunctionSet::FloatFunction),
     ("asinh", FunctionSet::FloatFunction),
     ("atan", FunctionSet::FloatFunction),
     ("atan2", FunctionSet::FloatPair),
     ("atanh", FunctionSet::FloatFunction),
+    ("atomicAdd", FunctionSet::AtomicUpdate),
+    ("atomicAnd", FunctionSet::AtomicUpdate),
+    ("atomicCompareExchangeWeak", FunctionSet::AtomicExchange),
+    ("atomicExchange", FunctionSet::AtomicUpdate),
+    ("atomicLoad", FunctionSet::AtomicLoad),
+    ("atomicMax", FunctionSet::AtomicUpdate),
+    ("atomicMin", FunctionSet::AtomicUpdate),
+    ("atomicOr", FunctionSet::AtomicUpdate),
+    ("atomicStore", FunctionSet::AtomicStore),
+    ("atomicSub", FunctionSet::AtomicUpdate),
+    ("atomicXor", FunctionSet::AtomicUpdate),
     ("ceil", FunctionSet::FloatFunction),
     ("clamp", FunctionSet::NumberTriple),
     ("cos", FunctionSet::FloatFunction),
@@ -112,6 +172,7 @@ static FUNCTIONS: [(&str, FunctionSet); 112] = [
     ("floor", FunctionSet::FloatFunction),
     ("fma", FunctionSet::FloatTriple),
     ("fract", FunctionSet::FloatFunction),
+    ("frexp", FunctionSet::FrexpParts),
     ("fwidth", FunctionSet::F32Function),
     ("fwidthCoarse", FunctionSet::F32Function),
     ("fwidthFine", FunctionSet::F32Function),
@@ -124,6 +185,7 @@ static FUNCTIONS: [(&str, FunctionSet); 112] = [
     ("max", FunctionSet::NumberPair),
     ("min", FunctionSet::NumberPair),
     ("mix", FunctionSet::Blend),
+    ("modf", FunctionSet::ModfParts),
     ("normalize", FunctionSet::VectorFunction),
     ("pack2x16float", FunctionSet::PackTwo),
     ("pack2x16snorm", FunctionSet::PackTwo),
@@ -153,6 +215,7 @@ static FUNCTIONS: [(&str, FunctionSet); 112] = [
     ("smoothstep", FunctionSet::FloatTriple),
     ("sqrt", FunctionSet::FloatFunction),
     ("step", FunctionSet::FloatPair),
+    ("storageBarrier", FunctionSet::Barrier),
     ("subgroupAdd", FunctionSet::ConcreteFunction),
     ("subgroupAll", FunctionSet::Vote),
     ("subgroupAnd", FunctionSet::BitFunction),
@@ -176,6 +239,28 @@ static FUNCTIONS: [(&str, FunctionSet); 112] = [
     ("subgroupXor", FunctionSet::BitFunction),
     ("tan", FunctionSet::FloatFunction),
     ("tanh", FunctionSet::FloatFunction),
+    ("textureBarrier", FunctionSet::Barrier),
+    ("textureDimensions", FunctionSet::TextureDimensions),
+    ("textureGather", FunctionSet::TextureGather),
+    ("textureGatherCompare", FunctionSet::TextureGatherCompare),
+    ("textureLoad", FunctionSet::TextureLoad),
+    ("textureNumLayers", FunctionSet::TextureLayers),
+    ("textureNumLevels", FunctionSet::TextureLevels),
+    ("textureNumSamples", FunctionSet::TextureSamples),
+    ("textureSample", FunctionSet::TextureSample),
+    (
+        "textureSampleBaseClampToEdge",
+        FunctionSet::TextureSampleBase,
+    ),
+    ("textureSampleBias", FunctionSet::TextureSampleBias),
+    ("textureSampleCompare", FunctionSet::TextureSampleCompare),
+    (
+        "textureSampleCompareLevel",
+        FunctionSet::TextureSampleCompare,
+    ),
+    ("textureSampleGrad", FunctionSet::TextureSampleGrad),
+    ("textureSampleLevel", FunctionSet::TextureSampleLevel),
+    ("textureStore", FunctionSet::TextureStore),
     ("transpose", FunctionSet::Transposition),
     ("trunc", FunctionSet::FloatFunction),
     ("unpack2x16float", FunctionSet::UnpackTwo),
@@ -185,13 +270,17 @@ static FUNCTIONS: [(&str, FunctionSet); 112] = [
     ("unpack4x8unorm", FunctionSet::UnpackFour),
     ("unpack4xI8", FunctionSet::UnpackFourSigned),
     ("unpack4xU8", FunctionSet::UnpackFourUnsigned),
+    ("workgroupBarrier", FunctionSet::Barrier),
+    ("workgroupUniformLoad", FunctionSet::UniformLoad),
 ];
 
-static CONSTRUCTORS: [(&str, ConstructorSet); 17] = [
+static CONSTRUCTORS: [(&str, ConstructorSet); 20] = [
     ("bool", ConstructorSet::BoolConversion),
     ("f16", ConstructorSet::F16Conversion),
     ("f32", ConstructorSet::F32Conversion),
+    ("f64", ConstructorSet::F64Conversion),
     ("i32", ConstructorSet::I32Conversion),
+    ("i64", ConstructorSet::I64Conversion),
     ("mat2x2", ConstructorSet::Mat2x2Constructor),
     ("mat2x3", ConstructorSet::Mat2x3Constructor),
     ("mat2x4", ConstructorSet::Mat2x4Constructor),
@@ -202,7 +291,23 @@ static CONSTRUCTORS: [(&str, ConstructorSet); 17] = [
     ("mat4x3", ConstructorSet::Mat4x3Constructor),
     ("mat4x4", ConstructorSet::Mat4x4Constructor),
     ("u32", ConstructorSet::U32Conversion),
+    ("u64", ConstructorSet::U64Conversion),
     ("vec2", ConstructorSet::Vec2Constructor),
     ("vec3", ConstructorSet::Vec3Constructor),
     ("vec4", ConstructorSet::Vec4Constructor),
+];
+
+static TEMPLATES: [(&str, TemplateSet); 12] = [
+    ("mat2x2", TemplateSet::Mat2x2Of),
+    ("mat2x3", TemplateSet::Mat2x3Of),
+    ("mat2x4", TemplateSet::Mat2x4Of),
+    ("mat3x2", TemplateSet::Mat3x2Of),
+    ("mat3x3", TemplateSet::Mat3x3Of),
+    ("mat3x4", TemplateSet::Mat3x4Of),
+    ("mat4x2", TemplateSet::Mat4x2Of),
+    ("mat4x3", TemplateSet::Mat4x3Of),
+    ("mat4x4", TemplateSet::Mat4x4Of),
+    ("vec2", TemplateSet::Vec2Of),
+    ("vec3", TemplateSet::Vec3Of),
+    ("vec4", TemplateSet::Vec4Of),
 ];

@@ -20,18 +20,19 @@ pub struct Operand<'a> {
     pub is_constant: bool,
 }
 
-/// The dimensions and the components of an operand that is a scalar, or a vector or a matrix of scalars, once loaded.
-pub fn parts_of(ty: &Type) -> Option<(Dimensions, Scalar)>
-    ensures { result ≡ parts_there (value_of (view ty.now)) }
+/// The type of an operand, once it is loaded.
+pub fn loaded(ty: &Type) -> &Type
+    ensures { view result.now ≡ value_of (view ty.now) }
 {
     match ty.form() {
-        Form::Reference(_, inner, AccessMode::Read) => parts_of_value(inner),
-        Form::Reference(_, inner, AccessMode::ReadWrite) => parts_of_value(inner),
-        _ => parts_of_value(ty),
+        Form::Reference(_, inner, AccessMode::Read) => inner,
+        Form::Reference(_, inner, AccessMode::ReadWrite) => inner,
+        _ => ty,
     }
 }
 
-fn parts_of_value(ty: &Type) -> Option<(Dimensions, Scalar)>
+/// The dimensions and the components of a scalar, or of a vector or a matrix of scalars.
+pub fn parts_of(ty: &Type) -> Option<(Dimensions, Scalar)>
     ensures { result ≡ parts_there (view ty.now) }
 {
     match ty.form() {

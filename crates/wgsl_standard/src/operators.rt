@@ -11,6 +11,7 @@ use wgsl_syntax::overload::Kind::{AnyScalar, Float, Integer, Number, SignedNumbe
 use wgsl_syntax::overload::Overload;
 use wgsl_syntax::overload::Overload::{Plain, WithT};
 use wgsl_syntax::overload::Parameters::{One, Two};
+use wgsl_syntax::overload::Returns::Gives;
 
 /// The overloads of a binary operator.
 #[tactic(auto, using(crate::proofs::OperatorTables::binary_unambiguous))]
@@ -68,46 +69,46 @@ fn unary_row(operator: UnaryOperator) -> &'static [Overload]
 }
 
 static SUMS: [Overload; 4] = [
-    WithT(Two(VALUE, VALUE), VALUE, Number),
-    WithT(Two(SCALAR, VEC_N), VEC_N, Number),
-    WithT(Two(VEC_N, SCALAR), VEC_N, Number),
-    WithT(Two(MAT_NM, MAT_NM), MAT_NM, Float),
+    WithT(Two(VALUE, VALUE), Gives(VALUE), Number),
+    WithT(Two(SCALAR, VEC_N), Gives(VEC_N), Number),
+    WithT(Two(VEC_N, SCALAR), Gives(VEC_N), Number),
+    WithT(Two(MAT_NM, MAT_NM), Gives(MAT_NM), Float),
 ];
 
 static PRODUCTS: [Overload; 8] = [
-    WithT(Two(VALUE, VALUE), VALUE, Number),
-    WithT(Two(SCALAR, VEC_N), VEC_N, Number),
-    WithT(Two(VEC_N, SCALAR), VEC_N, Number),
-    WithT(Two(SCALAR, MAT_NM), MAT_NM, Float),
-    WithT(Two(MAT_NM, SCALAR), MAT_NM, Float),
-    WithT(Two(VEC_M, MAT_NM), VEC_N, Float),
-    WithT(Two(MAT_NM, VEC_N), VEC_M, Float),
-    WithT(Two(MAT_KM, MAT_NK), MAT_NM, Float),
+    WithT(Two(VALUE, VALUE), Gives(VALUE), Number),
+    WithT(Two(SCALAR, VEC_N), Gives(VEC_N), Number),
+    WithT(Two(VEC_N, SCALAR), Gives(VEC_N), Number),
+    WithT(Two(SCALAR, MAT_NM), Gives(MAT_NM), Float),
+    WithT(Two(MAT_NM, SCALAR), Gives(MAT_NM), Float),
+    WithT(Two(VEC_M, MAT_NM), Gives(VEC_N), Float),
+    WithT(Two(MAT_NM, VEC_N), Gives(VEC_M), Float),
+    WithT(Two(MAT_KM, MAT_NK), Gives(MAT_NM), Float),
 ];
 
 static QUOTIENTS: [Overload; 3] = [
-    WithT(Two(VALUE, VALUE), VALUE, Number),
-    WithT(Two(SCALAR, VEC_N), VEC_N, Number),
-    WithT(Two(VEC_N, SCALAR), VEC_N, Number),
+    WithT(Two(VALUE, VALUE), Gives(VALUE), Number),
+    WithT(Two(SCALAR, VEC_N), Gives(VEC_N), Number),
+    WithT(Two(VEC_N, SCALAR), Gives(VEC_N), Number),
 ];
 
-static EQUALITIES: [Overload; 1] = [WithT(Two(VALUE, VALUE), VALUE_BOOL, AnyScalar)];
+static EQUALITIES: [Overload; 1] = [WithT(Two(VALUE, VALUE), Gives(VALUE_BOOL), AnyScalar)];
 
-static COMPARISONS: [Overload; 1] = [WithT(Two(VALUE, VALUE), VALUE_BOOL, Number)];
+static COMPARISONS: [Overload; 1] = [WithT(Two(VALUE, VALUE), Gives(VALUE_BOOL), Number)];
 
-static SHORT_CIRCUITS: [Overload; 1] = [Plain(Two(JUST_BOOL, JUST_BOOL), JUST_BOOL)];
+static SHORT_CIRCUITS: [Overload; 1] = [Plain(Two(JUST_BOOL, JUST_BOOL), Gives(JUST_BOOL))];
 
 static BITS: [Overload; 2] = [
-    WithT(Two(VALUE, VALUE), VALUE, Integer),
-    Plain(Two(VALUE_BOOL, VALUE_BOOL), VALUE_BOOL),
+    WithT(Two(VALUE, VALUE), Gives(VALUE), Integer),
+    Plain(Two(VALUE_BOOL, VALUE_BOOL), Gives(VALUE_BOOL)),
 ];
 
-static EXCLUSIVE_BITS: [Overload; 1] = [WithT(Two(VALUE, VALUE), VALUE, Integer)];
+static EXCLUSIVE_BITS: [Overload; 1] = [WithT(Two(VALUE, VALUE), Gives(VALUE), Integer)];
 
-static SHIFTS: [Overload; 1] = [WithT(Two(VALUE, VALUE_U32), VALUE, Integer)];
+static SHIFTS: [Overload; 1] = [WithT(Two(VALUE, VALUE_U32), Gives(VALUE), Integer)];
 
-static LOGICAL_NEGATIONS: [Overload; 1] = [Plain(One(VALUE_BOOL), VALUE_BOOL)];
+static LOGICAL_NEGATIONS: [Overload; 1] = [Plain(One(VALUE_BOOL), Gives(VALUE_BOOL))];
 
-static NEGATIONS: [Overload; 1] = [WithT(One(VALUE), VALUE, SignedNumber)];
+static NEGATIONS: [Overload; 1] = [WithT(One(VALUE), Gives(VALUE), SignedNumber)];
 
-static COMPLEMENTS: [Overload; 1] = [WithT(One(VALUE), VALUE, Integer)];
+static COMPLEMENTS: [Overload; 1] = [WithT(One(VALUE), Gives(VALUE), Integer)];

@@ -9,7 +9,7 @@ ghost use Rattle.wgsl_standard.specs.internal.Choices.{choice_view};
 use crate::binding::{Binding, bind_all};
 use crate::letter::pick;
 use crate::operand::Operand;
-use crate::overload::{kind_of_t, kind_of_u, parameters_of};
+use crate::overload::{kind_of_t, kind_of_u, kind_of_v, kind_of_w, parameters_of};
 use wgsl_syntax::overload::{Instance, Overload};
 use wgsl_syntax::scalar::Scalar;
 
@@ -66,15 +66,19 @@ pub fn settle(concrete: bool, overload: &Overload, binding: Binding) -> Option<I
 {
     let t = pick(concrete, kind_of_t(overload), binding.t)?;
     let u = pick(concrete, kind_of_u(overload), binding.u)?;
-    Some(instance_at(binding, t, u))
+    let v = pick(concrete, kind_of_v(overload), binding.v)?;
+    let w = pick(concrete, kind_of_w(overload), binding.w)?;
+    Some(instance_at(binding, t, u, v, w))
 }
 
-fn instance_at(binding: Binding, t: Scalar, u: Scalar) -> Instance
-    ensures { result ≡ instance_there binding t u }
+fn instance_at(binding: Binding, t: Scalar, u: Scalar, v: Scalar, w: Scalar) -> Instance
+    ensures { result ≡ instance_there binding t u v w }
 {
     Instance {
         t,
         u,
+        v,
+        w,
         width: binding.width.unwrap_or(None),
         n: binding.n.unwrap_or(0),
         m: binding.m.unwrap_or(0),

@@ -1,15 +1,18 @@
 // What a call resolves to: an overload, the types to which its operands convert, and its result.
-ghost use Rattle.std.specs.Prelude.{◌≡◌, IfOk, map, replicate, option_map};
+ghost use Rattle.std.specs.Prelude.{◌≡◌, IfOk, map};
 ghost use Rattle.wgsl_core.specs.View.{view};
-ghost use Rattle.wgsl_rules.specs.standard.Overloads.{type_in, in_order};
+ghost use Rattle.wgsl_rules.specs.standard.Overloads.{in_order, patterns_of};
+ghost use Rattle.wgsl_rules.specs.standard.Choice.{parameters_for, result_for as result_there};
 ghost use Rattle.wgsl_rules.specs.standard.Tables.{IsUnambiguous};
 ghost use Rattle.wgsl_rules.specs.standard.Answers.{IsResolution};
+ghost use Rattle.wgsl_standard.specs.Answered.{Answers};
 ghost use Rattle.wgsl_standard.specs.Operands.{operands_view};
-ghost use Rattle.wgsl_standard.specs.Resolved.{resolved_view, resolved_as};
+ghost use Rattle.wgsl_standard.specs.Resolved.{resolved_view};
 
-use crate::instance::type_of;
+use crate::answer::Unresolved;
+use crate::instance::{parameter_for, result_for};
 use crate::operand::Operand;
-use crate::overload::{parameters_of, result_of};
+use crate::overload::parameters_of;
 use crate::resolve::resolve;
 use std::alloc::{AllocError, Global};
 use wgsl_core::ty::Type;
@@ -18,29 +21,29 @@ use wgsl_syntax::overload::{Instance, Overload, Parameters, Pattern};
 /// An overload that is chosen, with the types that a compiler converts the operands to.
 #[derive(Drop)]
 pub struct ResolvedCall {
-    /// The index of the overload in its table.
+    /// The index of the overload among those of its name.
     pub index: usize,
     pub parameters: Vec<Type>,
-    pub result: Type,
+    /// None if the call has no value.
+    pub result: Option<Type>,
 }
 
-/// The overload that is preferred for the operands, with its types; None if no candidate takes the operands.
+/// The overload that is preferred for the operands, with its types.
 pub fn resolve_call(
     alloc: Global,
     overloads: &[Overload],
     operands: &[Operand<'_>],
-) -> Result<Option<ResolvedCall>, AllocError>
+) -> Result<ResolvedCall, Unresolved>
     requires { IsUnambiguous overloads.now }
-    ensures { IfOk result (λ r. IsResolution overloads.now (operands_view operands.now)
-        (option_map resolved_view r)) }
+    ensures { Answers resolved_view (IsResolution overloads.now (operands_view operands.now)) result }
 {
     match resolve(overloads, operands) {
         Some(choice) => {
             let overload = &overloads[choice.index];
-            let call = resolved(alloc, choice.index, overload, &choice.instance)?;
-            Ok(Some(call))
+            let call = resolved(alloc, choice.index, overload, &choice.instance, operands)?;
+            Ok(call)
         }
-        None => Ok(None),
+        None => Err(Unresolved::NoOverload),
     }
 }
 
@@ -49,11 +52,13 @@ fn resolved(
     index: usize,
     overload: &Overload,
     instance: &Instance,
+    operands: &[Operand<'_>],
 ) -> Result<ResolvedCall, AllocError>
-    ensures { IfOk result (λ r. resolved_view r ≡ resolved_as index overload.now instance.now) }
+    ensures { IfOk result (λ r. resolved_view r
+        ≡ (index, parameters_for instance.now (patterns_of overload.now) (operands_view operands.now), result_there instance.now overload.now (operands_view operands.now))) }
 {
-    let parameters = parameter_types(alloc, instance, parameters_of(overload))?;
-    let result = type_of(alloc, instance, result_of(overload))?;
+    let parameters = parameter_types(alloc, instance, parameters_of(overload), operands)?;
+    let result = result_for(alloc, instance, overload, operands)?;
     Ok(ResolvedCall {
         index,
         parameters,
@@ -65,44 +70,51 @@ fn parameter_types(
     alloc: Global,
     instance: &Instance,
     parameters: &Parameters,
+    operands: &[Operand<'_>],
 ) -> Result<Vec<Type>, AllocError>
-    ensures { IfOk result (λ v. map view v.items ≡ map (type_in instance.now) (in_order parameters.now)) }
+    ensures { IfOk result (λ v. map view v.items ≡ parameters_for instance.now (in_order parameters.now) (operands_view operands.now)) }
 {
     match parameters {
-        Parameters::Nothing => types_of(alloc, instance, &[]),
-        Parameters::One(a) => types_of(alloc, instance, &[*a]),
-        Parameters::Two(a, b) => types_of(alloc, instance, &[*a, *b]),
-        Parameters::Three(a, b, c) => types_of(alloc, instance, &[*a, *b, *c]),
-        Parameters::Four(a, b, c, d) => types_of(alloc, instance, &[*a, *b, *c, *d]),
-        Parameters::Times(count, pattern) => same_types(alloc, instance, *count, *pattern),
+        Parameters::Nothing => types_for(alloc, instance, &[], operands),
+        Parameters::One(a) => types_for(alloc, instance, &[*a], operands),
+        Parameters::Two(a, b) => types_for(alloc, instance, &[*a, *b], operands),
+        Parameters::Three(a, b, c) => types_for(alloc, instance, &[*a, *b, *c], operands),
+        Parameters::Four(a, b, c, d) => types_for(alloc, instance, &[*a, *b, *c, *d], operands),
+        Parameters::Five(a, b, c, d, e) => {
+            types_for(alloc, instance, &[*a, *b, *c, *d, *e], operands)
+        }
+        Parameters::Six(a, b, c, d, e, f) => {
+            types_for(alloc, instance, &[*a, *b, *c, *d, *e, *f], operands)
+        }
+        Parameters::Seven(a, b, c, d, e, f, g) => {
+            types_for(alloc, instance, &[*a, *b, *c, *d, *e, *f, *g], operands)
+        }
+        Parameters::Times(count, a) => {
+            let patterns = vec![in alloc; *a; *count as usize]?;
+            types_for(alloc, instance, &patterns, operands)
+        }
+        Parameters::AndTimes(a, count, b) => {
+            let mut patterns = vec![in alloc; *b; *count as usize]?;
+            patterns.insert(0, *a)?;
+            types_for(alloc, instance, &patterns, operands)
+        }
     }
 }
 
-fn types_of(
+fn types_for(
     alloc: Global,
     instance: &Instance,
     patterns: &[Pattern],
+    operands: &[Operand<'_>],
 ) -> Result<Vec<Type>, AllocError>
-    ensures { IfOk result (λ v. map view v.items ≡ map (type_in instance.now) patterns.now) }
+    ensures { IfOk result (λ v. map view v.items ≡ parameters_for instance.now patterns.now (operands_view operands.now)) }
 {
-    let mut types = Vec::with_capacity(alloc, patterns.len())?;
-    for pattern in patterns {
-        types.push(type_of(alloc, instance, *pattern)?)?;
-    }
-    Ok(types)
-}
-
-fn same_types(
-    alloc: Global,
-    instance: &Instance,
-    count: u8,
-    pattern: Pattern,
-) -> Result<Vec<Type>, AllocError>
-    ensures { IfOk result (λ v. map view v.items ≡ map (type_in instance.now) (replicate count pattern)) }
-{
-    let mut types = Vec::with_capacity(alloc, count as usize)?;
-    for _ in 0..count {
-        types.push(type_of(alloc, instance, pattern)?)?;
+    let mut types = Vec::with_capacity(alloc, operands.len())?;
+    for i in 0..operands.len() {
+        if i >= patterns.len() {
+            return Ok(types);
+        }
+        types.push(parameter_for(alloc, instance, patterns[i], &operands[i])?)?;
     }
     Ok(types)
 }

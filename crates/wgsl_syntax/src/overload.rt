@@ -1,5 +1,7 @@
 // Overloads as data: one line per overload, as WGSL writes them.
+use crate::result_struct::{ResultFunction, ResultShape};
 use crate::scalar::Scalar;
+use crate::texture::{SamplerType, TextureType};
 
 /// A set of scalars, for which a letter stands.
 #[derive(Clone, Copy)]
@@ -14,6 +16,10 @@ pub enum Kind {
     ConcreteNumber,
     ConcreteInteger,
     ConcreteFloat,
+    /// `i32`, `u32` or `f32`
+    Number32,
+    /// AbstractFloat, `f32` or `f16`
+    ShortFloat,
 }
 
 /// The components of a parameter: a letter for scalars, or a scalar.
@@ -21,6 +27,8 @@ pub enum Kind {
 pub enum Component {
     T,
     U,
+    V,
+    W,
     The(Scalar),
 }
 
@@ -44,11 +52,73 @@ pub enum Shape {
     OneOrVector,
 }
 
-/// The type of a parameter or of a result.
+/// What a function does with a storage texture, by which its access mode is limited.
 #[derive(Clone, Copy)]
-pub struct Pattern {
-    pub shape: Shape,
-    pub component: Component,
+pub enum Usage {
+    /// The access mode is `read` or `read_write`.
+    Reads,
+    /// The access mode is `write` or `read_write`.
+    Writes,
+    /// Any access mode that storage textures have.
+    Asks,
+}
+
+/// A set of textures or of pointers. One of them stands wherever an overload has the set.
+#[derive(Clone, Copy)]
+pub enum Resource {
+    /// `texture_1d<T>`
+    Texture1D,
+    /// `texture_2d<T>`
+    Texture2D,
+    /// `texture_2d_array<T>`
+    Texture2DArray,
+    /// `texture_3d<T>`
+    Texture3D,
+    /// `texture_cube<T>`
+    TextureCube,
+    /// `texture_cube_array<T>`
+    TextureCubeArray,
+    /// `texture_multisampled_2d<T>`
+    TextureMultisampled2D,
+    /// `texture_storage_1d<F, A>`, where T is the type of the channels of the texel format F.
+    TextureStorage1D(Usage),
+    /// `texture_storage_2d<F, A>`
+    TextureStorage2D(Usage),
+    /// `texture_storage_2d_array<F, A>`
+    TextureStorage2DArray(Usage),
+    /// `texture_storage_3d<F, A>`
+    TextureStorage3D(Usage),
+    /// `ptr<S, atomic<T>, read_write>`, in the spaces `storage` and `workgroup`
+    AtomicPointer,
+    /// `ptr<workgroup, atomic<T>, read_write>`
+    WorkgroupAtomicPointer,
+    /// `ptr<workgroup, E, read_write>`, where E is a concrete constructible type.
+    WorkgroupPointer,
+    /// `ptr<storage, array<E>, A>`, which can be read
+    ArrayPointer,
+}
+
+/// The type of a parameter, or of a result.
+#[derive(Clone, Copy)]
+pub enum Pattern {
+    /// A scalar, a vector or a matrix.
+    Value(Shape, Component),
+    Sampler(SamplerType),
+    Texture(TextureType),
+    Resource(Resource),
+}
+
+/// What a call returns.
+#[derive(Clone, Copy)]
+pub enum Returns {
+    NoValue,
+    Gives(Pattern),
+    /// The result struct of `frexp` or `modf` for T, or for vectors of T.
+    GivesStruct(ResultFunction, ResultShape),
+    /// The result struct of `atomicCompareExchangeWeak` for T.
+    GivesExchange,
+    /// The type to which the pointer points.
+    GivesPointee,
 }
 
 /// The parameters of an overload, in order.
@@ -59,16 +129,31 @@ pub enum Parameters {
     Two(Pattern, Pattern),
     Three(Pattern, Pattern, Pattern),
     Four(Pattern, Pattern, Pattern, Pattern),
+    Five(Pattern, Pattern, Pattern, Pattern, Pattern),
+    Six(Pattern, Pattern, Pattern, Pattern, Pattern, Pattern),
+    Seven(
+        Pattern,
+        Pattern,
+        Pattern,
+        Pattern,
+        Pattern,
+        Pattern,
+        Pattern,
+    ),
     /// That many parameters of one type.
     Times(u8, Pattern),
+    /// A parameter, and that many of another type.
+    AndTimes(Pattern, u8, Pattern),
 }
 
-/// An overload: its parameters, its result, and the kinds of its letters for scalars.
+/// An overload: its parameters, its result, and the kinds of its letters for scalars, T, U, V and W.
 #[derive(Clone, Copy)]
 pub enum Overload {
-    Plain(Parameters, Pattern),
-    WithT(Parameters, Pattern, Kind),
-    WithTAndU(Parameters, Pattern, Kind, Kind),
+    Plain(Parameters, Returns),
+    WithT(Parameters, Returns, Kind),
+    WithTAndU(Parameters, Returns, Kind, Kind),
+    WithThree(Parameters, Returns, Kind, Kind, Kind),
+    WithFour(Parameters, Returns, Kind, Kind, Kind, Kind),
 }
 
 /// What a scalar, a vector or a matrix is without its components.
@@ -79,11 +164,13 @@ pub enum Dimensions {
     Matrix(u8, u8),
 }
 
-/// What the letters of an overload stand for. Its parameters and its result are then types.
+/// What the letters of an overload stand for.
 #[derive(Clone, Copy)]
 pub struct Instance {
     pub t: Scalar,
     pub u: Scalar,
+    pub v: Scalar,
+    pub w: Scalar,
     /// Of `OneOrVector`: None for a scalar, and the number of components of a vector.
     pub width: Option<u8>,
     pub n: u8,

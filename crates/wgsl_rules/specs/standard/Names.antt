@@ -1,9 +1,14 @@
--- The built-in functions of values and the constructors without a template, sorted by name, each with its overloads.
+-- The built-in functions and the constructors without a template, and those with one, sorted by name, each with its
+-- overloads.
 use Rattle.std.specs.Prelude.{ℕ, List, [], ◌∷◌, map, Option, Some, None, codes, bytes_eq, if◌then◌else◌}
 use Rattle.wgsl_syntax.specs.declared.overload.Overload.{Overload}
 use Rattle.wgsl_rules.specs.standard.Functions.{float_function, number_function, signed_function, bit_function, concrete_function, f32_function, float_pair, number_pair, float_triple, number_triple, blend, selection, scaling, cross_product, dot_product, vector_length, point_distance, face_forward, vector_function, vector_pair, refraction, matrix_determinant, transposition}
 use Rattle.wgsl_rules.specs.standard.BitFunctions.{bits_extraction, bits_insertion, bool_test, packed_dot_signed, packed_dot_unsigned, pack_two, pack_four, pack_four_signed, pack_four_unsigned, unpack_two, unpack_four, unpack_four_signed, unpack_four_unsigned, vote, election, ballot, shuffle, relative_shuffle}
-use Rattle.wgsl_rules.specs.standard.Constructors.{bool_conversion, i32_conversion, u32_conversion, f32_conversion, f16_conversion, vec_2_constructor, vec_3_constructor, vec_4_constructor, mat_2x2_constructor, mat_2x3_constructor, mat_2x4_constructor, mat_3x2_constructor, mat_3x3_constructor, mat_3x4_constructor, mat_4x2_constructor, mat_4x3_constructor, mat_4x4_constructor}
+use Rattle.wgsl_rules.specs.standard.MemoryFunctions.{atomic_load, atomic_store, atomic_update, atomic_exchange, barrier, array_length, uniform_load, frexp_parts, modf_parts}
+use Rattle.wgsl_rules.specs.standard.Textures.{texture_dimensions, texture_layers, texture_levels, texture_samples, texture_load, texture_store}
+use Rattle.wgsl_rules.specs.standard.Sampling.{texture_sample, texture_sample_base, texture_sample_bias, texture_sample_compare, texture_sample_grad, texture_sample_level, texture_gather, texture_gather_compare}
+use Rattle.wgsl_rules.specs.standard.Constructors.{bool_conversion, i32_conversion, u32_conversion, f32_conversion, f16_conversion, i64_conversion, u64_conversion, f64_conversion, vec_2_constructor, vec_3_constructor, vec_4_constructor, mat_2x2_constructor, mat_2x3_constructor, mat_2x4_constructor, mat_3x2_constructor, mat_3x3_constructor, mat_3x4_constructor, mat_4x2_constructor, mat_4x3_constructor, mat_4x4_constructor}
+use Rattle.wgsl_rules.specs.standard.Templates.{bitcast, vec_2_of, vec_3_of, vec_4_of, mat_2x2_of, mat_2x3_of, mat_2x4_of, mat_3x2_of, mat_3x3_of, mat_3x4_of, mat_4x2_of, mat_4x3_of, mat_4x4_of}
 
 -- the overloads of a name, if the table has it
 abbrev pub overloads_named : List ℕ → List (List ℕ × List Overload) → Option (List Overload)
@@ -20,11 +25,23 @@ function_table =
     (codes "acosh", float_function) ∷
     (codes "all", bool_test) ∷
     (codes "any", bool_test) ∷
+    (codes "arrayLength", array_length) ∷
     (codes "asin", float_function) ∷
     (codes "asinh", float_function) ∷
     (codes "atan", float_function) ∷
     (codes "atan2", float_pair) ∷
     (codes "atanh", float_function) ∷
+    (codes "atomicAdd", atomic_update) ∷
+    (codes "atomicAnd", atomic_update) ∷
+    (codes "atomicCompareExchangeWeak", atomic_exchange) ∷
+    (codes "atomicExchange", atomic_update) ∷
+    (codes "atomicLoad", atomic_load) ∷
+    (codes "atomicMax", atomic_update) ∷
+    (codes "atomicMin", atomic_update) ∷
+    (codes "atomicOr", atomic_update) ∷
+    (codes "atomicStore", atomic_store) ∷
+    (codes "atomicSub", atomic_update) ∷
+    (codes "atomicXor", atomic_update) ∷
     (codes "ceil", float_function) ∷
     (codes "clamp", number_triple) ∷
     (codes "cos", float_function) ∷
@@ -54,6 +71,7 @@ function_table =
     (codes "floor", float_function) ∷
     (codes "fma", float_triple) ∷
     (codes "fract", float_function) ∷
+    (codes "frexp", frexp_parts) ∷
     (codes "fwidth", f32_function) ∷
     (codes "fwidthCoarse", f32_function) ∷
     (codes "fwidthFine", f32_function) ∷
@@ -66,6 +84,7 @@ function_table =
     (codes "max", number_pair) ∷
     (codes "min", number_pair) ∷
     (codes "mix", blend) ∷
+    (codes "modf", modf_parts) ∷
     (codes "normalize", vector_function) ∷
     (codes "pack2x16float", pack_two) ∷
     (codes "pack2x16snorm", pack_two) ∷
@@ -95,6 +114,7 @@ function_table =
     (codes "smoothstep", float_triple) ∷
     (codes "sqrt", float_function) ∷
     (codes "step", float_pair) ∷
+    (codes "storageBarrier", barrier) ∷
     (codes "subgroupAdd", concrete_function) ∷
     (codes "subgroupAll", vote) ∷
     (codes "subgroupAnd", bit_function) ∷
@@ -118,6 +138,22 @@ function_table =
     (codes "subgroupXor", bit_function) ∷
     (codes "tan", float_function) ∷
     (codes "tanh", float_function) ∷
+    (codes "textureBarrier", barrier) ∷
+    (codes "textureDimensions", texture_dimensions) ∷
+    (codes "textureGather", texture_gather) ∷
+    (codes "textureGatherCompare", texture_gather_compare) ∷
+    (codes "textureLoad", texture_load) ∷
+    (codes "textureNumLayers", texture_layers) ∷
+    (codes "textureNumLevels", texture_levels) ∷
+    (codes "textureNumSamples", texture_samples) ∷
+    (codes "textureSample", texture_sample) ∷
+    (codes "textureSampleBaseClampToEdge", texture_sample_base) ∷
+    (codes "textureSampleBias", texture_sample_bias) ∷
+    (codes "textureSampleCompare", texture_sample_compare) ∷
+    (codes "textureSampleCompareLevel", texture_sample_compare) ∷
+    (codes "textureSampleGrad", texture_sample_grad) ∷
+    (codes "textureSampleLevel", texture_sample_level) ∷
+    (codes "textureStore", texture_store) ∷
     (codes "transpose", transposition) ∷
     (codes "trunc", float_function) ∷
     (codes "unpack2x16float", unpack_two) ∷
@@ -127,6 +163,8 @@ function_table =
     (codes "unpack4x8unorm", unpack_four) ∷
     (codes "unpack4xI8", unpack_four_signed) ∷
     (codes "unpack4xU8", unpack_four_unsigned) ∷
+    (codes "workgroupBarrier", barrier) ∷
+    (codes "workgroupUniformLoad", uniform_load) ∷
     []
 
 unfoldable pub constructor_table : List (List ℕ × List Overload)
@@ -134,7 +172,9 @@ constructor_table =
     (codes "bool", bool_conversion) ∷
     (codes "f16", f16_conversion) ∷
     (codes "f32", f32_conversion) ∷
+    (codes "f64", f64_conversion) ∷
     (codes "i32", i32_conversion) ∷
+    (codes "i64", i64_conversion) ∷
     (codes "mat2x2", mat_2x2_constructor) ∷
     (codes "mat2x3", mat_2x3_constructor) ∷
     (codes "mat2x4", mat_2x4_constructor) ∷
@@ -145,7 +185,29 @@ constructor_table =
     (codes "mat4x3", mat_4x3_constructor) ∷
     (codes "mat4x4", mat_4x4_constructor) ∷
     (codes "u32", u32_conversion) ∷
+    (codes "u64", u64_conversion) ∷
     (codes "vec2", vec_2_constructor) ∷
     (codes "vec3", vec_3_constructor) ∷
     (codes "vec4", vec_4_constructor) ∷
+    []
+
+-- the functions and the constructors with a template
+
+abbrev pub template_function_table : List (List ℕ × List Overload)
+template_function_table = (codes "bitcast", bitcast) ∷ []
+
+unfoldable pub template_constructor_table : List (List ℕ × List Overload)
+template_constructor_table =
+    (codes "mat2x2", mat_2x2_of) ∷
+    (codes "mat2x3", mat_2x3_of) ∷
+    (codes "mat2x4", mat_2x4_of) ∷
+    (codes "mat3x2", mat_3x2_of) ∷
+    (codes "mat3x3", mat_3x3_of) ∷
+    (codes "mat3x4", mat_3x4_of) ∷
+    (codes "mat4x2", mat_4x2_of) ∷
+    (codes "mat4x3", mat_4x3_of) ∷
+    (codes "mat4x4", mat_4x4_of) ∷
+    (codes "vec2", vec_2_of) ∷
+    (codes "vec3", vec_3_of) ∷
+    (codes "vec4", vec_4_of) ∷
     []

@@ -1,24 +1,31 @@
 -- What an overload stands for: its candidates (WGSL, "Overload Resolution").
-use Rattle.std.specs.Prelude.{ℕ, List, [], ◌∷◌, ◌≡◌, Option, Some, None, Bool, true, false, IsTrue, map, replicate}
+use Rattle.std.specs.Prelude.{ℕ, List, [], ◌∷◌, ◌≡◌, Option, Some, None, Bool, true, false, IsTrue, replicate}
 use Rattle.wgsl_syntax.specs.declared.scalar.Scalar.{Scalar}
 use Rattle.wgsl_syntax.specs.declared.scalar.Scalar.TheVariants.{Bool as BoolScalar, AbstractInt, AbstractFloat, I32, U32, F32, F16, I64, U64, F64}
 use Rattle.wgsl_syntax.specs.declared.overload.Kind.{Kind}
-use Rattle.wgsl_syntax.specs.declared.overload.Kind.TheVariants.{AnyScalar, Number, SignedNumber, Integer, SignedInteger, Float, ConcreteScalar, ConcreteNumber, ConcreteInteger, ConcreteFloat}
+use Rattle.wgsl_syntax.specs.declared.overload.Kind.TheVariants.{AnyScalar, Number, SignedNumber, Integer, SignedInteger, Float, ConcreteScalar, ConcreteNumber, ConcreteInteger, ConcreteFloat, Number32, ShortFloat}
 use Rattle.wgsl_syntax.specs.declared.overload.Component.{Component}
-use Rattle.wgsl_syntax.specs.declared.overload.Component.TheVariants.{T, U, The}
+use Rattle.wgsl_syntax.specs.declared.overload.Component.TheVariants.{T, U, V, W, The}
 use Rattle.wgsl_syntax.specs.declared.overload.Count.{Count}
 use Rattle.wgsl_syntax.specs.declared.overload.Count.TheVariants.{N, M, K, Exactly}
 use Rattle.wgsl_syntax.specs.declared.overload.Shape.{Shape}
 use Rattle.wgsl_syntax.specs.declared.overload.Shape.TheVariants as shapes
 use Rattle.wgsl_syntax.specs.declared.overload.Pattern.{Pattern}
+use Rattle.wgsl_syntax.specs.declared.overload.Pattern.TheVariants as patterns
+use Rattle.wgsl_syntax.specs.declared.overload.Returns.{Returns}
+use Rattle.wgsl_syntax.specs.declared.overload.Returns.TheVariants.{NoValue, Gives, GivesStruct, GivesExchange, GivesPointee}
 use Rattle.wgsl_syntax.specs.declared.overload.Parameters.{Parameters}
 use Rattle.wgsl_syntax.specs.declared.overload.Parameters.TheVariants as ps
 use Rattle.wgsl_syntax.specs.declared.overload.Overload.{Overload}
-use Rattle.wgsl_syntax.specs.declared.overload.Overload.TheVariants.{Plain, WithT, WithTAndU}
+use Rattle.wgsl_syntax.specs.declared.overload.Overload.TheVariants.{Plain, WithT, WithTAndU, WithThree, WithFour}
 use Rattle.wgsl_syntax.specs.declared.overload.Dimensions.{Dimensions}
 use Rattle.wgsl_syntax.specs.declared.overload.Dimensions.TheVariants.{Single, Vector, Matrix}
 use Rattle.wgsl_syntax.specs.declared.overload.Instance.{Instance}
-use Rattle.wgsl_rules.specs.types.Types.{WgslType, scalar, vec, mat}
+use Rattle.wgsl_rules.specs.types.Types.{WgslType, scalar, texture, sampler, vec, mat}
+use Rattle.wgsl_rules.specs.types.Inner.{inner_of}
+use Rattle.wgsl_rules.specs.types.ResultStructs.{result_struct}
+use Rattle.wgsl_rules.specs.calls.ResultTypes.{exchange_struct}
+use Rattle.wgsl_rules.specs.standard.Resources.{letter_of, precision_of}
 
 -- the scalars of a kind: WGSL's, and naga's scalars of 64 bits
 abbrev pub is_of_kind : Kind → Scalar → Bool
@@ -60,6 +67,14 @@ is_of_kind ConcreteFloat F32 = true
 is_of_kind ConcreteFloat F16 = true
 is_of_kind ConcreteFloat F64 = true
 is_of_kind ConcreteFloat s = false
+is_of_kind Number32 I32 = true
+is_of_kind Number32 U32 = true
+is_of_kind Number32 F32 = true
+is_of_kind Number32 s = false
+is_of_kind ShortFloat AbstractFloat = true
+is_of_kind ShortFloat F32 = true
+is_of_kind ShortFloat F16 = true
+is_of_kind ShortFloat s = false
 
 -- the type with these dimensions and components
 abbrev pub type_with : Dimensions → Scalar → WgslType
@@ -88,11 +103,47 @@ dimensions_in i shapes.OneOrVector = one_or_vector i.width
 abbrev pub component_in : Instance → Component → Scalar
 component_in i T = i.t
 component_in i U = i.u
+component_in i V = i.v
+component_in i W = i.w
 component_in i (The s) = s
 
--- the type of a parameter, or of the result
-abbrev pub type_in : Instance → Pattern → WgslType
-type_in i p = type_with (dimensions_in i p.shape) (component_in i p.component)
+-- What a texture or a pointer says of the letter T: nothing, or what it stands for. It may also not be of the set.
+abbrev pub Names : Option (Option Scalar) → Scalar → Type 0
+Names None s = ⊥
+Names (Some None) s = Unit {0}
+Names (Some (Some g)) s = g ≡ s
+
+-- the type of a parameter or a result, if the letters say what it is; a texture or a pointer may be any one of a set
+abbrev pub type_in : Instance → Pattern → Option WgslType
+type_in i (patterns.Value s e) = Some (type_with (dimensions_in i s) (component_in i e))
+type_in i (patterns.Sampler s) = Some (sampler s)
+type_in i (patterns.Texture t) = Some (texture t)
+type_in i (patterns.Resource r) = None
+
+-- A type may stand for a parameter in an instance.
+abbrev pub IsParameter : Instance → Pattern → WgslType → Type 0
+IsParameter i (patterns.Value s e) u = u ≡ type_with (dimensions_in i s) (component_in i e)
+IsParameter i (patterns.Sampler s) u = u ≡ sampler s
+IsParameter i (patterns.Texture t) u = u ≡ texture t
+IsParameter i (patterns.Resource r) u = Names (letter_of r u) i.t
+
+abbrev pub AreParameters : Instance → List Pattern → List WgslType → Type 0
+AreParameters i [] [] = Unit {0}
+AreParameters i (p ∷ ps) (u ∷ us) = IsParameter i p u × AreParameters i ps us
+AreParameters i ps us = ⊥
+
+-- the type to which the first parameter points
+abbrev pub pointee_of : List WgslType → Option WgslType
+pointee_of [] = None
+pointee_of (u ∷ us) = Some (inner_of u)
+
+-- the type of the result, or None if there is no value
+abbrev pub result_in : Instance → List WgslType → Returns → Option WgslType
+result_in i us NoValue = None
+result_in i us (Gives p) = type_in i p
+result_in i us (GivesStruct f s) = Some (result_struct f s (precision_of i.t))
+result_in i us GivesExchange = Some (exchange_struct (scalar i.t))
+result_in i us GivesPointee = pointee_of us
 
 -- the parts of an overload
 
@@ -100,22 +151,45 @@ abbrev pub parameters_of : Overload → Parameters
 parameters_of (Plain p r) = p
 parameters_of (WithT p r t) = p
 parameters_of (WithTAndU p r t u) = p
+parameters_of (WithThree p r t u v) = p
+parameters_of (WithFour p r t u v w) = p
 
-abbrev pub result_of : Overload → Pattern
+abbrev pub result_of : Overload → Returns
 result_of (Plain p r) = r
 result_of (WithT p r t) = r
 result_of (WithTAndU p r t u) = r
+result_of (WithThree p r t u v) = r
+result_of (WithFour p r t u v w) = r
 
--- the kind of the letter T; a letter that an overload does not have may be any scalar
+-- the kinds of the letters for scalars; a letter that an overload does not have may be any scalar
+
 abbrev pub kind_of_t : Overload → Kind
 kind_of_t (Plain p r) = AnyScalar
 kind_of_t (WithT p r t) = t
 kind_of_t (WithTAndU p r t u) = t
+kind_of_t (WithThree p r t u v) = t
+kind_of_t (WithFour p r t u v w) = t
 
 abbrev pub kind_of_u : Overload → Kind
 kind_of_u (Plain p r) = AnyScalar
 kind_of_u (WithT p r t) = AnyScalar
 kind_of_u (WithTAndU p r t u) = u
+kind_of_u (WithThree p r t u v) = u
+kind_of_u (WithFour p r t u v w) = u
+
+abbrev pub kind_of_v : Overload → Kind
+kind_of_v (Plain p r) = AnyScalar
+kind_of_v (WithT p r t) = AnyScalar
+kind_of_v (WithTAndU p r t u) = AnyScalar
+kind_of_v (WithThree p r t u v) = v
+kind_of_v (WithFour p r t u v w) = v
+
+abbrev pub kind_of_w : Overload → Kind
+kind_of_w (Plain p r) = AnyScalar
+kind_of_w (WithT p r t) = AnyScalar
+kind_of_w (WithTAndU p r t u) = AnyScalar
+kind_of_w (WithThree p r t u v) = AnyScalar
+kind_of_w (WithFour p r t u v w) = w
 
 abbrev pub in_order : Parameters → List Pattern
 in_order ps.Nothing = []
@@ -123,7 +197,11 @@ in_order (ps.One a) = a ∷ []
 in_order (ps.Two a b) = a ∷ b ∷ []
 in_order (ps.Three a b c) = a ∷ b ∷ c ∷ []
 in_order (ps.Four a b c d) = a ∷ b ∷ c ∷ d ∷ []
+in_order (ps.Five a b c d e) = a ∷ b ∷ c ∷ d ∷ e ∷ []
+in_order (ps.Six a b c d e f) = a ∷ b ∷ c ∷ d ∷ e ∷ f ∷ []
+in_order (ps.Seven a b c d e f g) = a ∷ b ∷ c ∷ d ∷ e ∷ f ∷ g ∷ []
 in_order (ps.Times n a) = replicate n a
+in_order (ps.AndTimes a n b) = a ∷ replicate n b
 
 abbrev pub patterns_of : Overload → List Pattern
 patterns_of o = in_order (parameters_of o)
@@ -132,13 +210,12 @@ patterns_of o = in_order (parameters_of o)
 pub record IsInstance (o : Overload) (i : Instance) : Type 0 where
   pub t : IsTrue (is_of_kind (kind_of_t o) i.t)
   pub u : IsTrue (is_of_kind (kind_of_u o) i.u)
+  pub v : IsTrue (is_of_kind (kind_of_v o) i.v)
+  pub w : IsTrue (is_of_kind (kind_of_w o) i.w)
 
-abbrev pub parameters_in : Instance → Overload → List WgslType
-parameters_in i o = map (type_in i) (patterns_of o)
-
--- A candidate of an overload: parameters us, and the result r.
-pub record IsCandidateOf (o : Overload) (us : List WgslType) (r : WgslType) : Type 0 where
+-- A candidate of an overload: parameters us, and the result r, or None.
+pub record IsCandidateOf (o : Overload) (us : List WgslType) (r : Option WgslType) : Type 0 where
   pub instance : Instance
   pub admitted : IsInstance o instance
-  pub parameters : us ≡ parameters_in instance o
-  pub result : r ≡ type_in instance (result_of o)
+  pub parameters : AreParameters instance (patterns_of o) us
+  pub result : r ≡ result_in instance us (result_of o)

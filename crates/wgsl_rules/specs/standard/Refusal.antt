@@ -2,15 +2,18 @@
 use Rattle.std.specs.Prelude.{ℕ, ◌+◌, ◌<◌, List, ◌≡◌, Option, Some, None, length, take, slice_get}
 use Rattle.wgsl_syntax.specs.declared.overload.Overload.{Overload}
 use Rattle.wgsl_syntax.specs.declared.overload.Instance.{Instance}
-use Rattle.wgsl_rules.specs.standard.Overloads.{IsInstance, parameters_in}
+use Rattle.wgsl_rules.specs.types.Types.{WgslType}
+use Rattle.wgsl_rules.specs.standard.Overloads.{AreParameters, IsInstance, patterns_of}
 use Rattle.wgsl_rules.specs.standard.Choice.{Operand, TakesOperands}
 
 -- The first parameters of some instance of the overload take the operands.
 pub record TakesFirst (o : Overload) (xs : List Operand) : Type 0 where
   pub instance : Instance
   pub admitted : IsInstance o instance
+  pub types : List WgslType
+  pub parameters : AreParameters instance (take (length xs) (patterns_of o)) types
   pub ranks : List ℕ
-  pub takes : TakesOperands (take (length xs) (parameters_in instance o)) xs ranks
+  pub takes : TakesOperands types xs ranks
 
 -- Those of some overload do.
 abbrev pub SomeTakesFirst : List Overload → List Operand → Type 0

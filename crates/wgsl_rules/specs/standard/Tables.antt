@@ -1,19 +1,18 @@
 -- What a table of overloads must fulfil so that the first overload that takes operands is the preferred one.
-use Rattle.std.specs.Prelude.{ℕ, List, [], ◌∷◌, ◌≡◌}
+use Rattle.std.specs.Prelude.{ℕ, List, [], ◌∷◌, ◌≡◌, Option}
 use Rattle.wgsl_syntax.specs.declared.overload.Overload.{Overload}
-use Rattle.wgsl_syntax.specs.declared.overload.Instance.{Instance}
 use Rattle.wgsl_rules.specs.types.Types.{WgslType}
 use Rattle.wgsl_rules.specs.operators.Choice.{IsNowhereMore, IsSomewhereLess}
-use Rattle.wgsl_rules.specs.standard.Overloads.{type_in, parameters_in, result_of, IsCandidateOf}
+use Rattle.wgsl_rules.specs.standard.Overloads.{IsCandidateOf}
 use Rattle.wgsl_rules.specs.standard.Choice.{Operand, TakesOperands}
 
 -- Candidates with the same parameters have the same result.
 abbrev pub HasOneResult : Overload → Type 0
-HasOneResult o = (i j : Instance) → parameters_in i o ≡ parameters_in j o → type_in i (result_of o) ≡ type_in j (result_of o)
+HasOneResult o = (us : List WgslType) (r s : Option WgslType) → IsCandidateOf o us r → IsCandidateOf o us s → r ≡ s
 
 -- Where both overloads take operands, the first is preferred.
 abbrev pub IsPreferredTo : Overload → Overload → Type 0
-IsPreferredTo o p = (xs : List Operand) (us vs : List WgslType) (r s : WgslType) (ranks ws : List ℕ) → IsCandidateOf o us r → TakesOperands us xs ranks →
+IsPreferredTo o p = (xs : List Operand) (us vs : List WgslType) (r s : Option WgslType) (ranks ws : List ℕ) → IsCandidateOf o us r → TakesOperands us xs ranks →
     IsCandidateOf p vs s → TakesOperands vs xs ws → IsNowhereMore ranks ws × IsSomewhereLess ranks ws
 
 abbrev pub IsPreferredToAll : Overload → List Overload → Type 0

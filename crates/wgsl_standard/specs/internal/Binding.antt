@@ -4,19 +4,23 @@ use Rattle.wgsl_syntax.specs.declared.scalar.Scalar.{Scalar}
 use Rattle.wgsl_syntax.specs.declared.scalar.Scalar.TheVariants.{Bool as BoolScalar, AbstractInt, AbstractFloat, I32, U32, F32, F16, I64, U64, F64}
 use Rattle.wgsl_syntax.specs.declared.overload.Kind.{Kind}
 use Rattle.wgsl_syntax.specs.declared.overload.Component.{Component}
-use Rattle.wgsl_syntax.specs.declared.overload.Component.TheVariants.{T, U, The}
+use Rattle.wgsl_syntax.specs.declared.overload.Component.TheVariants.{T, U, V, W, The}
 use Rattle.wgsl_syntax.specs.declared.overload.Count.{Count}
 use Rattle.wgsl_syntax.specs.declared.overload.Count.TheVariants.{N, M, K, Exactly}
 use Rattle.wgsl_syntax.specs.declared.overload.Shape.{Shape}
 use Rattle.wgsl_syntax.specs.declared.overload.Shape.TheVariants as shapes
 use Rattle.wgsl_syntax.specs.declared.overload.Pattern.{Pattern}
+use Rattle.wgsl_syntax.specs.declared.overload.Pattern.TheVariants as patterns
 use Rattle.wgsl_syntax.specs.declared.overload.Overload.{Overload}
 use Rattle.wgsl_syntax.specs.declared.overload.Dimensions.{Dimensions}
 use Rattle.wgsl_syntax.specs.declared.overload.Dimensions.TheVariants.{Single, Vector, Matrix}
+use Rattle.wgsl_rules.specs.types.Types.{WgslType, texture, sampler}
+use Rattle.wgsl_rules.specs.standard.Resources.{letter_of}
 use Rattle.wgsl_rules.specs.standard.Choice.{Operand}
 use Rattle.wgsl_syntax.specs.declared.overload.Instance.{Instance}
 use Rattle.wgsl_standard.specs.declared.binding.Binding.{Binding}
-use Rattle.wgsl_rules.specs.standard.Overloads.{is_of_kind, kind_of_t, kind_of_u, patterns_of}
+use Rattle.wgsl_rules.specs.standard.Overloads.{is_of_kind, kind_of_t, kind_of_u, kind_of_v, kind_of_w, patterns_of}
+use Rattle.wgsl_core.specs.Equality.{type_eq}
 use Rattle.wgsl_standard.specs.internal.Parts.{parts_of}
 
 -- whether the first scalar converts to the second
@@ -62,9 +66,17 @@ with_t b s = record b { t = Some s }
 abbrev pub with_u : Binding → Scalar → Binding
 with_u b s = record b { u = Some s }
 
+abbrev pub with_v : Binding → Scalar → Binding
+with_v b s = record b { v = Some s }
+
+abbrev pub with_w : Binding → Scalar → Binding
+with_w b s = record b { w = Some s }
+
 abbrev pub bind_component : Bool → Binding → Component → Scalar → Option Binding
 bind_component c b T s = option_map (with_t b) (join_to b.t s)
 bind_component c b U s = option_map (with_u b) (join_to b.u s)
+bind_component c b V s = option_map (with_v b) (join_to b.v s)
+bind_component c b W s = option_map (with_w b) (join_to b.w s)
 bind_component c b (The g) s = cond (converts s g) (cond (may_be c g) (Some b) None) None
 
 -- what a letter stands for, if it also stands for n
@@ -95,12 +107,27 @@ bind_shape b shapes.OneOrVector Single = option_map (with_width b) (same_width b
 bind_shape b shapes.OneOrVector (Vector k) = option_map (with_width b) (same_width b.width (Some k))
 bind_shape b p o = None
 
--- what a pattern requires, if an operand has these dimensions and components
-abbrev pub bind_parts : Bool → Binding → Pattern → Dimensions × Scalar → Option Binding
-bind_parts c b p d = option_and_then (λ b. bind_component c b p.component d.1) (bind_shape b p.shape d.0)
+-- what a parameter that is a value requires, if an operand has these dimensions and components
+abbrev pub bind_parts : Bool → Binding → Shape → Component → Dimensions × Scalar → Option Binding
+bind_parts c b s e d = option_and_then (λ b. bind_component c b e d.1) (bind_shape b s d.0)
+
+-- what a texture or a pointer requires, by what it says of T
+abbrev pub bind_letter : Bool → Binding → Option (Option Scalar) → Option Binding
+bind_letter c b None = None
+bind_letter c b (Some None) = Some b
+bind_letter c b (Some (Some s)) = bind_component c b T s
+
+abbrev pub bind_if : Bool → Binding → Option Binding
+bind_if y b = cond y (Some b) None
+
+abbrev pub bind_pattern : Bool → Binding → Pattern → WgslType → Option Binding
+bind_pattern c b (patterns.Value s e) t = option_and_then (bind_parts c b s e) (parts_of t)
+bind_pattern c b (patterns.Sampler s) t = bind_if (type_eq t (sampler s)) b
+bind_pattern c b (patterns.Texture x) t = bind_if (type_eq t (texture x)) b
+bind_pattern c b (patterns.Resource r) t = bind_letter c b (letter_of r t)
 
 abbrev pub bind : Bool → Binding → Pattern → Operand → Option Binding
-bind c b p x = option_and_then (bind_parts c b p) (parts_of x.of_type)
+bind c b p x = bind_pattern c b p x.of_type
 
 abbrev pub bind_all : Bool → Binding → List Pattern → List Operand → Option Binding
 bind_all c b [] [] = Some b
@@ -112,9 +139,14 @@ abbrev pub bind_same : Bool → Binding → Pattern → List Operand → Option 
 bind_same c b p [] = Some b
 bind_same c b p (x ∷ xs) = option_and_then (λ b. bind_same c b p xs) (bind c b p x)
 
+-- a parameter of one type, and the others of another
+abbrev pub bind_then_same : Bool → Binding → Pattern → Pattern → List Operand → Option Binding
+bind_then_same c b p q [] = None
+bind_then_same c b p q (x ∷ xs) = option_and_then (λ b. bind_same c b q xs) (bind c b p x)
+
 -- nothing is required
 abbrev pub free : Binding
-free = record { t = None; u = None; width = None; n = None; m = None; k = None }
+free = record { t = None; u = None; v = None; w = None; width = None; n = None; m = None; k = None }
 
 -- the scalars to which one converts, by rank; without one all scalars
 abbrev pub targets : Option Scalar → List Scalar
@@ -144,11 +176,18 @@ abbrev pub or_none : Option (Option ℕ) → Option ℕ
 or_none None = None
 or_none (Some w) = w
 
-abbrev pub instance_at : Binding → Scalar → Scalar → Instance
-instance_at b t u = record { t = t; u = u; width = or_none b.width; n = or_zero b.n; m = or_zero b.m; k = or_zero b.k }
+abbrev pub instance_at : Binding → Scalar → Scalar → Scalar → Scalar → Instance
+instance_at b t u v w = record { t = t; u = u; v = v; w = w; width = or_none b.width; n = or_zero b.n; m = or_zero b.m; k = or_zero b.k }
 
 abbrev pub settle : Bool → Overload → Binding → Option Instance
-settle c o b = option_and_then (λ t. option_map (instance_at b t) (pick c (kind_of_u o) b.u)) (pick c (kind_of_t o) b.t)
+settle c o b =
+    option_and_then (λ t.
+    option_and_then (λ u.
+    option_and_then (λ v.
+    option_map (instance_at b t u v) (pick c (kind_of_w o) b.w))
+    (pick c (kind_of_v o) b.v))
+    (pick c (kind_of_u o) b.u))
+    (pick c (kind_of_t o) b.t)
 
 -- the least instance of the overload that takes the operands
 abbrev pub instance_of : Bool → Overload → List Operand → Option Instance
@@ -183,3 +222,8 @@ takes_first o xs = is_instance (option_and_then (settle (must_be_concrete xs) o)
 abbrev pub some_takes_first : List Overload → List Operand → Bool
 some_takes_first [] xs = false
 some_takes_first (o ∷ os) xs = cond (takes_first o xs) true (some_takes_first os xs)
+
+-- the first of the patterns
+abbrev pub first_pattern : List Pattern → Option Pattern
+first_pattern [] = None
+first_pattern (p ∷ ps) = Some p

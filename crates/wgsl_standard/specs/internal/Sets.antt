@@ -6,9 +6,15 @@ use Rattle.wgsl_standard.specs.declared.functions.FunctionSet.{FunctionSet}
 use Rattle.wgsl_standard.specs.declared.functions.FunctionSet.TheVariants as functions
 use Rattle.wgsl_standard.specs.declared.constructors.ConstructorSet.{ConstructorSet}
 use Rattle.wgsl_standard.specs.declared.constructors.ConstructorSet.TheVariants as constructors
+use Rattle.wgsl_standard.specs.declared.templates.TemplateSet.{TemplateSet}
+use Rattle.wgsl_standard.specs.declared.templates.TemplateSet.TheVariants as templates
 use Rattle.wgsl_rules.specs.standard.Functions.{float_function, number_function, signed_function, bit_function, concrete_function, f32_function, float_pair, number_pair, float_triple, number_triple, blend, selection, scaling, cross_product, dot_product, vector_length, point_distance, face_forward, vector_function, vector_pair, refraction, matrix_determinant, transposition}
 use Rattle.wgsl_rules.specs.standard.BitFunctions.{bits_extraction, bits_insertion, bool_test, packed_dot_signed, packed_dot_unsigned, pack_two, pack_four, pack_four_signed, pack_four_unsigned, unpack_two, unpack_four, unpack_four_signed, unpack_four_unsigned, vote, election, ballot, shuffle, relative_shuffle}
-use Rattle.wgsl_rules.specs.standard.Constructors.{bool_conversion, i32_conversion, u32_conversion, f32_conversion, f16_conversion, vec_2_constructor, vec_3_constructor, vec_4_constructor, mat_2x2_constructor, mat_2x3_constructor, mat_2x4_constructor, mat_3x2_constructor, mat_3x3_constructor, mat_3x4_constructor, mat_4x2_constructor, mat_4x3_constructor, mat_4x4_constructor}
+use Rattle.wgsl_rules.specs.standard.Constructors.{bool_conversion, i32_conversion, u32_conversion, f32_conversion, f16_conversion, i64_conversion, u64_conversion, f64_conversion, vec_2_constructor, vec_3_constructor, vec_4_constructor, mat_2x2_constructor, mat_2x3_constructor, mat_2x4_constructor, mat_3x2_constructor, mat_3x3_constructor, mat_3x4_constructor, mat_4x2_constructor, mat_4x3_constructor, mat_4x4_constructor}
+use Rattle.wgsl_rules.specs.standard.MemoryFunctions.{atomic_load, atomic_store, atomic_update, atomic_exchange, barrier, array_length, uniform_load, frexp_parts, modf_parts}
+use Rattle.wgsl_rules.specs.standard.Textures.{texture_dimensions, texture_layers, texture_levels, texture_samples, texture_load, texture_store}
+use Rattle.wgsl_rules.specs.standard.Sampling.{texture_sample, texture_sample_base, texture_sample_bias, texture_sample_compare, texture_sample_grad, texture_sample_level, texture_gather, texture_gather_compare}
+use Rattle.wgsl_rules.specs.standard.Templates.{vec_2_of, vec_3_of, vec_4_of, mat_2x2_of, mat_2x3_of, mat_2x4_of, mat_3x2_of, mat_3x3_of, mat_3x4_of, mat_4x2_of, mat_4x3_of, mat_4x4_of}
 
 abbrev pub function_set : FunctionSet → List Overload
 function_set functions.FloatFunction = float_function
@@ -52,6 +58,29 @@ function_set functions.Election = election
 function_set functions.Ballot = ballot
 function_set functions.Shuffle = shuffle
 function_set functions.RelativeShuffle = relative_shuffle
+function_set functions.AtomicLoad = atomic_load
+function_set functions.AtomicStore = atomic_store
+function_set functions.AtomicUpdate = atomic_update
+function_set functions.AtomicExchange = atomic_exchange
+function_set functions.Barrier = barrier
+function_set functions.ArrayLength = array_length
+function_set functions.UniformLoad = uniform_load
+function_set functions.FrexpParts = frexp_parts
+function_set functions.ModfParts = modf_parts
+function_set functions.TextureDimensions = texture_dimensions
+function_set functions.TextureLayers = texture_layers
+function_set functions.TextureLevels = texture_levels
+function_set functions.TextureSamples = texture_samples
+function_set functions.TextureLoad = texture_load
+function_set functions.TextureStore = texture_store
+function_set functions.TextureSample = texture_sample
+function_set functions.TextureSampleBase = texture_sample_base
+function_set functions.TextureSampleBias = texture_sample_bias
+function_set functions.TextureSampleCompare = texture_sample_compare
+function_set functions.TextureSampleGrad = texture_sample_grad
+function_set functions.TextureSampleLevel = texture_sample_level
+function_set functions.TextureGather = texture_gather
+function_set functions.TextureGatherCompare = texture_gather_compare
 
 abbrev pub constructor_set : ConstructorSet → List Overload
 constructor_set constructors.BoolConversion = bool_conversion
@@ -59,6 +88,9 @@ constructor_set constructors.I32Conversion = i32_conversion
 constructor_set constructors.U32Conversion = u32_conversion
 constructor_set constructors.F32Conversion = f32_conversion
 constructor_set constructors.F16Conversion = f16_conversion
+constructor_set constructors.I64Conversion = i64_conversion
+constructor_set constructors.U64Conversion = u64_conversion
+constructor_set constructors.F64Conversion = f64_conversion
 constructor_set constructors.Vec2Constructor = vec_2_constructor
 constructor_set constructors.Vec3Constructor = vec_3_constructor
 constructor_set constructors.Vec4Constructor = vec_4_constructor
@@ -72,8 +104,25 @@ constructor_set constructors.Mat4x2Constructor = mat_4x2_constructor
 constructor_set constructors.Mat4x3Constructor = mat_4x3_constructor
 constructor_set constructors.Mat4x4Constructor = mat_4x4_constructor
 
+abbrev pub template_set : TemplateSet → List Overload
+template_set templates.Vec2Of = vec_2_of
+template_set templates.Vec3Of = vec_3_of
+template_set templates.Vec4Of = vec_4_of
+template_set templates.Mat2x2Of = mat_2x2_of
+template_set templates.Mat2x3Of = mat_2x3_of
+template_set templates.Mat2x4Of = mat_2x4_of
+template_set templates.Mat3x2Of = mat_3x2_of
+template_set templates.Mat3x3Of = mat_3x3_of
+template_set templates.Mat3x4Of = mat_3x4_of
+template_set templates.Mat4x2Of = mat_4x2_of
+template_set templates.Mat4x3Of = mat_4x3_of
+template_set templates.Mat4x4Of = mat_4x4_of
+
 abbrev pub function_row : Bor (List ℕ) × FunctionSet → List ℕ × List Overload
 function_row f = ((f.0).now, function_set f.1)
 
 abbrev pub constructor_row : Bor (List ℕ) × ConstructorSet → List ℕ × List Overload
 constructor_row c = ((c.0).now, constructor_set c.1)
+
+abbrev pub template_row : Bor (List ℕ) × TemplateSet → List ℕ × List Overload
+template_row t = ((t.0).now, template_set t.1)

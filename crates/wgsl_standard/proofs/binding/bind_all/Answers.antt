@@ -9,3 +9,12 @@ returns-in-Three c = c.bind_list-in-Three.ensures ∙ ap (λ q. bind_all c.args.
 
 pub returns-in-Four : goal.returns-in-Four
 returns-in-Four c = c.bind_list-in-Four.ensures ∙ ap (λ q. bind_all c.args.concrete free (in_order q) (operands_view c.args.operands.now)) (sym c.in-Four.is)
+
+pub returns-in-Five : goal.returns-in-Five
+returns-in-Five c = c.bind_list-in-Five.ensures ∙ ap (λ q. bind_all c.args.concrete free (in_order q) (operands_view c.args.operands.now)) (sym c.in-Five.is)
+
+pub returns-in-Six : goal.returns-in-Six
+returns-in-Six c = c.bind_list-in-Six.ensures ∙ ap (λ q. bind_all c.args.concrete free (in_order q) (operands_view c.args.operands.now)) (sym c.in-Six.is)
+
+pub returns-in-Seven : goal.returns-in-Seven
+returns-in-Seven c = c.bind_list-in-Seven.ensures ∙ ap (λ q. bind_all c.args.concrete free (in_order q) (operands_view c.args.operands.now)) (sym c.in-Seven.is)

@@ -1,15 +1,15 @@
-use Rattle.std.proofs.Common.{subst}
+use Rattle.std.proofs.Common.{subst, refl}
 use Rattle.std.specs.Prelude.{option_map}
 use Rattle.wgsl_rules.specs.standard.Choice.{IsChosen}
 use Rattle.wgsl_standard.specs.Operands.{operands_view}
 use Rattle.wgsl_standard.specs.internal.Choices.{choice_view}
 use Rattle.wgsl_standard.proofs.StandardAnswers.{answer_at, answer_none}
-use Rattle.wgsl_standard.proofs.answer.chosen_result.Goals as goal
+use Rattle.wgsl_standard.proofs.answer.chosen.Goals as goal
 
 pub returns-in-Some : goal.returns-in-Some
 returns-in-Some c =
     let chosen = subst (λ r. IsChosen c.args.overloads.now (operands_view c.args.operands.now) (option_map choice_view r)) c.in-Some.is c.resolve.ensures in
-    answer_at c.args.overloads.now (operands_view c.args.operands.now) (c.in-Some.choice.index, c.in-Some.choice.instance) _ c.result_of.result chosen c.result_of.ensures
+    answer_at c.args.overloads.now (operands_view c.args.operands.now) (c.in-Some.choice.index, c.in-Some.choice.instance) _ _ chosen refl
 
 pub returns-in-None : goal.returns-in-None
 returns-in-None c =

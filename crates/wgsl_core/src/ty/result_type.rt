@@ -7,10 +7,10 @@ ghost use Rattle.wgsl_rules.specs.calls.ResultTypes.{exchange_struct, ray_inters
 ghost use Rattle.wgsl_core.specs.View.{view, member_view, members_of};
 ghost use Rattle.wgsl_core.specs.ResultStruct.{plain, result_type as result_struct_of};
 
+use crate::ty::form::around;
+use crate::ty::result_struct::{exponent_in, float_in};
+use crate::ty::{StructMemberType, StructType, Type};
 use std::alloc::{AllocError, Global};
-use wgsl_core::ty::form::around;
-use wgsl_core::ty::result_struct::{exponent_in, float_in};
-use wgsl_core::ty::{StructMemberType, StructType, Type};
 use wgsl_syntax::layer::Layer;
 use wgsl_syntax::result_struct::{ResultFunction, ResultShape, ResultStruct};
 use wgsl_syntax::scalar::Scalar;

@@ -1,8 +1,8 @@
 use Rattle.std.proofs.Common.{◌∙◌, ap}
 use Rattle.wgsl_rules.specs.types.Types.{scalar}
 use Rattle.wgsl_rules.specs.types.ResultStructs.{shaped}
-use Rattle.wgsl_calls.proofs.Built.{same_view, frexp_is, modf_is}
-use Rattle.wgsl_calls.proofs.call.result_type.result_struct.Goals as goal
+use Rattle.wgsl_core.proofs.Built.{same_view, frexp_is, modf_is}
+use Rattle.wgsl_core.proofs.ty.result_type.result_struct.Goals as goal
 
 pub returns-in_ok-exponent-in-Frexp : goal.returns-in_ok-exponent-in-Frexp
 returns-in_ok-exponent-in-Frexp c =

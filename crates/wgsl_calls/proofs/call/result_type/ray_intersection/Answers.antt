@@ -1,5 +1,0 @@
-use Rattle.wgsl_calls.proofs.Built.{same_view}
-use Rattle.wgsl_calls.proofs.call.result_type.ray_intersection.Goals as goal
-
-pub returns : goal.returns
-returns c = same_view _ _ _ c.in_ok-push_intersection.ensures c.struct_of.ensures
