@@ -1,3 +1,4 @@
+pub mod LetterKinds
 pub mod Resources
 pub mod Overloads
 pub mod Choice
@@ -5,12 +6,18 @@ pub mod Tables
 pub mod Refusal
 pub mod Answers
 pub mod Patterns
+pub mod MatrixPatterns
+pub mod ResourcePatterns
 pub mod Operators
 pub mod Functions
 pub mod BitFunctions
 pub mod MemoryFunctions
 pub mod Textures
 pub mod Sampling
+pub mod Gathering
 pub mod Constructors
+pub mod MatrixConstructors
 pub mod Templates
+pub mod MatrixTemplates
 pub mod Names
+pub mod ConstructorNames

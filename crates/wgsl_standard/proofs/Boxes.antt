@@ -12,7 +12,6 @@ use Rattle.wgsl_syntax.specs.declared.overload.Shape.{Shape}
 use Rattle.wgsl_syntax.specs.declared.overload.Shape.TheVariants as shapes
 use Rattle.wgsl_syntax.specs.declared.overload.Pattern.{Pattern}
 use Rattle.wgsl_syntax.specs.declared.overload.Pattern.TheVariants as patterns
-use Rattle.wgsl_syntax.specs.declared.texture.TextureType.{TextureType}
 use Rattle.wgsl_rules.specs.types.Types.{WgslType, texture, sampler}
 use Rattle.wgsl_rules.specs.standard.Resources.{letter_of}
 use Rattle.wgsl_core.specs.Equality.{type_eq, type_eq_decides}

@@ -10,12 +10,12 @@ use Rattle.wgsl_syntax.specs.declared.overload.Component.{Component}
 use Rattle.wgsl_syntax.specs.declared.overload.Overload.{Overload}
 use Rattle.wgsl_rules.specs.standard.Choice.{Operand}
 use Rattle.wgsl_syntax.specs.declared.overload.Instance.{Instance}
-use Rattle.wgsl_rules.specs.standard.Overloads.{type_with, dimensions_in, component_in, patterns_of, result_of, result_in, AreParameters, IsInstance, IsCandidateOf}
+use Rattle.wgsl_rules.specs.standard.Overloads.{dimensions_in, component_in, patterns_of, IsInstance, IsCandidateOf}
 use Rattle.wgsl_rules.specs.standard.Choice.{TakesOperands, parameter_for, parameters_for, result_for, IsChosen}
 use Rattle.wgsl_rules.specs.standard.Tables.{HasOneResult, IsPreferredTo, IsPreferredToAll, AreInOrder, IsUnambiguous}
 use Rattle.wgsl_standard.specs.internal.Binding.{must_be_concrete, instance_of, or_later, later, first_of}
 use Rattle.wgsl_standard.proofs.Boxes.{same_operand, Fit, AllFit}
-use Rattle.wgsl_standard.proofs.Ranks.{depth_type_with, ranks_fit, parameters_are, ForOperands, fit_ranks, fit_values, constant_takable, takable_constant, ranks_below, ranks_less}
+use Rattle.wgsl_standard.proofs.Ranks.{depth_type_with, ranks_fit, parameters_are, fit_ranks, fit_values, constant_takable, takable_constant, ranks_below, ranks_less}
 use Rattle.wgsl_standard.proofs.LeastInstances.{IsNear, IsNearFor, AllNear, IsLeastInstance, LeastOr, least_instance}
 
 -- the parameters for operands, compared by their depths

@@ -1,5 +1,5 @@
 -- The test `takes_first` says whether the first parameters of an overload take operands.
-use Rattle.std.proofs.Common.{◌≡◌, ℕ, ◌+◌, ◌<◌, arith, zero, suc, ◌↔◌, List, [], ◌∷◌, map, length, take, Option, Some, None, Bool, true, false, cond, refl, sym, ◌∙◌, ap, subst, true≢false}
+use Rattle.std.proofs.Common.{◌≡◌, ℕ, ◌+◌, ◌<◌, arith, zero, suc, ◌↔◌, List, [], ◌∷◌, map, length, take, Option, Some, None, Bool, true, false, cond, refl, sym, ◌∙◌, subst, true≢false}
 use Rattle.std.specs.Prelude.{IsTrue, option_and_then, slice_get}
 use Rattle.wgsl_syntax.specs.declared.overload.Pattern.{Pattern}
 use Rattle.wgsl_syntax.specs.declared.overload.Overload.{Overload}

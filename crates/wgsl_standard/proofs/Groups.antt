@@ -1,5 +1,5 @@
 -- The groups of textures, pointers and values: an operand that fits a parameter is of its group. What says T, says it once.
-use Rattle.std.proofs.Common.{◌≡◌, ℕ, Option, Some, None, Bool, true, false, cond, refl, sym, ◌∙◌, ap, true≢false}
+use Rattle.std.proofs.Common.{◌≡◌, Some, None, Bool, true, false, cond, refl, sym, ◌∙◌, ap, true≢false}
 use Rattle.std.specs.Prelude.{IsTrue}
 use Rattle.wgsl_syntax.specs.Texel.{channel_type}
 use Rattle.wgsl_syntax.specs.TextureKind.{sampled_scalar}

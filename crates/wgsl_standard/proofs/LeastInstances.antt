@@ -13,7 +13,8 @@ use Rattle.wgsl_syntax.specs.declared.overload.Overload.{Overload}
 use Rattle.wgsl_rules.specs.standard.Choice.{Operand}
 use Rattle.wgsl_syntax.specs.declared.overload.Instance.{Instance}
 use Rattle.wgsl_standard.specs.declared.binding.Binding.{Binding}
-use Rattle.wgsl_rules.specs.standard.Overloads.{is_of_kind, component_in, patterns_of, kind_of_t, kind_of_u, kind_of_v, kind_of_w, IsInstance}
+use Rattle.wgsl_rules.specs.standard.Overloads.{component_in, patterns_of, kind_of_t, kind_of_u, kind_of_v, kind_of_w, IsInstance}
+use Rattle.wgsl_rules.specs.standard.LetterKinds.{is_of_kind}
 use Rattle.wgsl_standard.specs.internal.Binding.{may_be, bind_all, free, targets, is_bound, first_of_kind, pick, or_zero, or_none, instance_at, settle, instance_of}
 use Rattle.wgsl_standard.proofs.Scalars.{Member, IsPicked, picked}
 use Rattle.wgsl_standard.proofs.Boxes.{Meets, Same, Agrees, Boxes, AllFit, all_boxes}

@@ -1,5 +1,5 @@
 -- What textures and pointers say of the letter T: a concrete scalar. They convert to themselves alone.
-use Rattle.std.proofs.Common.{◌≡◌, ℕ, Option, Some, None, Bool, true, false, cond, refl, sym, ◌∙◌, ap, subst, true≢false}
+use Rattle.std.proofs.Common.{◌≡◌, ℕ, Option, Some, None, Bool, true, false, cond, refl, sym, subst, true≢false}
 use Rattle.std.specs.Prelude.{IsTrue}
 use Rattle.wgsl_syntax.specs.Texel.{channel_type}
 use Rattle.wgsl_syntax.specs.TextureKind.{sampled_scalar}
@@ -16,7 +16,6 @@ use Rattle.wgsl_syntax.specs.declared.texture.TextureType.{TextureType}
 use Rattle.wgsl_syntax.specs.declared.texture.TextureType.TheVariants as textures
 use Rattle.wgsl_syntax.specs.declared.overload.Resource.{Resource}
 use Rattle.wgsl_syntax.specs.declared.overload.Resource.TheVariants.{Texture1D, Texture2D, Texture2DArray, Texture3D, TextureCube, TextureCubeArray, TextureMultisampled2D, TextureStorage1D, TextureStorage2D, TextureStorage2DArray, TextureStorage3D, AtomicPointer, WorkgroupAtomicPointer, WorkgroupPointer, ArrayPointer}
-use Rattle.wgsl_syntax.specs.declared.result_struct.ResultFunction.{ResultFunction}
 use Rattle.wgsl_rules.specs.types.Types.{WgslType, array_of, scalar, within, atomic, pointer, texture}
 use Rattle.wgsl_rules.specs.types.ResultStructs.{result_struct}
 use Rattle.wgsl_rules.specs.conversion.Conversion.{IsValueType, BaseStep, Step, base, inside, int_to_float, int_to_i32, int_to_u32, int_to_i64, int_to_u64, float_to_f32, float_to_f16, result_to_f32, result_to_f16, Converts}

@@ -3,7 +3,8 @@ use Rattle.std.proofs.Common.{◌≡◌, ℕ, List, [], ◌∷◌, Option, Some,
 use Rattle.std.specs.Prelude.{IfSome, IsTrue, option_map, bytes_eq, Bool, true, false, if◌then◌else◌}
 use Rattle.std.specs.Borrow.{Bor}
 use Rattle.wgsl_syntax.specs.declared.overload.Overload.{Overload}
-use Rattle.wgsl_rules.specs.standard.Names.{function_table, constructor_table, template_function_table, template_constructor_table, overloads_named}
+use Rattle.wgsl_rules.specs.standard.Names.{function_table, template_function_table, overloads_named}
+use Rattle.wgsl_rules.specs.standard.ConstructorNames.{constructor_table, template_constructor_table}
 use Rattle.wgsl_rules.specs.standard.Tables.{IsUnambiguous}
 use Rattle.wgsl_standard.specs.internal.Ambiguity.{is_unambiguous, rows_unambiguous}
 use Rattle.wgsl_standard.proofs.Unambiguous.{both, unambiguous_is}

@@ -12,8 +12,6 @@ use Rattle.wgsl_rules.proofs.conversion.Order.{value_converts}
 use Rattle.wgsl_rules.proofs.conversion.Equations.{converts_from_scalar, converts_from_within, converts_within, converts_inside}
 use Rattle.wgsl_syntax.specs.declared.overload.Pattern.{Pattern}
 use Rattle.wgsl_syntax.specs.declared.overload.Pattern.TheVariants as patterns
-use Rattle.wgsl_syntax.specs.declared.overload.Shape.{Shape}
-use Rattle.wgsl_syntax.specs.declared.overload.Component.{Component}
 use Rattle.wgsl_syntax.specs.declared.overload.Dimensions.{Dimensions}
 use Rattle.wgsl_syntax.specs.declared.overload.Dimensions.TheVariants.{Single, Vector, Matrix}
 use Rattle.wgsl_rules.specs.standard.Choice.{Operand}
@@ -26,7 +24,7 @@ use Rattle.wgsl_standard.specs.internal.Parts.{parts_of}
 use Rattle.wgsl_standard.specs.internal.Binding.{may_be, must_be_concrete}
 use Rattle.wgsl_standard.proofs.Parts.{parts_once, parts_again, parts_taken}
 use Rattle.wgsl_standard.proofs.Scalars.{Reaches, reaches_rank, rank_reaches, reaches_depth}
-use Rattle.wgsl_standard.proofs.Boxes.{FitsValue, Fit, AllFit}
+use Rattle.wgsl_standard.proofs.Boxes.{Fit, AllFit}
 
 -- what a conversion between flat types is
 record IsFlat (o p : Dimensions) (s g : Scalar) (w : ℕ) : Type 0 where

@@ -9,7 +9,7 @@ use Rattle.wgsl_rules.proofs.conversion.Steps.{scalar_depth}
 use Rattle.wgsl_rules.proofs.conversion.Order.{Above, above_trans, above_chain, above_converts, value_converts}
 use Rattle.wgsl_rules.proofs.conversion.Equations.{scalar_rank, converts_scalar}
 use Rattle.wgsl_syntax.specs.declared.overload.Kind.{Kind}
-use Rattle.wgsl_rules.specs.standard.Overloads.{is_of_kind}
+use Rattle.wgsl_rules.specs.standard.LetterKinds.{is_of_kind}
 use Rattle.wgsl_standard.specs.internal.Binding.{converts, may_be, join, targets, first_of_kind, pick}
 
 -- as in the table of ranks

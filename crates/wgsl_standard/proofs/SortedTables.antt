@@ -2,7 +2,8 @@
 use Rattle.std.proofs.Common.{refl}
 use Rattle.wgsl_rules.specs.calls.Names.{IsRising}
 use Rattle.wgsl_rules.proofs.calls.SortedNames.{rises_far}
-use Rattle.wgsl_rules.specs.standard.Names.{function_table, constructor_table, template_constructor_table, names_of}
+use Rattle.wgsl_rules.specs.standard.Names.{function_table, names_of}
+use Rattle.wgsl_rules.specs.standard.ConstructorNames.{constructor_table, template_constructor_table}
 
 pub functions_sorted : IsRising (names_of function_table)
 unfolding function_table

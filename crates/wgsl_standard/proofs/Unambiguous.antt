@@ -18,20 +18,19 @@ use Rattle.wgsl_syntax.specs.declared.overload.Pattern.{Pattern}
 use Rattle.wgsl_syntax.specs.declared.overload.Pattern.TheVariants as patterns
 use Rattle.wgsl_syntax.specs.declared.overload.Returns.{Returns}
 use Rattle.wgsl_syntax.specs.declared.overload.Returns.TheVariants.{NoValue, Gives, GivesStruct, GivesExchange, GivesPointee}
-use Rattle.wgsl_syntax.specs.declared.overload.Resource.{Resource}
 use Rattle.wgsl_rules.specs.types.Types.{WgslType, scalar}
 use Rattle.wgsl_rules.specs.types.ResultStructs.{result_struct}
 use Rattle.wgsl_rules.specs.calls.ResultTypes.{exchange_struct}
-use Rattle.wgsl_rules.specs.standard.Resources.{letter_of, precision_of}
+use Rattle.wgsl_rules.specs.standard.Resources.{precision_of}
 use Rattle.wgsl_syntax.specs.declared.overload.Overload.{Overload}
 use Rattle.wgsl_syntax.specs.declared.overload.Dimensions.{Dimensions}
 use Rattle.wgsl_syntax.specs.declared.overload.Dimensions.TheVariants.{Single, Vector, Matrix}
 use Rattle.wgsl_rules.specs.standard.Choice.{Operand, parameter_for, parameters_for}
 use Rattle.wgsl_syntax.specs.declared.overload.Instance.{Instance}
-use Rattle.wgsl_rules.specs.standard.Overloads.{type_with, count_in, one_or_vector, dimensions_in, component_in, type_in, patterns_of, result_of, result_in, IsParameter, AreParameters, IsInstance, IsCandidateOf}
+use Rattle.wgsl_rules.specs.standard.Overloads.{type_with, count_in, one_or_vector, dimensions_in, component_in, patterns_of, result_of, result_in, IsParameter, AreParameters, IsInstance}
 use Rattle.wgsl_rules.specs.standard.Tables.{HasOneResult, IsPreferredTo, IsPreferredToAll, AreInOrder, IsUnambiguous}
 use Rattle.wgsl_standard.specs.internal.Binding.{converts, must_be_concrete}
-use Rattle.wgsl_standard.specs.internal.Ambiguity.{depth_of, may_stand, all_taken, never, no_deeper, less_deep, counts_apart, shapes_apart, group_of, patterns_apart, are_apart, place_no_deeper, all_no_deeper, place_less_deep, some_less_deep, as_known, is_preferred_where, is_preferred_anywhere, differ_at, differ, unless_they_differ, is_preferred_to, is_preferred_to_all, same_letter, says_letter, fixes, has_component, same_count_letter, shape_of, count_in_shape, has_count, is_either, has_either, has_shape, is_fixed, has_one_result, is_unambiguous}
+use Rattle.wgsl_standard.specs.internal.Ambiguity.{depth_of, may_stand, all_taken, never, no_deeper, less_deep, counts_apart, shapes_apart, group_of, patterns_apart, are_apart, place_no_deeper, all_no_deeper, place_less_deep, some_less_deep, as_known, is_preferred_where, is_preferred_anywhere, differ_at, differ, unless_they_differ, is_preferred_to, is_preferred_to_all, same_letter, fixes, has_component, same_count_letter, shape_of, count_in_shape, has_count, is_either, has_either, has_shape, is_fixed, has_one_result, is_unambiguous}
 use Rattle.wgsl_standard.proofs.Scalars.{Member}
 use Rattle.wgsl_standard.proofs.Boxes.{width_matrix, same_operand, Fit, AllFit}
 use Rattle.wgsl_standard.proofs.Groups.{fit_group, letter_says}

@@ -5,7 +5,8 @@ ghost use Rattle.wgsl_rules.specs.standard.Choice.{result_for as result_there};
 ghost use Rattle.wgsl_rules.specs.standard.Tables.{IsUnambiguous};
 ghost use Rattle.wgsl_rules.specs.standard.Answers.{IsStandardAnswer, IsNamedAnswer, is_template as may_be_template, template_operand, IsTemplateAnswer, IsCallAnswer};
 ghost use Rattle.wgsl_rules.specs.standard.Operators.{binary_overloads as binary_there, unary_overloads as unary_there};
-ghost use Rattle.wgsl_rules.specs.standard.Names.{function_table, constructor_table, template_function_table, template_constructor_table, overloads_named};
+ghost use Rattle.wgsl_rules.specs.standard.Names.{function_table, template_function_table, overloads_named};
+ghost use Rattle.wgsl_rules.specs.standard.ConstructorNames.{constructor_table, template_constructor_table};
 ghost use Rattle.wgsl_standard.specs.Answered.{AnswersType};
 ghost use Rattle.wgsl_standard.specs.Operands.{operand_view, operands_view};
 

@@ -1,6 +1,6 @@
 // The letters for scalars: what operands require of them, and the least scalar of a kind.
 ghost use Rattle.std.specs.Prelude.{◌≡◌};
-ghost use Rattle.wgsl_rules.specs.standard.Overloads.{is_of_kind as is_in_kind};
+ghost use Rattle.wgsl_rules.specs.standard.LetterKinds.{is_of_kind as is_in_kind};
 ghost use Rattle.wgsl_standard.specs.internal.Binding.{converts as converts_to, may_be as may_stand, join as joined, join_to as joined_to, first_of_kind as first_in, pick as picked};
 
 use wgsl_syntax::overload::Kind;

@@ -5,6 +5,7 @@ pub mod answer;
 pub mod binding;
 pub mod constructors;
 pub mod functions;
+pub mod gathering;
 pub mod instance;
 pub mod letter;
 pub mod memory;

@@ -1,7 +1,8 @@
 // The overloads of a name.
 ghost use Rattle.std.specs.Prelude.{◌≡◌, map, option_map, IfSome};
 ghost use Rattle.wgsl_rules.specs.calls.Names.{IsRising};
-ghost use Rattle.wgsl_rules.specs.standard.Names.{function_table, constructor_table, template_function_table, template_constructor_table, names_of, overloads_named};
+ghost use Rattle.wgsl_rules.specs.standard.Names.{function_table, template_function_table, names_of, overloads_named};
+ghost use Rattle.wgsl_rules.specs.standard.ConstructorNames.{constructor_table, template_constructor_table};
 ghost use Rattle.wgsl_rules.specs.standard.Tables.{IsUnambiguous};
 ghost use Rattle.wgsl_standard.specs.internal.Sets.{function_row, constructor_row, template_row};
 

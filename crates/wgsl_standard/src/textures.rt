@@ -28,10 +28,10 @@ pub static TEXTURE_DIMENSIONS: [Overload; 27] = [
     WithT(One(TEXTURE_CUBE), Gives(VEC_2_U32), Number32),
     WithT(One(TEXTURE_CUBE_ARRAY), Gives(VEC_2_U32), Number32),
     WithT(One(TEXTURE_MULTISAMPLED_2D), Gives(VEC_2_U32), Number32),
-    WithT(One(STORAGE_1D_ASKED), Gives(JUST_U32), Number32),
-    WithT(One(STORAGE_2D_ASKED), Gives(VEC_2_U32), Number32),
-    WithT(One(STORAGE_2D_ARRAY_ASKED), Gives(VEC_2_U32), Number32),
-    WithT(One(STORAGE_3D_ASKED), Gives(VEC_3_U32), Number32),
+    Plain(One(STORAGE_1D_ASKED), Gives(JUST_U32)),
+    Plain(One(STORAGE_2D_ASKED), Gives(VEC_2_U32)),
+    Plain(One(STORAGE_2D_ARRAY_ASKED), Gives(VEC_2_U32)),
+    Plain(One(STORAGE_3D_ASKED), Gives(VEC_3_U32)),
     WithT(Two(DEPTH_2D, SCALAR), Gives(VEC_2_U32), ConcreteInteger),
     WithT(
         Two(DEPTH_2D_ARRAY, SCALAR),
@@ -87,7 +87,7 @@ pub static TEXTURE_LAYERS: [Overload; 5] = [
     Plain(One(DEPTH_CUBE_ARRAY), Gives(JUST_U32)),
     WithT(One(TEXTURE_2D_ARRAY), Gives(JUST_U32), Number32),
     WithT(One(TEXTURE_CUBE_ARRAY), Gives(JUST_U32), Number32),
-    WithT(One(STORAGE_2D_ARRAY_ASKED), Gives(JUST_U32), Number32),
+    Plain(One(STORAGE_2D_ARRAY_ASKED), Gives(JUST_U32)),
 ];
 
 pub static TEXTURE_LEVELS: [Overload; 10] = [

@@ -131,15 +131,7 @@ pub enum Parameters {
     Four(Pattern, Pattern, Pattern, Pattern),
     Five(Pattern, Pattern, Pattern, Pattern, Pattern),
     Six(Pattern, Pattern, Pattern, Pattern, Pattern, Pattern),
-    Seven(
-        Pattern,
-        Pattern,
-        Pattern,
-        Pattern,
-        Pattern,
-        Pattern,
-        Pattern,
-    ),
+    Seven(Pattern, Pattern, Pattern, Pattern, Pattern, Pattern, Pattern),
     /// That many parameters of one type.
     Times(u8, Pattern),
     /// A parameter, and that many of another type.

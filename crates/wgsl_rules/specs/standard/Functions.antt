@@ -5,7 +5,8 @@ use Rattle.wgsl_syntax.specs.declared.overload.Parameters.TheVariants.{One, Two,
 use Rattle.wgsl_syntax.specs.declared.overload.Returns.TheVariants.{Gives}
 use Rattle.wgsl_syntax.specs.declared.overload.Overload.{Overload}
 use Rattle.wgsl_syntax.specs.declared.overload.Overload.TheVariants.{Plain, WithT, WithTAndU}
-use Rattle.wgsl_rules.specs.standard.Patterns.{scalar, value, value_u, value_f32, just_bool, vec_n, vec_n_bool, vec_3, mat_nn, mat_nm, mat_mn}
+use Rattle.wgsl_rules.specs.standard.Patterns.{scalar, value, value_u, value_f32, just_bool, vec_n, vec_n_bool, vec_3}
+use Rattle.wgsl_rules.specs.standard.MatrixPatterns.{mat_nn, mat_nm, mat_mn}
 
 abbrev pub float_function : List Overload
 float_function =

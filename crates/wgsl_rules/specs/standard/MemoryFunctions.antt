@@ -8,7 +8,8 @@ use Rattle.wgsl_syntax.specs.declared.overload.Parameters.TheVariants.{Nothing, 
 use Rattle.wgsl_syntax.specs.declared.overload.Returns.TheVariants.{Gives, GivesExchange, GivesPointee, GivesStruct, NoValue}
 use Rattle.wgsl_syntax.specs.declared.overload.Overload.{Overload}
 use Rattle.wgsl_syntax.specs.declared.overload.Overload.TheVariants.{Plain, WithT}
-use Rattle.wgsl_rules.specs.standard.Patterns.{array_pointer, atomic_pointer, just_u32, scalar, vec_2, vec_3, vec_4, workgroup_atomic_pointer, workgroup_pointer}
+use Rattle.wgsl_rules.specs.standard.Patterns.{scalar, just_u32, vec_2, vec_3, vec_4}
+use Rattle.wgsl_rules.specs.standard.ResourcePatterns.{atomic_pointer, workgroup_atomic_pointer, workgroup_pointer, array_pointer}
 
 abbrev pub atomic_load : List Overload
 atomic_load =

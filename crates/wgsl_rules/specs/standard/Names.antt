@@ -1,14 +1,13 @@
--- The built-in functions and the constructors without a template, and those with one, sorted by name, each with its
--- overloads.
+-- The built-in functions, without a template and with one, sorted by name, each with its overloads.
 use Rattle.std.specs.Prelude.{ℕ, List, [], ◌∷◌, map, Option, Some, None, codes, bytes_eq, if◌then◌else◌}
 use Rattle.wgsl_syntax.specs.declared.overload.Overload.{Overload}
 use Rattle.wgsl_rules.specs.standard.Functions.{float_function, number_function, signed_function, bit_function, concrete_function, f32_function, float_pair, number_pair, float_triple, number_triple, blend, selection, scaling, cross_product, dot_product, vector_length, point_distance, face_forward, vector_function, vector_pair, refraction, matrix_determinant, transposition}
 use Rattle.wgsl_rules.specs.standard.BitFunctions.{bits_extraction, bits_insertion, bool_test, packed_dot_signed, packed_dot_unsigned, pack_two, pack_four, pack_four_signed, pack_four_unsigned, unpack_two, unpack_four, unpack_four_signed, unpack_four_unsigned, vote, election, ballot, shuffle, relative_shuffle}
 use Rattle.wgsl_rules.specs.standard.MemoryFunctions.{atomic_load, atomic_store, atomic_update, atomic_exchange, barrier, array_length, uniform_load, frexp_parts, modf_parts}
 use Rattle.wgsl_rules.specs.standard.Textures.{texture_dimensions, texture_layers, texture_levels, texture_samples, texture_load, texture_store}
-use Rattle.wgsl_rules.specs.standard.Sampling.{texture_sample, texture_sample_base, texture_sample_bias, texture_sample_compare, texture_sample_grad, texture_sample_level, texture_gather, texture_gather_compare}
-use Rattle.wgsl_rules.specs.standard.Constructors.{bool_conversion, i32_conversion, u32_conversion, f32_conversion, f16_conversion, i64_conversion, u64_conversion, f64_conversion, vec_2_constructor, vec_3_constructor, vec_4_constructor, mat_2x2_constructor, mat_2x3_constructor, mat_2x4_constructor, mat_3x2_constructor, mat_3x3_constructor, mat_3x4_constructor, mat_4x2_constructor, mat_4x3_constructor, mat_4x4_constructor}
-use Rattle.wgsl_rules.specs.standard.Templates.{bitcast, vec_2_of, vec_3_of, vec_4_of, mat_2x2_of, mat_2x3_of, mat_2x4_of, mat_3x2_of, mat_3x3_of, mat_3x4_of, mat_4x2_of, mat_4x3_of, mat_4x4_of}
+use Rattle.wgsl_rules.specs.standard.Sampling.{texture_sample, texture_sample_base, texture_sample_bias, texture_sample_grad, texture_sample_level}
+use Rattle.wgsl_rules.specs.standard.Gathering.{texture_sample_compare, texture_gather, texture_gather_compare}
+use Rattle.wgsl_rules.specs.standard.Templates.{bitcast}
 
 -- the overloads of a name, if the table has it
 abbrev pub overloads_named : List ℕ → List (List ℕ × List Overload) → Option (List Overload)
@@ -167,47 +166,7 @@ function_table =
     (codes "workgroupUniformLoad", uniform_load) ∷
     []
 
-unfoldable pub constructor_table : List (List ℕ × List Overload)
-constructor_table =
-    (codes "bool", bool_conversion) ∷
-    (codes "f16", f16_conversion) ∷
-    (codes "f32", f32_conversion) ∷
-    (codes "f64", f64_conversion) ∷
-    (codes "i32", i32_conversion) ∷
-    (codes "i64", i64_conversion) ∷
-    (codes "mat2x2", mat_2x2_constructor) ∷
-    (codes "mat2x3", mat_2x3_constructor) ∷
-    (codes "mat2x4", mat_2x4_constructor) ∷
-    (codes "mat3x2", mat_3x2_constructor) ∷
-    (codes "mat3x3", mat_3x3_constructor) ∷
-    (codes "mat3x4", mat_3x4_constructor) ∷
-    (codes "mat4x2", mat_4x2_constructor) ∷
-    (codes "mat4x3", mat_4x3_constructor) ∷
-    (codes "mat4x4", mat_4x4_constructor) ∷
-    (codes "u32", u32_conversion) ∷
-    (codes "u64", u64_conversion) ∷
-    (codes "vec2", vec_2_constructor) ∷
-    (codes "vec3", vec_3_constructor) ∷
-    (codes "vec4", vec_4_constructor) ∷
-    []
-
--- the functions and the constructors with a template
+-- the functions with a template
 
 abbrev pub template_function_table : List (List ℕ × List Overload)
 template_function_table = (codes "bitcast", bitcast) ∷ []
-
-unfoldable pub template_constructor_table : List (List ℕ × List Overload)
-template_constructor_table =
-    (codes "mat2x2", mat_2x2_of) ∷
-    (codes "mat2x3", mat_2x3_of) ∷
-    (codes "mat2x4", mat_2x4_of) ∷
-    (codes "mat3x2", mat_3x2_of) ∷
-    (codes "mat3x3", mat_3x3_of) ∷
-    (codes "mat3x4", mat_3x4_of) ∷
-    (codes "mat4x2", mat_4x2_of) ∷
-    (codes "mat4x3", mat_4x3_of) ∷
-    (codes "mat4x4", mat_4x4_of) ∷
-    (codes "vec2", vec_2_of) ∷
-    (codes "vec3", vec_3_of) ∷
-    (codes "vec4", vec_4_of) ∷
-    []

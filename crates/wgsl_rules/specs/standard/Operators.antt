@@ -9,7 +9,8 @@ use Rattle.wgsl_syntax.specs.declared.overload.Parameters.TheVariants.{One, Two}
 use Rattle.wgsl_syntax.specs.declared.overload.Returns.TheVariants.{Gives}
 use Rattle.wgsl_syntax.specs.declared.overload.Overload.{Overload}
 use Rattle.wgsl_syntax.specs.declared.overload.Overload.TheVariants.{Plain, WithT}
-use Rattle.wgsl_rules.specs.standard.Patterns.{scalar, value, value_bool, value_u32, just_bool, vec_n, vec_m, mat_nm, mat_km, mat_nk}
+use Rattle.wgsl_rules.specs.standard.Patterns.{scalar, value, value_bool, value_u32, just_bool, vec_n, vec_m}
+use Rattle.wgsl_rules.specs.standard.MatrixPatterns.{mat_nm, mat_km, mat_nk}
 
 abbrev pub sums : List Overload
 sums =

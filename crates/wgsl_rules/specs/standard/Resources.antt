@@ -8,7 +8,7 @@ use Rattle.wgsl_syntax.specs.declared.scalar.Scalar.TheVariants.{F32, F16}
 use Rattle.wgsl_syntax.specs.declared.address.AddressSpace.{AddressSpace}
 use Rattle.wgsl_syntax.specs.declared.address.AddressSpace.TheVariants.{Workgroup, Storage}
 use Rattle.wgsl_syntax.specs.declared.address.AccessMode.{AccessMode}
-use Rattle.wgsl_syntax.specs.declared.address.AccessMode.TheVariants.{Read, Write, ReadWrite, Atomic}
+use Rattle.wgsl_syntax.specs.declared.address.AccessMode.TheVariants.{Read, Write, ReadWrite}
 use Rattle.wgsl_syntax.specs.declared.texel.TexelFormat.{TexelFormat}
 use Rattle.wgsl_syntax.specs.declared.texture.TextureType.{TextureType}
 use Rattle.wgsl_syntax.specs.declared.texture.TextureType.TheVariants as textures
@@ -18,7 +18,7 @@ use Rattle.wgsl_syntax.specs.declared.overload.Usage.{Usage}
 use Rattle.wgsl_syntax.specs.declared.overload.Usage.TheVariants.{Reads, Writes, Asks}
 use Rattle.wgsl_syntax.specs.declared.overload.Resource.{Resource}
 use Rattle.wgsl_syntax.specs.declared.overload.Resource.TheVariants.{Texture1D, Texture2D, Texture2DArray, Texture3D, TextureCube, TextureCubeArray, TextureMultisampled2D, TextureStorage1D, TextureStorage2D, TextureStorage2DArray, TextureStorage3D, AtomicPointer, WorkgroupAtomicPointer, WorkgroupPointer, ArrayPointer}
-use Rattle.wgsl_rules.specs.types.Types.{WgslType, Members, no_members, member, array_of, vec_of, mat_of, scalar, within, struct, atomic, pointer, texture}
+use Rattle.wgsl_rules.specs.types.Types.{WgslType, Members, no_members, member, array_of, scalar, within, struct, atomic, pointer, texture}
 use Rattle.wgsl_rules.specs.conversion.Concrete.{is_abstract}
 
 -- whether storage textures of an access mode are used so

@@ -5,7 +5,8 @@ use Rattle.wgsl_syntax.specs.declared.overload.Parameters.TheVariants.{Four, One
 use Rattle.wgsl_syntax.specs.declared.overload.Returns.TheVariants.{Gives, NoValue}
 use Rattle.wgsl_syntax.specs.declared.overload.Overload.{Overload}
 use Rattle.wgsl_syntax.specs.declared.overload.Overload.TheVariants.{Plain, WithFour, WithT, WithTAndU, WithThree}
-use Rattle.wgsl_rules.specs.standard.Patterns.{depth_2d, depth_2d_array, depth_cube, depth_cube_array, depth_multisampled_2d, external, just_f32, just_u32, scalar, scalar_u, scalar_v, scalar_w, storage_1d_asked, storage_1d_read, storage_1d_write, storage_2d_array_asked, storage_2d_array_read, storage_2d_array_write, storage_2d_asked, storage_2d_read, storage_2d_write, storage_3d_asked, storage_3d_read, storage_3d_write, texture_1d, texture_2d, texture_2d_array, texture_3d, texture_cube, texture_cube_array, texture_multisampled_2d, vec_2, vec_2_u, vec_2_u32, vec_3_u, vec_3_u32, vec_4, vec_4_f32}
+use Rattle.wgsl_rules.specs.standard.Patterns.{scalar, scalar_u, just_u32, just_f32, vec_2, vec_4, vec_4_f32, scalar_v, scalar_w, vec_2_u, vec_3_u, vec_2_u32, vec_3_u32}
+use Rattle.wgsl_rules.specs.standard.ResourcePatterns.{depth_2d, depth_2d_array, depth_cube, depth_cube_array, depth_multisampled_2d, external, texture_1d, texture_2d, texture_2d_array, texture_3d, texture_cube, texture_cube_array, texture_multisampled_2d, storage_1d_read, storage_1d_write, storage_1d_asked, storage_2d_read, storage_2d_write, storage_2d_asked, storage_2d_array_read, storage_2d_array_write, storage_2d_array_asked, storage_3d_read, storage_3d_write, storage_3d_asked}
 
 abbrev pub texture_dimensions : List Overload
 texture_dimensions =
@@ -36,13 +37,13 @@ texture_dimensions =
     -- textureDimensions(texture_multisampled_2d<f32>) : vec2<u32>
     WithT (One texture_multisampled_2d) (Gives vec_2_u32) Number32 ∷
     -- textureDimensions(texture_storage_1d<r32uint, write>) : u32
-    WithT (One storage_1d_asked) (Gives just_u32) Number32 ∷
+    Plain (One storage_1d_asked) (Gives just_u32) ∷
     -- textureDimensions(texture_storage_2d<r32uint, write>) : vec2<u32>
-    WithT (One storage_2d_asked) (Gives vec_2_u32) Number32 ∷
+    Plain (One storage_2d_asked) (Gives vec_2_u32) ∷
     -- textureDimensions(texture_storage_2d_array<r32uint, write>) : vec2<u32>
-    WithT (One storage_2d_array_asked) (Gives vec_2_u32) Number32 ∷
+    Plain (One storage_2d_array_asked) (Gives vec_2_u32) ∷
     -- textureDimensions(texture_storage_3d<r32uint, write>) : vec3<u32>
-    WithT (One storage_3d_asked) (Gives vec_3_u32) Number32 ∷
+    Plain (One storage_3d_asked) (Gives vec_3_u32) ∷
     -- textureDimensions(texture_depth_2d, i32) : vec2<u32>
     WithT (Two depth_2d scalar) (Gives vec_2_u32) ConcreteInteger ∷
     -- textureDimensions(texture_depth_2d_array, i32) : vec2<u32>
@@ -76,7 +77,7 @@ texture_layers =
     -- textureNumLayers(texture_cube_array<f32>) : u32
     WithT (One texture_cube_array) (Gives just_u32) Number32 ∷
     -- textureNumLayers(texture_storage_2d_array<r32uint, write>) : u32
-    WithT (One storage_2d_array_asked) (Gives just_u32) Number32 ∷
+    Plain (One storage_2d_array_asked) (Gives just_u32) ∷
     []
 
 abbrev pub texture_levels : List Overload

@@ -14,7 +14,7 @@ use Rattle.wgsl_syntax.specs.declared.overload.Shape.TheVariants as shapes
 use Rattle.wgsl_syntax.specs.declared.overload.Pattern.{Pattern}
 use Rattle.wgsl_syntax.specs.declared.overload.Pattern.TheVariants as patterns
 use Rattle.wgsl_syntax.specs.declared.overload.Returns.{Returns}
-use Rattle.wgsl_syntax.specs.declared.overload.Returns.TheVariants.{NoValue, Gives, GivesStruct, GivesExchange, GivesPointee}
+use Rattle.wgsl_syntax.specs.declared.overload.Returns.TheVariants.{Gives, GivesStruct, GivesExchange}
 use Rattle.wgsl_syntax.specs.declared.overload.Resource.{Resource}
 use Rattle.wgsl_syntax.specs.declared.overload.Resource.TheVariants as resources
 use Rattle.wgsl_syntax.specs.declared.texture.SamplerType.{SamplerType}
@@ -23,7 +23,8 @@ use Rattle.wgsl_syntax.specs.declared.texture.TextureType.{TextureType}
 use Rattle.wgsl_syntax.specs.declared.texture.TextureType.TheVariants as textures
 use Rattle.wgsl_rules.specs.types.Types.{WgslType, atomic, pointer, texture, sampler}
 use Rattle.wgsl_syntax.specs.declared.overload.Overload.{Overload}
-use Rattle.wgsl_rules.specs.standard.Overloads.{is_of_kind, kind_of_t, kind_of_u, kind_of_v, kind_of_w, patterns_of, result_of}
+use Rattle.wgsl_rules.specs.standard.Overloads.{kind_of_t, kind_of_u, kind_of_v, kind_of_w, patterns_of, result_of}
+use Rattle.wgsl_rules.specs.standard.LetterKinds.{is_of_kind}
 use Rattle.wgsl_standard.specs.internal.Binding.{converts}
 
 -- the sum of the ranks on the way to a scalar

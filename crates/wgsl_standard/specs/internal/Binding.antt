@@ -19,7 +19,8 @@ use Rattle.wgsl_rules.specs.standard.Resources.{letter_of}
 use Rattle.wgsl_rules.specs.standard.Choice.{Operand}
 use Rattle.wgsl_syntax.specs.declared.overload.Instance.{Instance}
 use Rattle.wgsl_standard.specs.declared.binding.Binding.{Binding}
-use Rattle.wgsl_rules.specs.standard.Overloads.{is_of_kind, kind_of_t, kind_of_u, kind_of_v, kind_of_w, patterns_of}
+use Rattle.wgsl_rules.specs.standard.Overloads.{kind_of_t, kind_of_u, kind_of_v, kind_of_w, patterns_of}
+use Rattle.wgsl_rules.specs.standard.LetterKinds.{is_of_kind}
 use Rattle.wgsl_core.specs.Equality.{type_eq}
 use Rattle.wgsl_standard.specs.internal.Parts.{parts_of}
 

@@ -10,11 +10,14 @@ use Rattle.wgsl_standard.specs.declared.templates.TemplateSet.{TemplateSet}
 use Rattle.wgsl_standard.specs.declared.templates.TemplateSet.TheVariants as templates
 use Rattle.wgsl_rules.specs.standard.Functions.{float_function, number_function, signed_function, bit_function, concrete_function, f32_function, float_pair, number_pair, float_triple, number_triple, blend, selection, scaling, cross_product, dot_product, vector_length, point_distance, face_forward, vector_function, vector_pair, refraction, matrix_determinant, transposition}
 use Rattle.wgsl_rules.specs.standard.BitFunctions.{bits_extraction, bits_insertion, bool_test, packed_dot_signed, packed_dot_unsigned, pack_two, pack_four, pack_four_signed, pack_four_unsigned, unpack_two, unpack_four, unpack_four_signed, unpack_four_unsigned, vote, election, ballot, shuffle, relative_shuffle}
-use Rattle.wgsl_rules.specs.standard.Constructors.{bool_conversion, i32_conversion, u32_conversion, f32_conversion, f16_conversion, i64_conversion, u64_conversion, f64_conversion, vec_2_constructor, vec_3_constructor, vec_4_constructor, mat_2x2_constructor, mat_2x3_constructor, mat_2x4_constructor, mat_3x2_constructor, mat_3x3_constructor, mat_3x4_constructor, mat_4x2_constructor, mat_4x3_constructor, mat_4x4_constructor}
 use Rattle.wgsl_rules.specs.standard.MemoryFunctions.{atomic_load, atomic_store, atomic_update, atomic_exchange, barrier, array_length, uniform_load, frexp_parts, modf_parts}
 use Rattle.wgsl_rules.specs.standard.Textures.{texture_dimensions, texture_layers, texture_levels, texture_samples, texture_load, texture_store}
-use Rattle.wgsl_rules.specs.standard.Sampling.{texture_sample, texture_sample_base, texture_sample_bias, texture_sample_compare, texture_sample_grad, texture_sample_level, texture_gather, texture_gather_compare}
-use Rattle.wgsl_rules.specs.standard.Templates.{vec_2_of, vec_3_of, vec_4_of, mat_2x2_of, mat_2x3_of, mat_2x4_of, mat_3x2_of, mat_3x3_of, mat_3x4_of, mat_4x2_of, mat_4x3_of, mat_4x4_of}
+use Rattle.wgsl_rules.specs.standard.Sampling.{texture_sample, texture_sample_base, texture_sample_bias, texture_sample_grad, texture_sample_level}
+use Rattle.wgsl_rules.specs.standard.Gathering.{texture_sample_compare, texture_gather, texture_gather_compare}
+use Rattle.wgsl_rules.specs.standard.Constructors.{bool_conversion, i32_conversion, u32_conversion, f32_conversion, f16_conversion, i64_conversion, u64_conversion, f64_conversion, vec_2_constructor, vec_3_constructor, vec_4_constructor}
+use Rattle.wgsl_rules.specs.standard.MatrixConstructors.{mat_2x2_constructor, mat_2x3_constructor, mat_2x4_constructor, mat_3x2_constructor, mat_3x3_constructor, mat_3x4_constructor, mat_4x2_constructor, mat_4x3_constructor, mat_4x4_constructor}
+use Rattle.wgsl_rules.specs.standard.Templates.{vec_2_of, vec_3_of, vec_4_of}
+use Rattle.wgsl_rules.specs.standard.MatrixTemplates.{mat_2x2_of, mat_2x3_of, mat_2x4_of, mat_3x2_of, mat_3x3_of, mat_3x4_of, mat_4x2_of, mat_4x3_of, mat_4x4_of}
 
 abbrev pub function_set : FunctionSet → List Overload
 function_set functions.FloatFunction = float_function

@@ -1,4 +1,4 @@
-use Rattle.std.proofs.Common.{sym, ◌∙◌, arith}
+use Rattle.std.proofs.Common.{sym, ◌∙◌}
 use Rattle.std.proofs.lemmas.List.{length-map}
 use Rattle.wgsl_standard.specs.internal.Binding.{free}
 use Rattle.wgsl_standard.proofs.Lengths.{then_same_all, and_times}

@@ -13,7 +13,7 @@ pub returns-then-operands-count : goal.returns-then-operands-count
 returns-then-operands-count c =
     let n = some _ c.is_empty.result c.is_empty.ensures c.if-is_empty.false in
     c.bind_then_same.ensures ∙ then_same_first c.args.concrete free c.args.first c.args.pattern c.args.count (operands_view c.args.operands.now)
-        (omega (arith, n, length-map c.args.operands.now operand_view)) (omega (arith, length-map c.args.operands.now operand_view, c.if-operands-count.true))
+    (omega (arith, n, length-map c.args.operands.now operand_view)) (omega (arith, length-map c.args.operands.now operand_view, c.if-operands-count.true))
 
 pub returns-else-operands-count : goal.returns-else-operands-count
 returns-else-operands-count c = sym (too_many_and_times c.args.concrete free c.args.first c.args.pattern c.args.count (operands_view c.args.operands.now)
