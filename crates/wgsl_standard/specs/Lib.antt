@@ -1,4 +1,6 @@
 pub mod Operands
 pub mod Resolved
 pub mod Answered
+pub mod Callees
+pub mod Mismatches
 pub mod internal

@@ -136,7 +136,7 @@ fn templated_type(
 }
 
 /// Whether the type may be a template: it is concrete, and no reference.
-fn is_template(ty: &Type) -> bool
+pub(crate) fn is_template(ty: &Type) -> bool
     ensures { result ≡ may_be_template (view ty.now) }
 {
     match ty.form() {
@@ -146,7 +146,7 @@ fn is_template(ty: &Type) -> bool
 }
 
 /// The operands of a call, with its template in front.
-fn operands_with<'a>(
+pub(crate) fn operands_with<'a>(
     alloc: Global,
     template: &'a Type,
     operands: &[Operand<'a>],

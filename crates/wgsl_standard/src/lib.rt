@@ -3,7 +3,9 @@
 
 pub mod answer;
 pub mod binding;
+pub mod callee;
 pub mod constructors;
+pub mod explanation;
 pub mod functions;
 pub mod gathering;
 pub mod instance;
@@ -19,5 +21,8 @@ pub mod resolve;
 pub mod resolved;
 pub mod resource;
 pub mod sampling;
+pub mod signature;
 pub mod templates;
 pub mod textures;
+pub mod where_clause;
+pub mod written;

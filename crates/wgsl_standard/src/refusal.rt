@@ -1,5 +1,6 @@
 // Which operand of a call is refused.
 ghost use Rattle.std.specs.Prelude.{◌≡◌, ◌↔◌, IsTrue};
+ghost use Rattle.wgsl_standard.specs.Mismatches.{IsMismatch};
 ghost use Rattle.wgsl_rules.specs.standard.Refusal.{SomeTakesFirst, IsRefusedAt};
 ghost use Rattle.wgsl_standard.specs.Operands.{operands_view};
 ghost use Rattle.wgsl_standard.specs.internal.Binding.{takes_first as it_takes_first, some_takes_first as one_takes_first};
@@ -8,6 +9,7 @@ use crate::binding::bind_first;
 use crate::operand::Operand;
 use crate::overload::parameters_of;
 use crate::resolve::{must_be_concrete, settle};
+use crate::written::parameter_count;
 use wgsl_syntax::overload::Overload;
 
 /// The index of the first operand so that no overload takes the operands up to it as its first ones; None if there is none.
@@ -48,5 +50,28 @@ fn takes_first(overload: &Overload, operands: &[Operand]) -> bool
     match bind_first(concrete, parameters_of(overload), operands) {
         Some(binding) => settle(concrete, overload, binding).is_some(),
         None => false,
+    }
+}
+
+/// Why an overload doesn't take the operands.
+#[derive(Clone, Copy, PartialEq, Eq, Debug)]
+pub enum Mismatch {
+    /// It has this number of parameters.
+    Count(usize),
+    /// The index of the first operand that it doesn't take after the operands before it.
+    Argument(usize),
+}
+
+/// Why the overload doesn't take the operands; None if it does.
+pub fn refused_by(overload: &Overload, operands: &[Operand]) -> Option<Mismatch>
+    ensures { IsMismatch overload.now (operands_view operands.now) result }
+{
+    let count = parameter_count(parameters_of(overload));
+    if count != operands.len() {
+        return Some(Mismatch::Count(count));
+    }
+    match refused_at(&[*overload], operands) {
+        Some(index) => Some(Mismatch::Argument(index)),
+        None => None,
     }
 }

@@ -6,6 +6,7 @@ pub mod conv;
 pub mod error;
 pub mod inst;
 pub mod laws;
+pub mod standard;
 pub mod syntax;
 pub mod tplt;
 pub mod ty;
