@@ -1,0 +1,32 @@
+// The overloads of a name.
+use crate::operators::{binary_operator, unary_operator};
+use std::alloc::{AllocError, Global};
+use wgsl_types::standard::{Callee, signatures};
+
+/// Writes the signatures of the operators, the function or the constructor with this name, one on a line, and then an
+/// empty line.
+pub fn write_overloads(alloc: Global, name: &str, text: &mut String) -> Result<(), AllocError> {
+    if let Some(operator) = unary_operator(name) {
+        write_signatures(alloc, Callee::Unary(operator), text)?;
+    }
+    if let Some(operator) = binary_operator(name) {
+        write_signatures(alloc, Callee::Binary(operator), text)?;
+    }
+    write_signatures(alloc, Callee::Function(name), text)?;
+    write_signatures(alloc, Callee::Constructor(name), text)?;
+    text.push('\n')
+}
+
+fn write_signatures(
+    alloc: Global,
+    callee: Callee<'_>,
+    text: &mut String,
+) -> Result<(), AllocError> {
+    let listed = signatures(alloc, callee)?;
+    for signature in &listed {
+        let line = signature.to_string(alloc)?;
+        text.push_str(line.as_str())?;
+        text.push('\n')?;
+    }
+    Ok(())
+}

@@ -1,0 +1,56 @@
+// What an editor shows for a call of `mix`: the signatures, and the type of the call or why it has none.
+#![tactic(auto)]
+
+use std::alloc::Global;
+use std::io::Write;
+use std::{fmt, io};
+use wgsl_types::Type;
+use wgsl_types::standard::{Callee, Operand, Unresolved, explain, signatures, type_builtin_fn};
+
+/// One line per signature, or per note.
+fn show_all<W: Write, T: fmt::Display>(output: &mut W, lines: &[T]) -> io::Result<()> {
+    for line in lines {
+        writeln!(output, "  {line}")?;
+    }
+    Ok(())
+}
+
+/// The type of the call, or one note per overload. Only out of memory is an error of ours.
+fn show_call<W: Write>(alloc: Global, output: &mut W, args: &[Operand<'_>]) -> io::Result<()> {
+    match type_builtin_fn(alloc, "mix", None, args) {
+        Ok(Some(ty)) => writeln!(output, "  {ty}"),
+        Ok(None) => writeln!(output, "  no value"),
+        Err(Unresolved::NoOverload) => {
+            let notes = explain(alloc, Callee::Function("mix"), None, args)?;
+            show_all(output, &notes)
+        }
+        Err(Unresolved::OutOfMemory(e)) => Err(io::Error::from(e)),
+    }
+}
+
+/// Two calls with a variable `v` of this type.
+fn show_calls<W: Write>(alloc: Global, output: &mut W, ty: &Type) -> io::Result<()> {
+    let literal = Type::AbstractInt;
+    let v = Operand {
+        ty,
+        is_constant: false,
+    };
+    let one = Operand {
+        ty: &literal,
+        is_constant: true,
+    };
+    writeln!(output, "mix(v, v, 1)")?;
+    show_call(alloc, output, &[v, v, one])?;
+    writeln!(output, "mix(v, 1, 1)")?;
+    show_call(alloc, output, &[v, one, one])
+}
+
+fn main(rt: HostRuntime) -> io::Result<()> {
+    let alloc = rt.alloc();
+    let mut output = rt.stdout();
+    writeln!(output, "mix")?;
+    let known = signatures(alloc, Callee::Function("mix"))?;
+    show_all(&mut output, &known)?;
+    let vector = Type::vector(alloc, 3, Type::F32)?;
+    show_calls(alloc, &mut output, &vector)
+}

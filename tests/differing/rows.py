@@ -1,0 +1,227 @@
+"""Which differences each row of docs/DIFFERENCES.md covers.
+
+A rule names its row by the first cell, and by the second too if that is not unique. The names of functions and operators
+that a rule speaks of are those in the first cell, unless it gives them itself; a rule with `names=""` tells by itself which
+it covers."""
+import re
+
+from types_in_words import ABSTRACT_INT, BOOL, FLOATS, INTEGERS, count_of, is_abstract, is_vector, of
+
+
+class Rule:
+    def __init__(self, item, covers, second=None, names=None):
+        self.item, self.second, self.covers = item, second, covers
+        self.names = re.findall(r"`([^`]+)`", item) if names is None else names.split()
+
+    def explains(self, difference):
+        return (not self.names or difference.name in self.names) and self.covers(difference)
+
+
+def concrete(answer):
+    return answer.replace("AbstractInt", "i32").replace("AbstractFloat", "f32")
+
+
+def first_of(scalars):
+    """A call that is refused here, whose first operand is one of the scalars or a vector of one."""
+    return lambda d: d.is_narrower and bool(d.types) and of(scalars, d.types[0])
+
+
+def third_is_abstract_int(d):
+    return d.is_narrower and is_vector(d.types[0]) and d.types[2] == "AbstractInt"
+
+
+def mixes_values(d):
+    return first_of(ABSTRACT_INT)(d) and (is_vector(d.types[2]) or not is_vector(d.types[0]))
+
+
+def differs_in_abstractness(d):
+    return d.is_narrower and len({is_abstract(t) for t in d.types}) == 2
+
+
+def scales_by_64_bits(d):
+    return d.is_narrower and of({"i64"}, d.types[1])
+
+
+def is_wider(d):
+    return d.is_wider
+
+
+def takes_bool(d):
+    return d.is_wider and d.command == "binary" and any(of(BOOL, t) for t in d.types)
+
+
+def is_of_two_bools(d):
+    return d.is_narrower and d.types == ("bool", "bool")
+
+
+def negates(d):
+    if d.command != "unary":
+        return False
+    t = d.types[0]
+    return d.is_wider and t in ("u32", "u64", "bool") or d.is_narrower and is_vector(t)
+
+
+def inverts_vector(d):
+    return d.is_wider and is_vector(d.types[0]) and not of(BOOL, d.types[0])
+
+
+def stays_abstract(d):
+    """Not all operands are const-expressions, and WGSL makes concrete what the answer here is."""
+    both = d.ours is not None and d.theirs is not None
+    return both and not all(d.constant) and is_abstract(d.ours) and d.theirs == concrete(d.ours)
+
+
+def tests_no_bool(d):
+    return d.is_wider and len(d.types) == 1 and not of(BOOL, d.types[0])
+
+
+def are_of_two_lengths(t, u):
+    return is_vector(t) and is_vector(u) and count_of(t) != count_of(u)
+
+
+def differs_in_length(i, j):
+    return lambda d: d.is_wider and are_of_two_lengths(d.types[i], d.types[j])
+
+
+def keeps(scalar, other):
+    """The answer has the abstract scalar of the argument where WGSL's has the other scalar."""
+    return lambda d: of({scalar}, d.types[0]) and scalar in (d.ours or "") and d.theirs == d.ours.replace(scalar, other)
+
+
+def takes_unsigned(d):
+    return d.is_wider and len(d.types) == 1 and of({"u64"}, d.types[0])
+
+
+def inserts_float(d):
+    return d.is_wider and of(ABSTRACT_INT, d.types[0]) and of(FLOATS, d.types[1])
+
+
+def packs_floats(d):
+    return (d.is_wider or d.is_narrower) and len(d.types) == 1 and is_vector(d.types[0])
+
+
+def shuffles_by_integer(d):
+    return d.is_wider and d.types[1] in INTEGERS - {"u32"}
+
+
+def has_no_argument(d):
+    return d.is_wider and not d.types
+
+
+def is_texture_call(d):
+    return d.is_wider and d.name.startswith("texture")
+
+
+def is_atomic_call(d):
+    return d.is_wider and d.name.startswith("atomic")
+
+
+def lacks_type(d):
+    return d.ours is not None and (d.theirs or "").startswith(d.ours + "<")
+
+
+def loads_other(d):
+    return d.is_wider and d.types[0].startswith("ptr workgroup ")
+
+
+def returns_atomic(d):
+    return d.ours == f"atomic<{d.theirs}>"
+
+
+def is_matrix(d):
+    return d.command == "ctor" and d.name.startswith("mat")
+
+
+def miscounts_column(d):
+    columns, rows = (int(c) for c in d.name[3:].split("x")) if is_matrix(d) else (0, 0)
+    counted = d.is_wider and len(d.types) == columns
+    return counted and all(is_vector(t) and count_of(t) != rows for t in d.types)
+
+
+def makes_f32(d):
+    made = is_matrix(d) and d.template == "-" and all(of(ABSTRACT_INT, t) for t in d.types)
+    return made and d.theirs == (d.ours or "").replace("f32", "AbstractFloat")
+
+
+# References are loaded by tests/differences, which asks what the answer is then.
+REFERENCES = Rule("an operand that is a reference", lambda d: False)
+
+RULES = [
+    Rule("`atan2`", first_of(ABSTRACT_INT)),
+    Rule("`step`", first_of(ABSTRACT_INT)),
+    Rule("`distance`", first_of(ABSTRACT_INT)),
+    Rule("`cross`", first_of(ABSTRACT_INT), second="the first argument is a vector of AbstractInt"),
+    Rule("`reflect`", first_of(ABSTRACT_INT)),
+    Rule("`fma`", first_of(ABSTRACT_INT)),
+    Rule("`smoothstep`", first_of(ABSTRACT_INT)),
+    Rule("`faceForward`", first_of(ABSTRACT_INT)),
+    Rule("`mix` of three scalars or three vectors", mixes_values),
+    Rule("`mix` of two vectors and a scalar", third_is_abstract_int),
+    Rule("`refract`", third_is_abstract_int),
+    Rule(
+        "`acos`, `acosh`, `asin`, `asinh`, `atan`, `atanh`, `ceil`, `cos`, `cosh`, `degrees`, `exp`, `exp2`, `floor`, "
+        "`fract`, `inverseSqrt`, `log`, `log2`, `radians`, `round`, `saturate`, `sin`, `sinh`, `sqrt`, `tan`, `tanh`, "
+        "`trunc`",
+        first_of(ABSTRACT_INT),
+    ),
+    Rule("`length`", first_of(ABSTRACT_INT)),
+    Rule("`normalize`", first_of(ABSTRACT_INT)),
+    Rule("`quantizeToF16`", first_of(ABSTRACT_INT), second="the argument is AbstractInt or a vector of it"),
+    Rule(
+        "`dpdx`, `dpdxCoarse`, `dpdxFine`, `dpdy`, `dpdyCoarse`, `dpdyFine`, `fwidth`, `fwidthCoarse`, `fwidthFine`",
+        first_of(ABSTRACT_INT),
+    ),
+    Rule("`frexp`, `modf`", first_of(ABSTRACT_INT)),
+    Rule("`ldexp`", first_of(ABSTRACT_INT), second="the first argument is AbstractInt or a vector of it"),
+    Rule("`ldexp`", differs_in_abstractness, second="one argument is abstract and the other is not"),
+    Rule("`ldexp`", scales_by_64_bits, second="the second argument is `i64` or a vector of it"),
+    Rule("`+`, `-`, `*`, `/`, `%`", takes_bool),
+    Rule("`<`, `<=`, `>`, `>=`", takes_bool),
+    Rule("`|`, `&` of two `bool`", is_of_two_bools, names="| &"),
+    Rule("unary `-`", negates),
+    Rule("`!`", inverts_vector),
+    REFERENCES,
+    Rule("an abstract operand beside one of the runtime", stays_abstract),
+    Rule("`all`, `any`", tests_no_bool),
+    Rule("`arrayLength`", is_wider),
+    Rule("`pow`", is_wider, second="takes any two types with a common type"),
+    Rule("`pow`", keeps("AbstractInt", "AbstractFloat"), second="keeps AbstractInt"),
+    Rule("`sign`", takes_unsigned),
+    Rule("`cross`", is_wider, second="takes vectors of any length"),
+    Rule("`select`", differs_in_length(0, 2)),
+    Rule("`ldexp`", differs_in_length(0, 1), second="doesn't compare the lengths of its vectors"),
+    Rule(
+        "`insertBits`",
+        inserts_float,
+        second="takes a float as its second argument if the first is an abstract integer",
+    ),
+    Rule("`reverseBits`", keeps("AbstractInt", "i32")),
+    Rule("`quantizeToF16`", keeps("AbstractFloat", "f32"), second="keeps an abstract type"),
+    Rule("`pack4xI8Clamp`, `pack4xU8Clamp`", packs_floats),
+    Rule("`bitcast`", is_wider),
+    Rule("`subgroupShuffleUp`, `subgroupShuffleDown`, `subgroupShuffleXor`", shuffles_by_integer),
+    Rule("`subgroupBallot`", has_no_argument),
+    Rule("texture functions", is_texture_call),
+    Rule("atomic functions", is_atomic_call),
+    Rule("`atomicCompareExchangeWeak`", lacks_type),
+    Rule("`workgroupUniformLoad`", loads_other),
+    Rule("`workgroupUniformLoad` of an atomic", returns_atomic),
+    Rule("constructors of matrices", miscounts_column),
+    Rule("constructors of matrices without a template, of AbstractInt", makes_f32),
+]
+
+# Rows about which nothing is asked, or whose questions have one answer: the first cell, the second if the first is not
+# unique, and why.
+NOT_ASKED = [
+    ("`insertBits`", "the first argument is a float or a vector of floats", "WGSL refuses these too"),
+    ("`f64` beside an abstract operand", None, "WGSL has no `f64`, and abstract types don't convert to it there either"),
+    ("functions of ray queries", None, "they are naga's, so they have no overloads"),
+    ("`rayQueryTerminate`, `rayQueryConfirmIntersection`, `rayQueryGenerateIntersection`", None, "these too"),
+    ("constructors of arrays with a template", None, "constructors of arrays have no overloads"),
+    ("the texel format `rg11b10ufloat`", None, "both programs have its name from the same crate"),
+    ("`TextureType::sampled_type` of `texture_multisampled_2d`", None, "no request asks for it"),
+    ("the size and the alignment of `bool`", None, "it is about layout"),
+    ("`vec3` of `bool` or of a scalar of 64 bits", None, "it is about layout"),
+    ("a struct that ends in a runtime-sized array", None, "it is about layout"),
+    ("`@size`, `@align`", None, "they are about layout"),
+]

@@ -1,0 +1,65 @@
+"""Types as WGSL spells them, and the same types in the words of the program."""
+import functools
+
+SCALARS = "bool AbstractInt AbstractFloat i32 u32 f32 f16".split()
+STRUCTS = {
+    "Light": [("color", "vec3<f32>"), ("level", "f32")],
+    "Counter": [("count", "atomic<u32>")],
+    "Row": [("length", "u32"), ("cells", "array<f32>")],
+}
+
+
+def split_list(text):
+    """The parts of a list between commas that stand in no brackets."""
+    parts, depth = [""], 0
+    for c in text:
+        depth += (c == "<") - (c == ">")
+        if c == "," and depth == 0:
+            parts.append("")
+        else:
+            parts[-1] += c
+    return [part.strip() for part in parts if part.strip()]
+
+
+@functools.cache
+def parts_of(t):
+    """The name of a type, and what stands in its brackets."""
+    name, _, rest = t.partition("<")
+    return name, tuple(split_list(rest[:-1]))
+
+
+@functools.cache
+def words(t):
+    if t in STRUCTS:
+        members = (f" {name} - - {words(member)}" for name, member in STRUCTS[t])
+        return f"struct {t} {len(STRUCTS[t])}" + "".join(members)
+    name, parts = parts_of(t)
+    if name in ("ptr", "ref"):
+        space, inner, access = parts
+        return f"{name} {space} {access} {words(inner)}"
+    if name == "array":
+        return f"array {parts[1] if len(parts) > 1 else '*'} {words(parts[0])}"
+    if name.startswith("vec"):
+        return f"vec {name[3]} {words(parts[0])}"
+    if name.startswith("mat"):
+        return f"mat {name[3]} {name[5]} {words(parts[0])}"
+    return " ".join([name, *map(words, parts)])
+
+
+def is_abstract(t):
+    return "Abstract" in t
+
+
+def is_value(t):
+    """Whether an expression of this type can be a const-expression."""
+    return t in SCALARS or t in STRUCTS or parts_of(t)[0].startswith(("vec", "mat", "array"))
+
+
+def is_constructible(t):
+    """Whether a type is concrete and constructible."""
+    if t in STRUCTS:
+        return all(is_constructible(member) for _, member in STRUCTS[t])
+    name, parts = parts_of(t)
+    if name == "array":
+        return len(parts) == 2 and is_constructible(parts[0])
+    return not is_abstract(t) and (t in SCALARS or name.startswith(("vec", "mat")))
