@@ -68,17 +68,17 @@ fn binary_of(
 
 /// The name of a constructor or a built-in function, with its template and its arguments.
 #[derive(Drop)]
-struct Call<'t> {
+struct Request<'t> {
     name: &'t str,
     template: Option<Vec<TpltParam>>,
     arguments: Vec<Given>,
 }
 
-fn read_call<'t>(alloc: Global, words: &mut Words<'t>) -> Result<Call<'t>, Unread> {
+fn read_call<'t>(alloc: Global, words: &mut Words<'t>) -> Result<Request<'t>, Unread> {
     let name = words.next(Wanted::Name)?;
     let template = read_template(alloc, words)?;
     let arguments = read_operands(alloc, words)?;
-    Ok(Call {
+    Ok(Request {
         name,
         template,
         arguments,
@@ -93,7 +93,7 @@ fn call(alloc: Global, words: &mut Words) -> Result<Option<Type>, Refusal> {
     answer
 }
 
-fn type_of_call(alloc: Global, call: &Call) -> Result<Option<Type>, Refusal> {
+fn type_of_call(alloc: Global, call: &Request) -> Result<Option<Type>, Refusal> {
     let template = template_of(&call.template)?;
     let arguments = operands_of(alloc, &call.arguments)?;
     Ok(type_builtin_fn(alloc, call.name, template, &arguments)?)
@@ -107,7 +107,7 @@ fn ctor(alloc: Global, words: &mut Words) -> Result<Option<Type>, Refusal> {
     answer
 }
 
-fn type_of_ctor(alloc: Global, call: &Call) -> Result<Option<Type>, Refusal> {
+fn type_of_ctor(alloc: Global, call: &Request) -> Result<Option<Type>, Refusal> {
     let template = template_of(&call.template)?;
     let arguments = operands_of(alloc, &call.arguments)?;
     Ok(type_ctor(alloc, call.name, template, &arguments)?)

@@ -36,12 +36,12 @@ use crate::call::source::{
 use crate::template::BitcastTemplate;
 pub use find::{find_call, names_match_table, names_sorted};
 use std::alloc::{AllocError, Global};
-use wgsl_core::ty::result_type::{exchange_result, hit_positions, ray_intersection, result_struct};
 use wgsl_core::error::{Error, Fail};
 use wgsl_core::operators::resolve::{Element, ResolvedType};
 use wgsl_core::signature::{CallSignature, TpltParam};
 use wgsl_core::ty::Type;
 use wgsl_core::ty::result_struct::shaped_float;
+use wgsl_core::ty::result_type::{exchange_result, hit_positions, ray_intersection, result_struct};
 use wgsl_syntax::call::{ReturnType, Row};
 use wgsl_syntax::result_struct::{ResultFunction, ResultStruct};
 
