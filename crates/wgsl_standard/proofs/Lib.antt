@@ -15,3 +15,4 @@ pub mod OperatorTables
 pub mod NamedTables
 pub mod StandardAnswers
 pub mod SortedTables
+pub mod Search

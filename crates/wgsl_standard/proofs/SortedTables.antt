@@ -1,5 +1,6 @@
 -- The names of the tables are sorted and distinct.
-use Rattle.std.proofs.Common.{refl}
+use Rattle.std.proofs.Common.{◌≡◌, ℕ, List, refl, sym, subst}
+use Rattle.wgsl_syntax.specs.declared.overload.Overload.{Overload}
 use Rattle.wgsl_rules.specs.calls.Names.{IsRising}
 use Rattle.wgsl_rules.proofs.calls.SortedNames.{rises_far}
 use Rattle.wgsl_rules.specs.standard.Names.{function_table, names_of}
@@ -16,3 +17,7 @@ constructors_sorted = rises_far (names_of constructor_table) refl
 pub templates_sorted : IsRising (names_of template_constructor_table)
 unfolding template_constructor_table
 templates_sorted = rises_far (names_of template_constructor_table) refl
+
+-- rows that are those of the functions
+pub rows_sorted : (rows : List (List ℕ × List Overload)) → rows ≡ function_table → IsRising (names_of rows)
+rows_sorted rows e = subst (λ rows. IsRising (names_of rows)) (sym e) functions_sorted

@@ -9,6 +9,7 @@ ghost use Rattle.wgsl_standard.specs.internal.Sets.{function_row, constructor_ro
 use crate::constructors::{ConstructorSet, constructor_overloads};
 use crate::functions::{FunctionSet, function_overloads};
 use crate::templates::{BITCAST, TemplateSet, template_overloads};
+use std::cmp::Ordering;
 use wgsl_syntax::overload::Overload;
 
 /// The overloads of a built-in function, if the name is one.
@@ -20,12 +21,19 @@ pub fn function_named(name: &str) -> Option<&'static [Overload]>
     find_function(name, functions())
 }
 
+/// Binary search among the names.
 fn find_function(name: &str, functions: &[(&str, FunctionSet)]) -> Option<&'static [Overload]>
+    requires { IsRising (names_of (map function_row functions.now)) }
     ensures { option_map (λ o. o.now) result ≡ overloads_named name.now (map function_row functions.now) }
 {
-    for (listed, set) in functions {
-        if name == *listed {
-            return Some(function_overloads(*set));
+    let mut low = 0;
+    let mut high = functions.len();
+    while low < high {
+        let middle = low + (high - low) / 2;
+        match name.cmp(functions[middle].0) {
+            Ordering::Equal => return Some(function_overloads(functions[middle].1)),
+            Ordering::Less => high = middle,
+            Ordering::Greater => low = middle + 1,
         }
     }
     None
@@ -94,7 +102,15 @@ fn find_template(name: &str, templates: &[(&str, TemplateSet)]) -> Option<&'stat
 }
 
 /// The built-in functions, sorted by the bytes of their names.
+#[tactic(auto, using(crate::proofs::SortedTables::rows_sorted))]
 pub fn functions() -> &'static [(&'static str, FunctionSet)]
+    ensures rows { map function_row result.now ≡ function_table }
+    ensures sorted { IsRising (names_of (map function_row result.now)) }
+{
+    function_list()
+}
+
+fn function_list() -> &'static [(&'static str, FunctionSet)]
     ensures { map function_row result.now ≡ function_table }
 {
     &FUNCTIONS

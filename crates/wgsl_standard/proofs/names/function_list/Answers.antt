@@ -1,6 +1,6 @@
 use Rattle.std.proofs.Common.{refl}
 use Rattle.wgsl_rules.specs.standard.Names.{function_table}
-use Rattle.wgsl_standard.proofs.names.functions.Goals as goal
+use Rattle.wgsl_standard.proofs.names.function_list.Goals as goal
 
 pub returns : goal.returns
 unfolding function_table
