@@ -1,6 +1,7 @@
 // The operands that words stand for.
 use std::alloc::{AllocError, Global};
 use wgsl_requests::read::{read_type, read_type_at};
+use wgsl_requests::request::LONGEST;
 use wgsl_requests::wanted::Wanted;
 use wgsl_requests::words::{Unread, Words};
 use wgsl_types::standard::Operand;
@@ -25,7 +26,11 @@ impl Given {
 /// The operands that all words that are left stand for.
 pub fn read_operands(alloc: Global, words: &mut Words) -> Result<Vec<Given>, Unread> {
     let mut given = Vec::with_capacity(alloc, 4)?;
-    while let Ok(word) = words.next(Wanted::Type) {
+    // A line has no more words than bytes.
+    for _ in 0..LONGEST {
+        let Ok(word) = words.next(Wanted::Type) else {
+            break;
+        };
         given.push(read_operand(alloc, word, words)?)?;
     }
     Ok(given)
