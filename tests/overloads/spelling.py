@@ -47,7 +47,7 @@ def words(t):
 
 
 def is_abstract(t):
-    return "Abstract" in t
+    return "Abstract" in t and not t.startswith("ptr")
 
 
 def is_value(t):

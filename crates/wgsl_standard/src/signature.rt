@@ -54,7 +54,7 @@ impl fmt::Display for Signature<'_> {
     fn fmt<W: Write>(&self, f: &mut fmt::Formatter<W>) -> fmt::Result {
         write_callee(f, self.callee)?;
         let parameters = parameters_of(self.overload);
-        write_template(f, parameters, self.has_template)?;
+        write_template(f, parameters, self.has_template, self.of_vectors)?;
         write_parameters(f, parameters, self.has_template, self.of_vectors)?;
         write_returns(f, result_of(self.overload), self.of_vectors)?;
         write_letters(f, self.overload, resource_of(parameters))
@@ -74,6 +74,7 @@ fn write_template<W: Write>(
     f: &mut fmt::Formatter<W>,
     parameters: &Parameters,
     has_template: bool,
+    of_vectors: bool,
 ) -> fmt::Result {
     if !has_template {
         return Ok(());
@@ -81,7 +82,7 @@ fn write_template<W: Write>(
     match pattern_at(parameters, 0) {
         Some(template) => {
             f.write_str("<")?;
-            write_pattern(f, template, false)?;
+            write_pattern(f, template, of_vectors)?;
             f.write_str(">")
         }
         None => Ok(()),
