@@ -5,7 +5,7 @@
 top=$(dirname "$(readlink -f "${BASH_SOURCE[0]}")")
 
 # The line that `rt version` prints for the toolchain by which all proofs are checked, as README.md says.
-kit="rattle-kit-13b logic dac8208d650f15bf"
+kit="rattle-kit-13f logic dac8208d650f15bf"
 
 say() {
     echo "${0##*/}: $*" >&2 || true

@@ -94,7 +94,7 @@ def wrong_use_of_a_built_program(use):
 
 def no_toolchain(use):
     use.without("rt")
-    expect(use.run("./wgsl_check"), 4, "", "wgsl_check: there is no `rt` on the path", "rattle-kit-13b logic dac8208d")
+    expect(use.run("./wgsl_check"), 4, "", "wgsl_check: there is no `rt` on the path", "rattle-kit-13f logic dac8208d")
 
 
 def no_toolchain_and_a_built_program(use):
@@ -116,7 +116,7 @@ def another_toolchain(use):
     use.unsay("version")
     use.say("version", "rattle-kit-99 logic 0123456789abcdef\n")
     warning = "warning: the toolchain is `rattle-kit-99 logic 0123456789abcdef`"
-    expect(use.run("./wgsl_check"), 0, ANSWERS, warning, "rattle-kit-13b", "7 of 7")
+    expect(use.run("./wgsl_check"), 0, ANSWERS, warning, "rattle-kit-13f", "7 of 7")
     expect(use.run("./wgsl_check"), 0, ANSWERS)
 
 

@@ -58,7 +58,7 @@ def make_said(said):
     os.makedirs(os.path.join(said, "bin"))
     os.symlink(os.path.join(STAND_IN, "rt"), os.path.join(said, "bin", "rattle"))
     shutil.copy(os.path.join(STAND_IN, "program"), said)
-    add(os.path.join(said, "version"), "rattle-kit-13b logic dac8208d650f15bf\n")
+    add(os.path.join(said, "version"), "rattle-kit-13f logic dac8208d650f15bf\n")
     add(os.path.join(said, "empty.c"))
     subprocess.run(["cc", "-c", "empty.c"], cwd=said, check=True)
     subprocess.run(["ar", "rc", "archive.a", "empty.o"], cwd=said, check=True)
