@@ -151,8 +151,8 @@ stop() {
 prove() {
     local crates at=0 crate verb
     mapfile -t crates < <(crates_of "$1")
-    say "proving $1 and the $((${#crates[@]} - 1)) crates that it stands on, one by one. From scratch ./wgsl_check took" \
-        "26 to 57 minutes of processor time, half of that on four processors. A crate that has not changed takes seconds"
+    say "proving $1 and the $((${#crates[@]} - 1)) crates that it stands on, one by one. From scratch ./wgsl_check takes" \
+        "about 30 to 65 minutes of processor time, half of that on four processors. A crate that has not changed takes seconds"
     for crate in "${crates[@]}"; do
         at=$((at + 1))
         verb=lib

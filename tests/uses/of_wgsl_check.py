@@ -12,7 +12,7 @@ from use import ANSWERS, BELOW, PROGRAM, STAND_IN, add, end_of, equal, expect, h
 
 def first_run(use):
     ended = use.run("./wgsl_check")
-    expect(ended, 0, ANSWERS, "proving wgsl_check and the 7 crates that it stands on", "26 to 57 minutes of processor time")
+    expect(ended, 0, ANSWERS, "proving wgsl_check and the 7 crates that it stands on", "30 to 65 minutes of processor time")
     lines = ended[2].splitlines()
     equal(len(lines), 9)
     for at, crate in enumerate(BELOW + ["wgsl_check"], 1):
