@@ -1,5 +1,5 @@
 -- What is called, and the overloads of it.
-use Rattle.std.specs.Prelude.{ℕ, List, [], Option, Some, None, Bool, true, false}
+use Rattle.std.specs.Prelude.{List, [], Option, Some, None, Bool, true, false}
 use Rattle.wgsl_syntax.specs.declared.overload.Overload.{Overload}
 use Rattle.wgsl_rules.specs.standard.Operators.{binary_overloads, unary_overloads}
 use Rattle.wgsl_rules.specs.standard.Names.{function_table, template_function_table, overloads_named}

@@ -1,5 +1,5 @@
 -- Why an overload doesn't take operands.
-use Rattle.std.specs.Prelude.{ℕ, List, [], ◌∷◌, ◌≡◌, ◌≢◌, Option, Some, None, length}
+use Rattle.std.specs.Prelude.{List, [], ◌∷◌, ◌≡◌, ◌≢◌, Option, Some, None, length}
 use Rattle.wgsl_syntax.specs.declared.overload.Overload.{Overload}
 use Rattle.wgsl_rules.specs.standard.Overloads.{patterns_of}
 use Rattle.wgsl_rules.specs.standard.Choice.{Operand}

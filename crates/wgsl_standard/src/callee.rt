@@ -24,35 +24,14 @@ pub fn overloads(callee: Callee<'_>, has_template: bool) -> &'static [Overload]
     ensures row { result.now ≡ overloads_of callee.entry has_template }
     ensures unambiguous { IsUnambiguous result.now }
 {
-    match callee {
-        Callee::Unary(operator) => {
-            if has_template {
-                none()
-            } else {
-                unary_overloads(operator)
-            }
-        }
-        Callee::Binary(operator) => {
-            if has_template {
-                none()
-            } else {
-                binary_overloads(operator)
-            }
-        }
-        Callee::Function(name) => {
-            if has_template {
-                listed(template_function_named(name))
-            } else {
-                listed(function_named(name))
-            }
-        }
-        Callee::Constructor(name) => {
-            if has_template {
-                listed(template_constructor_named(name))
-            } else {
-                listed(constructor_named(name))
-            }
-        }
+    match (callee, has_template) {
+        (Callee::Unary(operator), false) => unary_overloads(operator),
+        (Callee::Binary(operator), false) => binary_overloads(operator),
+        (Callee::Unary(_) | Callee::Binary(_), true) => none(),
+        (Callee::Function(name), false) => listed(function_named(name)),
+        (Callee::Function(name), true) => listed(template_function_named(name)),
+        (Callee::Constructor(name), false) => listed(constructor_named(name)),
+        (Callee::Constructor(name), true) => listed(template_constructor_named(name)),
     }
 }
 

@@ -103,15 +103,9 @@ pub fn parameter_for(
 ) -> Result<Type, AllocError>
     ensures { IfOk result (λ t. view t ≡ parameter_there instance.now pattern (operand_view operand.now).of_type) }
 {
-    match pattern {
-        Pattern::Value(shape, component) => value_type(
-            alloc,
-            dimensions_in(instance, shape),
-            component_in(instance, component),
-        ),
-        Pattern::Sampler(sampler) => Ok(Type::Sampler(sampler)),
-        Pattern::Texture(texture) => Ok(Type::Texture(texture)),
-        Pattern::Resource(_) => loaded(operand.ty).clone(alloc),
+    match type_in(alloc, instance, pattern)? {
+        Some(ty) => Ok(ty),
+        None => loaded(operand.ty).clone(alloc),
     }
 }
 
