@@ -6,6 +6,7 @@ pub mod binding;
 pub mod callee;
 pub mod constructors;
 pub mod explanation;
+pub mod fitting;
 pub mod functions;
 pub mod gathering;
 pub mod instance;

@@ -5,7 +5,8 @@ ghost use Rattle.wgsl_rules.specs.standard.Refusal.{SomeTakesFirst, IsRefusedAt}
 ghost use Rattle.wgsl_standard.specs.Operands.{operands_view};
 ghost use Rattle.wgsl_standard.specs.internal.Binding.{takes_first as it_takes_first, some_takes_first as one_takes_first};
 
-use crate::binding::bind_first;
+use crate::binding::FREE;
+use crate::fitting::bind_first;
 use crate::operand::Operand;
 use crate::overload::parameters_of;
 use crate::resolve::{must_be_concrete, settle};
@@ -47,10 +48,9 @@ fn takes_first(overload: &Overload, operands: &[Operand]) -> bool
     ensures { result ≡ it_takes_first overload.now (operands_view operands.now) }
 {
     let concrete = must_be_concrete(operands);
-    match bind_first(concrete, parameters_of(overload), operands) {
-        Some(binding) => settle(concrete, overload, binding).is_some(),
-        None => false,
-    }
+    let mut binding = FREE;
+    bind_first(concrete, &mut binding, parameters_of(overload), operands)
+        && settle(concrete, overload, &binding).is_some()
 }
 
 /// Why an overload doesn't take the operands.

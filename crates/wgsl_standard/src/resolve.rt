@@ -6,7 +6,8 @@ ghost use Rattle.wgsl_standard.specs.Operands.{operands_view};
 ghost use Rattle.wgsl_standard.specs.internal.Binding.{must_be_concrete as must_all_be_concrete, instance_at as instance_there, settle as settled, instance_of as least_instance, first_of as first_chosen};
 ghost use Rattle.wgsl_standard.specs.internal.Choices.{choice_view};
 
-use crate::binding::{Binding, bind_all};
+use crate::binding::{Binding, FREE};
+use crate::fitting::bind_all;
 use crate::letter::pick;
 use crate::operand::Operand;
 use crate::overload::{kind_of_t, kind_of_u, kind_of_v, kind_of_w, parameters_of};
@@ -56,13 +57,17 @@ pub fn must_be_concrete(operands: &[Operand]) -> bool
 fn instance_of(concrete: bool, overload: &Overload, operands: &[Operand]) -> Option<Instance>
     ensures { result ≡ least_instance concrete overload.now (operands_view operands.now) }
 {
-    let binding = bind_all(concrete, parameters_of(overload), operands)?;
-    settle(concrete, overload, binding)
+    let mut binding = FREE;
+    if bind_all(concrete, &mut binding, parameters_of(overload), operands) {
+        settle(concrete, overload, &binding)
+    } else {
+        None
+    }
 }
 
 /// What the letters stand for in the end.
-pub fn settle(concrete: bool, overload: &Overload, binding: Binding) -> Option<Instance>
-    ensures { result ≡ settled concrete overload.now binding }
+pub fn settle(concrete: bool, overload: &Overload, binding: &Binding) -> Option<Instance>
+    ensures { result ≡ settled concrete overload.now binding.now }
 {
     let t = pick(concrete, kind_of_t(overload), binding.t)?;
     let u = pick(concrete, kind_of_u(overload), binding.u)?;
@@ -71,8 +76,8 @@ pub fn settle(concrete: bool, overload: &Overload, binding: Binding) -> Option<I
     Some(instance_at(binding, t, u, v, w))
 }
 
-fn instance_at(binding: Binding, t: Scalar, u: Scalar, v: Scalar, w: Scalar) -> Instance
-    ensures { result ≡ instance_there binding t u v w }
+fn instance_at(binding: &Binding, t: Scalar, u: Scalar, v: Scalar, w: Scalar) -> Instance
+    ensures { result ≡ instance_there binding.now t u v w }
 {
     Instance {
         t,

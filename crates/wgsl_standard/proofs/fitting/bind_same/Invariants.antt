@@ -1,0 +1,7 @@
+use Rattle.std.proofs.Common.{◌≡◌, drop}
+use Rattle.wgsl_standard.specs.internal.Binding.{bind_same}
+use Rattle.wgsl_standard.specs.Operands.{operands_view}
+use Rattle.wgsl_standard.proofs.fitting.bind_same.Given as goal
+
+abbrev pub invariant-loop-operand : goal.invariant-loop-operand
+invariant-loop-operand l = bind_same l.concrete l.binding l.pattern (operands_view (drop l.operand-index l.operands)) ≡ bind_same l.concrete l.fn.binding l.pattern (operands_view l.operands)
