@@ -1,6 +1,7 @@
 // The calls, each made again and again on the same operands.
 //
 // Which operands a call gets depends on the answers before it, so that no compiler makes one call in place of many.
+use crate::standard::{choices, standard_calls};
 use std::alloc::Global;
 use wgsl_requests::read::{read_last_type, read_pair, read_types};
 use wgsl_requests::template::read_template;
@@ -26,6 +27,8 @@ pub fn repeat(alloc: Global, request: &str) -> Result<u64, Unread> {
         "size" => sizes(alloc, times, &mut words),
         "ctor" => constructors(alloc, times, &mut words),
         "call" => calls(alloc, times, &mut words),
+        "choice" => choices(alloc, times, &mut words),
+        "standard" => standard_calls(alloc, times, &mut words),
         _ => Err(Unread::Word(Misfit::Wrong(Wanted::Command))),
     }
 }

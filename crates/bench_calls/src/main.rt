@@ -3,6 +3,7 @@
 #![tactic(auto)]
 
 mod calls;
+mod standard;
 
 use calls::repeat;
 use std::io::{Read, Write};
