@@ -15,7 +15,10 @@ pub fn choices(alloc: Global, times: u32, words: &mut Words) -> Result<u64, Unre
     let name = words.next(Wanted::Name)?;
     let types = read_types(alloc, words)?;
     let operands = operands_of(alloc, &types)?;
-    let given = count(times, overloads(callee(name), false), &operands);
+    let given = match overloads(callee(name), false) {
+        Some(overloads) => count(times, overloads, &operands),
+        None => 0,
+    };
     drop(operands);
     drop(types);
     Ok(given)

@@ -16,3 +16,4 @@ pub mod NamedTables
 pub mod StandardAnswers
 pub mod SortedTables
 pub mod Search
+pub mod Noted

@@ -42,6 +42,3 @@ template_function_unambiguous name r e = seen r (overloads_named name template_f
 pub template_constructor_unambiguous : (name : List ℕ) (r : Option (Bor (List Overload))) → option_map (λ o. o.now) r ≡ overloads_named name template_constructor_table → IfSome r (λ o. IsUnambiguous o.now)
 unfolding template_constructor_table
 template_constructor_unambiguous name r e = seen r (overloads_named name template_constructor_table) e (named_unambiguous name template_constructor_table refl)
-
-pub none_unambiguous : IsUnambiguous []
-none_unambiguous = unambiguous_is [] refl

@@ -1,5 +1,5 @@
 -- What is called, and the overloads of it.
-use Rattle.std.specs.Prelude.{List, [], Option, Some, None, Bool, true, false}
+use Rattle.std.specs.Prelude.{List, Option, Some, None, Bool, true, false}
 use Rattle.wgsl_syntax.specs.declared.overload.Overload.{Overload}
 use Rattle.wgsl_rules.specs.standard.Operators.{binary_overloads, unary_overloads}
 use Rattle.wgsl_rules.specs.standard.Names.{function_table, template_function_table, overloads_named}
@@ -7,17 +7,13 @@ use Rattle.wgsl_rules.specs.standard.ConstructorNames.{constructor_table, templa
 use Rattle.wgsl_standard.specs.declared.callee.Callee.{Callee}
 use Rattle.wgsl_standard.specs.declared.callee.Callee.TheVariants as callees
 
-abbrev pub or_none : Option (List Overload) → List Overload
-or_none None = []
-or_none (Some os) = os
-
--- the overloads without a template, or those with one; a name that isn't listed has none
-abbrev pub overloads_of : Callee → Bool → List Overload
-overloads_of (callees.Unary o) false = unary_overloads o
-overloads_of (callees.Unary o) true = []
-overloads_of (callees.Binary o) false = binary_overloads o
-overloads_of (callees.Binary o) true = []
-overloads_of (callees.Function name) false = or_none (overloads_named name.now function_table)
-overloads_of (callees.Function name) true = or_none (overloads_named name.now template_function_table)
-overloads_of (callees.Constructor name) false = or_none (overloads_named name.now constructor_table)
-overloads_of (callees.Constructor name) true = or_none (overloads_named name.now template_constructor_table)
+-- the overloads without a template, or those with one; None if no such call is listed
+abbrev pub overloads_of : Callee → Bool → Option (List Overload)
+overloads_of (callees.Unary o) false = Some (unary_overloads o)
+overloads_of (callees.Unary o) true = None
+overloads_of (callees.Binary o) false = Some (binary_overloads o)
+overloads_of (callees.Binary o) true = None
+overloads_of (callees.Function name) false = overloads_named name.now function_table
+overloads_of (callees.Function name) true = overloads_named name.now template_function_table
+overloads_of (callees.Constructor name) false = overloads_named name.now constructor_table
+overloads_of (callees.Constructor name) true = overloads_named name.now template_constructor_table

@@ -3,4 +3,5 @@ pub mod Resolved
 pub mod Answered
 pub mod Callees
 pub mod Mismatches
+pub mod Explained
 pub mod internal

@@ -1,7 +1,9 @@
 // Why a call has no overload, one note per overload.
-ghost use Rattle.std.specs.Prelude.{IfOk, Some, All};
+ghost use Rattle.std.specs.Prelude.{IfOk, map, option_map};
+ghost use Rattle.wgsl_core.specs.View.{view};
 ghost use Rattle.wgsl_standard.specs.Operands.{operands_view};
-ghost use Rattle.wgsl_standard.specs.Mismatches.{IsMismatch};
+ghost use Rattle.wgsl_standard.specs.Callees.{overloads_of};
+ghost use Rattle.wgsl_standard.specs.Explained.{or_none, note_view, AddsNote, AreNotes, IsExplained};
 
 use crate::answer::{is_template, operands_with};
 use crate::callee::{Callee, overloads};
@@ -32,7 +34,10 @@ pub fn explain<'a>(
     callee: Callee<'a>,
     template: Option<&'a Type>,
     operands: &[Operand<'a>],
-) -> Result<Vec<Note<'a>>, AllocError> {
+) -> Result<Vec<Note<'a>>, AllocError>
+    ensures notes { IfOk result (λ v. IsExplained callee.entry (option_map (λ t. view t.now) template.entry)
+        (operands_view operands.now) (map note_view v.items)) }
+{
     match template {
         Some(template) => {
             if !is_template(template) {
@@ -51,27 +56,43 @@ fn notes<'a>(
     has_template: bool,
     operands: &[Operand<'a>],
 ) -> Result<Vec<Note<'a>>, AllocError>
-    ensures { IfOk result (λ v. All (λ n. IsMismatch n.signature.overload.now (operands_view operands.now) (Some n.mismatch)) v.items) }
+    ensures { IfOk result (λ v. AreNotes (operands_view operands.now)
+        (or_none (overloads_of callee.entry has_template)) (map note_view v.items)) }
 {
+    let listed = overloads(callee, has_template).unwrap_or(&[]);
     let of_vectors = begins_with_vector(operands);
     let mut notes = Vec::new(alloc);
-    for overload in overloads(callee, has_template) {
-        if let Some(mismatch) = refused_by(overload, operands) {
-            let signature = Signature {
-                callee,
-                overload,
-                has_template,
-                of_vectors,
-            };
-            notes.push(Note {
-                signature,
-                mismatch,
-                count: operands.len(),
-                found: found(mismatch, operands),
-            })?;
-        }
+    for index in 0..listed.len() {
+        let signature = Signature {
+            callee,
+            index,
+            overload: &listed[index],
+            has_template,
+            of_vectors,
+        };
+        push_note(&mut notes, signature, operands)?;
     }
     Ok(notes)
+}
+
+/// Adds a note on an overload, if it doesn't take the operands.
+fn push_note<'a>(
+    notes: &mut Vec<Note<'a>>,
+    signature: Signature<'a>,
+    operands: &[Operand<'a>],
+) -> Result<(), AllocError>
+    ensures { IfOk result (λ u. AddsNote signature.entry.overload.now (operands_view operands.now)
+        (map note_view notes.old.items) (map note_view notes.new.items)) }
+{
+    if let Some(mismatch) = refused_by(signature.overload, operands) {
+        notes.push(Note {
+            signature,
+            mismatch,
+            count: operands.len(),
+            found: found(mismatch, operands),
+        })?;
+    }
+    Ok(())
 }
 
 fn begins_with_vector(operands: &[Operand<'_>]) -> bool {

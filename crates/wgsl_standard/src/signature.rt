@@ -12,6 +12,8 @@ use wgsl_syntax::overload::{Overload, Parameters};
 #[derive(Clone, Copy)]
 pub struct Signature<'a> {
     pub callee: Callee<'a>,
+    /// The index of the overload among those of its name with a template, or without one.
+    pub index: usize,
     pub overload: &'static Overload,
     /// Whether its first parameter is a template.
     pub has_template: bool,
@@ -32,9 +34,12 @@ fn push_signatures<'a>(
     callee: Callee<'a>,
     has_template: bool,
 ) -> Result<(), AllocError> {
-    for overload in overloads(callee, has_template) {
+    let listed = overloads(callee, has_template).unwrap_or(&[]);
+    for index in 0..listed.len() {
+        let overload = &listed[index];
         let signature = Signature {
             callee,
+            index,
             overload,
             has_template,
             of_vectors: false,
