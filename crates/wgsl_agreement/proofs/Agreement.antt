@@ -1,5 +1,5 @@
 -- A request that is spelled in text and in numbers gets one answer: each reply spells what the rules define once.
-use Rattle.std.proofs.Common.{◌≡◌, ◌++◌, ◌∙◌, ℕ, List, Option, Some, None, Result, Ok, Err, refl, sym, ap, subst}
+use Rattle.std.proofs.Common.{◌≡◌, ◌≢◌, ◌⊎◌, ◌++◌, ◌∙◌, ℕ, List, [], arith, inl, inr, Option, Some, None, Result, Ok, Err, refl, sym, ap, subst}
 use Rattle.std.specs.Prelude.{IsSomeAnd}
 use Rattle.wgsl_rules.specs.types.Types.{WgslType, Members}
 use Rattle.wgsl_rules.specs.codes.Codes.{code}
@@ -20,29 +20,40 @@ use Rattle.wgsl_rules.proofs.constructors.OneAnswer.{constructor_answer_once}
 use Rattle.wgsl_rules.proofs.calls.OneAnswer.{call_answer_once}
 use Rattle.wgsl_requests.specs.Answers.{IsAnswer, IsCommonText, IsReply, has_common, no_common, rank_is, common_is, unary_is, binary_is, size_is, offsets_are, layout_is, ctor_is, call_is}
 use Rattle.wgsl_requests.specs.Layouts.{IsLayoutText, IsOffsetsText, laid_out as text_laid_out, not_laid_out as text_not_laid_out, member_lines, not_placed, placed, spaced, struct_line}
-use Rattle.wgsl_requests.specs.Replies.{IsReplyTo, ReplyText, answer, unreadable, nothing, too_long, forbidden, no_text, no_request, no_words, answered as text_answered}
-use Rattle.wgsl_requests.specs.Requests.{Request, common, binary, offsets, layout}
+use Rattle.wgsl_requests.specs.Replies.{IsLineOfText, IsReplyTo, ReplyText, answer, unreadable, nothing, too_long, forbidden, no_text, no_request, no_words, answered as text_answered}
+use Rattle.wgsl_requests.specs.Requests.{Request, IsRequest, NoRequest, rank, common, binary, offsets, layout}
 use Rattle.wgsl_requests.specs.Texts.{type_or_message}
 use Rattle.wgsl_requests.specs.Words.{words_of}
 use Rattle.wgsl_requests.proofs.OneRequest.{one_request}
+use Rattle.wgsl_requests.proofs.Requested.{request_form}
+use Rattle.wgsl_coded.specs.declared.fault.Fault.{Fault}
+use Rattle.wgsl_coded.specs.declared.fault.Fault.TheVariants.{Memory, NoType}
 use Rattle.wgsl_coded.specs.Replies.{ReplyWords, answered, refused, candidate_words, value_words, IsRank, IsSize, IsLayout, IsCommonType}
 use Rattle.wgsl_coded.specs.Replies.{IsAnswer as IsCodedAnswer}
 use Rattle.wgsl_coded.specs.Seen.{rank_words}
-use Rattle.wgsl_agreement.specs.Agreement.{IsTextReply, IsNumbersReply, IsOneAnswer, SpellsCommon, laid_out, not_laid_out, result_words, type_or_none}
+use Rattle.wgsl_agreement.specs.Agreement.{IsTextReply, IsNumbersReply, IsOneAnswer, IsAgreement, SpellsCommon, laid_out, not_laid_out, result_words, type_or_none}
 
--- what an answer in text is to
+-- when bytes have each reply in text
 abbrev TextForm : List ℕ → ReplyText → Type 0
 TextForm bytes (answer text) = IsReply (words_of bytes) text
-TextForm bytes nothing = Unit {0}
-TextForm bytes unreadable = Unit {0}
+TextForm bytes nothing = words_of bytes ≡ []
+TextForm bytes unreadable = (¬ IsLineOfText bytes) ⊎ NoRequest (words_of bytes)
 
-text_form : {bytes : List ℕ} {reply : ReplyText} → IsReplyTo bytes reply → TextForm bytes reply
-text_form (too_long d) = tt
-text_form (forbidden d) = tt
-text_form (no_text d) = tt
-text_form (no_request l w n) = tt
-text_form (no_words l w) = tt
+text_form : {bytes : List ℕ} {in_text : ReplyText} → IsReplyTo bytes in_text → TextForm bytes in_text
+text_form (too_long d) = inl (λ line. absurd (omega (arith, d, line.short)))
+text_form (forbidden d) = inl (λ line. absurd (cc (sym d ∙ line.allowed)))
+text_form (no_text d) = inl (λ line. d line.is_text)
+text_form (no_request l w n) = inr n
+text_form (no_words l w) = w
 text_form (text_answered text l w r) = r
+
+-- a line of text that spells a request is answered
+text_answer : (bytes : List ℕ) (request : Request) (in_text : ReplyText) → IsRequest (words_of bytes) request → TextForm bytes in_text → IsLineOfText bytes
+    → (text : List ℕ) × (in_text ≡ answer text)
+text_answer bytes request (answer text) q f line = (text, refl)
+text_answer bytes request nothing q f line = absurd (request_form (subst (λ ws. IsRequest ws request) f q))
+text_answer bytes request unreadable q (inl n) line = absurd (n line)
+text_answer bytes request unreadable q (inr n) line = absurd (n request q)
 
 -- what is asked in numbers is what the reply is to
 asked : {A : Type 0} (Is : A → ReplyWords → Type 0) (reply : ReplyWords) {read : Option A} {a : A} → (read ≡ Some a) × IsSomeAnd read (λ a. Is a reply) → Is a reply
@@ -113,7 +124,7 @@ layout_reply name ms text (answered ws) (text_not_laid_out h) n = absurd (never_
 layout_reply name ms text (refused ws) (text_laid_out {size = m} d) n = absurd (never_both ms m d.sized n.0)
 layout_reply name ms text (refused ws) (text_not_laid_out h) n = not_laid_out h refl (ap refused n.1)
 
-both_reply : {request : Request} {text : List ℕ} (words : List ℕ) (reply : ReplyWords) → IsAnswer request text → IsNumbersReply request words reply → IsOneAnswer request text reply
+both_reply : {request : Request} {text : List ℕ} (words : List ℕ) (reply : ReplyWords) → IsAnswer request text → IsNumbersReply request words (Ok reply) → IsOneAnswer request text reply
 both_reply words reply (rank_is {t} {u} w d) n = (w, d, refl, rank_reply t u w reply d (asked IsRank reply n))
 both_reply words reply (common_is {ts} {text} d) n = common_reply ts text reply d (asked IsCommonType reply n)
 both_reply words reply (unary_is {o} {t} r d) n =
@@ -128,9 +139,30 @@ both_reply words reply (ctor_is {c} r d) n =
 both_reply words reply (call_is {c} r d) n =
     (r, d, refl, result_reply value_words (IsCallAnswer c) (call_answer_once c) r d reply (asked (λ call. IsCodedAnswer value_words (IsCallAnswer call)) reply n))
 
-pub one_answer : (request : Request) (bytes words text : List ℕ) (reply : ReplyWords) → IsTextReply bytes request text → IsNumbersReply request words reply
-    → IsOneAnswer request text reply
-one_answer request bytes words text reply told coded =
-    let r = text_form told.1 in
-    let same = one_request (words_of bytes) r.0 request r.1 told.0 in
-    both_reply words reply (subst (λ request. IsAnswer request text) same r.2) coded
+-- numbers that spell a request are read
+are_read : (request : Request) (words : List ℕ) → ¬ IsNumbersReply request words (Err NoType)
+are_read (rank t u) words n = cc (sym n.0 ∙ n.1)
+are_read request words n = cc (sym n.0 ∙ n.1)
+
+-- so they are answered, unless out of memory
+numbers_answer : (request : Request) (words : List ℕ) (in_numbers : Result ReplyWords Fault) → IsNumbersReply request words in_numbers → in_numbers ≢ Err Memory
+    → (reply : ReplyWords) × (in_numbers ≡ Ok reply)
+numbers_answer request words (Ok reply) n m = (reply, refl)
+numbers_answer request words (Err Memory) n m = absurd (m refl)
+numbers_answer request words (Err NoType) n m = absurd (are_read request words n)
+
+one_answer : (request : Request) (bytes words text : List ℕ) (reply : ReplyWords) → IsRequest (words_of bytes) request → IsReply (words_of bytes) text
+    → IsNumbersReply request words (Ok reply) → IsOneAnswer request text reply
+one_answer request bytes words text reply q r n =
+    let same = one_request (words_of bytes) r.0 request r.1 q in
+    both_reply words reply (subst (λ request. IsAnswer request text) same r.2) n
+
+pub agreement : (request : Request) (bytes words : List ℕ) (in_text : ReplyText) (in_numbers : Result ReplyWords Fault) → IsTextReply bytes request in_text
+    → IsNumbersReply request words in_numbers → IsAgreement bytes request in_text in_numbers
+agreement request bytes words in_text in_numbers d n =
+    let f = text_form d.1 in
+    record {
+      text_is_answered = text_answer bytes request in_text d.0 f;
+      numbers_are_answered = numbers_answer request words in_numbers n;
+      one_answer = λ text reply is_text is_numbers. one_answer request bytes words text reply d.0 (subst (TextForm bytes) is_text f) (subst (IsNumbersReply request words) is_numbers n);
+    }

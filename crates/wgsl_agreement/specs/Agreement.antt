@@ -1,5 +1,5 @@
 -- One answer to a request in text and in numbers.
-use Rattle.std.specs.Prelude.{◌≡◌, ◌++◌, ℕ, List, [], Option, Some, None, Result, Ok, Err, All, codes}
+use Rattle.std.specs.Prelude.{◌≡◌, ◌≢◌, ◌++◌, ℕ, List, [], Option, Some, None, Result, Ok, Err, All, codes}
 use Rattle.wgsl_rules.specs.types.Types.{WgslType, Members}
 use Rattle.wgsl_rules.specs.types.Spelling.{spelling}
 use Rattle.wgsl_rules.specs.Headline.{Receives}
@@ -16,30 +16,32 @@ use Rattle.wgsl_rules.specs.layout.Placement.{MemberLayout}
 use Rattle.wgsl_rules.specs.layout.Layout.{HasSize, HasAlignment, HasNoSize, IsExactly, IsStructLayout}
 use Rattle.wgsl_rules.specs.errors.Refusals.{Refusal}
 use Rattle.wgsl_requests.specs.Requests.{Request, IsRequest, rank, common, unary, binary, size, offsets, layout, ctor, call}
-use Rattle.wgsl_requests.specs.Replies.{IsReplyTo, answer}
+use Rattle.wgsl_requests.specs.Replies.{IsLineOfText, IsReplyTo, ReplyText, answer}
 use Rattle.wgsl_requests.specs.Texts.{number_or_none, type_or_message, value_or_message}
 use Rattle.wgsl_requests.specs.Layouts.{spaced, member_lines, struct_line}
 use Rattle.wgsl_requests.specs.Words.{words_of}
+use Rattle.wgsl_coded.specs.declared.fault.Fault.{Fault}
+use Rattle.wgsl_coded.specs.declared.fault.Fault.TheVariants.{Memory}
 use Rattle.wgsl_coded.specs.Replies.{ReplyWords, answered, refused, candidate_words, layout_words, value_words, IsRankReply, IsSizeReply, IsLayoutReply, IsCommonReply, IsUnaryReply, IsBinaryReply, IsConstructorReply, IsCallReply}
 use Rattle.wgsl_coded.specs.Requests.{two_types, struct_members, all_types, unary_expression, binary_expression, call_signature}
 use Rattle.wgsl_coded.specs.Seen.{rank_words}
 
--- the bytes spell the request, and the text is the reply to them
-abbrev pub IsTextReply : List ℕ → Request → List ℕ → Type 0
-IsTextReply bytes request text = IsRequest (words_of bytes) request × IsReplyTo bytes (answer text)
+-- the bytes spell the request, and this is the reply to them
+abbrev pub IsTextReply : List ℕ → Request → ReplyText → Type 0
+IsTextReply bytes request in_text = IsRequest (words_of bytes) request × IsReplyTo bytes in_text
 
--- The numbers spell the request, and the reply is the one to them. A struct's name stands in text alone, and the layout is
--- the reply in numbers to a request for offsets too.
-abbrev pub IsNumbersReply : Request → List ℕ → ReplyWords → Type 0
-IsNumbersReply (rank t u) ws reply = (two_types ws ≡ Some (t, u)) × IsRankReply ws (Ok reply)
-IsNumbersReply (common ts) ws reply = (all_types ws ≡ Some ts) × IsCommonReply ws (Ok reply)
-IsNumbersReply (unary o t) ws reply = (unary_expression ws ≡ Some (o, t)) × IsUnaryReply ws (Ok reply)
-IsNumbersReply (binary o t u) ws reply = (binary_expression ws ≡ Some (o, t, u)) × IsBinaryReply ws (Ok reply)
-IsNumbersReply (size t) ws reply = (decoded ws ≡ Some t) × IsSizeReply ws (Ok reply)
-IsNumbersReply (offsets name ms) ws reply = (struct_members ws ≡ Some ms) × IsLayoutReply ws (Ok reply)
-IsNumbersReply (layout name ms) ws reply = (struct_members ws ≡ Some ms) × IsLayoutReply ws (Ok reply)
-IsNumbersReply (ctor c) ws reply = (call_signature ws ≡ Some c) × IsConstructorReply ws (Ok reply)
-IsNumbersReply (call c) ws reply = (call_signature ws ≡ Some c) × IsCallReply ws (Ok reply)
+-- The numbers spell the request, and this is the reply to them. For `offsets` and `layout` they may have another name for
+-- the struct, since the reply is its layout without a name.
+abbrev pub IsNumbersReply : Request → List ℕ → Result ReplyWords Fault → Type 0
+IsNumbersReply (rank t u) ws in_numbers = (two_types ws ≡ Some (t, u)) × IsRankReply ws in_numbers
+IsNumbersReply (common ts) ws in_numbers = (all_types ws ≡ Some ts) × IsCommonReply ws in_numbers
+IsNumbersReply (unary o t) ws in_numbers = (unary_expression ws ≡ Some (o, t)) × IsUnaryReply ws in_numbers
+IsNumbersReply (binary o t u) ws in_numbers = (binary_expression ws ≡ Some (o, t, u)) × IsBinaryReply ws in_numbers
+IsNumbersReply (size t) ws in_numbers = (decoded ws ≡ Some t) × IsSizeReply ws in_numbers
+IsNumbersReply (offsets name ms) ws in_numbers = (struct_members ws ≡ Some ms) × IsLayoutReply ws in_numbers
+IsNumbersReply (layout name ms) ws in_numbers = (struct_members ws ≡ Some ms) × IsLayoutReply ws in_numbers
+IsNumbersReply (ctor c) ws in_numbers = (call_signature ws ≡ Some c) × IsConstructorReply ws in_numbers
+IsNumbersReply (call c) ws in_numbers = (call_signature ws ≡ Some c) × IsCallReply ws in_numbers
 
 -- a result in words, or the code of a refusal
 abbrev pub result_words : {A : Type 0} → (A → List ℕ) → Result A Refusal → ReplyWords
@@ -92,3 +94,10 @@ IsOneAnswer (ctor c) text reply = (r : Result WgslType Refusal) × IsConstructor
     × (text ≡ type_or_message r) × (reply ≡ result_words code r)
 IsOneAnswer (call c) text reply = (r : Result (Option WgslType) Refusal) × IsCallAnswer c r
     × (text ≡ value_or_message r) × (reply ≡ result_words value_words r)
+
+-- Both replies to a request. A line of text is answered, numbers are answered unless out of memory, and two answers are one.
+pub record IsAgreement (bytes : List ℕ) (request : Request) (in_text : ReplyText) (in_numbers : Result ReplyWords Fault) : Type 0 where
+  pub text_is_answered : IsLineOfText bytes → (text : List ℕ) × (in_text ≡ answer text)
+  pub numbers_are_answered : in_numbers ≢ Err Memory → (reply : ReplyWords) × (in_numbers ≡ Ok reply)
+  pub one_answer : (text : List ℕ) (reply : ReplyWords) → in_text ≡ answer text → in_numbers ≡ Ok reply →
+      IsOneAnswer request text reply

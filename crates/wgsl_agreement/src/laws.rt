@@ -1,13 +1,17 @@
 // The law of both encodings: the function returns nothing, and its contract is the law.
-ghost use Rattle.std.specs.Prelude.{ℕ, List};
+ghost use Rattle.std.specs.Prelude.{ℕ, List, Result};
+ghost use Rattle.wgsl_requests.specs.Replies.{ReplyText};
 ghost use Rattle.wgsl_requests.specs.Requests.{Request};
 ghost use Rattle.wgsl_coded.specs.Replies.{ReplyWords};
-ghost use Rattle.wgsl_agreement.specs.Agreement.{IsTextReply, IsNumbersReply, IsOneAnswer};
+ghost use Rattle.wgsl_coded.specs.declared.fault.Fault.{Fault};
+ghost use Rattle.wgsl_agreement.specs.Agreement.{IsTextReply, IsNumbersReply, IsAgreement};
 
-/// A request that is spelled in text and in numbers gets one answer, and each reply spells it.
-#[tactic(auto, using(crate::proofs::Agreement::one_answer))]
+/// A request that is spelled in text and in numbers gets one answer, and each reply spells it. A line of text gets an
+/// answer, and so do numbers unless out of memory.
+#[tactic(auto, using(crate::proofs::Agreement::agreement))]
 pub fn text_and_numbers_agree()
-    ensures { (request : Request) (bytes words text : List ℕ) (reply : ReplyWords)
-        → IsTextReply bytes request text → IsNumbersReply request words reply
-        → IsOneAnswer request text reply }
+    ensures { (request : Request) (bytes words : List ℕ)
+        (in_text : ReplyText) (in_numbers : Result ReplyWords Fault)
+        → IsTextReply bytes request in_text → IsNumbersReply request words in_numbers
+        → IsAgreement bytes request in_text in_numbers }
 {}
