@@ -6,7 +6,24 @@ import itertools
 import random
 
 from resources import resource_questions
-from types_in_words import CONCRETE, NO_64_BITS, STRUCT, TYPES
+from types_in_words import SCALARS
+
+CONCRETE = [scalar for scalar in SCALARS if not scalar.startswith("Abstract")]
+NO_64_BITS = [scalar for scalar in SCALARS if "64" not in scalar]
+STRUCT = "struct S 1 a - - f32"
+
+# What operators, functions and constructors are asked for. References that can be read and one that can't are among them.
+TYPES = (
+    SCALARS
+    + ["vec 2 " + scalar for scalar in SCALARS]
+    + [f"vec {n} {scalar}" for n in (3, 4) for scalar in NO_64_BITS]
+    + ["mat 2 2 " + scalar for scalar in ("AbstractFloat", "f32", "f16", "f64")]
+    + ["mat 2 3 AbstractFloat", "mat 2 3 f32", "mat 3 2 f32", "mat 3 2 f16", "mat 3 3 f32", "mat 4 4 AbstractFloat"]
+    + ["array 2 AbstractInt", "array 2 f32", "array * u32", STRUCT]
+    + ["ptr function read_write i32", "ptr storage read array * f32", "ptr workgroup read_write atomic u32", "atomic u32"]
+    + ["ref function read_write i32", "ref storage read vec 2 f32", "ref private read_write bool", "ref storage write f32"]
+    + ["texture_2d f32", "sampler"]
+)
 
 UNARY = "- ! ~".split()
 BINARY = "+ - * / % == != < <= > >= & | ^ && || << >>".split()

@@ -13,7 +13,7 @@ def split_list(text):
     """The parts of a list between commas that stand in no brackets."""
     parts, depth = [""], 0
     for c in text:
-        depth += (c == "<") - (c == ">")
+        depth += (c in "<(") - (c in ">)")
         if c == "," and depth == 0:
             parts.append("")
         else:
@@ -24,25 +24,28 @@ def split_list(text):
 @functools.cache
 def parts_of(t):
     """The name of a type, and what stands in its brackets."""
-    name, _, rest = t.partition("<")
+    name, _, rest = t.strip().partition("<")
     return name, tuple(split_list(rest[:-1]))
 
 
 @functools.cache
 def words(t):
-    if t in STRUCTS:
-        members = (f" {name} - - {words(member)}" for name, member in STRUCTS[t])
-        return f"struct {t} {len(STRUCTS[t])}" + "".join(members)
+    """The type in the words of the program. A struct that isn't listed has no members."""
     name, parts = parts_of(t)
     if name in ("ptr", "ref"):
         space, inner, access = parts
         return f"{name} {space} {access} {words(inner)}"
-    if name == "array":
-        return f"array {parts[1] if len(parts) > 1 else '*'} {words(parts[0])}"
+    if name in ("array", "binding_array"):
+        return f"{name} {parts[1] if len(parts) > 1 else '*'} {words(parts[0])}"
     if name.startswith("vec"):
         return f"vec {name[3]} {words(parts[0])}"
     if name.startswith("mat"):
         return f"mat {name[3]} {name[5]} {words(parts[0])}"
+    if name in ("ray_query", "acceleration_structure"):
+        return f"{name} {parts[0] if parts else '-'}"
+    if name[0].isupper() and name not in SCALARS:
+        members = STRUCTS.get(name, [])
+        return f"struct {name} {len(members)}" + "".join(f" {member} - - {words(of)}" for member, of in members)
     return " ".join([name, *map(words, parts)])
 
 
