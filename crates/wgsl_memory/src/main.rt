@@ -8,6 +8,7 @@ mod calls;
 mod lines;
 mod never;
 mod operators;
+mod standard;
 mod templates;
 mod types;
 
@@ -64,6 +65,7 @@ fn print_calls<W: Write>(
     operators::print_operators(lines, &arguments.types)?;
     templates::print_templates(lines, &arguments.templates)?;
     calls::print_calls(lines, arguments)?;
+    standard::print_standard(lines, arguments)?;
     never::print_never(lines, arguments)?;
     let state = if arguments == as_made {
         "unchanged"
