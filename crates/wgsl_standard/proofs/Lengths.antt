@@ -17,21 +17,16 @@ unequal_lengths c b [] (x ∷ xs) n = refl
 unequal_lengths c b (p ∷ ps) [] n = refl
 unequal_lengths c b (p ∷ ps) (x ∷ xs) n = never (λ b. bind_all c b ps xs) (λ b. unequal_lengths c b ps xs (λ e. n (ap suc e))) (bind c b p x)
 
--- parameters of one type
-
 and_then_same : (f g : Binding → Option Binding) → ((b : Binding) → f b ≡ g b) → (r : Option Binding) → option_and_then f r ≡ option_and_then g r
 and_then_same f g h None = refl
 and_then_same f g h (Some b) = h b
 
-pub same_all : (c : Bool) (b : Binding) (p : Pattern) (n : ℕ) (xs : List Operand) → n ≡ length xs → bind_same c b p xs ≡ bind_all c b (replicate n p) xs
-same_all c b p zero [] e = refl
-same_all c b p zero (x ∷ xs) e = absurd (omega (arith, e))
-same_all c b p (suc n) [] e = absurd (omega (arith, e))
-same_all c b p (suc n) (x ∷ xs) e =
-    and_then_same (λ b. bind_same c b p xs) (λ b. bind_all c b (replicate n p) xs) (λ b. same_all c b p n xs (omega (arith, e))) (bind c b p x)
-
-pub times : (c : Bool) (b : Binding) (p : Pattern) (n : ℕ) (xs : List Operand) → length xs ≢ n → bind_all c b (replicate n p) xs ≡ None
-times c b p n xs h = unequal_lengths c b (replicate n p) xs (λ e. h (omega (arith, e, length-replicate n p)))
+pub as_many : (c : Bool) (b : Binding) (ps : List Pattern) (xs : List Operand) → length ps ≡ length xs → bind_first c b ps xs ≡ bind_all c b ps xs
+as_many c b [] [] e = refl
+as_many c b [] (x ∷ xs) e = absurd (omega (arith, e))
+as_many c b (p ∷ ps) [] e = absurd (omega (arith, e))
+as_many c b (p ∷ ps) (x ∷ xs) e =
+    and_then_same (λ b. bind_first c b ps xs) (λ b. bind_all c b ps xs) (λ b. as_many c b ps xs (omega (arith, e))) (bind c b p x)
 
 -- the first parameters
 
@@ -51,14 +46,6 @@ pub too_many_times : (c : Bool) (b : Binding) (p : Pattern) (n : ℕ) (xs : List
 too_many_times c b p n xs h = too_many c b (replicate n p) xs (omega (arith, h, length-replicate n p))
 
 -- a parameter of one type, and the others of another
-
-pub then_same_all : (c : Bool) (b : Binding) (p q : Pattern) (n : ℕ) (xs : List Operand) → length xs ≡ n + 1 → bind_then_same c b p q xs ≡ bind_all c b (p ∷ replicate n q) xs
-then_same_all c b p q n [] e = absurd (omega (arith, e))
-then_same_all c b p q n (x ∷ xs) e =
-    and_then_same (λ b. bind_same c b q xs) (λ b. bind_all c b (replicate n q) xs) (λ b. same_all c b q n xs (omega (arith, e))) (bind c b p x)
-
-pub and_times : (c : Bool) (b : Binding) (p q : Pattern) (n : ℕ) (xs : List Operand) → length xs ≢ n + 1 → bind_all c b (p ∷ replicate n q) xs ≡ None
-and_times c b p q n xs h = unequal_lengths c b (p ∷ replicate n q) xs (λ e. h (omega (arith, e, length-replicate n q)))
 
 pub then_same_first : (c : Bool) (b : Binding) (p q : Pattern) (n : ℕ) (xs : List Operand) → 0 < length xs → length xs ≤ n + 1 → bind_then_same c b p q xs ≡ bind_first c b (p ∷ replicate n q) xs
 then_same_first c b p q n [] k h = absurd (omega (arith, k))

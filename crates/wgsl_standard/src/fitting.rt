@@ -7,9 +7,10 @@ ghost use Rattle.wgsl_standard.specs.internal.Binding.{bind_if, bind_all as all_
 
 use crate::binding::{Binding, bind};
 use crate::operand::Operand;
+use crate::written::parameter_count;
 use wgsl_syntax::overload::{Parameters, Pattern};
 
-/// Whether the operands fit the parameters, and then what they require beside the binding.
+/// Whether the operands fit the parameters, one for each, and then what they require beside the binding.
 pub fn bind_all(
     concrete: bool,
     binding: &mut Binding,
@@ -39,7 +40,7 @@ fn bind_two(
     }
 }
 
-// Apart from `bind_all`, since the room for all these lists would be cleared for two parameters too.
+// Never a part of `bind_all`, since the room for all the lists of `bind_first` would be cleared for two parameters too.
 #[inline(never)]
 fn bind_listed(
     concrete: bool,
@@ -49,110 +50,14 @@ fn bind_listed(
 ) -> bool
     ensures { bind_if result binding.new ≡ all_bound concrete binding.old (in_order parameters.now) (operands_view operands.now) }
 {
-    match parameters {
-        Parameters::Nothing => bind_list(concrete, binding, &[], operands),
-        Parameters::One(a) => bind_list(concrete, binding, &[*a], operands),
-        Parameters::Two(a, b) => bind_list(concrete, binding, &[*a, *b], operands),
-        Parameters::Three(a, b, c) => bind_list(concrete, binding, &[*a, *b, *c], operands),
-        Parameters::Four(a, b, c, d) => bind_list(concrete, binding, &[*a, *b, *c, *d], operands),
-        Parameters::Five(a, b, c, d, e) => {
-            bind_list(concrete, binding, &[*a, *b, *c, *d, *e], operands)
-        }
-        Parameters::Six(a, b, c, d, e, f) => {
-            bind_list(concrete, binding, &[*a, *b, *c, *d, *e, *f], operands)
-        }
-        Parameters::Seven(a, b, c, d, e, f, g) => {
-            bind_list(concrete, binding, &[*a, *b, *c, *d, *e, *f, *g], operands)
-        }
-        Parameters::Times(count, pattern) => {
-            bind_times(concrete, binding, *count, pattern, operands)
-        }
-        Parameters::AndTimes(first, count, pattern) => {
-            bind_and_times(concrete, binding, first, *count, pattern, operands)
-        }
-    }
-}
-
-fn bind_list(
-    concrete: bool,
-    binding: &mut Binding,
-    patterns: &[Pattern],
-    operands: &[Operand],
-) -> bool
-    ensures { bind_if result binding.new ≡ all_bound concrete binding.old patterns.now (operands_view operands.now) }
-{
-    if patterns.len() != operands.len() {
+    if parameter_count(parameters) != operands.len() {
         return false;
     }
-    for i in 0..patterns.len() {
-        if !bind(concrete, binding, &patterns[i], &operands[i]) {
-            return false;
-        }
-    }
-    true
-}
-
-fn bind_times(
-    concrete: bool,
-    binding: &mut Binding,
-    count: u8,
-    pattern: &Pattern,
-    operands: &[Operand],
-) -> bool
-    ensures { bind_if result binding.new ≡ all_bound concrete binding.old (in_order (Times count pattern.now)) (operands_view operands.now) }
-{
-    if operands.len() != count as usize {
-        return false;
-    }
-    bind_same(concrete, binding, pattern, operands)
-}
-
-fn bind_and_times(
-    concrete: bool,
-    binding: &mut Binding,
-    first: &Pattern,
-    count: u8,
-    pattern: &Pattern,
-    operands: &[Operand],
-) -> bool
-    ensures { bind_if result binding.new ≡ all_bound concrete binding.old (in_order (AndTimes first.now count pattern.now)) (operands_view operands.now) }
-{
-    if operands.len() != count as usize + 1 {
-        return false;
-    }
-    bind_then_same(concrete, binding, first, pattern, operands)
-}
-
-/// The first operand by one pattern, and the others by another.
-fn bind_then_same(
-    concrete: bool,
-    binding: &mut Binding,
-    first: &Pattern,
-    pattern: &Pattern,
-    operands: &[Operand],
-) -> bool
-    ensures { bind_if result binding.new ≡ then_same_bound concrete binding.old first.now pattern.now (operands_view operands.now) }
-{
-    match operands {
-        [operand, others @ ..] => {
-            bind(concrete, binding, first, operand) && bind_same(concrete, binding, pattern, others)
-        }
-        [] => false,
-    }
-}
-
-fn bind_same(concrete: bool, binding: &mut Binding, pattern: &Pattern, operands: &[Operand]) -> bool
-    ensures { bind_if result binding.new ≡ same_bound concrete binding.old pattern.now (operands_view operands.now) }
-{
-    for operand in operands {
-        if !bind(concrete, binding, pattern, operand) {
-            return false;
-        }
-    }
-    true
+    bind_first(concrete, binding, parameters, operands)
 }
 
 /// The same for the first parameters, as many as there are operands.
+#[inline(always)]
 pub fn bind_first(
     concrete: bool,
     binding: &mut Binding,
@@ -236,4 +141,33 @@ fn first_and_times(
         return false;
     }
     bind_then_same(concrete, binding, first, pattern, operands)
+}
+
+/// The first operand by one pattern, and the others by another.
+fn bind_then_same(
+    concrete: bool,
+    binding: &mut Binding,
+    first: &Pattern,
+    pattern: &Pattern,
+    operands: &[Operand],
+) -> bool
+    ensures { bind_if result binding.new ≡ then_same_bound concrete binding.old first.now pattern.now (operands_view operands.now) }
+{
+    match operands {
+        [operand, others @ ..] => {
+            bind(concrete, binding, first, operand) && bind_same(concrete, binding, pattern, others)
+        }
+        [] => false,
+    }
+}
+
+fn bind_same(concrete: bool, binding: &mut Binding, pattern: &Pattern, operands: &[Operand]) -> bool
+    ensures { bind_if result binding.new ≡ same_bound concrete binding.old pattern.now (operands_view operands.now) }
+{
+    for operand in operands {
+        if !bind(concrete, binding, pattern, operand) {
+            return false;
+        }
+    }
+    true
 }
