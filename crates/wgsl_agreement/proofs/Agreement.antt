@@ -1,29 +1,24 @@
 -- A request that is spelled in text and in numbers gets one answer: each reply spells what the rules define once.
-use Rattle.std.proofs.Common.{◌≡◌, ◌≢◌, ◌⊎◌, ◌++◌, ◌∙◌, ℕ, List, [], arith, inl, inr, Option, Some, None, Result, Ok, Err, refl, sym, ap, subst}
+use Rattle.std.proofs.Common.{◌≡◌, ◌≢◌, ◌⊎◌, ◌∙◌, ℕ, List, [], arith, inl, inr, Option, Some, None, Result, Ok, Err, refl, sym, ap, subst}
 use Rattle.std.specs.Prelude.{IsSomeAnd}
 use Rattle.wgsl_rules.specs.types.Types.{WgslType, Members}
 use Rattle.wgsl_rules.specs.codes.Codes.{code}
-use Rattle.wgsl_rules.specs.codes.Words.{attribute}
 use Rattle.wgsl_rules.specs.conversion.Conversion.{Converts}
 use Rattle.wgsl_rules.specs.conversion.Common.{IsLeftCommon}
 use Rattle.wgsl_rules.specs.conversion.Lists.{IsCommonOfList}
-use Rattle.wgsl_rules.specs.operators.Answers.{IsCandidateAnswer, IsOperatorAnswer, IsUnaryAnswer}
+use Rattle.wgsl_rules.specs.operators.Answers.{BinaryCandidate, IsCandidateAnswer, IsUnaryAnswer}
 use Rattle.wgsl_rules.specs.constructors.Constructors.{IsConstructorAnswer}
 use Rattle.wgsl_rules.specs.calls.Answers.{IsCallAnswer}
-use Rattle.wgsl_rules.specs.layout.Layout.{HasSize, HasAlignment, IsExactly}
+use Rattle.wgsl_rules.specs.layout.Layout.{IsExactly}
 use Rattle.wgsl_rules.specs.errors.Refusals.{Refusal}
 use Rattle.wgsl_rules.proofs.conversion.Commons.{left_common_once}
-use Rattle.wgsl_rules.proofs.layout.OneLayout.{layout_once, offsets_once}
-use Rattle.wgsl_rules.proofs.layout.StructSizes.{never_both}
-use Rattle.wgsl_rules.proofs.operators.OneAnswer.{operator_answer_once, unary_answer_once}
-use Rattle.wgsl_rules.proofs.constructors.OneAnswer.{constructor_answer_once}
-use Rattle.wgsl_rules.proofs.calls.OneAnswer.{call_answer_once}
 use Rattle.wgsl_requests.specs.Answers.{IsAnswer, IsCommonText, IsReply, has_common, no_common, rank_is, common_is, unary_is, binary_is, size_is, offsets_are, layout_is, ctor_is, call_is}
-use Rattle.wgsl_requests.specs.Layouts.{IsLayoutText, IsOffsetsText, laid_out as text_laid_out, not_laid_out as text_not_laid_out, member_lines, not_placed, placed, spaced, struct_line}
+use Rattle.wgsl_requests.specs.Layouts.{laid_out as text_laid_out, not_laid_out as text_not_laid_out, not_placed, placed}
 use Rattle.wgsl_requests.specs.Replies.{IsLineOfText, IsReplyTo, ReplyText, answer, unreadable, nothing, too_long, forbidden, no_text, no_request, no_words, answered as text_answered}
-use Rattle.wgsl_requests.specs.Requests.{Request, IsRequest, NoRequest, rank, common, binary, offsets, layout}
-use Rattle.wgsl_requests.specs.Texts.{type_or_message}
+use Rattle.wgsl_requests.specs.Requests.{Request, IsRequest, NoRequest, rank, common, unary, binary, size, offsets, layout, ctor, call}
+use Rattle.wgsl_requests.specs.Texts.{type_or_message, value_or_message}
 use Rattle.wgsl_requests.specs.Words.{words_of}
+use Rattle.wgsl_requests.proofs.OneAnswer.{one_answer as text_once}
 use Rattle.wgsl_requests.proofs.OneRequest.{one_request}
 use Rattle.wgsl_requests.proofs.Requested.{request_form}
 use Rattle.wgsl_coded.specs.declared.fault.Fault.{Fault}
@@ -31,7 +26,7 @@ use Rattle.wgsl_coded.specs.declared.fault.Fault.TheVariants.{Memory, NoType}
 use Rattle.wgsl_coded.specs.Replies.{ReplyWords, answered, refused, candidate_words, value_words, IsRank, IsSize, IsLayout, IsCommonType}
 use Rattle.wgsl_coded.specs.Replies.{IsAnswer as IsCodedAnswer}
 use Rattle.wgsl_coded.specs.Seen.{rank_words}
-use Rattle.wgsl_agreement.specs.Agreement.{IsTextReply, IsNumbersReply, IsOneAnswer, IsAgreement, SpellsCommon, laid_out, not_laid_out, result_words, type_or_none}
+use Rattle.wgsl_agreement.specs.Agreement.{IsTextReply, IsNumbersReply, IsOneAnswer, IsAgreement, SpellsCommon, laid_out, not_laid_out, candidate_result, result_words, type_or_none}
 
 -- when bytes have each reply in text
 abbrev TextForm : List ℕ → ReplyText → Type 0
@@ -59,33 +54,33 @@ text_answer bytes request unreadable q (inr n) line = absurd (n request q)
 asked : {A : Type 0} (Is : A → ReplyWords → Type 0) (reply : ReplyWords) {read : Option A} {a : A} → (read ≡ Some a) × IsSomeAnd read (λ a. Is a reply) → Is a reply
 asked Is reply n = subst (λ x. IsSomeAnd x (λ a. Is a reply)) n.0 n.1
 
--- at most one number is exactly that
-one_number : (P : ℕ → Type 0) (v w : Option ℕ) → IsExactly v P → IsExactly w P → v ≡ w
-one_number P (Some n) w f g = sym ((g n).1 ((f n).0 refl))
-one_number P None None f g = refl
-one_number P None (Some n) f g = (f n).1 ((g n).0 refl)
-
 rank_reply : (t u : WgslType) (w : Option ℕ) (reply : ReplyWords) → IsExactly w (Converts t u) → IsRank (t, u) reply → reply ≡ rank_words w
 rank_reply t u w (answered ws) is r = ap answered r.2 ∙ ap rank_words (sym ((is r.0).1 r.1))
 rank_reply t u None (refused ws) is r = ap refused r.1
 rank_reply t u (Some n) (refused ws) is r = absurd (r.0 (n, (is n).0 refl))
 
-size_reply : (t : WgslType) (s a : Option ℕ) (reply : ReplyWords) → IsExactly s (HasSize t) → IsExactly a (HasAlignment t) → IsSize t reply
-    → reply ≡ answered (attribute s ++ attribute a)
-size_reply t s a (answered ws) f g r =
-    ap answered (r.4 ∙ (ap (λ x. attribute x ++ attribute r.1) (one_number (HasSize t) r.0 s r.2 f) ∙ ap (λ x. attribute s ++ attribute x) (one_number (HasAlignment t) r.1 a r.3 g)))
-size_reply t s a (refused ws) f g r = absurd r
+-- The numbers' result is the one of the text, since the request has one answer in text.
+result_reply : {A : Type 0} (request : Request) (text : List ℕ) (spelled : Result A Refusal → List ℕ) (words : A → List ℕ) (Is : Result A Refusal → Type 0)
+    → ((r : Result A Refusal) → Is r → IsAnswer request (spelled r)) → IsAnswer request text → (reply : ReplyWords) → IsCodedAnswer words Is reply
+    → (r : Result A Refusal) × Is r × (text ≡ spelled r) × (reply ≡ result_words words r)
+result_reply request text spelled words Is is d (answered ws) n = (Ok n.0, n.1, text_once request text (spelled (Ok n.0)) d (is (Ok n.0) n.1), ap answered n.2)
+result_reply request text spelled words Is is d (refused ws) n = (Err n.0, n.1, text_once request text (spelled (Err n.0)) d (is (Err n.0) n.1), ap refused n.2)
 
-result_reply : {A : Type 0} (words : A → List ℕ) (Is : Result A Refusal → Type 0) → ((r s : Result A Refusal) → Is r → Is s → r ≡ s)
-    → (r : Result A Refusal) → Is r → (reply : ReplyWords) → IsCodedAnswer words Is reply → reply ≡ result_words words r
-result_reply words Is once r d (answered ws) n = ap answered n.2 ∙ ap (result_words words) (once (Ok n.0) r n.1 d)
-result_reply words Is once r d (refused ws) n = ap refused n.2 ∙ ap (result_words words) (once (Err n.0) r n.1 d)
+result_is : (o : _) (t u : WgslType) (r : Result BinaryCandidate Refusal) → IsCandidateAnswer o t u r → IsAnswer (binary o t u) (type_or_message (candidate_result r))
+result_is o t u (Ok c) d = binary_is (Ok c.result) (c.lhs, c.rhs, d)
+result_is o t u (Err e) d = binary_is (Err e) d
 
-binary_reply : (o : _) (t u : WgslType) (r : Result WgslType Refusal) (reply : ReplyWords) → IsOperatorAnswer o t u r
-    → IsCodedAnswer candidate_words (IsCandidateAnswer o t u) reply → IsOneAnswer (binary o t u) (type_or_message r) reply
-binary_reply o t u r (answered ws) d n =
-    (Ok n.0, n.1, ap type_or_message (operator_answer_once o t u r (Ok n.0.result) d (n.0.lhs, n.0.rhs, n.1)), ap answered n.2)
-binary_reply o t u r (refused ws) d n = (Err n.0, n.1, ap type_or_message (operator_answer_once o t u r (Err n.0) d n.1), ap refused n.2)
+size_reply : (t : WgslType) (text : List ℕ) (reply : ReplyWords) → IsAnswer (size t) text → IsSize t reply → IsOneAnswer (size t) text reply
+size_reply t text (answered ws) d n = (n.0, n.1, n.2, n.3, text_once (size t) text _ d (size_is n.0 n.1 n.2 n.3), ap answered n.4)
+size_reply t text (refused ws) d n = absurd n
+
+offsets_reply : (name : List ℕ) (ms : Members) (text : List ℕ) (reply : ReplyWords) → IsAnswer (offsets name ms) text → IsLayout ms reply → IsOneAnswer (offsets name ms) text reply
+offsets_reply name ms text (answered ws) d n = laid_out n.4 (text_once (offsets name ms) text _ d (offsets_are (placed n.4.placed))) (ap answered n.5)
+offsets_reply name ms text (refused ws) d n = not_laid_out n.0 (text_once (offsets name ms) text _ d (offsets_are (not_placed n.0))) (ap refused n.1)
+
+layout_reply : (name : List ℕ) (ms : Members) (text : List ℕ) (reply : ReplyWords) → IsAnswer (layout name ms) text → IsLayout ms reply → IsOneAnswer (layout name ms) text reply
+layout_reply name ms text (answered ws) d n = laid_out n.4 (text_once (layout name ms) text _ d (layout_is (text_laid_out n.4))) (ap answered n.5)
+layout_reply name ms text (refused ws) d n = not_laid_out n.0 (text_once (layout name ms) text _ d (layout_is (text_not_laid_out n.0))) (ap refused n.1)
 
 spells_common : (ts : List WgslType) (c : Option WgslType) (text : List ℕ) → IsCommonOfList ts c → IsCommonText ts text → SpellsCommon ts c text
 spells_common ts c text h (has_common {t = u} l e) =
@@ -106,38 +101,21 @@ common_reply : (ts : List WgslType) (text : List ℕ) (reply : ReplyWords) → I
 common_reply ts text (answered ws) d n = (Some n.0, n.1, spells_common ts (Some n.0) text n.1 d, ap answered n.2)
 common_reply ts text (refused ws) d n = (None, n.0, spells_common ts None text n.0 d, ap refused n.1)
 
-offsets_reply : (name : List ℕ) (ms : Members) (text : List ℕ) (reply : ReplyWords) → IsOffsetsText ms text → IsLayout ms reply → IsOneAnswer (offsets name ms) text reply
-offsets_reply name ms text (answered ws) (placed {offsets = xs} d) n = laid_out n.4 (ap spaced (offsets_once ms xs n.1 d n.4.placed)) (ap answered n.5)
-offsets_reply name ms text (answered ws) (not_placed h) n = absurd (never_both ms n.2 n.4.sized h)
-offsets_reply name ms text (refused ws) (placed d) n = absurd (never_both ms d.total d.sized n.0)
-offsets_reply name ms text (refused ws) (not_placed h) n = not_laid_out h refl (ap refused n.1)
-
-layout_reply : (name : List ℕ) (ms : Members) (text : List ℕ) (reply : ReplyWords) → IsLayoutText name ms text → IsLayout ms reply → IsOneAnswer (layout name ms) text reply
-layout_reply name ms text (answered ws) (text_laid_out {layouts = ls} {offsets = xs} {size = m} {align = a} d) n =
-    let same = layout_once ms ls n.0 xs n.1 m n.2 a n.3 d n.4 in
-    laid_out n.4
-    (ap (λ x. member_lines ms x xs ++ struct_line name m a) same.members
-    ∙ (ap (λ x. member_lines ms n.0 x ++ struct_line name m a) same.offsets
-    ∙ (ap (λ x. member_lines ms n.0 n.1 ++ struct_line name x a) same.size ∙ ap (λ x. member_lines ms n.0 n.1 ++ struct_line name n.2 x) same.align)))
-    (ap answered n.5)
-layout_reply name ms text (answered ws) (text_not_laid_out h) n = absurd (never_both ms n.2 n.4.sized h)
-layout_reply name ms text (refused ws) (text_laid_out {size = m} d) n = absurd (never_both ms m d.sized n.0)
-layout_reply name ms text (refused ws) (text_not_laid_out h) n = not_laid_out h refl (ap refused n.1)
-
 both_reply : {request : Request} {text : List ℕ} (words : List ℕ) (reply : ReplyWords) → IsAnswer request text → IsNumbersReply request words (Ok reply) → IsOneAnswer request text reply
 both_reply words reply (rank_is {t} {u} w d) n = (w, d, refl, rank_reply t u w reply d (asked IsRank reply n))
 both_reply words reply (common_is {ts} {text} d) n = common_reply ts text reply d (asked IsCommonType reply n)
 both_reply words reply (unary_is {o} {t} r d) n =
-    (r, d, refl, result_reply code (IsUnaryAnswer o t) (unary_answer_once o t) r d reply (asked (λ e. IsCodedAnswer code (IsUnaryAnswer e.0 e.1)) reply n))
+    result_reply (unary o t) _ type_or_message code (IsUnaryAnswer o t) (λ r d. unary_is r d) (unary_is r d) reply (asked (λ e. IsCodedAnswer code (IsUnaryAnswer e.0 e.1)) reply n)
 both_reply words reply (binary_is {o} {t} {u} r d) n =
-    binary_reply o t u r reply d (asked (λ e. IsCodedAnswer candidate_words (IsCandidateAnswer e.0 e.1 e.2)) reply n)
-both_reply words reply (size_is {t} s a d e) n = (s, a, d, e, refl, size_reply t s a reply d e (asked IsSize reply n))
-both_reply words reply (offsets_are {name} {ms} {text} d) n = offsets_reply name ms text reply d (asked IsLayout reply n)
-both_reply words reply (layout_is {name} {ms} {text} d) n = layout_reply name ms text reply d (asked IsLayout reply n)
+    result_reply (binary o t u) _ (λ r. type_or_message (candidate_result r)) candidate_words (IsCandidateAnswer o t u) (result_is o t u) (binary_is r d) reply
+    (asked (λ e. IsCodedAnswer candidate_words (IsCandidateAnswer e.0 e.1 e.2)) reply n)
+both_reply words reply (size_is {t} s a d e) n = size_reply t _ reply (size_is s a d e) (asked IsSize reply n)
+both_reply words reply (offsets_are {name} {ms} {text} d) n = offsets_reply name ms text reply (offsets_are d) (asked IsLayout reply n)
+both_reply words reply (layout_is {name} {ms} {text} d) n = layout_reply name ms text reply (layout_is d) (asked IsLayout reply n)
 both_reply words reply (ctor_is {c} r d) n =
-    (r, d, refl, result_reply code (IsConstructorAnswer c) (constructor_answer_once c) r d reply (asked (λ call. IsCodedAnswer code (IsConstructorAnswer call)) reply n))
+    result_reply (ctor c) _ type_or_message code (IsConstructorAnswer c) (λ r d. ctor_is r d) (ctor_is r d) reply (asked (λ call. IsCodedAnswer code (IsConstructorAnswer call)) reply n)
 both_reply words reply (call_is {c} r d) n =
-    (r, d, refl, result_reply value_words (IsCallAnswer c) (call_answer_once c) r d reply (asked (λ call. IsCodedAnswer value_words (IsCallAnswer call)) reply n))
+    result_reply (call c) _ value_or_message value_words (IsCallAnswer c) (λ r d. call_is r d) (call_is r d) reply (asked (λ call. IsCodedAnswer value_words (IsCallAnswer call)) reply n)
 
 -- numbers that spell a request are read
 are_read : (request : Request) (words : List ℕ) → ¬ IsNumbersReply request words (Err NoType)
