@@ -1,11 +1,10 @@
 // The types that requests ask for.
 use crate::operands::{Given, operands_of, read_operands};
-use crate::operators::{binary_operator, unary_operator};
 use crate::refusal::Refusal;
 use std::alloc::Global;
 use wgsl_requests::template::read_template;
 use wgsl_requests::wanted::Wanted;
-use wgsl_requests::words::{Unread, Words};
+use wgsl_requests::words::{Unread, Words, parsed};
 use wgsl_types::standard::{type_binary_op, type_builtin_fn, type_ctor, type_unary_op};
 use wgsl_types::syntax::{BinaryOperator, UnaryOperator};
 use wgsl_types::tplt::TpltParam;
@@ -24,9 +23,7 @@ pub fn answer(alloc: Global, command: &str, words: &mut Words) -> Result<Option<
 
 /// `unary OP X`: the type of the expression.
 fn unary(alloc: Global, words: &mut Words) -> Result<Option<Type>, Refusal> {
-    let Some(operator) = unary_operator(words.next(Wanted::UnaryOperator)?) else {
-        return Err(Refusal::BadLine);
-    };
+    let operator = parsed(words.next(Wanted::UnaryOperator)?, Wanted::UnaryOperator)?;
     let given = read_operands(alloc, words)?;
     let answer = unary_of(alloc, operator, &given);
     drop(given);
@@ -46,9 +43,7 @@ fn unary_of(
 
 /// `binary OP X Y`: the type of the expression.
 fn binary(alloc: Global, words: &mut Words) -> Result<Option<Type>, Refusal> {
-    let Some(operator) = binary_operator(words.next(Wanted::BinaryOperator)?) else {
-        return Err(Refusal::BadLine);
-    };
+    let operator = parsed(words.next(Wanted::BinaryOperator)?, Wanted::BinaryOperator)?;
     let given = read_operands(alloc, words)?;
     let answer = binary_of(alloc, operator, &given);
     drop(given);

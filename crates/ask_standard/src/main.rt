@@ -3,7 +3,6 @@
 
 mod answer;
 mod operands;
-mod operators;
 mod overloads;
 mod refusal;
 mod reply;

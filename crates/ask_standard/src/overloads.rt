@@ -1,15 +1,16 @@
 // The overloads of a name.
-use crate::operators::{binary_operator, unary_operator};
 use std::alloc::{AllocError, Global};
+use std::str::FromStr;
 use wgsl_types::standard::{Callee, signatures};
+use wgsl_types::syntax::{BinaryOperator, UnaryOperator};
 
 /// Writes the signatures of the operators, the function or the constructor with this name, one on a line, and then an
 /// empty line.
 pub fn write_overloads(alloc: Global, name: &str, text: &mut String) -> Result<(), AllocError> {
-    if let Some(operator) = unary_operator(name) {
+    if let Ok(operator) = UnaryOperator::from_str(name) {
         write_signatures(alloc, Callee::Unary(operator), text)?;
     }
-    if let Some(operator) = binary_operator(name) {
+    if let Ok(operator) = BinaryOperator::from_str(name) {
         write_signatures(alloc, Callee::Binary(operator), text)?;
     }
     write_signatures(alloc, Callee::Function(name), text)?;

@@ -1,5 +1,5 @@
 -- A call by its name: its answer, that this is the least candidate's, and when it is never out of memory.
-use Rattle.std.proofs.Common.{◌≡◌, List, [], Option, Some, None, Result, Ok, Err, refl, subst, option_map}
+use Rattle.std.proofs.Common.{◌≡◌, List, Option, Some, None, Result, Ok, Err, subst, option_map}
 use Rattle.wgsl_rules.specs.types.Types.{WgslType}
 use Rattle.wgsl_rules.specs.types.Signatures.{Parameter, Signature}
 use Rattle.wgsl_rules.specs.errors.Refusals.{Refusal, signature}

@@ -1,4 +1,3 @@
 pub mod Answers
 pub mod Constructors
 pub mod Rows
-pub mod Templates

@@ -7,22 +7,19 @@ use Rattle.wgsl_syntax.specs.Texel.{texel_formats}
 use Rattle.wgsl_syntax.specs.Scalar.{scalars}
 use Rattle.wgsl_syntax.specs.declared.scalar.Scalar.{Scalar}
 use Rattle.wgsl_syntax.specs.declared.code.Head.{Head}
-use Rattle.wgsl_syntax.specs.declared.code.Head.TheVariants.{Leaf, Wrapper}
+use Rattle.wgsl_syntax.specs.declared.code.Head.TheVariants.{Leaf, Around}
 use Rattle.wgsl_syntax.specs.declared.code.LeafType.TheVariants as leaf
-use Rattle.wgsl_syntax.specs.declared.code.Wrapper.TheVariants as wrapper
+use Rattle.wgsl_syntax.specs.declared.around.Around.TheVariants as arounds
+use Rattle.wgsl_rules.specs.types.Types.{vec_of}
 use Rattle.wgsl_rules.specs.codes.Words.{bytes}
 use Rattle.wgsl_rules.specs.codes.Heads.{head_word}
 use Rattle.wgsl_rules.specs.codes.Reading.{◌>>=◌}
 use Rattle.wgsl_rules.specs.codes.DecodingLiterals.{enumerant_named, enumerant_of, enumerants_by_kind}
-use Rattle.wgsl_rules.specs.codes.Decoding.{head_at, head_if, head_of, heads_by_tag, texture_of, textures_by_kind}
+use Rattle.wgsl_rules.specs.codes.Decoding.{head_at, head_if, head_of, heads_by_tag}
 
 -- no head has a greater tag
 pub no_head : (tag a b c : ℕ) → 15 ≤ tag → None ≡ head_of tag a b c
 no_head tag a b c h = rw (slice_get_past (heads_by_tag a b c) tag h) refl
-
--- no texture has a greater kind
-pub no_texture : (kind a b : ℕ) → 20 ≤ kind → None ≡ texture_of kind a b
-no_texture kind a b h = rw (slice_get_past (textures_by_kind a b) kind h) refl
 
 tag_tested : (b : Bool) (tag i : ℕ) → nat_lt tag 24 ≡ b → (24 ≤ tag → 28 ≤ tag) → None ≡ enumerant_of tag i
 tag_tested true tag i e h = rw e refl
@@ -56,9 +53,9 @@ pub scalar_named : (w : ℕ) (bs : List ℕ) (s : Scalar) → bs ≡ to_le_bytes
 scalar_named w bs s e tag index same = sym (named_so w bs (Leaf (leaf.Scalar s)) e (rw (tag, sym index) refl) same)
 
 -- a vector is named by the tag 3 and the number of its components
-pub vector_named : (w : ℕ) (bs : List ℕ) → bs ≡ to_le_bytes w32 w → get_or bs 0 0 ≡ 3 → head_word (Wrapper (wrapper.Vec (get_or bs 1 0))) ≡ w →
-    head_at w ≡ Some (Wrapper (wrapper.Vec (get_or bs 1 0)))
-vector_named w bs e tag same = sym (named_so w bs (Wrapper (wrapper.Vec (get_or bs 1 0))) e (rw tag refl) same)
+pub vector_named : (w : ℕ) (bs : List ℕ) → bs ≡ to_le_bytes w32 w → get_or bs 0 0 ≡ 3 → head_word (Around (arounds.Layer (vec_of (get_or bs 1 0)))) ≡ w →
+    head_at w ≡ Some (Around (arounds.Layer (vec_of (get_or bs 1 0))))
+vector_named w bs e tag same = sym (named_so w bs (Around (arounds.Layer (vec_of (get_or bs 1 0)))) e (rw tag refl) same)
 
 pub named_else : (w : ℕ) (bs : List ℕ) (h : Head) → bs ≡ to_le_bytes w32 w → Some h ≡ Named bs → (head_word h ≡ w → ⊥) → None ≡ head_at w
 named_else w bs h e k other = rw (head_read w bs e, sym k, ne_eqb (head_word h) w other) refl

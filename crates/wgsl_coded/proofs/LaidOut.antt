@@ -1,21 +1,24 @@
 -- Members are laid out one after another.
-use Rattle.std.proofs.Common.{◌≡◌, ℕ, ◌+◌, ◌-◌, ◌<◌, ◌≤◌, ◌^◌, max, List, [], ◌∷◌, ◌++◌, Option, Some, None, refl, sym, ap, ◌∙◌, arith, length, map, append_assoc, IsSomeAnd}
+use Rattle.std.proofs.Common.{◌≡◌, ℕ, ◌+◌, ◌-◌, ◌<◌, ◌≤◌, ◌^◌, max, List, [], ◌∷◌, ◌++◌, Option, Some, None, refl, sym, ap, subst, ◌∙◌, arith, length, map, append_assoc, IsSomeAnd}
 use Rattle.std.specs.Int.{next_multiple_of}
 use Rattle.std.specs.Option.{option_or}
 use Rattle.std.proofs.lemmas.List.{append-nil, length-append}
 use Rattle.std.proofs.lemmas.Option.{same_Some}
 use Rattle.wgsl_syntax.specs.declared.code.Head.TheVariants.{Struct}
-use Rattle.wgsl_rules.specs.types.Types.{struct, Members, no_members, member}
+use Rattle.wgsl_rules.specs.types.Types.{struct, Members, no_members}
 use Rattle.wgsl_rules.specs.codes.Heads.{head_word}
 use Rattle.wgsl_rules.specs.codes.Reading.{◌>>=◌, number_at}
 use Rattle.wgsl_rules.specs.codes.Words.{number}
 use Rattle.wgsl_rules.specs.codes.Decoding.{decode, decoded, head_at, members_at, parts_at}
 use Rattle.wgsl_rules.specs.layout.Placement.{MemberLayout, greatest_align}
-use Rattle.wgsl_rules.specs.layout.Layout.{HasSize, HasAlignment, IsExactly, IsGiven, HaveLayouts, HaveAlignments, IsStructSize, IsStructLayout}
+use Rattle.wgsl_rules.specs.layout.Layout.{HasSize, HasAlignment, IsExactly, IsGiven, HaveLayouts, IsRoundedUp, IsStride, IsStructSize, IsStructLayout}
 use Rattle.wgsl_rules.proofs.codes.HeadsAgain.{struct_again}
 use Rattle.wgsl_rules.proofs.layout.Offsets.{PlacedSoFar, all_placed}
 use Rattle.wgsl_rules.proofs.layout.Placing.{Aligned, end_of, starts, next_ge}
+use Rattle.wgsl_rules.proofs.layout.Steps.{one_rounded, rounded_up}
+use Rattle.wgsl_rules.proofs.layout.StructAligns.{alignments}
 use Rattle.wgsl_rules.proofs.layout.StructSizes.{IsFrom, struct_size}
+use Rattle.wgsl_core.specs.Placing.{IsSoonestEnd, IsSoonestOffset, IsValue}
 use Rattle.wgsl_core.specs.View.{Member, members_of}
 use Rattle.wgsl_coded.specs.Layouts.{AreLaidOut, IsSizedMember, IsStructHead}
 use Rattle.wgsl_coded.specs.Names.{IsNamed}
@@ -51,18 +54,18 @@ words_more e (k ∷ ls) l = ap (λ ws. next_multiple_of e k.align ∷ k.size ∷
 
 -- The members so far
 
-pub record ArePlaced (count k : ℕ) (ws rest old new : List ℕ) (end greatest : ℕ) : Type 0 where
+pub record ArePlaced (count k : ℕ) (ws rest old new : List ℕ) (end : Option ℕ) (greatest : ℕ) : Type 0 where
   pub front : List Member
   pub read : with_front front (members_at (decode 254) (count - k) rest) ≡ members_at (decode 254) count ws
   pub layouts : List MemberLayout
   pub known : HaveLayouts (members_of front) layouts
   pub aligned : Aligned layouts
   pub one_each : length layouts ≡ k
-  pub end_is : end ≡ end_of 0 layouts
+  pub end_is : end ≡ Some (end_of 0 layouts)
   pub greatest_is : greatest ≡ greatest_align layouts
   pub written : new ≡ old ++ member_words layouts (starts 0 layouts)
 
-pub none_placed : (count : ℕ) (ws old : List ℕ) → ArePlaced count 0 ws ws old old 0 0
+pub none_placed : (count : ℕ) (ws old : List ℕ) → ArePlaced count 0 ws ws old old (Some 0) 0
 none_placed count ws old = record {
   front = [];
   read = ap (λ n. with_front [] (members_at (decode 254) n ws)) (let whole : count - 0 ≡ count = omega arith in whole) ∙ no_front (members_at (decode 254) count ws);
@@ -75,33 +78,30 @@ none_placed count ws old = record {
   written = sym (append-nil old);
 }
 
-pub one_placed : (count k : ℕ) (ws rest after old new : List ℕ) (end greatest offset next : ℕ) (l : MemberLayout) → k < count → ArePlaced count k ws rest old new end greatest →
-    IsSizedMember rest l after → 0 < l.align → ◌≡◌ {A = ℕ × ℕ} (offset, next) (next_multiple_of end l.align, next_multiple_of end l.align + l.size) →
+pub one_placed : (count k : ℕ) (ws rest after old new : List ℕ) (end next : Option ℕ) (greatest offset : ℕ) (l : MemberLayout) → k < count → ArePlaced count k ws rest old new end greatest →
+    IsSizedMember rest l after → IsSoonestOffset end (Some l.size) l.align offset → IsExactly next (IsSoonestEnd end (Some l.size) l.align) →
     ArePlaced count (k + 1) ws after old (new ++ (offset ∷ l.size ∷ l.align ∷ [])) next (max greatest l.align)
-one_placed count k ws rest after old new end greatest offset next l lt h m pos place =
+one_placed count k ws rest after old new end next greatest offset l lt h m at ends =
     let words : List ℕ = offset ∷ l.size ∷ l.align ∷ [] in
-    let at : offset ≡ next_multiple_of (end_of 0 h.layouts) l.align = ap (λ (p : ℕ × ℕ). p.0) place ∙ ap (λ e. next_multiple_of e l.align) h.end_is in
+    let e = end_of 0 h.layouts in
+    let start : offset ≡ next_multiple_of e l.align = at.5 ∙ ap (λ e. next_multiple_of e l.align) (same_Some at.0 e (sym at.2 ∙ h.end_is)) in
+    let size : l.size ≡ at.1 = same_Some l.size at.1 at.3 in
+    let fits : next_multiple_of e l.align + l.size < 2 ^ 32 = omega (arith, at.6, start, size) in
     record {
       front = h.front ++ m.member ∷ [];
       read = goes_on (decode 254) h.front k count rest (members_at (decode 254) count ws) h.read m.member after lt m.read;
       layouts = h.layouts ++ l ∷ [];
       known = have_more h.front m.member h.layouts l h.known m.size m.align;
-      aligned = aligned_more h.layouts l h.aligned pos;
+      aligned = aligned_more h.layouts l h.aligned at.4;
       one_each = length-append h.layouts (l ∷ []) ∙ ap (λ n. n + 1) h.one_each;
-      end_is = ap (λ (p : ℕ × ℕ). p.1) place ∙ ap (λ e. next_multiple_of e l.align + l.size) h.end_is ∙ end_more 0 h.layouts l;
+      end_is = (ends (next_multiple_of e l.align + l.size)).1 (e, l.size, h.end_is, refl, at.4, refl, fits) ∙ ap Some (end_more 0 h.layouts l);
       greatest_is = ap (λ g. max g l.align) h.greatest_is ∙ greatest_more h.layouts l;
       written =
           ap (λ ns. ns ++ words) h.written ∙ append_assoc old (member_words h.layouts (starts 0 h.layouts)) words
-          ∙ ap (λ vs. old ++ vs) (ap (λ n. member_words h.layouts (starts 0 h.layouts) ++ (n ∷ l.size ∷ l.align ∷ [])) at ∙ words_more 0 h.layouts l);
+          ∙ ap (λ vs. old ++ vs) (ap (λ n. member_words h.layouts (starts 0 h.layouts) ++ (n ∷ l.size ∷ l.align ∷ [])) start ∙ words_more 0 h.layouts l);
     }
 
 -- All members
-
-alignments : (ms : Members) (ls : List MemberLayout) → HaveLayouts ms ls → HaveAlignments ms (map (λ l. l.align) ls)
-alignments no_members [] known = tt
-alignments no_members (l ∷ ls) known = absurd known
-alignments (member name t size align ms) [] known = absurd known
-alignments (member name t size align ms) (l ∷ ls) known = (known.1, alignments ms ls known.2)
 
 whole_layout : (ms : Members) (ls : List MemberLayout) (size g : ℕ) → HaveLayouts ms ls → Aligned ls → g ≡ greatest_align ls → 0 < g →
     size ≡ next_multiple_of (end_of 0 ls) g → size < 2 ^ 32 → IsStructLayout ms ls (starts 0 ls) size g
@@ -130,17 +130,21 @@ whole_layout ms ls size g known al is pos size_is fits =
     let placed = all_placed ms ls (starts 0 ls) (end_of 0 ls) size sized so_far in
     record { members = placed.0; placed = placed.1; sized = sized; aligned = (map (λ l. l.align) ls, alignments ms ls known, is) }
 
-pub all_laid_out : (count k : ℕ) (ws rest old new : List ℕ) (end greatest size : ℕ) → count ≤ k → ArePlaced count k ws rest old new end greatest → k ≤ count → rest ≡ [] →
-    0 < greatest → size ≡ next_multiple_of end greatest → size < 2 ^ 32 → AreLaidOut count ws old new size greatest
-all_laid_out count k ws rest old new end greatest size le h ge none pos size_is fits =
+pub all_laid_out : (count k : ℕ) (ws rest old new : List ℕ) (end : Option ℕ) (greatest size : ℕ) → count ≤ k → ArePlaced count k ws rest old new end greatest → k ≤ count → rest ≡ [] →
+    IsStride (IsValue end) (IsValue (Some greatest)) size → AreLaidOut count ws old new size greatest
+all_laid_out count k ws rest old new end greatest size le h ge none at =
     let ms = members_of h.front in
     let read : members_at (decode 254) count ws ≡ Some (ms, rest) = ends (decode 254) h.front k count rest (members_at (decode 254) count ws) h.read le in
+    let e = end_of 0 h.layouts in
+    let up : IsRoundedUp e greatest size =
+    subst (λ (a : ℕ). IsRoundedUp e a size) (sym (same_Some greatest at.1 at.3)) (subst (λ (e : ℕ). IsRoundedUp e at.1 size) (same_Some at.0 e (sym at.2 ∙ h.end_is)) at.4) in
+    let is : size ≡ next_multiple_of e greatest = one_rounded e greatest size (next_multiple_of e greatest) up (rounded_up e greatest up.0) in
     record {
       members = ms;
       read = read ∙ ap (λ r. Some (ms, r)) none;
       layouts = h.layouts;
       offsets = starts 0 h.layouts;
-      laid_out = whole_layout ms h.layouts size greatest h.known h.aligned h.greatest_is pos (size_is ∙ ap (λ e. next_multiple_of e greatest) h.end_is) fits;
+      laid_out = whole_layout ms h.layouts size greatest h.known h.aligned h.greatest_is up.0 is at.5;
       one_each = omega (arith, h.one_each);
       written = h.written;
     }

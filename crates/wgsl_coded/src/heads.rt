@@ -1,23 +1,23 @@
 // The first words of codes.
 ghost use Rattle.std.specs.Prelude.{◌≡◌, IfSome, Some, slice_get};
-ghost use Rattle.wgsl_syntax.specs.Address.{spaces, access_modes};
-ghost use Rattle.wgsl_syntax.specs.Attribute.{flags};
-ghost use Rattle.wgsl_syntax.specs.Scalar.{scalars};
-ghost use Rattle.wgsl_syntax.specs.Texel.{texel_formats};
-ghost use Rattle.wgsl_syntax.specs.Texture.{sampled_types, samplers};
+ghost use Rattle.wgsl_syntax.specs.declared.around.Around.TheVariants as around;
 ghost use Rattle.wgsl_syntax.specs.declared.code.Head.TheVariants as head;
 ghost use Rattle.wgsl_syntax.specs.declared.code.LeafType.TheVariants as leaf;
-ghost use Rattle.wgsl_syntax.specs.declared.code.Wrapper.TheVariants as wrapper;
+ghost use Rattle.wgsl_rules.specs.types.Types.{vec_of};
 ghost use Rattle.wgsl_rules.specs.codes.Heads.{flag_byte, head_word, texture_word};
-ghost use Rattle.wgsl_rules.specs.codes.Decoding.{flags_by_byte, head_at, head_of, texture_of};
+ghost use Rattle.wgsl_rules.specs.codes.Decoding.{flags_by_byte, head_at, head_of, parameters_by, texture_of};
 
 use crate::numbers::word_of;
 use wgsl_syntax::address::{AccessMode, AddressSpace};
+use wgsl_syntax::around::Around;
 use wgsl_syntax::attribute::AccelerationStructureFlags;
-use wgsl_syntax::code::{Counted, Head, LeafType, Wrapper};
+use wgsl_syntax::code::{Counted, Head, LeafType};
+use wgsl_syntax::index::by_index;
+use wgsl_syntax::layer::Layer;
 use wgsl_syntax::scalar::Scalar;
 use wgsl_syntax::texel::TexelFormat;
 use wgsl_syntax::texture::{SampledType, SamplerType, TextureType};
+use wgsl_syntax::texture_name::{TextureName, TextureParameterKind, TextureParameters};
 
 fn flag_byte_of(flags: Option<AccelerationStructureFlags>) -> u8
     ensures { result ≡ flag_byte flags }
@@ -32,29 +32,12 @@ fn flag_byte_of(flags: Option<AccelerationStructureFlags>) -> u8
 fn word_of_texture(texture: TextureType) -> u32
     ensures { result ≡ texture_word texture }
 {
-    let (kind, a, b) = match texture {
-        TextureType::Sampled1D(sampled) => (0, sampled as u8, 0),
-        TextureType::Sampled2D(sampled) => (1, sampled as u8, 0),
-        TextureType::Sampled2DArray(sampled) => (2, sampled as u8, 0),
-        TextureType::Sampled3D(sampled) => (3, sampled as u8, 0),
-        TextureType::SampledCube(sampled) => (4, sampled as u8, 0),
-        TextureType::SampledCubeArray(sampled) => (5, sampled as u8, 0),
-        TextureType::Sampled1DArray(sampled) => (6, sampled as u8, 0),
-        TextureType::Multisampled2D(sampled) => (7, sampled as u8, 0),
-        TextureType::Multisampled2DArray(sampled) => (8, sampled as u8, 0),
-        TextureType::DepthMultisampled2D => (9, 0, 0),
-        TextureType::Storage1D(format, access) => (10, format as u8, access as u8),
-        TextureType::Storage1DArray(format, access) => (11, format as u8, access as u8),
-        TextureType::Storage2D(format, access) => (12, format as u8, access as u8),
-        TextureType::Storage2DArray(format, access) => (13, format as u8, access as u8),
-        TextureType::Storage3D(format, access) => (14, format as u8, access as u8),
-        TextureType::External => (15, 0, 0),
-        TextureType::Depth2D => (16, 0, 0),
-        TextureType::Depth2DArray => (17, 0, 0),
-        TextureType::DepthCube => (18, 0, 0),
-        TextureType::DepthCubeArray => (19, 0, 0),
+    let (a, b) = match texture.parameters() {
+        TextureParameters::None => (0, 0),
+        TextureParameters::Sampled(sampled) => (sampled as u8, 0),
+        TextureParameters::Storage(format, access) => (format as u8, access as u8),
     };
-    word_of(9, kind, a, b)
+    word_of(9, texture.name() as u8, a, b)
 }
 
 /// The first word of a leaf.
@@ -71,18 +54,20 @@ fn word_of_leaf(leaf: LeafType) -> u32
     }
 }
 
-/// The first word of a wrapper.
-fn word_of_wrapper(wrapper: Wrapper) -> u32
-    ensures { result ≡ head_word (head.Wrapper wrapper) }
+/// The first word of what stands around another type.
+fn word_of_around(outer: Around) -> u32
+    ensures { result ≡ head_word (head.Around outer) }
 {
-    let (tag, a, b) = match wrapper {
-        Wrapper::Array => (1, 0, 0),
-        Wrapper::Vec(n) => (3, n, 0),
-        Wrapper::Mat(columns, rows) => (4, columns, rows),
-        Wrapper::Atomic => (6, 0, 0),
-        Wrapper::Ptr(space, access) => (7, space as u8, access as u8),
-        Wrapper::Ref(space, access) => (8, space as u8, access as u8),
-        Wrapper::BindingArray => (11, 0, 0),
+    let (tag, a, b) = match outer {
+        Around::Layer(Layer::Array(None)) => (1, 0, 0),
+        Around::Layer(Layer::Array(Some(_))) => (2, 0, 0),
+        Around::Layer(Layer::Vec(components)) => (3, components, 0),
+        Around::Layer(Layer::Mat(columns, rows)) => (4, columns, rows),
+        Around::Atomic => (6, 0, 0),
+        Around::Ptr(space, access) => (7, space as u8, access as u8),
+        Around::Ref(space, access) => (8, space as u8, access as u8),
+        Around::BindingArray(None) => (11, 0, 0),
+        Around::BindingArray(Some(_)) => (12, 0, 0),
     };
     word_of(tag, a, b, 0)
 }
@@ -94,132 +79,18 @@ pub(crate) fn word_of_head(head: Head) -> u32
 {
     match head {
         Head::Leaf(leaf) => word_of_leaf(leaf),
-        Head::Wrapper(wrapper) => word_of_wrapper(wrapper),
+        Head::Around(outer) => word_of_around(outer),
         Head::Counted(Counted::Array) => word_of(2, 0, 0, 0),
         Head::Counted(Counted::BindingArray) => word_of(12, 0, 0, 0),
         Head::Struct => word_of(5, 0, 0, 0),
     }
 }
 
-/// The scalars by index, and so for each enumeration.
-const SCALARS: [Scalar; 10] = [
-    Scalar::Bool,
-    Scalar::AbstractInt,
-    Scalar::AbstractFloat,
-    Scalar::I32,
-    Scalar::U32,
-    Scalar::F32,
-    Scalar::F16,
-    Scalar::I64,
-    Scalar::U64,
-    Scalar::F64,
-];
-
-const SPACES: [AddressSpace; 7] = [
-    AddressSpace::Function,
-    AddressSpace::Private,
-    AddressSpace::Workgroup,
-    AddressSpace::Uniform,
-    AddressSpace::Storage,
-    AddressSpace::Handle,
-    AddressSpace::PushConstant,
-];
-
-const ACCESS_MODES: [AccessMode; 4] = [
-    AccessMode::Read,
-    AccessMode::Write,
-    AccessMode::ReadWrite,
-    AccessMode::Atomic,
-];
-
-const SAMPLED_TYPES: [SampledType; 3] = [SampledType::I32, SampledType::U32, SampledType::F32];
-
-const SAMPLERS: [SamplerType; 2] = [SamplerType::Sampler, SamplerType::SamplerComparison];
-
+/// The flag by its byte.
 const FLAGS: [Option<AccelerationStructureFlags>; 2] = [
     None,
     Some(AccelerationStructureFlags::VertexReturn),
 ];
-
-const TEXEL_FORMATS: [TexelFormat; 41] = [
-    TexelFormat::Rgba8Unorm,
-    TexelFormat::Rgba8Snorm,
-    TexelFormat::Rgba8Uint,
-    TexelFormat::Rgba8Sint,
-    TexelFormat::R8Unorm,
-    TexelFormat::R8Snorm,
-    TexelFormat::R8Uint,
-    TexelFormat::R8Sint,
-    TexelFormat::Rg8Unorm,
-    TexelFormat::Rg8Snorm,
-    TexelFormat::Rg8Uint,
-    TexelFormat::Rg8Sint,
-    TexelFormat::Rgba16Unorm,
-    TexelFormat::Rgba16Snorm,
-    TexelFormat::Rgba16Uint,
-    TexelFormat::Rgba16Sint,
-    TexelFormat::Rgba16Float,
-    TexelFormat::R16Unorm,
-    TexelFormat::R16Snorm,
-    TexelFormat::R16Uint,
-    TexelFormat::R16Sint,
-    TexelFormat::R16Float,
-    TexelFormat::Rg16Unorm,
-    TexelFormat::Rg16Snorm,
-    TexelFormat::Rg16Uint,
-    TexelFormat::Rg16Sint,
-    TexelFormat::Rg16Float,
-    TexelFormat::R32Uint,
-    TexelFormat::R32Sint,
-    TexelFormat::R32Float,
-    TexelFormat::Rg32Uint,
-    TexelFormat::Rg32Sint,
-    TexelFormat::Rg32Float,
-    TexelFormat::Rgba32Uint,
-    TexelFormat::Rgba32Sint,
-    TexelFormat::Rgba32Float,
-    TexelFormat::Bgra8Unorm,
-    TexelFormat::Rgb10a2Uint,
-    TexelFormat::Rgb10a2Unorm,
-    TexelFormat::Rg11b10Float,
-    TexelFormat::R64Uint,
-];
-
-fn by_index<T: Copy>(values: &[T], index: u8) -> Option<T>
-    ensures { result ≡ slice_get values.now index }
-{
-    values.get(index as usize).copied()
-}
-
-fn scalar_by(index: u8) -> Option<Scalar>
-    ensures { result ≡ slice_get scalars index }
-{
-    by_index(&SCALARS, index)
-}
-
-pub(crate) fn space_by(index: u8) -> Option<AddressSpace>
-    ensures { result ≡ slice_get spaces index }
-{
-    by_index(&SPACES, index)
-}
-
-pub(crate) fn access_by(index: u8) -> Option<AccessMode>
-    ensures { result ≡ slice_get access_modes index }
-{
-    by_index(&ACCESS_MODES, index)
-}
-
-fn sampled_by(index: u8) -> Option<SampledType>
-    ensures { result ≡ slice_get sampled_types index }
-{
-    by_index(&SAMPLED_TYPES, index)
-}
-
-fn sampler_by(index: u8) -> Option<SamplerType>
-    ensures { result ≡ slice_get samplers index }
-{
-    by_index(&SAMPLERS, index)
-}
 
 fn flags_by(index: u8) -> Option<Option<AccelerationStructureFlags>>
     ensures { result ≡ slice_get flags_by_byte index }
@@ -227,44 +98,23 @@ fn flags_by(index: u8) -> Option<Option<AccelerationStructureFlags>>
     by_index(&FLAGS, index)
 }
 
-pub(crate) fn flag_by(index: u8) -> Option<AccelerationStructureFlags>
-    ensures { result ≡ slice_get flags index }
-{
-    by_index(&[AccelerationStructureFlags::VertexReturn], index)
-}
-
-pub(crate) fn format_by(index: u8) -> Option<TexelFormat>
-    ensures { result ≡ slice_get texel_formats index }
-{
-    by_index(&TEXEL_FORMATS, index)
-}
-
-fn texture_by(kind: u8, a: u8, b: u8) -> Option<TextureType>
-    ensures { result ≡ texture_of kind a b }
+fn parameters_by(kind: TextureParameterKind, a: u8, b: u8) -> Option<TextureParameters>
+    ensures { result ≡ parameters_by kind a b }
 {
     match kind {
-        0 => Some(TextureType::Sampled1D(sampled_by(a)?)),
-        1 => Some(TextureType::Sampled2D(sampled_by(a)?)),
-        2 => Some(TextureType::Sampled2DArray(sampled_by(a)?)),
-        3 => Some(TextureType::Sampled3D(sampled_by(a)?)),
-        4 => Some(TextureType::SampledCube(sampled_by(a)?)),
-        5 => Some(TextureType::SampledCubeArray(sampled_by(a)?)),
-        6 => Some(TextureType::Sampled1DArray(sampled_by(a)?)),
-        7 => Some(TextureType::Multisampled2D(sampled_by(a)?)),
-        8 => Some(TextureType::Multisampled2DArray(sampled_by(a)?)),
-        9 => Some(TextureType::DepthMultisampled2D),
-        10 => Some(TextureType::Storage1D(format_by(a)?, access_by(b)?)),
-        11 => Some(TextureType::Storage1DArray(format_by(a)?, access_by(b)?)),
-        12 => Some(TextureType::Storage2D(format_by(a)?, access_by(b)?)),
-        13 => Some(TextureType::Storage2DArray(format_by(a)?, access_by(b)?)),
-        14 => Some(TextureType::Storage3D(format_by(a)?, access_by(b)?)),
-        15 => Some(TextureType::External),
-        16 => Some(TextureType::Depth2D),
-        17 => Some(TextureType::Depth2DArray),
-        18 => Some(TextureType::DepthCube),
-        19 => Some(TextureType::DepthCubeArray),
-        _ => None,
+        TextureParameterKind::None => Some(TextureParameters::None),
+        TextureParameterKind::Sampled => Some(TextureParameters::Sampled(SampledType::at(a)?)),
+        TextureParameterKind::Storage => {
+            Some(TextureParameters::Storage(TexelFormat::at(a)?, AccessMode::at(b)?))
+        }
     }
+}
+
+fn texture_by(index: u8, a: u8, b: u8) -> Option<TextureType>
+    ensures { result ≡ texture_of index a b }
+{
+    let name = TextureName::at(index)?;
+    name.with(parameters_by(name.parameter_kind(), a, b)?)
 }
 
 /// The head that these bytes name, if bytes that have no meaning are 0.
@@ -272,18 +122,18 @@ fn head_by(tag: u8, a: u8, b: u8, c: u8) -> Option<Head>
     ensures { result ≡ head_of tag a b c }
 {
     match tag {
-        0 => Some(Head::Leaf(LeafType::Scalar(scalar_by(a)?))),
-        1 => Some(Head::Wrapper(Wrapper::Array)),
+        0 => Some(Head::Leaf(LeafType::Scalar(Scalar::at(a)?))),
+        1 => Some(Head::Around(Around::Layer(Layer::Array(None)))),
         2 => Some(Head::Counted(Counted::Array)),
-        3 => Some(Head::Wrapper(Wrapper::Vec(a))),
-        4 => Some(Head::Wrapper(Wrapper::Mat(a, b))),
+        3 => Some(Head::Around(Around::Layer(Layer::Vec(a)))),
+        4 => Some(Head::Around(Around::Layer(Layer::Mat(a, b)))),
         5 => Some(Head::Struct),
-        6 => Some(Head::Wrapper(Wrapper::Atomic)),
-        7 => Some(Head::Wrapper(Wrapper::Ptr(space_by(a)?, access_by(b)?))),
-        8 => Some(Head::Wrapper(Wrapper::Ref(space_by(a)?, access_by(b)?))),
+        6 => Some(Head::Around(Around::Atomic)),
+        7 => Some(Head::Around(Around::Ptr(AddressSpace::at(a)?, AccessMode::at(b)?))),
+        8 => Some(Head::Around(Around::Ref(AddressSpace::at(a)?, AccessMode::at(b)?))),
         9 => Some(Head::Leaf(LeafType::Texture(texture_by(a, b, c)?))),
-        10 => Some(Head::Leaf(LeafType::Sampler(sampler_by(a)?))),
-        11 => Some(Head::Wrapper(Wrapper::BindingArray)),
+        10 => Some(Head::Leaf(LeafType::Sampler(SamplerType::at(a)?))),
+        11 => Some(Head::Around(Around::BindingArray(None))),
         12 => Some(Head::Counted(Counted::BindingArray)),
         13 => Some(Head::Leaf(LeafType::RayQuery(flags_by(a)?))),
         14 => Some(Head::Leaf(LeafType::AccelerationStructure(flags_by(a)?))),
@@ -314,7 +164,7 @@ pub(crate) fn read_scalar(word: u32) -> Option<Scalar>
     if tag != 0 {
         return None;
     }
-    let scalar = scalar_by(index)?;
+    let scalar = Scalar::at(index)?;
     if word_of(0, scalar as u8, 0, 0) == word {
         Some(scalar)
     } else {
@@ -325,7 +175,7 @@ pub(crate) fn read_scalar(word: u32) -> Option<Scalar>
 /// The number of components, if the word is a vector's.
 #[inline(always)]
 pub(crate) fn read_vector_head(word: u32) -> Option<u8>
-    ensures { IfSome result (λ n. head_at word ≡ Some (head.Wrapper (wrapper.Vec n))) }
+    ensures { IfSome result (λ n. head_at word ≡ Some (head.Around (around.Layer (vec_of n)))) }
 {
     let [tag, components, _, _] = word.to_le_bytes();
     if tag == 3 && word_of(3, components, 0, 0) == word {

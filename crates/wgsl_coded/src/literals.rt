@@ -5,11 +5,13 @@ ghost use Rattle.wgsl_rules.specs.codes.Literals.{enumerant_code, literal_code};
 ghost use Rattle.wgsl_rules.specs.codes.DecodingLiterals.{bool_of, enumerant_at, enumerant_named, enumerant_of, i32_of, literal_at, literal_of, u32_of};
 ghost use Rattle.wgsl_core.specs.Instances.{literal_view};
 
-use crate::heads::{access_by, flag_by, format_by, space_by};
 use crate::numbers::{read_number, word_of, write_number};
 use std::alloc::AllocError;
 use wgsl_core::literal::LiteralInstance;
+use wgsl_syntax::address::{AccessMode, AddressSpace};
+use wgsl_syntax::attribute::AccelerationStructureFlags;
 use wgsl_syntax::enumerant::Enumerant;
+use wgsl_syntax::texel::TexelFormat;
 
 fn bool_from(value: usize) -> Option<LiteralInstance>
     ensures { option_map literal_view result ≡ bool_of value }
@@ -72,10 +74,13 @@ fn enumerant_from(tag: u8, index: u8) -> Option<Enumerant>
     ensures { result ≡ enumerant_of tag index }
 {
     match tag {
-        24 => Some(Enumerant::AccessMode(access_by(index)?)),
-        25 => Some(Enumerant::AddressSpace(space_by(index)?)),
-        26 => Some(Enumerant::TexelFormat(format_by(index)?)),
-        27 => Some(Enumerant::AccelerationStructureFlags(flag_by(index)?)),
+        24 => Some(Enumerant::AccessMode(AccessMode::at(index)?)),
+        25 => Some(Enumerant::AddressSpace(AddressSpace::at(index)?)),
+        26 => Some(Enumerant::TexelFormat(TexelFormat::at(index)?)),
+        27 => {
+            let flag = AccelerationStructureFlags::at(index)?;
+            Some(Enumerant::AccelerationStructureFlags(flag))
+        }
         _ => None,
     }
 }

@@ -21,7 +21,9 @@ use std::alloc::{AllocError, Global};
 use wgsl_core::operators::resolve::{Element, Extent, Resolution, ResolvedType, resolve_operator};
 use wgsl_core::operators::type_unary_op;
 use wgsl_core::ty::Type;
-use wgsl_syntax::code::{Head, Wrapper};
+use wgsl_syntax::around::Around;
+use wgsl_syntax::code::Head;
+use wgsl_syntax::layer::Layer;
 use wgsl_syntax::operator::BinaryOperator;
 
 /// The type of a unary expression, or its refusal. The request is the operator and the type of the operand.
@@ -86,10 +88,11 @@ fn push_resolved(out: &mut ShortWords, ty: ResolvedType<'_>) -> bool
     match ty.extent {
         Extent::Single => push_element(out, ty.element),
         Extent::Vector(components) => {
-            out.push_head(Head::Wrapper(Wrapper::Vec(components))) && push_element(out, ty.element)
+            out.push_head(Head::Around(Around::Layer(Layer::Vec(components))))
+                && push_element(out, ty.element)
         }
         Extent::Matrix(columns, rows) => {
-            out.push_head(Head::Wrapper(Wrapper::Mat(columns, rows)))
+            out.push_head(Head::Around(Around::Layer(Layer::Mat(columns, rows))))
                 && push_element(out, ty.element)
         }
     }

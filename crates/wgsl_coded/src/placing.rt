@@ -1,6 +1,5 @@
 // The layout of a struct is found while its members are read.
-ghost use Rattle.std.specs.Prelude.{◌≡◌, ◌<◌, ◌+◌, ◌^◌, IfOk, IfSome, IsSomeAnd, SomeIff};
-ghost use Rattle.std.specs.Int.{next_multiple_of};
+ghost use Rattle.std.specs.Prelude.{IfOk, IfSome, IsSomeAnd};
 ghost use Rattle.wgsl_coded.specs.Layouts.{AreLaidOut, IsSizedMember, IsStructHead};
 ghost use Rattle.wgsl_coded.specs.Replies.{IsLayout, answered};
 ghost use Rattle.wgsl_coded.specs.Requests.{struct_members};
@@ -12,6 +11,7 @@ use crate::names::after_ascii_name;
 use crate::numbers::{read_attribute, read_number, write_number};
 use crate::reading::read_type;
 use std::alloc::{AllocError, Global};
+use wgsl_core::layout::placing::Placing;
 use wgsl_syntax::code::Head;
 
 /// A size and an alignment in bytes.
@@ -67,41 +67,28 @@ fn write_layouts(
     ensures { IfOk result (λ whole. IfSome whole (λ whole.
         AreLaidOut count words.now out.old.items out.new.items whole.size whole.align)) }
 {
-    let mut end: u32 = 0;
-    let mut greatest: u32 = 0;
+    let mut placing = Placing::start();
     let mut rest = words;
     for _ in 0..count {
         let Some((member, after)) = read_sized_member(alloc, rest)? else {
             return Ok(None);
         };
-        let Some((offset, next)) = place(end, member) else {
+        let Some(offset) = placing.place(Some(member.size), member.align) else {
             return Ok(None);
         };
         out.extend_from_slice(&[offset, member.size, member.align])?;
-        end = next;
-        greatest = greatest.max(member.align);
         rest = after;
     }
     if !rest.is_empty() {
         return Ok(None);
     }
-    match end.checked_next_multiple_of(greatest) {
+    match placing.size() {
         Some(size) => Ok(Some(Extent {
             size,
-            align: greatest,
+            align: placing.greatest,
         })),
         None => Ok(None),
     }
-}
-
-/// The smallest offset of a member from `end` on, and the end of the member.
-fn place(end: u32, member: Extent) -> Option<(u32, u32)>
-    ensures { let offset = next_multiple_of end member.align in
-        SomeIff result ((0 < member.align) × (offset + member.size < 2 ^ 32))
-        (offset, offset + member.size) }
-{
-    let offset = end.checked_next_multiple_of(member.align)?;
-    Some((offset, offset.checked_add(member.size)?))
 }
 
 /// The size and the alignment of the member that the words begin with, and the words after it.

@@ -1,9 +1,10 @@
 // Types are read from their codes.
 ghost use Rattle.std.specs.Prelude.{◌≡◌, ◌<◌, IfSome, Some, length, slice_index};
+ghost use Rattle.wgsl_syntax.specs.declared.around.Around.TheVariants as around;
 ghost use Rattle.wgsl_syntax.specs.declared.code.Head.TheVariants as head;
 ghost use Rattle.wgsl_syntax.specs.declared.code.LeafType.TheVariants as leaf;
-ghost use Rattle.wgsl_syntax.specs.declared.code.Wrapper.TheVariants as wrapper;
-ghost use Rattle.wgsl_rules.specs.codes.Decoding.{counted_type, decode, head_at, leaf_type, members_at, parts_at, wrapped};
+ghost use Rattle.wgsl_rules.specs.types.Types.{vec_of};
+ghost use Rattle.wgsl_rules.specs.codes.Decoding.{decode, head_at, leaf_type, members_at, parts_at};
 ghost use Rattle.wgsl_core.specs.View.{view, member_view, struct_view};
 ghost use Rattle.wgsl_core.specs.ResultStruct.{struct_type};
 ghost use Rattle.wgsl_core.specs.internal.View.{members_view};
@@ -17,7 +18,9 @@ use crate::names::read_name;
 use crate::numbers::{read_attribute, read_number};
 use std::alloc::Global;
 use wgsl_core::ty::{StructMemberType, StructType, Type};
-use wgsl_syntax::code::{Counted, Head, LeafType, Wrapper};
+use wgsl_syntax::around::Around;
+use wgsl_syntax::code::{Head, LeafType};
+use wgsl_syntax::layer::Layer;
 use wgsl_syntax::scalar::Scalar;
 
 fn type_of_leaf(leaf: LeafType) -> Type
@@ -29,30 +32,6 @@ fn type_of_leaf(leaf: LeafType) -> Type
         LeafType::Sampler(sampler) => Type::Sampler(sampler),
         LeafType::RayQuery(flags) => Type::RayQuery(flags),
         LeafType::AccelerationStructure(flags) => Type::AccelerationStructure(flags),
-    }
-}
-
-#[inline(always)]
-fn wrap(wrapper: Wrapper, inner: Box<Type>) -> Type
-    ensures { view result ≡ wrapped wrapper (view inner.value) }
-{
-    match wrapper {
-        Wrapper::Array => Type::Array(inner, None),
-        Wrapper::Vec(n) => Type::Vec(n, inner),
-        Wrapper::Mat(columns, rows) => Type::Mat(columns, rows, inner),
-        Wrapper::Atomic => Type::Atomic(inner),
-        Wrapper::Ptr(space, access) => Type::Ptr(space, inner, access),
-        Wrapper::Ref(space, access) => Type::Ref(space, inner, access),
-        Wrapper::BindingArray => Type::BindingArray(inner, None),
-    }
-}
-
-fn with_count(counted: Counted, count: usize, inner: Box<Type>) -> Type
-    ensures { view result ≡ counted_type counted count (view inner.value) }
-{
-    match counted {
-        Counted::Array => Type::Array(inner, Some(count)),
-        Counted::BindingArray => Type::BindingArray(inner, Some(count)),
     }
 }
 
@@ -84,7 +63,8 @@ fn read_level(alloc: Global, first: u32, words: &[u32], depth: u8) -> Result<(Ty
     if depth > 0 {
         if let Some((components, of)) = read_vector(first, words) {
             let of = Box::new(alloc, Type::from(of))?;
-            return Ok((wrap(Wrapper::Vec(components), of), &words[1..]));
+            let vector = Type::around(Around::Layer(Layer::Vec(components)), of);
+            return Ok((vector, &words[1..]));
         }
     }
     match read_head(first) {
@@ -96,7 +76,7 @@ fn read_level(alloc: Global, first: u32, words: &[u32], depth: u8) -> Result<(Ty
 /// The number of components and their type, if the words are a vector of a scalar.
 #[inline(always)]
 fn read_vector(first: u32, words: &[u32]) -> Option<(u8, Scalar)>
-    ensures some { IfSome result (λ v. head_at first ≡ Some (head.Wrapper (wrapper.Vec v.0))) }
+    ensures some { IfSome result (λ v. head_at first ≡ Some (head.Around (around.Layer (vec_of v.0)))) }
     ensures inside { IfSome result (λ v. 0 < length words.now
         × head_at (slice_index words.now 0) ≡ Some (head.Leaf (leaf.Scalar v.1))) }
 {
@@ -113,16 +93,16 @@ fn read_parts(alloc: Global, head: Head, words: &[u32], depth: u8) -> Result<(Ty
 {
     match head {
         Head::Leaf(leaf) => Ok((type_of_leaf(leaf), words)),
-        Head::Wrapper(wrapper) => {
+        Head::Around(outer) => {
             let (inner, rest) = read_boxed(alloc, words, depth)?;
-            Ok((wrap(wrapper, inner), rest))
+            Ok((Type::around(outer, inner), rest))
         }
         Head::Counted(counted) => {
             let Some((count, rest)) = read_number(words) else {
                 return Err(Fault::NoType);
             };
             let (inner, rest) = read_boxed(alloc, rest, depth)?;
-            Ok((with_count(counted, count, inner), rest))
+            Ok((Type::around(counted.with_count(count), inner), rest))
         }
         Head::Struct => {
             let (ty, rest) = read_struct(alloc, words, depth)?;

@@ -111,44 +111,14 @@ pub(crate) fn read_binary(
     Ok((operator, left, right))
 }
 
-/// The unary operators by index, and so for the binary ones.
-const UNARY_OPERATORS: [UnaryOperator; 5] = [
-    UnaryOperator::LogicalNegation,
-    UnaryOperator::Negation,
-    UnaryOperator::BitwiseComplement,
-    UnaryOperator::AddressOf,
-    UnaryOperator::Indirection,
-];
-
-const BINARY_OPERATORS: [BinaryOperator; 18] = [
-    BinaryOperator::ShortCircuitOr,
-    BinaryOperator::ShortCircuitAnd,
-    BinaryOperator::Addition,
-    BinaryOperator::Subtraction,
-    BinaryOperator::Multiplication,
-    BinaryOperator::Division,
-    BinaryOperator::Remainder,
-    BinaryOperator::Equality,
-    BinaryOperator::Inequality,
-    BinaryOperator::LessThan,
-    BinaryOperator::LessThanEqual,
-    BinaryOperator::GreaterThan,
-    BinaryOperator::GreaterThanEqual,
-    BinaryOperator::BitwiseOr,
-    BinaryOperator::BitwiseAnd,
-    BinaryOperator::BitwiseXor,
-    BinaryOperator::ShiftLeft,
-    BinaryOperator::ShiftRight,
-];
-
 fn unary_operator_by(word: u32) -> Option<UnaryOperator>
     ensures { result ≡ slice_get unary_operators word }
 {
-    UNARY_OPERATORS.get(word as usize).copied()
+    UnaryOperator::ALL.get(word as usize).copied()
 }
 
 fn binary_operator_by(word: u32) -> Option<BinaryOperator>
     ensures { result ≡ slice_get binary_operators word }
 {
-    BINARY_OPERATORS.get(word as usize).copied()
+    BinaryOperator::ALL.get(word as usize).copied()
 }

@@ -8,7 +8,9 @@ ghost use Rattle.wgsl_coded.specs.Short.{short_items};
 
 use crate::heads::word_of_head;
 use wgsl_core::ty::Type;
-use wgsl_syntax::code::{Head, LeafType, Wrapper};
+use wgsl_syntax::around::Around;
+use wgsl_syntax::code::{Head, LeafType};
+use wgsl_syntax::layer::Layer;
 use wgsl_syntax::scalar::Scalar;
 
 /// At most six words.
@@ -69,8 +71,10 @@ impl ShortWords {
     {
         match ty {
             Type::Vec(components, of) => match of.scalar() {
-                Some(of) => self.push_head(Head::Wrapper(Wrapper::Vec(*components)))
-                    && self.push_scalar(of),
+                Some(of) => {
+                    self.push_head(Head::Around(Around::Layer(Layer::Vec(*components))))
+                        && self.push_scalar(of)
+                }
                 None => false,
             },
             _ => match ty.scalar() {

@@ -1,9 +1,10 @@
 // The codes of types are written.
 ghost use Rattle.std.specs.Prelude.{◌≡◌, ◌++◌, ◌∷◌, [], OnOk};
-ghost use Rattle.wgsl_rules.specs.types.Types.{scalar, array, binding_array};
+ghost use Rattle.wgsl_rules.specs.types.Types.{scalar};
+ghost use Rattle.wgsl_rules.specs.types.Around.{around};
 ghost use Rattle.wgsl_rules.specs.codes.Heads.{head_word};
-ghost use Rattle.wgsl_rules.specs.codes.Codes.{code, member_codes};
-ghost use Rattle.wgsl_rules.specs.codes.Decoding.{counted_type, leaf_type, wrapped};
+ghost use Rattle.wgsl_rules.specs.codes.Codes.{code, count_code, member_codes};
+ghost use Rattle.wgsl_rules.specs.codes.Decoding.{leaf_type};
 ghost use Rattle.wgsl_core.specs.View.{view, member_view, struct_view};
 ghost use Rattle.wgsl_core.specs.ResultStruct.{struct_type};
 ghost use Rattle.wgsl_core.specs.internal.View.{members_view};
@@ -14,7 +15,9 @@ use crate::names::write_name;
 use crate::numbers::{write_attribute, write_number};
 use std::alloc::AllocError;
 use wgsl_core::ty::{StructMemberType, StructType, Type};
-use wgsl_syntax::code::{Counted, Head, LeafType, Wrapper};
+use wgsl_syntax::around::Around;
+use wgsl_syntax::code::{Head, LeafType};
+use wgsl_syntax::layer::Layer;
 use wgsl_syntax::scalar::Scalar;
 
 #[inline(always)]
@@ -54,18 +57,20 @@ pub fn write(out: &mut Vec<u32>, ty: &Type) -> Result<(), AllocError>
         Type::F32 => write_scalar(out, Scalar::F32),
         Type::F16 => write_scalar(out, Scalar::F16),
         Type::Struct(s) => write_struct(out, s),
-        Type::Array(t, count) => write_array(out, *count, t),
-        Type::Vec(n, t) => write_wrapped(out, Wrapper::Vec(*n), t),
-        Type::Mat(columns, rows, t) => write_wrapped(out, Wrapper::Mat(*columns, *rows), t),
-        Type::Atomic(t) => write_wrapped(out, Wrapper::Atomic, t),
-        Type::Ptr(space, t, access) => write_wrapped(out, Wrapper::Ptr(*space, *access), t),
-        Type::Ref(space, t, access) => write_wrapped(out, Wrapper::Ref(*space, *access), t),
+        Type::Array(t, count) => write_around(out, Around::Layer(Layer::Array(*count)), t),
+        Type::Vec(n, t) => write_around(out, Around::Layer(Layer::Vec(*n)), t),
+        Type::Mat(columns, rows, t) => {
+            write_around(out, Around::Layer(Layer::Mat(*columns, *rows)), t)
+        }
+        Type::Atomic(t) => write_around(out, Around::Atomic, t),
+        Type::Ptr(space, t, access) => write_around(out, Around::Ptr(*space, *access), t),
+        Type::Ref(space, t, access) => write_around(out, Around::Ref(*space, *access), t),
         Type::Texture(texture) => write_leaf(out, LeafType::Texture(*texture)),
         Type::Sampler(sampler) => write_leaf(out, LeafType::Sampler(*sampler)),
         Type::I64 => write_scalar(out, Scalar::I64),
         Type::U64 => write_scalar(out, Scalar::U64),
         Type::F64 => write_scalar(out, Scalar::F64),
-        Type::BindingArray(t, count) => write_binding_array(out, *count, t),
+        Type::BindingArray(t, count) => write_around(out, Around::BindingArray(*count), t),
         Type::RayQuery(flags) => write_leaf(out, LeafType::RayQuery(*flags)),
         Type::AccelerationStructure(flags) => {
             write_leaf(out, LeafType::AccelerationStructure(*flags))
@@ -73,55 +78,24 @@ pub fn write(out: &mut Vec<u32>, ty: &Type) -> Result<(), AllocError>
     }
 }
 
-#[cycle(write)]
-#[tactic(auto, using(wgsl_rules::proofs::codes::Spelled::wrapped_code, std::proofs::lemmas::List::append_assoc))]
-fn write_wrapped(out: &mut Vec<u32>, wrapper: Wrapper, inner: &Type) -> Result<(), AllocError>
-    ensures { OnOk result (out.new.items
-        ≡ out.old.items ++ code (wrapped wrapper (view inner.now))) }
-{
-    write_head(out, Head::Wrapper(wrapper))?;
-    write(out, inner)
-}
-
-#[cycle(write)]
-#[tactic(auto, using(wgsl_rules::proofs::codes::Spelled::counted_code, std::proofs::lemmas::List::append_assoc))]
-fn write_counted(
-    out: &mut Vec<u32>,
-    counted: Counted,
-    count: usize,
-    inner: &Type,
-) -> Result<(), AllocError>
-    ensures { OnOk result (out.new.items
-        ≡ out.old.items ++ code (counted_type counted count (view inner.now))) }
-{
-    write_head(out, Head::Counted(counted))?;
-    write_number(out, count)?;
-    write(out, inner)
-}
-
-#[cycle(write)]
-fn write_array(out: &mut Vec<u32>, count: Option<usize>, element: &Type) -> Result<(), AllocError>
-    ensures { OnOk result (out.new.items ≡ out.old.items ++ code (array count (view element.now))) }
+fn write_count(out: &mut Vec<u32>, count: Option<usize>) -> Result<(), AllocError>
+    ensures { OnOk result (out.new.items ≡ out.old.items ++ count_code count) }
 {
     match count {
-        None => write_wrapped(out, Wrapper::Array, element),
-        Some(count) => write_counted(out, Counted::Array, count, element),
+        None => Ok(()),
+        Some(count) => write_number(out, count),
     }
 }
 
 #[cycle(write)]
-fn write_binding_array(
-    out: &mut Vec<u32>,
-    count: Option<usize>,
-    element: &Type,
-) -> Result<(), AllocError>
+#[tactic(auto, using(wgsl_rules::proofs::codes::Spelled::code_around, std::proofs::lemmas::List::append_assoc))]
+fn write_around(out: &mut Vec<u32>, outer: Around, inner: &Type) -> Result<(), AllocError>
     ensures { OnOk result (out.new.items
-        ≡ out.old.items ++ code (binding_array count (view element.now))) }
+        ≡ out.old.items ++ code (around outer (view inner.now))) }
 {
-    match count {
-        None => write_wrapped(out, Wrapper::BindingArray, element),
-        Some(count) => write_counted(out, Counted::BindingArray, count, element),
-    }
+    write_head(out, Head::Around(outer))?;
+    write_count(out, outer.count())?;
+    write(out, inner)
 }
 
 #[cycle(write)]

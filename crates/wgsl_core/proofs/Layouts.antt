@@ -1,6 +1,5 @@
 -- The measure of each kind of type, from those of the types inside; the layout of a struct, member by member.
 use Rattle.std.proofs.Common.{◌≡◌, ℕ, ◌<◌, ◌≤◌, suc, max, List, [], ◌∷◌, length, drop, drop-cons, add-one, ◌+◌, get_or, Option, Some, None, Result, Ok, Err, IsSome, ◌++◌, ◌^◌, refl, sym, ap, subst, ◌∙◌, rules, string_bytes}
-use Rattle.std.specs.Option.{SomeIff}
 use Rattle.std.specs.Result.{OkIff, result_ok}
 use Rattle.std.specs.declared.num.TryFromIntError.{TryFromIntError}
 use Rattle.std.specs.Borrow.{Bor}
@@ -16,7 +15,8 @@ use Rattle.wgsl_rules.proofs.layout.Offsets.{PlacedSoFar, none_placed, NextMembe
 use Rattle.wgsl_core.specs.View.{Member, member_view, struct_view}
 use Rattle.wgsl_core.specs.internal.View.{members_view}
 use Rattle.wgsl_core.specs.Layout.{layouts_of, offsets_of}
-use Rattle.wgsl_core.specs.internal.Layout.{IsMeasure, IsValue, IsSoonestEnd, HasSomeSize, ArePlaced}
+use Rattle.wgsl_core.specs.Placing.{IsSoonestEnd, IsSoonestOffset, IsValue}
+use Rattle.wgsl_core.specs.internal.Layout.{IsMeasure, HasSomeSize, ArePlaced}
 use Rattle.wgsl_core.specs.declared.layout.Measure.{Measure}
 use Rattle.wgsl_core.specs.declared.layout.PlacedMember.{PlacedMember}
 use Rattle.wgsl_core.specs.Forms.{form_view}
@@ -194,23 +194,24 @@ next_placed items placed end i x l s a lt is h hs es ha ea =
     subst (λ (y : ℕ). NextPlaced items placed end i s y) same_align (subst (λ (y : ℕ). NextPlaced items placed end i y m.align) same_size
     (record { positive = m.positive; fits = m.fits; after = after }))
 
--- the place of a member of this size and this alignment
-abbrev IsPlace : ℕ → ℕ → ℕ → Option (ℕ × ℕ) → Type 0
-IsPlace end size align o =
-    let offset = next_multiple_of end align in
-    SomeIff o ((0 < align) × (offset + size < 2 ^ 32)) (offset, offset + size)
+-- the members before are placed, and end there
+abbrev pub PlacedTo : List StructMemberType → List PlacedMember → Option ℕ → ℕ → Type 0
+PlacedTo items placed end i = (e : ℕ) × (end ≡ Some e) × PlacedAt items placed e i
 
-pub place_there : {items : List StructMemberType} {placed : List PlacedMember} {end i s a : ℕ} (o : Option (ℕ × ℕ)) → NextPlaced items placed end i s a → IsPlace end s a o → IsSome o
-place_there None w h = absurd (h (w.positive, w.fits))
-place_there (Some p) w h = refl
+pub place_there : {items : List StructMemberType} {placed : List PlacedMember} {end i s a : ℕ} (o : Option ℕ) (before : Option ℕ) → before ≡ Some end → NextPlaced items placed end i s a
+    → IsExactly o (IsSoonestOffset before (Some s) a) → IsSome o
+place_there {items} {placed} {end} {i} {s} {a} None before e w h = absurd (let f : None ≡ Some (next_multiple_of end a) = (h (next_multiple_of end a)).1 (end, s, e, refl, w.positive, refl, w.fits) in cc)
+place_there (Some p) before e w h = refl
 
-pub place_goes_on : {items : List StructMemberType} {placed more : List PlacedMember} {end i s a : ℕ} (o : Option (ℕ × ℕ)) (p : ℕ × ℕ) → NextPlaced items placed end i s a → IsPlace end s a o → o ≡ Some p
-    → more ≡ placed ++ record { offset = p.0; size = s; align = a } ∷ [] → PlacedAt items more p.1 (i + 1)
-place_goes_on None p w h is pushed = absurd (cc)
-place_goes_on {items} {placed} {more} {end} {i} {s} {a} (Some q) p w h is pushed =
-    let same : (next_multiple_of end a, next_multiple_of end a + s) ≡ p = sym h.1 ∙ same_Some q p is in
-    subst (λ xs. PlacedAt items xs p.1 (i + 1)) (sym pushed)
-    (subst (λ (y : ℕ × ℕ). PlacedAt items (placed ++ record { offset = y.0; size = s; align = a } ∷ []) y.1 (i + 1)) same w.after)
+pub place_goes_on : {items : List StructMemberType} {placed more : List PlacedMember} {end i s a : ℕ} (o before after : Option ℕ) (p : ℕ) → before ≡ Some end → NextPlaced items placed end i s a
+    → IsExactly o (IsSoonestOffset before (Some s) a) → IsExactly after (IsSoonestEnd before (Some s) a) → o ≡ Some p
+    → more ≡ placed ++ record { offset = p; size = s; align = a } ∷ [] → PlacedTo items more after (i + 1)
+place_goes_on {items} {placed} {more} {end} {i} {s} {a} o before after p e w at ends is pushed =
+    let start = next_multiple_of end a in
+    let same : start ≡ p = same_Some start p (sym ((at start).1 (end, s, e, refl, w.positive, refl, w.fits)) ∙ is) in
+    let there : PlacedAt items more (start + s) (i + 1) = subst (λ xs. PlacedAt items xs (start + s) (i + 1)) (sym pushed)
+    (subst (λ (y : ℕ). PlacedAt items (placed ++ record { offset = y; size = s; align = a } ∷ []) (start + s) (i + 1)) same w.after) in
+    (start + s, (ends (start + s)).1 (end, s, e, refl, w.positive, refl, w.fits), there)
 
 pub place_ends : (s : StructType) (items : List StructMemberType) (placed : List PlacedMember) (end i : ℕ) → items ≡ ((out-StructType s).members).items → HasSomeSize (struct_view s).members
     → length items ≤ i → PlacedAt items placed end i → ArePlaced (struct_view s).members placed

@@ -7,5 +7,6 @@ pub mod Converted
 pub mod RefusalEquality
 pub mod ResultStruct
 pub mod Layout
+pub mod Placing
 pub mod Resolution
 pub mod internal

@@ -1,13 +1,16 @@
 // Sizes, alignments and offsets in memory.
-ghost use Rattle.std.specs.Prelude.{◌≡◌, ◌↔◌, ◌+◌, ◌<◌, ◌^◌, IfOk, IfSome, SomeIff};
-ghost use Rattle.std.specs.Int.{next_multiple_of};
+ghost use Rattle.std.specs.Prelude.{◌≡◌, ◌↔◌, IfOk, IfSome};
 ghost use Rattle.wgsl_rules.specs.types.Types.{struct, array, vec, mat};
-ghost use Rattle.wgsl_rules.specs.layout.Layout.{IsAtomicSize, IsTimes, IsStride, IsArraySize, IsAlignOfThree, IsVectorAlign, IsGiven, HasSize, HasAlignment, HasLeastSize, IsStructAlign, HaveAlignments, IsExactly, HasNoSize, LacksSize, AreOffsets};
+ghost use Rattle.wgsl_rules.specs.layout.Layout.{IsAtomicSize, IsTimes, IsArraySize, IsAlignOfThree, IsVectorAlign, IsGiven, HasSize, HasAlignment, HasLeastSize, IsStructAlign, HaveAlignments, IsExactly, HasNoSize, LacksSize, AreOffsets};
 ghost use Rattle.wgsl_rules.specs.Headline.{IsLeastPlacedSize};
 ghost use Rattle.wgsl_core.specs.View.{view, struct_view, member_view};
 ghost use Rattle.wgsl_core.specs.Layout.{IsLayoutOf, offsets_of};
-ghost use Rattle.wgsl_core.specs.internal.Layout.{IsMeasure, IsValue, IsSoonestEnd, HasSomeSize, ArePlaced};
+ghost use Rattle.wgsl_core.specs.Placing.{IsValue};
+ghost use Rattle.wgsl_core.specs.internal.Layout.{IsMeasure, HasSomeSize, ArePlaced};
 
+pub mod placing;
+
+use crate::layout::placing::{Placing, rounded_up};
 use crate::ty::form::Form;
 use crate::ty::{StructMemberType, StructType, Type};
 use std::alloc::{AllocError, Global};
@@ -204,12 +207,6 @@ fn times(count: u32, size: Option<u32>) -> Option<u32>
     count.checked_mul(size?)
 }
 
-fn rounded_up(size: Option<u32>, align: Option<u32>) -> Option<u32>
-    ensures { IsExactly result (IsStride (IsValue size) (IsValue align)) }
-{
-    size?.checked_next_multiple_of(align?)
-}
-
 impl StructType {
     /// The size in bytes (WGSL, "Structure Member Layout"): the smallest of any placement of the members.
     ///
@@ -275,18 +272,17 @@ impl StructType {
         ensures { IfOk result (λ members. ArePlaced (struct_view self.now).members members.items) }
     {
         let mut members = Vec::with_capacity(alloc, self.members.len())?;
-        let mut end: u32 = 0;
+        let mut placing = Placing::start();
         for member in &self.members {
             let measure = member.measure();
             let size = measure.size.unwrap();
             let align = measure.align.unwrap();
-            let (offset, after) = place(end, size, align).unwrap();
+            let offset = placing.place(Some(size), align).unwrap();
             members.push(PlacedMember {
                 offset,
                 size,
                 align,
             })?;
-            end = after;
         }
         Ok(members)
     }
@@ -295,8 +291,7 @@ impl StructType {
     fn measure(&self) -> Measure
         ensures { let s = struct_view self.now in IsMeasure (struct s.name s.members) result }
     {
-        let mut end = Some(0);
-        let mut greatest: u32 = 0;
+        let mut placing = Placing::start();
         for member in &self.members {
             let measure = member.measure();
             let Some(align) = measure.align else {
@@ -305,12 +300,11 @@ impl StructType {
                     align: None,
                 };
             };
-            end = end_of_member(end, measure.size, align);
-            greatest = greatest.max(align);
+            placing.place(measure.size, align);
         }
         Measure {
-            size: rounded_up(end, Some(greatest)),
-            align: Some(greatest),
+            size: placing.size(),
+            align: Some(placing.greatest),
         }
     }
 }
@@ -323,22 +317,6 @@ fn member_offsets(alloc: Global, members: &[PlacedMember]) -> Result<Vec<u32>, A
         offsets.push(member.offset)?;
     }
     Ok(offsets)
-}
-
-fn end_of_member(end: Option<u32>, size: Option<u32>, align: u32) -> Option<u32>
-    ensures { IsExactly result (IsSoonestEnd end size align) }
-{
-    let (_, end) = place(end?, size?, align)?;
-    Some(end)
-}
-
-/// The smallest offset of a member from `end` on, and the end of the member.
-fn place(end: u32, size: u32, align: u32) -> Option<(u32, u32)>
-    ensures { let offset = next_multiple_of end align in
-        SomeIff result ((0 < align) × (offset + size < 2 ^ 32)) (offset, offset + size) }
-{
-    let offset = end.checked_next_multiple_of(align)?;
-    Some((offset, offset.checked_add(size)?))
 }
 
 impl StructMemberType {

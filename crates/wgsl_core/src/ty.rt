@@ -8,7 +8,7 @@ ghost use Rattle.wgsl_core.specs.View.{view, struct_view, member_view};
 ghost use Rattle.wgsl_core.specs.ResultStruct.{plain, struct_type};
 ghost use Rattle.wgsl_core.specs.Answer.{Gives, IsAnswered};
 
-mod build;
+pub(crate) mod build;
 pub mod clone;
 mod eq;
 pub mod form;

@@ -8,43 +8,14 @@ use wgsl_types::Type;
 use wgsl_types::builtin::{binary_candidate, type_binary_op, type_unary_op};
 use wgsl_types::syntax::{BinaryOperator, UnaryOperator};
 
-const UNARY: [UnaryOperator; 5] = [
-    UnaryOperator::LogicalNegation,
-    UnaryOperator::Negation,
-    UnaryOperator::BitwiseComplement,
-    UnaryOperator::AddressOf,
-    UnaryOperator::Indirection,
-];
-
-const BINARY: [BinaryOperator; 18] = [
-    BinaryOperator::ShortCircuitOr,
-    BinaryOperator::ShortCircuitAnd,
-    BinaryOperator::Addition,
-    BinaryOperator::Subtraction,
-    BinaryOperator::Multiplication,
-    BinaryOperator::Division,
-    BinaryOperator::Remainder,
-    BinaryOperator::Equality,
-    BinaryOperator::Inequality,
-    BinaryOperator::LessThan,
-    BinaryOperator::LessThanEqual,
-    BinaryOperator::GreaterThan,
-    BinaryOperator::GreaterThanEqual,
-    BinaryOperator::BitwiseOr,
-    BinaryOperator::BitwiseAnd,
-    BinaryOperator::BitwiseXor,
-    BinaryOperator::ShiftLeft,
-    BinaryOperator::ShiftRight,
-];
-
 pub fn print_operators<W: Write>(lines: &mut Lines<W>, types: &Types) -> io::Result<()> {
-    for operator in UNARY {
+    for operator in UnaryOperator::ALL {
         for operand in &types.operands {
             print_unary(lines, "", operator, operand)?;
         }
     }
     let [lhs, rhs] = &types.vectors;
-    for operator in BINARY {
+    for operator in BinaryOperator::ALL {
         print_binary(lines, "", operator, lhs, rhs)?;
         print_binary(lines, "", operator, &Type::Bool, rhs)?;
     }
@@ -53,12 +24,12 @@ pub fn print_operators<W: Write>(lines: &mut Lines<W>, types: &Types) -> io::Res
 
 /// Operators on scalars, which are never out of memory.
 pub fn print_scalar_operators<W: Write>(lines: &mut Lines<W>, scalars: &Scalars) -> io::Result<()> {
-    for operator in UNARY {
+    for operator in UnaryOperator::ALL {
         for operand in &scalars.single {
             print_unary(lines, "never ", operator, operand)?;
         }
     }
-    for operator in BINARY {
+    for operator in BinaryOperator::ALL {
         for (lhs, rhs) in &scalars.pairs {
             print_binary(lines, "never ", operator, lhs, rhs)?;
         }

@@ -16,10 +16,11 @@ use Rattle.wgsl_syntax.specs.declared.texture.SamplerType.TheVariants.{Sampler}
 use Rattle.wgsl_syntax.specs.declared.texture.TextureType.{TextureType}
 use Rattle.wgsl_syntax.specs.declared.texture.TextureType.TheVariants.{External}
 use Rattle.wgsl_syntax.proofs.Naming.{access_naming, space_naming}
-use Rattle.wgsl_rules.specs.types.Types.{WgslType, scalar, texture, sampler, ray_query, acceleration_structure}
-use Rattle.wgsl_requests.specs.declared.outer.Outer.{Outer}
-use Rattle.wgsl_requests.specs.declared.outer.Outer.TheVariants as outer
-use Rattle.wgsl_requests.specs.Grammar.{IsFlag, LayerAt, LeafAt, TypeAt, acceleration_structure_at, around, array_at, atomic_at, binding_array_at, layer_at, leaf_at, mat_at, ptr_at, ray_query_at, ref_at, sampler_at, scalar_at, struct_at, texture_at, texture_words, vec_at}
+use Rattle.wgsl_rules.specs.types.Types.{WgslType, scalar, texture, sampler, ray_query, acceleration_structure, array_of, vec_of, mat_of}
+use Rattle.wgsl_syntax.specs.declared.around.Around.{Around}
+use Rattle.wgsl_syntax.specs.declared.around.Around.TheVariants as arounds
+use Rattle.wgsl_rules.specs.types.Around.{around}
+use Rattle.wgsl_requests.specs.Grammar.{IsFlag, LayerAt, LeafAt, TypeAt, acceleration_structure_at, array_at, atomic_at, binding_array_at, layer_at, leaf_at, mat_at, ptr_at, ray_query_at, ref_at, sampler_at, scalar_at, struct_at, texture_at, texture_words, vec_at}
 use Rattle.wgsl_requests.specs.Numbers.{IsCount, IsSmall}
 use Rattle.wgsl_requests.specs.Reading.{Beginning, IsText, OneWord, Then}
 use Rattle.wgsl_requests.specs.internal.Layers.{InLayerAt, OtherAt}
@@ -72,18 +73,18 @@ abbrev pub Nothing : Beginning (Unit {0})
 Nothing words x rest = words ≡ rest
 
 -- what a layer is by its first word
-abbrev pub LayerForm : List (List ℕ) → Outer → List (List ℕ) → Type 0
+abbrev pub LayerForm : List (List ℕ) → Around → List (List ℕ) → Type 0
 LayerForm [] layer rest = ⊥
 LayerForm (word ∷ words) layer rest =
-    MatchBool (bytes_eq word (codes "vec")) (Made (OneWord IsSmall) (λ n. outer.Vec n) words layer rest)
-    (MatchBool (bytes_eq word (codes "mat")) (Made TwoSmall (λ p. outer.Mat p.0 p.1) words layer rest)
-    (MatchBool (bytes_eq word (codes "array")) (Made (OneWord IsCount) (λ n. outer.Array n) words layer rest)
-    (MatchBool (bytes_eq word (codes "binding_array")) (Made (OneWord IsCount) (λ n. outer.BindingArray n) words layer rest)
-    (MatchBool (bytes_eq word (codes "atomic")) (Made Nothing (λ x. outer.Atomic) words layer rest)
-    (MatchBool (bytes_eq word (codes "ptr")) (Made MemoryAt (λ p. outer.Ptr p.0 p.1) words layer rest)
-    (MatchBool (bytes_eq word (codes "ref")) (Made MemoryAt (λ p. outer.Ref p.0 p.1) words layer rest) ⊥))))))
+    MatchBool (bytes_eq word (codes "vec")) (Made (OneWord IsSmall) (λ n. arounds.Layer (vec_of n)) words layer rest)
+    (MatchBool (bytes_eq word (codes "mat")) (Made TwoSmall (λ p. arounds.Layer (mat_of p.0 p.1)) words layer rest)
+    (MatchBool (bytes_eq word (codes "array")) (Made (OneWord IsCount) (λ n. arounds.Layer (array_of n)) words layer rest)
+    (MatchBool (bytes_eq word (codes "binding_array")) (Made (OneWord IsCount) (λ n. arounds.BindingArray n) words layer rest)
+    (MatchBool (bytes_eq word (codes "atomic")) (Made Nothing (λ x. arounds.Atomic) words layer rest)
+    (MatchBool (bytes_eq word (codes "ptr")) (Made MemoryAt (λ p. arounds.Ptr p.0 p.1) words layer rest)
+    (MatchBool (bytes_eq word (codes "ref")) (Made MemoryAt (λ p. arounds.Ref p.0 p.1) words layer rest) ⊥))))))
 
-pub layer_form : {words rest : List (List ℕ)} {layer : Outer} → LayerAt words layer rest → LayerForm words layer rest
+pub layer_form : {words rest : List (List ℕ)} {layer : Around} → LayerAt words layer rest → LayerForm words layer rest
 layer_form (vec_at {components} {n} h) = (n, (components, refl, h), refl)
 layer_form (mat_at {columns} {rows} {c} {r} {rest} h k) = ((c, r), (rows ∷ rest, (columns, refl, h), (rows, refl, k)), refl)
 layer_form (array_at {count} {n} h) = (n, (count, refl, h), refl)
@@ -105,13 +106,13 @@ one_nothing words x y rest more f g = (refl, sym f ∙ g)
 one_layer_form : OneThing LayerForm
 one_layer_form [] l k rest more f g = absurd f
 one_layer_form (word ∷ words) l k rest more f g =
-    both_bool _ _ _ _ _ _ (one_made (OneWord IsSmall) (λ n. outer.Vec n) (one_word IsSmall small_one) words l k rest more)
-    (both_bool _ _ _ _ _ _ (one_made TwoSmall (λ p. outer.Mat p.0 p.1) one_two words l k rest more)
-    (both_bool _ _ _ _ _ _ (one_made (OneWord IsCount) (λ n. outer.Array n) (one_word IsCount count_one) words l k rest more)
-    (both_bool _ _ _ _ _ _ (one_made (OneWord IsCount) (λ n. outer.BindingArray n) (one_word IsCount count_one) words l k rest more)
-    (both_bool _ _ _ _ _ _ (one_made Nothing (λ x. outer.Atomic) one_nothing words l k rest more)
-    (both_bool _ _ _ _ _ _ (one_made MemoryAt (λ p. outer.Ptr p.0 p.1) one_memory words l k rest more)
-    (both_bool _ _ _ _ _ _ (one_made MemoryAt (λ p. outer.Ref p.0 p.1) one_memory words l k rest more) (λ x y. absurd x))))))) f g
+    both_bool _ _ _ _ _ _ (one_made (OneWord IsSmall) (λ n. arounds.Layer (vec_of n)) (one_word IsSmall small_one) words l k rest more)
+    (both_bool _ _ _ _ _ _ (one_made TwoSmall (λ p. arounds.Layer (mat_of p.0 p.1)) one_two words l k rest more)
+    (both_bool _ _ _ _ _ _ (one_made (OneWord IsCount) (λ n. arounds.Layer (array_of n)) (one_word IsCount count_one) words l k rest more)
+    (both_bool _ _ _ _ _ _ (one_made (OneWord IsCount) (λ n. arounds.BindingArray n) (one_word IsCount count_one) words l k rest more)
+    (both_bool _ _ _ _ _ _ (one_made Nothing (λ x. arounds.Atomic) one_nothing words l k rest more)
+    (both_bool _ _ _ _ _ _ (one_made MemoryAt (λ p. arounds.Ptr p.0 p.1) one_memory words l k rest more)
+    (both_bool _ _ _ _ _ _ (one_made MemoryAt (λ p. arounds.Ref p.0 p.1) one_memory words l k rest more) (λ x y. absurd x))))))) f g
 
 pub one_layer : OneThing LayerAt
 one_layer words l k rest more f g = one_layer_form words l k rest more (layer_form f) (layer_form g)
@@ -144,7 +145,7 @@ leaf_both (sampler_at Sampler) u more = (λ x. x, λ x. x)
 leaf_both (sampler_at _) u more = (λ x. x, λ x. x)
 leaf_both (texture_at {rest} x) u more = texture_both x rest u more
 
-pub layer_both : {words rest : List (List ℕ)} {layer : Outer} → LayerAt words layer rest → (u : WgslType) (more : List (List ℕ)) →
+pub layer_both : {words rest : List (List ℕ)} {layer : Around} → LayerAt words layer rest → (u : WgslType) (more : List (List ℕ)) →
     (InLayerAt words u more → Form words u more) × (Form words u more → InLayerAt words u more)
 layer_both (vec_at f) u more = (λ x. x, λ x. x)
 layer_both (mat_at f g) u more = (λ x. x, λ x. x)

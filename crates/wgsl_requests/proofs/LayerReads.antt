@@ -7,11 +7,12 @@ use Rattle.std.proofs.lemmas.Result.{err_from_is_err_and}
 use Rattle.wgsl_syntax.specs.Address.{access_text, space_text}
 use Rattle.wgsl_syntax.specs.declared.address.AccessMode.{AccessMode}
 use Rattle.wgsl_syntax.specs.declared.address.AddressSpace.{AddressSpace}
-use Rattle.wgsl_rules.specs.types.Types.{WgslType}
-use Rattle.wgsl_requests.specs.declared.outer.Outer.{Outer}
-use Rattle.wgsl_requests.specs.declared.outer.Outer.TheVariants as outer
+use Rattle.wgsl_rules.specs.types.Types.{WgslType, array_of, vec_of, mat_of}
+use Rattle.wgsl_syntax.specs.declared.around.Around.{Around}
+use Rattle.wgsl_syntax.specs.declared.around.Around.TheVariants as arounds
 use Rattle.wgsl_requests.specs.declared.words.Unread.{Unread}
-use Rattle.wgsl_requests.specs.Grammar.{LayerAt, around, array_at, atomic_at, binding_array_at, mat_at, ptr_at, ref_at, vec_at}
+use Rattle.wgsl_rules.specs.types.Around.{around}
+use Rattle.wgsl_requests.specs.Grammar.{LayerAt, array_at, atomic_at, binding_array_at, mat_at, ptr_at, ref_at, vec_at}
 use Rattle.wgsl_requests.specs.Numbers.{IsCount, IsSmall}
 use Rattle.wgsl_requests.specs.Reading.{Beginning, NoneAt, OneWord, Refuses, Then}
 use Rattle.wgsl_requests.specs.internal.Layers.{ReadsLayer, is_layer_word, wrapped}
@@ -20,8 +21,8 @@ use Rattle.wgsl_requests.proofs.Meanings.{Made}
 use Rattle.wgsl_requests.proofs.Forms.{LayerForm, MemoryAt, layer_form}
 
 -- the words behind the first word of a layer are no part of one
-pub layer_fails : {X : Type 0} (At : Beginning X) (make : X → Outer) (key word : List ℕ) (words after : List (List ℕ)) (r : Result (Option Outer) Unread) (e : Unread)
-    → ((layer : Outer) (rest : List (List ℕ)) → LayerForm (key ∷ words) layer rest → Made At make words layer rest) → is_layer_word key ≡ true
+pub layer_fails : {X : Type 0} (At : Beginning X) (make : X → Around) (key word : List ℕ) (words after : List (List ℕ)) (r : Result (Option Around) Unread) (e : Unread)
+    → ((layer : Around) (rest : List (List ℕ)) → LayerForm (key ∷ words) layer rest → Made At make words layer rest) → is_layer_word key ≡ true
     → word ≡ key → IsErrAnd r (λ y. y ≡ e) → Refuses (NoneAt At words) e → ReadsLayer word words after r
 layer_fails At make key word words after r e shape known is same none =
     let p = err_from_is_err_and r same in
@@ -45,41 +46,41 @@ first_fails Is Are words e none =
 
 module _ (word : List ℕ) (words after : List (List ℕ)) where
   -- from the words that stand there to those that are read
-  layer_keyed : (key : List ℕ) (read : List (List ℕ)) (layer : Outer) → word ≡ key → words ≡ read → LayerAt (key ∷ read) layer after → LayerAt (word ∷ words) layer after
+  layer_keyed : (key : List ℕ) (read : List (List ℕ)) (layer : Around) → word ≡ key → words ≡ read → LayerAt (key ∷ read) layer after → LayerAt (word ∷ words) layer after
   layer_keyed key read layer is are d = subst (λ w. LayerAt (w ∷ words) layer after) (sym is) (subst (λ ws. LayerAt (key ∷ ws) layer after) (sym are) d)
 
-  pub vec_read : (n : ℕ) → word ≡ codes "vec" → OneWord IsSmall words n after → LayerAt (word ∷ words) (outer.Vec n) after
-  vec_read n is h = layer_keyed (codes "vec") (h.0 ∷ after) (outer.Vec n) is h.1 (vec_at h.2)
+  pub vec_read : (n : ℕ) → word ≡ codes "vec" → OneWord IsSmall words n after → LayerAt (word ∷ words) (arounds.Layer (vec_of n)) after
+  vec_read n is h = layer_keyed (codes "vec") (h.0 ∷ after) (arounds.Layer (vec_of n)) is h.1 (vec_at h.2)
 
-  pub mat_read : (mid : List (List ℕ)) (c r : ℕ) → word ≡ codes "mat" → OneWord IsSmall words c mid → OneWord IsSmall mid r after → LayerAt (word ∷ words) (outer.Mat c r) after
-  mat_read mid c r is h k = layer_keyed (codes "mat") (h.0 ∷ k.0 ∷ after) (outer.Mat c r) is (h.1 ∙ ap (λ ws. h.0 ∷ ws) k.1) (mat_at h.2 k.2)
+  pub mat_read : (mid : List (List ℕ)) (c r : ℕ) → word ≡ codes "mat" → OneWord IsSmall words c mid → OneWord IsSmall mid r after → LayerAt (word ∷ words) (arounds.Layer (mat_of c r)) after
+  mat_read mid c r is h k = layer_keyed (codes "mat") (h.0 ∷ k.0 ∷ after) (arounds.Layer (mat_of c r)) is (h.1 ∙ ap (λ ws. h.0 ∷ ws) k.1) (mat_at h.2 k.2)
 
-  pub array_read : (n : Option ℕ) → word ≡ codes "array" → OneWord IsCount words n after → LayerAt (word ∷ words) (outer.Array n) after
-  array_read n is h = layer_keyed (codes "array") (h.0 ∷ after) (outer.Array n) is h.1 (array_at h.2)
+  pub array_read : (n : Option ℕ) → word ≡ codes "array" → OneWord IsCount words n after → LayerAt (word ∷ words) (arounds.Layer (array_of n)) after
+  array_read n is h = layer_keyed (codes "array") (h.0 ∷ after) (arounds.Layer (array_of n)) is h.1 (array_at h.2)
 
-  pub binding_array_read : (n : Option ℕ) → word ≡ codes "binding_array" → OneWord IsCount words n after → LayerAt (word ∷ words) (outer.BindingArray n) after
-  binding_array_read n is h = layer_keyed (codes "binding_array") (h.0 ∷ after) (outer.BindingArray n) is h.1 (binding_array_at h.2)
+  pub binding_array_read : (n : Option ℕ) → word ≡ codes "binding_array" → OneWord IsCount words n after → LayerAt (word ∷ words) (arounds.BindingArray n) after
+  binding_array_read n is h = layer_keyed (codes "binding_array") (h.0 ∷ after) (arounds.BindingArray n) is h.1 (binding_array_at h.2)
 
-  pub atomic_read : word ≡ codes "atomic" → words ≡ after → LayerAt (word ∷ words) outer.Atomic after
-  atomic_read is are = layer_keyed (codes "atomic") after outer.Atomic is are atomic_at
+  pub atomic_read : word ≡ codes "atomic" → words ≡ after → LayerAt (word ∷ words) arounds.Atomic after
+  atomic_read is are = layer_keyed (codes "atomic") after arounds.Atomic is are atomic_at
 
   -- the names of the space and of the mode
   memory_words : (s : AddressSpace) (m : AccessMode) → MemoryAt words (s, m) after → words ≡ space_text s ∷ access_text m ∷ after
   memory_words s m h = h.1.1 ∙ (ap (λ w. w ∷ h.0) h.1.2 ∙ ap (λ ws. space_text s ∷ ws) (h.2.1 ∙ ap (λ w. w ∷ after) h.2.2))
 
-  pub ptr_read : (s : AddressSpace) (m : AccessMode) → word ≡ codes "ptr" → MemoryAt words (s, m) after → LayerAt (word ∷ words) (outer.Ptr s m) after
-  ptr_read s m is h = layer_keyed (codes "ptr") (space_text s ∷ access_text m ∷ after) (outer.Ptr s m) is (memory_words s m h) (ptr_at s m)
+  pub ptr_read : (s : AddressSpace) (m : AccessMode) → word ≡ codes "ptr" → MemoryAt words (s, m) after → LayerAt (word ∷ words) (arounds.Ptr s m) after
+  ptr_read s m is h = layer_keyed (codes "ptr") (space_text s ∷ access_text m ∷ after) (arounds.Ptr s m) is (memory_words s m h) (ptr_at s m)
 
-  pub ref_read : (s : AddressSpace) (m : AccessMode) → word ≡ codes "ref" → MemoryAt words (s, m) after → LayerAt (word ∷ words) (outer.Ref s m) after
-  ref_read s m is h = layer_keyed (codes "ref") (space_text s ∷ access_text m ∷ after) (outer.Ref s m) is (memory_words s m h) (ref_at s m)
+  pub ref_read : (s : AddressSpace) (m : AccessMode) → word ≡ codes "ref" → MemoryAt words (s, m) after → LayerAt (word ∷ words) (arounds.Ref s m) after
+  ref_read s m is h = layer_keyed (codes "ref") (space_text s ∷ access_text m ∷ after) (arounds.Ref s m) is (memory_words s m h) (ref_at s m)
 
 -- one more layer inside
-pub wrapped-last : (layers : List Outer) (layer : Outer) (t : WgslType) → wrapped (layers ++ layer ∷ []) t ≡ wrapped layers (around layer t)
+pub wrapped-last : (layers : List Around) (layer : Around) (t : WgslType) → wrapped (layers ++ layer ∷ []) t ≡ wrapped layers (around layer t)
 wrapped-last [] layer t = refl
 wrapped-last (first ∷ layers) layer t = ap (around first) (wrapped-last layers layer t)
 
 -- the last of the layers around the type
-pub wrapped-take : (layers : List Outer) (n : ℕ) (default : Outer) (t : WgslType) → 0 < n → n ≤ length layers → wrapped (take n layers) t ≡ wrapped (take (n - 1) layers) (around (get_or layers (n - 1) default) t)
+pub wrapped-take : (layers : List Around) (n : ℕ) (default : Around) (t : WgslType) → 0 < n → n ≤ length layers → wrapped (take n layers) t ≡ wrapped (take (n - 1) layers) (around (get_or layers (n - 1) default) t)
 wrapped-take layers zero default t some within = absurd (omega (arith, some))
 wrapped-take layers (suc k) default t some within =
     let before : suc k - 1 ≡ k = omega arith in

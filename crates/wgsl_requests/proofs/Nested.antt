@@ -11,9 +11,10 @@ use Rattle.wgsl_syntax.specs.declared.texture.SamplerType.TheVariants.{Sampler}
 use Rattle.wgsl_syntax.specs.declared.texture.TextureType.{TextureType}
 use Rattle.wgsl_syntax.specs.declared.texture.TextureType.TheVariants.{External}
 use Rattle.wgsl_rules.specs.types.Types.{WgslType, scalar, struct}
-use Rattle.wgsl_requests.specs.declared.outer.Outer.{Outer}
+use Rattle.wgsl_syntax.specs.declared.around.Around.{Around}
 use Rattle.wgsl_requests.specs.declared.words.Unread.{Unread}
-use Rattle.wgsl_requests.specs.Grammar.{LayerAt, LeafAt, TypeAt, acceleration_structure_at, around, array_at, atomic_at, binding_array_at, layer_at, leaf_at, mat_at, ptr_at, ray_query_at, ref_at, sampler_at, scalar_at, struct_at, texture_at, vec_at}
+use Rattle.wgsl_rules.specs.types.Around.{around}
+use Rattle.wgsl_requests.specs.Grammar.{LayerAt, LeafAt, TypeAt, acceleration_structure_at, array_at, atomic_at, binding_array_at, layer_at, leaf_at, mat_at, ptr_at, ray_query_at, ref_at, sampler_at, scalar_at, struct_at, texture_at, vec_at}
 use Rattle.wgsl_requests.specs.Reading.{Beginning, NoneAt, Reads}
 use Rattle.wgsl_requests.specs.internal.Layers.{InLayerAt, InsideAt, OtherAt, ReadsLayer, ReadsNext, is_layer_word, wrapped}
 use Rattle.wgsl_requests.specs.internal.Structs.{StructAt}
@@ -27,7 +28,7 @@ abbrev pub BeginsLayer : List (List ℕ) → Type 0
 BeginsLayer [] = ⊥
 BeginsLayer (word ∷ words) = is_layer_word word ≡ true
 
-pub layer_word : {words rest : List (List ℕ)} {layer : Outer} → LayerAt words layer rest → BeginsLayer words
+pub layer_word : {words rest : List (List ℕ)} {layer : Around} → LayerAt words layer rest → BeginsLayer words
 layer_word (vec_at f) = refl
 layer_word (mat_at f g) = refl
 layer_word (array_at f) = refl
@@ -86,7 +87,7 @@ module _ (word : List ℕ) (words : List (List ℕ)) where
       (λ none t rest d. none t rest (past _ _ _ (not_eq word _ no_struct) (past_option _ _ _ (named_none scalar_text scalars word no_scalar) (form d)))) r h
 
 -- a layer, and what is inside, are read
-pub inside_read : {A : Type 0} (view : A → WgslType) (word : List ℕ) (words mid after : List (List ℕ)) (layer : Outer) (r : Result A Unread) → LayerAt (word ∷ words) layer mid
+pub inside_read : {A : Type 0} (view : A → WgslType) (word : List ℕ) (words mid after : List (List ℕ)) (layer : Around) (r : Result A Unread) → LayerAt (word ∷ words) layer mid
     → Reads (InsideAt layer) view mid after r → Reads OtherAt view (word ∷ words) after r
 inside_read view word words mid after layer r d h =
     answers_by (λ x. InsideAt layer mid (view x) after) (λ x. OtherAt (word ∷ words) (view x) after) (NoneAt (InsideAt layer) mid) (NoneAt OtherAt (word ∷ words))
@@ -102,20 +103,20 @@ pub read_on : {A B : Type 0} (At : Beginning B) (view : A → B) (words : List (
 read_on At view words word mid after r e h = subst (λ ws. Reads At view ws after r) (sym e) h
 
 -- the words are a type inside these layers
-abbrev pub LayersAt : List Outer → List (List ℕ) → WgslType → List (List ℕ) → Type 0
+abbrev pub LayersAt : List Around → List (List ℕ) → WgslType → List (List ℕ) → Type 0
 LayersAt layers words t rest = (inner : WgslType) × TypeAt words inner rest × (t ≡ wrapped layers inner)
 
 -- From the start on a type stands inside the outermost layer as one stands from now on inside these layers.
-pub record Nested (outermost : Outer) (start : List (List ℕ)) (layers : List Outer) (now : List (List ℕ)) : Type 0 where
+pub record Nested (outermost : Around) (start : List (List ℕ)) (layers : List Around) (now : List (List ℕ)) : Type 0 where
   pub forth : (t : WgslType) (rest : List (List ℕ)) → LayersAt layers now t rest → InsideAt outermost start t rest
   pub back : (t : WgslType) (rest : List (List ℕ)) → InsideAt outermost start t rest → LayersAt layers now t rest
 
-pub nested_start : (outermost : Outer) (start : List (List ℕ)) (layers : List Outer) → layers ≡ outermost ∷ [] → Nested outermost start layers start
+pub nested_start : (outermost : Around) (start : List (List ℕ)) (layers : List Around) → layers ≡ outermost ∷ [] → Nested outermost start layers start
 nested_start outermost start layers e = subst (λ ls. Nested outermost start ls start) (sym e) (record { forth = λ t rest f. f; back = λ t rest f. f })
 
-module _ (outermost : Outer) (start : List (List ℕ)) (layers : List Outer) (now : List (List ℕ)) (h : Nested outermost start layers now) where
+module _ (outermost : Around) (start : List (List ℕ)) (layers : List Around) (now : List (List ℕ)) (h : Nested outermost start layers now) where
   -- one more layer
-  pub nested_more : (layer : Outer) (mid : List (List ℕ)) (more : List Outer) → LayerAt now layer mid → more ≡ layers ++ layer ∷ [] → Nested outermost start more mid
+  pub nested_more : (layer : Around) (mid : List (List ℕ)) (more : List Around) → LayerAt now layer mid → more ≡ layers ++ layer ∷ [] → Nested outermost start more mid
   nested_more layer mid more d e = subst (λ ls. Nested outermost start ls mid) (sym e) (record {
     forth = λ t rest f. h.forth t rest (around layer f.0, layer_at d f.1, f.2 ∙ wrapped-last layers layer f.0);
     back = λ t rest i.
@@ -137,30 +138,30 @@ module _ (outermost : Outer) (start : List (List ℕ)) (layers : List Outer) (no
   nested_none none t rest i = let f = h.back t rest i in none f.0 rest f.1
 
 -- a word begins a layer, but its words are none
-pub nested_no_layer : (outermost : Outer) (start : List (List ℕ)) (layers : List Outer) (word : List ℕ) (words : List (List ℕ)) → Nested outermost start layers (word ∷ words)
+pub nested_no_layer : (outermost : Around) (start : List (List ℕ)) (layers : List Around) (word : List ℕ) (words : List (List ℕ)) → Nested outermost start layers (word ∷ words)
     → (is_layer_word word ≡ true) × NoneAt LayerAt (word ∷ words) → NoneAt (InsideAt outermost) start
 nested_no_layer outermost start layers word words h none =
     nested_none outermost start layers (word ∷ words) h (λ t rest d. let f : InLayerAt (word ∷ words) t rest = in_layer d none.0 in none.1 f.0 f.1 f.2)
 
 -- a scalar inside a layer
-pub scalar_inside : (layer : Outer) (words : List (List ℕ)) (word : List ℕ) (mid : List (List ℕ)) (s : Scalar) (inner t : WgslType) → words ≡ word ∷ mid → word ≡ scalar_text s → inner ≡ scalar s
+pub scalar_inside : (layer : Around) (words : List (List ℕ)) (word : List ℕ) (mid : List (List ℕ)) (s : Scalar) (inner t : WgslType) → words ≡ word ∷ mid → word ≡ scalar_text s → inner ≡ scalar s
     → t ≡ around layer inner → InsideAt layer words t mid
 scalar_inside layer words word mid s inner t e is seen made = (inner, subst (λ ws. TypeAt ws inner mid) (sym e) (scalar_read word mid s inner is seen), made)
 
 -- what is found, where something is or nothing
-pub layer_of : (word : List ℕ) (before after : List (List ℕ)) (found : Option Outer) (layer : Outer) → found ≡ Some layer → ReadsLayer word before after (Ok found) → LayerAt (word ∷ before) layer after
+pub layer_of : (word : List ℕ) (before after : List (List ℕ)) (found : Option Around) (layer : Around) → found ≡ Some layer → ReadsLayer word before after (Ok found) → LayerAt (word ∷ before) layer after
 layer_of word before after found layer e h = subst (λ f. ReadsLayer word before after (Ok f)) e h
 
-pub next_of : (word : List ℕ) (before after : List (List ℕ)) (found : Option Outer) (layer : Outer) → found ≡ Some layer → ReadsNext word before after (Ok found) → LayerAt (word ∷ before) layer after
+pub next_of : (word : List ℕ) (before after : List (List ℕ)) (found : Option Around) (layer : Around) → found ≡ Some layer → ReadsNext word before after (Ok found) → LayerAt (word ∷ before) layer after
 next_of word before after found layer e h = subst (λ f. ReadsNext word before after (Ok f)) e h
 
-pub no_next_of : (word : List ℕ) (before after : List (List ℕ)) (found : Option Outer) → ((layer : Outer) → found ≡ Some layer → ⊥) → ReadsNext word before after (Ok found) → after ≡ before
+pub no_next_of : (word : List ℕ) (before after : List (List ℕ)) (found : Option Around) → ((layer : Around) → found ≡ Some layer → ⊥) → ReadsNext word before after (Ok found) → after ≡ before
 no_next_of word before after None none h = h
 no_next_of word before after (Some layer) none h = absurd (none layer refl)
 
-pub room_of : (found : Option Outer) (layer : Outer) (P : Type 0) → found ≡ Some layer → OnSome found P → P
+pub room_of : (found : Option Around) (layer : Around) (P : Type 0) → found ≡ Some layer → OnSome found P → P
 room_of found layer P e h = subst (λ f. OnSome f P) e h
 
 -- one more layer in the array
-pub take_set : (layers : List Outer) (n : ℕ) (layer : Outer) → n < length layers → take (n + 1) (set layers n layer) ≡ take n layers ++ layer ∷ []
+pub take_set : (layers : List Around) (n : ℕ) (layer : Around) → n < length layers → take (n + 1) (set layers n layer) ≡ take n layers ++ layer ∷ []
 take_set layers n layer within = let e : n + 1 ≡ suc n = omega arith in rw e (take-suc-set layers n layer within)

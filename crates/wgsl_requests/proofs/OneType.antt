@@ -2,7 +2,8 @@
 use Rattle.std.proofs.Common.{◌≡◌, ℕ, zero, suc, List, [], ◌∷◌, refl, sym, ap, subst, ◌∙◌}
 use Rattle.wgsl_rules.specs.types.Types.{WgslType, struct, Members, no_members, member}
 use Rattle.wgsl_core.specs.View.{Member}
-use Rattle.wgsl_requests.specs.Grammar.{MembersAt, TypeAt, TypesAt, around, layer_at, leaf_at, member_at, no_members_at, no_types_at, scalar_at, struct_at, type_at}
+use Rattle.wgsl_rules.specs.types.Around.{around}
+use Rattle.wgsl_requests.specs.Grammar.{MembersAt, TypeAt, TypesAt, layer_at, leaf_at, member_at, no_members_at, no_types_at, scalar_at, struct_at, type_at}
 use Rattle.wgsl_requests.specs.Numbers.{IsAttribute, IsLong}
 use Rattle.wgsl_requests.specs.internal.Layers.{InLayerAt}
 use Rattle.wgsl_requests.specs.internal.Structs.{MemberAt, StructAt}

@@ -11,10 +11,13 @@ use Rattle.wgsl_syntax.specs.declared.attribute.AccelerationStructureFlags.{Acce
 use Rattle.wgsl_syntax.specs.declared.scalar.Scalar.{Scalar}
 use Rattle.wgsl_syntax.specs.declared.texture.SamplerType.{SamplerType}
 use Rattle.wgsl_syntax.specs.declared.texture.TextureType.{TextureType}
-use Rattle.wgsl_syntax.specs.declared.texture.TextureType.TheVariants.{Sampled1D, Sampled2D, Sampled2DArray, Sampled3D, SampledCube, SampledCubeArray, Sampled1DArray, Multisampled2D, Multisampled2DArray, Storage1D, Storage1DArray, Storage2D, Storage2DArray, Storage3D}
-use Rattle.wgsl_rules.specs.types.Types.{WgslType, scalar, struct, atomic, pointer, reference, texture, sampler, binding_array, ray_query, acceleration_structure, Members, no_members, member, array, vec, mat}
-use Rattle.wgsl_requests.specs.declared.outer.Outer.{Outer}
-use Rattle.wgsl_requests.specs.declared.outer.Outer.TheVariants as outer
+use Rattle.wgsl_syntax.specs.declared.texture_name.TextureParameters.{TextureParameters}
+use Rattle.wgsl_syntax.specs.declared.texture_name.TextureParameters.TheVariants as parameters
+use Rattle.wgsl_syntax.specs.TextureName.{parameters_of}
+use Rattle.wgsl_rules.specs.types.Around.{around}
+use Rattle.wgsl_rules.specs.types.Types.{WgslType, scalar, struct, texture, sampler, ray_query, acceleration_structure, Members, no_members, member, array_of, vec_of, mat_of}
+use Rattle.wgsl_syntax.specs.declared.around.Around.{Around}
+use Rattle.wgsl_syntax.specs.declared.around.Around.TheVariants as arounds
 use Rattle.wgsl_requests.specs.Numbers.{IsSmall, IsLong, IsCount, IsAttribute}
 
 -- the name of a flag, or `-` for none
@@ -22,23 +25,15 @@ abbrev pub IsFlag : List ℕ → Option AccelerationStructureFlags → Type 0
 IsFlag word None = word ≡ codes "-"
 IsFlag word (Some flag) = word ≡ flag_text flag
 
--- the words after a texture's name: its sampled type, or its texel format and its access mode
+-- the words for the parameters of a texture: its sampled type, or its texel format and its access mode
+abbrev pub parameter_words : TextureParameters → List (List ℕ)
+parameter_words parameters.None = []
+parameter_words (parameters.Sampled sampled) = sampled_text sampled ∷ []
+parameter_words (parameters.Storage format access) = texel_text format ∷ access_text access ∷ []
+
+-- the words after a texture's name
 abbrev pub texture_words : TextureType → List (List ℕ)
-texture_words (Sampled1D sampled) = sampled_text sampled ∷ []
-texture_words (Sampled2D sampled) = sampled_text sampled ∷ []
-texture_words (Sampled2DArray sampled) = sampled_text sampled ∷ []
-texture_words (Sampled3D sampled) = sampled_text sampled ∷ []
-texture_words (SampledCube sampled) = sampled_text sampled ∷ []
-texture_words (SampledCubeArray sampled) = sampled_text sampled ∷ []
-texture_words (Sampled1DArray sampled) = sampled_text sampled ∷ []
-texture_words (Multisampled2D sampled) = sampled_text sampled ∷ []
-texture_words (Multisampled2DArray sampled) = sampled_text sampled ∷ []
-texture_words (Storage1D format access) = texel_text format ∷ access_text access ∷ []
-texture_words (Storage1DArray format access) = texel_text format ∷ access_text access ∷ []
-texture_words (Storage2D format access) = texel_text format ∷ access_text access ∷ []
-texture_words (Storage2DArray format access) = texel_text format ∷ access_text access ∷ []
-texture_words (Storage3D format access) = texel_text format ∷ access_text access ∷ []
-texture_words x = []
+texture_words x = parameter_words (parameters_of x)
 
 -- The words begin with a leaf type that is no scalar, and the rest comes after it.
 pub data LeafAt : List (List ℕ) → WgslType → List (List ℕ) → Type 0 where
@@ -57,38 +52,28 @@ pub data LeafAt : List (List ℕ) → WgslType → List (List ℕ) → Type 0 wh
       LeafAt (texture_name x ∷ (texture_words x ++ rest)) (texture x) rest
 
 -- The words begin with a layer around a type, and the rest comes after it.
-pub data LayerAt : List (List ℕ) → Outer → List (List ℕ) → Type 0 where
+pub data LayerAt : List (List ℕ) → Around → List (List ℕ) → Type 0 where
   -- `vec 3`
   vec_at : {components : List ℕ} {n : ℕ} {rest : List (List ℕ)} → IsSmall components n →
-      LayerAt (codes "vec" ∷ components ∷ rest) (outer.Vec n) rest
+      LayerAt (codes "vec" ∷ components ∷ rest) (arounds.Layer (vec_of n)) rest
   -- `mat 4 3`: the columns, and the rows
   mat_at : {columns rows : List ℕ} {c r : ℕ} {rest : List (List ℕ)} → IsSmall columns c →
       IsSmall rows r →
-      LayerAt (codes "mat" ∷ columns ∷ rows ∷ rest) (outer.Mat c r) rest
+      LayerAt (codes "mat" ∷ columns ∷ rows ∷ rest) (arounds.Layer (mat_of c r)) rest
   -- `array 4`, `array *`
   array_at : {count : List ℕ} {n : Option ℕ} {rest : List (List ℕ)} → IsCount count n →
-      LayerAt (codes "array" ∷ count ∷ rest) (outer.Array n) rest
+      LayerAt (codes "array" ∷ count ∷ rest) (arounds.Layer (array_of n)) rest
   -- `binding_array 4`
   binding_array_at : {count : List ℕ} {n : Option ℕ} {rest : List (List ℕ)} → IsCount count n →
-      LayerAt (codes "binding_array" ∷ count ∷ rest) (outer.BindingArray n) rest
+      LayerAt (codes "binding_array" ∷ count ∷ rest) (arounds.BindingArray n) rest
   -- `atomic`
-  atomic_at : {rest : List (List ℕ)} → LayerAt (codes "atomic" ∷ rest) outer.Atomic rest
+  atomic_at : {rest : List (List ℕ)} → LayerAt (codes "atomic" ∷ rest) arounds.Atomic rest
   -- `ptr function read_write`
   ptr_at : {rest : List (List ℕ)} (s : AddressSpace) (m : AccessMode) →
-      LayerAt (codes "ptr" ∷ space_text s ∷ access_text m ∷ rest) (outer.Ptr s m) rest
+      LayerAt (codes "ptr" ∷ space_text s ∷ access_text m ∷ rest) (arounds.Ptr s m) rest
   -- `ref handle read`
   ref_at : {rest : List (List ℕ)} (s : AddressSpace) (m : AccessMode) →
-      LayerAt (codes "ref" ∷ space_text s ∷ access_text m ∷ rest) (outer.Ref s m) rest
-
--- the type with the layer around it
-abbrev pub around : Outer → WgslType → WgslType
-around (outer.Vec n) t = vec n t
-around (outer.Mat c r) t = mat c r t
-around (outer.Array n) t = array n t
-around (outer.BindingArray n) t = binding_array n t
-around outer.Atomic t = atomic t
-around (outer.Ptr s m) t = pointer s t m
-around (outer.Ref s m) t = reference s t m
+      LayerAt (codes "ref" ∷ space_text s ∷ access_text m ∷ rest) (arounds.Ref s m) rest
 
 mutual
   -- The words begin with a type, and the rest comes after it.
@@ -99,7 +84,7 @@ mutual
     leaf_at : {words rest : List (List ℕ)} {t : WgslType} → LeafAt words t rest →
         TypeAt words t rest
     -- `vec 3 f32`
-    layer_at : {words after rest : List (List ℕ)} {layer : Outer} {t : WgslType} →
+    layer_at : {words after rest : List (List ℕ)} {layer : Around} {t : WgslType} →
         LayerAt words layer after →
         TypeAt after t rest → TypeAt words (around layer t) rest
     -- `struct Light 2 color 16 - vec 3 f32 power - 8 f32`

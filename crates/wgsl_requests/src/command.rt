@@ -20,7 +20,7 @@ use crate::read::{read_last_type, read_pair, read_types};
 use crate::report::write_layout;
 use crate::template::read_template;
 use crate::wanted::{Misfit, Misread, Wanted};
-use crate::words::{Unread, Words};
+use crate::words::{Unread, Words, parsed};
 use std::alloc::{AllocError, Global};
 use wgsl_types::builtin::{type_binary_op, type_builtin_fn, type_ctor, type_unary_op};
 use wgsl_types::conv::conversion_rank;
@@ -121,14 +121,7 @@ fn unary(alloc: Global, words: &mut Words, text: &mut String) -> Result<(), Unre
 fn unary_operator(word: &str) -> Result<UnaryOperator, Unread>
     ensures { ReadsWord (λ word operator. word ≡ unary_text operator) word.now result }
 {
-    match word {
-        "!" => Ok(UnaryOperator::LogicalNegation),
-        "-" => Ok(UnaryOperator::Negation),
-        "~" => Ok(UnaryOperator::BitwiseComplement),
-        "&" => Ok(UnaryOperator::AddressOf),
-        "*" => Ok(UnaryOperator::Indirection),
-        _ => Err(Unread::Word(Misfit::Wrong(Wanted::UnaryOperator))),
-    }
+    parsed(word, Wanted::UnaryOperator)
 }
 
 /// `binary OP T U`: the type of the expression, or why it has none.
@@ -146,27 +139,7 @@ fn binary(alloc: Global, words: &mut Words, text: &mut String) -> Result<(), Unr
 fn binary_operator(word: &str) -> Result<BinaryOperator, Unread>
     ensures { ReadsWord (λ word operator. word ≡ binary_text operator) word.now result }
 {
-    match word {
-        "||" => Ok(BinaryOperator::ShortCircuitOr),
-        "&&" => Ok(BinaryOperator::ShortCircuitAnd),
-        "+" => Ok(BinaryOperator::Addition),
-        "-" => Ok(BinaryOperator::Subtraction),
-        "*" => Ok(BinaryOperator::Multiplication),
-        "/" => Ok(BinaryOperator::Division),
-        "%" => Ok(BinaryOperator::Remainder),
-        "==" => Ok(BinaryOperator::Equality),
-        "!=" => Ok(BinaryOperator::Inequality),
-        "<" => Ok(BinaryOperator::LessThan),
-        "<=" => Ok(BinaryOperator::LessThanEqual),
-        ">" => Ok(BinaryOperator::GreaterThan),
-        ">=" => Ok(BinaryOperator::GreaterThanEqual),
-        "|" => Ok(BinaryOperator::BitwiseOr),
-        "&" => Ok(BinaryOperator::BitwiseAnd),
-        "^" => Ok(BinaryOperator::BitwiseXor),
-        "<<" => Ok(BinaryOperator::ShiftLeft),
-        ">>" => Ok(BinaryOperator::ShiftRight),
-        _ => Err(Unread::Word(Misfit::Wrong(Wanted::BinaryOperator))),
-    }
+    parsed(word, Wanted::BinaryOperator)
 }
 
 /// `size T`: the size and the alignment.

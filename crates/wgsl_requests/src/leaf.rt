@@ -1,13 +1,13 @@
 // The leaf types that words stand for, but scalars.
-ghost use Rattle.std.specs.Prelude.{◌≡◌, ◌∷◌};
+ghost use Rattle.std.specs.Prelude.{◌∷◌};
 ghost use Rattle.wgsl_core.specs.View.{view};
 ghost use Rattle.wgsl_syntax.specs.Address.{access_text};
-ghost use Rattle.wgsl_syntax.specs.Names.{named, table};
 ghost use Rattle.wgsl_syntax.specs.Texel.{texel_text};
-ghost use Rattle.wgsl_syntax.specs.Texture.{sampled_text, texture_name};
+ghost use Rattle.wgsl_syntax.specs.Texture.{sampled_text};
+ghost use Rattle.wgsl_syntax.specs.TextureName.{texture_name_text};
 ghost use Rattle.wgsl_requests.specs.Grammar.{IsFlag, LeafAt};
 ghost use Rattle.wgsl_requests.specs.Reading.{IsText, OneWord, Reads, ReadsWord, Then};
-ghost use Rattle.wgsl_requests.specs.internal.Leaves.{SampledAt, StorageAt, TextureAt, is_storage_name, plain_textures, sampled_textures, storage_textures};
+ghost use Rattle.wgsl_requests.specs.internal.Leaves.{ParametersAt, TextureAt};
 ghost use Rattle.wgsl_requests.specs.internal.Taken.{GoesOn, left};
 
 use crate::outer::access;
@@ -15,7 +15,9 @@ use crate::wanted::{Misfit, Wanted};
 use crate::words::{Unread, Words, parsed};
 use std::str::FromStr;
 use wgsl_types::syntax::{AccelerationStructureFlags, AccessMode, SampledType, TexelFormat};
-use wgsl_types::ty::{SamplerType, TextureType, Type};
+use wgsl_types::ty::{
+    SamplerType, TextureName, TextureParameterKind, TextureParameters, TextureType, Type,
+};
 
 /// A leaf type that is no scalar: a type of rays, a sampler or a texture.
 #[inline(never)]
@@ -55,56 +57,45 @@ fn read_texture(name: &str, words: &mut Words) -> Result<TextureType, Unread>
     ensures read { Reads TextureAt (λ texture. texture)
         (name.now ∷ left words.old) (left words.new) result }
 {
-    match plain_texture(name) {
+    let name = texture_name(name)?;
+    let parameters = read_parameters(name.parameter_kind(), words)?;
+    match name.with(parameters) {
         Some(texture) => Ok(texture),
-        None => {
-            if is_storage(name) {
-                read_storage(name, words)
-            } else {
-                read_sampled(name, words)
-            }
+        None => Err(Unread::Word(Misfit::Wrong(Wanted::Type))),
+    }
+}
+
+fn texture_name(word: &str) -> Result<TextureName, Unread>
+    ensures { ReadsWord (IsText texture_name_text) word.now result }
+{
+    parsed(word, Wanted::Type)
+}
+
+/// The parameters of a texture, of which the kind is known.
+fn read_parameters(
+    kind: TextureParameterKind,
+    words: &mut Words,
+) -> Result<TextureParameters, Unread>
+    ensures goes_on { GoesOn words.old words.new }
+    ensures read { Reads (ParametersAt kind) (λ parameters. parameters)
+        (left words.old) (left words.new) result }
+{
+    match kind {
+        TextureParameterKind::None => Ok(TextureParameters::None),
+        TextureParameterKind::Sampled => Ok(TextureParameters::Sampled(read_sampled(words)?)),
+        TextureParameterKind::Storage => {
+            let (format, access) = read_texels(words)?;
+            Ok(TextureParameters::Storage(format, access))
         }
     }
 }
 
-fn plain_texture(name: &str) -> Option<TextureType>
-    ensures { result ≡ named (table texture_name plain_textures) name.now }
-{
-    match name {
-        "texture_depth_multisampled_2d" => Some(TextureType::DepthMultisampled2D),
-        "texture_external" => Some(TextureType::External),
-        "texture_depth_2d" => Some(TextureType::Depth2D),
-        "texture_depth_2d_array" => Some(TextureType::Depth2DArray),
-        "texture_depth_cube" => Some(TextureType::DepthCube),
-        "texture_depth_cube_array" => Some(TextureType::DepthCubeArray),
-        _ => None,
-    }
-}
-
-fn is_storage(name: &str) -> bool
-    ensures { result ≡ is_storage_name name.now }
-{
-    matches!(
-        name,
-        "texture_storage_1d"
-            | "texture_storage_1d_array"
-            | "texture_storage_2d"
-            | "texture_storage_2d_array"
-            | "texture_storage_3d"
-    )
-}
-
-/// The texture of that name with the sampled type that the next word stands for.
-fn read_sampled(name: &str, words: &mut Words) -> Result<TextureType, Unread>
+fn read_sampled(words: &mut Words) -> Result<SampledType, Unread>
     ensures goes_on { GoesOn words.old words.new }
-    ensures read { Reads (SampledAt name.now) (λ texture. texture)
+    ensures read { Reads (OneWord (IsText sampled_text)) (λ sampled. sampled)
         (left words.old) (left words.new) result }
 {
-    let sampled = sampled(words.next(Wanted::SampledType)?)?;
-    match sampled_texture(name, sampled) {
-        Some(texture) => Ok(texture),
-        None => Err(Unread::Word(Misfit::NoTexture)),
-    }
+    sampled(words.next(Wanted::SampledType)?)
 }
 
 fn sampled(word: &str) -> Result<SampledType, Unread>
@@ -113,41 +104,7 @@ fn sampled(word: &str) -> Result<SampledType, Unread>
     parsed(word, Wanted::SampledType)
 }
 
-/// Whether textures of this name have a sampled type.
-pub fn is_sampled(name: &str) -> bool {
-    sampled_texture(name, SampledType::F32).is_some()
-}
-
-fn sampled_texture(name: &str, sampled: SampledType) -> Option<TextureType>
-    ensures { result ≡ named (table texture_name (sampled_textures sampled)) name.now }
-{
-    match name {
-        "texture_1d" => Some(TextureType::Sampled1D(sampled)),
-        "texture_1d_array" => Some(TextureType::Sampled1DArray(sampled)),
-        "texture_2d" => Some(TextureType::Sampled2D(sampled)),
-        "texture_2d_array" => Some(TextureType::Sampled2DArray(sampled)),
-        "texture_3d" => Some(TextureType::Sampled3D(sampled)),
-        "texture_cube" => Some(TextureType::SampledCube(sampled)),
-        "texture_cube_array" => Some(TextureType::SampledCubeArray(sampled)),
-        "texture_multisampled_2d" => Some(TextureType::Multisampled2D(sampled)),
-        "texture_multisampled_2d_array" => Some(TextureType::Multisampled2DArray(sampled)),
-        _ => None,
-    }
-}
-
-/// The texture of that name with the texel format and the access mode that the next words stand for.
-fn read_storage(name: &str, words: &mut Words) -> Result<TextureType, Unread>
-    ensures goes_on { GoesOn words.old words.new }
-    ensures read { Reads (StorageAt name.now) (λ texture. texture)
-        (left words.old) (left words.new) result }
-{
-    let (format, access) = read_texels(words)?;
-    match storage_texture(name, format, access) {
-        Some(texture) => Ok(texture),
-        None => Err(Unread::Word(Misfit::NoTexture)),
-    }
-}
-
+/// A texel format and an access mode.
 fn read_texels(words: &mut Words) -> Result<(TexelFormat, AccessMode), Unread>
     ensures goes_on { GoesOn words.old words.new }
     ensures read { Reads (Then (OneWord (IsText texel_text)) (OneWord (IsText access_text)))
@@ -162,17 +119,4 @@ fn texel_format(word: &str) -> Result<TexelFormat, Unread>
     ensures { ReadsWord (IsText texel_text) word.now result }
 {
     parsed(word, Wanted::TexelFormat)
-}
-
-fn storage_texture(name: &str, format: TexelFormat, access: AccessMode) -> Option<TextureType>
-    ensures { result ≡ named (table texture_name (storage_textures format access)) name.now }
-{
-    match name {
-        "texture_storage_1d" => Some(TextureType::Storage1D(format, access)),
-        "texture_storage_1d_array" => Some(TextureType::Storage1DArray(format, access)),
-        "texture_storage_2d" => Some(TextureType::Storage2D(format, access)),
-        "texture_storage_2d_array" => Some(TextureType::Storage2DArray(format, access)),
-        "texture_storage_3d" => Some(TextureType::Storage3D(format, access)),
-        _ => None,
-    }
 }

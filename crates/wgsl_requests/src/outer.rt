@@ -2,7 +2,6 @@
 ghost use Rattle.std.specs.Prelude.{◌≡◌, IfOk};
 ghost use Rattle.wgsl_core.specs.View.{view};
 ghost use Rattle.wgsl_syntax.specs.Address.{access_text, space_text};
-ghost use Rattle.wgsl_requests.specs.Grammar.{around};
 ghost use Rattle.wgsl_requests.specs.Reading.{IsText, OneWord, Reads, ReadsWord, Then};
 ghost use Rattle.wgsl_requests.specs.internal.Layers.{ReadsLayer, wrapped};
 ghost use Rattle.wgsl_requests.specs.internal.Taken.{GoesOn, left};
@@ -10,74 +9,49 @@ ghost use Rattle.wgsl_requests.specs.internal.Taken.{GoesOn, left};
 use crate::wanted::Wanted;
 use crate::words::{Unread, Words, parsed};
 use std::alloc::{AllocError, Global};
-use wgsl_types::syntax::{AccessMode, AddressSpace};
+use wgsl_types::syntax::{AccessMode, AddressSpace, Around, Layer};
 use wgsl_types::ty::Type;
 
-/// A layer around a type.
-#[derive(Clone, Copy)]
-pub enum Outer {
-    Vec(u8),
-    Mat(u8, u8),
-    Array(Option<usize>),
-    BindingArray(Option<usize>),
-    Atomic,
-    Ptr(AddressSpace, AccessMode),
-    Ref(AddressSpace, AccessMode),
-}
-
-impl Outer {
-    /// The type with this layer around it.
-    pub fn around(self, alloc: Global, ty: Type) -> Result<Type, AllocError>
-        ensures { IfOk result (λ t. view t ≡ around self (view ty)) }
-    {
-        let inner = Box::new(alloc, ty)?;
-        Ok(match self {
-            Outer::Vec(components) => Type::Vec(components, inner),
-            Outer::Mat(columns, rows) => Type::Mat(columns, rows, inner),
-            Outer::Array(count) => Type::Array(inner, count),
-            Outer::BindingArray(count) => Type::BindingArray(inner, count),
-            Outer::Atomic => Type::Atomic(inner),
-            Outer::Ptr(space, access) => Type::Ptr(space, inner, access),
-            Outer::Ref(space, access) => Type::Ref(space, inner, access),
-        })
-    }
-}
-
 /// The type inside these layers, of which the last is the innermost.
-pub fn wrap(alloc: Global, layers: &[Outer], innermost: Type) -> Result<Type, AllocError>
+pub fn wrap(alloc: Global, layers: &[Around], innermost: Type) -> Result<Type, AllocError>
     ensures { IfOk result (λ t. view t ≡ wrapped layers.now (view innermost)) }
 {
     let mut ty = innermost;
     let mut left = layers.len();
     while left > 0 {
         left -= 1;
-        ty = layers[left].around(alloc, ty)?;
+        let inner = Box::new(alloc, ty)?;
+        ty = Type::around(layers[left], inner);
     }
     Ok(ty)
 }
 
 /// The layer that begins with this word; `None` if none does. It is not inlined, so that words are compared as numbers.
 #[inline(never)]
-pub fn read_outer(word: &str, words: &mut Words) -> Result<Option<Outer>, Unread>
+pub fn read_outer(word: &str, words: &mut Words) -> Result<Option<Around>, Unread>
     ensures goes_on { GoesOn words.old words.new }
     ensures read { ReadsLayer word.now (left words.old) (left words.new) result }
 {
     match word {
-        "vec" => Ok(Some(Outer::Vec(words.next_small(Wanted::Components)?))),
-        "mat" => Ok(Some(Outer::Mat(
-            words.next_small(Wanted::Columns)?,
-            words.next_small(Wanted::Rows)?,
-        ))),
-        "array" => Ok(Some(Outer::Array(words.next_count()?))),
-        "binding_array" => Ok(Some(Outer::BindingArray(words.next_count()?))),
-        "atomic" => Ok(Some(Outer::Atomic)),
+        "vec" => {
+            let components = words.next_small(Wanted::Components)?;
+            Ok(Some(Around::Layer(Layer::Vec(components))))
+        }
+        "mat" => {
+            let columns = words.next_small(Wanted::Columns)?;
+            let rows = words.next_small(Wanted::Rows)?;
+            Ok(Some(Around::Layer(Layer::Mat(columns, rows))))
+        }
+        "array" => Ok(Some(Around::Layer(Layer::Array(words.next_count()?)))),
+        "binding_array" => Ok(Some(Around::BindingArray(words.next_count()?))),
+        "atomic" => Ok(Some(Around::Atomic)),
         "ptr" => {
             let (space, access) = read_memory(words)?;
-            Ok(Some(Outer::Ptr(space, access)))
+            Ok(Some(Around::Ptr(space, access)))
         }
         "ref" => {
             let (space, access) = read_memory(words)?;
-            Ok(Some(Outer::Ref(space, access)))
+            Ok(Some(Around::Ref(space, access)))
         }
         _ => Ok(None),
     }

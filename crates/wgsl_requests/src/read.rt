@@ -11,12 +11,12 @@ ghost use Rattle.wgsl_requests.specs.internal.Structs.{MemberAt, StructAt};
 ghost use Rattle.wgsl_requests.specs.internal.Taken.{GoesOn, left};
 
 use crate::leaf::read_leaf;
-use crate::outer::{Outer, read_outer, wrap};
+use crate::outer::{read_outer, wrap};
 use crate::wanted::{Misfit, Wanted};
 use crate::words::{Unread, Words};
 use std::alloc::Global;
 use std::str::FromStr;
-use wgsl_types::syntax::Scalar;
+use wgsl_types::syntax::{Around, Scalar};
 use wgsl_types::ty::{StructMemberType, StructType, Type};
 
 /// The type that the next words stand for.
@@ -77,13 +77,16 @@ fn read_other(alloc: Global, word: &str, words: &mut Words) -> Result<Type, Unre
 /// The type with this layer around what the next words stand for.
 #[cycle(reading)]
 #[inline(never)]
-fn read_inside(alloc: Global, outer: Outer, words: &mut Words) -> Result<Type, Unread>
+fn read_inside(alloc: Global, outer: Around, words: &mut Words) -> Result<Type, Unread>
     ensures goes_on { GoesOn words.old words.new }
     ensures read { Reads (InsideAt outer) view (left words.old) (left words.new) result }
 {
     let word = words.next(Wanted::Type)?;
     match read_scalar(word) {
-        Some(ty) => Ok(outer.around(alloc, ty)?),
+        Some(ty) => {
+            let inner = Box::new(alloc, ty)?;
+            Ok(Type::around(outer, inner))
+        }
         None => read_layers(alloc, outer, word, words),
     }
 }
@@ -95,7 +98,7 @@ fn read_inside(alloc: Global, outer: Outer, words: &mut Words) -> Result<Type, U
 #[inline(always)]
 fn read_layers(
     alloc: Global,
-    outermost: Outer,
+    outermost: Around,
     first: &str,
     words: &mut Words,
 ) -> Result<Type, Unread>
@@ -117,7 +120,7 @@ fn read_layers(
 
 /// The layer that begins with this word; `None` if none does, or if there are 4 already.
 #[inline(always)]
-fn read_next(count: usize, word: &str, words: &mut Words) -> Result<Option<Outer>, Unread>
+fn read_next(count: usize, word: &str, words: &mut Words) -> Result<Option<Around>, Unread>
     ensures goes_on { GoesOn words.old words.new }
     ensures room { IfOk result (λ layer. OnSome layer (count < 4)) }
     ensures read { ReadsNext word.now (left words.old) (left words.new) result }

@@ -79,8 +79,6 @@ pub enum Misfit {
     LeftOver,
     /// The words after the command are a type, and not a struct.
     NoStruct,
-    /// The last word that was taken is a sampled type, and the word before it is not the name of a texture.
-    NoTexture,
 }
 
 /// What is wrong with the words of a request, and how many of its bytes were taken when it was found.

@@ -1,5 +1,4 @@
 // Why a request can't be read, as a person reads it.
-use crate::leaf::is_sampled;
 use crate::wanted::{Misfit, Misread, Wanted};
 use crate::words::Words;
 use std::alloc::AllocError;
@@ -34,12 +33,8 @@ fn write_misread(request: &[u8], misread: Misread, text: &mut String) -> Result<
         Misfit::Wrong(_) => taken,
         Misfit::Missing(_) | Misfit::LeftOver => taken.saturating_add(1),
         Misfit::NoStruct => 2,
-        Misfit::NoTexture => taken.saturating_sub(1),
     };
-    match texture_name(request, number, misread.misfit) {
-        Some(name) => write_fault(request, name, Some(Wanted::Type), text),
-        None => write_fault(request, number, wanted(misread.misfit), text),
-    }
+    write_fault(request, number, wanted(misread.misfit), text)
 }
 
 /// What is wanted of the word, or `None` if nothing is.
@@ -48,21 +43,6 @@ fn wanted(misfit: Misfit) -> Option<Wanted> {
         Misfit::Missing(wanted) | Misfit::Wrong(wanted) => Some(wanted),
         Misfit::LeftOver => None,
         Misfit::NoStruct => Some(Wanted::Struct),
-        Misfit::NoTexture => Some(Wanted::Type),
-    }
-}
-
-/// The number of the word before this one, if a sampled type is wanted after it and it is not the name of a texture.
-///
-/// A word that no other type begins with is read as such a name, and only tested when its sampled type is there.
-fn texture_name(request: &[u8], number: usize, misfit: Misfit) -> Option<usize> {
-    match wanted(misfit) {
-        Some(Wanted::SampledType) => {
-            let name = number.saturating_sub(1);
-            let (word, _end) = word_at(request, name)?;
-            if is_sampled(word) { None } else { Some(name) }
-        }
-        _ => None,
     }
 }
 

@@ -1,4 +1,5 @@
 pub mod Types
+pub mod Around
 pub mod Kinds
 pub mod Inner
 pub mod Spelling

@@ -3,7 +3,8 @@ use Rattle.std.proofs.Common.{◌≡◌, ℕ, zero, suc, ◌<◌, ◌≤◌, ◌
 use Rattle.std.specs.Prelude.{slice_get, option_map}
 use Rattle.wgsl_rules.specs.types.Types.{WgslType}
 use Rattle.wgsl_rules.specs.operators.Choice.{IsNowhereMore, IsSomewhereLess}
-use Rattle.wgsl_rules.proofs.conversion.Steps.{scalar_depth, depth}
+use Rattle.wgsl_rules.specs.internal.Nodes.{scalar_depth}
+use Rattle.wgsl_rules.proofs.conversion.Steps.{depth}
 use Rattle.wgsl_syntax.specs.declared.overload.Pattern.{Pattern}
 use Rattle.wgsl_syntax.specs.declared.overload.Pattern.TheVariants as patterns
 use Rattle.wgsl_syntax.specs.declared.overload.Component.{Component}

@@ -3,7 +3,7 @@ use Rattle.std.proofs.Common.{◌≡◌, ℕ, ◌<◌, ◌⊎◌, List, [], ◌�
 use Rattle.std.specs.Prelude.{IsTrue, option_map, option_and_then}
 use Rattle.wgsl_syntax.specs.declared.scalar.Scalar.{Scalar}
 use Rattle.wgsl_syntax.specs.declared.scalar.Scalar.TheVariants.{Bool as BoolScalar, AbstractInt, AbstractFloat, I32, U32, F32, F16, I64, U64, F64}
-use Rattle.wgsl_rules.proofs.conversion.Steps.{scalar_depth}
+use Rattle.wgsl_rules.specs.internal.Nodes.{scalar_depth}
 use Rattle.wgsl_syntax.specs.declared.overload.Kind.{Kind}
 use Rattle.wgsl_syntax.specs.declared.overload.Component.{Component}
 use Rattle.wgsl_syntax.specs.declared.overload.Component.TheVariants.{T, U, V, W, The}

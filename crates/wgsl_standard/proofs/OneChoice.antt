@@ -1,17 +1,10 @@
 -- At most one candidate is preferred to all others.
-use Rattle.std.proofs.Common.{◌≡◌, ℕ, List, [], ◌∷◌, Option, sym, inl, inr, arith}
+use Rattle.std.proofs.Common.{◌≡◌, ℕ, List, Option, sym, inl, inr}
 use Rattle.wgsl_rules.specs.types.Types.{WgslType}
-use Rattle.wgsl_rules.specs.operators.Choice.{IsNowhereMore, IsSomewhereLess}
+use Rattle.wgsl_rules.proofs.operators.Choices.{contrary}
 use Rattle.wgsl_syntax.specs.declared.overload.Overload.{Overload}
 use Rattle.wgsl_rules.specs.standard.Choice.{Operand}
 use Rattle.wgsl_rules.specs.standard.Choice.{IsPreferred}
-
-contrary : (vs ws : List ℕ) → IsNowhereMore vs ws → IsSomewhereLess ws vs → ⊥
-contrary [] [] h k = k
-contrary [] (w ∷ ws) h k = h
-contrary (v ∷ vs) [] h k = h
-contrary (v ∷ vs) (w ∷ ws) h (inl k) = omega (arith, h.0, k)
-contrary (v ∷ vs) (w ∷ ws) h (inr k) = contrary vs ws h.1 k
 
 pub chosen_once : (os : List Overload) (xs : List Operand) (k l : ℕ) (us vs : List WgslType) (r s : Option WgslType) →
     IsPreferred os xs k us r → IsPreferred os xs l vs s → (k ≡ l) × (us ≡ vs) × (r ≡ s)

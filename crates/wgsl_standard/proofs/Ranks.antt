@@ -7,7 +7,8 @@ use Rattle.wgsl_rules.specs.types.Types.{WgslType, vec_of, mat_of, scalar, withi
 use Rattle.wgsl_rules.specs.conversion.Conversion.{Converts, IsValueType}
 use Rattle.wgsl_rules.specs.conversion.Concrete.{IsAbstract}
 use Rattle.wgsl_rules.specs.operators.Choice.{HasRanks, IsNowhereMore, IsSomewhereLess}
-use Rattle.wgsl_rules.proofs.conversion.Steps.{scalar_depth, depth}
+use Rattle.wgsl_rules.specs.internal.Nodes.{scalar_depth}
+use Rattle.wgsl_rules.proofs.conversion.Steps.{depth}
 use Rattle.wgsl_rules.proofs.conversion.Order.{value_converts}
 use Rattle.wgsl_rules.proofs.conversion.Equations.{converts_from_scalar, converts_from_within, converts_within, converts_inside}
 use Rattle.wgsl_syntax.specs.declared.overload.Pattern.{Pattern}

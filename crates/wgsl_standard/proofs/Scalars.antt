@@ -5,7 +5,7 @@ use Rattle.wgsl_syntax.specs.declared.scalar.Scalar.{Scalar}
 use Rattle.wgsl_syntax.specs.declared.scalar.Scalar.TheVariants.{Bool as BoolScalar, AbstractInt, AbstractFloat, I32, U32, F32, F16, I64, U64, F64}
 use Rattle.wgsl_rules.specs.types.Types.{scalar}
 use Rattle.wgsl_rules.specs.conversion.Conversion.{Converts}
-use Rattle.wgsl_rules.proofs.conversion.Steps.{scalar_depth}
+use Rattle.wgsl_rules.specs.internal.Nodes.{scalar_depth}
 use Rattle.wgsl_rules.proofs.conversion.Order.{Above, above_trans, above_chain, above_converts, value_converts}
 use Rattle.wgsl_rules.proofs.conversion.Equations.{scalar_rank, converts_scalar}
 use Rattle.wgsl_syntax.specs.declared.overload.Kind.{Kind}

@@ -1,11 +1,9 @@
 -- A binary search among sorted names finds the overloads of a name.
 use Rattle.std.proofs.Common.{ℕ, suc, zero, ◌≡◌, ◌≢◌, ◌<◌, ◌≤◌, ◌+◌, List, [], ◌∷◌, map, length, get_or, Some, None, inl, inr, ◌⊎◌, Bool, true, false, refl, sym, ap, ◌∙◌, subst, arith}
 use Rattle.std.specs.Prelude.{bytes_eq, if◌then◌else◌}
-use Rattle.std.specs.Cmp.Lexicographic.{slice_cmp, nat_list_cmp_total}
-use Rattle.std.specs.Ordering.{nat_cmp, ordering_reverse}
+use Rattle.std.specs.Cmp.Lexicographic.{nat_list_cmp_total}
 use Rattle.std.specs.declared.cmp.Ordering.{Ordering}
 use Rattle.std.specs.declared.cmp.Ordering.TheVariants.{Less, Equal, Greater}
-use Rattle.std.specs.FinMap.{slice_cmp-IsAntisymmetric, nat_cmp-IsAntisymmetric}
 use Rattle.std.proofs.Math.Nat.{eq-or-lt_of_le}
 use Rattle.std.proofs.lemmas.List as lists
 use Rattle.std.proofs.lemmas.List.{length-map}
@@ -13,28 +11,9 @@ use Rattle.std.proofs.lemmas.Bool.{cases_lt}
 use Rattle.std.proofs.lemmas.Slice.Eq.{bytes_eq-Decides}
 use borrow.Author.Count.{below_more}
 use Rattle.wgsl_rules.specs.calls.Names.{IsRising, name_at}
+use Rattle.wgsl_rules.proofs.calls.SortedNames.{order, flip_less, flip_greater, itself, same}
 use Rattle.wgsl_syntax.specs.declared.overload.Overload.{Overload}
 use Rattle.wgsl_rules.specs.standard.Names.{names_of, overloads_named}
-
-abbrev pub order : List ℕ → List ℕ → Ordering
-order = slice_cmp nat_cmp
-
-flip_less : (x y : List ℕ) → order x y ≡ Less → order y x ≡ Greater
-flip_less x y h = nat_list_cmp_total.antisymm y x ∙ ap ordering_reverse h
-
-flip_greater : (x y : List ℕ) → order x y ≡ Greater → order y x ≡ Less
-flip_greater x y h = nat_list_cmp_total.antisymm y x ∙ ap ordering_reverse h
-
-only_equal : (o : Ordering) → o ≡ ordering_reverse o → o ≡ Equal
-only_equal Less h = cc
-only_equal Equal h = refl
-only_equal Greater h = cc
-
-itself : (x : List ℕ) → order x x ≡ Equal
-itself x = only_equal (order x x) (nat_list_cmp_total.antisymm x x)
-
-same : (x y : List ℕ) → order x y ≡ Equal → x ≡ y
-same x y h = slice_cmp-IsAntisymmetric nat_cmp-IsAntisymmetric x y h
 
 -- what is known of the names on either side of a name that was compared
 

@@ -7,7 +7,8 @@ use Rattle.wgsl_syntax.specs.declared.scalar.Scalar.{Scalar}
 use Rattle.wgsl_syntax.specs.declared.scalar.Scalar.TheVariants.{Bool as BoolScalar, AbstractInt, AbstractFloat, I32, U32, F32, F16, I64, U64, F64}
 use Rattle.wgsl_syntax.specs.Scalar.{scalars}
 use Rattle.wgsl_rules.specs.operators.Choice.{IsNowhereMore, IsSomewhereLess}
-use Rattle.wgsl_rules.proofs.conversion.Steps.{scalar_depth, depth}
+use Rattle.wgsl_rules.specs.internal.Nodes.{scalar_depth}
+use Rattle.wgsl_rules.proofs.conversion.Steps.{depth}
 use Rattle.wgsl_syntax.specs.declared.overload.Component.{Component}
 use Rattle.wgsl_syntax.specs.declared.overload.Component.TheVariants.{T, U, V, W, The}
 use Rattle.wgsl_syntax.specs.declared.overload.Count.{Count}

@@ -1,3 +1,4 @@
 pub mod Discrete
 pub mod Naming
 pub mod Same
+pub mod Textures

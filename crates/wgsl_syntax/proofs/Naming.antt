@@ -11,6 +11,7 @@ use Rattle.wgsl_syntax.specs.Operator.{assignment_operators, assignment_text, bi
 use Rattle.wgsl_syntax.specs.Scalar.{scalar_text, scalars}
 use Rattle.wgsl_syntax.specs.Texel.{texel_formats, texel_text}
 use Rattle.wgsl_syntax.specs.Texture.{sampled_text, sampled_types, sampler_text, samplers}
+use Rattle.wgsl_syntax.specs.TextureName.{texture_name_text, texture_names}
 use Rattle.wgsl_syntax.specs.Enumerant.{enumerant_text, enumerants}
 use Rattle.wgsl_syntax.specs.declared.enumerant.Enumerant.{Enumerant}
 use Rattle.wgsl_syntax.specs.declared.address.AddressSpace.{AddressSpace}
@@ -28,6 +29,7 @@ use Rattle.wgsl_syntax.specs.declared.scalar.Scalar.{Scalar}
 use Rattle.wgsl_syntax.specs.declared.texel.TexelFormat.{TexelFormat}
 use Rattle.wgsl_syntax.specs.declared.texture.SampledType.{SampledType}
 use Rattle.wgsl_syntax.specs.declared.texture.SamplerType.{SamplerType}
+use Rattle.wgsl_syntax.specs.declared.texture_name.TextureName.{TextureName}
 use Rattle.wgsl_syntax.specs.declared.enumerant.Enumerant.TheVariants as enumerant
 use Rattle.wgsl_syntax.specs.declared.address.AddressSpace.TheVariants as space
 use Rattle.wgsl_syntax.specs.declared.address.AccessMode.TheVariants as access
@@ -44,6 +46,7 @@ use Rattle.wgsl_syntax.specs.declared.scalar.Scalar.TheVariants as scalar
 use Rattle.wgsl_syntax.specs.declared.texel.TexelFormat.TheVariants as texel
 use Rattle.wgsl_syntax.specs.declared.texture.SampledType.TheVariants as sampled
 use Rattle.wgsl_syntax.specs.declared.texture.SamplerType.TheVariants as sampler
+use Rattle.wgsl_syntax.specs.declared.texture_name.TextureName.TheVariants as texture
 
 text_first : {A : Type 0} (text : A → List ℕ) (rest : Option A) (s : List ℕ) (v x : A) (found : Bool) → (found ≡ true → s ≡ text v) → (rest ≡ Some x → s ≡ text x)
     → cond found (Some v) rest ≡ Some x → s ≡ text x
@@ -197,6 +200,16 @@ sampler_back _ = refl
 pub sampler_naming : IsNaming sampler_text (table sampler_text samplers)
 sampler_naming = naming sampler_text samplers sampler_back
 
+texture_back : (x : TextureName) → named (table texture_name_text texture_names) (texture_name_text x) ≡ Some x
+texture_back texture.Sampled1D = refl
+texture_back _ = refl
+
+pub texture_naming : IsNaming texture_name_text (table texture_name_text texture_names)
+texture_naming = naming texture_name_text texture_names texture_back
+
+pub texture_reads : (s : List ℕ) → Reads texture_name_text s (ok_or (named (table texture_name_text texture_names) s) (tt {0}))
+texture_reads = reading texture_name_text texture_names texture_back
+
 enumerant_back : (x : Enumerant) → named (table enumerant_text enumerants) (enumerant_text x) ≡ Some x
 enumerant_back (enumerant.AccessMode access.Read) = refl
 enumerant_back (enumerant.AccessMode _) = refl
@@ -217,4 +230,4 @@ enumerant_reads s x at not_handle y = (
   λ p. ap Ok (enumerant_naming.distinct x y (sym at ∙ p.0)),
 )
 
-pub ruleset namings = (space_naming, access_naming, builtin_naming, severity_naming, interpolation_naming, sampling_naming, depth_naming, flag_naming, unary_naming, binary_naming, assignment_naming, scalar_naming, texel_naming, sampled_naming, sampler_naming, enumerant_naming)
+pub ruleset namings = (space_naming, access_naming, builtin_naming, severity_naming, interpolation_naming, sampling_naming, depth_naming, flag_naming, unary_naming, binary_naming, assignment_naming, scalar_naming, texel_naming, sampled_naming, sampler_naming, texture_naming, enumerant_naming)

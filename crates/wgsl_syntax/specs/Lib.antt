@@ -1,4 +1,5 @@
 pub mod Address
+pub mod Around
 pub mod Attribute
 pub mod Enumerant
 pub mod Names
@@ -8,3 +9,4 @@ pub mod Scalar
 pub mod Texel
 pub mod Texture
 pub mod TextureKind
+pub mod TextureName

@@ -1,6 +1,7 @@
 -- The dimensions, the sampled type and the kind of each texture (WGSL, "Texture and Sampler Types").
-use Rattle.std.specs.Prelude.{Option, Some, None, ⊤}
+use Rattle.std.specs.Prelude.{◌≡◌, Option, Some, None, ⊤}
 use Rattle.wgsl_syntax.specs.Texel.{channel_type}
+use Rattle.wgsl_syntax.specs.TextureName.{kind_of, parameters_of}
 use Rattle.wgsl_syntax.specs.declared.scalar.Scalar.{Scalar}
 use Rattle.wgsl_syntax.specs.declared.scalar.Scalar.TheVariants as scalars
 use Rattle.wgsl_syntax.specs.declared.texture.SampledType.{SampledType}
@@ -8,7 +9,10 @@ use Rattle.wgsl_syntax.specs.declared.texture.SampledType.TheVariants.{I32, U32,
 use Rattle.wgsl_syntax.specs.declared.texture.TextureDimensions.{TextureDimensions}
 use Rattle.wgsl_syntax.specs.declared.texture.TextureDimensions.TheVariants.{D1, D2, D3}
 use Rattle.wgsl_syntax.specs.declared.texture.TextureType.{TextureType}
-use Rattle.wgsl_syntax.specs.declared.texture.TextureType.TheVariants.{Sampled1D, Sampled2D, Sampled2DArray, Sampled3D, SampledCube, SampledCubeArray, Sampled1DArray, Multisampled2D, Multisampled2DArray, DepthMultisampled2D, Storage1D, Storage1DArray, Storage2D, Storage2DArray, Storage3D, Depth2D, Depth2DArray, DepthCube, DepthCubeArray}
+use Rattle.wgsl_syntax.specs.declared.texture.TextureType.TheVariants.{Sampled1D, Sampled2DArray, Sampled3D, SampledCubeArray, Sampled1DArray, Multisampled2D, Multisampled2DArray, DepthMultisampled2D, Storage1D, Storage1DArray, Storage2DArray, Storage3D, Depth2D, Depth2DArray, DepthCube, DepthCubeArray}
+use Rattle.wgsl_syntax.specs.declared.texture_name.TextureParameterKind.TheVariants as kinds
+use Rattle.wgsl_syntax.specs.declared.texture_name.TextureParameters.{TextureParameters}
+use Rattle.wgsl_syntax.specs.declared.texture_name.TextureParameters.TheVariants as parameters
 
 abbrev pub dimensions : TextureType → TextureDimensions
 dimensions (Sampled1D _) = D1
@@ -19,39 +23,29 @@ dimensions (Sampled3D _) = D3
 dimensions (Storage3D _ _) = D3
 dimensions _ = D2
 
+abbrev sampled_by : TextureParameters → Option SampledType
+sampled_by (parameters.Sampled sampled) = Some sampled
+sampled_by _ = None
+
+-- not of `texture_multisampled_2d`
 abbrev pub sampled_type : TextureType → Option SampledType
-sampled_type (Sampled1D sampled) = Some sampled
-sampled_type (Sampled1DArray sampled) = Some sampled
-sampled_type (Sampled2D sampled) = Some sampled
-sampled_type (Sampled2DArray sampled) = Some sampled
-sampled_type (Sampled3D sampled) = Some sampled
-sampled_type (SampledCube sampled) = Some sampled
-sampled_type (SampledCubeArray sampled) = Some sampled
-sampled_type (Multisampled2DArray sampled) = Some sampled
-sampled_type _ = None
+sampled_type (Multisampled2D _) = None
+sampled_type t = sampled_by (parameters_of t)
 
 abbrev pub sampled_scalar : SampledType → Scalar
 sampled_scalar I32 = scalars.I32
 sampled_scalar U32 = scalars.U32
 sampled_scalar F32 = scalars.F32
 
+-- the type that the channels of a texture with these parameters are read as
+abbrev channel_by : TextureParameters → SampledType
+channel_by (parameters.Sampled sampled) = sampled
+channel_by (parameters.Storage format _) = channel_type format
+channel_by parameters.None = F32
+
 -- the type that a texture's channels are read as: `f32` for depth and external textures
 abbrev pub texture_channel : TextureType → SampledType
-texture_channel (Sampled1D sampled) = sampled
-texture_channel (Sampled1DArray sampled) = sampled
-texture_channel (Sampled2D sampled) = sampled
-texture_channel (Sampled2DArray sampled) = sampled
-texture_channel (Sampled3D sampled) = sampled
-texture_channel (SampledCube sampled) = sampled
-texture_channel (SampledCubeArray sampled) = sampled
-texture_channel (Multisampled2D sampled) = sampled
-texture_channel (Multisampled2DArray sampled) = sampled
-texture_channel (Storage1D format _) = channel_type format
-texture_channel (Storage1DArray format _) = channel_type format
-texture_channel (Storage2D format _) = channel_type format
-texture_channel (Storage2DArray format _) = channel_type format
-texture_channel (Storage3D format _) = channel_type format
-texture_channel _ = F32
+texture_channel t = channel_by (parameters_of t)
 
 abbrev pub IsDepth : TextureType → Type 0
 IsDepth Depth2D = ⊤
@@ -61,22 +55,7 @@ IsDepth DepthCubeArray = ⊤
 IsDepth _ = ⊥
 
 abbrev pub IsStorage : TextureType → Type 0
-IsStorage (Storage1D _ _) = ⊤
-IsStorage (Storage1DArray _ _) = ⊤
-IsStorage (Storage2D _ _) = ⊤
-IsStorage (Storage2DArray _ _) = ⊤
-IsStorage (Storage3D _ _) = ⊤
-IsStorage _ = ⊥
-
-abbrev pub IsSampled : TextureType → Type 0
-IsSampled (Sampled1D _) = ⊤
-IsSampled (Sampled1DArray _) = ⊤
-IsSampled (Sampled2D _) = ⊤
-IsSampled (Sampled2DArray _) = ⊤
-IsSampled (Sampled3D _) = ⊤
-IsSampled (SampledCube _) = ⊤
-IsSampled (SampledCubeArray _) = ⊤
-IsSampled _ = ⊥
+IsStorage t = kind_of (parameters_of t) ≡ kinds.Storage
 
 abbrev pub IsArrayed : TextureType → Type 0
 IsArrayed (Sampled1DArray _) = ⊤
@@ -94,3 +73,6 @@ IsMultisampled (Multisampled2D _) = ⊤
 IsMultisampled (Multisampled2DArray _) = ⊤
 IsMultisampled DepthMultisampled2D = ⊤
 IsMultisampled _ = ⊥
+
+abbrev pub IsSampled : TextureType → Type 0
+IsSampled t = (kind_of (parameters_of t) ≡ kinds.Sampled) × ¬ IsMultisampled t

@@ -1,9 +1,10 @@
 // Address spaces and access modes.
-ghost use Rattle.std.specs.Prelude.{◌≡◌, ◌↔◌, IsTrue};
+ghost use Rattle.std.specs.Prelude.{◌≡◌, ◌↔◌, IsTrue, slice_get};
 ghost use Rattle.wgsl_syntax.specs.Names.{named, table, Reads, ReadsBut};
-ghost use Rattle.wgsl_syntax.specs.Address.{access_modes, access_text, default_access, space_text, written_spaces, MayRead, MayWrite};
+ghost use Rattle.wgsl_syntax.specs.Address.{access_modes, access_text, default_access, space_text, spaces, written_spaces, MayRead, MayWrite};
 ghost use Rattle.wgsl_syntax.specs.declared.address.AddressSpace.TheVariants.{Handle};
 
+use crate::index::by_index;
 use std::fmt;
 use std::fmt::Write;
 use std::str::FromStr;
@@ -21,18 +22,33 @@ pub enum AddressSpace {
 }
 
 impl AddressSpace {
+    /// All address spaces, in the order of their indices.
+    pub const ALL: [AddressSpace; 7] = [
+        AddressSpace::Function,
+        AddressSpace::Private,
+        AddressSpace::Workgroup,
+        AddressSpace::Uniform,
+        AddressSpace::Storage,
+        AddressSpace::Handle,
+        AddressSpace::PushConstant,
+    ];
+
+    /// The address space with that index.
+    pub fn at(index: u8) -> Option<AddressSpace>
+        ensures { result ≡ slice_get spaces index }
+    {
+        by_index(&AddressSpace::ALL, index)
+    }
+
     /// The access mode of a variable whose declaration names none (WGSL, "Address Spaces").
     pub fn default_access_mode(self) -> AccessMode
         ensures { result ≡ default_access self }
     {
         match self {
-            AddressSpace::Function => AccessMode::ReadWrite,
-            AddressSpace::Private => AccessMode::ReadWrite,
-            AddressSpace::Workgroup => AccessMode::ReadWrite,
-            AddressSpace::Uniform => AccessMode::Read,
-            AddressSpace::Storage => AccessMode::Read,
-            AddressSpace::Handle => AccessMode::Read,
-            AddressSpace::PushConstant => AccessMode::Read,
+            AddressSpace::Function | AddressSpace::Private | AddressSpace::Workgroup => {
+                AccessMode::ReadWrite
+            }
+            _ => AccessMode::Read,
         }
     }
 }
@@ -89,6 +105,21 @@ pub enum AccessMode {
 }
 
 impl AccessMode {
+    /// All access modes, in the order of their indices.
+    pub const ALL: [AccessMode; 4] = [
+        AccessMode::Read,
+        AccessMode::Write,
+        AccessMode::ReadWrite,
+        AccessMode::Atomic,
+    ];
+
+    /// The access mode with that index.
+    pub fn at(index: u8) -> Option<AccessMode>
+        ensures { result ≡ slice_get access_modes index }
+    {
+        by_index(&AccessMode::ALL, index)
+    }
+
     /// Whether memory with this access mode can be read; false for `atomic`.
     pub fn is_read(self) -> bool
         ensures { IsTrue result ↔ MayRead self }

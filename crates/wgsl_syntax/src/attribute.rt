@@ -1,8 +1,9 @@
 // The names that attributes and directives take.
-ghost use Rattle.std.specs.Prelude.{◌≡◌};
+ghost use Rattle.std.specs.Prelude.{◌≡◌, slice_get};
 ghost use Rattle.wgsl_syntax.specs.Names.{named, table, Reads};
 ghost use Rattle.wgsl_syntax.specs.Attribute.{builtin_text, builtin_values, depth_text, depths, flag_text, flags, interpolation_text, interpolations, sampling_text, samplings, severities, severity_text};
 
+use crate::index::by_index;
 use std::fmt;
 use std::fmt::Write;
 use std::str::FromStr;
@@ -283,6 +284,18 @@ impl FromStr for ConservativeDepth {
 #[derive(Clone, Copy, PartialEq, Eq, Hash, Debug)]
 pub enum AccelerationStructureFlags {
     VertexReturn,
+}
+
+impl AccelerationStructureFlags {
+    /// All flags, in the order of their indices.
+    pub const ALL: [AccelerationStructureFlags; 1] = [AccelerationStructureFlags::VertexReturn];
+
+    /// The flag with that index.
+    pub fn at(index: u8) -> Option<AccelerationStructureFlags>
+        ensures { result ≡ slice_get flags index }
+    {
+        by_index(&AccelerationStructureFlags::ALL, index)
+    }
 }
 
 impl fmt::Display for AccelerationStructureFlags {

@@ -1,6 +1,10 @@
 // The forms of the words in which types are coded.
-use crate::address::{AccessMode, AddressSpace};
+ghost use Rattle.std.specs.Prelude.{◌≡◌};
+ghost use Rattle.wgsl_syntax.specs.Around.{with_count};
+
+use crate::around::Around;
 use crate::attribute::AccelerationStructureFlags;
+use crate::layer::Layer;
 use crate::scalar::Scalar;
 use crate::texture::{SamplerType, TextureType};
 
@@ -14,22 +18,6 @@ pub enum LeafType {
     AccelerationStructure(Option<AccelerationStructureFlags>),
 }
 
-/// What stands around one other type, without a number of elements.
-#[derive(Clone, Copy)]
-pub enum Wrapper {
-    /// A runtime-sized array.
-    Array,
-    /// The number of components.
-    Vec(u8),
-    /// The number of columns, and the number of rows.
-    Mat(u8, u8),
-    Atomic,
-    Ptr(AddressSpace, AccessMode),
-    Ref(AddressSpace, AccessMode),
-    /// A runtime-sized binding array.
-    BindingArray,
-}
-
 /// What stands around a number of elements and one other type.
 #[derive(Clone, Copy)]
 pub enum Counted {
@@ -37,11 +25,25 @@ pub enum Counted {
     BindingArray,
 }
 
+impl Counted {
+    /// The same with that number of elements.
+    pub fn with_count(self, count: usize) -> Around
+        ensures { result ≡ with_count self count }
+    {
+        match self {
+            Counted::Array => Around::Layer(Layer::Array(Some(count))),
+            Counted::BindingArray => Around::BindingArray(Some(count)),
+        }
+    }
+}
+
 /// What the first word of a type's code says.
 #[derive(Clone, Copy)]
 pub enum Head {
     Leaf(LeafType),
-    Wrapper(Wrapper),
+    /// Without a number of elements.
+    Around(Around),
+    /// With a number of elements, which comes after the word.
     Counted(Counted),
     Struct,
 }

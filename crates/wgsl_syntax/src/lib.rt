@@ -2,10 +2,12 @@
 #![tactic(auto)]
 
 pub mod address;
+pub mod around;
 pub mod attribute;
 pub mod call;
 pub mod code;
 pub mod enumerant;
+pub mod index;
 pub mod layer;
 pub mod names;
 pub mod operator;
@@ -14,3 +16,4 @@ pub mod result_struct;
 pub mod scalar;
 pub mod texel;
 pub mod texture;
+pub mod texture_name;

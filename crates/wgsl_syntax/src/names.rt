@@ -7,6 +7,7 @@ ghost use Rattle.wgsl_syntax.specs.Operator.{assignment_operators, assignment_te
 ghost use Rattle.wgsl_syntax.specs.Scalar.{scalar_text, scalars};
 ghost use Rattle.wgsl_syntax.specs.Texel.{texel_formats, texel_text};
 ghost use Rattle.wgsl_syntax.specs.Texture.{sampled_text, sampled_types, sampler_text, samplers};
+ghost use Rattle.wgsl_syntax.specs.TextureName.{texture_name_text, texture_names};
 
 /// In each enumeration, every value has one text and no two values share a text.
 #[tactic(auto, using(crate::proofs::Naming::namings))]
@@ -28,4 +29,5 @@ pub fn texts_name_values()
     ensures texel_formats { IsNaming texel_text (table texel_text texel_formats) }
     ensures sampled_types { IsNaming sampled_text (table sampled_text sampled_types) }
     ensures samplers { IsNaming sampler_text (table sampler_text samplers) }
+    ensures textures { IsNaming texture_name_text (table texture_name_text texture_names) }
 {}

@@ -1,6 +1,12 @@
 // The operators of expressions and assignments.
+ghost use Rattle.std.specs.Prelude.{◌≡◌, slice_get};
+ghost use Rattle.wgsl_syntax.specs.Names.{named, table, Reads};
+ghost use Rattle.wgsl_syntax.specs.Operator.{binary_operators, binary_text, unary_operators, unary_text};
+
+use crate::index::by_index;
 use std::fmt;
 use std::fmt::Write;
+use std::str::FromStr;
 
 /// A unary operator (WGSL, "Unary Expressions").
 #[derive(Clone, Copy, PartialEq, Eq, Hash, Debug)]
@@ -12,9 +18,26 @@ pub enum UnaryOperator {
     Indirection,
 }
 
+impl UnaryOperator {
+    /// All unary operators, in the order of their indices.
+    pub const ALL: [UnaryOperator; 5] = [
+        UnaryOperator::LogicalNegation,
+        UnaryOperator::Negation,
+        UnaryOperator::BitwiseComplement,
+        UnaryOperator::AddressOf,
+        UnaryOperator::Indirection,
+    ];
+
+    /// The unary operator with that index.
+    pub fn at(index: u8) -> Option<UnaryOperator>
+        ensures { result ≡ slice_get unary_operators index }
+    {
+        by_index(&UnaryOperator::ALL, index)
+    }
+}
+
 impl fmt::Display for UnaryOperator {
     ghost use Rattle.std.specs.Prelude.{Some};
-    ghost use Rattle.wgsl_syntax.specs.Operator.{unary_text};
 
     ghost output = { λ x. Some (unary_text x) };
 
@@ -26,6 +49,29 @@ impl fmt::Display for UnaryOperator {
             UnaryOperator::AddressOf => "&",
             UnaryOperator::Indirection => "*",
         })
+    }
+}
+
+fn unary_named(s: &str) -> Option<UnaryOperator>
+    ensures { result ≡ named (table unary_text unary_operators) s.now }
+{
+    match s {
+        "!" => Some(UnaryOperator::LogicalNegation),
+        "-" => Some(UnaryOperator::Negation),
+        "~" => Some(UnaryOperator::BitwiseComplement),
+        "&" => Some(UnaryOperator::AddressOf),
+        "*" => Some(UnaryOperator::Indirection),
+        _ => None,
+    }
+}
+
+impl FromStr for UnaryOperator {
+    type Err = ();
+
+    ghost from_str_gives = { Reads unary_text };
+
+    fn from_str(s: &str) -> Result<UnaryOperator, ()> {
+        unary_named(s).ok_or(())
     }
 }
 
@@ -52,9 +98,39 @@ pub enum BinaryOperator {
     ShiftRight,
 }
 
+impl BinaryOperator {
+    /// All binary operators, in the order of their indices.
+    pub const ALL: [BinaryOperator; 18] = [
+        BinaryOperator::ShortCircuitOr,
+        BinaryOperator::ShortCircuitAnd,
+        BinaryOperator::Addition,
+        BinaryOperator::Subtraction,
+        BinaryOperator::Multiplication,
+        BinaryOperator::Division,
+        BinaryOperator::Remainder,
+        BinaryOperator::Equality,
+        BinaryOperator::Inequality,
+        BinaryOperator::LessThan,
+        BinaryOperator::LessThanEqual,
+        BinaryOperator::GreaterThan,
+        BinaryOperator::GreaterThanEqual,
+        BinaryOperator::BitwiseOr,
+        BinaryOperator::BitwiseAnd,
+        BinaryOperator::BitwiseXor,
+        BinaryOperator::ShiftLeft,
+        BinaryOperator::ShiftRight,
+    ];
+
+    /// The binary operator with that index.
+    pub fn at(index: u8) -> Option<BinaryOperator>
+        ensures { result ≡ slice_get binary_operators index }
+    {
+        by_index(&BinaryOperator::ALL, index)
+    }
+}
+
 impl fmt::Display for BinaryOperator {
     ghost use Rattle.std.specs.Prelude.{Some};
-    ghost use Rattle.wgsl_syntax.specs.Operator.{binary_text};
 
     ghost output = { λ x. Some (binary_text x) };
 
@@ -79,6 +155,42 @@ impl fmt::Display for BinaryOperator {
             BinaryOperator::ShiftLeft => "<<",
             BinaryOperator::ShiftRight => ">>",
         })
+    }
+}
+
+fn binary_named(s: &str) -> Option<BinaryOperator>
+    ensures { result ≡ named (table binary_text binary_operators) s.now }
+{
+    match s {
+        "||" => Some(BinaryOperator::ShortCircuitOr),
+        "&&" => Some(BinaryOperator::ShortCircuitAnd),
+        "+" => Some(BinaryOperator::Addition),
+        "-" => Some(BinaryOperator::Subtraction),
+        "*" => Some(BinaryOperator::Multiplication),
+        "/" => Some(BinaryOperator::Division),
+        "%" => Some(BinaryOperator::Remainder),
+        "==" => Some(BinaryOperator::Equality),
+        "!=" => Some(BinaryOperator::Inequality),
+        "<" => Some(BinaryOperator::LessThan),
+        "<=" => Some(BinaryOperator::LessThanEqual),
+        ">" => Some(BinaryOperator::GreaterThan),
+        ">=" => Some(BinaryOperator::GreaterThanEqual),
+        "|" => Some(BinaryOperator::BitwiseOr),
+        "&" => Some(BinaryOperator::BitwiseAnd),
+        "^" => Some(BinaryOperator::BitwiseXor),
+        "<<" => Some(BinaryOperator::ShiftLeft),
+        ">>" => Some(BinaryOperator::ShiftRight),
+        _ => None,
+    }
+}
+
+impl FromStr for BinaryOperator {
+    type Err = ();
+
+    ghost from_str_gives = { Reads binary_text };
+
+    fn from_str(s: &str) -> Result<BinaryOperator, ()> {
+        binary_named(s).ok_or(())
     }
 }
 

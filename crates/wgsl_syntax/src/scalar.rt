@@ -1,8 +1,9 @@
 // Scalar types: their names, and which of them are integers, floats and numbers.
-ghost use Rattle.std.specs.Prelude.{◌≡◌, ◌↔◌, IsTrue};
+ghost use Rattle.std.specs.Prelude.{◌≡◌, ◌↔◌, IsTrue, slice_get};
 ghost use Rattle.wgsl_syntax.specs.Names.{named, table, Reads};
 ghost use Rattle.wgsl_syntax.specs.Scalar.{scalar_text, scalars, IsInteger, IsFloat, IsNumeric};
 
+use crate::index::by_index;
 use crate::texture::SampledType;
 use std::fmt;
 use std::fmt::Write;
@@ -88,6 +89,27 @@ impl From<SampledType> for Scalar {
 }
 
 impl Scalar {
+    /// All scalars, in the order of their indices.
+    pub const ALL: [Scalar; 10] = [
+        Scalar::Bool,
+        Scalar::AbstractInt,
+        Scalar::AbstractFloat,
+        Scalar::I32,
+        Scalar::U32,
+        Scalar::F32,
+        Scalar::F16,
+        Scalar::I64,
+        Scalar::U64,
+        Scalar::F64,
+    ];
+
+    /// The scalar with that index.
+    pub fn at(index: u8) -> Option<Scalar>
+        ensures { result ≡ slice_get scalars index }
+    {
+        by_index(&Scalar::ALL, index)
+    }
+
     /// Whether it is an integer (WGSL, "Integer Types"), concrete or abstract.
     pub fn is_integer(self) -> bool
         ensures { IsTrue result ↔ IsInteger self }

@@ -1,8 +1,9 @@
 // Texel formats.
-ghost use Rattle.std.specs.Prelude.{◌≡◌};
+ghost use Rattle.std.specs.Prelude.{◌≡◌, slice_get};
 ghost use Rattle.wgsl_syntax.specs.Names.{named, table, Reads};
 ghost use Rattle.wgsl_syntax.specs.Texel.{channel_count, channel_type, texel_formats, texel_text};
 
+use crate::index::by_index;
 use crate::texture::SampledType;
 use std::fmt;
 use std::fmt::Write;
@@ -55,6 +56,58 @@ pub enum TexelFormat {
 }
 
 impl TexelFormat {
+    /// All texel formats, in the order of their indices.
+    pub const ALL: [TexelFormat; 41] = [
+        TexelFormat::Rgba8Unorm,
+        TexelFormat::Rgba8Snorm,
+        TexelFormat::Rgba8Uint,
+        TexelFormat::Rgba8Sint,
+        TexelFormat::R8Unorm,
+        TexelFormat::R8Snorm,
+        TexelFormat::R8Uint,
+        TexelFormat::R8Sint,
+        TexelFormat::Rg8Unorm,
+        TexelFormat::Rg8Snorm,
+        TexelFormat::Rg8Uint,
+        TexelFormat::Rg8Sint,
+        TexelFormat::Rgba16Unorm,
+        TexelFormat::Rgba16Snorm,
+        TexelFormat::Rgba16Uint,
+        TexelFormat::Rgba16Sint,
+        TexelFormat::Rgba16Float,
+        TexelFormat::R16Unorm,
+        TexelFormat::R16Snorm,
+        TexelFormat::R16Uint,
+        TexelFormat::R16Sint,
+        TexelFormat::R16Float,
+        TexelFormat::Rg16Unorm,
+        TexelFormat::Rg16Snorm,
+        TexelFormat::Rg16Uint,
+        TexelFormat::Rg16Sint,
+        TexelFormat::Rg16Float,
+        TexelFormat::R32Uint,
+        TexelFormat::R32Sint,
+        TexelFormat::R32Float,
+        TexelFormat::Rg32Uint,
+        TexelFormat::Rg32Sint,
+        TexelFormat::Rg32Float,
+        TexelFormat::Rgba32Uint,
+        TexelFormat::Rgba32Sint,
+        TexelFormat::Rgba32Float,
+        TexelFormat::Bgra8Unorm,
+        TexelFormat::Rgb10a2Uint,
+        TexelFormat::Rgb10a2Unorm,
+        TexelFormat::Rg11b10Float,
+        TexelFormat::R64Uint,
+    ];
+
+    /// The texel format with that index.
+    pub fn at(index: u8) -> Option<TexelFormat>
+        ensures { result ≡ slice_get texel_formats index }
+    {
+        by_index(&TexelFormat::ALL, index)
+    }
+
     /// The type that the channels of a texel are read as (WGSL, "Texel Formats").
     pub fn channel_type(self) -> SampledType
         ensures { result ≡ channel_type self }

@@ -1,11 +1,14 @@
 // Textures and samplers.
-ghost use Rattle.std.specs.Prelude.{◌≡◌, ◌↔◌, IsTrue};
+ghost use Rattle.std.specs.Prelude.{◌≡◌, ◌↔◌, IsTrue, slice_get};
 ghost use Rattle.wgsl_syntax.specs.TextureKind.{dimensions, sampled_type, texture_channel, IsArrayed, IsDepth, IsMultisampled, IsSampled, IsStorage};
 ghost use Rattle.wgsl_syntax.specs.Names.{named, table, Reads};
-ghost use Rattle.wgsl_syntax.specs.Texture.{sampled_text, sampled_types, sampler_text, samplers};
+ghost use Rattle.wgsl_syntax.specs.Texture.{sampled_text, sampled_types, sampler_text, samplers, texture_text};
+ghost use Rattle.wgsl_syntax.specs.TextureName.{name_of, parameters_of};
 
 use crate::address::AccessMode;
+use crate::index::by_index;
 use crate::texel::TexelFormat;
+use crate::texture_name::{TextureName, TextureParameters};
 use std::fmt;
 use std::fmt::Write;
 use std::str::FromStr;
@@ -16,6 +19,18 @@ pub enum SampledType {
     I32,
     U32,
     F32,
+}
+
+impl SampledType {
+    /// All sampled types, in the order of their indices.
+    pub const ALL: [SampledType; 3] = [SampledType::I32, SampledType::U32, SampledType::F32];
+
+    /// The sampled type with that index.
+    pub fn at(index: u8) -> Option<SampledType>
+        ensures { result ≡ slice_get sampled_types index }
+    {
+        by_index(&SampledType::ALL, index)
+    }
 }
 
 impl fmt::Display for SampledType {
@@ -58,6 +73,31 @@ impl FromStr for SampledType {
 pub enum SamplerType {
     Sampler,
     SamplerComparison,
+}
+
+impl SamplerType {
+    /// Both samplers, in the order of their indices.
+    pub const ALL: [SamplerType; 2] = [SamplerType::Sampler, SamplerType::SamplerComparison];
+
+    /// The sampler with that index.
+    pub fn at(index: u8) -> Option<SamplerType>
+        ensures { result ≡ slice_get samplers index }
+    {
+        by_index(&SamplerType::ALL, index)
+    }
+}
+
+impl fmt::Display for SamplerType {
+    ghost use Rattle.std.specs.Prelude.{Some};
+
+    ghost output = { λ x. Some (sampler_text x) };
+
+    fn fmt<W: Write>(&self, f: &mut fmt::Formatter<W>) -> fmt::Result {
+        f.write_str(match self {
+            SamplerType::Sampler => "sampler",
+            SamplerType::SamplerComparison => "sampler_comparison",
+        })
+    }
 }
 
 fn sampler_named(s: &str) -> Option<SamplerType>
@@ -106,6 +146,57 @@ pub enum TextureType {
 }
 
 impl TextureType {
+    /// The name, without the parameters.
+    pub fn name(self) -> TextureName
+        ensures { result ≡ name_of self }
+    {
+        match self {
+            TextureType::Sampled1D(_) => TextureName::Sampled1D,
+            TextureType::Sampled2D(_) => TextureName::Sampled2D,
+            TextureType::Sampled2DArray(_) => TextureName::Sampled2DArray,
+            TextureType::Sampled3D(_) => TextureName::Sampled3D,
+            TextureType::SampledCube(_) => TextureName::SampledCube,
+            TextureType::SampledCubeArray(_) => TextureName::SampledCubeArray,
+            TextureType::Sampled1DArray(_) => TextureName::Sampled1DArray,
+            TextureType::Multisampled2D(_) => TextureName::Multisampled2D,
+            TextureType::Multisampled2DArray(_) => TextureName::Multisampled2DArray,
+            TextureType::DepthMultisampled2D => TextureName::DepthMultisampled2D,
+            TextureType::Storage1D(_, _) => TextureName::Storage1D,
+            TextureType::Storage1DArray(_, _) => TextureName::Storage1DArray,
+            TextureType::Storage2D(_, _) => TextureName::Storage2D,
+            TextureType::Storage2DArray(_, _) => TextureName::Storage2DArray,
+            TextureType::Storage3D(_, _) => TextureName::Storage3D,
+            TextureType::External => TextureName::External,
+            TextureType::Depth2D => TextureName::Depth2D,
+            TextureType::Depth2DArray => TextureName::Depth2DArray,
+            TextureType::DepthCube => TextureName::DepthCube,
+            TextureType::DepthCubeArray => TextureName::DepthCubeArray,
+        }
+    }
+
+    /// The parameters of the template.
+    pub fn parameters(self) -> TextureParameters
+        ensures { result ≡ parameters_of self }
+    {
+        match self {
+            TextureType::Sampled1D(sampled)
+            | TextureType::Sampled2D(sampled)
+            | TextureType::Sampled2DArray(sampled)
+            | TextureType::Sampled3D(sampled)
+            | TextureType::SampledCube(sampled)
+            | TextureType::SampledCubeArray(sampled)
+            | TextureType::Sampled1DArray(sampled)
+            | TextureType::Multisampled2D(sampled)
+            | TextureType::Multisampled2DArray(sampled) => TextureParameters::Sampled(sampled),
+            TextureType::Storage1D(format, access)
+            | TextureType::Storage1DArray(format, access)
+            | TextureType::Storage2D(format, access)
+            | TextureType::Storage2DArray(format, access)
+            | TextureType::Storage3D(format, access) => TextureParameters::Storage(format, access),
+            _ => TextureParameters::None,
+        }
+    }
+
     /// The number of dimensions; a cube counts as two-dimensional.
     pub fn dimensions(self) -> TextureDimensions
         ensures { result ≡ dimensions self }
@@ -126,15 +217,11 @@ impl TextureType {
         ensures { result ≡ sampled_type self }
     {
         match self {
-            TextureType::Sampled1D(sampled)
-            | TextureType::Sampled2D(sampled)
-            | TextureType::Sampled2DArray(sampled)
-            | TextureType::Sampled3D(sampled)
-            | TextureType::SampledCube(sampled)
-            | TextureType::SampledCubeArray(sampled)
-            | TextureType::Sampled1DArray(sampled)
-            | TextureType::Multisampled2DArray(sampled) => Some(sampled),
-            _ => None,
+            TextureType::Multisampled2D(_) => None,
+            _ => match self.parameters() {
+                TextureParameters::Sampled(sampled) => Some(sampled),
+                _ => None,
+            },
         }
     }
 
@@ -142,22 +229,10 @@ impl TextureType {
     pub fn channel_type(self) -> SampledType
         ensures { result ≡ texture_channel self }
     {
-        match self {
-            TextureType::Sampled1D(sampled)
-            | TextureType::Sampled2D(sampled)
-            | TextureType::Sampled2DArray(sampled)
-            | TextureType::Sampled3D(sampled)
-            | TextureType::SampledCube(sampled)
-            | TextureType::SampledCubeArray(sampled)
-            | TextureType::Sampled1DArray(sampled)
-            | TextureType::Multisampled2D(sampled)
-            | TextureType::Multisampled2DArray(sampled) => sampled,
-            TextureType::Storage1D(format, _)
-            | TextureType::Storage1DArray(format, _)
-            | TextureType::Storage2D(format, _)
-            | TextureType::Storage2DArray(format, _)
-            | TextureType::Storage3D(format, _) => format.channel_type(),
-            _ => SampledType::F32,
+        match self.parameters() {
+            TextureParameters::Sampled(sampled) => sampled,
+            TextureParameters::Storage(format, _) => format.channel_type(),
+            TextureParameters::None => SampledType::F32,
         }
     }
 
@@ -178,30 +253,14 @@ impl TextureType {
     pub fn is_storage(self) -> bool
         ensures { IsTrue result ↔ IsStorage self }
     {
-        matches!(
-            self,
-            TextureType::Storage1D(_, _)
-                | TextureType::Storage1DArray(_, _)
-                | TextureType::Storage2D(_, _)
-                | TextureType::Storage2DArray(_, _)
-                | TextureType::Storage3D(_, _)
-        )
+        matches!(self.parameters(), TextureParameters::Storage(_, _))
     }
 
     /// Whether it is a sampled texture (WGSL, "Sampled Texture Types").
     pub fn is_sampled(self) -> bool
         ensures { IsTrue result ↔ IsSampled self }
     {
-        matches!(
-            self,
-            TextureType::Sampled1D(_)
-                | TextureType::Sampled2D(_)
-                | TextureType::Sampled2DArray(_)
-                | TextureType::Sampled3D(_)
-                | TextureType::SampledCube(_)
-                | TextureType::SampledCubeArray(_)
-                | TextureType::Sampled1DArray(_)
-        )
+        matches!(self.parameters(), TextureParameters::Sampled(_)) && !self.is_multisampled()
     }
 
     /// Whether it is an arrayed texture (WGSL, "Texture Types").
@@ -231,6 +290,21 @@ impl TextureType {
                 | TextureType::Multisampled2DArray(_)
                 | TextureType::DepthMultisampled2D
         )
+    }
+}
+
+impl fmt::Display for TextureType {
+    ghost use Rattle.std.specs.Prelude.{Some};
+
+    ghost output = { λ x. Some (texture_text x) };
+
+    fn fmt<W: Write>(&self, f: &mut fmt::Formatter<W>) -> fmt::Result {
+        let name = self.name();
+        match self.parameters() {
+            TextureParameters::None => write!(f, "{name}"),
+            TextureParameters::Sampled(sampled) => write!(f, "{name}<{sampled}>"),
+            TextureParameters::Storage(format, access) => write!(f, "{name}<{format}, {access}>"),
+        }
     }
 }
 

@@ -1,5 +1,6 @@
 //! The enumerations of WGSL, with their names.
 pub use wgsl_syntax::address::{AccessMode, AddressSpace};
+pub use wgsl_syntax::around::Around;
 pub use wgsl_syntax::attribute::{
     AccelerationStructureFlags, BuiltinValue, ConservativeDepth, DiagnosticSeverity,
     InterpolationSampling, InterpolationType,

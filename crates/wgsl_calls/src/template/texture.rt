@@ -1,15 +1,13 @@
 // The templates of textures.
-ghost use Rattle.std.specs.Prelude.{◌≡◌, Some, map, option_map};
-ghost use Rattle.wgsl_syntax.specs.Names.{named};
-ghost use Rattle.wgsl_rules.specs.templates.Templates.{format_of, sampled_parameter, storage_parameters, texture_names, texture_template};
+ghost use Rattle.std.specs.Prelude.{◌≡◌, Some, map};
+ghost use Rattle.wgsl_syntax.specs.TextureName.{parameter_kind};
+ghost use Rattle.wgsl_rules.specs.templates.Templates.{format_of, not_templated, sampled_parameter, storage_parameters, texture_parameters, texture_template};
 ghost use Rattle.wgsl_core.specs.Instances.{parameter_view};
-ghost use Rattle.wgsl_core.specs.Answer.{AnswersAs, Gives};
+ghost use Rattle.wgsl_core.specs.Answer.{AnswersAs, Gives, refusal};
 ghost use Rattle.wgsl_calls.specs.Templates.{texture_view};
-ghost use Rattle.wgsl_calls.specs.internal.Templates.{sampled_view, storage_view, name_view};
 
 use crate::template::ptr::access_mode;
 use std::alloc::Global;
-use wgsl_core::conversion::typed::Ty;
 use wgsl_core::error::{Error, Fail};
 use wgsl_core::signature::TpltParam;
 use wgsl_core::ty::try_from_type;
@@ -17,6 +15,9 @@ use wgsl_syntax::address::AccessMode;
 use wgsl_syntax::enumerant::Enumerant;
 use wgsl_syntax::texel::TexelFormat;
 use wgsl_syntax::texture::{SampledType, TextureType};
+use wgsl_syntax::texture_name::{
+    TextureName, TextureParameterKind, TextureParameters, texture_named,
+};
 
 /// The template of a texture (WGSL, "Texture and Sampler Types").
 #[derive(Drop)]
@@ -32,15 +33,9 @@ impl TextureTemplate {
         ensures { AnswersAs texture_view (λ r. r
             ≡ texture_template name.now (map parameter_view tplt.now)) result }
     {
-        let ty = match texture_named(name) {
-            Some(TextureName::Sampled(texture)) => texture.of(sampled_type(alloc, tplt)?),
-            Some(TextureName::Storage(texture)) => {
-                let (format, access) = storage(tplt)?;
-                texture.of(format, access)
-            }
-            None => return Err(Fail::Error(Error::Builtin("not a templated texture type"))),
-        };
-        Ok(TextureTemplate { ty })
+        Ok(TextureTemplate {
+            ty: texture(alloc, name, tplt)?,
+        })
     }
 
     /// The texture.
@@ -51,91 +46,43 @@ impl TextureTemplate {
     }
 }
 
-/// A texture that takes a sampled type.
-#[derive(Clone, Copy)]
-enum SampledTexture {
-    D1,
-    D1Array,
-    D2,
-    D2Array,
-    D3,
-    Cube,
-    CubeArray,
-    Multisampled2D,
-    Multisampled2DArray,
-}
-
-impl SampledTexture {
-    fn of(self, sampled: SampledType) -> TextureType
-        ensures { result ≡ sampled_view self sampled }
-    {
-        match self {
-            SampledTexture::D1 => TextureType::Sampled1D(sampled),
-            SampledTexture::D1Array => TextureType::Sampled1DArray(sampled),
-            SampledTexture::D2 => TextureType::Sampled2D(sampled),
-            SampledTexture::D2Array => TextureType::Sampled2DArray(sampled),
-            SampledTexture::D3 => TextureType::Sampled3D(sampled),
-            SampledTexture::Cube => TextureType::SampledCube(sampled),
-            SampledTexture::CubeArray => TextureType::SampledCubeArray(sampled),
-            SampledTexture::Multisampled2D => TextureType::Multisampled2D(sampled),
-            SampledTexture::Multisampled2DArray => TextureType::Multisampled2DArray(sampled),
-        }
-    }
-}
-
-/// A texture that takes a texel format and an access mode.
-#[derive(Clone, Copy)]
-enum StorageTexture {
-    D1,
-    D1Array,
-    D2,
-    D2Array,
-    D3,
-}
-
-impl StorageTexture {
-    fn of(self, format: TexelFormat, access: AccessMode) -> TextureType
-        ensures { result ≡ storage_view self format access }
-    {
-        match self {
-            StorageTexture::D1 => TextureType::Storage1D(format, access),
-            StorageTexture::D1Array => TextureType::Storage1DArray(format, access),
-            StorageTexture::D2 => TextureType::Storage2D(format, access),
-            StorageTexture::D2Array => TextureType::Storage2DArray(format, access),
-            StorageTexture::D3 => TextureType::Storage3D(format, access),
-        }
-    }
-}
-
-/// A texture that takes a template.
-#[derive(Clone, Copy)]
-enum TextureName {
-    Sampled(SampledTexture),
-    Storage(StorageTexture),
-}
-
-fn texture_named(name: &str) -> Option<TextureName>
-    ensures { option_map name_view result ≡ named texture_names name.now }
+fn texture(alloc: Global, name: &str, tplt: &[TpltParam]) -> Result<TextureType, Fail>
+    ensures { Gives (texture_template name.now (map parameter_view tplt.now)) result }
 {
-    match name {
-        "texture_1d" => Some(TextureName::Sampled(SampledTexture::D1)),
-        "texture_1d_array" => Some(TextureName::Sampled(SampledTexture::D1Array)),
-        "texture_2d" => Some(TextureName::Sampled(SampledTexture::D2)),
-        "texture_2d_array" => Some(TextureName::Sampled(SampledTexture::D2Array)),
-        "texture_3d" => Some(TextureName::Sampled(SampledTexture::D3)),
-        "texture_cube" => Some(TextureName::Sampled(SampledTexture::Cube)),
-        "texture_cube_array" => Some(TextureName::Sampled(SampledTexture::CubeArray)),
-        "texture_multisampled_2d" => Some(TextureName::Sampled(SampledTexture::Multisampled2D)),
-        "texture_multisampled_2d_array" => {
-            Some(TextureName::Sampled(SampledTexture::Multisampled2DArray))
-        }
-        "texture_storage_1d" => Some(TextureName::Storage(StorageTexture::D1)),
-        "texture_storage_1d_array" => Some(TextureName::Storage(StorageTexture::D1Array)),
-        "texture_storage_2d" => Some(TextureName::Storage(StorageTexture::D2)),
-        "texture_storage_2d_array" => Some(TextureName::Storage(StorageTexture::D2Array)),
-        "texture_storage_3d" => Some(TextureName::Storage(StorageTexture::D3)),
-        _ => None,
+    let Some(name) = texture_named(name) else {
+        return Err(Fail::Error(not_templated()));
+    };
+    let parameters = texture_parameters(alloc, name, tplt)?;
+    match name.with(parameters) {
+        Some(texture) => Ok(texture),
+        None => Err(Fail::Error(not_templated())),
     }
+}
+
+/// The parameters of a texture of that name.
+fn texture_parameters(
+    alloc: Global,
+    name: TextureName,
+    tplt: &[TpltParam],
+) -> Result<TextureParameters, Fail>
+    ensures { Gives (texture_parameters (parameter_kind name) (map parameter_view tplt.now)) result }
+{
+    match name.parameter_kind() {
+        TextureParameterKind::Sampled => {
+            Ok(TextureParameters::Sampled(sampled_type(alloc, tplt)?))
+        }
+        TextureParameterKind::Storage => {
+            let (format, access) = storage(tplt)?;
+            Ok(TextureParameters::Storage(format, access))
+        }
+        TextureParameterKind::None => Err(Fail::Error(not_templated())),
+    }
+}
+
+fn not_templated() -> Error
+    ensures { refusal result ≡ not_templated }
+{
+    Error::Builtin("not a templated texture type")
 }
 
 fn sampled_type(alloc: Global, tplt: &[TpltParam]) -> Result<SampledType, Fail>
@@ -155,20 +102,12 @@ fn sampled_type(alloc: Global, tplt: &[TpltParam]) -> Result<SampledType, Fail>
 fn storage(tplt: &[TpltParam]) -> Result<(TexelFormat, AccessMode), Fail>
     ensures { Gives (storage_parameters (map parameter_view tplt.now)) result }
 {
-    match tplt {
-        [format, access] => match texel_format(format) {
-            Some(format) => match access_mode(access) {
-                Some(access) => Ok((format, access)),
-                None => Err(Fail::Error(Error::Builtin(
-                    "storage texture types take two template parameters",
-                ))),
-            },
-            None => Err(Fail::Error(Error::Builtin(
-                "storage texture types take two template parameters",
-            ))),
-        },
-        _ => Err(Fail::Error(Error::Builtin("storage texture types take two template parameters"))),
+    if let [format, access] = tplt {
+        if let (Some(format), Some(access)) = (texel_format(format), access_mode(access)) {
+            return Ok((format, access));
+        }
     }
+    Err(Fail::Error(Error::Builtin("storage texture types take two template parameters")))
 }
 
 fn texel_format(parameter: &TpltParam) -> Option<TexelFormat>

@@ -1,5 +1,7 @@
+use Rattle.std.proofs.Common.{subst, sym}
 use Rattle.wgsl_core.specs.View.{view}
-use Rattle.wgsl_core.proofs.Layouts.{vector_measure, matrix_measure, array_measure, measure_starts, measure_stops, measure_goes_on, measure_ends}
+use Rattle.wgsl_core.specs.declared.layout.placing.Placing.{Placing}
+use Rattle.wgsl_core.proofs.Layouts.{MeasureSoFar, vector_measure, matrix_measure, array_measure, measure_starts, measure_stops, measure_goes_on, measure_ends}
 use Rattle.wgsl_core.proofs.+measure.Goals as goal
 
 pub layout::vector_measure-returns : goal.layout::vector_measure-returns
@@ -18,24 +20,26 @@ layout::array_measure-returns t c =
     c.measure-element.ensures c.rounded_up.ensures c.array_size.ensures
 
 pub ty::StructType::measure-loop-member-init : goal.ty::StructType::measure-loop-member-init
-ty::StructType::measure-loop-member-init t c = measure_starts c.deref-member-items.result.now
+ty::StructType::measure-loop-member-init t c =
+    let items = c.deref-member-items.result.now in
+    subst (λ (p : Placing). MeasureSoFar p.end p.greatest items 0) (sym c.start-placing.ensures) (measure_starts items)
 
 pub ty::StructType::measure-returns-in_default : goal.ty::StructType::measure-returns-in_default
 ty::StructType::measure-returns-in_default t c =
     let l = c.loop-member in
-    measure_stops c.args.self.now l.end c.measure-measure.result.align l.greatest c.deref-member-items.result.now l.member-index c.member-item.result
+    measure_stops c.args.self.now l.placing.end c.measure-measure.result.align l.placing.greatest c.deref-member-items.result.now l.member-index c.member-item.result
     c.deref-member-items.ensures.value c.loop-member-test.true c.member-item.is c.in_default.not-Some c.measure-measure.ensures.align l.invariant
 
 pub ty::StructType::measure-loop-member-preserved :
     goal.ty::StructType::measure-loop-member-preserved
 ty::StructType::measure-loop-member-preserved t c =
     let l = c.loop-member in
-    measure_goes_on l.end c.measure-measure.result.size c.measure-measure.result.align c.end_of_member-end.result l.greatest c.in-Some.align c.max-greatest.result
+    measure_goes_on l.placing.end c.measure-measure.result.size c.measure-measure.result.align c.place.new.self.end l.placing.greatest c.in-Some.align c.place.new.self.greatest
     c.deref-member-items.result.now l.member-index c.member-item.result
-    c.loop-member-test.true c.member-item.is c.measure-measure.ensures.size c.in-Some.is c.measure-measure.ensures.align c.end_of_member-end.ensures c.max-greatest.ensures l.invariant
+    c.loop-member-test.true c.member-item.is c.measure-measure.ensures.size c.in-Some.is c.measure-measure.ensures.align c.place.ensures.end c.place.ensures.greatest l.invariant
 
 pub ty::StructType::measure-returns : goal.ty::StructType::measure-returns
 ty::StructType::measure-returns t c =
     let l = c.loop-member in
-    measure_ends c.args.self.now l.end c.rounded_up.result l.greatest c.deref-member-items.result.now l.member-index
-    c.deref-member-items.ensures.value c.loop-member-test.false c.rounded_up.ensures l.invariant
+    measure_ends c.args.self.now l.placing.end c.size.result l.placing.greatest c.deref-member-items.result.now l.member-index
+    c.deref-member-items.ensures.value c.loop-member-test.false c.size.ensures l.invariant

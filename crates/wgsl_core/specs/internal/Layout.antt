@@ -1,6 +1,5 @@
--- How the rules see a measure of the code, and the placement of members one after another.
-use Rattle.std.specs.Prelude.{◌≡◌, ◌↔◌, ℕ, ◌+◌, ◌<◌, ◌^◌, List, Option, Some, None}
-use Rattle.std.specs.Int.{next_multiple_of}
+-- How the rules see a measure of the code, and members that are placed.
+use Rattle.std.specs.Prelude.{◌≡◌, ◌↔◌, ℕ, List, None}
 use Rattle.wgsl_rules.specs.types.Types.{WgslType, Members}
 use Rattle.wgsl_rules.specs.layout.Layout.{HasSize, HasAlignment, IsExactly, LacksSize, HaveLayouts, IsStructSize, AreOffsets}
 use Rattle.wgsl_core.specs.declared.layout.Measure.{Measure}
@@ -17,10 +16,3 @@ HasSomeSize ms = (n : ℕ) × IsStructSize (HaveLayouts ms) n
 
 abbrev pub ArePlaced : Members → List PlacedMember → Type 0
 ArePlaced ms placed = HaveLayouts ms (layouts_of placed) × AreOffsets ms (offsets_of placed)
-
-abbrev pub IsValue : Option ℕ → ℕ → Type 0
-IsValue o n = o ≡ Some n
-
--- the end of a member at its first offset from `end` on
-abbrev pub IsSoonestEnd : Option ℕ → Option ℕ → ℕ → ℕ → Type 0
-IsSoonestEnd end size align n = (e : ℕ) × (s : ℕ) × IsValue end e × IsValue size s × (0 < align) × (n ≡ next_multiple_of e align + s) × (n < 2 ^ 32)

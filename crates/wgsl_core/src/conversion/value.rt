@@ -7,8 +7,8 @@ ghost use Rattle.wgsl_core.specs.Converted.{converted, NeedsNoMemory};
 
 use crate::conversion::typed::Ty;
 use crate::ty::Type;
+use crate::ty::build::within;
 use crate::ty::clone::copy;
-use crate::ty::form::around;
 use std::alloc::{AllocError, Global};
 use wgsl_syntax::layer::Layer;
 
@@ -118,7 +118,7 @@ fn around_converted(
         → IsOk result }
 {
     match element.convert_to(alloc, ty)? {
-        Some(converted) => Ok(Some(around(alloc, layer, converted)?)),
+        Some(converted) => Ok(Some(within(alloc, layer, converted)?)),
         None => Ok(None),
     }
 }

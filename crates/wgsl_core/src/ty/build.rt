@@ -1,35 +1,59 @@
 // Types built in one call.
 ghost use Rattle.std.specs.Prelude.{◌≡◌, map, IfOk};
-ghost use Rattle.wgsl_rules.specs.types.Types.{array, vec, mat};
+ghost use Rattle.wgsl_rules.specs.types.Types.{array, vec, mat, within};
+ghost use Rattle.wgsl_rules.specs.types.Around.{around};
 ghost use Rattle.wgsl_core.specs.View.{view, struct_view, member_view, members_of};
 ghost use Rattle.wgsl_core.specs.ResultStruct.{plain};
 
-use crate::ty::form::around;
 use crate::ty::{StructMemberType, StructType, Type};
 use std::alloc::{AllocError, Global};
+use wgsl_syntax::around::Around;
 use wgsl_syntax::layer::Layer;
 
 impl Type {
+    /// The type with that around another type.
+    #[inline(always)]
+    pub fn around(outer: Around, inner: Box<Type>) -> Type
+        ensures { view result ≡ around outer (view inner.value) }
+    {
+        match outer {
+            Around::Layer(Layer::Array(count)) => Type::Array(inner, count),
+            Around::Layer(Layer::Vec(components)) => Type::Vec(components, inner),
+            Around::Layer(Layer::Mat(columns, rows)) => Type::Mat(columns, rows, inner),
+            Around::BindingArray(count) => Type::BindingArray(inner, count),
+            Around::Atomic => Type::Atomic(inner),
+            Around::Ptr(space, access) => Type::Ptr(space, inner, access),
+            Around::Ref(space, access) => Type::Ref(space, inner, access),
+        }
+    }
+
     /// A vector with that many components (WGSL, "Vector Types").
     pub fn vector(alloc: Global, components: u8, of: Type) -> Result<Type, AllocError>
         ensures { IfOk result (λ t. view t ≡ vec components (view of)) }
     {
-        around(alloc, Layer::Vec(components), of)
+        within(alloc, Layer::Vec(components), of)
     }
 
     /// A matrix with that many columns and rows (WGSL, "Matrix Types").
     pub fn matrix(alloc: Global, columns: u8, rows: u8, of: Type) -> Result<Type, AllocError>
         ensures { IfOk result (λ t. view t ≡ mat columns rows (view of)) }
     {
-        around(alloc, Layer::Mat(columns, rows), of)
+        within(alloc, Layer::Mat(columns, rows), of)
     }
 
     /// An array (WGSL, "Array Types"); without a count it is runtime-sized.
     pub fn array(alloc: Global, count: Option<usize>, of: Type) -> Result<Type, AllocError>
         ensures { IfOk result (λ t. view t ≡ array count (view of)) }
     {
-        around(alloc, Layer::Array(count), of)
+        within(alloc, Layer::Array(count), of)
     }
+}
+
+/// The type with that layer around an element.
+pub(crate) fn within(alloc: Global, layer: Layer, element: Type) -> Result<Type, AllocError>
+    ensures { IfOk result (λ t. view t ≡ within layer (view element)) }
+{
+    Ok(Type::around(Around::Layer(layer), Box::new(alloc, element)?))
 }
 
 impl StructType {

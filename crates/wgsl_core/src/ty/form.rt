@@ -1,12 +1,10 @@
 // The forms of types.
-ghost use Rattle.std.specs.Prelude.{◌≡◌, IfOk, option_map};
-ghost use Rattle.wgsl_rules.specs.types.Types.{within};
+ghost use Rattle.std.specs.Prelude.{◌≡◌, option_map};
 ghost use Rattle.wgsl_rules.specs.types.Inner.{inner_of};
 ghost use Rattle.wgsl_core.specs.View.{view};
 ghost use Rattle.wgsl_core.specs.Forms.{form_view, scalar_of, layer_of};
 
 use crate::ty::{StructType, Type};
-use std::alloc::{AllocError, Global};
 use wgsl_syntax::address::{AccessMode, AddressSpace};
 use wgsl_syntax::attribute::AccelerationStructureFlags;
 use wgsl_syntax::layer::Layer;
@@ -105,17 +103,5 @@ impl Type {
             | Form::BindingArray(_, t) => t,
             _ => self,
         }
-    }
-}
-
-/// The type with that layer around an element.
-pub fn around(alloc: Global, layer: Layer, element: Type) -> Result<Type, AllocError>
-    ensures { IfOk result (λ t. view t ≡ within layer (view element)) }
-{
-    let element = Box::new(alloc, element)?;
-    match layer {
-        Layer::Array(n) => Ok(Type::Array(element, n)),
-        Layer::Vec(n) => Ok(Type::Vec(n, element)),
-        Layer::Mat(c, r) => Ok(Type::Mat(c, r, element)),
     }
 }

@@ -7,7 +7,7 @@ ghost use Rattle.wgsl_rules.specs.calls.ResultTypes.{exchange_struct, ray_inters
 ghost use Rattle.wgsl_core.specs.View.{view, member_view, members_of};
 ghost use Rattle.wgsl_core.specs.ResultStruct.{plain, result_type as result_struct_of};
 
-use crate::ty::form::around;
+use crate::ty::build::within;
 use crate::ty::result_struct::{exponent_in, float_in};
 use crate::ty::{StructMemberType, StructType, Type};
 use std::alloc::{AllocError, Global};
@@ -95,14 +95,14 @@ fn push_intersection(members: &mut Vec<StructMemberType>, alloc: Global) -> Resu
 pub fn hit_positions(alloc: Global) -> Result<Type, AllocError>
     ensures { IfOk result (λ t. view t ≡ hit_positions_type) }
 {
-    around(alloc, Layer::Array(Some(3)), floats(alloc, Layer::Vec(3))?)
+    within(alloc, Layer::Array(Some(3)), floats(alloc, Layer::Vec(3))?)
 }
 
 /// A vector or a matrix of `f32`.
 fn floats(alloc: Global, layer: Layer) -> Result<Type, AllocError>
     ensures { IfOk result (λ t. view t ≡ within layer (scalar F32)) }
 {
-    around(alloc, layer, Type::F32)
+    within(alloc, layer, Type::F32)
 }
 
 /// The scalar itself, or a vector of it, by the shape.
@@ -112,9 +112,9 @@ fn shaped_type(alloc: Global, shape: ResultShape, of: Scalar) -> Result<Type, Al
 {
     match shape {
         ResultShape::Scalar => Ok(Type::from(of)),
-        ResultShape::Vec2 => around(alloc, Layer::Vec(2), Type::from(of)),
-        ResultShape::Vec3 => around(alloc, Layer::Vec(3), Type::from(of)),
-        ResultShape::Vec4 => around(alloc, Layer::Vec(4), Type::from(of)),
+        ResultShape::Vec2 => within(alloc, Layer::Vec(2), Type::from(of)),
+        ResultShape::Vec3 => within(alloc, Layer::Vec(3), Type::from(of)),
+        ResultShape::Vec4 => within(alloc, Layer::Vec(4), Type::from(of)),
     }
 }
 

@@ -4,10 +4,11 @@ use Rattle.std.specs.Bool.{MatchBool}
 use Rattle.std.specs.List.{list_any}
 use Rattle.std.specs.Str.{bytes_eq}
 use Rattle.wgsl_rules.specs.types.Types.{WgslType}
-use Rattle.wgsl_requests.specs.declared.outer.Outer.{Outer}
+use Rattle.wgsl_syntax.specs.declared.around.Around.{Around}
 use Rattle.wgsl_requests.specs.declared.words.Unread.{Unread}
 use Rattle.wgsl_requests.specs.Reading.{NoneAt, Refuses}
-use Rattle.wgsl_requests.specs.Grammar.{LayerAt, LeafAt, TypeAt, around}
+use Rattle.wgsl_rules.specs.types.Around.{around}
+use Rattle.wgsl_requests.specs.Grammar.{LayerAt, LeafAt, TypeAt}
 
 -- the words that layers begin with
 abbrev pub layer_words : List (List ℕ)
@@ -20,7 +21,7 @@ is_layer_word word = list_any (bytes_eq word) layer_words
 
 -- Where the word and the words before stand, a layer is read, or none since the word is that of no
 -- layer.
-abbrev pub ReadsLayer : List ℕ → List (List ℕ) → List (List ℕ) → Result (Option Outer) Unread →
+abbrev pub ReadsLayer : List ℕ → List (List ℕ) → List (List ℕ) → Result (Option Around) Unread →
     Type 0
 ReadsLayer word before after (Ok (Some layer)) = LayerAt (word ∷ before) layer after
 ReadsLayer word before after (Ok None) = (is_layer_word word ≡ false) × (after ≡ before)
@@ -28,7 +29,7 @@ ReadsLayer word before after (Err e) = Refuses ((is_layer_word word ≡ true)
     × NoneAt LayerAt (word ∷ before)) e
 
 -- The same, or none since there is room for no more.
-abbrev pub ReadsNext : List ℕ → List (List ℕ) → List (List ℕ) → Result (Option Outer) Unread →
+abbrev pub ReadsNext : List ℕ → List (List ℕ) → List (List ℕ) → Result (Option Around) Unread →
     Type 0
 ReadsNext word before after (Ok (Some layer)) = LayerAt (word ∷ before) layer after
 ReadsNext word before after (Ok None) = after ≡ before
@@ -36,13 +37,13 @@ ReadsNext word before after (Err e) = Refuses ((is_layer_word word ≡ true)
     × NoneAt LayerAt (word ∷ before)) e
 
 -- the words begin with what the layer stands around
-abbrev pub InsideAt : Outer → List (List ℕ) → WgslType → List (List ℕ) → Type 0
+abbrev pub InsideAt : Around → List (List ℕ) → WgslType → List (List ℕ) → Type 0
 InsideAt layer words t rest = (inner : WgslType) × TypeAt words inner rest
     × (t ≡ around layer inner)
 
 -- the words begin with a layer around a type
 abbrev pub InLayerAt : List (List ℕ) → WgslType → List (List ℕ) → Type 0
-InLayerAt words t rest = (layer : Outer) × (after : List (List ℕ)) × LayerAt words layer after
+InLayerAt words t rest = (layer : Around) × (after : List (List ℕ)) × LayerAt words layer after
     × InsideAt layer after t rest
 
 -- the words begin with a type that is neither a scalar nor a struct
@@ -52,6 +53,6 @@ OtherAt (word ∷ words) t rest =
     MatchBool (is_layer_word word) (InLayerAt (word ∷ words) t rest) (LeafAt (word ∷ words) t rest)
 
 -- the type with the layers around it, of which the first is the outermost
-abbrev pub wrapped : List Outer → WgslType → WgslType
+abbrev pub wrapped : List Around → WgslType → WgslType
 wrapped [] t = t
 wrapped (layer ∷ layers) t = around layer (wrapped layers t)

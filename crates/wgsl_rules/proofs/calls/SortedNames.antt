@@ -68,7 +68,7 @@ named f xs e k d b = sym (lists.get_or-map f xs k d [] (omega (arith, as_many f 
 
 -- the order
 
-abbrev order : List ℕ → List ℕ → Ordering
+abbrev pub order : List ℕ → List ℕ → Ordering
 order = slice_cmp nat_cmp
 
 pub flip_less : (x y : List ℕ) → order x y ≡ Less → order y x ≡ Greater
@@ -82,10 +82,10 @@ only_equal Less h = cc
 only_equal Equal h = refl
 only_equal Greater h = cc
 
-itself : (x : List ℕ) → order x x ≡ Equal
+pub itself : (x : List ℕ) → order x x ≡ Equal
 itself x = only_equal (order x x) (nat_list_cmp_total.antisymm x x)
 
-same : (x y : List ℕ) → order x y ≡ Equal → x ≡ y
+pub same : (x y : List ℕ) → order x y ≡ Equal → x ≡ y
 same x y h = slice_cmp-IsAntisymmetric nat_cmp-IsAntisymmetric x y h
 
 rise : (i j : ℕ) → i < j → j < 155 → order (name_at call_names i) (name_at call_names j) ≡ Less

@@ -7,6 +7,7 @@ use Rattle.wgsl_syntax.specs.contracts.address.AccessMode.{the_type as access_ty
 use Rattle.wgsl_syntax.specs.contracts.texture.SampledType.{the_type as sampled_type}
 use Rattle.wgsl_syntax.specs.contracts.texture.SamplerType.{the_type as sampler_type}
 use Rattle.wgsl_syntax.specs.contracts.texel.TexelFormat.{the_type as texel_type}
+use Rattle.wgsl_syntax.specs.contracts.texture_name.TextureName.{the_type as name_type}
 use Rattle.wgsl_syntax.specs.Address.{spaces, access_modes}
 use Rattle.wgsl_syntax.specs.Scalar.{scalars}
 use Rattle.wgsl_syntax.specs.Texture.{sampled_types, samplers}
@@ -26,21 +27,28 @@ use Rattle.wgsl_syntax.specs.declared.texture.SamplerType.TheVariants as sampler
 use Rattle.wgsl_syntax.specs.declared.attribute.AccelerationStructureFlags.{AccelerationStructureFlags}
 use Rattle.wgsl_syntax.specs.declared.attribute.AccelerationStructureFlags.TheVariants.{VertexReturn}
 use Rattle.wgsl_syntax.specs.declared.texture.TextureType.{TextureType}
-use Rattle.wgsl_syntax.specs.declared.texture.TextureType.TheVariants.{Sampled1D, Sampled2D, Sampled2DArray, Sampled3D, SampledCube, SampledCubeArray, Sampled1DArray, Multisampled2D, Multisampled2DArray, DepthMultisampled2D, Storage1D, Storage1DArray, Storage2D, Storage2DArray, Storage3D, External, Depth2D, Depth2DArray, DepthCube, DepthCubeArray}
+use Rattle.wgsl_syntax.specs.declared.texture_name.TextureName.{TextureName}
+use Rattle.wgsl_syntax.specs.declared.texture_name.TextureName.TheVariants as names
+use Rattle.wgsl_syntax.specs.declared.texture_name.TextureParameters.{TextureParameters}
+use Rattle.wgsl_syntax.specs.declared.texture_name.TextureParameters.TheVariants as parameters
+use Rattle.wgsl_syntax.specs.TextureName.{kind_of, name_of, parameters_of, texture_names}
+use Rattle.wgsl_syntax.specs.Around.{count_of}
+use Rattle.wgsl_syntax.proofs.Textures.{made_again, same_kind}
 use Rattle.wgsl_syntax.specs.declared.code.LeafType.{LeafType}
 use Rattle.wgsl_syntax.specs.declared.code.LeafType.TheVariants as leaf
-use Rattle.wgsl_syntax.specs.declared.code.Wrapper.{Wrapper as WrapperForm}
-use Rattle.wgsl_syntax.specs.declared.code.Wrapper.TheVariants as wrapper
+use Rattle.wgsl_syntax.specs.declared.around.Around.{Around as AroundForm}
+use Rattle.wgsl_syntax.specs.declared.around.Around.TheVariants as arounds
 use Rattle.wgsl_syntax.specs.declared.code.Counted.{Counted as CountedForm}
 use Rattle.wgsl_syntax.specs.declared.code.Counted.TheVariants as counted
 use Rattle.wgsl_syntax.specs.declared.code.Head.{Head}
-use Rattle.wgsl_syntax.specs.declared.code.Head.TheVariants.{Leaf, Wrapper, Counted, Struct}
+use Rattle.wgsl_syntax.specs.declared.code.Head.TheVariants.{Leaf, Around, Counted, Struct}
+use Rattle.wgsl_rules.specs.types.Types.{array_of, vec_of, mat_of}
 use Rattle.wgsl_rules.specs.codes.Words.{word, bytes, index}
-use Rattle.wgsl_rules.specs.codes.Heads.{head_word, flag_byte, texture_word}
+use Rattle.wgsl_rules.specs.codes.Heads.{head_word, flag_byte, first_parameter, second_parameter, texture_word}
 use Rattle.std.proofs.lemmas.Bool.{eqb-true}
 use Rattle.std.proofs.lemmas.Option.{cond_some}
 use Rattle.wgsl_rules.proofs.codes.Numbers.{bind_some}
-use Rattle.wgsl_rules.specs.codes.Decoding.{flags_by_byte, head_of, head_if, head_named, head_at}
+use Rattle.wgsl_rules.specs.codes.Decoding.{flags_by_byte, head_of, head_if, head_named, head_at, parameters_by}
 
 scalar_index : (s : Scalar) → (index scalar_type s < 256) × (slice_get scalars (index scalar_type s) ≡ Some s)
 scalar_index scalar.Bool = (omega arith, refl)
@@ -98,39 +106,22 @@ one_again tag a h ht ha e k = again tag a 0 0 h ht ha (omega arith) (omega arith
 abbrev texture_head : TextureType → Head
 texture_head t = Leaf (leaf.Texture t)
 
-kind_again : (kind : ℕ) (t : TextureType) → kind < 256 → texture_word t ≡ word 9 kind 0 0 → head_of 9 kind 0 0 ≡ Some (texture_head t) → head_at (texture_word t) ≡ Some (texture_head t)
-kind_again kind t hk e k = again 9 kind 0 0 (texture_head t) (omega arith) hk (omega arith) (omega arith) e k
+name_index : (n : TextureName) → (index name_type n < 256) × (slice_get texture_names (index name_type n) ≡ Some n)
+name_index names.Sampled1D = (omega arith, refl)
+name_index n = (omega arith, refl)
 
-sampled_again : (kind : ℕ) (t : TextureType) (s : SampledType) → kind < 256 → texture_word t ≡ word 9 kind (index sampled_type s) 0 →
-    head_of 9 kind (index sampled_type s) 0 ≡ Some (texture_head t) → head_at (texture_word t) ≡ Some (texture_head t)
-sampled_again kind t s hk e k = again 9 kind (index sampled_type s) 0 (texture_head t) (omega arith) hk (sampled_index s).0 (omega arith) e k
-
-storage_again : (kind : ℕ) (t : TextureType) (f : TexelFormat) (m : AccessMode) → kind < 256 → texture_word t ≡ word 9 kind (index texel_type f) (index access_type m) →
-    head_of 9 kind (index texel_type f) (index access_type m) ≡ Some (texture_head t) → head_at (texture_word t) ≡ Some (texture_head t)
-storage_again kind t f m hk e k =
-    again 9 kind (index texel_type f) (index access_type m) (texture_head t) (omega arith) hk (texel_index f).0 (access_index m).0 e k
+-- the parameters fit two bytes, and are named by them
+parameters_index : (p : TextureParameters) → (first_parameter p < 256) × (second_parameter p < 256) × (parameters_by (kind_of p) (first_parameter p) (second_parameter p) ≡ Some p)
+parameters_index parameters.None = (omega arith, omega arith, refl)
+parameters_index (parameters.Sampled s) = ((sampled_index s).0, omega arith, rw (sampled_index s).1 refl)
+parameters_index (parameters.Storage f m) = ((texel_index f).0, (access_index m).0, rw ((texel_index f).1, (access_index m).1) refl)
 
 texture_again : (t : TextureType) → head_at (texture_word t) ≡ Some (texture_head t)
-texture_again (Sampled1D s) = sampled_again 0 (Sampled1D s) s (omega arith) refl (rw (sampled_index s).1 refl)
-texture_again (Sampled2D s) = sampled_again 1 (Sampled2D s) s (omega arith) refl (rw (sampled_index s).1 refl)
-texture_again (Sampled2DArray s) = sampled_again 2 (Sampled2DArray s) s (omega arith) refl (rw (sampled_index s).1 refl)
-texture_again (Sampled3D s) = sampled_again 3 (Sampled3D s) s (omega arith) refl (rw (sampled_index s).1 refl)
-texture_again (SampledCube s) = sampled_again 4 (SampledCube s) s (omega arith) refl (rw (sampled_index s).1 refl)
-texture_again (SampledCubeArray s) = sampled_again 5 (SampledCubeArray s) s (omega arith) refl (rw (sampled_index s).1 refl)
-texture_again (Sampled1DArray s) = sampled_again 6 (Sampled1DArray s) s (omega arith) refl (rw (sampled_index s).1 refl)
-texture_again (Multisampled2D s) = sampled_again 7 (Multisampled2D s) s (omega arith) refl (rw (sampled_index s).1 refl)
-texture_again (Multisampled2DArray s) = sampled_again 8 (Multisampled2DArray s) s (omega arith) refl (rw (sampled_index s).1 refl)
-texture_again DepthMultisampled2D = kind_again 9 DepthMultisampled2D (omega arith) refl refl
-texture_again (Storage1D f m) = storage_again 10 (Storage1D f m) f m (omega arith) refl (rw ((texel_index f).1, (access_index m).1) refl)
-texture_again (Storage1DArray f m) = storage_again 11 (Storage1DArray f m) f m (omega arith) refl (rw ((texel_index f).1, (access_index m).1) refl)
-texture_again (Storage2D f m) = storage_again 12 (Storage2D f m) f m (omega arith) refl (rw ((texel_index f).1, (access_index m).1) refl)
-texture_again (Storage2DArray f m) = storage_again 13 (Storage2DArray f m) f m (omega arith) refl (rw ((texel_index f).1, (access_index m).1) refl)
-texture_again (Storage3D f m) = storage_again 14 (Storage3D f m) f m (omega arith) refl (rw ((texel_index f).1, (access_index m).1) refl)
-texture_again External = kind_again 15 External (omega arith) refl refl
-texture_again Depth2D = kind_again 16 Depth2D (omega arith) refl refl
-texture_again Depth2DArray = kind_again 17 Depth2DArray (omega arith) refl refl
-texture_again DepthCube = kind_again 18 DepthCube (omega arith) refl refl
-texture_again DepthCubeArray = kind_again 19 DepthCubeArray (omega arith) refl refl
+texture_again t =
+    let name = name_index (name_of t) in
+    let p = parameters_index (parameters_of t) in
+    again 9 (index name_type (name_of t)) (first_parameter (parameters_of t)) (second_parameter (parameters_of t)) (texture_head t) (omega arith) name.0 p.0 p.1 refl
+    (rw (name.1, same_kind t, p.2, made_again t) refl)
 
 pub leaf_again : (l : LeafType) → head_at (head_word (Leaf l)) ≡ Some (Leaf l)
 leaf_again (leaf.Scalar s) = one_again 0 (index scalar_type s) (Leaf (leaf.Scalar s)) (omega arith) (scalar_index s).0 refl (rw (scalar_index s).1 refl)
@@ -140,24 +131,28 @@ leaf_again (leaf.RayQuery f) = one_again 13 (flag_byte f) (Leaf (leaf.RayQuery f
 leaf_again (leaf.AccelerationStructure f) =
     one_again 14 (flag_byte f) (Leaf (leaf.AccelerationStructure f)) (omega arith) (flag_index f).0 refl (rw (flag_index f).1 refl)
 
--- the counts of a wrapper fit a byte
-abbrev pub IsSmall : WrapperForm → Type 0
-IsSmall (wrapper.Vec n) = n < 2 ^ 8
-IsSmall (wrapper.Mat c r) = (c < 2 ^ 8) × (r < 2 ^ 8)
-IsSmall x = Unit {0}
+-- all that it has is in its first word
+abbrev pub FitsWord : AroundForm → Type 0
+FitsWord (arounds.Layer (array_of (Some n))) = ⊥
+FitsWord (arounds.Layer (vec_of n)) = n < 2 ^ 8
+FitsWord (arounds.Layer (mat_of c r)) = (c < 2 ^ 8) × (r < 2 ^ 8)
+FitsWord (arounds.BindingArray (Some n)) = ⊥
+FitsWord x = Unit {0}
 
-pub wrapper_again : (x : WrapperForm) → IsSmall x → head_at (head_word (Wrapper x)) ≡ Some (Wrapper x)
-wrapper_again wrapper.Array small = one_again 1 0 (Wrapper wrapper.Array) (omega arith) (omega arith) refl refl
-wrapper_again (wrapper.Vec n) small = one_again 3 n (Wrapper (wrapper.Vec n)) (omega arith) small refl refl
-wrapper_again (wrapper.Mat c r) small = again 4 c r 0 (Wrapper (wrapper.Mat c r)) (omega arith) small.0 small.1 (omega arith) refl refl
-wrapper_again wrapper.Atomic small = one_again 6 0 (Wrapper wrapper.Atomic) (omega arith) (omega arith) refl refl
-wrapper_again (wrapper.Ptr s m) small =
-    again 7 (index space_type s) (index access_type m) 0 (Wrapper (wrapper.Ptr s m)) (omega arith) (space_index s).0 (access_index m).0 (omega arith) refl
+pub around_again : (x : AroundForm) → FitsWord x → head_at (head_word (Around x)) ≡ Some (Around x)
+around_again (arounds.Layer (array_of None)) fits = one_again 1 0 (Around (arounds.Layer (array_of None))) (omega arith) (omega arith) refl refl
+around_again (arounds.Layer (array_of (Some n))) fits = absurd fits
+around_again (arounds.Layer (vec_of n)) fits = one_again 3 n (Around (arounds.Layer (vec_of n))) (omega arith) fits refl refl
+around_again (arounds.Layer (mat_of c r)) fits = again 4 c r 0 (Around (arounds.Layer (mat_of c r))) (omega arith) fits.0 fits.1 (omega arith) refl refl
+around_again arounds.Atomic fits = one_again 6 0 (Around arounds.Atomic) (omega arith) (omega arith) refl refl
+around_again (arounds.Ptr s m) fits =
+    again 7 (index space_type s) (index access_type m) 0 (Around (arounds.Ptr s m)) (omega arith) (space_index s).0 (access_index m).0 (omega arith) refl
     (rw ((space_index s).1, (access_index m).1) refl)
-wrapper_again (wrapper.Ref s m) small =
-    again 8 (index space_type s) (index access_type m) 0 (Wrapper (wrapper.Ref s m)) (omega arith) (space_index s).0 (access_index m).0 (omega arith) refl
+around_again (arounds.Ref s m) fits =
+    again 8 (index space_type s) (index access_type m) 0 (Around (arounds.Ref s m)) (omega arith) (space_index s).0 (access_index m).0 (omega arith) refl
     (rw ((space_index s).1, (access_index m).1) refl)
-wrapper_again wrapper.BindingArray small = one_again 11 0 (Wrapper wrapper.BindingArray) (omega arith) (omega arith) refl refl
+around_again (arounds.BindingArray None) fits = one_again 11 0 (Around (arounds.BindingArray None)) (omega arith) (omega arith) refl refl
+around_again (arounds.BindingArray (Some n)) fits = absurd fits
 
 pub counted_again : (x : CountedForm) → head_at (head_word (Counted x)) ≡ Some (Counted x)
 counted_again counted.Array = one_again 2 0 (Counted counted.Array) (omega arith) (omega arith) refl refl
@@ -173,3 +168,20 @@ head_is w h e =
     let read = bind_some (head_named (bytes w)) (head_if w) h e in
     let tested = cond_some (nat_eq (head_word read.0) w) read.0 h read.2 in
     sym (eqb-true (head_word read.0) w tested.0) ∙ ap head_word tested.1
+
+-- what a first word says has no number of elements
+abbrev pub IsUncounted : Head → Type 0
+IsUncounted (Around x) = count_of x ≡ None
+IsUncounted h = Unit {0}
+
+-- the word of a count is read as its mark
+marked : (x : AroundForm) (c : CountedForm) (w : ℕ) → w ≡ head_word (Counted c) → head_at w ≡ Some (Around x) → ⊥
+marked x c w is e = let f : Some (Around x) ≡ Some (Counted c) = sym e ∙ (ap head_at is ∙ counted_again c) in cc f
+
+pub is_uncounted : (w : ℕ) (h : Head) → head_at w ≡ Some h → IsUncounted h
+is_uncounted w (Around (arounds.Layer (array_of (Some n)))) e = absurd (marked (arounds.Layer (array_of (Some n))) counted.Array w (head_is w _ e) e)
+is_uncounted w (Around (arounds.BindingArray (Some n))) e = absurd (marked (arounds.BindingArray (Some n)) counted.BindingArray w (head_is w _ e) e)
+is_uncounted w (Around (arounds.Layer (array_of None))) e = refl
+is_uncounted w (Around (arounds.Layer (vec_of n))) e = refl
+is_uncounted w (Around x) e = refl
+is_uncounted w h e = tt

@@ -1,22 +1,24 @@
 -- What is read from words is coded by them.
-use Rattle.std.proofs.Common.{◌≡◌, ℕ, suc, zero, List, [], ◌∷◌, ◌++◌, Option, Some, refl, sym, ap, subst, ◌∙◌}
+use Rattle.std.proofs.Common.{◌≡◌, ℕ, suc, zero, List, [], ◌∷◌, ◌++◌, Option, Some, None, refl, sym, ap, subst, ◌∙◌}
 use Rattle.wgsl_syntax.specs.declared.code.LeafType.{LeafType}
 use Rattle.wgsl_syntax.specs.declared.code.LeafType.TheVariants as leaf
-use Rattle.wgsl_syntax.specs.declared.code.Wrapper.{Wrapper as WrapperForm}
-use Rattle.wgsl_syntax.specs.declared.code.Wrapper.TheVariants as wrapper
+use Rattle.wgsl_syntax.specs.Around.{count_of, with_count}
+use Rattle.wgsl_syntax.specs.declared.around.Around.{Around as AroundForm}
+use Rattle.wgsl_syntax.specs.declared.around.Around.TheVariants as arounds
 use Rattle.wgsl_syntax.specs.declared.code.Counted.{Counted as CountedForm}
 use Rattle.wgsl_syntax.specs.declared.code.Counted.TheVariants as counted
 use Rattle.wgsl_syntax.specs.declared.code.Head.{Head}
-use Rattle.wgsl_syntax.specs.declared.code.Head.TheVariants.{Leaf, Wrapper, Counted, Struct}
+use Rattle.wgsl_syntax.specs.declared.code.Head.TheVariants.{Leaf, Around, Counted, Struct}
 use Rattle.wgsl_rules.specs.types.Types.{WgslType, struct, Members, no_members, member}
 use Rattle.wgsl_rules.specs.codes.Words.{number, attribute, name_code}
 use Rattle.wgsl_rules.specs.codes.Heads.{head_word}
 use Rattle.wgsl_rules.specs.codes.Reading.{◌>>=◌, number_at, attribute_at, name_at}
-use Rattle.wgsl_rules.specs.codes.Codes.{code, member_codes, member_count}
-use Rattle.wgsl_rules.specs.codes.Decoding.{head_at, decode, members_at, parts_at, leaf_type, wrapped, counted_type}
+use Rattle.wgsl_rules.specs.codes.Codes.{around_code, code, count_code, member_codes, member_count}
+use Rattle.wgsl_rules.specs.codes.Decoding.{head_at, decode, members_at, parts_at, leaf_type}
+use Rattle.wgsl_rules.specs.types.Around.{around}
 use Rattle.wgsl_rules.proofs.codes.Numbers.{bind_some, same_read, AreWords, IsFront, words_after, number_is, attribute_is}
 use Rattle.wgsl_rules.proofs.codes.Names.{name_is}
-use Rattle.wgsl_rules.proofs.codes.HeadsAgain.{head_is}
+use Rattle.wgsl_rules.proofs.codes.HeadsAgain.{head_is, is_uncounted, IsUncounted}
 use Rattle.wgsl_rules.proofs.codes.TypesAgain.{three_parts, five_parts}
 
 pub leaf_code : (l : LeafType) → code (leaf_type l) ≡ head_word (Leaf l) ∷ []
@@ -24,12 +26,16 @@ unfolding code
 leaf_code (leaf.Scalar s) = refl
 leaf_code l = refl
 
-pub wrapped_code : (x : WrapperForm) (t : WgslType) → code (wrapped x t) ≡ head_word (Wrapper x) ∷ code t
+pub code_around : (x : AroundForm) (t : WgslType) → code (around x t) ≡ around_code x ++ code t
 unfolding code
-wrapped_code wrapper.Array t = refl
-wrapped_code x t = refl
+code_around (arounds.Layer layer) t = refl
+code_around x t = refl
 
-pub counted_code : (x : CountedForm) (n : ℕ) (t : WgslType) → code (counted_type x n t) ≡ head_word (Counted x) ∷ (number n ++ code t)
+-- without a number of elements, there is nothing between the first word and the code of the type inside
+pub uncounted_code : (x : AroundForm) (t : WgslType) → count_of x ≡ None → code (around x t) ≡ head_word (Around x) ∷ code t
+uncounted_code x t uncounted = code_around x t ∙ ap (λ count. head_word (Around x) ∷ (count_code count ++ code t)) uncounted
+
+pub counted_code : (x : CountedForm) (n : ℕ) (t : WgslType) → code (around (with_count x n) t) ≡ head_word (Counted x) ∷ (number n ++ code t)
 unfolding code
 counted_code counted.Array n t = refl
 counted_code x n t = refl
@@ -86,22 +92,22 @@ abbrev IsTypeFront : Head → List ℕ → WgslType × List ℕ → Type 0
 IsTypeFront head ws t = (head_word head ∷ ws ≡ code t.0 ++ t.1) × AreWords t.1
 
 parts_is : (inner : List ℕ → Option (WgslType × List ℕ)) → ReadsTypes inner → (head : Head) (ws : List ℕ) (t : WgslType × List ℕ) →
-    AreWords ws → parts_at inner head ws ≡ Some t → IsTypeFront head ws t
-parts_is inner reads (Leaf l) ws t h e =
+    IsUncounted head → AreWords ws → parts_at inner head ws ≡ Some t → IsTypeFront head ws t
+parts_is inner reads (Leaf l) ws t uncounted h e =
     subst (IsTypeFront (Leaf l) ws) (same_read (leaf_type l, ws) t e) (rw (leaf_code l) refl, h)
-parts_is inner reads (Wrapper x) ws t h e =
-    let u = bind_some (inner ws) (λ u. Some (wrapped x u.0, u.1)) t e in
+parts_is inner reads (Around x) ws t uncounted h e =
+    let u = bind_some (inner ws) (λ u. Some (around x u.0, u.1)) t e in
     let front = reads ws u.0 h u.1 in
-    subst (IsTypeFront (Wrapper x) ws) (same_read (wrapped x u.0.0, u.0.1) t u.2)
-    (rw (wrapped_code x u.0.0) (ap (λ vs. head_word (Wrapper x) ∷ vs) front.0), front.1)
-parts_is inner reads (Counted x) ws t h e =
-    let n = bind_some (number_at ws) (λ n. inner n.1 >>= λ u. Some (counted_type x n.0 u.0, u.1)) t e in
+    subst (IsTypeFront (Around x) ws) (same_read (around x u.0.0, u.0.1) t u.2)
+    (rw (uncounted_code x u.0.0 uncounted) (ap (λ vs. head_word (Around x) ∷ vs) front.0), front.1)
+parts_is inner reads (Counted x) ws t uncounted h e =
+    let n = bind_some (number_at ws) (λ n. inner n.1 >>= λ u. Some (around (with_count x n.0) u.0, u.1)) t e in
     let count = number_is ws n.0 h n.1 in
-    let u = bind_some (inner n.0.1) (λ u. Some (counted_type x n.0.0 u.0, u.1)) t n.2 in
+    let u = bind_some (inner n.0.1) (λ u. Some (around (with_count x n.0.0) u.0, u.1)) t n.2 in
     let front = reads n.0.1 u.0 count.1 u.1 in
-    subst (IsTypeFront (Counted x) ws) (same_read (counted_type x n.0.0 u.0.0, u.0.1) t u.2)
+    subst (IsTypeFront (Counted x) ws) (same_read (around (with_count x n.0.0) u.0.0, u.0.1) t u.2)
     (rw (counted_code x n.0.0 u.0.0) (ap (λ vs. head_word (Counted x) ∷ vs) (count.0 ∙ ap (λ vs. number n.0.0 ++ vs) front.0)), front.1)
-parts_is inner reads Struct ws t h e =
+parts_is inner reads Struct ws t uncounted h e =
     let name = bind_some (name_at ws) (λ name. number_at name.1 >>= λ n. members_at inner n.0 n.1 >>= λ ms. Some (struct name.0 ms.0, ms.1)) t e in
     let named = name_is ws name.0 h name.1 in
     let n = bind_some (number_at name.0.1) (λ n. members_at inner n.0 n.1 >>= λ ms. Some (struct name.0.0 ms.0, ms.1)) t name.2 in
@@ -121,5 +127,5 @@ code_is zero ws t h e = absurd (cc e)
 code_is (suc d) [] t h e = absurd (cc e)
 code_is (suc d) (w ∷ ws) t h e =
     let read = bind_some (head_at w) (λ head. parts_at (decode d) head ws) t e in
-    let front = parts_is (decode d) (code_is d) read.0 ws t (words_after w ws h) read.2 in
+    let front = parts_is (decode d) (code_is d) read.0 ws t (is_uncounted w read.0 read.1) (words_after w ws h) read.2 in
     (ap (λ v. v ∷ ws) (head_is w read.0 read.1) ∙ front.0, front.1)

@@ -2,35 +2,37 @@
 use Rattle.std.proofs.Common.{◌≡◌, ℕ, suc, zero, List, ◌∷◌, ◌++◌, Option, Some, None, refl, ap, ◌∙◌, append_assoc}
 use Rattle.wgsl_syntax.specs.declared.code.LeafType.{LeafType}
 use Rattle.wgsl_syntax.specs.declared.code.LeafType.TheVariants as leaf
-use Rattle.wgsl_syntax.specs.declared.code.Wrapper.{Wrapper as WrapperForm}
-use Rattle.wgsl_syntax.specs.declared.code.Wrapper.TheVariants as wrapper
+use Rattle.wgsl_syntax.specs.Around.{with_count}
+use Rattle.wgsl_syntax.specs.declared.around.Around.{Around as AroundForm}
+use Rattle.wgsl_syntax.specs.declared.around.Around.TheVariants as arounds
 use Rattle.wgsl_syntax.specs.declared.code.Counted.{Counted as CountedForm}
 use Rattle.wgsl_syntax.specs.declared.code.Counted.TheVariants as counted
-use Rattle.wgsl_syntax.specs.declared.code.Head.TheVariants.{Leaf, Wrapper, Counted, Struct}
-use Rattle.wgsl_rules.specs.types.Types.{WgslType, scalar, struct, atomic, pointer, reference, texture, sampler, binding_array, ray_query, acceleration_structure, array, vec, mat, Members, no_members, member}
+use Rattle.wgsl_syntax.specs.declared.code.Head.TheVariants.{Leaf, Around, Counted, Struct}
+use Rattle.wgsl_rules.specs.types.Types.{WgslType, scalar, struct, atomic, pointer, reference, texture, sampler, binding_array, ray_query, acceleration_structure, array, vec, mat, array_of, vec_of, mat_of, Members, no_members, member}
 use Rattle.wgsl_rules.specs.codes.Words.{number, attribute, name_code}
 use Rattle.wgsl_rules.specs.codes.Heads.{head_word}
 use Rattle.wgsl_rules.specs.codes.Reading.{◌>>=◌}
 use Rattle.wgsl_rules.specs.codes.Codes.{code, member_codes, member_count, IsName, HasCode, HaveCodes}
-use Rattle.wgsl_rules.specs.codes.Decoding.{decode, members_at, leaf_type, wrapped, counted_type}
+use Rattle.wgsl_rules.specs.codes.Decoding.{decode, members_at, leaf_type}
+use Rattle.wgsl_rules.specs.types.Around.{around}
 use Rattle.wgsl_rules.proofs.codes.Numbers.{number_again, attribute_again}
 use Rattle.wgsl_rules.proofs.codes.Names.{name_again}
-use Rattle.wgsl_rules.proofs.codes.HeadsAgain.{leaf_again, wrapper_again, counted_again, struct_again, IsSmall}
+use Rattle.wgsl_rules.proofs.codes.HeadsAgain.{leaf_again, around_again, counted_again, struct_again, FitsWord}
 
 leaf_read : (l : LeafType) (d : ℕ) (rest : List ℕ) → decode (suc d) (head_word (Leaf l) ∷ rest) ≡ Some (leaf_type l, rest)
 unfolding decode
 leaf_read l d rest = rw (leaf_again l) refl
 
-wrapper_read : (x : WrapperForm) (t : WgslType) (d : ℕ) (ws rest : List ℕ) → IsSmall x → decode d ws ≡ Some (t, rest) →
-    decode (suc d) (head_word (Wrapper x) ∷ ws) ≡ Some (wrapped x t, rest)
+around_read : (x : AroundForm) (t : WgslType) (d : ℕ) (ws rest : List ℕ) → FitsWord x → decode d ws ≡ Some (t, rest) →
+    decode (suc d) (head_word (Around x) ∷ ws) ≡ Some (around x t, rest)
 unfolding decode
-wrapper_read x t d ws rest small e = rw (wrapper_again x small, e) refl
+around_read x t d ws rest fits e = rw (around_again x fits, e) refl
 
 counted_read : (x : CountedForm) (n : ℕ) (t : WgslType) (d : ℕ) (ws rest : List ℕ) → decode d ws ≡ Some (t, rest) →
-    decode (suc d) (head_word (Counted x) ∷ number n ++ ws) ≡ Some (counted_type x n t, rest)
+    decode (suc d) (head_word (Counted x) ∷ number n ++ ws) ≡ Some (around (with_count x n) t, rest)
 unfolding decode
 counted_read x n t d ws rest e =
-    rw (counted_again x) (ap (λ (r : Option (ℕ × List ℕ)). r >>= λ n. decode d n.1 >>= λ t. Some (counted_type x n.0 t.0, t.1)) (number_again n ws) ∙ rw e refl)
+    rw (counted_again x) (ap (λ (r : Option (ℕ × List ℕ)). r >>= λ n. decode d n.1 >>= λ t. Some (around (with_count x n.0) t.0, t.1)) (number_again n ws) ∙ rw e refl)
 
 struct_read : (name : List ℕ) (n : ℕ) (ms : Members) (d : ℕ) (ws rest : List ℕ) → IsName name → members_at (decode d) n ws ≡ Some (ms, rest) →
     decode (suc d) (head_word Struct ∷ (name_code name ++ (number n ++ ws))) ≡ Some (struct name ms, rest)
@@ -58,19 +60,19 @@ mutual
   pub code_again : (t : WgslType) (d : ℕ) (rest : List ℕ) → HasCode t d → decode d (code t ++ rest) ≡ Some (t, rest)
   code_again t zero rest h = absurd h
   code_again (scalar s) (suc d) rest h = leaf_read (leaf.Scalar s) d rest
-  code_again (array None t) (suc d) rest h = wrapper_read wrapper.Array t d _ rest tt (code_again t d rest h)
+  code_again (array None t) (suc d) rest h = around_read (arounds.Layer (array_of None)) t d _ rest tt (code_again t d rest h)
   code_again (array (Some n) t) (suc d) rest h = counted_read counted.Array n t d _ rest (code_again t d rest h.1)
-  code_again (vec n t) (suc d) rest h = wrapper_read (wrapper.Vec n) t d _ rest h.0 (code_again t d rest h.1)
-  code_again (mat c r t) (suc d) rest h = wrapper_read (wrapper.Mat c r) t d _ rest (h.0, h.1) (code_again t d rest h.2)
+  code_again (vec n t) (suc d) rest h = around_read (arounds.Layer (vec_of n)) t d _ rest h.0 (code_again t d rest h.1)
+  code_again (mat c r t) (suc d) rest h = around_read (arounds.Layer (mat_of c r)) t d _ rest (h.0, h.1) (code_again t d rest h.2)
   code_again (struct name ms) (suc d) rest h =
       ap (λ ws. decode (suc d) (head_word Struct ∷ ws)) (three_parts (name_code name) (number (member_count ms)) (member_codes ms) rest)
       ∙ struct_read name (member_count ms) ms d (member_codes ms ++ rest) rest h.0 (members_again ms d rest h.2)
-  code_again (atomic t) (suc d) rest h = wrapper_read wrapper.Atomic t d _ rest tt (code_again t d rest h)
-  code_again (pointer s t m) (suc d) rest h = wrapper_read (wrapper.Ptr s m) t d _ rest tt (code_again t d rest h)
-  code_again (reference s t m) (suc d) rest h = wrapper_read (wrapper.Ref s m) t d _ rest tt (code_again t d rest h)
+  code_again (atomic t) (suc d) rest h = around_read arounds.Atomic t d _ rest tt (code_again t d rest h)
+  code_again (pointer s t m) (suc d) rest h = around_read (arounds.Ptr s m) t d _ rest tt (code_again t d rest h)
+  code_again (reference s t m) (suc d) rest h = around_read (arounds.Ref s m) t d _ rest tt (code_again t d rest h)
   code_again (texture t) (suc d) rest h = leaf_read (leaf.Texture t) d rest
   code_again (sampler s) (suc d) rest h = leaf_read (leaf.Sampler s) d rest
-  code_again (binding_array None t) (suc d) rest h = wrapper_read wrapper.BindingArray t d _ rest tt (code_again t d rest h)
+  code_again (binding_array None t) (suc d) rest h = around_read (arounds.BindingArray None) t d _ rest tt (code_again t d rest h)
   code_again (binding_array (Some n) t) (suc d) rest h = counted_read counted.BindingArray n t d _ rest (code_again t d rest h.1)
   code_again (ray_query f) (suc d) rest h = leaf_read (leaf.RayQuery f) d rest
   code_again (acceleration_structure f) (suc d) rest h = leaf_read (leaf.AccelerationStructure f) d rest

@@ -12,6 +12,7 @@ use Rattle.wgsl_rules.specs.types.Types.{Layer, WgslType, scalar, within, refere
 use Rattle.wgsl_rules.specs.types.ResultStructs.{result_struct}
 use Rattle.wgsl_syntax.specs.Address.{MayRead}
 use Rattle.wgsl_rules.specs.conversion.Conversion.{BaseStep, int_to_float, int_to_i32, int_to_u32, int_to_i64, int_to_u64, float_to_f32, float_to_f16, result_to_f32, result_to_f16, Step, base, inside, Load, load, load_inside, Converts}
+use Rattle.wgsl_rules.specs.internal.Nodes.{scalar_depth}
 use Rattle.wgsl_rules.proofs.conversion.Steps.{depth, depth-result_struct, parent, scalar_at, step_parent}
 use Rattle.wgsl_rules.proofs.conversion.Order.{Above, here, further, above_inside, above_from_within, above_along, along_above, value_converts, above_target, converts_once, dec_converts}
 
@@ -142,14 +143,9 @@ converts_alone t u w r = (to, λ h. subst (λ w. Converts t u w) (sym h.0) (subs
 
 -- the ranks of scalars as a table
 abbrev pub scalar_rank : Scalar → Scalar → Option ℕ
-scalar_rank AbstractInt AbstractInt = Some 0
-scalar_rank AbstractInt I32 = Some 3
-scalar_rank AbstractInt U32 = Some 4
-scalar_rank AbstractInt AbstractFloat = Some 5
-scalar_rank AbstractInt F32 = Some 6
-scalar_rank AbstractInt F16 = Some 7
-scalar_rank AbstractInt I64 = Some 8
-scalar_rank AbstractInt U64 = Some 9
+scalar_rank AbstractInt Bool = None
+scalar_rank AbstractInt F64 = None
+scalar_rank AbstractInt s = Some (scalar_depth s)
 scalar_rank AbstractFloat AbstractFloat = Some 0
 scalar_rank AbstractFloat F32 = Some 1
 scalar_rank AbstractFloat F16 = Some 2
@@ -191,19 +187,19 @@ pub above_plain : {t u : WgslType} → Above t u → IsPlainScalar t → IsPlain
 above_plain here h = h
 above_plain (further a s) h = step_plain s (above_plain a h)
 
-int_float : Step (scalar AbstractInt) (scalar AbstractFloat) 5
+int_float : Step (scalar AbstractInt) (scalar AbstractFloat) (scalar_depth AbstractFloat)
 int_float = base int_to_float
 
 -- each rank in the table is right
 table_above : (a b : Scalar) (w : ℕ) → scalar_rank a b ≡ Some w → Above (scalar a) (scalar b) × (depth (scalar b) ≡ depth (scalar a) + w)
 table_above AbstractInt AbstractInt w e = let p : 0 ≡ w = cc e in (here, omega arith)
-table_above AbstractInt I32 w e = let p : 3 ≡ w = cc e in (further here (base int_to_i32), omega arith)
-table_above AbstractInt U32 w e = let p : 4 ≡ w = cc e in (further here (base int_to_u32), omega arith)
-table_above AbstractInt AbstractFloat w e = let p : 5 ≡ w = cc e in (further here int_float, omega arith)
-table_above AbstractInt F32 w e = let p : 6 ≡ w = cc e in (further (further here int_float) (base float_to_f32), omega arith)
-table_above AbstractInt F16 w e = let p : 7 ≡ w = cc e in (further (further here int_float) (base float_to_f16), omega arith)
-table_above AbstractInt I64 w e = let p : 8 ≡ w = cc e in (further here (base int_to_i64), omega arith)
-table_above AbstractInt U64 w e = let p : 9 ≡ w = cc e in (further here (base int_to_u64), omega arith)
+table_above AbstractInt I32 w e = let p : scalar_depth I32 ≡ w = cc e in (further here (base int_to_i32), omega arith)
+table_above AbstractInt U32 w e = let p : scalar_depth U32 ≡ w = cc e in (further here (base int_to_u32), omega arith)
+table_above AbstractInt AbstractFloat w e = let p : scalar_depth AbstractFloat ≡ w = cc e in (further here int_float, omega arith)
+table_above AbstractInt F32 w e = let p : scalar_depth F32 ≡ w = cc e in (further (further here int_float) (base float_to_f32), omega arith)
+table_above AbstractInt F16 w e = let p : scalar_depth F16 ≡ w = cc e in (further (further here int_float) (base float_to_f16), omega arith)
+table_above AbstractInt I64 w e = let p : scalar_depth I64 ≡ w = cc e in (further here (base int_to_i64), omega arith)
+table_above AbstractInt U64 w e = let p : scalar_depth U64 ≡ w = cc e in (further here (base int_to_u64), omega arith)
 table_above AbstractFloat AbstractFloat w e = let p : 0 ≡ w = cc e in (here, omega arith)
 table_above AbstractFloat F32 w e = let p : 1 ≡ w = cc e in (further here (base float_to_f32), omega arith)
 table_above AbstractFloat F16 w e = let p : 2 ≡ w = cc e in (further here (base float_to_f16), omega arith)
@@ -248,13 +244,13 @@ from_float a b v w x p e f g h = elim (above_or h) [
 above_table : (a b : Scalar) → Above (scalar a) (scalar b) → (v : ℕ) × (scalar_rank a b ≡ Some v)
 above_table a Bool h = known a Bool Bool 0 (alone a Bool (λ q. cc q) h) refl
 above_table a AbstractInt h = known a AbstractInt AbstractInt 0 (alone a AbstractInt (λ q. cc q) h) refl
-above_table a AbstractFloat h = from_int a AbstractFloat 0 5 refl refl refl h
-above_table a I32 h = from_int a I32 0 3 refl refl refl h
-above_table a U32 h = from_int a U32 0 4 refl refl refl h
-above_table a F32 h = from_float a F32 0 1 6 refl refl refl refl h
-above_table a F16 h = from_float a F16 0 2 7 refl refl refl refl h
-above_table a I64 h = from_int a I64 0 8 refl refl refl h
-above_table a U64 h = from_int a U64 0 9 refl refl refl h
+above_table a AbstractFloat h = from_int a AbstractFloat 0 (scalar_depth AbstractFloat) refl refl refl h
+above_table a I32 h = from_int a I32 0 (scalar_depth I32) refl refl refl h
+above_table a U32 h = from_int a U32 0 (scalar_depth U32) refl refl refl h
+above_table a F32 h = from_float a F32 0 1 (scalar_depth F32) refl refl refl refl h
+above_table a F16 h = from_float a F16 0 2 (scalar_depth F16) refl refl refl refl h
+above_table a I64 h = from_int a I64 0 (scalar_depth I64) refl refl refl h
+above_table a U64 h = from_int a U64 0 (scalar_depth U64) refl refl refl h
 above_table a F64 h = known a F64 F64 0 (alone a F64 (λ q. cc q) h) refl
 
 pub converts_scalar : (a b : Scalar) (w : ℕ) → Converts (scalar a) (scalar b) w ↔ scalar_rank a b ≡ Some w

@@ -1,7 +1,7 @@
 -- Each type has at most one parent, from which a step leads to it. A step raises the rank from the root by its weight.
 use Rattle.std.proofs.Common.{◌≡◌, ◌≢◌, ℕ, ◌+◌, ◌<◌, ◌≤◌, List, ◌++◌, ap₂, cond, eqb, get_or, refl, sym, ◌∙◌, ap, subst, arith}
 use Rattle.wgsl_syntax.specs.declared.scalar.Scalar.{Scalar}
-use Rattle.wgsl_syntax.specs.declared.scalar.Scalar.TheVariants.{Bool, AbstractInt, AbstractFloat, I32, U32, F32, F16, I64, U64, F64}
+use Rattle.wgsl_syntax.specs.declared.scalar.Scalar.TheVariants.{Bool, AbstractInt, AbstractFloat, I32, U32, F32, F16, I64, U64}
 use Rattle.wgsl_syntax.specs.declared.result_struct.ResultFunction.{ResultFunction}
 use Rattle.wgsl_syntax.specs.declared.result_struct.ResultFunction.TheVariants.{Frexp, Modf}
 use Rattle.wgsl_syntax.specs.declared.result_struct.ResultShape.{ResultShape}
@@ -12,19 +12,10 @@ use Rattle.wgsl_rules.specs.types.Types.{Layer, vec_of, WgslType, scalar, within
 use Rattle.wgsl_rules.specs.types.ResultStructs.{float_of, shaped, result_members, result_struct}
 use Rattle.wgsl_syntax.specs.ResultStruct.{function_text, shape_text, precision_text}
 use Rattle.wgsl_rules.specs.conversion.Conversion.{BaseStep, int_to_float, int_to_i32, int_to_u32, int_to_i64, int_to_u64, float_to_f32, float_to_f16, result_to_f32, result_to_f16, Step, base, inside, IsValueType}
+use Rattle.wgsl_rules.specs.internal.Nodes.{precision_depth, scalar_depth}
 use Rattle.wgsl_rules.proofs.types.Equality.{same_type}
 
 -- Ranks from the root
-
-abbrev pub scalar_depth : Scalar → ℕ
-scalar_depth I32 = 3
-scalar_depth U32 = 4
-scalar_depth AbstractFloat = 5
-scalar_depth F32 = 6
-scalar_depth F16 = 7
-scalar_depth I64 = 8
-scalar_depth U64 = 9
-scalar_depth s = 0
 
 -- the innermost scalar
 abbrev pub core : WgslType → Scalar
@@ -33,8 +24,8 @@ core (within l t) = core t
 core t = Bool
 
 abbrev pub float_depth : Scalar → ℕ
-float_depth F32 = 1
-float_depth F16 = 2
+float_depth F32 = precision_depth precision.F32
+float_depth F16 = precision_depth precision.F16
 float_depth s = 0
 
 -- the type of the first member
@@ -97,16 +88,8 @@ step_positive (base b) = base_positive b
 step_positive (inside l s) = step_positive s
 
 scalar_depth_small : (s : Scalar) → scalar_depth s ≤ 9
-scalar_depth_small Bool = omega arith
-scalar_depth_small AbstractInt = omega arith
-scalar_depth_small AbstractFloat = omega arith
 scalar_depth_small I32 = omega arith
-scalar_depth_small U32 = omega arith
-scalar_depth_small F32 = omega arith
-scalar_depth_small F16 = omega arith
-scalar_depth_small I64 = omega arith
-scalar_depth_small U64 = omega arith
-scalar_depth_small F64 = omega arith
+scalar_depth_small s = omega arith
 
 float_depth_small : (s : Scalar) → float_depth s ≤ 9
 float_depth_small F32 = omega arith
@@ -256,10 +239,12 @@ step_parent (inside l s) = ap (λ t. within l t) (step_parent s)
 -- The target of a conversion, by the target's rank from the root
 
 abbrev pub scalar_at : ℕ → Scalar
-scalar_at d = cond (eqb d 3) I32 (cond (eqb d 4) U32 (cond (eqb d 5) AbstractFloat (cond (eqb d 6) F32 (cond (eqb d 8) I64 (cond (eqb d 9) U64 F16)))))
+scalar_at d =
+    cond (eqb d (scalar_depth I32)) I32 (cond (eqb d (scalar_depth U32)) U32 (cond (eqb d (scalar_depth AbstractFloat)) AbstractFloat
+    (cond (eqb d (scalar_depth F32)) F32 (cond (eqb d (scalar_depth I64)) I64 (cond (eqb d (scalar_depth U64)) U64 F16)))))
 
 abbrev pub precision_at : ℕ → ResultPrecision
-precision_at d = cond (eqb d 1) precision.F32 precision.F16
+precision_at d = cond (eqb d (precision_depth precision.F32)) precision.F32 precision.F16
 
 abbrev pub target : WgslType → ℕ → WgslType
 target (scalar s) d = scalar (scalar_at d)

@@ -84,17 +84,20 @@ base_between float_to_f16 = record { from = at_scalar AbstractFloat; to = at_sca
 base_between (result_to_f32 f s) = record { from = at_result f s precision.Abstract; to = at_result f s precision.F32; begins = refl; ends = refl; parent = refl; weighs = refl }
 base_between (result_to_f16 f s) = record { from = at_result f s precision.Abstract; to = at_result f s precision.F16; begins = refl; ends = refl; parent = refl; weighs = refl }
 
+below : (p above q : Node) → above ≡ q → rank_from_root above < rank_from_root p → rank_from_root q < rank_from_root p
+below p above q e lower = subst (λ q. rank_from_root q < rank_from_root p) e lower
+
 pub parent_below : (p q : Node) → parent_of p ≡ Some q → rank_from_root q < rank_from_root p
-parent_below (at_scalar I32) q e = let k : at_scalar AbstractInt ≡ q = cc e in subst (λ q. rank_from_root q < 3) k (omega arith)
-parent_below (at_scalar U32) q e = let k : at_scalar AbstractInt ≡ q = cc e in subst (λ q. rank_from_root q < 4) k (omega arith)
-parent_below (at_scalar I64) q e = let k : at_scalar AbstractInt ≡ q = cc e in subst (λ q. rank_from_root q < 8) k (omega arith)
-parent_below (at_scalar U64) q e = let k : at_scalar AbstractInt ≡ q = cc e in subst (λ q. rank_from_root q < 9) k (omega arith)
-parent_below (at_scalar AbstractFloat) q e = let k : at_scalar AbstractInt ≡ q = cc e in subst (λ q. rank_from_root q < 5) k (omega arith)
-parent_below (at_scalar F32) q e = let k : at_scalar AbstractFloat ≡ q = cc e in subst (λ q. rank_from_root q < 6) k (omega arith)
-parent_below (at_scalar F16) q e = let k : at_scalar AbstractFloat ≡ q = cc e in subst (λ q. rank_from_root q < 7) k (omega arith)
+parent_below (at_scalar I32) q e = below (at_scalar I32) (at_scalar AbstractInt) q (cc e) (omega arith)
+parent_below (at_scalar U32) q e = below (at_scalar U32) (at_scalar AbstractInt) q (cc e) (omega arith)
+parent_below (at_scalar I64) q e = below (at_scalar I64) (at_scalar AbstractInt) q (cc e) (omega arith)
+parent_below (at_scalar U64) q e = below (at_scalar U64) (at_scalar AbstractInt) q (cc e) (omega arith)
+parent_below (at_scalar AbstractFloat) q e = below (at_scalar AbstractFloat) (at_scalar AbstractInt) q (cc e) (omega arith)
+parent_below (at_scalar F32) q e = below (at_scalar F32) (at_scalar AbstractFloat) q (cc e) (omega arith)
+parent_below (at_scalar F16) q e = below (at_scalar F16) (at_scalar AbstractFloat) q (cc e) (omega arith)
 parent_below (at_scalar s) q e = absurd (cc e)
-parent_below (at_result f s precision.F32) q e = let k : at_result f s precision.Abstract ≡ q = cc e in subst (λ q. rank_from_root q < 1) k (omega arith)
-parent_below (at_result f s precision.F16) q e = let k : at_result f s precision.Abstract ≡ q = cc e in subst (λ q. rank_from_root q < 2) k (omega arith)
+parent_below (at_result f s precision.F32) q e = below (at_result f s precision.F32) (at_result f s precision.Abstract) q (cc e) (omega arith)
+parent_below (at_result f s precision.F16) q e = below (at_result f s precision.F16) (at_result f s precision.Abstract) q (cc e) (omega arith)
 parent_below (at_result f s precision.Abstract) q e = absurd (cc e)
 
 abbrev ParentStep : Node → Node → Type 0

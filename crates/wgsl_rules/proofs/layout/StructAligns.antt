@@ -58,7 +58,7 @@ struct_align name ms r h n = (λ e. let f = (h n).0 e in (f.0, f.1, omega (arith
 
 -- Members with sizes and alignments have alignments
 
-alignments : (ms : Members) (ls : List MemberLayout) → HaveLayouts ms ls → HaveAlignments ms (map (λ l. l.align) ls)
+pub alignments : (ms : Members) (ls : List MemberLayout) → HaveLayouts ms ls → HaveAlignments ms (map (λ l. l.align) ls)
 alignments no_members [] known = tt
 alignments no_members (l ∷ ls) known = absurd known
 alignments (member name t size align ms) [] known = absurd known

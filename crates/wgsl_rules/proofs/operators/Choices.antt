@@ -189,7 +189,7 @@ some_choice n ts us r va q h =
     let a = least_admitted m.form.kind k.0 m.at (k.1.least m.at h'.0 h'.1).0 m.admitted in
     (fill_all m.form.slots a.0, m.form.gives a.0, choice_of n ts m.form a.0 va e a.1.admitted (raised m.form.kind m.form.slots ts k.0 a.0 m.form.opens va k.1 a.1))
 
-contrary : (vs ws : List ℕ) → IsNowhereMore vs ws → IsSomewhereLess ws vs → ⊥
+pub contrary : (vs ws : List ℕ) → IsNowhereMore vs ws → IsSomewhereLess ws vs → ⊥
 contrary [] [] h k = k
 contrary [] (w ∷ ws) h k = h
 contrary (v ∷ vs) [] h k = h

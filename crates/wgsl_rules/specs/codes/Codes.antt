@@ -1,10 +1,11 @@
 -- The code of a type: a list of words of 32 bits, from which the type can be read back.
-use Rattle.std.specs.Prelude.{ℕ, suc, zero, ◌<◌, ◌^◌, List, [], ◌∷◌, ◌++◌, Some, None, IfSome, IsUtf8, length, slice_index}
+use Rattle.std.specs.Prelude.{ℕ, suc, zero, ◌<◌, ◌^◌, List, [], ◌∷◌, ◌++◌, Option, Some, None, IfSome, IsUtf8, length, slice_index}
 use Rattle.wgsl_syntax.specs.declared.code.LeafType.TheVariants as leaf
-use Rattle.wgsl_syntax.specs.declared.code.Wrapper.TheVariants as wrapper
-use Rattle.wgsl_syntax.specs.declared.code.Counted.TheVariants as counted
-use Rattle.wgsl_syntax.specs.declared.code.Head.TheVariants.{Leaf, Wrapper, Counted, Struct}
-use Rattle.wgsl_rules.specs.types.Types.{WgslType, scalar, struct, atomic, pointer, reference, texture, sampler, binding_array, ray_query, acceleration_structure, array, vec, mat, Members, no_members, member}
+use Rattle.wgsl_syntax.specs.declared.around.Around.{Around as AroundForm}
+use Rattle.wgsl_syntax.specs.declared.around.Around.TheVariants.{Layer, BindingArray, Atomic, Ptr, Ref}
+use Rattle.wgsl_syntax.specs.declared.code.Head.TheVariants.{Leaf, Around, Struct}
+use Rattle.wgsl_syntax.specs.Around.{count_of}
+use Rattle.wgsl_rules.specs.types.Types.{WgslType, scalar, within, struct, atomic, pointer, reference, texture, sampler, binding_array, ray_query, acceleration_structure, array, vec, mat, Members, no_members, member}
 use Rattle.wgsl_rules.specs.codes.Words.{number, attribute, name_code}
 use Rattle.wgsl_rules.specs.codes.Heads.{head_word}
 
@@ -13,23 +14,28 @@ abbrev pub member_count : Members → ℕ
 member_count no_members = 0
 member_count (member name t size align ms) = suc (member_count ms)
 
+-- the number of elements, if there is one
+abbrev pub count_code : Option ℕ → List ℕ
+count_code None = []
+count_code (Some n) = number n
+
+-- what stands around another type: its first word, and its number of elements
+abbrev pub around_code : AroundForm → List ℕ
+around_code x = head_word (Around x) ∷ count_code (count_of x)
+
 unfoldable mutual
   -- the first word of the form, and then its parts in order
   pub code : WgslType → List ℕ
   code (scalar s) = head_word (Leaf (leaf.Scalar s)) ∷ []
-  code (array None t) = head_word (Wrapper wrapper.Array) ∷ code t
-  code (array (Some n) t) = head_word (Counted counted.Array) ∷ number n ++ code t
-  code (vec n t) = head_word (Wrapper (wrapper.Vec n)) ∷ code t
-  code (mat c r t) = head_word (Wrapper (wrapper.Mat c r)) ∷ code t
+  code (within layer t) = around_code (Layer layer) ++ code t
   code (struct name ms) =
       head_word Struct ∷ name_code name ++ number (member_count ms) ++ member_codes ms
-  code (atomic t) = head_word (Wrapper wrapper.Atomic) ∷ code t
-  code (pointer s t m) = head_word (Wrapper (wrapper.Ptr s m)) ∷ code t
-  code (reference s t m) = head_word (Wrapper (wrapper.Ref s m)) ∷ code t
+  code (atomic t) = around_code Atomic ++ code t
+  code (pointer s t m) = around_code (Ptr s m) ++ code t
+  code (reference s t m) = around_code (Ref s m) ++ code t
   code (texture t) = head_word (Leaf (leaf.Texture t)) ∷ []
   code (sampler s) = head_word (Leaf (leaf.Sampler s)) ∷ []
-  code (binding_array None t) = head_word (Wrapper wrapper.BindingArray) ∷ code t
-  code (binding_array (Some n) t) = head_word (Counted counted.BindingArray) ∷ number n ++ code t
+  code (binding_array n t) = around_code (BindingArray n) ++ code t
   code (ray_query f) = head_word (Leaf (leaf.RayQuery f)) ∷ []
   code (acceleration_structure f) = head_word (Leaf (leaf.AccelerationStructure f)) ∷ []
 

@@ -33,16 +33,24 @@ parent_of (at_result f s precision.F32) = Some (at_result f s precision.Abstract
 parent_of (at_result f s precision.F16) = Some (at_result f s precision.Abstract)
 parent_of (at_result f s precision.Abstract) = None
 
+-- the rank of the conversion from `AbstractInt` to a scalar, and 0 of a scalar without a parent
+abbrev pub scalar_depth : Scalar → ℕ
+scalar_depth I32 = 3
+scalar_depth U32 = 4
+scalar_depth AbstractFloat = 5
+scalar_depth F32 = 6
+scalar_depth F16 = 7
+scalar_depth I64 = 8
+scalar_depth U64 = 9
+scalar_depth s = 0
+
+-- the same from a result struct for an abstract float
+abbrev pub precision_depth : ResultPrecision → ℕ
+precision_depth precision.Abstract = 0
+precision_depth precision.F32 = 1
+precision_depth precision.F16 = 2
+
 -- the weight of the path from the root to the node
 abbrev pub rank_from_root : Node → ℕ
-rank_from_root (at_scalar I32) = 3
-rank_from_root (at_scalar U32) = 4
-rank_from_root (at_scalar AbstractFloat) = 5
-rank_from_root (at_scalar F32) = 6
-rank_from_root (at_scalar F16) = 7
-rank_from_root (at_scalar I64) = 8
-rank_from_root (at_scalar U64) = 9
-rank_from_root (at_scalar s) = 0
-rank_from_root (at_result f s precision.Abstract) = 0
-rank_from_root (at_result f s precision.F32) = 1
-rank_from_root (at_result f s precision.F16) = 2
+rank_from_root (at_scalar s) = scalar_depth s
+rank_from_root (at_result f s p) = precision_depth p

@@ -1,6 +1,7 @@
 -- The types that names with template parameters stand for (WGSL, "Template Lists" and "Types").
 use Rattle.std.specs.Prelude.{ℕ, zero, suc, ℤ, pos, negsuc, List, [], ◌∷◌, ◌≡◌, ◌⊎◌, Option, Some, None, Result, Ok, Err, codes, option_map, ok_or}
-use Rattle.wgsl_syntax.specs.Names.{named}
+use Rattle.wgsl_syntax.specs.Names.{named, table}
+use Rattle.wgsl_syntax.specs.TextureName.{parameter_kind, texture_name_text, texture_names, texture_with}
 use Rattle.wgsl_syntax.specs.declared.scalar.Scalar.TheVariants.{I32, U32, F32, I64, U64}
 use Rattle.wgsl_syntax.specs.declared.address.AddressSpace.{AddressSpace}
 use Rattle.wgsl_syntax.specs.declared.address.AddressSpace.TheVariants.{Function, Private, Workgroup, Uniform, Storage, Handle, PushConstant}
@@ -9,7 +10,11 @@ use Rattle.wgsl_syntax.specs.declared.address.AccessMode.TheVariants.{Read, Read
 use Rattle.wgsl_syntax.specs.declared.texel.TexelFormat.{TexelFormat}
 use Rattle.wgsl_syntax.specs.declared.texture.SampledType.{SampledType}
 use Rattle.wgsl_syntax.specs.declared.texture.TextureType.{TextureType}
-use Rattle.wgsl_syntax.specs.declared.texture.TextureType.TheVariants.{Sampled1D, Sampled2D, Sampled2DArray, Sampled3D, SampledCube, SampledCubeArray, Sampled1DArray, Multisampled2D, Multisampled2DArray, Storage1D, Storage1DArray, Storage2D, Storage2DArray, Storage3D}
+use Rattle.wgsl_syntax.specs.declared.texture_name.TextureName.{TextureName}
+use Rattle.wgsl_syntax.specs.declared.texture_name.TextureParameterKind.{TextureParameterKind}
+use Rattle.wgsl_syntax.specs.declared.texture_name.TextureParameterKind.TheVariants as kinds
+use Rattle.wgsl_syntax.specs.declared.texture_name.TextureParameters.{TextureParameters}
+use Rattle.wgsl_syntax.specs.declared.texture_name.TextureParameters.TheVariants as parameters
 use Rattle.wgsl_syntax.specs.declared.enumerant.Enumerant.TheVariants as enumerants
 use Rattle.wgsl_rules.specs.types.Types.{WgslType, scalar, array, binding_array, pointer}
 use Rattle.wgsl_rules.specs.types.Kinds.{IsScalar, IsFloatScalar, IsNumericOrVector}
@@ -153,34 +158,25 @@ abbrev pub storage_parameters : List Parameter → Result (TexelFormat × Access
 storage_parameters (p ∷ q ∷ []) = both (format_of p) (access_of q)
 storage_parameters ps = both None None
 
--- the name of a texture that takes a sampled type, or a texel format and an access mode
-pub data TextureName : Type 0 where
-  sampled : (SampledType → TextureType) → TextureName
-  stored : (TexelFormat → AccessMode → TextureType) → TextureName
+-- the name is that of no texture that has parameters
+abbrev pub not_templated : Refusal
+not_templated = builtin (codes "not a templated texture type")
 
-abbrev pub texture_names : List (TextureName × List ℕ)
-texture_names =
-    (sampled Sampled1D, codes "texture_1d")
-    ∷ (sampled Sampled1DArray, codes "texture_1d_array")
-    ∷ (sampled Sampled2D, codes "texture_2d")
-    ∷ (sampled Sampled2DArray, codes "texture_2d_array")
-    ∷ (sampled Sampled3D, codes "texture_3d")
-    ∷ (sampled SampledCube, codes "texture_cube")
-    ∷ (sampled SampledCubeArray, codes "texture_cube_array")
-    ∷ (sampled Multisampled2D, codes "texture_multisampled_2d")
-    ∷ (sampled Multisampled2DArray, codes "texture_multisampled_2d_array")
-    ∷ (stored Storage1D, codes "texture_storage_1d")
-    ∷ (stored Storage1DArray, codes "texture_storage_1d_array")
-    ∷ (stored Storage2D, codes "texture_storage_2d")
-    ∷ (stored Storage2DArray, codes "texture_storage_2d_array")
-    ∷ (stored Storage3D, codes "texture_storage_3d")
-    ∷ []
+-- the parameters of a texture of that name
+abbrev pub texture_parameters : TextureParameterKind → List Parameter → Result TextureParameters Refusal
+texture_parameters kinds.None ps = Err not_templated
+texture_parameters kinds.Sampled ps = made parameters.Sampled (sampled_parameter ps)
+texture_parameters kinds.Storage ps = made (λ p. parameters.Storage p.0 p.1) (storage_parameters ps)
+
+-- the texture of that name, if those are its parameters
+abbrev texture_made : TextureName → Result TextureParameters Refusal → Result TextureType Refusal
+texture_made name (Ok p) = ok_or (texture_with name p) not_templated
+texture_made name (Err e) = Err e
 
 abbrev pub texture_of : Option TextureName → List Parameter → Result TextureType Refusal
-texture_of (Some (sampled make)) ps = made make (sampled_parameter ps)
-texture_of (Some (stored make)) ps = made (λ p. make p.0 p.1) (storage_parameters ps)
-texture_of None ps = Err (builtin (codes "not a templated texture type"))
+texture_of (Some name) ps = texture_made name (texture_parameters (parameter_kind name) ps)
+texture_of None ps = Err not_templated
 
 -- the texture by its name and its parameters: `texture_2d<f32>`, `texture_storage_2d<rgba8unorm, write>`
 abbrev pub texture_template : List ℕ → List Parameter → Result TextureType Refusal
-texture_template name ps = texture_of (named texture_names name) ps
+texture_template name ps = texture_of (named (table texture_name_text texture_names) name) ps

@@ -24,7 +24,7 @@ read_level-returns-in-Some t c =
     let inside : view c.in_ok-of.of.value ≡ scalar c.in-Some.of = search rules in
     vector_of c.args.depth c.args.first c.args.words.now c.in-Some.components c.in-Some.of (view c.in_ok-of.of.value) (omega arith)
     c.in-Some.ensures.some c.in-Some.ensures.inside.0 c.in-Some.ensures.inside.1 inside
-    ∙ ap (λ ty. Some (ty, take (length c.args.words.now - 1) (drop 1 c.args.words.now))) (sym c.wrap.ensures)
+    ∙ ap (λ ty. Some (ty, take (length c.args.words.now - 1) (drop 1 c.args.words.now))) (sym c.around-vector.ensures)
 
 pub read_members-returns-in-Err : goal.read_members-returns-in-Err
 read_members-returns-in-Err t c =

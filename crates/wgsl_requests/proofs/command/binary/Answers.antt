@@ -1,5 +1,5 @@
 use Rattle.std.proofs.Common.{◌≡◌, length, rules}
-use Rattle.wgsl_requests.proofs.Exits.{fails, fails_by}
+use Rattle.wgsl_requests.proofs.Readers.{fails, fails_by}
 use Rattle.wgsl_requests.proofs.Requested.{no_binary_word, no_binary_operator, no_binary_operands}
 use Rattle.wgsl_requests.proofs.Replied.{binary_replied, two}
 use Rattle.wgsl_requests.proofs.command.binary.Goals as goal

@@ -3,7 +3,7 @@ use Rattle.wgsl_rules.specs.calls.Answers.{IsCallAnswer}
 use Rattle.wgsl_core.specs.Answer.{AnswersAs}
 use Rattle.wgsl_core.specs.View.{view}
 use Rattle.std.proofs.Common.{subst}
-use Rattle.wgsl_requests.proofs.Exits.{fails}
+use Rattle.wgsl_requests.proofs.Readers.{fails}
 use Rattle.wgsl_requests.proofs.Requested.{no_call}
 use Rattle.wgsl_requests.proofs.Replied.{call_replied, call_seen}
 use Rattle.wgsl_requests.proofs.command.call.Goals as goal

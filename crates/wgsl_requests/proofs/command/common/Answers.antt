@@ -2,7 +2,7 @@ use Rattle.std.proofs.Common.{map, string_bytes, subst}
 use Rattle.wgsl_core.specs.View.{view}
 use Rattle.wgsl_requests.specs.Answers.{IsCommonText}
 use Rattle.wgsl_requests.specs.internal.Written.{Adds}
-use Rattle.wgsl_requests.proofs.Exits.{fails}
+use Rattle.wgsl_requests.proofs.Readers.{fails}
 use Rattle.wgsl_requests.proofs.Requested.{no_common}
 use Rattle.wgsl_requests.proofs.Replied.{common_replied}
 use Rattle.wgsl_requests.proofs.command.common.Goals as goal

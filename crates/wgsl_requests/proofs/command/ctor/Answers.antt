@@ -1,7 +1,7 @@
 use Rattle.wgsl_rules.specs.constructors.Constructors.{IsConstructorAnswer}
 use Rattle.wgsl_core.specs.Answer.{AnswersBy}
 use Rattle.std.proofs.Common.{subst}
-use Rattle.wgsl_requests.proofs.Exits.{fails}
+use Rattle.wgsl_requests.proofs.Readers.{fails}
 use Rattle.wgsl_requests.proofs.Requested.{no_ctor}
 use Rattle.wgsl_requests.proofs.Replied.{ctor_replied, call_seen}
 use Rattle.wgsl_requests.proofs.command.ctor.Goals as goal

@@ -1,4 +1,4 @@
-use Rattle.wgsl_requests.proofs.Exits.{fails}
+use Rattle.wgsl_requests.proofs.Readers.{fails}
 use Rattle.wgsl_requests.proofs.Requested.{no_layout}
 use Rattle.wgsl_requests.proofs.Replied.{layout_replied}
 use Rattle.wgsl_requests.proofs.command.layout.Goals as goal

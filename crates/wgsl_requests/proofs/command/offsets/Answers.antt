@@ -1,4 +1,4 @@
-use Rattle.wgsl_requests.proofs.Exits.{fails}
+use Rattle.wgsl_requests.proofs.Readers.{fails}
 use Rattle.wgsl_requests.proofs.Requested.{no_offsets}
 use Rattle.wgsl_requests.proofs.Replied.{offsets_replied}
 use Rattle.wgsl_requests.proofs.command.offsets.Goals as goal

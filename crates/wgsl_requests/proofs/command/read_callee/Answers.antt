@@ -1,4 +1,4 @@
-use Rattle.wgsl_requests.proofs.Exits.{fails, fails_by}
+use Rattle.wgsl_requests.proofs.Readers.{fails, fails_by}
 use Rattle.wgsl_requests.proofs.Callees.{no_name, no_template, no_arguments, callee_read}
 use Rattle.wgsl_requests.proofs.command.read_callee.Goals as goal
 

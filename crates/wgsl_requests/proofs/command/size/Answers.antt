@@ -1,5 +1,5 @@
 use Rattle.std.proofs.Common.{◌++◌, string_bytes, ap, ◌∙◌, arith}
-use Rattle.wgsl_requests.proofs.Exits.{fails}
+use Rattle.wgsl_requests.proofs.Readers.{fails}
 use Rattle.wgsl_requests.proofs.Requested.{no_size}
 use Rattle.wgsl_requests.proofs.Replied.{size_replied}
 use Rattle.wgsl_requests.proofs.command.size.Goals as goal

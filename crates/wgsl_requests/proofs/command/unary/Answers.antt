@@ -1,4 +1,4 @@
-use Rattle.wgsl_requests.proofs.Exits.{fails, fails_by}
+use Rattle.wgsl_requests.proofs.Readers.{fails, fails_by}
 use Rattle.wgsl_requests.proofs.Requested.{no_unary_word, no_unary_operator, no_unary_operand}
 use Rattle.wgsl_requests.proofs.Replied.{unary_replied}
 use Rattle.wgsl_requests.proofs.command.unary.Goals as goal

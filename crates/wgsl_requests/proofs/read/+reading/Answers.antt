@@ -1,5 +1,6 @@
 use Rattle.std.proofs.Common.{◌≡◌, ◌+◌, ◌-◌, ◌<◌, [], ◌∷◌, ◌++◌, map, set, take, refl, sym, subst, ap, length-set, ◌∙◌, arith, rules}
 use Rattle.std.proofs.lemmas.List.{map-append}
+use Rattle.wgsl_rules.specs.types.Around.{around}
 use Rattle.wgsl_core.specs.View.{member_view, view}
 use Rattle.wgsl_core.specs.declared.ty.Type.{the_lemmas}
 use Rattle.wgsl_requests.specs.internal.Layers.{InsideAt}
@@ -27,10 +28,12 @@ pub read_other-returns-in-Some-clause-read : goal.read_other-returns-in-Some-cla
 read_other-returns-in-Some-clause-read t c =
     inside_read view c.args.word.now (left c.args.words.now) (left c.read_outer.new.words) _ c.in-Some.outer _ (layer_of c.args.word.now (left c.args.words.now) (left c.read_outer.new.words) c.in_ok-outer.field-0 c.in-Some.outer c.in-Some.is c.in_ok-outer.ensures.read) c.read_inside.ensures.read
 
-pub read_inside-returns-in_ok-around-in-Some-clause-read : goal.read_inside-returns-in_ok-around-in-Some-clause-read
-read_inside-returns-in_ok-around-in-Some-clause-read t c =
+pub read_inside-returns-in_ok-inner-in-Some-clause-read : goal.read_inside-returns-in_ok-inner-in-Some-clause-read
+read_inside-returns-in_ok-inner-in-Some-clause-read t c =
     let s = c.in-Some.ensures in
-    scalar_inside c.args.outer (left c.args.words.now) c.in_ok-word.word.now (left c.next.new.self) s.0 (view c.in-Some.ty) _ c.in_ok-word.ensures.word s.1 s.2 c.in_ok-around-in-Some.ensures
+    let inside : view c.in_ok-inner-in-Some.inner.value ≡ view c.in-Some.ty = search rules in
+    scalar_inside c.args.outer (left c.args.words.now) c.in_ok-word.word.now (left c.next.new.self) s.0 (view c.in-Some.ty) _ c.in_ok-word.ensures.word s.1 s.2
+    (c.around.ensures ∙ ap (around c.args.outer) inside)
 
 pub read_inside-returns-in-None-clause-read : goal.read_inside-returns-in-None-clause-read
 read_inside-returns-in-None-clause-read t c =

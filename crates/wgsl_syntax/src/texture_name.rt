@@ -1,0 +1,218 @@
+// The names of textures, and the parameters of their templates.
+ghost use Rattle.std.specs.Prelude.{◌≡◌, slice_get};
+ghost use Rattle.wgsl_syntax.specs.Names.{named, table, Reads};
+ghost use Rattle.wgsl_syntax.specs.TextureName.{parameter_kind, texture_name_text, texture_names, texture_with};
+
+use crate::address::AccessMode;
+use crate::index::by_index;
+use crate::texel::TexelFormat;
+use crate::texture::{SampledType, TextureType};
+use std::fmt;
+use std::fmt::Write;
+use std::str::FromStr;
+
+/// The name of a texture's type, without its parameters (WGSL, "Texture and Sampler Types").
+#[derive(Clone, Copy, PartialEq, Eq, Hash, Debug)]
+pub enum TextureName {
+    Sampled1D,
+    Sampled2D,
+    Sampled2DArray,
+    Sampled3D,
+    SampledCube,
+    SampledCubeArray,
+    Sampled1DArray,
+    Multisampled2D,
+    Multisampled2DArray,
+    DepthMultisampled2D,
+    Storage1D,
+    Storage1DArray,
+    Storage2D,
+    Storage2DArray,
+    Storage3D,
+    External,
+    Depth2D,
+    Depth2DArray,
+    DepthCube,
+    DepthCubeArray,
+}
+
+/// Which parameters the template of a texture has.
+#[derive(Clone, Copy, PartialEq, Eq, Hash, Debug)]
+pub enum TextureParameterKind {
+    /// There is no template.
+    None,
+    Sampled,
+    Storage,
+}
+
+/// The parameters in the template of a texture.
+#[derive(Clone, Copy, PartialEq, Eq, Hash, Debug)]
+pub enum TextureParameters {
+    /// There is no template.
+    None,
+    Sampled(SampledType),
+    Storage(TexelFormat, AccessMode),
+}
+
+impl TextureName {
+    /// All names, in the order of their indices.
+    pub const ALL: [TextureName; 20] = [
+        TextureName::Sampled1D,
+        TextureName::Sampled2D,
+        TextureName::Sampled2DArray,
+        TextureName::Sampled3D,
+        TextureName::SampledCube,
+        TextureName::SampledCubeArray,
+        TextureName::Sampled1DArray,
+        TextureName::Multisampled2D,
+        TextureName::Multisampled2DArray,
+        TextureName::DepthMultisampled2D,
+        TextureName::Storage1D,
+        TextureName::Storage1DArray,
+        TextureName::Storage2D,
+        TextureName::Storage2DArray,
+        TextureName::Storage3D,
+        TextureName::External,
+        TextureName::Depth2D,
+        TextureName::Depth2DArray,
+        TextureName::DepthCube,
+        TextureName::DepthCubeArray,
+    ];
+
+    /// The name with that index.
+    pub fn at(index: u8) -> Option<TextureName>
+        ensures { result ≡ slice_get texture_names index }
+    {
+        by_index(&TextureName::ALL, index)
+    }
+
+    /// Which parameters textures of this name have.
+    pub fn parameter_kind(self) -> TextureParameterKind
+        ensures { result ≡ parameter_kind self }
+    {
+        match self {
+            TextureName::Sampled1D
+            | TextureName::Sampled2D
+            | TextureName::Sampled2DArray
+            | TextureName::Sampled3D
+            | TextureName::SampledCube
+            | TextureName::SampledCubeArray
+            | TextureName::Sampled1DArray
+            | TextureName::Multisampled2D
+            | TextureName::Multisampled2DArray => TextureParameterKind::Sampled,
+            TextureName::Storage1D
+            | TextureName::Storage1DArray
+            | TextureName::Storage2D
+            | TextureName::Storage2DArray
+            | TextureName::Storage3D => TextureParameterKind::Storage,
+            _ => TextureParameterKind::None,
+        }
+    }
+
+    /// The texture with this name and these parameters; None if textures of this name have others.
+    pub fn with(self, parameters: TextureParameters) -> Option<TextureType>
+        ensures { result ≡ texture_with self parameters }
+    {
+        match parameters {
+            TextureParameters::None => match self {
+                TextureName::DepthMultisampled2D => Some(TextureType::DepthMultisampled2D),
+                TextureName::External => Some(TextureType::External),
+                TextureName::Depth2D => Some(TextureType::Depth2D),
+                TextureName::Depth2DArray => Some(TextureType::Depth2DArray),
+                TextureName::DepthCube => Some(TextureType::DepthCube),
+                TextureName::DepthCubeArray => Some(TextureType::DepthCubeArray),
+                _ => None,
+            },
+            TextureParameters::Sampled(sampled) => match self {
+                TextureName::Sampled1D => Some(TextureType::Sampled1D(sampled)),
+                TextureName::Sampled2D => Some(TextureType::Sampled2D(sampled)),
+                TextureName::Sampled2DArray => Some(TextureType::Sampled2DArray(sampled)),
+                TextureName::Sampled3D => Some(TextureType::Sampled3D(sampled)),
+                TextureName::SampledCube => Some(TextureType::SampledCube(sampled)),
+                TextureName::SampledCubeArray => Some(TextureType::SampledCubeArray(sampled)),
+                TextureName::Sampled1DArray => Some(TextureType::Sampled1DArray(sampled)),
+                TextureName::Multisampled2D => Some(TextureType::Multisampled2D(sampled)),
+                TextureName::Multisampled2DArray => Some(TextureType::Multisampled2DArray(sampled)),
+                _ => None,
+            },
+            TextureParameters::Storage(format, access) => match self {
+                TextureName::Storage1D => Some(TextureType::Storage1D(format, access)),
+                TextureName::Storage1DArray => Some(TextureType::Storage1DArray(format, access)),
+                TextureName::Storage2D => Some(TextureType::Storage2D(format, access)),
+                TextureName::Storage2DArray => Some(TextureType::Storage2DArray(format, access)),
+                TextureName::Storage3D => Some(TextureType::Storage3D(format, access)),
+                _ => None,
+            },
+        }
+    }
+}
+
+impl fmt::Display for TextureName {
+    ghost use Rattle.std.specs.Prelude.{Some};
+
+    ghost output = { λ x. Some (texture_name_text x) };
+
+    fn fmt<W: Write>(&self, f: &mut fmt::Formatter<W>) -> fmt::Result {
+        f.write_str(match self {
+            TextureName::Sampled1D => "texture_1d",
+            TextureName::Sampled2D => "texture_2d",
+            TextureName::Sampled2DArray => "texture_2d_array",
+            TextureName::Sampled3D => "texture_3d",
+            TextureName::SampledCube => "texture_cube",
+            TextureName::SampledCubeArray => "texture_cube_array",
+            TextureName::Sampled1DArray => "texture_1d_array",
+            TextureName::Multisampled2D => "texture_multisampled_2d",
+            TextureName::Multisampled2DArray => "texture_multisampled_2d_array",
+            TextureName::DepthMultisampled2D => "texture_depth_multisampled_2d",
+            TextureName::Storage1D => "texture_storage_1d",
+            TextureName::Storage1DArray => "texture_storage_1d_array",
+            TextureName::Storage2D => "texture_storage_2d",
+            TextureName::Storage2DArray => "texture_storage_2d_array",
+            TextureName::Storage3D => "texture_storage_3d",
+            TextureName::External => "texture_external",
+            TextureName::Depth2D => "texture_depth_2d",
+            TextureName::Depth2DArray => "texture_depth_2d_array",
+            TextureName::DepthCube => "texture_depth_cube",
+            TextureName::DepthCubeArray => "texture_depth_cube_array",
+        })
+    }
+}
+
+/// The name with that text.
+pub fn texture_named(s: &str) -> Option<TextureName>
+    ensures { result ≡ named (table texture_name_text texture_names) s.now }
+{
+    match s {
+        "texture_1d" => Some(TextureName::Sampled1D),
+        "texture_2d" => Some(TextureName::Sampled2D),
+        "texture_2d_array" => Some(TextureName::Sampled2DArray),
+        "texture_3d" => Some(TextureName::Sampled3D),
+        "texture_cube" => Some(TextureName::SampledCube),
+        "texture_cube_array" => Some(TextureName::SampledCubeArray),
+        "texture_1d_array" => Some(TextureName::Sampled1DArray),
+        "texture_multisampled_2d" => Some(TextureName::Multisampled2D),
+        "texture_multisampled_2d_array" => Some(TextureName::Multisampled2DArray),
+        "texture_depth_multisampled_2d" => Some(TextureName::DepthMultisampled2D),
+        "texture_storage_1d" => Some(TextureName::Storage1D),
+        "texture_storage_1d_array" => Some(TextureName::Storage1DArray),
+        "texture_storage_2d" => Some(TextureName::Storage2D),
+        "texture_storage_2d_array" => Some(TextureName::Storage2DArray),
+        "texture_storage_3d" => Some(TextureName::Storage3D),
+        "texture_external" => Some(TextureName::External),
+        "texture_depth_2d" => Some(TextureName::Depth2D),
+        "texture_depth_2d_array" => Some(TextureName::Depth2DArray),
+        "texture_depth_cube" => Some(TextureName::DepthCube),
+        "texture_depth_cube_array" => Some(TextureName::DepthCubeArray),
+        _ => None,
+    }
+}
+
+impl FromStr for TextureName {
+    type Err = ();
+
+    ghost from_str_gives = { Reads texture_name_text };
+
+    fn from_str(s: &str) -> Result<TextureName, ()> {
+        texture_named(s).ok_or(())
+    }
+}
