@@ -10,7 +10,7 @@ HERE = os.path.dirname(os.path.realpath(__file__))
 TOP = os.path.dirname(os.path.dirname(HERE))
 STAND_IN = os.path.join(HERE, "stand_in")
 # The crates that the program stands on, in the order of their proofs; and what the toolchain is asked if all are proved.
-BELOW = ["wgsl_syntax", "wgsl_rules", "wgsl_core", "wgsl_calls", "wgsl_standard", "wgsl_types", "wgsl_requests"]
+BELOW = ["wgsl_syntax", "wgsl_rules", "wgsl_core", "wgsl_calls", "wgsl_standard", "wgsl_types", "wgsl_asked", "wgsl_requests"]
 PROGRAM = [f"rt lib {crate}" for crate in BELOW] + ["rt run wgsl_check"]
 LIBRARY = [f"rt lib {crate}" for crate in BELOW + ["wgsl_coded", "wgsl_c"]]
 # What a use gives to standard input, and what the stand-in for the program answers.

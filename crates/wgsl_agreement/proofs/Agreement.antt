@@ -3,16 +3,14 @@ use Rattle.std.proofs.Common.{◌≡◌, ◌≢◌, ◌⊎◌, ◌∙◌, ℕ, L
 use Rattle.std.specs.Prelude.{IsSomeAnd}
 use Rattle.wgsl_rules.specs.types.Types.{WgslType, Members}
 use Rattle.wgsl_rules.specs.codes.Codes.{code}
-use Rattle.wgsl_rules.specs.conversion.Conversion.{Converts}
 use Rattle.wgsl_rules.specs.conversion.Common.{IsLeftCommon}
 use Rattle.wgsl_rules.specs.conversion.Lists.{IsCommonOfList}
 use Rattle.wgsl_rules.specs.operators.Answers.{BinaryCandidate, IsCandidateAnswer, IsUnaryAnswer}
 use Rattle.wgsl_rules.specs.constructors.Constructors.{IsConstructorAnswer}
 use Rattle.wgsl_rules.specs.calls.Answers.{IsCallAnswer}
-use Rattle.wgsl_rules.specs.layout.Layout.{IsExactly}
 use Rattle.wgsl_rules.specs.errors.Refusals.{Refusal}
 use Rattle.wgsl_rules.proofs.conversion.Commons.{left_common_once}
-use Rattle.wgsl_requests.specs.Answers.{IsAnswer, IsCommonText, IsReply, has_common, no_common, rank_is, common_is, unary_is, binary_is, size_is, offsets_are, layout_is, ctor_is, call_is}
+use Rattle.wgsl_requests.specs.Answers.{IsAnswer, IsCommonText, IsReply, has_common, no_common, answer_is, common_is, unary_is, binary_is, offsets_are, layout_is, ctor_is, call_is}
 use Rattle.wgsl_requests.specs.Layouts.{laid_out as text_laid_out, not_laid_out as text_not_laid_out, not_placed, placed}
 use Rattle.wgsl_requests.specs.Replies.{IsLineOfText, IsReplyTo, ReplyText, answer, unreadable, nothing, too_long, forbidden, no_text, no_request, no_words, answered as text_answered}
 use Rattle.wgsl_requests.specs.Requests.{Request, IsRequest, NoRequest, rank, common, unary, binary, size, offsets, layout, ctor, call}
@@ -23,9 +21,10 @@ use Rattle.wgsl_requests.proofs.OneRequest.{one_request}
 use Rattle.wgsl_requests.proofs.Requested.{request_form}
 use Rattle.wgsl_coded.specs.declared.fault.Fault.{Fault}
 use Rattle.wgsl_coded.specs.declared.fault.Fault.TheVariants.{Memory, NoType}
-use Rattle.wgsl_coded.specs.Replies.{ReplyWords, answered, refused, candidate_words, value_words, IsRank, IsSize, IsLayout, IsCommonType}
+use Rattle.wgsl_coded.specs.Replies.{ReplyWords, answered, refused, candidate_words, value_words, IsAnswered, answer_words, IsLayout, IsCommonType}
 use Rattle.wgsl_coded.specs.Replies.{IsAnswer as IsCodedAnswer}
-use Rattle.wgsl_coded.specs.Seen.{rank_words}
+use Rattle.wgsl_asked.specs.Answers.{Answers, WgslAnswer, rank_is, size_is}
+use Rattle.wgsl_requests.specs.Texts.{answer_text}
 use Rattle.wgsl_agreement.specs.Agreement.{IsTextReply, IsNumbersReply, IsOneAnswer, IsAgreement, SpellsCommon, laid_out, not_laid_out, candidate_result, result_words, type_or_none}
 
 -- when bytes have each reply in text
@@ -54,10 +53,9 @@ text_answer bytes request unreadable q (inr n) line = absurd (n request q)
 asked : {A : Type 0} (Is : A → ReplyWords → Type 0) (reply : ReplyWords) {read : Option A} {a : A} → (read ≡ Some a) × IsSomeAnd read (λ a. Is a reply) → Is a reply
 asked Is reply n = subst (λ x. IsSomeAnd x (λ a. Is a reply)) n.0 n.1
 
-rank_reply : (t u : WgslType) (w : Option ℕ) (reply : ReplyWords) → IsExactly w (Converts t u) → IsRank (t, u) reply → reply ≡ rank_words w
-rank_reply t u w (answered ws) is r = ap answered r.2 ∙ ap rank_words (sym ((is r.0).1 r.1))
-rank_reply t u None (refused ws) is r = ap refused r.1
-rank_reply t u (Some n) (refused ws) is r = absurd (r.0 (n, (is n).0 refl))
+answered_reply : (request : Request) (text : List ℕ) (reply : ReplyWords) → IsAnswer request text → IsAnswered request reply
+    → (a : WgslAnswer) × Answers request a × (text ≡ answer_text a) × (reply ≡ answer_words a)
+answered_reply request text reply d n = (n.0, n.1, text_once request text (answer_text n.0) d (answer_is n.0 n.1), n.2)
 
 -- The numbers' result is the one of the text, since the request has one answer in text.
 result_reply : {A : Type 0} (request : Request) (text : List ℕ) (spelled : Result A Refusal → List ℕ) (words : A → List ℕ) (Is : Result A Refusal → Type 0)
@@ -69,10 +67,6 @@ result_reply request text spelled words Is is d (refused ws) n = (Err n.0, n.1, 
 result_is : (o : _) (t u : WgslType) (r : Result BinaryCandidate Refusal) → IsCandidateAnswer o t u r → IsAnswer (binary o t u) (type_or_message (candidate_result r))
 result_is o t u (Ok c) d = binary_is (Ok c.result) (c.lhs, c.rhs, d)
 result_is o t u (Err e) d = binary_is (Err e) d
-
-size_reply : (t : WgslType) (text : List ℕ) (reply : ReplyWords) → IsAnswer (size t) text → IsSize t reply → IsOneAnswer (size t) text reply
-size_reply t text (answered ws) d n = (n.0, n.1, n.2, n.3, text_once (size t) text _ d (size_is n.0 n.1 n.2 n.3), ap answered n.4)
-size_reply t text (refused ws) d n = absurd n
 
 offsets_reply : (name : List ℕ) (ms : Members) (text : List ℕ) (reply : ReplyWords) → IsAnswer (offsets name ms) text → IsLayout ms reply → IsOneAnswer (offsets name ms) text reply
 offsets_reply name ms text (answered ws) d n = laid_out n.4 (text_once (offsets name ms) text _ d (offsets_are (placed n.4.placed))) (ap answered n.5)
@@ -102,14 +96,14 @@ common_reply ts text (answered ws) d n = (Some n.0, n.1, spells_common ts (Some 
 common_reply ts text (refused ws) d n = (None, n.0, spells_common ts None text n.0 d, ap refused n.1)
 
 both_reply : {request : Request} {text : List ℕ} (words : List ℕ) (reply : ReplyWords) → IsAnswer request text → IsNumbersReply request words (Ok reply) → IsOneAnswer request text reply
-both_reply words reply (rank_is {t} {u} w d) n = (w, d, refl, rank_reply t u w reply d (asked IsRank reply n))
+both_reply words reply (answer_is a (rank_is {t} {u} w d)) n = answered_reply (rank t u) _ reply (answer_is a (rank_is w d)) (asked (λ types. IsAnswered (rank types.0 types.1)) reply n)
 both_reply words reply (common_is {ts} {text} d) n = common_reply ts text reply d (asked IsCommonType reply n)
 both_reply words reply (unary_is {o} {t} r d) n =
     result_reply (unary o t) _ type_or_message code (IsUnaryAnswer o t) (λ r d. unary_is r d) (unary_is r d) reply (asked (λ e. IsCodedAnswer code (IsUnaryAnswer e.0 e.1)) reply n)
 both_reply words reply (binary_is {o} {t} {u} r d) n =
     result_reply (binary o t u) _ (λ r. type_or_message (candidate_result r)) candidate_words (IsCandidateAnswer o t u) (result_is o t u) (binary_is r d) reply
     (asked (λ e. IsCodedAnswer candidate_words (IsCandidateAnswer e.0 e.1 e.2)) reply n)
-both_reply words reply (size_is {t} s a d e) n = size_reply t _ reply (size_is s a d e) (asked IsSize reply n)
+both_reply words reply (answer_is b (size_is {t} s a d e)) n = answered_reply (size t) _ reply (answer_is b (size_is s a d e)) (asked (λ t. IsAnswered (size t)) reply n)
 both_reply words reply (offsets_are {name} {ms} {text} d) n = offsets_reply name ms text reply (offsets_are d) (asked IsLayout reply n)
 both_reply words reply (layout_is {name} {ms} {text} d) n = layout_reply name ms text reply (layout_is d) (asked IsLayout reply n)
 both_reply words reply (ctor_is {c} r d) n =

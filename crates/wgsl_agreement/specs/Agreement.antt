@@ -4,27 +4,28 @@ use Rattle.wgsl_rules.specs.types.Types.{WgslType, Members}
 use Rattle.wgsl_rules.specs.types.Spelling.{spelling}
 use Rattle.wgsl_rules.specs.Headline.{Receives}
 use Rattle.wgsl_rules.specs.codes.Codes.{code}
-use Rattle.wgsl_rules.specs.codes.Words.{attribute}
 use Rattle.wgsl_rules.specs.codes.Decoding.{decoded}
 use Rattle.wgsl_rules.specs.codes.Refusals.{refusal_code}
-use Rattle.wgsl_rules.specs.conversion.Conversion.{Converts, IsValueType}
+use Rattle.wgsl_rules.specs.conversion.Conversion.{IsValueType}
 use Rattle.wgsl_rules.specs.conversion.Lists.{IsCommonOfList}
 use Rattle.wgsl_rules.specs.operators.Answers.{BinaryCandidate, IsCandidateAnswer, IsUnaryAnswer}
 use Rattle.wgsl_rules.specs.constructors.Constructors.{IsConstructorAnswer}
 use Rattle.wgsl_rules.specs.calls.Answers.{IsCallAnswer}
 use Rattle.wgsl_rules.specs.layout.Placement.{MemberLayout}
-use Rattle.wgsl_rules.specs.layout.Layout.{HasSize, HasAlignment, HasNoSize, IsExactly, IsStructLayout}
+use Rattle.wgsl_rules.specs.layout.Layout.{HasNoSize, IsStructLayout}
 use Rattle.wgsl_rules.specs.errors.Refusals.{Refusal}
 use Rattle.wgsl_requests.specs.Requests.{Request, IsRequest, rank, common, unary, binary, size, offsets, layout, ctor, call}
 use Rattle.wgsl_requests.specs.Replies.{IsLineOfText, IsReplyTo, ReplyText, answer}
-use Rattle.wgsl_requests.specs.Texts.{number_or_none, type_or_message, value_or_message}
+use Rattle.wgsl_requests.specs.Texts.{type_or_message, value_or_message}
 use Rattle.wgsl_requests.specs.Layouts.{spaced, member_lines, struct_line}
 use Rattle.wgsl_requests.specs.Words.{words_of}
 use Rattle.wgsl_coded.specs.declared.fault.Fault.{Fault}
 use Rattle.wgsl_coded.specs.declared.fault.Fault.TheVariants.{Memory}
 use Rattle.wgsl_coded.specs.Replies.{ReplyWords, answered, refused, candidate_words, layout_words, value_words, IsRankReply, IsSizeReply, IsLayoutReply, IsCommonReply, IsUnaryReply, IsBinaryReply, IsConstructorReply, IsCallReply}
 use Rattle.wgsl_coded.specs.Requests.{two_types, struct_members, all_types, unary_expression, binary_expression, call_signature}
-use Rattle.wgsl_coded.specs.Seen.{rank_words}
+use Rattle.wgsl_asked.specs.Answers.{Answers, WgslAnswer}
+use Rattle.wgsl_coded.specs.Replies.{answer_words}
+use Rattle.wgsl_requests.specs.Texts.{answer_text}
 
 -- the bytes spell the request, and this is the reply to them
 abbrev pub IsTextReply : List ℕ → Request → ReplyText → Type 0
@@ -79,14 +80,13 @@ pub data IsOneLayout (ms : Members) (spelled : List MemberLayout → List ℕ �
 -- The text and the words spell one answer to the request. Of a binary operator the words are a candidate, and the text is
 -- its result.
 abbrev pub IsOneAnswer : Request → List ℕ → ReplyWords → Type 0
-IsOneAnswer (rank t u) text reply = (w : Option ℕ) × IsExactly w (Converts t u) × (text ≡ number_or_none w) × (reply ≡ rank_words w)
+IsOneAnswer (rank t u) text reply = (a : WgslAnswer) × Answers (rank t u) a × (text ≡ answer_text a) × (reply ≡ answer_words a)
 IsOneAnswer (common ts) text reply = (c : Option WgslType) × IsCommonOfList ts c × SpellsCommon ts c text × (reply ≡ common_words c)
 IsOneAnswer (unary o t) text reply = (r : Result WgslType Refusal) × IsUnaryAnswer o t r
     × (text ≡ type_or_message r) × (reply ≡ result_words code r)
 IsOneAnswer (binary o t u) text reply = (r : Result BinaryCandidate Refusal) × IsCandidateAnswer o t u r
     × (text ≡ type_or_message (candidate_result r)) × (reply ≡ result_words candidate_words r)
-IsOneAnswer (size t) text reply = (s : Option ℕ) × (a : Option ℕ) × IsExactly s (HasSize t) × IsExactly a (HasAlignment t)
-    × (text ≡ number_or_none s ++ codes " " ++ number_or_none a) × (reply ≡ answered (attribute s ++ attribute a))
+IsOneAnswer (size t) text reply = (a : WgslAnswer) × Answers (size t) a × (text ≡ answer_text a) × (reply ≡ answer_words a)
 IsOneAnswer (offsets name ms) text reply = IsOneLayout ms (λ layouts offsets size align. spaced offsets) text reply
 IsOneAnswer (layout name ms) text reply =
     IsOneLayout ms (λ layouts offsets size align. member_lines ms layouts offsets ++ struct_line name size align) text reply

@@ -1,39 +1,35 @@
 // How a reply in words is handed over to C.
 ghost use Rattle.std.specs.Prelude.{Err, List, ℕ};
-ghost use Rattle.wgsl_coded.specs.Seen.{rank_words, reply_words, seen, size_words};
+ghost use Rattle.wgsl_coded.specs.Seen.{reply_words, seen};
+ghost use Rattle.wgsl_coded.specs.Replies.{answer_words};
+ghost use Rattle.wgsl_asked.specs.Answers.{size_and_align};
+ghost use Rattle.wgsl_asked.specs.Views.{answer_view};
 ghost use Rattle.wgsl_c.specs.Words.{IsHandedReply, IsRoomKept};
 
 use crate::hand_over::{ANSWERED, OUT_OF_MEMORY, RULED_OUT, UNREADABLE, hand_over_items};
-use wgsl_coded::{Fault, Reply, SizeAndAlign};
+use wgsl_asked::answers::Answer;
+use wgsl_coded::{Fault, Reply};
 
-/// Hands over a rank, or that there is none.
-pub fn hand_over_rank(reply: Result<Option<u32>, Fault>, room: &mut [u32], len: &mut usize) -> u8
-    ensures reply { IsHandedReply (seen rank_words reply) room.old room.new len.new result }
+/// Hands over an answer.
+pub fn hand_over_answer(reply: Result<Answer, Fault>, room: &mut [u32], len: &mut usize) -> u8
+    ensures reply { IsHandedReply (seen (λ a. answer_words (answer_view a)) reply)
+        room.old room.new len.new result }
     ensures room { IsRoomKept room.old room.new len.new result }
 {
     match reply {
-        Ok(Some(rank)) => hand_over_items(ANSWERED, &[rank], room, len),
-        Ok(None) => hand_over_items(RULED_OUT, &[], room, len),
+        Ok(Answer::Number(Some(number))) => hand_over_items(ANSWERED, &[number], room, len),
+        Ok(Answer::Number(None)) => hand_over_items(RULED_OUT, &[], room, len),
+        Ok(Answer::Size(size, align)) => hand_over_size(size, align, room, len),
         Err(fault) => hand_over_fault(fault, len),
     }
 }
 
-/// Hands over a size and an alignment, each if there is one.
-pub fn hand_over_size(reply: Result<SizeAndAlign, Fault>, room: &mut [u32], len: &mut usize) -> u8
-    ensures reply { IsHandedReply (seen size_words reply) room.old room.new len.new result }
+fn hand_over_size(size: Option<u32>, align: Option<u32>, room: &mut [u32], len: &mut usize) -> u8
+    ensures reply { IsHandedReply (Ok (answer_words (size_and_align size align)))
+        room.old room.new len.new result }
     ensures room { IsRoomKept room.old room.new len.new result }
 {
-    match reply {
-        Ok(found) => write_size(found, room, len),
-        Err(fault) => hand_over_fault(fault, len),
-    }
-}
-
-fn write_size(found: SizeAndAlign, room: &mut [u32], len: &mut usize) -> u8
-    ensures reply { IsHandedReply (Ok (size_words found)) room.old room.new len.new result }
-    ensures room { IsRoomKept room.old room.new len.new result }
-{
-    match (found.size, found.align) {
+    match (size, align) {
         (Some(size), Some(align)) => hand_over_items(ANSWERED, &[1, size, 1, align], room, len),
         (Some(size), None) => hand_over_items(ANSWERED, &[1, size, 0], room, len),
         (None, Some(align)) => hand_over_items(ANSWERED, &[0, 1, align], room, len),

@@ -6,13 +6,14 @@ use Rattle.wgsl_rules.specs.codes.Codes.{code}
 use Rattle.wgsl_rules.specs.codes.Decoding.{decoded}
 use Rattle.wgsl_rules.specs.codes.Refusals.{refusal_code}
 use Rattle.wgsl_rules.specs.errors.Refusals.{Refusal}
-use Rattle.wgsl_rules.specs.conversion.Conversion.{Converts, ConvertsTo}
 use Rattle.wgsl_rules.specs.conversion.Lists.{IsCommonOfList}
 use Rattle.wgsl_rules.specs.operators.Answers.{BinaryCandidate, IsCandidateAnswer, IsUnaryAnswer}
 use Rattle.wgsl_rules.specs.constructors.Constructors.{IsConstructorAnswer}
 use Rattle.wgsl_rules.specs.calls.Answers.{IsCallAnswer}
 use Rattle.wgsl_rules.specs.layout.Placement.{MemberLayout}
-use Rattle.wgsl_rules.specs.layout.Layout.{HasSize, HasAlignment, HasNoSize, IsExactly, IsStructLayout}
+use Rattle.wgsl_rules.specs.layout.Layout.{HasNoSize, IsStructLayout}
+use Rattle.wgsl_asked.specs.Answers.{Answers, WgslAnswer, number as a_number, size_and_align}
+use Rattle.wgsl_asked.specs.Requests.{WgslRequest, rank as a_rank, size as a_size}
 use Rattle.wgsl_coded.specs.declared.fault.Fault.{Fault}
 use Rattle.wgsl_coded.specs.Reads.{Fails}
 use Rattle.wgsl_coded.specs.Requests.{two_types, struct_members, all_types, unary_expression, binary_expression, call_signature}
@@ -28,16 +29,15 @@ abbrev pub IsReplyTo : {A : Type 0} → Option A → (A → ReplyWords → Type 
 IsReplyTo asked Is (Ok reply) = IsSomeAnd asked (λ a. Is a reply)
 IsReplyTo asked Is (Err fault) = Fails fault asked
 
--- one word, the rank of the conversion from the first type to the second; no words if there is none
-abbrev pub IsRank : WgslType × WgslType → ReplyWords → Type 0
-IsRank types (answered ws) = (w : ℕ) × Converts types.0 types.1 w × (ws ≡ w ∷ [])
-IsRank types (refused ws) = ¬ ConvertsTo types.0 types.1 × (ws ≡ [])
+-- the number in one word, or no words; the size and the alignment, each as an attribute
+abbrev pub answer_words : WgslAnswer → ReplyWords
+answer_words (a_number (Some w)) = answered (w ∷ [])
+answer_words (a_number None) = refused []
+answer_words (size_and_align s a) = answered (attribute s ++ attribute a)
 
--- the size and the alignment, each as an attribute
-abbrev pub IsSize : WgslType → ReplyWords → Type 0
-IsSize t (answered ws) = (s : Option ℕ) × (a : Option ℕ) × IsExactly s (HasSize t)
-    × IsExactly a (HasAlignment t) × (ws ≡ attribute s ++ attribute a)
-IsSize t (refused ws) = ⊥
+-- the words of an answer to the request
+abbrev pub IsAnswered : WgslRequest → ReplyWords → Type 0
+IsAnswered request reply = (a : WgslAnswer) × Answers request a × (reply ≡ answer_words a)
 
 -- the offset, the size and the alignment of each member
 abbrev pub member_words : List MemberLayout → List ℕ → List ℕ
@@ -79,11 +79,11 @@ value_words (Some t) = code t
 
 -- The request is two types. The answer is the rank of their conversion.
 abbrev pub IsRankReply : List ℕ → Result ReplyWords Fault → Type 0
-IsRankReply ws = IsReplyTo (two_types ws) IsRank
+IsRankReply ws = IsReplyTo (two_types ws) (λ types. IsAnswered (a_rank types.0 types.1))
 
 -- The request is a type. The answer is its size and its alignment.
 abbrev pub IsSizeReply : List ℕ → Result ReplyWords Fault → Type 0
-IsSizeReply ws = IsReplyTo (decoded ws) IsSize
+IsSizeReply ws = IsReplyTo (decoded ws) (λ t. IsAnswered (a_size t))
 
 -- The request is a struct. The answer is its layout.
 abbrev pub IsLayoutReply : List ℕ → Result ReplyWords Fault → Type 0

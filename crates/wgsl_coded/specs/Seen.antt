@@ -1,13 +1,11 @@
 -- How the replies of the code are seen.
-use Rattle.std.specs.Prelude.{◌≡◌, ℕ, List, [], ◌∷◌, ◌++◌, Option, Some, None, Result, Ok, Err}
-use Rattle.wgsl_rules.specs.codes.Words.{attribute}
+use Rattle.std.specs.Prelude.{◌≡◌, ℕ, List, Result, Ok, Err}
 use Rattle.wgsl_rules.specs.codes.Refusals.{refusal_code}
 use Rattle.wgsl_core.specs.Answer.{refusal}
 use Rattle.wgsl_core.specs.declared.error.Fail.{Fail}
 use Rattle.wgsl_core.specs.declared.error.Fail.TheVariants.{Error}
 use Rattle.wgsl_coded.specs.declared.fault.Fault.{Fault}
 use Rattle.wgsl_coded.specs.declared.fault.Fault.TheVariants.{Memory}
-use Rattle.wgsl_coded.specs.declared.sizes.SizeAndAlign.{SizeAndAlign}
 use Rattle.wgsl_coded.specs.declared.reply.Reply.{Reply}
 use Rattle.wgsl_coded.specs.declared.reply.Reply.TheVariants.{Answer, Short, Refusal}
 use Rattle.wgsl_coded.specs.Replies.{ReplyWords, answered, refused}
@@ -17,15 +15,6 @@ use Rattle.wgsl_coded.specs.Short.{short_items}
 abbrev pub seen : {X : Type 0} → (X → ReplyWords) → Result X Fault → Result ReplyWords Fault
 seen words (Ok x) = Ok (words x)
 seen words (Err fault) = Err fault
-
--- the rank in one word, or no words
-abbrev pub rank_words : Option ℕ → ReplyWords
-rank_words (Some w) = answered (w ∷ [])
-rank_words None = refused []
-
--- both as attributes
-abbrev pub size_words : SizeAndAlign → ReplyWords
-size_words s = answered (attribute s.size ++ attribute s.align)
 
 -- the words of a reply
 abbrev pub reply_words : Reply → ReplyWords

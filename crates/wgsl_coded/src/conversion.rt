@@ -1,23 +1,27 @@
 // Conversion, over words.
-ghost use Rattle.std.specs.Prelude.{◌≡◌, ◌↔◌, ℕ, Some, map};
+ghost use Rattle.std.specs.Prelude.{Some, map};
 ghost use Rattle.wgsl_rules.specs.types.Types.{scalar};
-ghost use Rattle.wgsl_rules.specs.conversion.Conversion.{Converts};
 ghost use Rattle.wgsl_core.specs.View.{view};
-ghost use Rattle.wgsl_coded.specs.Replies.{IsCommonReply, IsCommonType, IsRankReply, IsReplyTo};
-ghost use Rattle.wgsl_coded.specs.Seen.{rank_words, reply_words, seen};
+ghost use Rattle.wgsl_coded.specs.Replies.{IsCommonReply, IsCommonType, IsRankReply, IsReplyTo, answer_words};
+ghost use Rattle.wgsl_asked.specs.Answers.{Answers};
+ghost use Rattle.wgsl_asked.specs.Requests.{rank};
+ghost use Rattle.wgsl_asked.specs.Views.{answer_view};
+ghost use Rattle.wgsl_coded.specs.Seen.{reply_words, seen};
 
 use crate::fault::Fault;
 use crate::reply::{Reply, reply_with_code};
 use crate::requests::{read_all_types, read_two, read_two_scalars};
 use std::alloc::Global;
-use wgsl_core::conversion::conversion_rank;
+use wgsl_asked::answers::Answer;
+use wgsl_asked::ask::answer;
+use wgsl_asked::requests::Request;
 use wgsl_core::conversion::lists::common_of;
 use wgsl_core::ty::Type;
 use wgsl_syntax::scalar::Scalar;
 
 /// The rank of the conversion from one type to another, or None if it doesn't convert. The request is the two types.
-pub fn rank(alloc: Global, request: &[u32]) -> Result<Option<u32>, Fault>
-    ensures { IsRankReply request.now (seen rank_words result) }
+pub fn rank(alloc: Global, request: &[u32]) -> Result<Answer, Fault>
+    ensures { IsRankReply request.now (seen (λ a. answer_words (answer_view a)) result) }
 {
     match read_two_scalars(request) {
         Some((source, target)) => Ok(rank_of_scalars(source, target)),
@@ -26,18 +30,18 @@ pub fn rank(alloc: Global, request: &[u32]) -> Result<Option<u32>, Fault>
 }
 
 #[inline(always)]
-fn rank_of_scalars(source: Scalar, target: Scalar) -> Option<u32>
-    ensures { (w : ℕ) → (result ≡ Some w) ↔ Converts (scalar source) (scalar target) w }
+fn rank_of_scalars(source: Scalar, target: Scalar) -> Answer
+    ensures { Answers (rank (scalar source) (scalar target)) (answer_view result) }
 {
-    conversion_rank(&Type::from(source), &Type::from(target))
+    answer(Request::Rank(&Type::from(source), &Type::from(target)))
 }
 
 #[inline(never)]
-fn rank_of_types(alloc: Global, request: &[u32]) -> Result<Option<u32>, Fault>
-    ensures { IsRankReply request.now (seen rank_words result) }
+fn rank_of_types(alloc: Global, request: &[u32]) -> Result<Answer, Fault>
+    ensures { IsRankReply request.now (seen (λ a. answer_words (answer_view a)) result) }
 {
     let (source, target) = read_two(alloc, request)?;
-    Ok(conversion_rank(&source, &target))
+    Ok(answer(Request::Rank(&source, &target)))
 }
 
 /// The code of the common type of a list of types, refused without words if there is none. The request is the list.

@@ -34,5 +34,5 @@ pub use refusals::write_error;
 pub use reply::Reply;
 pub use short::ShortWords;
 pub use signatures::write_signature;
-pub use sizes::{SizeAndAlign, layout, size};
+pub use sizes::{layout, size};
 pub use writing::write;

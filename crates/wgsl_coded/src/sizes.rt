@@ -2,9 +2,10 @@
 ghost use Rattle.std.specs.Prelude.{◌≡◌, ◌++◌, IfOk, OnOk, option_map};
 ghost use Rattle.wgsl_core.specs.View.{struct_view, view};
 ghost use Rattle.wgsl_core.specs.Layout.{layouts_of, offsets_of};
-ghost use Rattle.wgsl_coded.specs.Replies.{IsLayout, IsLayoutReply, IsReplyTo, IsSizeReply, layout_words, member_words};
+ghost use Rattle.wgsl_coded.specs.Replies.{IsLayout, IsLayoutReply, IsReplyTo, IsSizeReply, answer_words, layout_words, member_words};
 ghost use Rattle.wgsl_coded.specs.Requests.{members_in};
-ghost use Rattle.wgsl_coded.specs.Seen.{reply_words, seen, size_words};
+ghost use Rattle.wgsl_coded.specs.Seen.{reply_words, seen};
+ghost use Rattle.wgsl_asked.specs.Views.{answer_view};
 
 use crate::coded::read_whole;
 use crate::fault::Fault;
@@ -12,26 +13,19 @@ use crate::numbers::write_number;
 use crate::placing::layout_while_reading;
 use crate::reply::Reply;
 use std::alloc::{AllocError, Global};
+use wgsl_asked::answers::Answer;
+use wgsl_asked::ask::answer;
+use wgsl_asked::requests::Request;
 use wgsl_core::layout::{PlacedMember, StructLayout};
 use wgsl_core::ty::form::Form;
 use wgsl_core::ty::{StructType, Type};
 
-/// The size and the alignment of a type in bytes, each if the type has one.
-#[derive(Clone, Copy)]
-pub struct SizeAndAlign {
-    pub size: Option<u32>,
-    pub align: Option<u32>,
-}
-
 /// The size and the alignment of a type. The request is the type.
-pub fn size(alloc: Global, request: &[u32]) -> Result<SizeAndAlign, Fault>
-    ensures { IsSizeReply request.now (seen size_words result) }
+pub fn size(alloc: Global, request: &[u32]) -> Result<Answer, Fault>
+    ensures { IsSizeReply request.now (seen (λ a. answer_words (answer_view a)) result) }
 {
     let ty = read_whole(alloc, request)?;
-    Ok(SizeAndAlign {
-        size: ty.size_of(),
-        align: ty.align_of(),
-    })
+    Ok(answer(Request::Size(&ty)))
 }
 
 /// The layout of a struct, refused without words if it has none. The request is the struct.

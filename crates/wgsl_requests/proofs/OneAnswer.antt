@@ -1,5 +1,5 @@
 -- A request has at most one answer.
-use Rattle.std.proofs.Common.{◌≡◌, ◌++◌, ℕ, List, Option, Some, None, Result, codes, refl, sym, ap, ◌∙◌}
+use Rattle.std.proofs.Common.{◌≡◌, ◌++◌, ℕ, List, Option, Some, None, Result, refl, sym, ap, ◌∙◌}
 use Rattle.wgsl_rules.specs.types.Types.{WgslType, Members}
 use Rattle.wgsl_rules.specs.types.Spelling.{spelling}
 use Rattle.wgsl_rules.specs.conversion.Conversion.{Converts}
@@ -14,31 +14,31 @@ use Rattle.wgsl_rules.proofs.layout.StructSizes.{never_both}
 use Rattle.wgsl_rules.proofs.operators.OneAnswer.{operator_answer_once, unary_answer_once}
 use Rattle.wgsl_rules.proofs.constructors.OneAnswer.{constructor_answer_once}
 use Rattle.wgsl_rules.proofs.calls.OneAnswer.{call_answer_once}
-use Rattle.wgsl_requests.specs.Answers.{IsAnswer, IsCommonText, has_common, no_common, rank_is, common_is, unary_is, binary_is, size_is, offsets_are, layout_is, ctor_is, call_is}
+use Rattle.wgsl_asked.specs.Answers.{Answers, WgslAnswer, number, rank_is, size_and_align, size_is}
+use Rattle.wgsl_requests.specs.Answers.{IsAnswer, IsCommonText, has_common, no_common, answer_is, common_is, unary_is, binary_is, offsets_are, layout_is, ctor_is, call_is}
 use Rattle.wgsl_requests.specs.Layouts.{IsLayoutText, IsOffsetsText, laid_out, member_lines, not_laid_out, not_placed, placed, spaced, struct_line}
 use Rattle.wgsl_requests.specs.Laws.{OneAnswer}
 use Rattle.wgsl_requests.specs.Requests.{Request, rank, common, unary, binary, size, offsets, layout, ctor, call}
-use Rattle.wgsl_requests.specs.Texts.{number_or_none, type_or_message, value_or_message}
+use Rattle.wgsl_requests.specs.Texts.{answer_text, type_or_message, value_or_message}
 
 -- what answers each request
 abbrev AnswerForm : Request → List ℕ → Type 0
-AnswerForm (rank t u) text = (w : Option ℕ) × IsExactly w (Converts t u) × (text ≡ number_or_none w)
+AnswerForm (rank t u) text = (a : WgslAnswer) × Answers (rank t u) a × (text ≡ answer_text a)
 AnswerForm (common ts) text = IsCommonText ts text
 AnswerForm (unary o t) text = (r : Result WgslType Refusal) × IsUnaryAnswer o t r × (text ≡ type_or_message r)
 AnswerForm (binary o t u) text = (r : Result WgslType Refusal) × IsOperatorAnswer o t u r × (text ≡ type_or_message r)
-AnswerForm (size t) text =
-    (s : Option ℕ) × (a : Option ℕ) × IsExactly s (HasSize t) × IsExactly a (HasAlignment t) × (text ≡ number_or_none s ++ codes " " ++ number_or_none a)
+AnswerForm (size t) text = (a : WgslAnswer) × Answers (size t) a × (text ≡ answer_text a)
 AnswerForm (offsets name ms) text = IsOffsetsText ms text
 AnswerForm (layout name ms) text = IsLayoutText name ms text
 AnswerForm (ctor c) text = (r : Result WgslType Refusal) × IsConstructorAnswer c r × (text ≡ type_or_message r)
 AnswerForm (call c) text = (r : Result (Option WgslType) Refusal) × IsCallAnswer c r × (text ≡ value_or_message r)
 
 answer_form : {request : Request} {text : List ℕ} → IsAnswer request text → AnswerForm request text
-answer_form (rank_is w d) = (w, d, refl)
+answer_form (answer_is a (rank_is w d)) = (a, rank_is w d, refl)
+answer_form (answer_is b (size_is s a d e)) = (b, size_is s a d e, refl)
 answer_form (common_is d) = d
 answer_form (unary_is r d) = (r, d, refl)
 answer_form (binary_is r d) = (r, d, refl)
-answer_form (size_is s a d e) = (s, a, d, e, refl)
 answer_form (offsets_are d) = d
 answer_form (layout_is d) = d
 answer_form (ctor_is r d) = (r, d, refl)
@@ -49,6 +49,10 @@ one_number : (P : ℕ → Type 0) (v w : Option ℕ) → IsExactly v P → IsExa
 one_number P (Some n) w f g = sym ((g n).1 ((f n).0 refl))
 one_number P None None f g = refl
 one_number P None (Some n) f g = (f n).1 ((g n).0 refl)
+
+one_answer_value : {request : Request} {a b : WgslAnswer} → Answers request a → Answers request b → a ≡ b
+one_answer_value (rank_is {t} {u} v f) (rank_is w g) = ap number (one_number (Converts t u) v w f g)
+one_answer_value (size_is {t} s a f g) (size_is r b h k) = λ i. size_and_align (one_number (HasSize t) s r f h i) (one_number (HasAlignment t) a b g k i)
 
 one_common_text : {ts : List WgslType} {a b : List ℕ} → IsCommonText ts a → IsCommonText ts b → a ≡ b
 one_common_text {ts} (has_common {t} d e) (has_common {t = u} f g) = let same : Some t ≡ Some u = left_common_once ts (Some t) (Some u) d f in let types : t ≡ u = cc same in ap spelling types
@@ -73,14 +77,11 @@ one_layout_text {ms} (not_laid_out n) (laid_out {size = m} e) = absurd (never_bo
 one_layout_text (not_laid_out n) (not_laid_out m) = refl
 
 one_form : (request : Request) (a b : List ℕ) → AnswerForm request a → AnswerForm request b → a ≡ b
-one_form (rank t u) a b f g = f.2 ∙ (ap number_or_none (one_number (Converts t u) f.0 g.0 f.1 g.1) ∙ sym g.2)
+one_form (rank t u) a b f g = f.2 ∙ (ap answer_text (one_answer_value f.1 g.1) ∙ sym g.2)
 one_form (common ts) a b f g = one_common_text f g
 one_form (unary o t) a b f g = f.2 ∙ (ap type_or_message (unary_answer_once o t f.0 g.0 f.1 g.1) ∙ sym g.2)
 one_form (binary o t u) a b f g = f.2 ∙ (ap type_or_message (operator_answer_once o t u f.0 g.0 f.1 g.1) ∙ sym g.2)
-one_form (size t) a b f g =
-    let s : f.0 ≡ g.0 = one_number (HasSize t) f.0 g.0 f.2 g.2 in
-    let align : f.1 ≡ g.1 = one_number (HasAlignment t) f.1 g.1 f.3 g.3 in
-    f.4 ∙ (ap (λ x. number_or_none x ++ codes " " ++ number_or_none f.1) s ∙ (ap (λ x. number_or_none g.0 ++ codes " " ++ number_or_none x) align ∙ sym g.4))
+one_form (size t) a b f g = f.2 ∙ (ap answer_text (one_answer_value f.1 g.1) ∙ sym g.2)
 one_form (offsets name ms) a b f g = one_offsets_text f g
 one_form (layout name ms) a b f g = one_layout_text f g
 one_form (ctor c) a b f g = f.2 ∙ (ap type_or_message (constructor_answer_once c f.0 g.0 f.1 g.1) ∙ sym g.2)

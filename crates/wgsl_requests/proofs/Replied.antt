@@ -1,5 +1,5 @@
 -- The answers to requests.
-use Rattle.std.proofs.Common.{◌≡◌, ◌↔◌, ℕ, List, [], ◌∷◌, ◌++◌, Option, Some, None, codes, get_or, length, map, refl, sym, ap, subst, ◌∙◌, append_assoc, arith}
+use Rattle.std.proofs.Common.{◌≡◌, ◌↔◌, ℕ, List, [], ◌∷◌, ◌++◌, Option, Some, None, codes, get_or, length, map, refl, sym, ap, subst, ◌∙◌, arith}
 use Rattle.std.proofs.lemmas.List.Elements.{All-map, All-from_recursion, recursion_from_All}
 use Rattle.std.specs.List.{AllByRecursion}
 use Rattle.std.specs.Prelude.{All, Result, Ok, Err, option_map, vec_items}
@@ -11,9 +11,8 @@ use Rattle.wgsl_rules.specs.types.Types.{WgslType}
 use Rattle.wgsl_rules.specs.types.Signatures.{Signature}
 use Rattle.wgsl_rules.specs.types.Spelling.{spelling}
 use Rattle.wgsl_rules.specs.conversion.Common.{IsLeftCommon}
-use Rattle.wgsl_rules.specs.conversion.Conversion.{Converts, ConvertsTo}
+use Rattle.wgsl_rules.specs.conversion.Conversion.{ConvertsTo}
 use Rattle.wgsl_rules.specs.operators.Answers.{IsOperatorAnswer, IsUnaryAnswer}
-use Rattle.wgsl_rules.specs.layout.Layout.{HasSize, HasAlignment, IsExactly}
 use Rattle.wgsl_rules.specs.constructors.Constructors.{IsConstructorAnswer}
 use Rattle.wgsl_rules.specs.calls.Answers.{IsCallAnswer}
 use Rattle.wgsl_rules.specs.errors.Refusals.{Refusal}
@@ -25,10 +24,11 @@ use Rattle.wgsl_core.specs.declared.ty.Type.{«Type»}
 use Rattle.wgsl_core.specs.declared.error.Fail.{Fail}
 use Rattle.wgsl_core.specs.declared.error.Fail.TheVariants as fails
 use Rattle.wgsl_requests.specs.Grammar.{TypeAt, TypesAt}
-use Rattle.wgsl_requests.specs.Requests.{Request, unary, binary, ctor, call, IsRequest, rank_words, common_words, unary_words, binary_words, size_words, offsets_words, layout_words, ctor_words, call_words, IsCallee}
-use Rattle.wgsl_requests.specs.Answers.{IsAnswer, IsCommonText, has_common, no_common, rank_is, common_is, unary_is, binary_is, size_is, offsets_are, layout_is, ctor_is, call_is, IsReply}
+use Rattle.wgsl_asked.specs.Answers.{Answers, WgslAnswer}
+use Rattle.wgsl_requests.specs.Requests.{Request, rank, unary, binary, ctor, call, IsRequest, rank_words, common_words, unary_words, binary_words, offsets_words, layout_words, ctor_words, call_words, IsCallee}
+use Rattle.wgsl_requests.specs.Answers.{IsAnswer, IsCommonText, has_common, no_common, answer_is, common_is, unary_is, binary_is, offsets_are, layout_is, ctor_is, call_is, IsReply}
 use Rattle.wgsl_requests.specs.Layouts.{IsOffsetsText, IsLayoutText}
-use Rattle.wgsl_requests.specs.Texts.{number_or_none, type_or_message, value_or_message}
+use Rattle.wgsl_requests.specs.Texts.{answer_text, type_or_message, value_or_message}
 use Rattle.wgsl_requests.specs.declared.command.Callee.{Callee}
 use Rattle.wgsl_requests.specs.declared.words.Unread.{Unread}
 use Rattle.wgsl_requests.specs.declared.words.Unread.TheVariants.{Word, Memory}
@@ -47,10 +47,11 @@ two (a ∷ b ∷ c ∷ types) x y n = absurd (omega (arith, n))
 pub replied : {words : List (List ℕ)} {request : Request} → (old new : List ℕ) → IsRequest words request → Adds (IsAnswer request) old new → Adds (IsReply words) old new
 replied {words} {request} old new d a = (a.0, (request, d, a.1), a.2)
 
-pub rank_replied : (words : List (List ℕ)) (types : List WgslType) (t u : WgslType) (r : Option ℕ) (old new : List ℕ) → TypesAt words types → types ≡ t ∷ u ∷ []
-    → IsExactly r (Converts t u) → new ≡ old ++ number_or_none r → Adds (IsReply (codes "rank" ∷ words)) old new
-rank_replied words types t u r old new d pair is written =
-    replied old new (rank_words (subst (TypesAt words) pair d)) (number_or_none r, rank_is r is, written)
+pub asked_replied : {words : List (List ℕ)} {request : Request} (a : WgslAnswer) (old new : List ℕ) → IsRequest words request → Answers request a → new ≡ old ++ answer_text a → Adds (IsReply words) old new
+asked_replied a old new d is written = replied old new d (answer_text a, answer_is a is, written)
+
+pub rank_spelled : (words : List (List ℕ)) (types : List WgslType) (t u : WgslType) → TypesAt words types → types ≡ t ∷ u ∷ [] → IsRequest (codes "rank" ∷ words) (rank t u)
+rank_spelled words types t u d pair = rank_words (subst (TypesAt words) pair d)
 
 pub common_replied : (words : List (List ℕ)) (ts : List WgslType) (old new : List ℕ) → TypesAt words ts → Adds (IsCommonText ts) old new → Adds (IsReply (codes "common" ∷ words)) old new
 common_replied words ts old new d w = replied old new (common_words d) (w.0, common_is w.1, w.2)
@@ -73,11 +74,6 @@ pub binary_replied : (words after : List (List ℕ)) (word : List ℕ) (o : Bina
 binary_replied words after word o types t u r old new e f d pair is written =
     replied old new (subst (λ ws. IsRequest (codes "binary" ∷ ws) (binary o t u)) (sym (e ∙ ap (λ w. w ∷ after) f)) (binary_words o (subst (TypesAt after) pair d)))
     (answered view type_or_message (binary o t u) (IsOperatorAnswer o t u) r old new (λ x i. binary_is x i) is written)
-
-pub size_replied : (words : List (List ℕ)) (t : «Type») (s a : Option ℕ) (old first second new : List ℕ) → TypeAt words (view t) [] → IsExactly s (HasSize (view t)) → IsExactly a (HasAlignment (view t))
-    → first ≡ old ++ number_or_none s → second ≡ first ++ codes " " → new ≡ second ++ number_or_none a → Adds (IsReply (codes "size" ∷ words)) old new
-size_replied words t s a old first second new d is_size is_align e f g =
-    replied old new (size_words d) (number_or_none s ++ codes " " ++ number_or_none a, size_is s a is_size is_align, g ∙ ap (λ x. x ++ number_or_none a) (f ∙ ap (λ x. x ++ codes " ") e) ∙ simp append_assoc)
 
 -- what is written of a struct
 pub offsets_replied : (words : List (List ℕ)) (t : WgslType) (old new : List ℕ) (r : Result (Unit {0}) Unread) → TypeAt words t [] → WritesOfStruct (λ name ms. IsOffsetsText ms) t old new r → Replies (codes "offsets" ∷ words) old new r

@@ -1,5 +1,5 @@
 -- The text that answers a request.
-use Rattle.std.specs.Prelude.{◌++◌, ℕ, List, Option, Some, Result, codes}
+use Rattle.std.specs.Prelude.{ℕ, List, Option, Some, Result, codes}
 use Rattle.wgsl_syntax.specs.declared.operator.BinaryOperator.{BinaryOperator}
 use Rattle.wgsl_syntax.specs.declared.operator.UnaryOperator.{UnaryOperator}
 use Rattle.wgsl_rules.specs.types.Types.{WgslType, Members}
@@ -7,14 +7,13 @@ use Rattle.wgsl_rules.specs.types.Spelling.{spelling}
 use Rattle.wgsl_rules.specs.types.Signatures.{Signature}
 use Rattle.wgsl_rules.specs.Headline.{Receives}
 use Rattle.wgsl_rules.specs.conversion.Common.{IsLeftCommon}
-use Rattle.wgsl_rules.specs.conversion.Conversion.{Converts}
 use Rattle.wgsl_rules.specs.operators.Answers.{IsOperatorAnswer, IsUnaryAnswer}
-use Rattle.wgsl_rules.specs.layout.Layout.{HasSize, HasAlignment, IsExactly}
 use Rattle.wgsl_rules.specs.constructors.Constructors.{IsConstructorAnswer}
 use Rattle.wgsl_rules.specs.calls.Answers.{IsCallAnswer}
 use Rattle.wgsl_rules.specs.errors.Refusals.{Refusal}
-use Rattle.wgsl_requests.specs.Requests.{Request, IsRequest, rank, common, unary, binary, size, offsets, layout, ctor, call}
-use Rattle.wgsl_requests.specs.Texts.{number_or_none, type_or_message, value_or_message}
+use Rattle.wgsl_asked.specs.Answers.{Answers, WgslAnswer}
+use Rattle.wgsl_requests.specs.Requests.{Request, IsRequest, common, unary, binary, offsets, layout, ctor, call}
+use Rattle.wgsl_requests.specs.Texts.{answer_text, type_or_message, value_or_message}
 use Rattle.wgsl_requests.specs.Layouts.{IsOffsetsText, IsLayoutText}
 
 -- the common type of these types, from left to right, if each of them converts to it; else `none`
@@ -27,9 +26,9 @@ pub data IsCommonText (ts : List WgslType) : List ℕ → Type 0 where
 
 -- The text answers the request.
 pub data IsAnswer : Request → List ℕ → Type 0 where
-  -- `6`
-  rank_is : {t u : WgslType} (w : Option ℕ) → IsExactly w (Converts t u) →
-      IsAnswer (rank t u) (number_or_none w)
+  -- `6`, `12 16`, `none 4`
+  answer_is : {request : Request} (a : WgslAnswer) → Answers request a →
+      IsAnswer request (answer_text a)
   common_is : {ts : List WgslType} {text : List ℕ} → IsCommonText ts text →
       IsAnswer (common ts) text
   -- ``cannot use unary operator `-` on type `bool` ``
@@ -39,10 +38,6 @@ pub data IsAnswer : Request → List ℕ → Type 0 where
   -- `vec3<f32>`
   binary_is : {o : BinaryOperator} {t u : WgslType} (r : Result WgslType Refusal) →
       IsOperatorAnswer o t u r → IsAnswer (binary o t u) (type_or_message r)
-  -- `12 16`, `none 4`
-  size_is : {t : WgslType} (s a : Option ℕ) → IsExactly s (HasSize t) →
-      IsExactly a (HasAlignment t) →
-      IsAnswer (size t) (number_or_none s ++ codes " " ++ number_or_none a)
   offsets_are : {name : List ℕ} {ms : Members} {text : List ℕ} → IsOffsetsText ms text →
       IsAnswer (offsets name ms) text
   layout_is : {name : List ℕ} {ms : Members} {text : List ℕ} → IsLayoutText name ms text →

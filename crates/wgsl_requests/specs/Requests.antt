@@ -5,26 +5,9 @@ use Rattle.wgsl_syntax.specs.declared.operator.BinaryOperator.{BinaryOperator}
 use Rattle.wgsl_syntax.specs.declared.operator.UnaryOperator.{UnaryOperator}
 use Rattle.wgsl_rules.specs.types.Types.{WgslType, struct, Members}
 use Rattle.wgsl_rules.specs.types.Signatures.{Signature}
+pub use Rattle.wgsl_asked.specs.Requests.{WgslRequest as Request, rank, common, unary, binary, size, offsets, layout, ctor, call}
 use Rattle.wgsl_requests.specs.Grammar.{TypeAt, TypesAt}
 use Rattle.wgsl_requests.specs.Templates.{TemplateAt}
-
--- what is asked
-pub data Request : Type 0 where
-  -- the rank of a conversion
-  rank : WgslType → WgslType → Request
-  -- the common type of a list
-  common : List WgslType → Request
-  -- the type of an expression with a unary or a binary operator
-  unary : UnaryOperator → WgslType → Request
-  binary : BinaryOperator → WgslType → WgslType → Request
-  -- the size and the alignment of a type
-  size : WgslType → Request
-  -- the offsets of a struct's members, and the report of its layout
-  offsets : List ℕ → Members → Request
-  layout : List ℕ → Members → Request
-  -- the type that a constructor makes, and what a built-in function returns
-  ctor : Signature → Request
-  call : Signature → Request
 
 -- the words are a name, a template or `-`, and the types of the arguments
 abbrev pub IsCallee : List (List ℕ) → Signature → Type 0

@@ -5,11 +5,12 @@ ghost use Rattle.wgsl_rules.specs.types.Signatures.{Signature};
 ghost use Rattle.wgsl_rules.specs.types.Spelling.{spelling};
 ghost use Rattle.wgsl_rules.specs.errors.Refusals.{message};
 ghost use Rattle.wgsl_core.specs.View.{view};
+ghost use Rattle.wgsl_asked.specs.Views.{answer_view};
 ghost use Rattle.wgsl_requests.specs.Answers.{IsCommonText, IsReply};
 ghost use Rattle.wgsl_requests.specs.Layouts.{IsLayoutText, IsOffsetsText, spaced};
 ghost use Rattle.wgsl_requests.specs.Reading.{Answers, ReadsWord};
 ghost use Rattle.wgsl_requests.specs.Requests.{IsCallee, NoRequest};
-ghost use Rattle.wgsl_requests.specs.Texts.{number_or_none, type_or_message, value_or_message};
+ghost use Rattle.wgsl_requests.specs.Texts.{answer_text, number_or_none, type_or_message, value_or_message};
 ghost use Rattle.wgsl_requests.specs.internal.Replied.{Replies, WritesOfStruct, callee_view};
 ghost use Rattle.wgsl_requests.specs.internal.Taken.{left};
 ghost use Rattle.wgsl_requests.specs.internal.Written.{Adds, IsRefusal, Shows};
@@ -22,8 +23,10 @@ use crate::template::read_template;
 use crate::wanted::{Misfit, Misread, Wanted};
 use crate::words::{Unread, Words, parsed};
 use std::alloc::{AllocError, Global};
+use wgsl_asked::answers::Answer;
+use wgsl_asked::ask::answer;
+use wgsl_asked::requests::Request;
 use wgsl_types::builtin::{type_binary_op, type_builtin_fn, type_ctor, type_unary_op};
-use wgsl_types::conv::conversion_rank;
 use wgsl_types::error::Fail;
 use wgsl_types::syntax::{BinaryOperator, UnaryOperator};
 use wgsl_types::tplt::TpltParam;
@@ -79,9 +82,9 @@ fn rank(alloc: Global, words: &mut Words, text: &mut String) -> Result<(), Unrea
         (string_bytes text.old) (string_bytes text.new) result }
 {
     let types = read_pair(alloc, words)?;
-    let rank = conversion_rank(&types[0], &types[1]);
+    let answer = answer(Request::Rank(&types[0], &types[1]));
     drop(types);
-    Ok(write_number_or_none(text, rank)?)
+    Ok(write(answer, text)?)
 }
 
 /// `common T..`: the common type of all.
@@ -148,12 +151,25 @@ fn size(alloc: Global, words: &mut Words, text: &mut String) -> Result<(), Unrea
         (string_bytes text.old) (string_bytes text.new) result }
 {
     let ty = read_last_type(alloc, words)?;
-    let size = ty.size_of();
-    let align = ty.align_of();
+    let answer = answer(Request::Size(&ty));
     drop(ty);
-    write_number_or_none(text, size)?;
-    text.push(' ')?;
-    Ok(write_number_or_none(text, align)?)
+    Ok(write(answer, text)?)
+}
+
+/// Writes an answer.
+#[inline(always)]
+fn write(answer: Answer, text: &mut String) -> Result<(), AllocError>
+    ensures { OnOk result (string_bytes text.new
+        ≡ string_bytes text.old ++ answer_text (answer_view answer)) }
+{
+    match answer {
+        Answer::Number(number) => write_number_or_none(text, number),
+        Answer::Size(size, align) => {
+            write_number_or_none(text, size)?;
+            text.push(' ')?;
+            write_number_or_none(text, align)
+        }
+    }
 }
 
 /// `offsets T` for a struct T: the offset of each member.

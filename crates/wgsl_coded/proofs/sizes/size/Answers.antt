@@ -3,4 +3,4 @@ use Rattle.wgsl_coded.proofs.Replied.{asked_is}
 use Rattle.wgsl_coded.proofs.sizes.size.Goals as goal
 
 pub returns : goal.returns
-returns c = asked_is _ _ _ c.in_ok-ty.ensures (_, _, c.size_of.ensures.exact, c.align_of.ensures, refl)
+returns c = asked_is _ _ _ c.in_ok-ty.ensures (_, c.answer.ensures, refl)

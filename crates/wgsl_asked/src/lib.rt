@@ -1,0 +1,6 @@
+//! Requests and their answers as values: where the rules meet what is asked.
+#![tactic(auto)]
+
+pub mod answers;
+pub mod ask;
+pub mod requests;
