@@ -1,8 +1,9 @@
 """How often the library allocates for short questions: those over scalars and vectors of scalars.
 
-A vector that is read or built takes one allocation. By numbers so do the list that `common` reads and the words of a
-refusal; a name, a list of one argument to three, and the words of a short reply take none. In text each list takes one, and
-so does an answer that is one word or has at most 8 bytes. Other answers of at most 16 bytes take two."""
+A vector that is read or built takes one allocation; the type of a binary expression isn't built. By numbers so do the list
+that `common` reads and the words of a refusal; a name, a list of one argument to three, and the words of a short reply take
+none. In text each list takes one, and so does an answer that is one word or has at most 8 bytes. Other answers of at most 16
+bytes take two."""
 from number_calls import CALLS
 from type_codes import BINARY, SCALARS, UNARY, Random, code, list_code, signature_code, words
 
@@ -52,7 +53,7 @@ def in_text(name, types, status, answer):
     if len(answer) > 16 or (status == 1 and name not in ("rank", "common")):
         return None
     read = sum(t[0] == "vec" for t in types)
-    built = answer.startswith("vec") and name != "common"
+    built = answer.startswith("vec") and name not in ("common", "binary")
     grown = len(answer) > 8 and answer not in SCALARS
     return read + built + (name in ("common", "constructor", "call")) + 1 + grown
 

@@ -1,31 +1,25 @@
 -- A request that is spelled in text and in numbers gets one answer: each reply spells what the rules define once.
-use Rattle.std.proofs.Common.{◌≡◌, ◌≢◌, ◌⊎◌, ◌∙◌, ℕ, List, [], arith, inl, inr, Option, Some, None, Result, Ok, Err, refl, sym, ap, subst}
-use Rattle.std.specs.Prelude.{IsSomeAnd}
+use Rattle.std.proofs.Common.{◌≡◌, ◌≢◌, ◌⊎◌, ◌∙◌, ℕ, List, [], arith, inl, inr, Option, Some, None, Result, Ok, Err, refl, sym, subst}
+use Rattle.std.specs.Prelude.{IsSomeAnd, option_map}
+use Rattle.wgsl_syntax.specs.declared.operator.BinaryOperator.{BinaryOperator}
 use Rattle.wgsl_rules.specs.types.Types.{WgslType, Members}
-use Rattle.wgsl_rules.specs.codes.Codes.{code}
 use Rattle.wgsl_rules.specs.conversion.Common.{IsLeftCommon}
 use Rattle.wgsl_rules.specs.conversion.Lists.{IsCommonOfList}
-use Rattle.wgsl_rules.specs.operators.Answers.{BinaryCandidate, IsCandidateAnswer, IsUnaryAnswer}
-use Rattle.wgsl_rules.specs.constructors.Constructors.{IsConstructorAnswer}
-use Rattle.wgsl_rules.specs.calls.Answers.{IsCallAnswer}
-use Rattle.wgsl_rules.specs.errors.Refusals.{Refusal}
 use Rattle.wgsl_rules.proofs.conversion.Commons.{left_common_once}
-use Rattle.wgsl_requests.specs.Answers.{IsAnswer, IsCommonText, IsReply, has_common, no_common, answer_is, common_is, unary_is, binary_is, offsets_are, layout_is, ctor_is, call_is}
-use Rattle.wgsl_requests.specs.Layouts.{laid_out as text_laid_out, not_laid_out as text_not_laid_out, not_placed, placed}
+use Rattle.wgsl_asked.specs.Answers.{Answers, WgslAnswer, WgslLayout, IsReceivedCommon, AreOffsetsOf, IsLayoutOf, a_common_type, a_type, some_offsets, a_layout, common_is, left_common_is, binary_is, candidate_is, offsets_are, layout_is}
+use Rattle.wgsl_asked.specs.Requests.{WgslRequest, common, left_common, binary, candidate, offsets, layout}
+use Rattle.wgsl_requests.specs.Answers.{IsAnswer, IsReply}
 use Rattle.wgsl_requests.specs.Replies.{IsLineOfText, IsReplyTo, ReplyText, answer, unreadable, nothing, too_long, forbidden, no_text, no_request, no_words, answered as text_answered}
-use Rattle.wgsl_requests.specs.Requests.{Request, IsRequest, NoRequest, rank, common, unary, binary, size, offsets, layout, ctor, call}
-use Rattle.wgsl_requests.specs.Texts.{type_or_message, value_or_message}
+use Rattle.wgsl_requests.specs.Requests.{IsRequest, NoRequest}
+use Rattle.wgsl_requests.specs.Texts.{answer_text, candidate_result}
 use Rattle.wgsl_requests.specs.Words.{words_of}
-use Rattle.wgsl_requests.proofs.OneAnswer.{one_answer as text_once}
+use Rattle.wgsl_requests.proofs.OneAnswer.{one_answer as text_once, result_is}
 use Rattle.wgsl_requests.proofs.OneRequest.{one_request}
 use Rattle.wgsl_requests.proofs.Requested.{request_form}
 use Rattle.wgsl_coded.specs.declared.fault.Fault.{Fault}
 use Rattle.wgsl_coded.specs.declared.fault.Fault.TheVariants.{Memory, NoType}
-use Rattle.wgsl_coded.specs.Replies.{ReplyWords, answered, refused, candidate_words, value_words, IsAnswered, answer_words, IsLayout, IsCommonType}
-use Rattle.wgsl_coded.specs.Replies.{IsAnswer as IsCodedAnswer}
-use Rattle.wgsl_asked.specs.Answers.{Answers, WgslAnswer, rank_is, size_is}
-use Rattle.wgsl_requests.specs.Texts.{answer_text}
-use Rattle.wgsl_agreement.specs.Agreement.{IsTextReply, IsNumbersReply, IsOneAnswer, IsAgreement, SpellsCommon, laid_out, not_laid_out, candidate_result, result_words, type_or_none}
+use Rattle.wgsl_coded.specs.Replies.{IsAnswered, ReplyWords, answer_words}
+use Rattle.wgsl_agreement.specs.Agreement.{IsTextReply, IsNumbersReply, IsOneAnswer, IsAgreement, IsIfReceived, AreOne, counterpart}
 
 -- when bytes have each reply in text
 abbrev TextForm : List ℕ → ReplyText → Type 0
@@ -42,99 +36,82 @@ text_form (no_words l w) = w
 text_form (text_answered text l w r) = r
 
 -- a line of text that spells a request is answered
-text_answer : (bytes : List ℕ) (request : Request) (in_text : ReplyText) → IsRequest (words_of bytes) request → TextForm bytes in_text → IsLineOfText bytes
+text_answer : (bytes : List ℕ) (request : WgslRequest) (in_text : ReplyText) → IsRequest (words_of bytes) request → TextForm bytes in_text → IsLineOfText bytes
     → (text : List ℕ) × (in_text ≡ answer text)
 text_answer bytes request (answer text) q f line = (text, refl)
 text_answer bytes request nothing q f line = absurd (request_form (subst (λ ws. IsRequest ws request) f q))
 text_answer bytes request unreadable q (inl n) line = absurd (n line)
 text_answer bytes request unreadable q (inr n) line = absurd (n request q)
 
--- what is asked in numbers is what the reply is to
-asked : {A : Type 0} (Is : A → ReplyWords → Type 0) (reply : ReplyWords) {read : Option A} {a : A} → (read ≡ Some a) × IsSomeAnd read (λ a. Is a reply) → Is a reply
-asked Is reply n = subst (λ x. IsSomeAnd x (λ a. Is a reply)) n.0 n.1
+-- The numbers' answer in place of the text's, since the request has one answer in text.
+in_place : {name text : List ℕ} {request : WgslRequest} {reply : ReplyWords} (found counted : WgslAnswer) → IsAnswer request text → Answers request found → Answers (counterpart name request) counted →
+    AreOne request found counted → reply ≡ answer_words counted → IsOneAnswer name request text reply
+in_place {text} {request} found counted d f n one e =
+    record { found = found; counted = counted; answers = f; answers_counterpart = n; one = one; in_text = text_once request text (answer_text found) d (found, f, refl); in_numbers = e }
 
-answered_reply : (request : Request) (text : List ℕ) (reply : ReplyWords) → IsAnswer request text → IsAnswered request reply
-    → (a : WgslAnswer) × Answers request a × (text ≡ answer_text a) × (reply ≡ answer_words a)
-answered_reply request text reply d n = (n.0, n.1, text_once request text (answer_text n.0) d (answer_is n.0 n.1), n.2)
-
--- The numbers' result is the one of the text, since the request has one answer in text.
-result_reply : {A : Type 0} (request : Request) (text : List ℕ) (spelled : Result A Refusal → List ℕ) (words : A → List ℕ) (Is : Result A Refusal → Type 0)
-    → ((r : Result A Refusal) → Is r → IsAnswer request (spelled r)) → IsAnswer request text → (reply : ReplyWords) → IsCodedAnswer words Is reply
-    → (r : Result A Refusal) × Is r × (text ≡ spelled r) × (reply ≡ result_words words r)
-result_reply request text spelled words Is is d (answered ws) n = (Ok n.0, n.1, text_once request text (spelled (Ok n.0)) d (is (Ok n.0) n.1), ap answered n.2)
-result_reply request text spelled words Is is d (refused ws) n = (Err n.0, n.1, text_once request text (spelled (Err n.0)) d (is (Err n.0) n.1), ap refused n.2)
-
-result_is : (o : _) (t u : WgslType) (r : Result BinaryCandidate Refusal) → IsCandidateAnswer o t u r → IsAnswer (binary o t u) (type_or_message (candidate_result r))
-result_is o t u (Ok c) d = binary_is (Ok c.result) (c.lhs, c.rhs, d)
-result_is o t u (Err e) d = binary_is (Err e) d
-
-offsets_reply : (name : List ℕ) (ms : Members) (text : List ℕ) (reply : ReplyWords) → IsAnswer (offsets name ms) text → IsLayout ms reply → IsOneAnswer (offsets name ms) text reply
-offsets_reply name ms text (answered ws) d n = laid_out n.4 (text_once (offsets name ms) text _ d (offsets_are (placed n.4.placed))) (ap answered n.5)
-offsets_reply name ms text (refused ws) d n = not_laid_out n.0 (text_once (offsets name ms) text _ d (offsets_are (not_placed n.0))) (ap refused n.1)
-
-layout_reply : (name : List ℕ) (ms : Members) (text : List ℕ) (reply : ReplyWords) → IsAnswer (layout name ms) text → IsLayout ms reply → IsOneAnswer (layout name ms) text reply
-layout_reply name ms text (answered ws) d n = laid_out n.4 (text_once (layout name ms) text _ d (layout_is (text_laid_out n.4))) (ap answered n.5)
-layout_reply name ms text (refused ws) d n = not_laid_out n.0 (text_once (layout name ms) text _ d (layout_is (text_not_laid_out n.0))) (ap refused n.1)
-
-spells_common : (ts : List WgslType) (c : Option WgslType) (text : List ℕ) → IsCommonOfList ts c → IsCommonText ts text → SpellsCommon ts c text
-spells_common ts c text h (has_common {t = u} l e) =
-    let same : Some u ≡ c = left_common_once ts (Some u) c l h.left in
-    record {
-      received = λ t is r. ap type_or_none (same ∙ is);
-      not_received = λ n. absurd (n u (sym same) e);
-      of_value_types = λ v. ap type_or_none same;
-    }
-spells_common ts None text h (no_common n) = record { received = λ t is r. absurd (n t (subst (IsLeftCommon ts) is h.left) r); not_received = λ n. refl; of_value_types = λ v. refl }
-spells_common ts (Some t) text h (no_common n) = record {
-  received = λ u is r. absurd (n u (subst (IsLeftCommon ts) is h.left) r);
+if_received : (ts : List WgslType) (c d : Option WgslType) → IsReceivedCommon ts c → IsCommonOfList ts d → IsIfReceived ts c d
+if_received ts (Some t) d f h =
+    let same = left_common_once ts (Some t) d f.0 h.left in
+    record { received = λ u is r. same ∙ is; not_received = λ n. absurd (n t (sym same) f.1); of_value_types = λ v. same }
+if_received ts None None f h = record { received = λ t is r. absurd (cc is); not_received = λ n. refl; of_value_types = λ v. refl }
+if_received ts None (Some t) f h = record {
+  received = λ u is r. absurd (f u (subst (IsLeftCommon ts) is h.left) r);
   not_received = λ n. refl;
-  of_value_types = λ v. absurd (n t h.left (((h.least v).some t).0 refl).1.0);
+  of_value_types = λ v. absurd (f t h.left (((h.least v).some t).0 refl).1.0);
 }
 
-common_reply : (ts : List WgslType) (text : List ℕ) (reply : ReplyWords) → IsCommonText ts text → IsCommonType ts reply → IsOneAnswer (common ts) text reply
-common_reply ts text (answered ws) d n = (Some n.0, n.1, spells_common ts (Some n.0) text n.1 d, ap answered n.2)
-common_reply ts text (refused ws) d n = (None, n.0, spells_common ts None text n.0 d, ap refused n.1)
+common_reply : {ts : List WgslType} {name text : List ℕ} {reply : ReplyWords} {a b : WgslAnswer} → Answers (common ts) a → Answers (left_common ts) b → text ≡ answer_text a → reply ≡ answer_words b →
+    IsOneAnswer name (common ts) text reply
+common_reply (common_is {ts} c f) (left_common_is d g) e k =
+    record { found = a_common_type c; counted = a_common_type d; answers = common_is c f; answers_counterpart = left_common_is d g; one = if_received ts c d f g; in_text = e; in_numbers = k }
 
-both_reply : {request : Request} {text : List ℕ} (words : List ℕ) (reply : ReplyWords) → IsAnswer request text → IsNumbersReply request words (Ok reply) → IsOneAnswer request text reply
-both_reply words reply (answer_is a (rank_is {t} {u} w d)) n = answered_reply (rank t u) _ reply (answer_is a (rank_is w d)) (asked (λ types. IsAnswered (rank types.0 types.1)) reply n)
-both_reply words reply (common_is {ts} {text} d) n = common_reply ts text reply d (asked IsCommonType reply n)
-both_reply words reply (unary_is {o} {t} r d) n =
-    result_reply (unary o t) _ type_or_message code (IsUnaryAnswer o t) (λ r d. unary_is r d) (unary_is r d) reply (asked (λ e. IsCodedAnswer code (IsUnaryAnswer e.0 e.1)) reply n)
-both_reply words reply (binary_is {o} {t} {u} r d) n =
-    result_reply (binary o t u) _ (λ r. type_or_message (candidate_result r)) candidate_words (IsCandidateAnswer o t u) (result_is o t u) (binary_is r d) reply
-    (asked (λ e. IsCodedAnswer candidate_words (IsCandidateAnswer e.0 e.1 e.2)) reply n)
-both_reply words reply (answer_is b (size_is {t} s a d e)) n = answered_reply (size t) _ reply (answer_is b (size_is s a d e)) (asked (λ t. IsAnswered (size t)) reply n)
-both_reply words reply (offsets_are {name} {ms} {text} d) n = offsets_reply name ms text reply (offsets_are d) (asked IsLayout reply n)
-both_reply words reply (layout_is {name} {ms} {text} d) n = layout_reply name ms text reply (layout_is d) (asked IsLayout reply n)
-both_reply words reply (ctor_is {c} r d) n =
-    result_reply (ctor c) _ type_or_message code (IsConstructorAnswer c) (λ r d. ctor_is r d) (ctor_is r d) reply (asked (λ call. IsCodedAnswer code (IsConstructorAnswer call)) reply n)
-both_reply words reply (call_is {c} r d) n =
-    result_reply (call c) _ value_or_message value_words (IsCallAnswer c) (λ r d. call_is r d) (call_is r d) reply (asked (λ call. IsCodedAnswer value_words (IsCallAnswer call)) reply n)
+binary_reply : {o : BinaryOperator} {t u : WgslType} {name text : List ℕ} {reply : ReplyWords} {b : WgslAnswer} → IsAnswer (binary o t u) text → Answers (candidate o t u) b → reply ≡ answer_words b →
+    IsOneAnswer name (binary o t u) text reply
+binary_reply d (candidate_is {o} {t} {u} r h) e = in_place (a_type (candidate_result r)) _ d (binary_is _ (result_is o t u r h)) (candidate_is r h) refl e
 
--- numbers that spell a request are read
-are_read : (request : Request) (words : List ℕ) → ¬ IsNumbersReply request words (Err NoType)
-are_read (rank t u) words n = cc (sym n.0 ∙ n.1)
-are_read request words n = cc (sym n.0 ∙ n.1)
+offsets_in : (ms : Members) (l : Option WgslLayout) → IsLayoutOf ms l → AreOffsetsOf ms (option_map (λ l. l.offsets) l)
+offsets_in ms (Some l) h = h.placed
+offsets_in ms None h = h
 
--- so they are answered, unless out of memory
-numbers_answer : (request : Request) (words : List ℕ) (in_numbers : Result ReplyWords Fault) → IsNumbersReply request words in_numbers → in_numbers ≢ Err Memory
+offsets_reply : {other name text : List ℕ} {ms : Members} {reply : ReplyWords} {b : WgslAnswer} → IsAnswer (offsets other ms) text → Answers (layout name ms) b → reply ≡ answer_words b →
+    IsOneAnswer name (offsets other ms) text reply
+offsets_reply d (layout_is {ms} l h) e = in_place (some_offsets (option_map (λ l. l.offsets) l)) _ d (offsets_are _ (offsets_in ms l h)) (layout_is l h) refl e
+
+layout_reply : {other name text : List ℕ} {ms : Members} {reply : ReplyWords} {b : WgslAnswer} → IsAnswer (layout other ms) text → Answers (layout name ms) b → reply ≡ answer_words b →
+    IsOneAnswer name (layout other ms) text reply
+layout_reply {other} d (layout_is {ms} l h) e = in_place (a_layout other ms l) _ d (layout_is l h) (layout_is l h) refl e
+
+both_reply : (name : List ℕ) (request : WgslRequest) (text : List ℕ) (reply : ReplyWords) → IsAnswer request text → IsAnswered (counterpart name request) reply → IsOneAnswer name request text reply
+both_reply name (common ts) text reply d n = common_reply d.1 n.1 d.2 n.2
+both_reply name (binary o t u) text reply d n = binary_reply d n.1 n.2
+both_reply name (offsets other ms) text reply d n = offsets_reply d n.1 n.2
+both_reply name (layout other ms) text reply d n = layout_reply d n.1 n.2
+both_reply name request text reply d n = in_place n.0 n.0 d n.1 n.1 refl n.2
+
+-- what is asked in numbers is what the reply is to
+asked : {A : Type 0} (Is : A → Type 0) {read : Option A} {a : A} → read ≡ Some a → IsSomeAnd read Is → Is a
+asked Is e h = subst (λ x. IsSomeAnd x Is) e h
+
+-- numbers that spell a request are answered, unless out of memory
+numbers_answer : (name : List ℕ) (request : WgslRequest) (words : List ℕ) (in_numbers : Result ReplyWords Fault) → IsNumbersReply name request words in_numbers → in_numbers ≢ Err Memory
     → (reply : ReplyWords) × (in_numbers ≡ Ok reply)
-numbers_answer request words (Ok reply) n m = (reply, refl)
-numbers_answer request words (Err Memory) n m = absurd (m refl)
-numbers_answer request words (Err NoType) n m = absurd (are_read request words n)
+numbers_answer name request words (Ok reply) n m = (reply, refl)
+numbers_answer name request words (Err Memory) n m = absurd (m refl)
+numbers_answer name request words (Err NoType) n m = absurd (cc (sym n.0 ∙ n.1))
 
-one_answer : (request : Request) (bytes words text : List ℕ) (reply : ReplyWords) → IsRequest (words_of bytes) request → IsReply (words_of bytes) text
-    → IsNumbersReply request words (Ok reply) → IsOneAnswer request text reply
-one_answer request bytes words text reply q r n =
+one_answer : (name : List ℕ) (request : WgslRequest) (bytes words text : List ℕ) (reply : ReplyWords) → IsRequest (words_of bytes) request → IsReply (words_of bytes) text
+    → IsNumbersReply name request words (Ok reply) → IsOneAnswer name request text reply
+one_answer name request bytes words text reply q r n =
     let same = one_request (words_of bytes) r.0 request r.1 q in
-    both_reply words reply (subst (λ request. IsAnswer request text) same r.2) n
+    both_reply name request text reply (subst (λ request. IsAnswer request text) same r.2) (asked (λ request. IsAnswered request reply) n.0 n.1)
 
-pub agreement : (request : Request) (bytes words : List ℕ) (in_text : ReplyText) (in_numbers : Result ReplyWords Fault) → IsTextReply bytes request in_text
-    → IsNumbersReply request words in_numbers → IsAgreement bytes request in_text in_numbers
-agreement request bytes words in_text in_numbers d n =
+pub agreement : (request : WgslRequest) (name bytes words : List ℕ) (in_text : ReplyText) (in_numbers : Result ReplyWords Fault) → IsTextReply bytes request in_text
+    → IsNumbersReply name request words in_numbers → IsAgreement name bytes request in_text in_numbers
+agreement request name bytes words in_text in_numbers d n =
     let f = text_form d.1 in
     record {
       text_is_answered = text_answer bytes request in_text d.0 f;
-      numbers_are_answered = numbers_answer request words in_numbers n;
-      one_answer = λ text reply is_text is_numbers. one_answer request bytes words text reply d.0 (subst (TextForm bytes) is_text f) (subst (IsNumbersReply request words) is_numbers n);
+      numbers_are_answered = numbers_answer name request words in_numbers n;
+      one_answer = λ text reply is_text is_numbers.
+          one_answer name request bytes words text reply d.0 (subst (TextForm bytes) is_text f) (subst (IsNumbersReply name request words) is_numbers n);
     }

@@ -1,7 +1,7 @@
 // The law of both encodings: the function returns nothing, and its contract is the law.
 ghost use Rattle.std.specs.Prelude.{ℕ, List, Result};
 ghost use Rattle.wgsl_requests.specs.Replies.{ReplyText};
-ghost use Rattle.wgsl_requests.specs.Requests.{Request};
+ghost use Rattle.wgsl_asked.specs.Requests.{WgslRequest};
 ghost use Rattle.wgsl_coded.specs.Replies.{ReplyWords};
 ghost use Rattle.wgsl_coded.specs.declared.fault.Fault.{Fault};
 ghost use Rattle.wgsl_agreement.specs.Agreement.{IsTextReply, IsNumbersReply, IsAgreement};
@@ -10,8 +10,8 @@ ghost use Rattle.wgsl_agreement.specs.Agreement.{IsTextReply, IsNumbersReply, Is
 /// answer, and so do numbers unless out of memory.
 #[tactic(auto, using(crate::proofs::Agreement::agreement))]
 pub fn text_and_numbers_agree()
-    ensures { (request : Request) (bytes words : List ℕ)
+    ensures { (request : WgslRequest) (name bytes words : List ℕ)
         (in_text : ReplyText) (in_numbers : Result ReplyWords Fault)
-        → IsTextReply bytes request in_text → IsNumbersReply request words in_numbers
-        → IsAgreement bytes request in_text in_numbers }
+        → IsTextReply bytes request in_text → IsNumbersReply name request words in_numbers
+        → IsAgreement name bytes request in_text in_numbers }
 {}

@@ -1,17 +1,77 @@
 -- The answers to requests.
-use Rattle.std.specs.Prelude.{ℕ, Option}
-use Rattle.wgsl_rules.specs.types.Types.{WgslType}
+use Rattle.std.specs.Prelude.{ℕ, List, Option, Some, None, Result}
+use Rattle.wgsl_syntax.specs.declared.operator.BinaryOperator.{BinaryOperator}
+use Rattle.wgsl_syntax.specs.declared.operator.UnaryOperator.{UnaryOperator}
+use Rattle.wgsl_rules.specs.types.Types.{WgslType, Members}
+use Rattle.wgsl_rules.specs.types.Signatures.{Signature}
+use Rattle.wgsl_rules.specs.errors.Refusals.{Refusal}
+use Rattle.wgsl_rules.specs.Headline.{Receives}
+use Rattle.wgsl_rules.specs.conversion.Common.{IsLeftCommon}
 use Rattle.wgsl_rules.specs.conversion.Conversion.{Converts}
-use Rattle.wgsl_rules.specs.layout.Layout.{HasSize, HasAlignment, IsExactly}
-use Rattle.wgsl_asked.specs.Requests.{WgslRequest, rank, size}
+use Rattle.wgsl_rules.specs.conversion.Lists.{IsCommonOfList}
+use Rattle.wgsl_rules.specs.layout.Placement.{MemberLayout}
+use Rattle.wgsl_rules.specs.layout.Layout.{AreOffsets, HasAlignment, HasNoSize, HasSize, IsExactly, IsStructLayout}
+use Rattle.wgsl_rules.specs.operators.Answers.{BinaryCandidate, IsCandidateAnswer, IsOperatorAnswer, IsUnaryAnswer}
+use Rattle.wgsl_rules.specs.constructors.Constructors.{IsConstructorAnswer}
+use Rattle.wgsl_rules.specs.calls.Answers.{IsCallAnswer}
+use Rattle.wgsl_asked.specs.Requests.{WgslRequest, rank, common, left_common, unary, binary, candidate, size, offsets, layout, ctor, call}
+
+-- a struct's layout: the size, the alignment and the offset of each member, its own size and alignment
+pub record WgslLayout : Type 0 where
+  pub layouts : List MemberLayout
+  pub offsets : List ℕ
+  pub size : ℕ
+  pub align : ℕ
 
 -- what is answered
 pub data WgslAnswer : Type 0 where
-  number : Option ℕ → WgslAnswer
-  size_and_align : Option ℕ → Option ℕ → WgslAnswer
+  a_number : Option ℕ → WgslAnswer
+  a_size : Option ℕ → Option ℕ → WgslAnswer
+  a_common_type : Option WgslType → WgslAnswer
+  a_type : Result WgslType Refusal → WgslAnswer
+  a_value : Result (Option WgslType) Refusal → WgslAnswer
+  a_candidate : Result BinaryCandidate Refusal → WgslAnswer
+  some_offsets : Option (List ℕ) → WgslAnswer
+  a_layout : List ℕ → Members → Option WgslLayout → WgslAnswer
+  -- no request has this answer
+  out_of_memory : WgslAnswer
+
+-- the common type of these types, from left to right, if each of them converts to it
+abbrev pub IsReceivedCommon : List WgslType → Option WgslType → Type 0
+IsReceivedCommon ts (Some t) = IsLeftCommon ts (Some t) × Receives t ts
+IsReceivedCommon ts None = (t : WgslType) → IsLeftCommon ts (Some t) → ¬ Receives t ts
+
+-- the offsets of these members, unless their struct has no size
+abbrev pub AreOffsetsOf : Members → Option (List ℕ) → Type 0
+AreOffsetsOf ms (Some ns) = AreOffsets ms ns
+AreOffsetsOf ms None = HasNoSize ms
+
+-- the layout of a struct with these members, unless it has no size
+abbrev pub IsLayoutOf : Members → Option WgslLayout → Type 0
+IsLayoutOf ms (Some l) = IsStructLayout ms l.layouts l.offsets l.size l.align
+IsLayoutOf ms None = HasNoSize ms
 
 -- The answer is one to the request.
 pub data Answers : WgslRequest → WgslAnswer → Type 0 where
-  rank_is : {t u : WgslType} (w : Option ℕ) → IsExactly w (Converts t u) → Answers (rank t u) (number w)
-  size_is : {t : WgslType} (s a : Option ℕ) → IsExactly s (HasSize t) → IsExactly a (HasAlignment t) →
-      Answers (size t) (size_and_align s a)
+  rank_is : {t u : WgslType} (w : Option ℕ) → IsExactly w (Converts t u) →
+      Answers (rank t u) (a_number w)
+  common_is : {ts : List WgslType} (c : Option WgslType) → IsReceivedCommon ts c →
+      Answers (common ts) (a_common_type c)
+  left_common_is : {ts : List WgslType} (c : Option WgslType) → IsCommonOfList ts c →
+      Answers (left_common ts) (a_common_type c)
+  unary_is : {o : UnaryOperator} {t : WgslType} (r : Result WgslType Refusal) →
+      IsUnaryAnswer o t r → Answers (unary o t) (a_type r)
+  binary_is : {o : BinaryOperator} {t u : WgslType} (r : Result WgslType Refusal) →
+      IsOperatorAnswer o t u r → Answers (binary o t u) (a_type r)
+  candidate_is : {o : BinaryOperator} {t u : WgslType} (r : Result BinaryCandidate Refusal) →
+      IsCandidateAnswer o t u r → Answers (candidate o t u) (a_candidate r)
+  size_is : {t : WgslType} (s a : Option ℕ) → IsExactly s (HasSize t) →
+      IsExactly a (HasAlignment t) → Answers (size t) (a_size s a)
+  offsets_are : {name : List ℕ} {ms : Members} (found : Option (List ℕ)) →
+      AreOffsetsOf ms found → Answers (offsets name ms) (some_offsets found)
+  layout_is : {name : List ℕ} {ms : Members} (found : Option WgslLayout) →
+      IsLayoutOf ms found → Answers (layout name ms) (a_layout name ms found)
+  ctor_is : {c : Signature} (r : Result WgslType Refusal) →
+      IsConstructorAnswer c r → Answers (ctor c) (a_type r)
+  call_is : {c : Signature} (r : Result (Option WgslType) Refusal) →
+      IsCallAnswer c r → Answers (call c) (a_value r)

@@ -1,16 +1,81 @@
 -- How the rules see requests and answers.
-use Rattle.wgsl_core.specs.View.{view}
+use Rattle.std.specs.Prelude.{Option, Some, None, Result, Ok, Err, map, option_map}
+use Rattle.wgsl_rules.specs.errors.Refusals.{Refusal, binary as refused_operands}
+use Rattle.wgsl_rules.specs.operators.Answers.{BinaryCandidate}
+use Rattle.wgsl_rules.specs.types.Signatures.{Signature}
+use Rattle.wgsl_rules.specs.types.Types.{WgslType}
+use Rattle.wgsl_core.specs.Answer.{refusal}
+use Rattle.wgsl_core.specs.Instances.{call_view}
+use Rattle.wgsl_core.specs.Layout.{layouts_of, offsets_of}
+use Rattle.wgsl_core.specs.View.{struct_view, view}
+use Rattle.wgsl_core.specs.declared.error.Fail.{Fail}
+use Rattle.wgsl_core.specs.declared.error.Fail.TheVariants as fails
+use Rattle.wgsl_core.specs.declared.layout.StructLayout.{StructLayout}
+use Rattle.wgsl_core.specs.declared.operators.resolve.Resolution.{Resolution}
+use Rattle.wgsl_core.specs.declared.operators.resolve.ResolvedType.{ResolvedType}
+use Rattle.wgsl_core.specs.internal.Resolution.{resolution_view, resolved_view}
+use Rattle.wgsl_asked.specs.declared.requests.Callee.{Callee}
 use Rattle.wgsl_asked.specs.declared.requests.Request.{Request}
 use Rattle.wgsl_asked.specs.declared.requests.Request.TheVariants as requests
+use Rattle.wgsl_asked.specs.declared.answers.Operands.{Operands}
 use Rattle.wgsl_asked.specs.declared.answers.Answer.{Answer}
 use Rattle.wgsl_asked.specs.declared.answers.Answer.TheVariants as answers
-use Rattle.wgsl_asked.specs.Requests.{WgslRequest, rank, size}
-use Rattle.wgsl_asked.specs.Answers.{WgslAnswer, number, size_and_align}
+use Rattle.wgsl_asked.specs.Requests.{WgslRequest, rank, common, left_common, unary, binary, candidate, size, offsets, layout, ctor, call}
+use Rattle.wgsl_asked.specs.Answers.{WgslAnswer, WgslLayout, a_number, a_size, a_common_type, a_type, a_value, a_candidate, some_offsets, a_layout, out_of_memory}
+
+abbrev pub callee_view : Callee → Signature
+callee_view c = call_view c.name.now c.template c.arguments.now
 
 abbrev pub request_view : Request → WgslRequest
 request_view (requests.Rank t u) = rank (view t.now) (view u.now)
+request_view (requests.Common ts) = common (map view ts.now)
+request_view (requests.LeftCommon ts) = left_common (map view ts.now)
+request_view (requests.Unary o t) = unary o (view t.now)
+request_view (requests.Binary o t u) = binary o (view t.now) (view u.now)
+request_view (requests.Candidate o t u) = candidate o (view t.now) (view u.now)
 request_view (requests.Size t) = size (view t.now)
+request_view (requests.Offsets s) = let seen = struct_view s.now in offsets seen.name seen.members
+request_view (requests.Layout s) = let seen = struct_view s.now in layout seen.name seen.members
+request_view (requests.Constructor c) = ctor (callee_view c)
+request_view (requests.Call c) = call (callee_view c)
+
+-- a value as `shown` shows it, or the refusal
+abbrev pub outcome : {A B : Type 0} → (Result B Refusal → WgslAnswer) → (A → B) → Result A Fail →
+    WgslAnswer
+outcome answered shown (Ok x) = answered (Ok (shown x))
+outcome answered shown (Err (fails.Error e)) = answered (Err (refusal e))
+outcome answered shown (Err (fails.Memory e)) = out_of_memory
+
+-- the refusal of operands
+abbrev pub operands_refusal : Operands → Refusal
+operands_refusal e = refused_operands e.operator (view e.lhs.now) (view e.rhs.now)
+
+-- the type of a binary expression, or the refusal of the operands
+abbrev pub binary_view : Result ResolvedType Operands → Result WgslType Refusal
+binary_view (Ok t) = Ok (resolved_view t)
+binary_view (Err e) = Err (operands_refusal e)
+
+-- the candidate, or the refusal of the operands
+abbrev pub candidate_view : Operands → Option Resolution → Result BinaryCandidate Refusal
+candidate_view operands (Some c) = Ok (resolution_view c)
+candidate_view operands None = Err (operands_refusal operands)
+
+abbrev pub layout_view : StructLayout → WgslLayout
+layout_view l = record {
+  layouts = layouts_of l.members.items;
+  offsets = offsets_of l.members.items;
+  size = l.size;
+  align = l.align;
+}
 
 abbrev pub answer_view : Answer → WgslAnswer
-answer_view (answers.Number n) = number n
-answer_view (answers.Size s a) = size_and_align s a
+answer_view (answers.Number n) = a_number n
+answer_view (answers.Size s a) = a_size s a
+answer_view (answers.Common t) = a_common_type (option_map (λ t. view t.now) t)
+answer_view (answers.Type r) = outcome a_type view r
+answer_view (answers.Value r) = outcome a_value (option_map view) r
+answer_view (answers.Binary r) = a_type (binary_view r)
+answer_view (answers.Candidate operands c) = a_candidate (candidate_view operands c)
+answer_view (answers.Offsets o) = some_offsets (option_map (λ v. v.items) o)
+answer_view (answers.Layout s l) =
+    let seen = struct_view s.now in a_layout seen.name seen.members (option_map layout_view l)

@@ -1,8 +1,32 @@
 // What is answered.
+use wgsl_core::error::Fail;
+use wgsl_core::layout::StructLayout;
+use wgsl_core::operators::resolve::{Resolution, ResolvedType};
+use wgsl_core::ty::{StructType, Type};
+use wgsl_syntax::operator::BinaryOperator;
 
 /// The answer to a request.
-#[derive(Clone, Copy)]
-pub enum Answer {
+#[derive(Drop)]
+pub enum Answer<'r> {
     Number(Option<u32>),
     Size(Option<u32>, Option<u32>),
+    Common(Option<&'r Type>),
+    /// The type of an expression, or why it has none; out of memory is no answer.
+    Type(Result<Type, Fail>),
+    /// What a call returns, which may be no value, or why it is refused; out of memory is no answer.
+    Value(Result<Option<Type>, Fail>),
+    /// The type of a binary expression, or the operands that the operator doesn't take.
+    Binary(Result<ResolvedType<'r>, Operands<'r>>),
+    /// The operands of a binary operator, and the candidate that takes them if there is one.
+    Candidate(Operands<'r>, Option<Resolution<'r>>),
+    Offsets(Option<Vec<u32>>),
+    Layout(&'r StructType, Option<StructLayout>),
+}
+
+/// Operands of a binary operator.
+#[derive(Clone, Copy)]
+pub struct Operands<'r> {
+    pub operator: BinaryOperator,
+    pub lhs: &'r Type,
+    pub rhs: &'r Type,
 }

@@ -1,18 +1,94 @@
 // Where the rules meet requests.
+ghost use Rattle.std.specs.Prelude.{◌≡◌, IfOk, None};
 ghost use Rattle.wgsl_asked.specs.Answers.{Answers};
-ghost use Rattle.wgsl_asked.specs.Views.{answer_view, request_view};
+ghost use Rattle.wgsl_rules.specs.operators.Answers.{IsOperatorAnswer};
+ghost use Rattle.wgsl_core.specs.Answer.{IsAnswered};
+ghost use Rattle.wgsl_core.specs.View.{view};
+ghost use Rattle.wgsl_asked.specs.Views.{answer_view, binary_view, request_view};
 
-use crate::answers::Answer;
+use crate::answers::{Answer, Operands};
+use crate::common::common_type;
 use crate::requests::Request;
+use std::alloc::{AllocError, Global};
+use wgsl_calls::call::type_builtin_fn;
+use wgsl_calls::constructor::type_ctor;
 use wgsl_core::conversion::conversion_rank;
+use wgsl_core::conversion::lists::common_of;
+use wgsl_core::error::Fail;
+use wgsl_core::operators::resolve::{ResolvedType, resolve_operator};
+use wgsl_core::operators::type_unary_op;
+use wgsl_core::ty::Type;
+use wgsl_syntax::operator::BinaryOperator;
 
 /// The answer to the request.
 #[inline(always)]
-pub fn answer(request: Request<'_>) -> Answer
-    ensures { Answers (request_view request.entry) (answer_view result) }
+pub fn answer<'r>(alloc: Global, request: Request<'r>) -> Result<Answer<'r>, AllocError>
+    ensures { IfOk result (λ a. Answers (request_view request.entry) (answer_view a)) }
 {
     match request {
-        Request::Rank(source, target) => Answer::Number(conversion_rank(source, target)),
-        Request::Size(ty) => Answer::Size(ty.size_of(), ty.align_of()),
+        Request::Rank(source, target) => Ok(Answer::Number(conversion_rank(source, target))),
+        Request::Common(types) => Ok(Answer::Common(common_type(types))),
+        Request::LeftCommon(types) => Ok(Answer::Common(common_of(types))),
+        Request::Unary(operator, operand) => {
+            let made = type_unary_op(alloc, operator, operand);
+            Ok(Answer::Type(settled(made)?))
+        }
+        Request::Binary(operator, lhs, rhs) => {
+            Ok(Answer::Binary(resolved_type(operator, lhs, rhs)))
+        }
+        Request::Candidate(operator, lhs, rhs) => {
+            let operands = Operands { operator, lhs, rhs };
+            Ok(Answer::Candidate(operands, resolve_operator(operator, lhs, rhs)))
+        }
+        Request::Size(ty) => Ok(Answer::Size(ty.size_of(), ty.align_of())),
+        Request::Offsets(structure) => Ok(Answer::Offsets(structure.offsets(alloc)?)),
+        Request::Layout(structure) => { Ok(Answer::Layout(structure, structure.layout(alloc)?)) }
+        Request::Constructor(callee) => {
+            let made = type_ctor(alloc, callee.name, callee.template, callee.arguments);
+            Ok(Answer::Type(settled(made)?))
+        }
+        Request::Call(callee) => {
+            let made = type_builtin_fn(alloc, callee.name, callee.template, callee.arguments);
+            Ok(Answer::Value(settled(made)?))
+        }
+    }
+}
+
+/// The type of a binary expression.
+#[inline(always)]
+fn resolved_type<'r>(
+    operator: BinaryOperator,
+    lhs: &'r Type,
+    rhs: &'r Type,
+) -> Result<ResolvedType<'r>, Operands<'r>>
+    ensures { IsOperatorAnswer operator (view lhs.now) (view rhs.now) (binary_view result) }
+{
+    match resolve_operator(operator, lhs, rhs) {
+        Some(found) => Ok(found.result),
+        None => Err(Operands { operator, lhs, rhs }),
+    }
+}
+
+/// The same, unless it is out of memory.
+#[inline(always)]
+fn settled<T: Drop>(made: Result<T, Fail>) -> Result<Result<T, Fail>, AllocError>
+    ensures { IfOk result (λ same. (made ≡ same) × IsAnswered same) }
+{
+    match out_of_memory(&made) {
+        Some(error) => {
+            drop(made);
+            Err(error)
+        }
+        None => Ok(made),
+    }
+}
+
+#[inline(always)]
+fn out_of_memory<T>(made: &Result<T, Fail>) -> Option<AllocError>
+    ensures { result ≡ None → IsAnswered made.now }
+{
+    match made {
+        Ok(_) | Err(Fail::Error(_)) => None,
+        Err(Fail::Memory(error)) => Some(*error),
     }
 }

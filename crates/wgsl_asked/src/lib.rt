@@ -3,4 +3,5 @@
 
 pub mod answers;
 pub mod ask;
+pub mod common;
 pub mod requests;

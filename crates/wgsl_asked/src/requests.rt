@@ -1,11 +1,39 @@
 // What is asked.
-use wgsl_core::ty::Type;
+use wgsl_core::signature::TpltParam;
+use wgsl_core::ty::{StructType, Type};
+use wgsl_syntax::operator::{BinaryOperator, UnaryOperator};
 
 /// What is asked of the rules.
 #[derive(Clone, Copy)]
 pub enum Request<'r> {
     /// The rank of the conversion from one type to another.
     Rank(&'r Type, &'r Type),
+    /// The common type of a list, if each of its types converts to it.
+    Common(&'r [Type]),
+    /// The common type of a list from left to right, as `convert_all_ty` has it.
+    LeftCommon(&'r [Type]),
+    /// The type of a unary expression.
+    Unary(UnaryOperator, &'r Type),
+    /// The type of a binary expression.
+    Binary(BinaryOperator, &'r Type, &'r Type),
+    /// The type of a binary expression, and those to which its operands convert.
+    Candidate(BinaryOperator, &'r Type, &'r Type),
     /// The size and the alignment of a type.
     Size(&'r Type),
+    /// The offsets of a struct's members.
+    Offsets(&'r StructType),
+    /// The layout of a struct.
+    Layout(&'r StructType),
+    /// The type that a constructor makes.
+    Constructor(Callee<'r>),
+    /// What a built-in function returns.
+    Call(Callee<'r>),
+}
+
+/// The call of a constructor or of a built-in function.
+#[derive(Clone, Copy)]
+pub struct Callee<'r> {
+    pub name: &'r str,
+    pub template: Option<&'r [TpltParam]>,
+    pub arguments: &'r [Type],
 }

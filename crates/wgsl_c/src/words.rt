@@ -8,7 +8,7 @@ ghost use Rattle.wgsl_coded.specs.Replies.{IsBinaryReply, IsCallReply, IsCommonR
 ghost use Rattle.wgsl_coded.specs.declared.fault.Fault.{Fault};
 ghost use Rattle.wgsl_c.specs.Words.{IsHandedReply, IsRoomKept};
 
-use crate::hand_over_words::{hand_over_answer, hand_over_reply};
+use crate::hand_over_words::hand_over_reply;
 use std::alloc::Global;
 use wgsl_coded::{binary, call, common, constructor, layout, rank, size, unary};
 
@@ -19,7 +19,7 @@ pub extern "C" fn wgsl_rank(alloc: Global, request: &[u32], room: &mut [u32], le
         × IsHandedReply reply room.old room.new len.new result }
     ensures room { IsRoomKept room.old room.new len.new result }
 {
-    hand_over_answer(rank(alloc, request), room, len)
+    hand_over_reply(&rank(alloc, request), room, len)
 }
 
 /// The common type of a list of types.
@@ -99,7 +99,7 @@ pub extern "C" fn wgsl_size(alloc: Global, request: &[u32], room: &mut [u32], le
         × IsHandedReply reply room.old room.new len.new result }
     ensures room { IsRoomKept room.old room.new len.new result }
 {
-    hand_over_answer(size(alloc, request), room, len)
+    hand_over_reply(&size(alloc, request), room, len)
 }
 
 /// The layout of a struct.

@@ -10,7 +10,6 @@ use Rattle.wgsl_syntax.specs.declared.code.Head.{Head}
 use Rattle.wgsl_syntax.specs.declared.code.Head.TheVariants.{Leaf, Around}
 use Rattle.wgsl_syntax.specs.declared.code.LeafType.TheVariants as leaf
 use Rattle.wgsl_syntax.specs.declared.around.Around.TheVariants as arounds
-use Rattle.wgsl_rules.specs.types.Types.{vec_of}
 use Rattle.wgsl_rules.specs.codes.Words.{bytes}
 use Rattle.wgsl_rules.specs.codes.Heads.{head_word}
 use Rattle.wgsl_rules.specs.codes.Reading.{◌>>=◌}
@@ -53,9 +52,9 @@ pub scalar_named : (w : ℕ) (bs : List ℕ) (s : Scalar) → bs ≡ to_le_bytes
 scalar_named w bs s e tag index same = sym (named_so w bs (Leaf (leaf.Scalar s)) e (rw (tag, sym index) refl) same)
 
 -- a vector is named by the tag 3 and the number of its components
-pub vector_named : (w : ℕ) (bs : List ℕ) → bs ≡ to_le_bytes w32 w → get_or bs 0 0 ≡ 3 → head_word (Around (arounds.Layer (vec_of (get_or bs 1 0)))) ≡ w →
-    head_at w ≡ Some (Around (arounds.Layer (vec_of (get_or bs 1 0))))
-vector_named w bs e tag same = sym (named_so w bs (Around (arounds.Layer (vec_of (get_or bs 1 0)))) e (rw tag refl) same)
+pub vector_named : (w : ℕ) (bs : List ℕ) → bs ≡ to_le_bytes w32 w → get_or bs 0 0 ≡ 3 → head_word (Around (arounds.Vec (get_or bs 1 0))) ≡ w →
+    head_at w ≡ Some (Around (arounds.Vec (get_or bs 1 0)))
+vector_named w bs e tag same = sym (named_so w bs (Around (arounds.Vec (get_or bs 1 0))) e (rw tag refl) same)
 
 pub named_else : (w : ℕ) (bs : List ℕ) (h : Head) → bs ≡ to_le_bytes w32 w → Some h ≡ Named bs → (head_word h ≡ w → ⊥) → None ≡ head_at w
 named_else w bs h e k other = rw (head_read w bs e, sym k, ne_eqb (head_word h) w other) refl

@@ -1,5 +1,5 @@
 -- Members are laid out one after another.
-use Rattle.std.proofs.Common.{◌≡◌, ℕ, ◌+◌, ◌-◌, ◌<◌, ◌≤◌, ◌^◌, max, List, [], ◌∷◌, ◌++◌, Option, Some, None, refl, sym, ap, subst, ◌∙◌, arith, length, map, append_assoc, IsSomeAnd}
+use Rattle.std.proofs.Common.{◌≡◌, ℕ, ◌+◌, ◌-◌, ◌<◌, ◌≤◌, ◌^◌, max, List, [], ◌∷◌, ◌++◌, Option, Some, None, refl, sym, ap, subst, ◌∙◌, arith, length, map, append_assoc, Ok}
 use Rattle.std.specs.Int.{next_multiple_of}
 use Rattle.std.specs.Option.{option_or}
 use Rattle.std.proofs.lemmas.List.{append-nil, length-append}
@@ -22,8 +22,10 @@ use Rattle.wgsl_core.specs.Placing.{IsSoonestEnd, IsSoonestOffset, IsValue}
 use Rattle.wgsl_core.specs.View.{Member, members_of}
 use Rattle.wgsl_coded.specs.Layouts.{AreLaidOut, IsSizedMember, IsStructHead}
 use Rattle.wgsl_coded.specs.Names.{IsNamed}
-use Rattle.wgsl_coded.specs.Replies.{IsLayout, answered, layout_words, member_words}
-use Rattle.wgsl_coded.specs.Requests.{struct_members}
+use Rattle.wgsl_asked.specs.Answers.{WgslLayout, a_layout, layout_is}
+use Rattle.wgsl_asked.specs.Requests.{layout}
+use Rattle.wgsl_coded.specs.Replies.{IsLayoutReply, answered, layout_words, member_words}
+use Rattle.wgsl_coded.specs.Requests.{layout_request}
 use Rattle.wgsl_coded.proofs.Levels.{goes_on, ends, with_front, no_front}
 
 -- One more member
@@ -156,14 +158,15 @@ pub struct_head : (ws inside rest after : List ℕ) (first count : ℕ) → deco
 struct_head ws inside rest after first count e k named counted = (named.0, e ∙ rw (k, struct_again, named.1, counted) refl)
 
 pub struct_laid_out : (ws rest words all : List ℕ) (count size align : ℕ) → IsStructHead ws count rest → AreLaidOut count rest (number count) words size align →
-    all ≡ words ++ (size ∷ align ∷ []) → IsSomeAnd (struct_members ws) (λ ms. IsLayout ms (answered all))
+    all ≡ words ++ (size ∷ align ∷ []) → IsLayoutReply ws (Ok (answered all))
 unfolding decoded
 struct_laid_out ws rest words all count size align head h e =
     let read : decode 255 ws ≡ Some (struct head.0 h.members, []) = head.1 ∙ rw h.read refl in
-    let members : struct_members ws ≡ Some h.members = rw read refl in
-    let written : all ≡ layout_words h.layouts h.offsets size align =
+    let request : layout_request ws ≡ Some (layout head.0 h.members) = rw read refl in
+    let found : WgslLayout = record { layouts = h.layouts; offsets = h.offsets; size = size; align = align } in
+    let written : all ≡ layout_words found =
     e ∙ rw h.written (append_assoc (number count) (member_words h.layouts h.offsets) (size ∷ align ∷ [])) ∙ ap (λ n. number n ++ (member_words h.layouts h.offsets ++ size ∷ align ∷ [])) (sym h.one_each) in
-    rw members (h.layouts, h.offsets, size, align, h.laid_out, written)
+    rw request (a_layout head.0 h.members (Some found), layout_is (Some found) h.laid_out, ap answered written)
 
 pub given : (attribute found all : Option ℕ) (n : ℕ) (P : ℕ → Type 0) → all ≡ option_or attribute found → all ≡ Some n → IsExactly found P → IsGiven attribute P n
 given None found all n P e k h = (h n).0 (sym e ∙ k)

@@ -5,7 +5,7 @@ use Rattle.wgsl_syntax.specs.declared.code.Head.TheVariants.{Leaf, Around}
 use Rattle.wgsl_syntax.specs.declared.code.LeafType.TheVariants as leaf
 use Rattle.wgsl_syntax.specs.declared.around.Around.TheVariants as arounds
 use Rattle.wgsl_syntax.specs.declared.scalar.Scalar.{Scalar}
-use Rattle.wgsl_rules.specs.types.Types.{WgslType, scalar, vec, vec_of, Members, no_members, member}
+use Rattle.wgsl_rules.specs.types.Types.{WgslType, scalar, vec, Members, no_members, member}
 use Rattle.wgsl_rules.specs.codes.Reading.{◌>>=◌, attribute_at, name_at}
 use Rattle.wgsl_rules.specs.codes.Decoding.{head_at, decode, decoded, members_at, parts_at}
 use Rattle.wgsl_core.specs.View.{Member, members_of}
@@ -40,7 +40,7 @@ pub scalar_of : (d : ℕ) (ws : List ℕ) (s : Scalar) → 0 < d → 0 < length 
 scalar_of d ws s hd h e = level_of d ws hd h ∙ rw e refl
 
 -- a vector of a scalar is two words
-pub vector_of : (d first : ℕ) (ws : List ℕ) (n : ℕ) (s : Scalar) (t : WgslType) → 0 < d → head_at first ≡ Some (Around (arounds.Layer (vec_of n))) → 0 < length ws →
+pub vector_of : (d first : ℕ) (ws : List ℕ) (n : ℕ) (s : Scalar) (t : WgslType) → 0 < d → head_at first ≡ Some (Around (arounds.Vec n)) → 0 < length ws →
     head_at (get_or ws 0 0) ≡ Some (Leaf (leaf.Scalar s)) → t ≡ scalar s → level_at d first ws ≡ Some (vec n t, take (length ws - 1) (drop 1 ws))
 vector_of d first ws n s t hd e some inside k = rw (e, scalar_of d ws s hd some inside, k) refl
 

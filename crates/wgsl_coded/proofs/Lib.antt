@@ -7,8 +7,6 @@ pub mod Placed
 pub mod Ascii
 pub mod ShortText
 pub mod LaidOut
-pub mod Replied
 pub mod InOrder
 pub mod InSequence
 pub mod Deep
-pub mod Called

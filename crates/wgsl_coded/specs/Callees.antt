@@ -1,22 +1,23 @@
--- What constructors and built-in functions are asked, and what they reply.
+-- What the calls of constructors and of built-in functions ask.
 use Rattle.std.specs.Prelude.{◌≡◌, ℕ, List, Option, Some, None}
 use Rattle.wgsl_rules.specs.types.Types.{WgslType}
 use Rattle.wgsl_rules.specs.types.Signatures.{Signature}
-use Rattle.wgsl_rules.specs.codes.Codes.{code}
 use Rattle.wgsl_rules.specs.codes.Reading.{◌>>=◌}
 use Rattle.wgsl_rules.specs.codes.Decoding.{decode}
 use Rattle.wgsl_rules.specs.codes.DecodingSignatures.{parts_in_order, signature_at}
-use Rattle.wgsl_rules.specs.constructors.Constructors.{IsConstructorAnswer}
-use Rattle.wgsl_rules.specs.calls.Answers.{IsCallAnswer}
-use Rattle.wgsl_coded.specs.declared.calls.Callee.{Callee}
-use Rattle.wgsl_coded.specs.declared.calls.Callee.TheVariants.{Constructor, Function}
-use Rattle.wgsl_coded.specs.Replies.{IsAnswer, ReplyWords, value_words}
+use Rattle.wgsl_asked.specs.Requests.{WgslRequest, ctor, call}
+use Rattle.wgsl_coded.specs.declared.calls.Kind.{Kind}
+use Rattle.wgsl_coded.specs.declared.calls.Kind.TheVariants.{Constructor, Function}
 use Rattle.wgsl_coded.specs.Requests.{whole}
 
--- the answer of what is called to the call
-abbrev pub IsCalleeAnswer : Callee → Signature → ReplyWords → Type 0
-IsCalleeAnswer Constructor call = IsAnswer code (IsConstructorAnswer call)
-IsCalleeAnswer Function call = IsAnswer value_words (IsCallAnswer call)
+-- what a call asks, by what is called
+abbrev pub request_of : Kind → Signature → WgslRequest
+request_of Constructor c = ctor c
+request_of Function c = call c
+
+-- the same, if there is a call
+abbrev pub asked_of : Kind → Option Signature → Option WgslRequest
+asked_of kind signature = signature >>= λ c. Some (request_of kind c)
 
 -- so many types, and nothing after them
 abbrev pub arguments_at : ℕ → List ℕ → Option (List WgslType)

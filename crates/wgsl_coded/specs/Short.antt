@@ -1,6 +1,6 @@
 -- Few words, on the stack.
 use Rattle.std.specs.Prelude.{ℕ, List, take}
-use Rattle.wgsl_coded.specs.declared.short.ShortWords.{ShortWords}
+use Rattle.wgsl_coded.specs.declared.fast.short.ShortWords.{ShortWords}
 
 -- the words that are set
 abbrev pub short_items : ShortWords → List ℕ

@@ -1,25 +1,125 @@
-// Constructors and built-in functions, over words.
-ghost use Rattle.std.specs.Prelude.{Some, option_map};
+// The calls over words.
+ghost use Rattle.std.specs.Prelude.{Some};
+ghost use Rattle.wgsl_rules.specs.types.Types.{scalar};
 ghost use Rattle.wgsl_core.specs.Instances.{call_view};
-ghost use Rattle.wgsl_coded.specs.Callees.{IsCalleeAnswer, arguments_at, call_of};
-ghost use Rattle.wgsl_coded.specs.Replies.{IsCallReply, IsConstructorReply, IsReplyTo};
-ghost use Rattle.wgsl_coded.specs.Requests.{call_signature};
+ghost use Rattle.wgsl_core.specs.View.{view};
+ghost use Rattle.wgsl_asked.specs.Requests as asked;
+ghost use Rattle.wgsl_coded.specs.Callees.{asked_of};
+ghost use Rattle.wgsl_coded.specs.Replies.{IsBinaryReply, IsCallReply, IsCommonReply, IsConstructorReply, IsLayoutReply, IsRankReply, IsReplyTo, IsSizeReply, IsUnaryReply};
+ghost use Rattle.wgsl_coded.specs.Requests.{call_signature, layout_in};
 ghost use Rattle.wgsl_coded.specs.Seen.{reply_words, seen};
 
-use crate::coded::{DEPTH, read_whole};
+use crate::coded::read_whole;
+use crate::fast::placing::layout_while_reading;
+use crate::fast::plain::{read_plain_head, reply_to_one, reply_to_three, reply_to_two};
 use crate::fault::Fault;
-use crate::reading::read_type;
-use crate::reply::{Reply, reply_with_type, reply_with_value};
-use crate::requests::{read_call, read_plain_head, read_two};
+use crate::reply::{Reply, reply_to};
+use crate::requests::{
+    read_all_types, read_binary, read_call, read_two, read_two_scalars, read_unary,
+};
 use std::alloc::Global;
-use wgsl_calls::call::type_builtin_fn;
-use wgsl_calls::constructor::type_ctor;
+use wgsl_asked::requests::{Callee, Request};
 use wgsl_core::signature::TpltParam;
 use wgsl_core::ty::Type;
+use wgsl_core::ty::form::Form;
+use wgsl_syntax::scalar::Scalar;
+
+/// The rank of the conversion from one type to another, refused without words if there is none. The request is the two
+/// types.
+#[inline(always)]
+pub fn rank(alloc: Global, request: &[u32]) -> Result<Reply, Fault>
+    ensures { IsRankReply request.now (seen reply_words result) }
+{
+    match read_two_scalars(request) {
+        Some((source, target)) => rank_of_scalars(alloc, source, target),
+        None => rank_of_types(alloc, request),
+    }
+}
+
+#[inline(always)]
+fn rank_of_scalars(alloc: Global, source: Scalar, target: Scalar) -> Result<Reply, Fault>
+    ensures { IsReplyTo (Some (asked.rank (scalar source) (scalar target)))
+        (seen reply_words result) }
+{
+    reply_to(
+        alloc,
+        Request::Rank(&Type::from(source), &Type::from(target)),
+    )
+}
+
+#[inline(never)]
+fn rank_of_types(alloc: Global, request: &[u32]) -> Result<Reply, Fault>
+    ensures { IsRankReply request.now (seen reply_words result) }
+{
+    let (source, target) = read_two(alloc, request)?;
+    reply_to(alloc, Request::Rank(&source, &target))
+}
+
+/// The code of the common type of a list of types, refused without words if there is none. The request is the list.
+pub fn common(alloc: Global, request: &[u32]) -> Result<Reply, Fault>
+    ensures { IsCommonReply request.now (seen reply_words result) }
+{
+    let types = read_all_types(alloc, request)?;
+    let reply = reply_to(alloc, Request::LeftCommon(&types));
+    drop(types);
+    reply
+}
+
+/// The type of a unary expression, or its refusal. The request is the operator and the type of the operand.
+pub fn unary(alloc: Global, request: &[u32]) -> Result<Reply, Fault>
+    ensures { IsUnaryReply request.now (seen reply_words result) }
+{
+    let (operator, operand) = read_unary(alloc, request)?;
+    reply_to(alloc, Request::Unary(operator, &operand))
+}
+
+/// The type of a binary expression with those that its operands convert to, or its refusal. The request is the operator
+/// and the types of the operands.
+#[inline(always)]
+pub fn binary(alloc: Global, request: &[u32]) -> Result<Reply, Fault>
+    ensures { IsBinaryReply request.now (seen reply_words result) }
+{
+    let (operator, left, right) = read_binary(alloc, request)?;
+    reply_to(alloc, Request::Candidate(operator, &left, &right))
+}
+
+/// The size and the alignment of a type. The request is the type.
+pub fn size(alloc: Global, request: &[u32]) -> Result<Reply, Fault>
+    ensures { IsSizeReply request.now (seen reply_words result) }
+{
+    let ty = read_whole(alloc, request)?;
+    reply_to(alloc, Request::Size(&ty))
+}
+
+/// The layout of a struct, refused without words if it has none. The request is the struct.
+pub fn layout(alloc: Global, request: &[u32]) -> Result<Reply, Fault>
+    ensures { IsLayoutReply request.now (seen reply_words result) }
+{
+    match layout_while_reading(alloc, request)? {
+        Some(words) => Ok(Reply::Answer(words)),
+        None => layout_of_type(alloc, request),
+    }
+}
+
+fn layout_of_type(alloc: Global, request: &[u32]) -> Result<Reply, Fault>
+    ensures { IsLayoutReply request.now (seen reply_words result) }
+{
+    let ty = read_whole(alloc, request)?;
+    layout_of(alloc, &ty)
+}
+
+fn layout_of(alloc: Global, ty: &Type) -> Result<Reply, Fault>
+    ensures { IsReplyTo (layout_in (view ty.now)) (seen reply_words result) }
+{
+    match ty.form() {
+        Form::Struct(structure) => reply_to(alloc, Request::Layout(structure)),
+        _ => Err(Fault::NoType),
+    }
+}
 
 /// What is called.
 #[derive(Clone, Copy)]
-pub(crate) enum Callee {
+pub(crate) enum Kind {
     Constructor,
     Function,
 }
@@ -28,7 +128,7 @@ pub(crate) enum Callee {
 pub fn constructor(alloc: Global, request: &[u32]) -> Result<Reply, Fault>
     ensures { IsConstructorReply request.now (seen reply_words result) }
 {
-    reply_to(alloc, Callee::Constructor, request)
+    reply_to_call(alloc, Kind::Constructor, request)
 }
 
 /// The type of the call of a built-in function, no words if it returns no value, or its refusal. The request is the
@@ -36,94 +136,56 @@ pub fn constructor(alloc: Global, request: &[u32]) -> Result<Reply, Fault>
 pub fn call(alloc: Global, request: &[u32]) -> Result<Reply, Fault>
     ensures { IsCallReply request.now (seen reply_words result) }
 {
-    reply_to(alloc, Callee::Function, request)
+    reply_to_call(alloc, Kind::Function, request)
 }
 
-/// The reply to a call. Where it is plain, nothing is allocated for its name and for the list of its arguments.
+/// The reply to a call. If it is plain, nothing is allocated for its name and for the list of its arguments.
 #[inline(always)]
-fn reply_to(alloc: Global, callee: Callee, request: &[u32]) -> Result<Reply, Fault>
-    ensures { IsReplyTo (call_signature request.now) (IsCalleeAnswer callee)
-        (seen reply_words result) }
+fn reply_to_call(alloc: Global, kind: Kind, request: &[u32]) -> Result<Reply, Fault>
+    ensures { IsReplyTo (asked_of kind (call_signature request.now)) (seen reply_words result) }
 {
     let Some((name, count, words)) = read_plain_head(request) else {
-        return reply_to_any(alloc, callee, request);
+        return reply_to_any(alloc, kind, request);
     };
     match count {
-        1 => reply_to_one(alloc, callee, name.as_str(), words),
-        2 => reply_to_two(alloc, callee, name.as_str(), words),
-        3 => reply_to_three(alloc, callee, name.as_str(), words),
-        _ => reply_to_any(alloc, callee, request),
+        1 => reply_to_one(alloc, kind, name.as_str(), words),
+        2 => reply_to_two(alloc, kind, name.as_str(), words),
+        3 => reply_to_three(alloc, kind, name.as_str(), words),
+        _ => reply_to_any(alloc, kind, request),
     }
 }
 
 /// The reply to a call, with a template or without one, and any number of arguments.
 #[inline(never)]
-fn reply_to_any(alloc: Global, callee: Callee, request: &[u32]) -> Result<Reply, Fault>
-    ensures { IsReplyTo (call_signature request.now) (IsCalleeAnswer callee)
-        (seen reply_words result) }
+fn reply_to_any(alloc: Global, kind: Kind, request: &[u32]) -> Result<Reply, Fault>
+    ensures { IsReplyTo (asked_of kind (call_signature request.now)) (seen reply_words result) }
 {
     let call = read_call(alloc, request)?;
-    let reply = answer(alloc, callee, &call.name, call.tplt.as_deref(), &call.args);
+    let template = call.tplt.as_deref();
+    let reply = reply_to_callee(alloc, kind, &call.name, template, &call.args);
     drop(call);
     reply
 }
 
-// In the next three functions the arguments are taken out of their array at the end: so each is let go where it lies, by
-// its tag, and no function is called for it.
-
-/// The reply to a call without a template, whose argument is the type that the words are.
-#[inline(never)]
-fn reply_to_one(alloc: Global, callee: Callee, name: &str, words: &[u32]) -> Result<Reply, Fault>
-    ensures { IsReplyTo (option_map (call_of name.now) (arguments_at 1 words.now))
-        (IsCalleeAnswer callee) (seen reply_words result) }
-{
-    let args = [read_whole(alloc, words)?];
-    let reply = answer(alloc, callee, name, None, &args);
-    let [_first] = args;
-    reply
-}
-
-/// The reply to a call without a template, whose arguments are the two types that the words are.
-#[inline(never)]
-fn reply_to_two(alloc: Global, callee: Callee, name: &str, words: &[u32]) -> Result<Reply, Fault>
-    ensures { IsReplyTo (option_map (call_of name.now) (arguments_at 2 words.now))
-        (IsCalleeAnswer callee) (seen reply_words result) }
-{
-    let (first, second) = read_two(alloc, words)?;
-    let args = [first, second];
-    let reply = answer(alloc, callee, name, None, &args);
-    let [_first, _second] = args;
-    reply
-}
-
-/// The reply to a call without a template, whose arguments are the three types that the words are.
-#[inline(never)]
-fn reply_to_three(alloc: Global, callee: Callee, name: &str, words: &[u32]) -> Result<Reply, Fault>
-    ensures { IsReplyTo (option_map (call_of name.now) (arguments_at 3 words.now))
-        (IsCalleeAnswer callee) (seen reply_words result) }
-{
-    let (first, rest) = read_type(alloc, words, DEPTH)?;
-    let (second, third) = read_two(alloc, rest)?;
-    let args = [first, second, third];
-    let reply = answer(alloc, callee, name, None, &args);
-    let [_first, _second, _third] = args;
-    reply
-}
-
-/// The answer of what is called.
+/// The reply to the call of a constructor or of a built-in function.
 #[inline(always)]
-fn answer(
+pub(crate) fn reply_to_callee<'r>(
     alloc: Global,
-    callee: Callee,
-    name: &str,
-    tplt: Option<&[TpltParam]>,
-    args: &[Type],
+    kind: Kind,
+    name: &'r str,
+    template: Option<&'r [TpltParam]>,
+    arguments: &'r [Type],
 ) -> Result<Reply, Fault>
-    ensures { IsReplyTo (Some (call_view name.now tplt.entry args.now)) (IsCalleeAnswer callee)
+    ensures { IsReplyTo (asked_of kind (Some (call_view name.now template.entry arguments.now)))
         (seen reply_words result) }
 {
-    match callee {
-        Callee::Constructor => reply_with_type(alloc, type_ctor(alloc, name, tplt, args)),
-        Callee::Function => reply_with_value(alloc, type_builtin_fn(alloc, name, tplt, args)),
+    let callee = Callee {
+        name,
+        template,
+        arguments,
+    };
+    match kind {
+        Kind::Constructor => reply_to(alloc, Request::Constructor(callee)),
+        Kind::Function => reply_to(alloc, Request::Call(callee)),
     }
 }

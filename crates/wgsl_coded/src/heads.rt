@@ -3,7 +3,6 @@ ghost use Rattle.std.specs.Prelude.{◌≡◌, IfSome, Some, slice_get};
 ghost use Rattle.wgsl_syntax.specs.declared.around.Around.TheVariants as around;
 ghost use Rattle.wgsl_syntax.specs.declared.code.Head.TheVariants as head;
 ghost use Rattle.wgsl_syntax.specs.declared.code.LeafType.TheVariants as leaf;
-ghost use Rattle.wgsl_rules.specs.types.Types.{vec_of};
 ghost use Rattle.wgsl_rules.specs.codes.Heads.{flag_byte, head_word, texture_word};
 ghost use Rattle.wgsl_rules.specs.codes.Decoding.{flags_by_byte, head_at, head_of, parameters_by, texture_of};
 
@@ -13,7 +12,6 @@ use wgsl_syntax::around::Around;
 use wgsl_syntax::attribute::AccelerationStructureFlags;
 use wgsl_syntax::code::{Counted, Head, LeafType};
 use wgsl_syntax::index::by_index;
-use wgsl_syntax::layer::Layer;
 use wgsl_syntax::scalar::Scalar;
 use wgsl_syntax::texel::TexelFormat;
 use wgsl_syntax::texture::{SampledType, SamplerType, TextureType};
@@ -59,10 +57,10 @@ fn word_of_around(outer: Around) -> u32
     ensures { result ≡ head_word (head.Around outer) }
 {
     let (tag, a, b) = match outer {
-        Around::Layer(Layer::Array(None)) => (1, 0, 0),
-        Around::Layer(Layer::Array(Some(_))) => (2, 0, 0),
-        Around::Layer(Layer::Vec(components)) => (3, components, 0),
-        Around::Layer(Layer::Mat(columns, rows)) => (4, columns, rows),
+        Around::Array(None) => (1, 0, 0),
+        Around::Array(Some(_)) => (2, 0, 0),
+        Around::Vec(components) => (3, components, 0),
+        Around::Mat(columns, rows) => (4, columns, rows),
         Around::Atomic => (6, 0, 0),
         Around::Ptr(space, access) => (7, space as u8, access as u8),
         Around::Ref(space, access) => (8, space as u8, access as u8),
@@ -123,10 +121,10 @@ fn head_by(tag: u8, a: u8, b: u8, c: u8) -> Option<Head>
 {
     match tag {
         0 => Some(Head::Leaf(LeafType::Scalar(Scalar::at(a)?))),
-        1 => Some(Head::Around(Around::Layer(Layer::Array(None)))),
+        1 => Some(Head::Around(Around::Array(None))),
         2 => Some(Head::Counted(Counted::Array)),
-        3 => Some(Head::Around(Around::Layer(Layer::Vec(a)))),
-        4 => Some(Head::Around(Around::Layer(Layer::Mat(a, b)))),
+        3 => Some(Head::Around(Around::Vec(a))),
+        4 => Some(Head::Around(Around::Mat(a, b))),
         5 => Some(Head::Struct),
         6 => Some(Head::Around(Around::Atomic)),
         7 => Some(Head::Around(Around::Ptr(AddressSpace::at(a)?, AccessMode::at(b)?))),
@@ -175,7 +173,7 @@ pub(crate) fn read_scalar(word: u32) -> Option<Scalar>
 /// The number of components, if the word is a vector's.
 #[inline(always)]
 pub(crate) fn read_vector_head(word: u32) -> Option<u8>
-    ensures { IfSome result (λ n. head_at word ≡ Some (head.Around (around.Layer (vec_of n)))) }
+    ensures { IfSome result (λ n. head_at word ≡ Some (head.Around (around.Vec n))) }
 {
     let [tag, components, _, _] = word.to_le_bytes();
     if tag == 3 && word_of(3, components, 0, 0) == word {

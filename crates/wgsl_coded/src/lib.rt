@@ -3,36 +3,30 @@
 #![tactic(auto)]
 
 mod calls;
+mod candidates;
 mod coded;
-mod conversion;
 mod depth;
+mod fast;
 mod fault;
 mod heads;
 pub mod laws;
+mod layouts;
 mod literals;
 mod names;
 mod numbers;
-mod operators;
-mod placing;
 mod reading;
 mod refusals;
 mod reply;
 mod requests;
-mod short;
-mod short_name;
 mod signatures;
-mod sizes;
 mod writing;
 
-pub use calls::{call, constructor};
+pub use calls::{binary, call, common, constructor, layout, rank, size, unary};
 pub use coded::read;
-pub use conversion::{common, rank};
 pub use depth::{is_read_back, write_and_read};
+pub use fast::short::ShortWords;
 pub use fault::Fault;
-pub use operators::{binary, unary};
 pub use refusals::write_error;
 pub use reply::Reply;
-pub use short::ShortWords;
 pub use signatures::write_signature;
-pub use sizes::{layout, size};
 pub use writing::write;

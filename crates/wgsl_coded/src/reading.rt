@@ -3,7 +3,6 @@ ghost use Rattle.std.specs.Prelude.{◌≡◌, ◌<◌, IfSome, Some, length, sl
 ghost use Rattle.wgsl_syntax.specs.declared.around.Around.TheVariants as around;
 ghost use Rattle.wgsl_syntax.specs.declared.code.Head.TheVariants as head;
 ghost use Rattle.wgsl_syntax.specs.declared.code.LeafType.TheVariants as leaf;
-ghost use Rattle.wgsl_rules.specs.types.Types.{vec_of};
 ghost use Rattle.wgsl_rules.specs.codes.Decoding.{decode, head_at, leaf_type, members_at, parts_at};
 ghost use Rattle.wgsl_core.specs.View.{view, member_view, struct_view};
 ghost use Rattle.wgsl_core.specs.ResultStruct.{struct_type};
@@ -20,7 +19,6 @@ use std::alloc::Global;
 use wgsl_core::ty::{StructMemberType, StructType, Type};
 use wgsl_syntax::around::Around;
 use wgsl_syntax::code::{Head, LeafType};
-use wgsl_syntax::layer::Layer;
 use wgsl_syntax::scalar::Scalar;
 
 fn type_of_leaf(leaf: LeafType) -> Type
@@ -63,7 +61,7 @@ fn read_level(alloc: Global, first: u32, words: &[u32], depth: u8) -> Result<(Ty
     if depth > 0 {
         if let Some((components, of)) = read_vector(first, words) {
             let of = Box::new(alloc, Type::from(of))?;
-            let vector = Type::around(Around::Layer(Layer::Vec(components)), of);
+            let vector = Type::around(Around::Vec(components), of);
             return Ok((vector, &words[1..]));
         }
     }
@@ -76,7 +74,7 @@ fn read_level(alloc: Global, first: u32, words: &[u32], depth: u8) -> Result<(Ty
 /// The number of components and their type, if the words are a vector of a scalar.
 #[inline(always)]
 fn read_vector(first: u32, words: &[u32]) -> Option<(u8, Scalar)>
-    ensures some { IfSome result (λ v. head_at first ≡ Some (head.Around (around.Layer (vec_of v.0)))) }
+    ensures some { IfSome result (λ v. head_at first ≡ Some (head.Around (around.Vec v.0))) }
     ensures inside { IfSome result (λ v. 0 < length words.now
         × head_at (slice_index words.now 0) ≡ Some (head.Leaf (leaf.Scalar v.1))) }
 {

@@ -1,17 +1,23 @@
 // What the calls over words reply.
-ghost use Rattle.std.specs.Prelude.{◌≡◌, [], IfOk, option_map};
+ghost use Rattle.std.specs.Prelude.{◌≡◌, [], IfOk, Some};
 ghost use Rattle.wgsl_rules.specs.codes.Codes.{code};
 ghost use Rattle.wgsl_rules.specs.codes.Refusals.{refusal_code};
 ghost use Rattle.wgsl_core.specs.Answer.{refusal};
 ghost use Rattle.wgsl_core.specs.View.{view};
-ghost use Rattle.wgsl_coded.specs.Replies.{answered, value_words};
-ghost use Rattle.wgsl_coded.specs.Seen.{RepliesWith, RepliesWithRefusal, reply_words};
+ghost use Rattle.wgsl_asked.specs.Views.{answer_view, request_view};
+ghost use Rattle.wgsl_coded.specs.Replies.{IsReplyTo, answer_words, answered, refused};
+ghost use Rattle.wgsl_coded.specs.Seen.{reply_words, seen};
 
+use crate::candidates::{refuse_operands, reply_with_candidate, reply_with_resolved};
+use crate::fast::short::{ShortWords, short_code};
 use crate::fault::Fault;
+use crate::layouts::reply_with_layout;
 use crate::refusals::write_error;
-use crate::short::{ShortWords, short_code};
 use crate::writing::write;
 use std::alloc::{AllocError, Global};
+use wgsl_asked::answers::Answer;
+use wgsl_asked::ask::answer;
+use wgsl_asked::requests::Request;
 use wgsl_core::error::{Error, Fail};
 use wgsl_core::ty::Type;
 
@@ -20,46 +26,66 @@ use wgsl_core::ty::Type;
 pub enum Reply {
     /// The answer.
     Answer(Vec<u32>),
+    /// The answer, if it is one word.
+    Word(u32),
     /// The answer, if it is short.
     Short(ShortWords),
     /// The code of the refusal; no words where there is nothing to say but no.
     Refusal(Vec<u32>),
 }
 
-/// The code of a type, or of the refusal.
-pub(crate) fn reply_with_type(alloc: Global, answer: Result<Type, Fail>) -> Result<Reply, Fault>
-    ensures { RepliesWith (λ t. code (view t)) answer result }
+/// The reply to the request.
+#[inline(always)]
+pub(crate) fn reply_to(alloc: Global, request: Request<'_>) -> Result<Reply, Fault>
+    ensures { IsReplyTo (Some (request_view request.entry)) (seen reply_words result) }
 {
-    match answer {
-        Ok(ty) => Ok(reply_with_code(alloc, &ty)?),
-        Err(fail) => reply_with_refusal(alloc, fail),
-    }
+    let answer = answer(alloc, request)?;
+    Ok(write_answer(alloc, answer)?)
 }
 
-/// The code of a type if there is one, or of the refusal.
-pub(crate) fn reply_with_value(
-    alloc: Global,
-    answer: Result<Option<Type>, Fail>,
-) -> Result<Reply, Fault>
-    ensures { RepliesWith (λ t. value_words (option_map view t)) answer result }
+#[inline(always)]
+fn write_answer(alloc: Global, answer: Answer<'_>) -> Result<Reply, AllocError>
+    ensures { IfOk result (λ reply. reply_words reply ≡ answer_words (answer_view answer.entry)) }
 {
     match answer {
-        Ok(value) => Ok(reply_with_value_code(alloc, &value)?),
-        Err(fail) => reply_with_refusal(alloc, fail),
-    }
-}
-
-fn reply_with_refusal(alloc: Global, fail: Fail) -> Result<Reply, Fault>
-    ensures { RepliesWithRefusal fail result }
-{
-    match fail {
-        Fail::Error(error) => {
-            let words = words_of_refusal(alloc, &error);
-            drop(error);
-            Ok(Reply::Refusal(words?))
+        Answer::Number(Some(number)) => Ok(Reply::Word(number)),
+        Answer::Size(size, align) => Ok(Reply::Short(ShortWords::of_size(size, align))),
+        Answer::Common(Some(common)) => reply_with_code(alloc, common),
+        Answer::Type(Ok(ty)) => reply_with_type(alloc, ty),
+        Answer::Type(Err(Fail::Error(error))) => reply_with_refusal(alloc, error),
+        Answer::Type(Err(Fail::Memory(error))) => Err(error),
+        Answer::Value(Ok(Some(ty))) => reply_with_type(alloc, ty),
+        Answer::Value(Ok(None)) => Ok(Reply::Short(ShortWords::new())),
+        Answer::Value(Err(Fail::Error(error))) => reply_with_refusal(alloc, error),
+        Answer::Value(Err(Fail::Memory(error))) => Err(error),
+        Answer::Candidate(_, Some(found)) => reply_with_candidate(alloc, &found),
+        Answer::Binary(Ok(ty)) => reply_with_resolved(alloc, ty),
+        Answer::Binary(Err(operands)) | Answer::Candidate(operands, None) => {
+            refuse_operands(alloc, operands)
         }
-        Fail::Memory(_) => Err(Fault::Memory),
+        Answer::Offsets(Some(offsets)) => Ok(Reply::Answer(offsets)),
+        Answer::Layout(_, Some(layout)) => reply_with_layout(alloc, layout),
+        Answer::Number(None)
+        | Answer::Common(None)
+        | Answer::Offsets(None)
+        | Answer::Layout(_, None) => Ok(Reply::Refusal(Vec::new(alloc))),
     }
+}
+
+fn reply_with_type(alloc: Global, ty: Type) -> Result<Reply, AllocError>
+    ensures { IfOk result (λ reply. reply_words reply ≡ answered (code (view ty))) }
+{
+    let reply = reply_with_code(alloc, &ty);
+    drop(ty);
+    reply
+}
+
+fn reply_with_refusal(alloc: Global, error: Error) -> Result<Reply, AllocError>
+    ensures { IfOk result (λ reply. reply_words reply ≡ refused (refusal_code (refusal error))) }
+{
+    let words = words_of_refusal(alloc, &error);
+    drop(error);
+    Ok(Reply::Refusal(words?))
 }
 
 /// A list for the words of a reply. Most replies need no more room.
@@ -79,22 +105,12 @@ fn words_of_type(alloc: Global, ty: &Type) -> Result<Vec<u32>, AllocError>
 }
 
 #[inline(always)]
-pub(crate) fn reply_with_code(alloc: Global, ty: &Type) -> Result<Reply, AllocError>
+fn reply_with_code(alloc: Global, ty: &Type) -> Result<Reply, AllocError>
     ensures { IfOk result (λ reply. reply_words reply ≡ answered (code (view ty.now))) }
 {
     match short_code(ty) {
         Some(words) => Ok(Reply::Short(words)),
         None => Ok(Reply::Answer(words_of_type(alloc, ty)?)),
-    }
-}
-
-fn reply_with_value_code(alloc: Global, value: &Option<Type>) -> Result<Reply, AllocError>
-    ensures { IfOk result (λ reply. reply_words reply
-        ≡ answered (value_words (option_map view value.now))) }
-{
-    match value {
-        Some(ty) => reply_with_code(alloc, ty),
-        None => Ok(Reply::Short(ShortWords::new())),
     }
 }
 

@@ -1,19 +1,16 @@
 // What requests ask is read.
-ghost use Rattle.std.specs.Prelude.{◌≡◌, IfSome, Some, map, slice_get, take};
+ghost use Rattle.std.specs.Prelude.{◌≡◌, IfSome, Some, map, slice_get};
 ghost use Rattle.wgsl_syntax.specs.Operator.{binary_operators, unary_operators};
 ghost use Rattle.wgsl_rules.specs.types.Types.{scalar};
 ghost use Rattle.wgsl_core.specs.Instances.{signature_view};
 ghost use Rattle.wgsl_core.specs.View.{view};
-ghost use Rattle.wgsl_coded.specs.Callees.{IsPlainHead};
 ghost use Rattle.wgsl_coded.specs.Reads.{Reads};
 ghost use Rattle.wgsl_coded.specs.Requests.{all_types, binary_expression, call_signature, two_types, unary_expression};
 
 use crate::coded::{DEPTH, read_whole};
 use crate::fault::Fault;
 use crate::heads::read_scalar;
-use crate::numbers::read_number;
 use crate::reading::read_type;
-use crate::short_name::{ShortName, read_short_name};
 use crate::signatures::{read_signature, read_types};
 use std::alloc::Global;
 use wgsl_core::signature::CallSignature;
@@ -64,19 +61,6 @@ pub(crate) fn read_call(alloc: Global, words: &[u32]) -> Result<CallSignature, F
         return Err(Fault::NoType);
     }
     Ok(call)
-}
-
-/// The name of a call if it is short and there is no template, the number of the arguments, and the words from the first
-/// argument on.
-pub(crate) fn read_plain_head(words: &[u32]) -> Option<(ShortName, usize, &[u32])>
-    ensures { IfSome result (λ h. IsPlainHead words.now (take h.0.len h.0.bytes) h.1 h.2.now) }
-{
-    let (name, rest) = read_short_name(words)?;
-    let [0, rest @ ..] = rest else {
-        return None;
-    };
-    let (count, rest) = read_number(rest)?;
-    Some((name, count, rest))
 }
 
 /// A unary operator, and then a type.

@@ -17,7 +17,6 @@ use std::alloc::AllocError;
 use wgsl_core::ty::{StructMemberType, StructType, Type};
 use wgsl_syntax::around::Around;
 use wgsl_syntax::code::{Head, LeafType};
-use wgsl_syntax::layer::Layer;
 use wgsl_syntax::scalar::Scalar;
 
 #[inline(always)]
@@ -57,11 +56,9 @@ pub fn write(out: &mut Vec<u32>, ty: &Type) -> Result<(), AllocError>
         Type::F32 => write_scalar(out, Scalar::F32),
         Type::F16 => write_scalar(out, Scalar::F16),
         Type::Struct(s) => write_struct(out, s),
-        Type::Array(t, count) => write_around(out, Around::Layer(Layer::Array(*count)), t),
-        Type::Vec(n, t) => write_around(out, Around::Layer(Layer::Vec(*n)), t),
-        Type::Mat(columns, rows, t) => {
-            write_around(out, Around::Layer(Layer::Mat(*columns, *rows)), t)
-        }
+        Type::Array(t, count) => write_around(out, Around::Array(*count), t),
+        Type::Vec(n, t) => write_around(out, Around::Vec(*n), t),
+        Type::Mat(columns, rows, t) => { write_around(out, Around::Mat(*columns, *rows), t) }
         Type::Atomic(t) => write_around(out, Around::Atomic, t),
         Type::Ptr(space, t, access) => write_around(out, Around::Ptr(*space, *access), t),
         Type::Ref(space, t, access) => write_around(out, Around::Ref(*space, *access), t),

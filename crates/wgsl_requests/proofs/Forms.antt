@@ -16,7 +16,7 @@ use Rattle.wgsl_syntax.specs.declared.texture.SamplerType.TheVariants.{Sampler}
 use Rattle.wgsl_syntax.specs.declared.texture.TextureType.{TextureType}
 use Rattle.wgsl_syntax.specs.declared.texture.TextureType.TheVariants.{External}
 use Rattle.wgsl_syntax.proofs.Naming.{access_naming, space_naming}
-use Rattle.wgsl_rules.specs.types.Types.{WgslType, scalar, texture, sampler, ray_query, acceleration_structure, array_of, vec_of, mat_of}
+use Rattle.wgsl_rules.specs.types.Types.{WgslType, scalar, texture, sampler, ray_query, acceleration_structure}
 use Rattle.wgsl_syntax.specs.declared.around.Around.{Around}
 use Rattle.wgsl_syntax.specs.declared.around.Around.TheVariants as arounds
 use Rattle.wgsl_rules.specs.types.Around.{around}
@@ -76,9 +76,9 @@ Nothing words x rest = words ≡ rest
 abbrev pub LayerForm : List (List ℕ) → Around → List (List ℕ) → Type 0
 LayerForm [] layer rest = ⊥
 LayerForm (word ∷ words) layer rest =
-    MatchBool (bytes_eq word (codes "vec")) (Made (OneWord IsSmall) (λ n. arounds.Layer (vec_of n)) words layer rest)
-    (MatchBool (bytes_eq word (codes "mat")) (Made TwoSmall (λ p. arounds.Layer (mat_of p.0 p.1)) words layer rest)
-    (MatchBool (bytes_eq word (codes "array")) (Made (OneWord IsCount) (λ n. arounds.Layer (array_of n)) words layer rest)
+    MatchBool (bytes_eq word (codes "vec")) (Made (OneWord IsSmall) (λ n. arounds.Vec n) words layer rest)
+    (MatchBool (bytes_eq word (codes "mat")) (Made TwoSmall (λ p. arounds.Mat p.0 p.1) words layer rest)
+    (MatchBool (bytes_eq word (codes "array")) (Made (OneWord IsCount) (λ n. arounds.Array n) words layer rest)
     (MatchBool (bytes_eq word (codes "binding_array")) (Made (OneWord IsCount) (λ n. arounds.BindingArray n) words layer rest)
     (MatchBool (bytes_eq word (codes "atomic")) (Made Nothing (λ x. arounds.Atomic) words layer rest)
     (MatchBool (bytes_eq word (codes "ptr")) (Made MemoryAt (λ p. arounds.Ptr p.0 p.1) words layer rest)
@@ -106,9 +106,9 @@ one_nothing words x y rest more f g = (refl, sym f ∙ g)
 one_layer_form : OneThing LayerForm
 one_layer_form [] l k rest more f g = absurd f
 one_layer_form (word ∷ words) l k rest more f g =
-    both_bool _ _ _ _ _ _ (one_made (OneWord IsSmall) (λ n. arounds.Layer (vec_of n)) (one_word IsSmall small_one) words l k rest more)
-    (both_bool _ _ _ _ _ _ (one_made TwoSmall (λ p. arounds.Layer (mat_of p.0 p.1)) one_two words l k rest more)
-    (both_bool _ _ _ _ _ _ (one_made (OneWord IsCount) (λ n. arounds.Layer (array_of n)) (one_word IsCount count_one) words l k rest more)
+    both_bool _ _ _ _ _ _ (one_made (OneWord IsSmall) (λ n. arounds.Vec n) (one_word IsSmall small_one) words l k rest more)
+    (both_bool _ _ _ _ _ _ (one_made TwoSmall (λ p. arounds.Mat p.0 p.1) one_two words l k rest more)
+    (both_bool _ _ _ _ _ _ (one_made (OneWord IsCount) (λ n. arounds.Array n) (one_word IsCount count_one) words l k rest more)
     (both_bool _ _ _ _ _ _ (one_made (OneWord IsCount) (λ n. arounds.BindingArray n) (one_word IsCount count_one) words l k rest more)
     (both_bool _ _ _ _ _ _ (one_made Nothing (λ x. arounds.Atomic) one_nothing words l k rest more)
     (both_bool _ _ _ _ _ _ (one_made MemoryAt (λ p. arounds.Ptr p.0 p.1) one_memory words l k rest more)

@@ -7,7 +7,7 @@ use Rattle.std.proofs.lemmas.Result.{err_from_is_err_and}
 use Rattle.wgsl_syntax.specs.Address.{access_text, space_text}
 use Rattle.wgsl_syntax.specs.declared.address.AccessMode.{AccessMode}
 use Rattle.wgsl_syntax.specs.declared.address.AddressSpace.{AddressSpace}
-use Rattle.wgsl_rules.specs.types.Types.{WgslType, array_of, vec_of, mat_of}
+use Rattle.wgsl_rules.specs.types.Types.{WgslType}
 use Rattle.wgsl_syntax.specs.declared.around.Around.{Around}
 use Rattle.wgsl_syntax.specs.declared.around.Around.TheVariants as arounds
 use Rattle.wgsl_requests.specs.declared.words.Unread.{Unread}
@@ -49,14 +49,14 @@ module _ (word : List ℕ) (words after : List (List ℕ)) where
   layer_keyed : (key : List ℕ) (read : List (List ℕ)) (layer : Around) → word ≡ key → words ≡ read → LayerAt (key ∷ read) layer after → LayerAt (word ∷ words) layer after
   layer_keyed key read layer is are d = subst (λ w. LayerAt (w ∷ words) layer after) (sym is) (subst (λ ws. LayerAt (key ∷ ws) layer after) (sym are) d)
 
-  pub vec_read : (n : ℕ) → word ≡ codes "vec" → OneWord IsSmall words n after → LayerAt (word ∷ words) (arounds.Layer (vec_of n)) after
-  vec_read n is h = layer_keyed (codes "vec") (h.0 ∷ after) (arounds.Layer (vec_of n)) is h.1 (vec_at h.2)
+  pub vec_read : (n : ℕ) → word ≡ codes "vec" → OneWord IsSmall words n after → LayerAt (word ∷ words) (arounds.Vec n) after
+  vec_read n is h = layer_keyed (codes "vec") (h.0 ∷ after) (arounds.Vec n) is h.1 (vec_at h.2)
 
-  pub mat_read : (mid : List (List ℕ)) (c r : ℕ) → word ≡ codes "mat" → OneWord IsSmall words c mid → OneWord IsSmall mid r after → LayerAt (word ∷ words) (arounds.Layer (mat_of c r)) after
-  mat_read mid c r is h k = layer_keyed (codes "mat") (h.0 ∷ k.0 ∷ after) (arounds.Layer (mat_of c r)) is (h.1 ∙ ap (λ ws. h.0 ∷ ws) k.1) (mat_at h.2 k.2)
+  pub mat_read : (mid : List (List ℕ)) (c r : ℕ) → word ≡ codes "mat" → OneWord IsSmall words c mid → OneWord IsSmall mid r after → LayerAt (word ∷ words) (arounds.Mat c r) after
+  mat_read mid c r is h k = layer_keyed (codes "mat") (h.0 ∷ k.0 ∷ after) (arounds.Mat c r) is (h.1 ∙ ap (λ ws. h.0 ∷ ws) k.1) (mat_at h.2 k.2)
 
-  pub array_read : (n : Option ℕ) → word ≡ codes "array" → OneWord IsCount words n after → LayerAt (word ∷ words) (arounds.Layer (array_of n)) after
-  array_read n is h = layer_keyed (codes "array") (h.0 ∷ after) (arounds.Layer (array_of n)) is h.1 (array_at h.2)
+  pub array_read : (n : Option ℕ) → word ≡ codes "array" → OneWord IsCount words n after → LayerAt (word ∷ words) (arounds.Array n) after
+  array_read n is h = layer_keyed (codes "array") (h.0 ∷ after) (arounds.Array n) is h.1 (array_at h.2)
 
   pub binding_array_read : (n : Option ℕ) → word ≡ codes "binding_array" → OneWord IsCount words n after → LayerAt (word ∷ words) (arounds.BindingArray n) after
   binding_array_read n is h = layer_keyed (codes "binding_array") (h.0 ∷ after) (arounds.BindingArray n) is h.1 (binding_array_at h.2)

@@ -3,7 +3,7 @@ use Rattle.std.proofs.Common.{◌≡◌, ◌⊎◌, inl, inr, Box, Global, ℕ, 
 use Rattle.wgsl_rules.specs.types.Types.{WgslType, struct, Members}
 use Rattle.wgsl_rules.specs.types.Spelling.{spelling}
 use Rattle.wgsl_core.specs.View.{member_view, struct_view, view}
-use Rattle.wgsl_core.specs.Layout.{layouts_of, offsets_of, IsLayoutOf}
+use Rattle.wgsl_core.specs.Layout.{layouts_of, offsets_of}
 use Rattle.wgsl_core.specs.internal.View.{members_view}
 use Rattle.wgsl_core.specs.declared.layout.PlacedMember.{PlacedMember}
 use Rattle.wgsl_core.specs.declared.layout.StructLayout.{StructLayout}
@@ -13,8 +13,9 @@ use Rattle.wgsl_core.specs.declared.ty.Type.{«Type», the_lemmas}
 use Rattle.wgsl_core.specs.declared.ty.Type.TheVariants as v
 use Rattle.wgsl_core.specs.declared.ty.StructType.{StructType, out-StructType}
 use Rattle.wgsl_core.specs.declared.ty.StructMemberType.{StructMemberType, out-StructMemberType}
-use Rattle.wgsl_requests.specs.Layouts.{column, columns, member_line, member_lines, struct_line, IsLayoutText, laid_out}
-use Rattle.wgsl_requests.specs.internal.Written.{Adds, placed_line, placed_lines}
+use Rattle.wgsl_requests.specs.Layouts.{column, columns, member_line, member_lines, struct_line, layout_text}
+use Rattle.wgsl_asked.specs.Views.{layout_view}
+use Rattle.wgsl_requests.specs.internal.Written.{placed_line, placed_lines}
 
 pub name_seen : (m : StructMemberType) → (member_view m).name ≡ string_bytes (out-StructMemberType m).name
 name_seen m = search (rules, the_lemmas)
@@ -61,9 +62,9 @@ lines_seen (m ∷ ms) [] = refl
 lines_seen (m ∷ ms) (p ∷ ps) = ap (λ r. placed_line m p ++ r) (lines_seen ms ps)
 
 -- the whole report
-pub reported : (name : List ℕ) (ms : Members) (items : List StructMemberType) (l : StructLayout) (old mid new : List ℕ) → IsLayoutOf ms l → members_view items ≡ ms
-    → mid ≡ old ++ placed_lines items l.members.items → new ≡ mid ++ struct_line name l.size l.align → Adds (IsLayoutText name ms) old new
-reported name ms items l old mid new laid seen members last =
+pub reported : (name : List ℕ) (items : List StructMemberType) (l : StructLayout) (ms : Members) (old mid new : List ℕ) → members_view items ≡ ms → mid ≡ old ++ placed_lines items l.members.items →
+    new ≡ mid ++ struct_line name l.size l.align → new ≡ old ++ layout_text name ms (layout_view l)
+reported name items l ms old mid new seen members last =
     let lines : placed_lines items l.members.items ≡ member_lines ms (layouts_of l.members.items) (offsets_of l.members.items) =
     lines_seen items l.members.items ∙ ap (λ ms. member_lines ms (layouts_of l.members.items) (offsets_of l.members.items)) seen in
-    (member_lines ms (layouts_of l.members.items) (offsets_of l.members.items) ++ struct_line name l.size l.align, laid_out laid, last ∙ ap (λ x. x ++ struct_line name l.size l.align) (members ∙ ap (λ x. old ++ x) lines) ∙ append_assoc old _ _)
+    last ∙ ap (λ x. x ++ struct_line name l.size l.align) (members ∙ ap (λ x. old ++ x) lines) ∙ append_assoc old _ _

@@ -15,7 +15,7 @@ use Rattle.wgsl_syntax.specs.declared.texture_name.TextureParameters.{TexturePar
 use Rattle.wgsl_syntax.specs.declared.texture_name.TextureParameters.TheVariants as parameters
 use Rattle.wgsl_syntax.specs.TextureName.{parameters_of}
 use Rattle.wgsl_rules.specs.types.Around.{around}
-use Rattle.wgsl_rules.specs.types.Types.{WgslType, scalar, struct, texture, sampler, ray_query, acceleration_structure, Members, no_members, member, array_of, vec_of, mat_of}
+use Rattle.wgsl_rules.specs.types.Types.{WgslType, scalar, struct, texture, sampler, ray_query, acceleration_structure, Members, no_members, member}
 use Rattle.wgsl_syntax.specs.declared.around.Around.{Around}
 use Rattle.wgsl_syntax.specs.declared.around.Around.TheVariants as arounds
 use Rattle.wgsl_requests.specs.Numbers.{IsSmall, IsLong, IsCount, IsAttribute}
@@ -55,14 +55,14 @@ pub data LeafAt : List (List ℕ) → WgslType → List (List ℕ) → Type 0 wh
 pub data LayerAt : List (List ℕ) → Around → List (List ℕ) → Type 0 where
   -- `vec 3`
   vec_at : {components : List ℕ} {n : ℕ} {rest : List (List ℕ)} → IsSmall components n →
-      LayerAt (codes "vec" ∷ components ∷ rest) (arounds.Layer (vec_of n)) rest
+      LayerAt (codes "vec" ∷ components ∷ rest) (arounds.Vec n) rest
   -- `mat 4 3`: the columns, and the rows
   mat_at : {columns rows : List ℕ} {c r : ℕ} {rest : List (List ℕ)} → IsSmall columns c →
       IsSmall rows r →
-      LayerAt (codes "mat" ∷ columns ∷ rows ∷ rest) (arounds.Layer (mat_of c r)) rest
+      LayerAt (codes "mat" ∷ columns ∷ rows ∷ rest) (arounds.Mat c r) rest
   -- `array 4`, `array *`
   array_at : {count : List ℕ} {n : Option ℕ} {rest : List (List ℕ)} → IsCount count n →
-      LayerAt (codes "array" ∷ count ∷ rest) (arounds.Layer (array_of n)) rest
+      LayerAt (codes "array" ∷ count ∷ rest) (arounds.Array n) rest
   -- `binding_array 4`
   binding_array_at : {count : List ℕ} {n : Option ℕ} {rest : List (List ℕ)} → IsCount count n →
       LayerAt (codes "binding_array" ∷ count ∷ rest) (arounds.BindingArray n) rest

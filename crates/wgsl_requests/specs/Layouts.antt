@@ -3,7 +3,7 @@ use Rattle.std.specs.Prelude.{ℕ, ◌-◌, List, [], ◌∷◌, ◌++◌, codes
 use Rattle.wgsl_rules.specs.types.Types.{WgslType, Members, member}
 use Rattle.wgsl_rules.specs.types.Spelling.{spelling}
 use Rattle.wgsl_rules.specs.layout.Placement.{MemberLayout}
-use Rattle.wgsl_rules.specs.layout.Layout.{HasNoSize, AreOffsets, IsStructLayout}
+use Rattle.wgsl_asked.specs.Answers.{WgslLayout}
 
 -- numbers with a space between: `0 16 32`
 abbrev pub spaced : List ℕ → List ℕ
@@ -37,14 +37,6 @@ member_lines ms layouts offsets = []
 abbrev pub struct_line : List ℕ → ℕ → ℕ → List ℕ
 struct_line name size align = columns (decimal size) (codes "-") (decimal align) ++ name
 
--- the offsets of these members, or `none`
-pub data IsOffsetsText (ms : Members) : List ℕ → Type 0 where
-  placed : {offsets : List ℕ} → AreOffsets ms offsets → IsOffsetsText ms (spaced offsets)
-  not_placed : HasNoSize ms → IsOffsetsText ms (codes "none")
-
--- a line for each of these members and one for their struct, or `none`
-pub data IsLayoutText (name : List ℕ) (ms : Members) : List ℕ → Type 0 where
-  laid_out : {layouts : List MemberLayout} {offsets : List ℕ} {size align : ℕ} →
-      IsStructLayout ms layouts offsets size align →
-      IsLayoutText name ms (member_lines ms layouts offsets ++ struct_line name size align)
-  not_laid_out : HasNoSize ms → IsLayoutText name ms (codes "none")
+-- a line for each member, and one for the struct
+abbrev pub layout_text : List ℕ → Members → WgslLayout → List ℕ
+layout_text name ms l = member_lines ms l.layouts l.offsets ++ struct_line name l.size l.align

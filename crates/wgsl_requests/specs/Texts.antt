@@ -1,26 +1,46 @@
 -- How answers are written.
-use Rattle.std.specs.Prelude.{◌++◌, ℕ, List, Option, Some, None, Result, Ok, Err, codes, decimal}
+use Rattle.std.specs.Prelude.{◌++◌, ℕ, List, [], Option, Some, None, Result, Ok, Err, codes, decimal}
 use Rattle.wgsl_rules.specs.types.Types.{WgslType}
 use Rattle.wgsl_rules.specs.types.Spelling.{spelling}
 use Rattle.wgsl_rules.specs.errors.Refusals.{Refusal, message}
-use Rattle.wgsl_asked.specs.Answers.{WgslAnswer, number, size_and_align}
+use Rattle.wgsl_rules.specs.operators.Answers.{BinaryCandidate}
+use Rattle.wgsl_asked.specs.Answers.{WgslAnswer, a_number, a_size, a_common_type, a_type, a_value, a_candidate, some_offsets, a_layout, out_of_memory}
+use Rattle.wgsl_requests.specs.Layouts.{layout_text, spaced}
 
--- a number, or `none`
-abbrev pub number_or_none : Option ℕ → List ℕ
-number_or_none (Some n) = decimal n
-number_or_none None = codes "none"
+-- the text of a value, or `none`
+abbrev pub or_none : {A : Type 0} → (A → List ℕ) → Option A → List ℕ
+or_none text (Some x) = text x
+or_none text None = codes "none"
 
+-- the text of a value, or the message of a refusal
+abbrev pub or_message : {A : Type 0} → (A → List ℕ) → Result A Refusal → List ℕ
+or_message text (Ok x) = text x
+or_message text (Err e) = message e
+
+-- what a call returns
+abbrev pub value_text : Option WgslType → List ℕ
+value_text (Some t) = spelling t
+value_text None = codes "no value"
+
+-- the result of a candidate, or the refusal
+abbrev pub candidate_result : Result BinaryCandidate Refusal → Result WgslType Refusal
+candidate_result (Ok c) = Ok c.result
+candidate_result (Err e) = Err e
+
+-- the text of an answer, of a candidate its result; no request is answered by out of memory
 abbrev pub answer_text : WgslAnswer → List ℕ
-answer_text (number w) = number_or_none w
-answer_text (size_and_align s a) = number_or_none s ++ codes " " ++ number_or_none a
-
--- a type, or the message of a refusal
-abbrev pub type_or_message : Result WgslType Refusal → List ℕ
-type_or_message (Ok t) = spelling t
-type_or_message (Err e) = message e
-
--- what a call returns, which may be no value, or the message of a refusal
-abbrev pub value_or_message : Result (Option WgslType) Refusal → List ℕ
-value_or_message (Ok (Some t)) = spelling t
-value_or_message (Ok None) = codes "no value"
-value_or_message (Err e) = message e
+-- `6`
+answer_text (a_number w) = or_none decimal w
+-- `12 16`, `none 4`
+answer_text (a_size s a) = or_none decimal s ++ codes " " ++ or_none decimal a
+-- `f32`
+answer_text (a_common_type c) = or_none spelling c
+-- `vec3<f32>`, ``cannot use unary operator `-` on type `bool` ``
+answer_text (a_type r) = or_message spelling r
+-- `f32`, `no value`
+answer_text (a_value r) = or_message value_text r
+answer_text (a_candidate r) = or_message spelling (candidate_result r)
+-- `0 16 32`
+answer_text (some_offsets o) = or_none spaced o
+answer_text (a_layout name ms l) = or_none (layout_text name ms) l
+answer_text out_of_memory = []

@@ -1,33 +1,25 @@
 // What the program answers to a command.
-ghost use Rattle.std.specs.Prelude.{◌≡◌, ◌++◌, ◌∷◌, IfOk, MatchOption, Ok, OnOk, codes, map, option_map, string_bytes};
+ghost use Rattle.std.specs.Prelude.{◌≡◌, ◌∷◌, IfOk, MatchOption, OnOk, codes, string_bytes};
 ghost use Rattle.wgsl_syntax.specs.Operator.{binary_text, unary_text};
 ghost use Rattle.wgsl_rules.specs.types.Signatures.{Signature};
-ghost use Rattle.wgsl_rules.specs.types.Spelling.{spelling};
-ghost use Rattle.wgsl_rules.specs.errors.Refusals.{message};
 ghost use Rattle.wgsl_core.specs.View.{view};
-ghost use Rattle.wgsl_asked.specs.Views.{answer_view};
-ghost use Rattle.wgsl_requests.specs.Answers.{IsCommonText, IsReply};
-ghost use Rattle.wgsl_requests.specs.Layouts.{IsLayoutText, IsOffsetsText, spaced};
+ghost use Rattle.wgsl_asked.specs.Requests.{layout as layout_request, offsets as offsets_request};
+ghost use Rattle.wgsl_asked.specs.Views.{callee_view as asked_view, request_view};
+ghost use Rattle.wgsl_requests.specs.Answers.{IsAnswer, IsReply};
 ghost use Rattle.wgsl_requests.specs.Reading.{Answers, ReadsWord};
 ghost use Rattle.wgsl_requests.specs.Requests.{IsCallee, NoRequest};
-ghost use Rattle.wgsl_requests.specs.Texts.{answer_text, number_or_none, type_or_message, value_or_message};
 ghost use Rattle.wgsl_requests.specs.internal.Replied.{Replies, WritesOfStruct, callee_view};
 ghost use Rattle.wgsl_requests.specs.internal.Taken.{left};
-ghost use Rattle.wgsl_requests.specs.internal.Written.{Adds, IsRefusal, Shows};
+ghost use Rattle.wgsl_requests.specs.internal.Written.{Adds};
 
-use crate::common::common_type;
-use crate::number::write_number;
 use crate::read::{read_last_type, read_pair, read_types};
-use crate::report::write_layout;
 use crate::template::read_template;
 use crate::wanted::{Misfit, Misread, Wanted};
 use crate::words::{Unread, Words, parsed};
+use crate::write::write;
 use std::alloc::{AllocError, Global};
-use wgsl_asked::answers::Answer;
 use wgsl_asked::ask::answer;
-use wgsl_asked::requests::Request;
-use wgsl_types::builtin::{type_binary_op, type_builtin_fn, type_ctor, type_unary_op};
-use wgsl_types::error::Fail;
+use wgsl_asked::requests::{Callee as AskedCallee, Request};
 use wgsl_types::syntax::{BinaryOperator, UnaryOperator};
 use wgsl_types::tplt::TpltParam;
 use wgsl_types::ty::Type;
@@ -76,15 +68,25 @@ fn answer_command(
     }
 }
 
+/// Writes the answer to the request.
+#[inline(always)]
+fn write_answer_to(alloc: Global, request: Request<'_>, text: &mut String) -> Result<(), AllocError>
+    ensures { OnOk result (Adds (IsAnswer (request_view request.entry))
+        (string_bytes text.old) (string_bytes text.new)) }
+{
+    let answer = answer(alloc, request)?;
+    write(answer, text)
+}
+
 /// `rank T U`: the rank of the conversion.
 fn rank(alloc: Global, words: &mut Words, text: &mut String) -> Result<(), Unread>
     ensures { Replies (codes "rank" ∷ left words.old)
         (string_bytes text.old) (string_bytes text.new) result }
 {
     let types = read_pair(alloc, words)?;
-    let answer = answer(Request::Rank(&types[0], &types[1]));
+    let written = write_answer_to(alloc, Request::Rank(&types[0], &types[1]), text);
     drop(types);
-    Ok(write(answer, text)?)
+    Ok(written?)
 }
 
 /// `common T..`: the common type of all.
@@ -93,20 +95,9 @@ fn common(alloc: Global, words: &mut Words, text: &mut String) -> Result<(), Unr
         (string_bytes text.old) (string_bytes text.new) result }
 {
     let types = read_types(alloc, words)?;
-    let written = write_common(&types, text);
+    let written = write_answer_to(alloc, Request::Common(&types), text);
     drop(types);
     Ok(written?)
-}
-
-/// Writes the common type, or `none`.
-fn write_common(types: &[Type], text: &mut String) -> Result<(), AllocError>
-    ensures { OnOk result (Adds (IsCommonText (map view types.now))
-        (string_bytes text.old) (string_bytes text.new)) }
-{
-    match common_type(types) {
-        Some(common) => write_type(text, common),
-        None => text.push_str("none"),
-    }
 }
 
 /// `unary OP T`: the type of the expression, or why it has none.
@@ -116,9 +107,9 @@ fn unary(alloc: Global, words: &mut Words, text: &mut String) -> Result<(), Unre
 {
     let operator = unary_operator(words.next(Wanted::UnaryOperator)?)?;
     let operand = read_last_type(alloc, words)?;
-    let answer = type_unary_op(alloc, operator, &operand);
+    let written = write_answer_to(alloc, Request::Unary(operator, &operand), text);
     drop(operand);
-    Ok(write_type_or_refusal(text, answer)?)
+    Ok(written?)
 }
 
 fn unary_operator(word: &str) -> Result<UnaryOperator, Unread>
@@ -134,9 +125,9 @@ fn binary(alloc: Global, words: &mut Words, text: &mut String) -> Result<(), Unr
 {
     let operator = binary_operator(words.next(Wanted::BinaryOperator)?)?;
     let types = read_pair(alloc, words)?;
-    let answer = type_binary_op(alloc, operator, &types[0], &types[1]);
+    let written = write_answer_to(alloc, Request::Binary(operator, &types[0], &types[1]), text);
     drop(types);
-    Ok(write_type_or_refusal(text, answer)?)
+    Ok(written?)
 }
 
 fn binary_operator(word: &str) -> Result<BinaryOperator, Unread>
@@ -151,25 +142,9 @@ fn size(alloc: Global, words: &mut Words, text: &mut String) -> Result<(), Unrea
         (string_bytes text.old) (string_bytes text.new) result }
 {
     let ty = read_last_type(alloc, words)?;
-    let answer = answer(Request::Size(&ty));
+    let written = write_answer_to(alloc, Request::Size(&ty), text);
     drop(ty);
-    Ok(write(answer, text)?)
-}
-
-/// Writes an answer.
-#[inline(always)]
-fn write(answer: Answer, text: &mut String) -> Result<(), AllocError>
-    ensures { OnOk result (string_bytes text.new
-        ≡ string_bytes text.old ++ answer_text (answer_view answer)) }
-{
-    match answer {
-        Answer::Number(number) => write_number_or_none(text, number),
-        Answer::Size(size, align) => {
-            write_number_or_none(text, size)?;
-            text.push(' ')?;
-            write_number_or_none(text, align)
-        }
-    }
+    Ok(written?)
 }
 
 /// `offsets T` for a struct T: the offset of each member.
@@ -178,22 +153,19 @@ fn offsets(alloc: Global, words: &mut Words, text: &mut String) -> Result<(), Un
         (string_bytes text.old) (string_bytes text.new) result }
 {
     let ty = read_last_type(alloc, words)?;
-    let written = write_offsets(alloc, &ty, text);
+    let written = write_offsets_of(alloc, &ty, text);
     drop(ty);
     written
 }
 
-fn write_offsets(alloc: Global, ty: &Type, text: &mut String) -> Result<(), Unread>
-    ensures { WritesOfStruct (λ name ms. IsOffsetsText ms) (view ty.now)
+fn write_offsets_of(alloc: Global, ty: &Type, text: &mut String) -> Result<(), Unread>
+    ensures { WritesOfStruct offsets_request (view ty.now)
         (string_bytes text.old) (string_bytes text.new) result }
 {
-    let Type::Struct(read) = ty else {
+    let Type::Struct(structure) = ty else {
         return Err(Unread::Word(Misfit::NoStruct));
     };
-    match read.offsets(alloc)? {
-        Some(offsets) => Ok(write_spaced(text, &offsets)?),
-        None => Ok(text.push_str("none")?),
-    }
+    Ok(write_answer_to(alloc, Request::Offsets(structure), text)?)
 }
 
 /// `layout T` for a struct T: a report of its members and of the whole.
@@ -208,13 +180,13 @@ fn layout(alloc: Global, words: &mut Words, text: &mut String) -> Result<(), Unr
 }
 
 fn write_layout_of(alloc: Global, ty: &Type, text: &mut String) -> Result<(), Unread>
-    ensures { WritesOfStruct IsLayoutText (view ty.now)
+    ensures { WritesOfStruct layout_request (view ty.now)
         (string_bytes text.old) (string_bytes text.new) result }
 {
-    let Type::Struct(read) = ty else {
+    let Type::Struct(structure) = ty else {
         return Err(Unread::Word(Misfit::NoStruct));
     };
-    Ok(write_layout(alloc, read, text)?)
+    Ok(write_answer_to(alloc, Request::Layout(structure), text)?)
 }
 
 /// The name of a constructor or a built-in function, with its template and the types of its arguments.
@@ -223,6 +195,19 @@ struct Callee<'t> {
     name: &'t str,
     template: Option<Vec<TpltParam>>,
     types: Vec<Type>,
+}
+
+impl Callee<'_> {
+    #[inline(always)]
+    fn as_asked(&self) -> AskedCallee<'_>
+        ensures { asked_view result ≡ callee_view self.now }
+    {
+        AskedCallee {
+            name: self.name,
+            template: self.template.as_deref(),
+            arguments: &self.types,
+        }
+    }
 }
 
 fn read_callee<'t>(alloc: Global, words: &mut Words<'t>) -> Result<Callee<'t>, Unread>
@@ -245,14 +230,9 @@ fn ctor(alloc: Global, words: &mut Words, text: &mut String) -> Result<(), Unrea
         (string_bytes text.old) (string_bytes text.new) result }
 {
     let callee = read_callee(alloc, words)?;
-    let made = type_ctor(
-        alloc,
-        callee.name,
-        callee.template.as_deref(),
-        &callee.types,
-    );
+    let written = write_answer_to(alloc, Request::Constructor(callee.as_asked()), text);
     drop(callee);
-    Ok(write_type_or_refusal(text, made)?)
+    Ok(written?)
 }
 
 /// `call NAME P T..`: the type of the call, or why it has none; `no value` if it gives none.
@@ -261,95 +241,7 @@ fn call(alloc: Global, words: &mut Words, text: &mut String) -> Result<(), Unrea
         (string_bytes text.old) (string_bytes text.new) result }
 {
     let callee = read_callee(alloc, words)?;
-    let answer = type_builtin_fn(
-        alloc,
-        callee.name,
-        callee.template.as_deref(),
-        &callee.types,
-    );
+    let written = write_answer_to(alloc, Request::Call(callee.as_asked()), text);
     drop(callee);
-    Ok(write_value_or_refusal(text, answer)?)
-}
-
-/// Writes the type that a call gives, `no value`, or the message of a refusal.
-pub fn write_value_or_refusal(
-    text: &mut String,
-    answer: Result<Option<Type>, Fail>,
-) -> Result<(), AllocError>
-    ensures { OnOk result (Shows (option_map view)
-        (λ r. string_bytes text.new ≡ string_bytes text.old ++ value_or_message r) answer) }
-{
-    let written = match &answer {
-        Ok(value) => write_value(text, value),
-        Err(refused) => write_message(text, refused),
-    };
-    drop(answer);
-    written
-}
-
-fn write_value(text: &mut String, value: &Option<Type>) -> Result<(), AllocError>
-    ensures { OnOk result (string_bytes text.new
-        ≡ string_bytes text.old ++ value_or_message (Ok (option_map view value.now))) }
-{
-    match value {
-        Some(ty) => write_type(text, ty),
-        None => text.push_str("no value"),
-    }
-}
-
-/// Writes a type, or the message of a refusal.
-pub fn write_type_or_refusal(
-    text: &mut String,
-    answer: Result<Type, Fail>,
-) -> Result<(), AllocError>
-    ensures { OnOk result (Shows view
-        (λ r. string_bytes text.new ≡ string_bytes text.old ++ type_or_message r) answer) }
-{
-    let written = match &answer {
-        Ok(ty) => write_type(text, ty),
-        Err(refused) => write_message(text, refused),
-    };
-    drop(answer);
-    written
-}
-
-fn write_type(text: &mut String, ty: &Type) -> Result<(), AllocError>
-    ensures { OnOk result (string_bytes text.new ≡ string_bytes text.old ++ spelling (view ty.now)) }
-{
-    write!(text, "{ty}")
-}
-
-/// Writes the message of a refusal.
-pub fn write_message(text: &mut String, refused: &Fail) -> Result<(), AllocError>
-    ensures { OnOk result (IsRefusal
-        (λ e. string_bytes text.new ≡ string_bytes text.old ++ message e) refused.now) }
-{
-    match refused {
-        Fail::Error(e) => write!(text, "{e}"),
-        Fail::Memory(e) => Err(*e),
-    }
-}
-
-/// Writes a number, or `none`.
-#[inline(always)]
-pub fn write_number_or_none(text: &mut String, number: Option<u32>) -> Result<(), AllocError>
-    ensures { OnOk result (string_bytes text.new ≡ string_bytes text.old ++ number_or_none number) }
-{
-    match number {
-        Some(number) => write_number(text, number),
-        None => text.push_str("none"),
-    }
-}
-
-/// Writes the numbers with one space between.
-fn write_spaced(text: &mut String, numbers: &[u32]) -> Result<(), AllocError>
-    ensures { OnOk result (string_bytes text.new ≡ string_bytes text.old ++ spaced numbers.now) }
-{
-    let mut between = "";
-    for number in numbers {
-        text.push_str(between)?;
-        write_number(text, *number)?;
-        between = " ";
-    }
-    Ok(())
+    Ok(written?)
 }

@@ -21,7 +21,6 @@ pub fn one_type()
 {}
 
 /// A request has at most one answer.
-#[tactic(auto, using(crate::proofs::OneAnswer::one_answer))]
 pub fn one_answer()
     ensures { (request : Request) → OneAnswer request }
 {}

@@ -2,7 +2,6 @@
 #![tactic(auto)]
 
 pub mod command;
-pub mod common;
 pub mod laws;
 mod leaf;
 mod marks;
@@ -16,3 +15,4 @@ pub mod template;
 pub mod wanted;
 pub mod why;
 pub mod words;
+pub mod write;

@@ -9,7 +9,7 @@ ghost use Rattle.wgsl_requests.specs.internal.Taken.{GoesOn, left};
 use crate::wanted::Wanted;
 use crate::words::{Unread, Words, parsed};
 use std::alloc::{AllocError, Global};
-use wgsl_types::syntax::{AccessMode, AddressSpace, Around, Layer};
+use wgsl_types::syntax::{AccessMode, AddressSpace, Around};
 use wgsl_types::ty::Type;
 
 /// The type inside these layers, of which the last is the innermost.
@@ -35,14 +35,14 @@ pub fn read_outer(word: &str, words: &mut Words) -> Result<Option<Around>, Unrea
     match word {
         "vec" => {
             let components = words.next_small(Wanted::Components)?;
-            Ok(Some(Around::Layer(Layer::Vec(components))))
+            Ok(Some(Around::Vec(components)))
         }
         "mat" => {
             let columns = words.next_small(Wanted::Columns)?;
             let rows = words.next_small(Wanted::Rows)?;
-            Ok(Some(Around::Layer(Layer::Mat(columns, rows))))
+            Ok(Some(Around::Mat(columns, rows)))
         }
-        "array" => Ok(Some(Around::Layer(Layer::Array(words.next_count()?)))),
+        "array" => Ok(Some(Around::Array(words.next_count()?))),
         "binding_array" => Ok(Some(Around::BindingArray(words.next_count()?))),
         "atomic" => Ok(Some(Around::Atomic)),
         "ptr" => {

@@ -1,10 +1,12 @@
 // The layout of a struct as a person reads it.
-ghost use Rattle.std.specs.Prelude.{◌≡◌, ◌++◌, OnOk, string_bytes};
+ghost use Rattle.std.specs.Prelude.{◌≡◌, ◌++◌, OnOk, option_map, string_bytes};
 ghost use Rattle.wgsl_core.specs.View.{struct_view};
-ghost use Rattle.wgsl_requests.specs.Layouts.{IsLayoutText, struct_line};
-ghost use Rattle.wgsl_requests.specs.internal.Written.{Adds, placed_line, placed_lines};
+ghost use Rattle.wgsl_asked.specs.Views.{layout_view};
+ghost use Rattle.wgsl_requests.specs.Layouts.{layout_text, struct_line};
+ghost use Rattle.wgsl_requests.specs.Texts.{or_none};
+ghost use Rattle.wgsl_requests.specs.internal.Written.{placed_line, placed_lines};
 
-use std::alloc::{AllocError, Global};
+use std::alloc::AllocError;
 use wgsl_types::mem::{PlacedMember, StructLayout};
 use wgsl_types::ty::{StructMemberType, StructType};
 
@@ -13,20 +15,32 @@ use wgsl_types::ty::{StructMemberType, StructType};
 /// A line begins with three columns in bytes, a member's with its offset, its size and its alignment, the last with the
 /// size of the whole, a dash and its alignment.
 pub fn write_layout(
-    alloc: Global,
-    structure: &StructType,
     text: &mut String,
+    structure: &StructType,
+    layout: Option<StructLayout>,
 ) -> Result<(), AllocError>
-    ensures { let struct = struct_view structure.now in OnOk result
-        (Adds (IsLayoutText struct.name struct.members) (string_bytes text.old) (string_bytes text.new)) }
+    ensures { let struct = struct_view structure.now in OnOk result (string_bytes text.new
+        ≡ string_bytes text.old
+        ++ or_none (layout_text struct.name struct.members) (option_map layout_view layout)) }
 {
-    match structure.layout(alloc)? {
-        Some(layout) => {
-            write_members(&structure.members, &layout.members, text)?;
-            write_last(&structure.name, &layout, text)
-        }
+    let written = match &layout {
+        Some(layout) => write_lines(text, structure, layout),
         None => text.push_str("none"),
-    }
+    };
+    drop(layout);
+    written
+}
+
+fn write_lines(
+    text: &mut String,
+    structure: &StructType,
+    layout: &StructLayout,
+) -> Result<(), AllocError>
+    ensures { let struct = struct_view structure.now in OnOk result (string_bytes text.new
+        ≡ string_bytes text.old ++ layout_text struct.name struct.members (layout_view layout.now)) }
+{
+    write_members(&structure.members, &layout.members, text)?;
+    write_last(&structure.name, layout, text)
 }
 
 fn write_members(

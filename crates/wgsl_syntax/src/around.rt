@@ -3,12 +3,16 @@ ghost use Rattle.std.specs.Prelude.{◌≡◌};
 ghost use Rattle.wgsl_syntax.specs.Around.{count_of};
 
 use crate::address::{AccessMode, AddressSpace};
-use crate::layer::Layer;
 
 /// What stands around one other type.
 #[derive(Clone, Copy, PartialEq, Eq, Debug)]
 pub enum Around {
-    Layer(Layer),
+    /// The number of elements; None if the array is runtime-sized.
+    Array(Option<usize>),
+    /// The number of components.
+    Vec(u8),
+    /// The number of columns, and the number of rows.
+    Mat(u8, u8),
     /// The number of elements; None if the binding array is runtime-sized.
     BindingArray(Option<usize>),
     Atomic,
@@ -23,7 +27,7 @@ impl Around {
         ensures { result ≡ count_of self }
     {
         match self {
-            Around::Layer(Layer::Array(count)) | Around::BindingArray(count) => count,
+            Around::Array(count) | Around::BindingArray(count) => count,
             _ => None,
         }
     }

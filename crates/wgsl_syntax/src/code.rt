@@ -4,7 +4,6 @@ ghost use Rattle.wgsl_syntax.specs.Around.{with_count};
 
 use crate::around::Around;
 use crate::attribute::AccelerationStructureFlags;
-use crate::layer::Layer;
 use crate::scalar::Scalar;
 use crate::texture::{SamplerType, TextureType};
 
@@ -31,7 +30,7 @@ impl Counted {
         ensures { result ≡ with_count self count }
     {
         match self {
-            Counted::Array => Around::Layer(Layer::Array(Some(count))),
+            Counted::Array => Around::Array(Some(count)),
             Counted::BindingArray => Around::BindingArray(Some(count)),
         }
     }

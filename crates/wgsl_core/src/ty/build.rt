@@ -17,9 +17,9 @@ impl Type {
         ensures { view result ≡ around outer (view inner.value) }
     {
         match outer {
-            Around::Layer(Layer::Array(count)) => Type::Array(inner, count),
-            Around::Layer(Layer::Vec(components)) => Type::Vec(components, inner),
-            Around::Layer(Layer::Mat(columns, rows)) => Type::Mat(columns, rows, inner),
+            Around::Array(count) => Type::Array(inner, count),
+            Around::Vec(components) => Type::Vec(components, inner),
+            Around::Mat(columns, rows) => Type::Mat(columns, rows, inner),
             Around::BindingArray(count) => Type::BindingArray(inner, count),
             Around::Atomic => Type::Atomic(inner),
             Around::Ptr(space, access) => Type::Ptr(space, inner, access),
@@ -53,7 +53,12 @@ impl Type {
 pub(crate) fn within(alloc: Global, layer: Layer, element: Type) -> Result<Type, AllocError>
     ensures { IfOk result (λ t. view t ≡ within layer (view element)) }
 {
-    Ok(Type::around(Around::Layer(layer), Box::new(alloc, element)?))
+    let element = Box::new(alloc, element)?;
+    Ok(match layer {
+        Layer::Array(count) => Type::Array(element, count),
+        Layer::Vec(components) => Type::Vec(components, element),
+        Layer::Mat(columns, rows) => Type::Mat(columns, rows, element),
+    })
 }
 
 impl StructType {

@@ -4,9 +4,9 @@ use Rattle.wgsl_rules.specs.types.Types.{WgslType, struct, Members}
 use Rattle.wgsl_rules.specs.types.Signatures.{Signature}
 use Rattle.wgsl_core.specs.View.{view}
 use Rattle.wgsl_core.specs.Instances.{parameter_view}
-use Rattle.wgsl_requests.specs.Answers.{IsReply}
+use Rattle.wgsl_requests.specs.Answers.{IsAnswer, IsReply}
 use Rattle.wgsl_requests.specs.Reading.{Answers}
-use Rattle.wgsl_requests.specs.Requests.{NoRequest}
+use Rattle.wgsl_requests.specs.Requests.{NoRequest, Request}
 use Rattle.wgsl_requests.specs.declared.command.Callee.{Callee}
 use Rattle.wgsl_requests.specs.declared.words.Unread.{Unread}
 use Rattle.wgsl_requests.specs.internal.Written.{Adds}
@@ -16,12 +16,12 @@ use Rattle.wgsl_requests.specs.internal.Written.{Adds}
 abbrev pub Replies : List (List ℕ) → List ℕ → List ℕ → Result (Unit {0}) Unread → Type 0
 Replies words old new r = Answers (λ done. Adds (IsReply words) old new) (NoRequest words) r
 
--- A text about the struct is written. The error is `Word` only if the type is no struct.
-abbrev pub WritesOfStruct : (List ℕ → Members → List ℕ → Type 0) → WgslType →
-    List ℕ → List ℕ → Result (Unit {0}) Unread → Type 0
-WritesOfStruct Is t old new r =
+-- The answer to what is asked of the struct is written. The error is `Word` only if the type is no struct.
+abbrev pub WritesOfStruct : (List ℕ → Members → Request) → WgslType → List ℕ → List ℕ →
+    Result (Unit {0}) Unread → Type 0
+WritesOfStruct ask t old new r =
     Answers (λ done. (name : List ℕ) × (ms : Members) × (t ≡ struct name ms)
-    × Adds (Is name ms) old new)
+    × Adds (IsAnswer (ask name ms)) old new)
     ((name : List ℕ) (ms : Members) → ¬ t ≡ struct name ms) r
 
 -- the call that is made

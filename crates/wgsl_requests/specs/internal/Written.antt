@@ -1,5 +1,5 @@
 -- What is written at the end of a text.
-use Rattle.std.specs.Prelude.{◌≡◌, ◌++◌, ℕ, List, [], ◌∷◌, Result, Ok, Err}
+use Rattle.std.specs.Prelude.{◌≡◌, ◌++◌, ℕ, List, [], ◌∷◌}
 use Rattle.wgsl_rules.specs.errors.Refusals.{Refusal}
 use Rattle.wgsl_core.specs.Answer.{refusal}
 use Rattle.wgsl_core.specs.View.{member_view}
@@ -17,11 +17,6 @@ Adds P old new = (text : List ℕ) × P text × (new ≡ old ++ text)
 abbrev pub IsRefusal : (Refusal → Type 0) → Fail → Type 0
 IsRefusal P (Error e) = P (refusal e)
 IsRefusal P (Memory e) = ⊥
-
--- P holds of the value as `seen` shows it, or of the refusal; out of memory is neither
-abbrev pub Shows : {A B : Type 0} → (A → B) → (Result B Refusal → Type 0) → Result A Fail → Type 0
-Shows seen P (Ok a) = P (Ok (seen a))
-Shows seen P (Err fail) = IsRefusal (λ e. P (Err e)) fail
 
 -- the line of a member with its layout
 abbrev pub placed_line : StructMemberType → PlacedMember → List ℕ

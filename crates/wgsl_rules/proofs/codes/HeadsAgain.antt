@@ -42,7 +42,6 @@ use Rattle.wgsl_syntax.specs.declared.code.Counted.{Counted as CountedForm}
 use Rattle.wgsl_syntax.specs.declared.code.Counted.TheVariants as counted
 use Rattle.wgsl_syntax.specs.declared.code.Head.{Head}
 use Rattle.wgsl_syntax.specs.declared.code.Head.TheVariants.{Leaf, Around, Counted, Struct}
-use Rattle.wgsl_rules.specs.types.Types.{array_of, vec_of, mat_of}
 use Rattle.wgsl_rules.specs.codes.Words.{word, bytes, index}
 use Rattle.wgsl_rules.specs.codes.Heads.{head_word, flag_byte, first_parameter, second_parameter, texture_word}
 use Rattle.std.proofs.lemmas.Bool.{eqb-true}
@@ -133,17 +132,17 @@ leaf_again (leaf.AccelerationStructure f) =
 
 -- all that it has is in its first word
 abbrev pub FitsWord : AroundForm → Type 0
-FitsWord (arounds.Layer (array_of (Some n))) = ⊥
-FitsWord (arounds.Layer (vec_of n)) = n < 2 ^ 8
-FitsWord (arounds.Layer (mat_of c r)) = (c < 2 ^ 8) × (r < 2 ^ 8)
+FitsWord (arounds.Array (Some n)) = ⊥
+FitsWord (arounds.Vec n) = n < 2 ^ 8
+FitsWord (arounds.Mat c r) = (c < 2 ^ 8) × (r < 2 ^ 8)
 FitsWord (arounds.BindingArray (Some n)) = ⊥
 FitsWord x = Unit {0}
 
 pub around_again : (x : AroundForm) → FitsWord x → head_at (head_word (Around x)) ≡ Some (Around x)
-around_again (arounds.Layer (array_of None)) fits = one_again 1 0 (Around (arounds.Layer (array_of None))) (omega arith) (omega arith) refl refl
-around_again (arounds.Layer (array_of (Some n))) fits = absurd fits
-around_again (arounds.Layer (vec_of n)) fits = one_again 3 n (Around (arounds.Layer (vec_of n))) (omega arith) fits refl refl
-around_again (arounds.Layer (mat_of c r)) fits = again 4 c r 0 (Around (arounds.Layer (mat_of c r))) (omega arith) fits.0 fits.1 (omega arith) refl refl
+around_again (arounds.Array None) fits = one_again 1 0 (Around (arounds.Array None)) (omega arith) (omega arith) refl refl
+around_again (arounds.Array (Some n)) fits = absurd fits
+around_again (arounds.Vec n) fits = one_again 3 n (Around (arounds.Vec n)) (omega arith) fits refl refl
+around_again (arounds.Mat c r) fits = again 4 c r 0 (Around (arounds.Mat c r)) (omega arith) fits.0 fits.1 (omega arith) refl refl
 around_again arounds.Atomic fits = one_again 6 0 (Around arounds.Atomic) (omega arith) (omega arith) refl refl
 around_again (arounds.Ptr s m) fits =
     again 7 (index space_type s) (index access_type m) 0 (Around (arounds.Ptr s m)) (omega arith) (space_index s).0 (access_index m).0 (omega arith) refl
@@ -179,9 +178,9 @@ marked : (x : AroundForm) (c : CountedForm) (w : ℕ) → w ≡ head_word (Count
 marked x c w is e = let f : Some (Around x) ≡ Some (Counted c) = sym e ∙ (ap head_at is ∙ counted_again c) in cc f
 
 pub is_uncounted : (w : ℕ) (h : Head) → head_at w ≡ Some h → IsUncounted h
-is_uncounted w (Around (arounds.Layer (array_of (Some n)))) e = absurd (marked (arounds.Layer (array_of (Some n))) counted.Array w (head_is w _ e) e)
+is_uncounted w (Around (arounds.Array (Some n))) e = absurd (marked (arounds.Array (Some n)) counted.Array w (head_is w _ e) e)
 is_uncounted w (Around (arounds.BindingArray (Some n))) e = absurd (marked (arounds.BindingArray (Some n)) counted.BindingArray w (head_is w _ e) e)
-is_uncounted w (Around (arounds.Layer (array_of None))) e = refl
-is_uncounted w (Around (arounds.Layer (vec_of n))) e = refl
+is_uncounted w (Around (arounds.Array None)) e = refl
+is_uncounted w (Around (arounds.Vec n)) e = refl
 is_uncounted w (Around x) e = refl
 is_uncounted w h e = tt

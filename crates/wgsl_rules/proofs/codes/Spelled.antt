@@ -28,7 +28,7 @@ leaf_code l = refl
 
 pub code_around : (x : AroundForm) (t : WgslType) → code (around x t) ≡ around_code x ++ code t
 unfolding code
-code_around (arounds.Layer layer) t = refl
+code_around (arounds.Array n) t = refl
 code_around x t = refl
 
 -- without a number of elements, there is nothing between the first word and the code of the type inside

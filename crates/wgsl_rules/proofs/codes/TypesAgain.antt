@@ -8,7 +8,7 @@ use Rattle.wgsl_syntax.specs.declared.around.Around.TheVariants as arounds
 use Rattle.wgsl_syntax.specs.declared.code.Counted.{Counted as CountedForm}
 use Rattle.wgsl_syntax.specs.declared.code.Counted.TheVariants as counted
 use Rattle.wgsl_syntax.specs.declared.code.Head.TheVariants.{Leaf, Around, Counted, Struct}
-use Rattle.wgsl_rules.specs.types.Types.{WgslType, scalar, struct, atomic, pointer, reference, texture, sampler, binding_array, ray_query, acceleration_structure, array, vec, mat, array_of, vec_of, mat_of, Members, no_members, member}
+use Rattle.wgsl_rules.specs.types.Types.{WgslType, scalar, struct, atomic, pointer, reference, texture, sampler, binding_array, ray_query, acceleration_structure, array, vec, mat, Members, no_members, member}
 use Rattle.wgsl_rules.specs.codes.Words.{number, attribute, name_code}
 use Rattle.wgsl_rules.specs.codes.Heads.{head_word}
 use Rattle.wgsl_rules.specs.codes.Reading.{◌>>=◌}
@@ -60,10 +60,10 @@ mutual
   pub code_again : (t : WgslType) (d : ℕ) (rest : List ℕ) → HasCode t d → decode d (code t ++ rest) ≡ Some (t, rest)
   code_again t zero rest h = absurd h
   code_again (scalar s) (suc d) rest h = leaf_read (leaf.Scalar s) d rest
-  code_again (array None t) (suc d) rest h = around_read (arounds.Layer (array_of None)) t d _ rest tt (code_again t d rest h)
+  code_again (array None t) (suc d) rest h = around_read (arounds.Array None) t d _ rest tt (code_again t d rest h)
   code_again (array (Some n) t) (suc d) rest h = counted_read counted.Array n t d _ rest (code_again t d rest h.1)
-  code_again (vec n t) (suc d) rest h = around_read (arounds.Layer (vec_of n)) t d _ rest h.0 (code_again t d rest h.1)
-  code_again (mat c r t) (suc d) rest h = around_read (arounds.Layer (mat_of c r)) t d _ rest (h.0, h.1) (code_again t d rest h.2)
+  code_again (vec n t) (suc d) rest h = around_read (arounds.Vec n) t d _ rest h.0 (code_again t d rest h.1)
+  code_again (mat c r t) (suc d) rest h = around_read (arounds.Mat c r) t d _ rest (h.0, h.1) (code_again t d rest h.2)
   code_again (struct name ms) (suc d) rest h =
       ap (λ ws. decode (suc d) (head_word Struct ∷ ws)) (three_parts (name_code name) (number (member_count ms)) (member_codes ms) rest)
       ∙ struct_read name (member_count ms) ms d (member_codes ms ++ rest) rest h.0 (members_again ms d rest h.2)

@@ -2,10 +2,10 @@
 use Rattle.std.specs.Prelude.{ℕ, suc, zero, ◌<◌, ◌^◌, List, [], ◌∷◌, ◌++◌, Option, Some, None, IfSome, IsUtf8, length, slice_index}
 use Rattle.wgsl_syntax.specs.declared.code.LeafType.TheVariants as leaf
 use Rattle.wgsl_syntax.specs.declared.around.Around.{Around as AroundForm}
-use Rattle.wgsl_syntax.specs.declared.around.Around.TheVariants.{Layer, BindingArray, Atomic, Ptr, Ref}
+use Rattle.wgsl_syntax.specs.declared.around.Around.TheVariants.{Array, Vec, Mat, BindingArray, Atomic, Ptr, Ref}
 use Rattle.wgsl_syntax.specs.declared.code.Head.TheVariants.{Leaf, Around, Struct}
 use Rattle.wgsl_syntax.specs.Around.{count_of}
-use Rattle.wgsl_rules.specs.types.Types.{WgslType, scalar, within, struct, atomic, pointer, reference, texture, sampler, binding_array, ray_query, acceleration_structure, array, vec, mat, Members, no_members, member}
+use Rattle.wgsl_rules.specs.types.Types.{WgslType, scalar, struct, atomic, pointer, reference, texture, sampler, binding_array, ray_query, acceleration_structure, array, vec, mat, Members, no_members, member}
 use Rattle.wgsl_rules.specs.codes.Words.{number, attribute, name_code}
 use Rattle.wgsl_rules.specs.codes.Heads.{head_word}
 
@@ -27,7 +27,9 @@ unfoldable mutual
   -- the first word of the form, and then its parts in order
   pub code : WgslType → List ℕ
   code (scalar s) = head_word (Leaf (leaf.Scalar s)) ∷ []
-  code (within layer t) = around_code (Layer layer) ++ code t
+  code (array n t) = around_code (Array n) ++ code t
+  code (vec n t) = around_code (Vec n) ++ code t
+  code (mat c r t) = around_code (Mat c r) ++ code t
   code (struct name ms) =
       head_word Struct ∷ name_code name ++ number (member_count ms) ++ member_codes ms
   code (atomic t) = around_code Atomic ++ code t

@@ -22,7 +22,7 @@ use Rattle.wgsl_syntax.specs.declared.around.Around.TheVariants as arounds
 use Rattle.wgsl_syntax.specs.declared.code.Counted.TheVariants as counted
 use Rattle.wgsl_syntax.specs.declared.code.Head.{Head}
 use Rattle.wgsl_syntax.specs.declared.code.Head.TheVariants.{Leaf, Around, Counted, Struct}
-use Rattle.wgsl_rules.specs.types.Types.{WgslType, scalar, struct, texture, sampler, ray_query, acceleration_structure, array_of, vec_of, mat_of, Members, no_members, member}
+use Rattle.wgsl_rules.specs.types.Types.{WgslType, scalar, struct, texture, sampler, ray_query, acceleration_structure, Members, no_members, member}
 use Rattle.wgsl_rules.specs.types.Around.{around}
 use Rattle.wgsl_rules.specs.codes.Words.{bytes}
 use Rattle.wgsl_rules.specs.codes.Heads.{head_word}
@@ -72,8 +72,8 @@ memory_by form a b = do
 abbrev pub heads_by_tag : ℕ → ℕ → ℕ → List (Option Head)
 heads_by_tag a b c =
     leaf_by leaf.Scalar (slice_get scalars a)
-    ∷ Some (Around (arounds.Layer (array_of None))) ∷ Some (Counted counted.Array)
-    ∷ Some (Around (arounds.Layer (vec_of a))) ∷ Some (Around (arounds.Layer (mat_of a b)))
+    ∷ Some (Around (arounds.Array None)) ∷ Some (Counted counted.Array)
+    ∷ Some (Around (arounds.Vec a)) ∷ Some (Around (arounds.Mat a b))
     ∷ Some Struct ∷ Some (Around arounds.Atomic)
     ∷ memory_by arounds.Ptr a b ∷ memory_by arounds.Ref a b
     ∷ leaf_by leaf.Texture (texture_of a b c)

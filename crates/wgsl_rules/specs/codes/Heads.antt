@@ -19,7 +19,6 @@ use Rattle.wgsl_syntax.specs.declared.code.LeafType.TheVariants as leaf
 use Rattle.wgsl_syntax.specs.declared.code.Counted.TheVariants as counted
 use Rattle.wgsl_syntax.specs.declared.code.Head.{Head}
 use Rattle.wgsl_syntax.specs.declared.code.Head.TheVariants.{Leaf, Around, Counted, Struct}
-use Rattle.wgsl_rules.specs.types.Types.{array_of, vec_of, mat_of}
 use Rattle.wgsl_rules.specs.codes.Words.{word, index}
 
 -- 0 without the flag, and 1 with it
@@ -47,10 +46,10 @@ texture_word t =
 -- the first word of what stands around another type
 abbrev around_word : AroundForm → ℕ
 -- a runtime-sized array, and an array with a number of elements
-around_word (arounds.Layer (array_of None)) = word 1 0 0 0
-around_word (arounds.Layer (array_of (Some n))) = word 2 0 0 0
-around_word (arounds.Layer (vec_of n)) = word 3 n 0 0
-around_word (arounds.Layer (mat_of c r)) = word 4 c r 0
+around_word (arounds.Array None) = word 1 0 0 0
+around_word (arounds.Array (Some n)) = word 2 0 0 0
+around_word (arounds.Vec n) = word 3 n 0 0
+around_word (arounds.Mat c r) = word 4 c r 0
 around_word arounds.Atomic = word 6 0 0 0
 around_word (arounds.Ptr s m) = word 7 (index spaces s) (index access_modes m) 0
 around_word (arounds.Ref s m) = word 8 (index spaces s) (index access_modes m) 0

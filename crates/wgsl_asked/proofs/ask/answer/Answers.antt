@@ -1,10 +1,61 @@
-use Rattle.std.proofs.Common.{sym, subst}
-use Rattle.wgsl_asked.specs.Answers.{Answers, number, size_and_align, rank_is, size_is}
-use Rattle.wgsl_asked.specs.Views.{request_view}
+use Rattle.std.specs.Prelude.{option_map}
+use Rattle.wgsl_rules.specs.operators.Answers.{IsUnaryAnswer}
+use Rattle.wgsl_rules.specs.constructors.Constructors.{IsConstructorAnswer}
+use Rattle.wgsl_rules.specs.calls.Answers.{IsCallAnswer}
+use Rattle.wgsl_core.specs.View.{struct_view, view}
+use Rattle.wgsl_rules.proofs.conversion.Lists.{common_of_list}
+use Rattle.wgsl_asked.specs.Requests.{unary, ctor, call}
+use Rattle.wgsl_asked.specs.Answers.{a_type, a_value, rank_is, common_is, left_common_is, unary_is, binary_is, candidate_is, size_is, offsets_are, layout_is, ctor_is, call_is}
+use Rattle.wgsl_asked.specs.declared.answers.Operands.{Operands}
+use Rattle.wgsl_asked.specs.Views.{callee_view}
+use Rattle.wgsl_asked.proofs.Settled.{candidate_seen, settles, offsets_seen, layout_seen}
 use Rattle.wgsl_asked.proofs.ask.answer.Goals as goal
 
 pub returns-in-Rank : goal.returns-in-Rank
-returns-in-Rank c = subst (λ r. Answers (request_view r) (number c.conversion_rank.result)) (sym c.in-Rank.is) (rank_is _ c.conversion_rank.ensures)
+returns-in-Rank c = rw c.in-Rank.is (rank_is _ c.conversion_rank.ensures)
+
+pub returns-in-Common : goal.returns-in-Common
+returns-in-Common c = rw c.in-Common.is (common_is _ c.common_type.ensures)
+
+pub returns-in-LeftCommon : goal.returns-in-LeftCommon
+returns-in-LeftCommon c = rw c.in-LeftCommon.is (left_common_is _ (common_of_list _ _ c.common_of.ensures))
+
+pub returns-in-Candidate : goal.returns-in-Candidate
+returns-in-Candidate c =
+    let operands : Operands = record { operator = c.in-Candidate.operator; lhs = c.in-Candidate.lhs; rhs = c.in-Candidate.rhs } in
+    rw c.in-Candidate.is (candidate_is _ (candidate_seen operands c.resolve_operator.result c.resolve_operator.ensures))
 
 pub returns-in-Size : goal.returns-in-Size
-returns-in-Size c = subst (λ r. Answers (request_view r) (size_and_align c.size_of.result c.align_of.result)) (sym c.in-Size.is) (size_is _ _ c.size_of.ensures.exact c.align_of.ensures)
+returns-in-Size c = rw c.in-Size.is (size_is _ _ c.size_of.ensures.exact c.align_of.ensures)
+
+pub returns-in_ok-settled-in-Unary : goal.returns-in_ok-settled-in-Unary
+returns-in_ok-settled-in-Unary c =
+    let o = c.in-Unary.operator in
+    let t = view c.in-Unary.operand.now in
+    let h = c.in_ok-settled-in-Unary in
+    rw c.in-Unary.is (settles a_type view (IsUnaryAnswer o t) (unary o t) h.field-0 h.ensures c.type_unary_op-made.ensures.row (λ r d. unary_is r d))
+
+pub returns-in-Binary : goal.returns-in-Binary
+returns-in-Binary c = rw c.in-Binary.is (binary_is _ c.resolved_type.ensures)
+
+pub returns-in_ok-offsets-in-Offsets : goal.returns-in_ok-offsets-in-Offsets
+returns-in_ok-offsets-in-Offsets c =
+    let h = c.in_ok-offsets-in-Offsets in
+    rw c.in-Offsets.is (offsets_are _ (offsets_seen (struct_view c.in-Offsets.structure.now).members h.field-0 h.ensures.none.1 h.ensures.offsets))
+
+pub returns-in_ok-layout-in-Layout : goal.returns-in_ok-layout-in-Layout
+returns-in_ok-layout-in-Layout c =
+    let h = c.in_ok-layout-in-Layout in
+    rw c.in-Layout.is (layout_is _ (layout_seen (struct_view c.in-Layout.structure.now).members h.field-0 h.ensures.none.1 h.ensures.layout))
+
+pub returns-in_ok-settled-in-Constructor : goal.returns-in_ok-settled-in-Constructor
+returns-in_ok-settled-in-Constructor c =
+    let made = callee_view c.in-Constructor.callee in
+    let h = c.in_ok-settled-in-Constructor in
+    rw c.in-Constructor.is (settles a_type view (IsConstructorAnswer made) (ctor made) h.field-0 h.ensures c.type_ctor-made.ensures.row (λ r d. ctor_is r d))
+
+pub returns-in_ok-settled-in-Call : goal.returns-in_ok-settled-in-Call
+returns-in_ok-settled-in-Call c =
+    let made = callee_view c.in-Call.callee in
+    let h = c.in_ok-settled-in-Call in
+    rw c.in-Call.is (settles a_value (option_map view) (IsCallAnswer made) (call made) h.field-0 h.ensures c.type_builtin_fn-made.ensures.row (λ r d. call_is r d))

@@ -1,6 +1,5 @@
 // What the program writes of an answer, as a text of its own.
 use std::alloc::{AllocError, Global};
-use wgsl_requests::command::{write_message, write_number_or_none, write_value_or_refusal};
 use wgsl_types::error::Fail;
 use wgsl_types::ty::Type;
 
@@ -9,23 +8,39 @@ pub fn value_or_refusal(
     alloc: Global,
     answer: Result<Option<Type>, Fail>,
 ) -> Result<String, AllocError> {
-    let mut text = String::new(alloc);
-    write_value_or_refusal(&mut text, answer)?;
-    Ok(text)
+    match answer {
+        Ok(value) => {
+            let text = value_text(alloc, &value);
+            drop(value);
+            text
+        }
+        Err(refused) => message(alloc, refused),
+    }
+}
+
+fn value_text(alloc: Global, value: &Option<Type>) -> Result<String, AllocError> {
+    match value {
+        Some(ty) => ty.to_string(alloc),
+        None => String::from_str(alloc, "no value"),
+    }
 }
 
 /// The message of a refusal.
 pub fn message(alloc: Global, refused: Fail) -> Result<String, AllocError> {
-    let mut text = String::new(alloc);
-    let written = write_message(&mut text, &refused);
-    drop(refused);
-    written?;
-    Ok(text)
+    match refused {
+        Fail::Error(error) => {
+            let text = error.to_string(alloc);
+            drop(error);
+            text
+        }
+        Fail::Memory(e) => Err(e),
+    }
 }
 
 /// A number, or `none`.
 pub fn number_or_none(alloc: Global, number: Option<u32>) -> Result<String, AllocError> {
-    let mut text = String::new(alloc);
-    write_number_or_none(&mut text, number)?;
-    Ok(text)
+    match number {
+        Some(number) => number.to_string(alloc),
+        None => String::from_str(alloc, "none"),
+    }
 }

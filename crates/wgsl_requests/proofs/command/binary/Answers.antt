@@ -1,7 +1,7 @@
 use Rattle.std.proofs.Common.{◌≡◌, length, rules}
 use Rattle.wgsl_requests.proofs.Readers.{fails, fails_by}
 use Rattle.wgsl_requests.proofs.Requested.{no_binary_word, no_binary_operator, no_binary_operands}
-use Rattle.wgsl_requests.proofs.Replied.{binary_replied, two}
+use Rattle.wgsl_requests.proofs.Replied.{binary_spelled, replied, two}
 use Rattle.wgsl_requests.proofs.command.binary.Goals as goal
 
 pub returns-in_err-next : goal.returns-in_err-next
@@ -21,6 +21,6 @@ pub returns : goal.returns
 returns c =
     let types = c.in_ok-types.types in
     let n : length types ≡ 2 = search rules in
-    binary_replied _ _ _ _ _ _ _ _ _ _ c.in_ok-next.ensures.word c.in_ok-operator.ensures c.in_ok-types.ensures
-    (two types c.index-types-0.result c.index-types-1.result n) c.type_binary_op-answer.ensures.answer.row
-    c.in_ok-write_type_or_refusal.ensures
+    replied _ _
+    (binary_spelled _ _ _ _ _ _ _ c.in_ok-next.ensures.word c.in_ok-operator.ensures c.in_ok-types.ensures (two types c.index-types-0.result c.index-types-1.result n))
+    c.in_ok-written.ensures

@@ -1,11 +1,10 @@
-use Rattle.std.specs.Prelude.{option_map}
-use Rattle.wgsl_rules.specs.calls.Answers.{IsCallAnswer}
-use Rattle.wgsl_core.specs.Answer.{AnswersAs}
-use Rattle.wgsl_core.specs.View.{view}
-use Rattle.std.proofs.Common.{subst}
+use Rattle.std.proofs.Common.{string_bytes, subst}
+use Rattle.wgsl_requests.specs.Answers.{IsAnswer}
+use Rattle.wgsl_requests.specs.Requests.{call, call_words}
+use Rattle.wgsl_requests.specs.internal.Written.{Adds}
 use Rattle.wgsl_requests.proofs.Readers.{fails}
 use Rattle.wgsl_requests.proofs.Requested.{no_call}
-use Rattle.wgsl_requests.proofs.Replied.{call_replied, call_seen}
+use Rattle.wgsl_requests.proofs.Replied.{replied}
 use Rattle.wgsl_requests.proofs.command.call.Goals as goal
 
 pub returns-in_err-callee : goal.returns-in_err-callee
@@ -13,7 +12,5 @@ returns-in_err-callee c = fails _ _ _ _ _ (no_call _) c.from_residual.ensures.1 
 
 pub returns : goal.returns
 returns c =
-    let seen = call_seen c.in_ok-callee.callee c.as_deref.result c.deref.result.now c.as_deref.ensures.value c.deref.ensures.value in
-    call_replied _ _ (option_map view) _ _ _ c.in_ok-callee.ensures
-    (subst (λ call. AnswersAs (option_map view) (IsCallAnswer call) c.type_builtin_fn-answer.result) seen c.type_builtin_fn-answer.ensures.row)
-    c.in_ok-write_value_or_refusal.ensures
+    replied _ _ (call_words c.in_ok-callee.ensures)
+    (subst (λ made. Adds (IsAnswer (call made)) (string_bytes c.args.text.now) (string_bytes c.write_answer_to-written.new.text)) c.as_asked.ensures c.in_ok-written.ensures)

@@ -1,9 +1,10 @@
-use Rattle.wgsl_rules.specs.constructors.Constructors.{IsConstructorAnswer}
-use Rattle.wgsl_core.specs.Answer.{AnswersBy}
-use Rattle.std.proofs.Common.{subst}
+use Rattle.std.proofs.Common.{string_bytes, subst}
+use Rattle.wgsl_requests.specs.Answers.{IsAnswer}
+use Rattle.wgsl_requests.specs.Requests.{ctor, ctor_words}
+use Rattle.wgsl_requests.specs.internal.Written.{Adds}
 use Rattle.wgsl_requests.proofs.Readers.{fails}
 use Rattle.wgsl_requests.proofs.Requested.{no_ctor}
-use Rattle.wgsl_requests.proofs.Replied.{ctor_replied, call_seen}
+use Rattle.wgsl_requests.proofs.Replied.{replied}
 use Rattle.wgsl_requests.proofs.command.ctor.Goals as goal
 
 pub returns-in_err-callee : goal.returns-in_err-callee
@@ -11,7 +12,5 @@ returns-in_err-callee c = fails _ _ _ _ _ (no_ctor _) c.from_residual.ensures.1 
 
 pub returns : goal.returns
 returns c =
-    let seen = call_seen c.in_ok-callee.callee c.as_deref.result c.deref.result.now c.as_deref.ensures.value c.deref.ensures.value in
-    ctor_replied _ _ _ _ _ c.in_ok-callee.ensures
-    (subst (λ call. AnswersBy (IsConstructorAnswer call) c.type_ctor-made.result) seen c.type_ctor-made.ensures.row)
-    c.in_ok-write_type_or_refusal.ensures
+    replied _ _ (ctor_words c.in_ok-callee.ensures)
+    (subst (λ made. Adds (IsAnswer (ctor made)) (string_bytes c.args.text.now) (string_bytes c.write_answer_to-written.new.text)) c.as_asked.ensures c.in_ok-written.ensures)

@@ -1,9 +1,9 @@
 use Rattle.std.proofs.Common.{◌≡◌, length, rules}
-use Rattle.wgsl_requests.proofs.Replied.{asked_replied, rank_spelled, two}
+use Rattle.wgsl_requests.proofs.Replied.{replied, rank_spelled, two}
 use Rattle.wgsl_requests.proofs.command.rank.Goals as goal
 
 pub returns : goal.returns
 returns c =
     let types = c.in_ok-types.types in
     let n : length types ≡ 2 = search rules in
-    asked_replied _ _ _ (rank_spelled _ _ _ _ c.in_ok-types.ensures (two types c.index-types-0.result c.index-types-1.result n)) c.answer-answer.ensures c.in_ok-write.ensures
+    replied _ _ (rank_spelled _ _ _ _ c.in_ok-types.ensures (two types c.index-types-0.result c.index-types-1.result n)) c.in_ok-written.ensures

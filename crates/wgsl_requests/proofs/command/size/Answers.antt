@@ -1,6 +1,6 @@
 use Rattle.wgsl_requests.proofs.Readers.{fails}
 use Rattle.wgsl_requests.proofs.Requested.{no_size}
-use Rattle.wgsl_requests.proofs.Replied.{asked_replied}
+use Rattle.wgsl_requests.proofs.Replied.{replied}
 use Rattle.wgsl_requests.specs.Requests.{size_words}
 use Rattle.wgsl_requests.proofs.command.size.Goals as goal
 
@@ -8,4 +8,4 @@ pub returns-in_err-ty : goal.returns-in_err-ty
 returns-in_err-ty c = fails _ _ _ _ _ (no_size _) c.from_residual.ensures.1 c.in_err-ty.ensures
 
 pub returns : goal.returns
-returns c = asked_replied _ _ _ (size_words c.in_ok-ty.ensures) c.answer-answer.ensures c.in_ok-write.ensures
+returns c = replied _ _ (size_words c.in_ok-ty.ensures) c.in_ok-written.ensures

@@ -1,6 +1,6 @@
 use Rattle.wgsl_requests.proofs.Readers.{fails, fails_by}
 use Rattle.wgsl_requests.proofs.Requested.{no_unary_word, no_unary_operator, no_unary_operand}
-use Rattle.wgsl_requests.proofs.Replied.{unary_replied}
+use Rattle.wgsl_requests.proofs.Replied.{replied, unary_spelled}
 use Rattle.wgsl_requests.proofs.command.unary.Goals as goal
 
 pub returns-in_err-next : goal.returns-in_err-next
@@ -17,6 +17,4 @@ returns-in_err-operand c =
     c.from_residual-in_err-operand.ensures.1 c.in_err-operand.ensures
 
 pub returns : goal.returns
-returns c =
-    unary_replied _ _ _ _ _ _ _ _ c.in_ok-next.ensures.word c.in_ok-operator.ensures c.in_ok-operand.ensures
-    c.type_unary_op-answer.ensures.row c.in_ok-write_type_or_refusal.ensures
+returns c = replied _ _ (unary_spelled _ _ _ _ _ c.in_ok-next.ensures.word c.in_ok-operator.ensures c.in_ok-operand.ensures) c.in_ok-written.ensures

@@ -1,6 +1,5 @@
 use Rattle.std.proofs.Common.{refl}
 use Rattle.wgsl_syntax.specs.declared.around.Around.TheVariants as arounds
-use Rattle.wgsl_rules.specs.types.Types.{array_of, vec_of, mat_of}
 use Rattle.wgsl_requests.specs.Numbers.{IsCount, IsSmall}
 use Rattle.wgsl_requests.specs.Reading.{OneWord}
 use Rattle.wgsl_requests.specs.internal.Taken.{left}
@@ -10,19 +9,19 @@ use Rattle.wgsl_requests.proofs.outer.read_outer.Goals as goal
 
 pub returns-in_err-components-in-vec-clause-read : goal.returns-in_err-components-in-vec-clause-read
 returns-in_err-components-in-vec-clause-read c =
-    layer_fails (OneWord IsSmall) (λ n. arounds.Layer (vec_of n)) _ c.args.word.now (left c.args.words.now) _ _ _ (λ layer rest f. f) refl c.in-vec.is c.from_residual.ensures.1 c.in_err-components-in-vec.ensures.read
+    layer_fails (OneWord IsSmall) (λ n. arounds.Vec n) _ c.args.word.now (left c.args.words.now) _ _ _ (λ layer rest f. f) refl c.in-vec.is c.from_residual.ensures.1 c.in_err-components-in-vec.ensures.read
 
 pub returns-in_err-columns-in-mat-clause-read : goal.returns-in_err-columns-in-mat-clause-read
 returns-in_err-columns-in-mat-clause-read c =
-    layer_fails TwoSmall (λ p. arounds.Layer (mat_of p.0 p.1)) _ c.args.word.now (left c.args.words.now) _ _ _ (λ layer rest f. f) refl c.in-mat.is c.from_residual-in_err-columns-in-mat.ensures.1 (first_fails IsSmall IsSmall (left c.args.words.now) _ c.in_err-columns-in-mat.ensures.read)
+    layer_fails TwoSmall (λ p. arounds.Mat p.0 p.1) _ c.args.word.now (left c.args.words.now) _ _ _ (λ layer rest f. f) refl c.in-mat.is c.from_residual-in_err-columns-in-mat.ensures.1 (first_fails IsSmall IsSmall (left c.args.words.now) _ c.in_err-columns-in-mat.ensures.read)
 
 pub returns-in_err-rows-in-mat-clause-read : goal.returns-in_err-rows-in-mat-clause-read
 returns-in_err-rows-in-mat-clause-read c =
-    layer_fails TwoSmall (λ p. arounds.Layer (mat_of p.0 p.1)) _ c.args.word.now (left c.args.words.now) _ _ _ (λ layer rest f. f) refl c.in-mat.is c.from_residual-in_err-rows-in-mat.ensures.1 (second_fails IsSmall IsSmall (left c.args.words.now) (left c.next_small-in-mat.new.self) c.in_ok-columns-in-mat.columns _ c.in_ok-columns-in-mat.ensures.read c.in_err-rows-in-mat.ensures.read)
+    layer_fails TwoSmall (λ p. arounds.Mat p.0 p.1) _ c.args.word.now (left c.args.words.now) _ _ _ (λ layer rest f. f) refl c.in-mat.is c.from_residual-in_err-rows-in-mat.ensures.1 (second_fails IsSmall IsSmall (left c.args.words.now) (left c.next_small-in-mat.new.self) c.in_ok-columns-in-mat.columns _ c.in_ok-columns-in-mat.ensures.read c.in_err-rows-in-mat.ensures.read)
 
 pub returns-in_err-next_count-in-array-clause-read : goal.returns-in_err-next_count-in-array-clause-read
 returns-in_err-next_count-in-array-clause-read c =
-    layer_fails (OneWord IsCount) (λ n. arounds.Layer (array_of n)) _ c.args.word.now (left c.args.words.now) _ _ _ (λ layer rest f. f) refl c.in-array.is c.from_residual-in_err-next_count-in-array.ensures.1 c.in_err-next_count-in-array.ensures.read
+    layer_fails (OneWord IsCount) (λ n. arounds.Array n) _ c.args.word.now (left c.args.words.now) _ _ _ (λ layer rest f. f) refl c.in-array.is c.from_residual-in_err-next_count-in-array.ensures.1 c.in_err-next_count-in-array.ensures.read
 
 pub returns-in_err-next_count-in-binding_array-clause-read : goal.returns-in_err-next_count-in-binding_array-clause-read
 returns-in_err-next_count-in-binding_array-clause-read c =

@@ -1,0 +1,41 @@
+-- What the library returns, as an answer shows it.
+use Rattle.std.proofs.Common.{◌≡◌, ℕ, Vec, Global, Option, Some, None, Result, Ok, Err, refl, subst}
+use Rattle.std.specs.Prelude.{option_map, IfSome}
+use Rattle.std.specs.declared.alloc.AllocError.{AllocError}
+use Rattle.wgsl_rules.specs.types.Types.{Members}
+use Rattle.wgsl_rules.specs.errors.Refusals.{Refusal}
+use Rattle.wgsl_rules.specs.layout.Layout.{AreOffsets, HasNoSize}
+use Rattle.wgsl_core.specs.Answer.{AnswersAs, IsAnswered}
+use Rattle.wgsl_core.specs.Layout.{IsLayoutOf as IsLayoutOfMembers}
+use Rattle.wgsl_core.specs.declared.error.Fail.{Fail}
+use Rattle.wgsl_core.specs.declared.error.Fail.TheVariants as fails
+use Rattle.wgsl_core.specs.declared.layout.StructLayout.{StructLayout}
+use Rattle.wgsl_asked.specs.Answers.{Answers, AreOffsetsOf, IsLayoutOf, WgslAnswer}
+use Rattle.wgsl_asked.specs.Requests.{WgslRequest}
+use Rattle.wgsl_rules.specs.operators.Answers.{HasCandidate, IsCandidateAnswer}
+use Rattle.wgsl_core.specs.View.{view}
+use Rattle.wgsl_core.specs.declared.operators.resolve.Resolution.{Resolution}
+use Rattle.wgsl_core.specs.internal.Resolution.{resolution_view}
+use Rattle.wgsl_asked.specs.declared.answers.Operands.{Operands}
+use Rattle.wgsl_asked.specs.Views.{candidate_view, layout_view, outcome}
+
+pub settles : {A B : Type 0} (answered : Result B Refusal → WgslAnswer) (shown : A → B) (P : Result B Refusal → Type 0) (request : WgslRequest) {made : Result A Fail} (r : Result A Fail) →
+    (made ≡ r) × IsAnswered r → AnswersAs shown P made → ((x : Result B Refusal) → P x → Answers request (answered x)) → Answers request (outcome answered shown r)
+settles answered shown P request (Ok a) e h so = so _ (subst (AnswersAs shown P) e.0 h)
+settles answered shown P request (Err (fails.Error x)) e h so = so _ (subst (AnswersAs shown P) e.0 h)
+settles answered shown P request (Err (fails.Memory x)) e h so = absurd e.1
+
+pub offsets_seen : (ms : Members) (found : Option (Vec ℕ Global)) → (let r : Result (Option (Vec ℕ Global)) AllocError = Ok found in r ≡ Ok None → HasNoSize ms) → IfSome found (λ v. AreOffsets ms v.items) →
+    AreOffsetsOf ms (option_map (λ v. v.items) found)
+offsets_seen ms (Some v) none some = some
+offsets_seen ms None none some = none refl
+
+pub layout_seen : (ms : Members) (found : Option StructLayout) → (let r : Result (Option StructLayout) AllocError = Ok found in r ≡ Ok None → HasNoSize ms) → IfSome found (IsLayoutOfMembers ms) →
+    IsLayoutOf ms (option_map layout_view found)
+layout_seen ms (Some l) none some = some
+layout_seen ms None none some = none refl
+
+pub candidate_seen : (operands : Operands) (found : Option Resolution) → HasCandidate operands.operator (view operands.lhs.now) (view operands.rhs.now) (option_map resolution_view found) →
+    IsCandidateAnswer operands.operator (view operands.lhs.now) (view operands.rhs.now) (candidate_view operands found)
+candidate_seen operands (Some c) h = h
+candidate_seen operands None h = (refl, h)

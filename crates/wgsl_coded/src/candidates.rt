@@ -1,0 +1,120 @@
+// The words of candidates, or of the operands that an operator refuses.
+ghost use Rattle.std.specs.Prelude.{◌≡◌, ◌++◌, IfOk, IfSome, IsTrue, OnOk};
+ghost use Rattle.wgsl_rules.specs.codes.Codes.{code};
+ghost use Rattle.wgsl_rules.specs.codes.Refusals.{refusal_code};
+ghost use Rattle.wgsl_rules.specs.errors.Refusals as errors;
+ghost use Rattle.wgsl_core.specs.View.{view};
+ghost use Rattle.wgsl_core.specs.internal.Resolution.{element_view, resolution_view, resolved_view};
+ghost use Rattle.wgsl_coded.specs.Replies.{answered, candidate_words, refused};
+ghost use Rattle.wgsl_coded.specs.Seen.{reply_words};
+ghost use Rattle.wgsl_coded.specs.Short.{short_items};
+
+use crate::fast::short::ShortWords;
+use crate::refusals::write_operands;
+use crate::reply::{Reply, new_words};
+use crate::writing::write;
+use std::alloc::{AllocError, Global};
+use wgsl_asked::answers::Operands;
+use wgsl_core::operators::resolve::{Element, Extent, Resolution, ResolvedType};
+use wgsl_syntax::around::Around;
+use wgsl_syntax::code::Head;
+
+/// The codes of a candidate's types.
+#[inline(always)]
+pub(crate) fn reply_with_candidate(
+    alloc: Global,
+    found: &Resolution<'_>,
+) -> Result<Reply, AllocError>
+    ensures { IfOk result (λ reply. reply_words reply
+        ≡ answered (candidate_words (resolution_view found.now))) }
+{
+    match short_candidate(found) {
+        Some(words) => Ok(Reply::Short(words)),
+        None => Ok(Reply::Answer(words_of_resolution(alloc, found)?)),
+    }
+}
+
+/// The codes of a candidate's types, if they are short.
+#[inline(always)]
+fn short_candidate(found: &Resolution<'_>) -> Option<ShortWords>
+    ensures { IfSome result (λ words. short_items words
+        ≡ candidate_words (resolution_view found.now)) }
+{
+    let mut words = ShortWords::new();
+    if push_resolved(&mut words, found.result)
+        && push_resolved(&mut words, found.lhs)
+        && push_resolved(&mut words, found.rhs)
+    {
+        Some(words)
+    } else {
+        None
+    }
+}
+
+/// Adds the code of a type that isn't built yet; false if it isn't short.
+#[inline(always)]
+fn push_resolved(out: &mut ShortWords, ty: ResolvedType<'_>) -> bool
+    ensures { IsTrue result
+        → short_items out.new ≡ short_items out.old ++ code (resolved_view ty.entry) }
+{
+    match ty.extent {
+        Extent::Single => push_element(out, ty.element),
+        Extent::Vector(components) => {
+            out.push_head(Head::Around(Around::Vec(components))) && push_element(out, ty.element)
+        }
+        Extent::Matrix(columns, rows) => {
+            out.push_head(Head::Around(Around::Mat(columns, rows))) && push_element(out, ty.element)
+        }
+    }
+}
+
+#[inline(always)]
+fn push_element(out: &mut ShortWords, element: Element<'_>) -> bool
+    ensures { IsTrue result
+        → short_items out.new ≡ short_items out.old ++ code (element_view element.entry) }
+{
+    match element {
+        Element::Scalar(scalar) => out.push_scalar(scalar),
+        Element::Type(ty) => out.push_type(ty),
+    }
+}
+
+/// The codes of a candidate's types, whatever they are.
+#[inline(never)]
+fn words_of_resolution(alloc: Global, found: &Resolution<'_>) -> Result<Vec<u32>, AllocError>
+    ensures { IfOk result (λ words. words.items ≡ candidate_words (resolution_view found.now)) }
+{
+    let mut words = new_words(alloc)?;
+    write_built(alloc, &mut words, found.result)?;
+    write_built(alloc, &mut words, found.lhs)?;
+    write_built(alloc, &mut words, found.rhs)?;
+    Ok(words)
+}
+
+/// The code of a type that isn't built yet.
+pub(crate) fn reply_with_resolved(alloc: Global, ty: ResolvedType<'_>) -> Result<Reply, AllocError>
+    ensures { IfOk result (λ reply. reply_words reply ≡ answered (code (resolved_view ty.entry))) }
+{
+    let mut words = new_words(alloc)?;
+    write_built(alloc, &mut words, ty)?;
+    Ok(Reply::Answer(words))
+}
+
+/// Builds a type, and writes its code at the end.
+fn write_built(alloc: Global, out: &mut Vec<u32>, ty: ResolvedType<'_>) -> Result<(), AllocError>
+    ensures { OnOk result (out.new.items ≡ out.old.items ++ code (resolved_view ty.entry)) }
+{
+    let built = ty.build(alloc)?;
+    write(out, &built)
+}
+
+/// The code of the refusal of operands.
+pub(crate) fn refuse_operands(alloc: Global, operands: Operands<'_>) -> Result<Reply, AllocError>
+    ensures { let o = operands.entry in IfOk result (λ reply. reply_words reply
+        ≡ refused (refusal_code (errors.binary o.operator (view o.lhs.now) (view o.rhs.now)))) }
+{
+    let Operands { operator, lhs, rhs } = operands;
+    let mut words = new_words(alloc)?;
+    write_operands(&mut words, operator as u32, lhs, rhs)?;
+    Ok(Reply::Refusal(words))
+}

@@ -1,0 +1,5 @@
+// What is answered without allocating, or while it is read.
+pub(crate) mod placing;
+pub(crate) mod plain;
+pub(crate) mod short;
+pub(crate) mod short_name;

@@ -1,0 +1,116 @@
+// The layout of a struct is found while its members are read.
+ghost use Rattle.std.specs.Prelude.{IfOk, IfSome, Ok};
+ghost use Rattle.wgsl_coded.specs.Layouts.{AreLaidOut, IsSizedMember, IsStructHead};
+ghost use Rattle.wgsl_coded.specs.Replies.{IsLayoutReply, answered};
+
+use crate::coded::DEPTH;
+use crate::fault::Fault;
+use crate::heads::word_of_head;
+use crate::names::after_ascii_name;
+use crate::numbers::{read_attribute, read_number, write_number};
+use crate::reading::read_type;
+use std::alloc::{AllocError, Global};
+use wgsl_core::layout::placing::Placing;
+use wgsl_syntax::code::Head;
+
+/// A size and an alignment in bytes.
+#[derive(Clone, Copy)]
+struct Extent {
+    size: u32,
+    align: u32,
+}
+
+/// The words of a struct's layout; None if it has none, if a name isn't ASCII, or if the words are no struct.
+pub(crate) fn layout_while_reading(
+    alloc: Global,
+    request: &[u32],
+) -> Result<Option<Vec<u32>>, AllocError>
+    ensures { IfOk result (λ words. IfSome words (λ words.
+        IsLayoutReply request.now (Ok (answered words.items)))) }
+{
+    let Some((count, members)) = read_struct_head(request) else {
+        return Ok(None);
+    };
+    // A member takes five words or more, and its layout three.
+    let mut words = Vec::with_capacity(alloc, request.len())?;
+    write_number(&mut words, count)?;
+    let Some(whole) = write_layouts(alloc, &mut words, count, members)? else {
+        return Ok(None);
+    };
+    words.extend_from_slice(&[whole.size, whole.align])?;
+    Ok(Some(words))
+}
+
+/// The number of a struct's members, and the words from the first member on.
+fn read_struct_head(words: &[u32]) -> Option<(usize, &[u32])>
+    ensures { IfSome result (λ s. IsStructHead words.now s.0 s.1.now) }
+{
+    let [first, rest @ ..] = words else {
+        return None;
+    };
+    if *first != word_of_head(Head::Struct) {
+        return None;
+    }
+    let rest = after_ascii_name(rest)?;
+    let (count, members) = read_number(rest)?;
+    Some((count, members))
+}
+
+/// Writes the offset, the size and the alignment of each member at the end. Those of the struct are returned.
+fn write_layouts(
+    alloc: Global,
+    out: &mut Vec<u32>,
+    count: usize,
+    words: &[u32],
+) -> Result<Option<Extent>, AllocError>
+    ensures { IfOk result (λ whole. IfSome whole (λ whole.
+        AreLaidOut count words.now out.old.items out.new.items whole.size whole.align)) }
+{
+    let mut placing = Placing::start();
+    let mut rest = words;
+    for _ in 0..count {
+        let Some((member, after)) = read_sized_member(alloc, rest)? else {
+            return Ok(None);
+        };
+        let Some(offset) = placing.place(Some(member.size), member.align) else {
+            return Ok(None);
+        };
+        out.extend_from_slice(&[offset, member.size, member.align])?;
+        rest = after;
+    }
+    if !rest.is_empty() {
+        return Ok(None);
+    }
+    match placing.size() {
+        Some(size) => Ok(Some(Extent {
+            size,
+            align: placing.greatest,
+        })),
+        None => Ok(None),
+    }
+}
+
+/// The size and the alignment of the member that the words begin with, and the words after it.
+fn read_sized_member(alloc: Global, words: &[u32]) -> Result<Option<(Extent, &[u32])>, AllocError>
+    ensures { IfOk result (λ m. IfSome m (λ m. IsSizedMember words.now
+        (record { size = m.0.size; align = m.0.align }) m.1.now)) }
+{
+    let Some(rest) = after_ascii_name(words) else {
+        return Ok(None);
+    };
+    let Some((size, rest)) = read_attribute(rest) else {
+        return Ok(None);
+    };
+    let Some((align, rest)) = read_attribute(rest) else {
+        return Ok(None);
+    };
+    let (ty, rest) = match read_type(alloc, rest, DEPTH - 1) {
+        Ok(read) => read,
+        Err(Fault::NoType) => return Ok(None),
+        Err(Fault::Memory) => return Err(AllocError),
+    };
+    match (size.or(ty.size_of()), align.or(ty.align_of())) {
+        (Some(size), Some(align)) => Ok(Some((Extent { size, align }, rest))),
+        _ => Ok(None),
+    }
+}

@@ -1,0 +1,86 @@
+// Calls of a short name with one argument to three and without a template: nothing is allocated for the name and for the
+// list of the arguments.
+ghost use Rattle.std.specs.Prelude.{IfSome, option_map, take};
+ghost use Rattle.wgsl_coded.specs.Callees.{IsPlainHead, arguments_at, asked_of, call_of};
+ghost use Rattle.wgsl_coded.specs.Replies.{IsReplyTo};
+ghost use Rattle.wgsl_coded.specs.Seen.{reply_words, seen};
+
+use crate::calls::{Kind, reply_to_callee};
+use crate::coded::{DEPTH, read_whole};
+use crate::fast::short_name::{ShortName, read_short_name};
+use crate::fault::Fault;
+use crate::numbers::read_number;
+use crate::reading::read_type;
+use crate::reply::Reply;
+use crate::requests::read_two;
+use std::alloc::Global;
+
+/// The name of a call if it is short and there is no template, the number of the arguments, and the words from the first
+/// argument on.
+pub(crate) fn read_plain_head(words: &[u32]) -> Option<(ShortName, usize, &[u32])>
+    ensures { IfSome result (λ h. IsPlainHead words.now (take h.0.len h.0.bytes) h.1 h.2.now) }
+{
+    let (name, rest) = read_short_name(words)?;
+    let [0, rest @ ..] = rest else {
+        return None;
+    };
+    let (count, rest) = read_number(rest)?;
+    Some((name, count, rest))
+}
+
+// In the next three functions the arguments are taken out of their array at the end: so each is let go where it lies, by
+// its tag, and no function is called for it.
+
+/// The reply to a call without a template, whose argument is the type that the words are.
+#[inline(never)]
+pub(crate) fn reply_to_one(
+    alloc: Global,
+    kind: Kind,
+    name: &str,
+    words: &[u32],
+) -> Result<Reply, Fault>
+    ensures { IsReplyTo (asked_of kind (option_map (call_of name.now) (arguments_at 1 words.now)))
+        (seen reply_words result) }
+{
+    let args = [read_whole(alloc, words)?];
+    let reply = reply_to_callee(alloc, kind, name, None, &args);
+    let [_first] = args;
+    reply
+}
+
+/// The reply to a call without a template, whose arguments are the two types that the words are.
+#[inline(never)]
+pub(crate) fn reply_to_two(
+    alloc: Global,
+    kind: Kind,
+    name: &str,
+    words: &[u32],
+) -> Result<Reply, Fault>
+    ensures { IsReplyTo (asked_of kind (option_map (call_of name.now) (arguments_at 2 words.now)))
+        (seen reply_words result) }
+{
+    let (first, second) = read_two(alloc, words)?;
+    let args = [first, second];
+    let reply = reply_to_callee(alloc, kind, name, None, &args);
+    let [_first, _second] = args;
+    reply
+}
+
+/// The reply to a call without a template, whose arguments are the three types that the words are.
+#[inline(never)]
+pub(crate) fn reply_to_three(
+    alloc: Global,
+    kind: Kind,
+    name: &str,
+    words: &[u32],
+) -> Result<Reply, Fault>
+    ensures { IsReplyTo (asked_of kind (option_map (call_of name.now) (arguments_at 3 words.now)))
+        (seen reply_words result) }
+{
+    let (first, rest) = read_type(alloc, words, DEPTH)?;
+    let (second, third) = read_two(alloc, rest)?;
+    let args = [first, second, third];
+    let reply = reply_to_callee(alloc, kind, name, None, &args);
+    let [_first, _second, _third] = args;
+    reply
+}

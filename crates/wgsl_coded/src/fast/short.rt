@@ -1,0 +1,112 @@
+// Words of short replies, which do not allocate.
+ghost use Rattle.std.specs.Prelude.{◌≡◌, ◌++◌, ◌∷◌, [], IfSome, IsTrue};
+ghost use Rattle.wgsl_rules.specs.types.Types.{scalar};
+ghost use Rattle.wgsl_rules.specs.codes.Codes.{code};
+ghost use Rattle.wgsl_rules.specs.codes.Heads.{head_word};
+ghost use Rattle.wgsl_rules.specs.codes.Words.{attribute};
+ghost use Rattle.wgsl_core.specs.View.{view};
+ghost use Rattle.wgsl_coded.specs.Short.{short_items};
+
+use crate::heads::word_of_head;
+use wgsl_core::ty::Type;
+use wgsl_syntax::around::Around;
+use wgsl_syntax::code::{Head, LeafType};
+use wgsl_syntax::scalar::Scalar;
+
+/// At most six words.
+#[derive(Clone, Copy)]
+pub struct ShortWords {
+    words: [u32; 6],
+    len: usize,
+}
+
+impl ShortWords {
+    #[inline(always)]
+    pub(crate) fn new() -> ShortWords
+        ensures { short_items result ≡ [] }
+    {
+        ShortWords {
+            words: [0; 6],
+            len: 0,
+        }
+    }
+
+    /// A size and an alignment.
+    #[inline(always)]
+    pub(crate) fn of_size(size: Option<u32>, align: Option<u32>) -> ShortWords
+        ensures { short_items result ≡ attribute size ++ attribute align }
+    {
+        let (words, len) = match (size, align) {
+            (Some(size), Some(align)) => ([1, size, 1, align, 0, 0], 4),
+            (Some(size), None) => ([1, size, 0, 0, 0, 0], 3),
+            (None, Some(align)) => ([0, 1, align, 0, 0, 0], 3),
+            (None, None) => ([0; 6], 2),
+        };
+        ShortWords { words, len }
+    }
+
+    /// The words.
+    #[inline(always)]
+    pub fn as_slice(&self) -> &[u32]
+        ensures { result.now ≡ short_items self.now }
+    {
+        &self.words[..self.len.min(6)]
+    }
+
+    /// Adds the first word of a type; false if there is no room for it.
+    #[inline(always)]
+    pub(crate) fn push_head(&mut self, head: Head) -> bool
+        ensures { IsTrue result
+            → short_items self.new ≡ short_items self.old ++ (head_word head ∷ []) }
+    {
+        if self.len >= 6 {
+            return false;
+        }
+        self.words[self.len] = word_of_head(head);
+        self.len += 1;
+        true
+    }
+
+    /// Adds the code of a scalar; false if there is no room for it.
+    #[inline(always)]
+    #[tactic(auto, using(wgsl_rules::proofs::codes::Spelled::leaf_code))]
+    pub(crate) fn push_scalar(&mut self, of: Scalar) -> bool
+        ensures { IsTrue result
+            → short_items self.new ≡ short_items self.old ++ code (scalar of) }
+    {
+        self.push_head(Head::Leaf(LeafType::Scalar(of)))
+    }
+
+    /// Adds the code of a scalar or of a vector of scalars; false if the type is another one, or there is no room for it.
+    #[inline(always)]
+    pub(crate) fn push_type(&mut self, ty: &Type) -> bool
+        ensures { IsTrue result
+            → short_items self.new ≡ short_items self.old ++ code (view ty.now) }
+    {
+        match ty {
+            Type::Vec(components, of) => match of.scalar() {
+                Some(of) => {
+                    self.push_head(Head::Around(Around::Vec(*components))) && self.push_scalar(of)
+                }
+                None => false,
+            },
+            _ => match ty.scalar() {
+                Some(of) => self.push_scalar(of),
+                None => false,
+            },
+        }
+    }
+}
+
+/// The code of a scalar or of a vector of scalars.
+#[inline(always)]
+pub(crate) fn short_code(ty: &Type) -> Option<ShortWords>
+    ensures { IfSome result (λ words. short_items words ≡ code (view ty.now)) }
+{
+    let mut words = ShortWords::new();
+    if words.push_type(ty) {
+        Some(words)
+    } else {
+        None
+    }
+}

@@ -1,0 +1,183 @@
+// How answers are written.
+ghost use Rattle.std.specs.Prelude.{◌≡◌, ◌++◌, OnOk, decimal, option_map, string_bytes};
+ghost use Rattle.wgsl_rules.specs.errors.Refusals.{message};
+ghost use Rattle.wgsl_rules.specs.types.Spelling.{spelling};
+ghost use Rattle.wgsl_core.specs.View.{view};
+ghost use Rattle.wgsl_asked.specs.Answers.{a_type, a_value};
+ghost use Rattle.wgsl_core.specs.internal.Resolution.{element_view, resolved_view};
+ghost use Rattle.wgsl_asked.specs.Views.{answer_view, operands_refusal, outcome};
+ghost use Rattle.wgsl_requests.specs.Layouts.{spaced};
+ghost use Rattle.wgsl_requests.specs.Texts.{answer_text, or_none, value_text};
+ghost use Rattle.wgsl_requests.specs.internal.Written.{IsRefusal};
+
+use crate::number::write_number;
+use crate::report::write_layout;
+use std::alloc::AllocError;
+use wgsl_asked::answers::{Answer, Operands};
+use wgsl_core::operators::resolve::{Element, Extent, ResolvedType};
+use wgsl_types::error::Fail;
+use wgsl_types::ty::Type;
+
+/// Writes an answer at the end of the text; of a candidate its result.
+#[inline(always)]
+pub fn write(answer: Answer<'_>, text: &mut String) -> Result<(), AllocError>
+    ensures { OnOk result (string_bytes text.new
+        ≡ string_bytes text.old ++ answer_text (answer_view answer.entry)) }
+{
+    match answer {
+        Answer::Number(number) => write_number_or_none(text, number),
+        Answer::Size(size, align) => {
+            write_number_or_none(text, size)?;
+            text.push(' ')?;
+            write_number_or_none(text, align)
+        }
+        Answer::Common(common) => write_type_or_none(text, common),
+        Answer::Type(made) => write_type_or_refusal(text, made),
+        Answer::Value(returned) => write_value_or_refusal(text, returned),
+        Answer::Binary(Ok(ty)) => write_resolved(text, ty),
+        Answer::Candidate(_, Some(found)) => write_resolved(text, found.result),
+        Answer::Binary(Err(operands)) | Answer::Candidate(operands, None) => {
+            write_operands(text, operands)
+        }
+        Answer::Offsets(offsets) => write_offsets(text, offsets),
+        Answer::Layout(structure, layout) => write_layout(text, structure, layout),
+    }
+}
+
+/// Writes a number, or `none`.
+#[inline(always)]
+fn write_number_or_none(text: &mut String, number: Option<u32>) -> Result<(), AllocError>
+    ensures { OnOk result (string_bytes text.new ≡ string_bytes text.old ++ or_none decimal number) }
+{
+    match number {
+        Some(number) => write_number(text, number),
+        None => text.push_str("none"),
+    }
+}
+
+fn write_type_or_none(text: &mut String, ty: Option<&Type>) -> Result<(), AllocError>
+    ensures { OnOk result (string_bytes text.new
+        ≡ string_bytes text.old ++ or_none spelling (option_map (λ t. view t.now) ty.entry)) }
+{
+    match ty {
+        Some(ty) => write_type(text, ty),
+        None => text.push_str("none"),
+    }
+}
+
+/// Writes a type that isn't built.
+fn write_resolved(text: &mut String, ty: ResolvedType<'_>) -> Result<(), AllocError>
+    ensures { OnOk result (string_bytes text.new
+        ≡ string_bytes text.old ++ spelling (resolved_view ty.entry)) }
+{
+    match ty.extent {
+        Extent::Single => return write_element(text, ty.element),
+        Extent::Vector(components) => write!(text, "vec{components}<")?,
+        Extent::Matrix(columns, rows) => write!(text, "mat{columns}x{rows}<")?,
+    }
+    write_element(text, ty.element)?;
+    text.push('>')
+}
+
+fn write_element(text: &mut String, element: Element<'_>) -> Result<(), AllocError>
+    ensures { OnOk result (string_bytes text.new
+        ≡ string_bytes text.old ++ spelling (element_view element.entry)) }
+{
+    match element {
+        Element::Scalar(scalar) => write!(text, "{scalar}"),
+        Element::Type(ty) => write_type(text, ty),
+    }
+}
+
+/// Writes the message by which operands are refused.
+fn write_operands(text: &mut String, operands: Operands<'_>) -> Result<(), AllocError>
+    ensures { OnOk result (string_bytes text.new
+        ≡ string_bytes text.old ++ message (operands_refusal operands.entry)) }
+{
+    let Operands { operator, lhs, rhs } = operands;
+    write!(
+        text,
+        "cannot use binary operator `{operator}` with operands `{lhs}` and `{rhs}`"
+    )
+}
+
+/// Writes a type, or the message of a refusal.
+fn write_type_or_refusal(text: &mut String, made: Result<Type, Fail>) -> Result<(), AllocError>
+    ensures { OnOk result (string_bytes text.new
+        ≡ string_bytes text.old ++ answer_text (outcome a_type view made)) }
+{
+    let written = match &made {
+        Ok(ty) => write_type(text, ty),
+        Err(refused) => write_message(text, refused),
+    };
+    drop(made);
+    written
+}
+
+/// Writes the type that a call gives, `no value`, or the message of a refusal.
+fn write_value_or_refusal(
+    text: &mut String,
+    returned: Result<Option<Type>, Fail>,
+) -> Result<(), AllocError>
+    ensures { OnOk result (string_bytes text.new
+        ≡ string_bytes text.old ++ answer_text (outcome a_value (option_map view) returned)) }
+{
+    let written = match &returned {
+        Ok(value) => write_value(text, value),
+        Err(refused) => write_message(text, refused),
+    };
+    drop(returned);
+    written
+}
+
+fn write_value(text: &mut String, value: &Option<Type>) -> Result<(), AllocError>
+    ensures { OnOk result (string_bytes text.new
+        ≡ string_bytes text.old ++ value_text (option_map view value.now)) }
+{
+    match value {
+        Some(ty) => write_type(text, ty),
+        None => text.push_str("no value"),
+    }
+}
+
+fn write_type(text: &mut String, ty: &Type) -> Result<(), AllocError>
+    ensures { OnOk result (string_bytes text.new ≡ string_bytes text.old ++ spelling (view ty.now)) }
+{
+    write!(text, "{ty}")
+}
+
+/// Writes the message of a refusal.
+fn write_message(text: &mut String, refused: &Fail) -> Result<(), AllocError>
+    ensures { OnOk result (IsRefusal
+        (λ e. string_bytes text.new ≡ string_bytes text.old ++ message e) refused.now) }
+{
+    match refused {
+        Fail::Error(e) => write!(text, "{e}"),
+        Fail::Memory(e) => Err(*e),
+    }
+}
+
+fn write_offsets(text: &mut String, offsets: Option<Vec<u32>>) -> Result<(), AllocError>
+    ensures { OnOk result (string_bytes text.new
+        ≡ string_bytes text.old ++ or_none spaced (option_map (λ v. v.items) offsets)) }
+{
+    let written = match &offsets {
+        Some(offsets) => write_spaced(text, offsets),
+        None => text.push_str("none"),
+    };
+    drop(offsets);
+    written
+}
+
+/// Writes the numbers with one space between.
+fn write_spaced(text: &mut String, numbers: &[u32]) -> Result<(), AllocError>
+    ensures { OnOk result (string_bytes text.new ≡ string_bytes text.old ++ spaced numbers.now) }
+{
+    let mut between = "";
+    for number in numbers {
+        text.push_str(between)?;
+        write_number(text, *number)?;
+        between = " ";
+    }
+    Ok(())
+}
