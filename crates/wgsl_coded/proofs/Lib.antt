@@ -1,3 +1,4 @@
+pub mod Replied
 pub mod FirstWords
 pub mod Texts
 pub mod Levels

@@ -1,9 +1,7 @@
 // The calls over words.
 ghost use Rattle.std.specs.Prelude.{Some};
-ghost use Rattle.wgsl_rules.specs.types.Types.{scalar};
 ghost use Rattle.wgsl_core.specs.Instances.{call_view};
 ghost use Rattle.wgsl_core.specs.View.{view};
-ghost use Rattle.wgsl_asked.specs.Requests as asked;
 ghost use Rattle.wgsl_coded.specs.Callees.{asked_of};
 ghost use Rattle.wgsl_coded.specs.Replies.{IsBinaryReply, IsCallReply, IsCommonReply, IsConstructorReply, IsLayoutReply, IsRankReply, IsReplyTo, IsSizeReply, IsUnaryReply};
 ghost use Rattle.wgsl_coded.specs.Requests.{call_signature, layout_in};
@@ -12,6 +10,7 @@ ghost use Rattle.wgsl_coded.specs.Seen.{reply_words, seen};
 use crate::coded::read_whole;
 use crate::fast::placing::layout_while_reading;
 use crate::fast::plain::{read_plain_head, reply_to_one, reply_to_three, reply_to_two};
+use crate::fast::scalars::rank_of_scalars;
 use crate::fault::Fault;
 use crate::reply::{Reply, reply_to};
 use crate::requests::{
@@ -22,7 +21,6 @@ use wgsl_asked::requests::{Callee, Request};
 use wgsl_core::signature::TpltParam;
 use wgsl_core::ty::Type;
 use wgsl_core::ty::form::Form;
-use wgsl_syntax::scalar::Scalar;
 
 /// The rank of the conversion from one type to another, refused without words if there is none. The request is the two
 /// types.
@@ -34,17 +32,6 @@ pub fn rank(alloc: Global, request: &[u32]) -> Result<Reply, Fault>
         Some((source, target)) => rank_of_scalars(alloc, source, target),
         None => rank_of_types(alloc, request),
     }
-}
-
-#[inline(always)]
-fn rank_of_scalars(alloc: Global, source: Scalar, target: Scalar) -> Result<Reply, Fault>
-    ensures { IsReplyTo (Some (asked.rank (scalar source) (scalar target)))
-        (seen reply_words result) }
-{
-    reply_to(
-        alloc,
-        Request::Rank(&Type::from(source), &Type::from(target)),
-    )
 }
 
 #[inline(never)]
@@ -169,7 +156,7 @@ fn reply_to_any(alloc: Global, kind: Kind, request: &[u32]) -> Result<Reply, Fau
 
 /// The reply to the call of a constructor or of a built-in function.
 #[inline(always)]
-pub(crate) fn reply_to_callee<'r>(
+fn reply_to_callee<'r>(
     alloc: Global,
     kind: Kind,
     name: &'r str,

@@ -1,15 +1,16 @@
 // The words of candidates, or of the operands that an operator refuses.
-ghost use Rattle.std.specs.Prelude.{◌≡◌, ◌++◌, IfOk, IfSome, IsTrue, OnOk};
+ghost use Rattle.std.specs.Prelude.{◌≡◌, ◌++◌, IfOk, IsTrue, OnOk};
 ghost use Rattle.wgsl_rules.specs.codes.Codes.{code};
 ghost use Rattle.wgsl_rules.specs.codes.Refusals.{refusal_code};
-ghost use Rattle.wgsl_rules.specs.errors.Refusals as errors;
 ghost use Rattle.wgsl_core.specs.View.{view};
 ghost use Rattle.wgsl_core.specs.internal.Resolution.{element_view, resolution_view, resolved_view};
+ghost use Rattle.wgsl_asked.specs.Views.{operands_refusal};
 ghost use Rattle.wgsl_coded.specs.Replies.{answered, candidate_words, refused};
-ghost use Rattle.wgsl_coded.specs.Seen.{reply_words};
+ghost use Rattle.wgsl_coded.specs.Seen.{HasWords};
 ghost use Rattle.wgsl_coded.specs.Short.{short_items};
 
 use crate::fast::short::ShortWords;
+use crate::fault::Fault;
 use crate::refusals::write_operands;
 use crate::reply::{Reply, new_words};
 use crate::writing::write;
@@ -21,34 +22,26 @@ use wgsl_syntax::code::Head;
 
 /// The codes of a candidate's types.
 #[inline(always)]
-pub(crate) fn reply_with_candidate(
-    alloc: Global,
-    found: &Resolution<'_>,
-) -> Result<Reply, AllocError>
-    ensures { IfOk result (λ reply. reply_words reply
-        ≡ answered (candidate_words (resolution_view found.now))) }
+pub(crate) fn reply_with_candidate(alloc: Global, found: &Resolution<'_>) -> Result<Reply, Fault>
+    ensures { HasWords (answered (candidate_words (resolution_view found.now))) result }
 {
-    match short_candidate(found) {
-        Some(words) => Ok(Reply::Short(words)),
-        None => Ok(Reply::Answer(words_of_resolution(alloc, found)?)),
+    let mut words = ShortWords::new();
+    if push_candidate(&mut words, found) {
+        Ok(Reply::Short(words))
+    } else {
+        Ok(Reply::Answer(words_of_resolution(alloc, found)?))
     }
 }
 
-/// The codes of a candidate's types, if they are short.
+/// Adds the codes of a candidate's types; false if they aren't short.
 #[inline(always)]
-fn short_candidate(found: &Resolution<'_>) -> Option<ShortWords>
-    ensures { IfSome result (λ words. short_items words
-        ≡ candidate_words (resolution_view found.now)) }
+fn push_candidate(out: &mut ShortWords, found: &Resolution<'_>) -> bool
+    ensures { IsTrue result
+        → short_items out.new ≡ short_items out.old ++ candidate_words (resolution_view found.now) }
 {
-    let mut words = ShortWords::new();
-    if push_resolved(&mut words, found.result)
-        && push_resolved(&mut words, found.lhs)
-        && push_resolved(&mut words, found.rhs)
-    {
-        Some(words)
-    } else {
-        None
-    }
+    push_resolved(out, found.result)
+        && push_resolved(out, found.lhs)
+        && push_resolved(out, found.rhs)
 }
 
 /// Adds the code of a type that isn't built yet; false if it isn't short.
@@ -92,8 +85,8 @@ fn words_of_resolution(alloc: Global, found: &Resolution<'_>) -> Result<Vec<u32>
 }
 
 /// The code of a type that isn't built yet.
-pub(crate) fn reply_with_resolved(alloc: Global, ty: ResolvedType<'_>) -> Result<Reply, AllocError>
-    ensures { IfOk result (λ reply. reply_words reply ≡ answered (code (resolved_view ty.entry))) }
+pub(crate) fn reply_with_resolved(alloc: Global, ty: ResolvedType<'_>) -> Result<Reply, Fault>
+    ensures { HasWords (answered (code (resolved_view ty.entry))) result }
 {
     let mut words = new_words(alloc)?;
     write_built(alloc, &mut words, ty)?;
@@ -109,9 +102,8 @@ fn write_built(alloc: Global, out: &mut Vec<u32>, ty: ResolvedType<'_>) -> Resul
 }
 
 /// The code of the refusal of operands.
-pub(crate) fn refuse_operands(alloc: Global, operands: Operands<'_>) -> Result<Reply, AllocError>
-    ensures { let o = operands.entry in IfOk result (λ reply. reply_words reply
-        ≡ refused (refusal_code (errors.binary o.operator (view o.lhs.now) (view o.rhs.now)))) }
+pub(crate) fn refuse_operands(alloc: Global, operands: Operands<'_>) -> Result<Reply, Fault>
+    ensures { HasWords (refused (refusal_code (operands_refusal operands.entry))) result }
 {
     let Operands { operator, lhs, rhs } = operands;
     let mut words = new_words(alloc)?;

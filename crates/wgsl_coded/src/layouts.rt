@@ -3,17 +3,17 @@ ghost use Rattle.std.specs.Prelude.{◌≡◌, ◌++◌, IfOk, OnOk};
 ghost use Rattle.wgsl_core.specs.Layout.{layouts_of, offsets_of};
 ghost use Rattle.wgsl_asked.specs.Views.{layout_view};
 ghost use Rattle.wgsl_coded.specs.Replies.{answered, layout_words, member_words};
-ghost use Rattle.wgsl_coded.specs.Seen.{reply_words};
+ghost use Rattle.wgsl_coded.specs.Seen.{HasWords};
 
+use crate::fault::Fault;
 use crate::numbers::write_number;
 use crate::reply::Reply;
 use std::alloc::{AllocError, Global};
 use wgsl_core::layout::{PlacedMember, StructLayout};
 
 /// The words of a struct's layout.
-pub(crate) fn reply_with_layout(alloc: Global, layout: StructLayout) -> Result<Reply, AllocError>
-    ensures { IfOk result (λ reply. reply_words reply
-        ≡ answered (layout_words (layout_view layout))) }
+pub(crate) fn reply_with_layout(alloc: Global, layout: StructLayout) -> Result<Reply, Fault>
+    ensures { HasWords (answered (layout_words (layout_view layout))) result }
 {
     let words = words_of_layout(alloc, &layout);
     drop(layout);

@@ -1,12 +1,13 @@
 // What the calls over words reply.
-ghost use Rattle.std.specs.Prelude.{◌≡◌, [], IfOk, Some};
+ghost use Rattle.std.specs.Prelude.{◌≡◌, [], IfOk, Some, option_map};
 ghost use Rattle.wgsl_rules.specs.codes.Codes.{code};
 ghost use Rattle.wgsl_rules.specs.codes.Refusals.{refusal_code};
 ghost use Rattle.wgsl_core.specs.Answer.{refusal};
 ghost use Rattle.wgsl_core.specs.View.{view};
-ghost use Rattle.wgsl_asked.specs.Views.{answer_view, request_view};
-ghost use Rattle.wgsl_coded.specs.Replies.{IsReplyTo, answer_words, answered, refused};
-ghost use Rattle.wgsl_coded.specs.Seen.{reply_words, seen};
+ghost use Rattle.wgsl_asked.specs.Answers.{a_type, a_value};
+ghost use Rattle.wgsl_asked.specs.Views.{answer_view, outcome, request_view};
+ghost use Rattle.wgsl_coded.specs.Replies.{IsReplyTo, answered};
+ghost use Rattle.wgsl_coded.specs.Seen.{HasRefused, HasWords, Writes, reply_words, seen};
 
 use crate::candidates::{refuse_operands, reply_with_candidate, reply_with_resolved};
 use crate::fast::short::{ShortWords, short_code};
@@ -40,24 +41,19 @@ pub(crate) fn reply_to(alloc: Global, request: Request<'_>) -> Result<Reply, Fau
     ensures { IsReplyTo (Some (request_view request.entry)) (seen reply_words result) }
 {
     let answer = answer(alloc, request)?;
-    Ok(write_answer(alloc, answer)?)
+    write_answer(alloc, answer)
 }
 
 #[inline(always)]
-fn write_answer(alloc: Global, answer: Answer<'_>) -> Result<Reply, AllocError>
-    ensures { IfOk result (λ reply. reply_words reply ≡ answer_words (answer_view answer.entry)) }
+fn write_answer(alloc: Global, answer: Answer<'_>) -> Result<Reply, Fault>
+    ensures { Writes (answer_view answer.entry) result }
 {
     match answer {
         Answer::Number(Some(number)) => Ok(Reply::Word(number)),
         Answer::Size(size, align) => Ok(Reply::Short(ShortWords::of_size(size, align))),
         Answer::Common(Some(common)) => reply_with_code(alloc, common),
-        Answer::Type(Ok(ty)) => reply_with_type(alloc, ty),
-        Answer::Type(Err(Fail::Error(error))) => reply_with_refusal(alloc, error),
-        Answer::Type(Err(Fail::Memory(error))) => Err(error),
-        Answer::Value(Ok(Some(ty))) => reply_with_type(alloc, ty),
-        Answer::Value(Ok(None)) => Ok(Reply::Short(ShortWords::new())),
-        Answer::Value(Err(Fail::Error(error))) => reply_with_refusal(alloc, error),
-        Answer::Value(Err(Fail::Memory(error))) => Err(error),
+        Answer::Type(made) => reply_with_type(alloc, made),
+        Answer::Value(returned) => reply_with_value(alloc, returned),
         Answer::Candidate(_, Some(found)) => reply_with_candidate(alloc, &found),
         Answer::Binary(Ok(ty)) => reply_with_resolved(alloc, ty),
         Answer::Binary(Err(operands)) | Answer::Candidate(operands, None) => {
@@ -72,20 +68,42 @@ fn write_answer(alloc: Global, answer: Answer<'_>) -> Result<Reply, AllocError>
     }
 }
 
-fn reply_with_type(alloc: Global, ty: Type) -> Result<Reply, AllocError>
-    ensures { IfOk result (λ reply. reply_words reply ≡ answered (code (view ty))) }
+/// The code of a type that was made, or of the refusal.
+pub(crate) fn reply_with_type(alloc: Global, made: Result<Type, Fail>) -> Result<Reply, Fault>
+    ensures { Writes (outcome a_type view made) result }
 {
-    let reply = reply_with_code(alloc, &ty);
-    drop(ty);
-    reply
+    match made {
+        Ok(ty) => reply_with_code(alloc, &ty),
+        Err(fail) => refuse(alloc, fail),
+    }
 }
 
-fn reply_with_refusal(alloc: Global, error: Error) -> Result<Reply, AllocError>
-    ensures { IfOk result (λ reply. reply_words reply ≡ refused (refusal_code (refusal error))) }
+/// The code of a type that a call returns, no words if it returns no value, or the code of the refusal.
+pub(crate) fn reply_with_value(
+    alloc: Global,
+    returned: Result<Option<Type>, Fail>,
+) -> Result<Reply, Fault>
+    ensures { Writes (outcome a_value (option_map view) returned) result }
 {
-    let words = words_of_refusal(alloc, &error);
-    drop(error);
-    Ok(Reply::Refusal(words?))
+    match returned {
+        Ok(Some(ty)) => reply_with_code(alloc, &ty),
+        Ok(None) => Ok(Reply::Short(ShortWords::new())),
+        Err(fail) => refuse(alloc, fail),
+    }
+}
+
+/// The code of a refusal.
+fn refuse(alloc: Global, fail: Fail) -> Result<Reply, Fault>
+    ensures { HasRefused fail result }
+{
+    match fail {
+        Fail::Error(error) => {
+            let words = words_of_refusal(alloc, &error);
+            drop(error);
+            Ok(Reply::Refusal(words?))
+        }
+        Fail::Memory(_) => Err(Fault::Memory),
+    }
 }
 
 /// A list for the words of a reply. Most replies need no more room.
@@ -105,8 +123,8 @@ fn words_of_type(alloc: Global, ty: &Type) -> Result<Vec<u32>, AllocError>
 }
 
 #[inline(always)]
-fn reply_with_code(alloc: Global, ty: &Type) -> Result<Reply, AllocError>
-    ensures { IfOk result (λ reply. reply_words reply ≡ answered (code (view ty.now))) }
+fn reply_with_code(alloc: Global, ty: &Type) -> Result<Reply, Fault>
+    ensures { HasWords (answered (code (view ty.now))) result }
 {
     match short_code(ty) {
         Some(words) => Ok(Reply::Short(words)),

@@ -1,19 +1,23 @@
 // Calls of a short name with one argument to three and without a template: nothing is allocated for the name and for the
 // list of the arguments.
-ghost use Rattle.std.specs.Prelude.{IfSome, option_map, take};
-ghost use Rattle.wgsl_coded.specs.Callees.{IsPlainHead, arguments_at, asked_of, call_of};
+ghost use Rattle.std.specs.Prelude.{IfSome, Some, map, option_map, take};
+ghost use Rattle.wgsl_core.specs.View.{view};
+ghost use Rattle.wgsl_coded.specs.Callees.{IsPlainHead, arguments_at, asked_of, call_of, request_of};
 ghost use Rattle.wgsl_coded.specs.Replies.{IsReplyTo};
 ghost use Rattle.wgsl_coded.specs.Seen.{reply_words, seen};
 
-use crate::calls::{Kind, reply_to_callee};
+use crate::calls::Kind;
 use crate::coded::{DEPTH, read_whole};
 use crate::fast::short_name::{ShortName, read_short_name};
 use crate::fault::Fault;
 use crate::numbers::read_number;
 use crate::reading::read_type;
-use crate::reply::Reply;
+use crate::reply::{Reply, reply_with_type, reply_with_value};
 use crate::requests::read_two;
 use std::alloc::Global;
+use wgsl_calls::call::type_builtin_fn;
+use wgsl_calls::constructor::type_ctor;
+use wgsl_core::ty::Type;
 
 /// The name of a call if it is short and there is no template, the number of the arguments, and the words from the first
 /// argument on.
@@ -43,7 +47,7 @@ pub(crate) fn reply_to_one(
         (seen reply_words result) }
 {
     let args = [read_whole(alloc, words)?];
-    let reply = reply_to_callee(alloc, kind, name, None, &args);
+    let reply = reply_to_plain(alloc, kind, name, &args);
     let [_first] = args;
     reply
 }
@@ -61,7 +65,7 @@ pub(crate) fn reply_to_two(
 {
     let (first, second) = read_two(alloc, words)?;
     let args = [first, second];
-    let reply = reply_to_callee(alloc, kind, name, None, &args);
+    let reply = reply_to_plain(alloc, kind, name, &args);
     let [_first, _second] = args;
     reply
 }
@@ -80,7 +84,26 @@ pub(crate) fn reply_to_three(
     let (first, rest) = read_type(alloc, words, DEPTH)?;
     let (second, third) = read_two(alloc, rest)?;
     let args = [first, second, third];
-    let reply = reply_to_callee(alloc, kind, name, None, &args);
+    let reply = reply_to_plain(alloc, kind, name, &args);
     let [_first, _second, _third] = args;
     reply
+}
+
+/// The reply to a call without a template.
+#[inline(always)]
+fn reply_to_plain(
+    alloc: Global,
+    kind: Kind,
+    name: &str,
+    arguments: &[Type],
+) -> Result<Reply, Fault>
+    ensures { IsReplyTo (Some (request_of kind (call_of name.now (map view arguments.now))))
+        (seen reply_words result) }
+{
+    match kind {
+        Kind::Constructor => reply_with_type(alloc, type_ctor(alloc, name, None, arguments)),
+        Kind::Function => {
+            reply_with_value(alloc, type_builtin_fn(alloc, name, None, arguments))
+        }
+    }
 }

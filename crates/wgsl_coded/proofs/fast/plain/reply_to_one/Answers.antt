@@ -6,4 +6,4 @@ pub returns-in_err-read_whole : goal.returns-in_err-read_whole
 returns-in_err-read_whole c = rw (one_argument c.args.words.now) (search rules)
 
 pub returns : goal.returns
-returns c = rw (one_argument c.args.words.now, c.in_ok-read_whole.ensures) c.reply_to_callee-reply.ensures
+returns c = rw (one_argument c.args.words.now, c.in_ok-read_whole.ensures) c.reply_to_plain-reply.ensures

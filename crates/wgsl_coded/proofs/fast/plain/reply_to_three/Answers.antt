@@ -6,4 +6,4 @@ pub returns-in_err-second : goal.returns-in_err-second
 returns-in_err-second c = rw (three_arguments c.args.words.now, c.in_ok-first.ensures) (search rules)
 
 pub returns : goal.returns
-returns c = rw (three_arguments c.args.words.now, c.in_ok-first.ensures, c.in_ok-second.ensures) c.reply_to_callee-reply.ensures
+returns c = rw (three_arguments c.args.words.now, c.in_ok-first.ensures, c.in_ok-second.ensures) c.reply_to_plain-reply.ensures

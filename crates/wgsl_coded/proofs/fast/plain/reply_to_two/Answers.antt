@@ -6,4 +6,4 @@ pub returns-in_err-first : goal.returns-in_err-first
 returns-in_err-first c = rw (two_arguments c.args.words.now) (search rules)
 
 pub returns : goal.returns
-returns c = rw (two_arguments c.args.words.now, c.in_ok-first.ensures) c.reply_to_callee-reply.ensures
+returns c = rw (two_arguments c.args.words.now, c.in_ok-first.ensures) c.reply_to_plain-reply.ensures

@@ -1,0 +1,28 @@
+// The rank of two scalars.
+ghost use Rattle.std.specs.Prelude.{Some};
+ghost use Rattle.wgsl_rules.specs.types.Types.{scalar};
+ghost use Rattle.wgsl_asked.specs.Requests.{rank};
+ghost use Rattle.wgsl_coded.specs.Replies.{IsReplyTo};
+ghost use Rattle.wgsl_coded.specs.Seen.{reply_words, seen};
+
+use crate::fault::Fault;
+use crate::reply::Reply;
+use std::alloc::Global;
+use wgsl_core::conversion::conversion_rank;
+use wgsl_core::ty::Type;
+use wgsl_syntax::scalar::Scalar;
+
+/// The rank of the conversion from one scalar to another, refused without words if there is none.
+#[inline(always)]
+pub(crate) fn rank_of_scalars(
+    alloc: Global,
+    source: Scalar,
+    target: Scalar,
+) -> Result<Reply, Fault>
+    ensures { IsReplyTo (Some (rank (scalar source) (scalar target))) (seen reply_words result) }
+{
+    match conversion_rank(&Type::from(source), &Type::from(target)) {
+        Some(rank) => Ok(Reply::Word(rank)),
+        None => Ok(Reply::Refusal(Vec::new(alloc))),
+    }
+}
