@@ -48,8 +48,9 @@ fn scalars(a: &Type, b: &Type) -> Option<(Scalar, Scalar)>
     }
 }
 
+/// The rank of the conversion from one scalar to another, or None if it doesn't convert.
 #[inline(always)]
-fn scalar_rank(source: Scalar, target: Scalar) -> Option<u32>
+pub fn scalar_rank(source: Scalar, target: Scalar) -> Option<u32>
     ensures { (w : ℕ) → (result ≡ Some w) ↔ Converts (scalar source) (scalar target) w }
 {
     walk(Node::Scalar(source), Node::Scalar(target)).0

@@ -8,8 +8,7 @@ ghost use Rattle.wgsl_coded.specs.Seen.{reply_words, seen};
 use crate::fault::Fault;
 use crate::reply::Reply;
 use std::alloc::Global;
-use wgsl_core::conversion::conversion_rank;
-use wgsl_core::ty::Type;
+use wgsl_core::conversion::scalar_rank;
 use wgsl_syntax::scalar::Scalar;
 
 /// The rank of the conversion from one scalar to another, refused without words if there is none.
@@ -21,7 +20,7 @@ pub(crate) fn rank_of_scalars(
 ) -> Result<Reply, Fault>
     ensures { IsReplyTo (Some (rank (scalar source) (scalar target))) (seen reply_words result) }
 {
-    match conversion_rank(&Type::from(source), &Type::from(target)) {
+    match scalar_rank(source, target) {
         Some(rank) => Ok(Reply::Word(rank)),
         None => Ok(Reply::Refusal(Vec::new(alloc))),
     }

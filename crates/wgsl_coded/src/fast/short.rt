@@ -59,11 +59,12 @@ impl ShortWords {
         ensures { IsTrue result
             → short_items self.new ≡ short_items self.old ++ (head_word head ∷ []) }
     {
-        if self.len >= 6 {
+        let len = self.len;
+        if len >= 6 {
             return false;
         }
-        self.words[self.len] = word_of_head(head);
-        self.len += 1;
+        self.words[len] = word_of_head(head);
+        self.len = len + 1;
         true
     }
 

@@ -1,4 +1,4 @@
-use Rattle.std.proofs.Common.{None, Some, refl, subst}
+use Rattle.std.proofs.Common.{None, Some, refl}
 use Rattle.wgsl_rules.specs.conversion.Conversion.{Converts}
 use Rattle.wgsl_rules.specs.layout.Layout.{IsExactly}
 use Rattle.wgsl_rules.specs.types.Types.{scalar}
@@ -8,11 +8,11 @@ use Rattle.wgsl_coded.proofs.fast.scalars.rank_of_scalars.Goals as goal
 pub returns-in-Some : goal.returns-in-Some
 returns-in-Some c =
     let h : IsExactly (Some c.in-Some.rank) (Converts (scalar c.args.source) (scalar c.args.target)) =
-    rw (← c.from.ensures, ← c.from-2.ensures, ← c.in-Some.is) c.conversion_rank.ensures in
+    rw (← c.in-Some.is) c.scalar_rank.ensures in
     (a_number (Some c.in-Some.rank), rank_is _ h, refl)
 
 pub returns : goal.returns
 returns c =
     let h : IsExactly None (Converts (scalar c.args.source) (scalar c.args.target)) =
-    rw (← c.from.ensures, ← c.from-2.ensures, ← c.in-None.is) c.conversion_rank.ensures in
+    rw (← c.in-None.is) c.scalar_rank.ensures in
     (a_number None, rank_is _ h, rw c.new.ensures.items refl)
