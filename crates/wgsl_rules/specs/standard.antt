@@ -4,6 +4,7 @@ pub mod Overloads
 pub mod Choice
 pub mod Tables
 pub mod Refusal
+pub mod Signatures
 pub mod Answers
 pub mod Patterns
 pub mod MatrixPatterns

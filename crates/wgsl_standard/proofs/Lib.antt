@@ -17,3 +17,4 @@ pub mod StandardAnswers
 pub mod SortedTables
 pub mod Search
 pub mod Noted
+pub mod Listed

@@ -4,4 +4,5 @@ pub mod Answered
 pub mod Callees
 pub mod Mismatches
 pub mod Explained
+pub mod Texts
 pub mod internal

@@ -9,6 +9,7 @@ ghost use Rattle.wgsl_rules.specs.standard.Names.{function_table, template_funct
 ghost use Rattle.wgsl_rules.specs.standard.ConstructorNames.{constructor_table, template_constructor_table};
 ghost use Rattle.wgsl_standard.specs.Answered.{AnswersType};
 ghost use Rattle.wgsl_standard.specs.Operands.{operand_view, operands_view};
+ghost use Rattle.wgsl_standard.specs.Texts.{types_given};
 
 use crate::instance::result_for;
 use crate::names::{
@@ -152,8 +153,9 @@ pub(crate) fn operands_with<'a>(
     operands: &[Operand<'a>],
 ) -> Result<Vec<Operand<'a>>, AllocError>
     requires { IsTrue (may_be_template (view template.now)) }
-    ensures { IfOk result (λ v. operands_view v.items
+    ensures loaded { IfOk result (λ v. operands_view v.items
         ≡ template_operand (view template.now) ∷ operands_view operands.now) }
+    ensures given { IfOk result (λ v. types_given v.items ≡ view template.now ∷ types_given operands.now) }
 {
     let mut all = Vec::with_capacity(alloc, 1)?;
     all.push(Operand {

@@ -1,9 +1,12 @@
 // Why a call has no overload, one note per overload.
-ghost use Rattle.std.specs.Prelude.{IfOk, map, option_map};
+ghost use Rattle.std.specs.Prelude.{◌≡◌, ◌++◌, IfOk, codes, map, option_map};
+ghost use Rattle.std.specs.Fmt.{WritesOnOk};
+ghost use Rattle.wgsl_rules.specs.types.Spelling.{spelling};
 ghost use Rattle.wgsl_core.specs.View.{view};
 ghost use Rattle.wgsl_standard.specs.Operands.{operands_view};
 ghost use Rattle.wgsl_standard.specs.Callees.{overloads_of};
 ghost use Rattle.wgsl_standard.specs.Explained.{or_none, note_view, AddsNote, AreNotes, IsExplained};
+ghost use Rattle.wgsl_standard.specs.Texts.{begins_with_vector as vector_first, counts_text, is_vector as vector_there, line_with, note_line, note_text, operand_text, reason_text, type_refused, types_given};
 
 use crate::answer::{is_template, operands_with};
 use crate::callee::{Callee, overloads};
@@ -37,6 +40,8 @@ pub fn explain<'a>(
 ) -> Result<Vec<Note<'a>>, AllocError>
     ensures notes { IfOk result (λ v. IsExplained callee.entry (option_map (λ t. view t.now) template.entry)
         (operands_view operands.now) (map note_view v.items)) }
+    ensures texts { IfOk result (λ v. map note_text v.items
+        ≡ map (note_line callee.entry (option_map (λ t. view t.now) template.entry) (types_given operands.now)) (map note_view v.items)) }
 {
     match template {
         Some(template) => {
@@ -56,8 +61,10 @@ fn notes<'a>(
     has_template: bool,
     operands: &[Operand<'a>],
 ) -> Result<Vec<Note<'a>>, AllocError>
-    ensures { IfOk result (λ v. AreNotes (operands_view operands.now)
+    ensures notes { IfOk result (λ v. AreNotes (operands_view operands.now)
         (or_none (overloads_of callee.entry has_template)) (map note_view v.items)) }
+    ensures texts { IfOk result (λ v. map note_text v.items
+        ≡ map (line_with callee.entry has_template (types_given operands.now)) (map note_view v.items)) }
 {
     let listed = overloads(callee, has_template).unwrap_or(&[]);
     let of_vectors = begins_with_vector(operands);
@@ -81,28 +88,52 @@ fn push_note<'a>(
     signature: Signature<'a>,
     operands: &[Operand<'a>],
 ) -> Result<(), AllocError>
-    ensures { IfOk result (λ u. AddsNote signature.entry.overload.now (operands_view operands.now)
+    requires { signature.of_vectors ≡ vector_first (types_given operands.now) }
+    ensures note { IfOk result (λ u. AddsNote signature.entry.overload.now (operands_view operands.now)
         (map note_view notes.old.items) (map note_view notes.new.items)) }
+    ensures text { IfOk result (λ u. (map note_text notes.old.items
+        ≡ map (line_with signature.entry.callee signature.entry.has_template (types_given operands.now)) (map note_view notes.old.items))
+        → map note_text notes.new.items
+        ≡ map (line_with signature.entry.callee signature.entry.has_template (types_given operands.now)) (map note_view notes.new.items)) }
 {
     if let Some(mismatch) = refused_by(signature.overload, operands) {
-        notes.push(Note {
-            signature,
-            mismatch,
-            count: operands.len(),
-            found: found(mismatch, operands),
-        })?;
+        notes.push(note_of(signature, mismatch, operands))?;
     }
     Ok(())
 }
 
-fn begins_with_vector(operands: &[Operand<'_>]) -> bool {
-    match operands.first() {
-        Some(operand) => matches!(loaded(operand.ty).form(), Form::Vector(_, _)),
-        None => false,
+fn note_of<'a>(signature: Signature<'a>, mismatch: Mismatch, operands: &[Operand<'a>]) -> Note<'a>
+    requires { signature.of_vectors ≡ vector_first (types_given operands.now) }
+    ensures note { note_view result ≡ (signature.entry.overload.now, mismatch) }
+    ensures text { note_text result
+        ≡ line_with signature.entry.callee signature.entry.has_template (types_given operands.now) (note_view result) }
+{
+    Note {
+        signature,
+        mismatch,
+        count: operands.len(),
+        found: found(mismatch, operands),
     }
 }
 
-fn found<'a>(mismatch: Mismatch, operands: &[Operand<'a>]) -> Option<&'a Type> {
+fn begins_with_vector(operands: &[Operand<'_>]) -> bool
+    ensures { result ≡ vector_first (types_given operands.now) }
+{
+    match operands {
+        [operand, ..] => is_vector(loaded(operand.ty)),
+        [] => false,
+    }
+}
+
+fn is_vector(ty: &Type) -> bool
+    ensures { result ≡ vector_there (view ty.now) }
+{
+    matches!(ty.form(), Form::Vector(_, _))
+}
+
+fn found<'a>(mismatch: Mismatch, operands: &[Operand<'a>]) -> Option<&'a Type>
+    ensures { option_map (λ t. view t.now) result ≡ type_refused mismatch (types_given operands.now) }
+{
     match mismatch {
         Mismatch::Count(_) => None,
         Mismatch::Argument(index) => match operands.get(index) {
@@ -113,33 +144,71 @@ fn found<'a>(mismatch: Mismatch, operands: &[Operand<'a>]) -> Option<&'a Type> {
 }
 
 impl fmt::Display for Note<'_> {
+    ghost use Rattle.std.specs.Prelude.{Some};
+    ghost use Rattle.wgsl_standard.specs.Texts.{note_text};
+
+    ghost output = { λ n. Some (note_text n) };
+
     fn fmt<W: Write>(&self, f: &mut fmt::Formatter<W>) -> fmt::Result {
         write!(f, "{}: ", self.signature)?;
-        match self.mismatch {
-            Mismatch::Count(count) => write_counts(f, self, count),
-            Mismatch::Argument(index) => write_argument(f, self, index),
-        }
+        write_reason(
+            f,
+            self.signature.has_template,
+            self.count,
+            self.found,
+            self.mismatch,
+        )
     }
 }
 
-/// The numbers of arguments, without the template.
-fn write_counts<W: Write>(f: &mut fmt::Formatter<W>, note: &Note<'_>, count: usize) -> fmt::Result {
-    let templates = if note.signature.has_template { 1 } else { 0 };
-    let wanted = count.saturating_sub(templates);
-    let given = note.count.saturating_sub(templates);
-    write!(f, "takes {wanted} arguments, not {given}")
+fn write_reason<W: Write>(
+    f: &mut fmt::Formatter<W>,
+    has_template: bool,
+    count: usize,
+    found: Option<&Type>,
+    mismatch: Mismatch,
+) -> fmt::Result
+    ensures { WritesOnOk W.write_str_gives f.old result
+        (reason_text has_template count (option_map (λ t. view t.now) found.entry) mismatch) f.new }
+{
+    match mismatch {
+        Mismatch::Count(expected) => write_counts(f, has_template, expected, count),
+        Mismatch::Argument(index) => match found {
+            Some(ty) => write_argument(f, has_template, index, ty),
+            None => Ok(()),
+        },
+    }
+}
+
+/// The numbers of parameters and of operands, without the template.
+fn write_counts<W: Write>(
+    f: &mut fmt::Formatter<W>,
+    has_template: bool,
+    expected: usize,
+    count: usize,
+) -> fmt::Result
+    ensures { WritesOnOk W.write_str_gives f.old result (counts_text has_template expected count) f.new }
+{
+    if has_template {
+        let expected = expected.saturating_sub(1);
+        let count = count.saturating_sub(1);
+        return write!(f, "takes {expected} arguments, not {count}");
+    }
+    write!(f, "takes {expected} arguments, not {count}")
 }
 
 fn write_argument<W: Write>(
     f: &mut fmt::Formatter<W>,
-    note: &Note<'_>,
+    has_template: bool,
     index: usize,
-) -> fmt::Result {
-    let Some(ty) = note.found else {
-        return Ok(());
-    };
-    if !note.signature.has_template {
-        return write!(f, "argument {} is {ty}", index.saturating_add(1));
+    ty: &Type,
+) -> fmt::Result
+    ensures { WritesOnOk W.write_str_gives f.old result
+        (operand_text has_template index ++ codes " is " ++ spelling (view ty.now)) f.new }
+{
+    if !has_template {
+        let number = index.saturating_add(1);
+        return write!(f, "argument {number} is {ty}");
     }
     if index == 0 {
         write!(f, "the template is {ty}")

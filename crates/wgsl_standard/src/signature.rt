@@ -1,12 +1,17 @@
 // How overloads are printed: as WGSL writes them, in one line. An overload that takes scalars or vectors has two lines.
+ghost use Rattle.std.specs.Prelude.{◌≡◌, ◌++◌, IfOk, false, map};
+ghost use Rattle.std.specs.Fmt.{WritesOnOk};
+ghost use Rattle.wgsl_rules.specs.standard.Signatures.{overload_lines};
+ghost use Rattle.wgsl_standard.specs.Texts.{callee_text, line_of, lines_with, overload_texts};
+
 use crate::callee::{Callee, overloads};
 use crate::overload::{parameters_of, result_of};
 use crate::where_clause::{resource_of, write_letters};
-use crate::written::{parameter_count, pattern_at, takes_either, write_pattern, write_returns};
+use crate::written::{takes_either, write_parameters, write_returns};
 use std::alloc::{AllocError, Global};
 use std::fmt;
 use std::fmt::Write;
-use wgsl_syntax::overload::{Overload, Parameters};
+use wgsl_syntax::overload::Overload;
 
 /// An overload of a name, for scalars or for vectors. It prints as `clamp(vecN<T>, vecN<T>, vecN<T>) -> vecN<T>, T: number`.
 #[derive(Clone, Copy)]
@@ -22,7 +27,9 @@ pub struct Signature<'a> {
 }
 
 /// The signatures of what is called, those without a template first; none if the name isn't listed.
-pub fn signatures<'a>(alloc: Global, callee: Callee<'a>) -> Result<Vec<Signature<'a>>, AllocError> {
+pub fn signatures<'a>(alloc: Global, callee: Callee<'a>) -> Result<Vec<Signature<'a>>, AllocError>
+    ensures texts { IfOk result (λ v. map line_of v.items ≡ overload_texts callee.entry) }
+{
     let mut signatures = Vec::new(alloc);
     push_signatures(&mut signatures, callee, false)?;
     push_signatures(&mut signatures, callee, true)?;
@@ -33,82 +40,66 @@ fn push_signatures<'a>(
     signatures: &mut Vec<Signature<'a>>,
     callee: Callee<'a>,
     has_template: bool,
-) -> Result<(), AllocError> {
+) -> Result<(), AllocError>
+    ensures { IfOk result (λ u. map line_of signatures.new.items
+        ≡ map line_of signatures.old.items ++ lines_with callee.entry has_template) }
+{
     let listed = overloads(callee, has_template).unwrap_or(&[]);
     for index in 0..listed.len() {
-        let overload = &listed[index];
         let signature = Signature {
             callee,
             index,
-            overload,
+            overload: &listed[index],
             has_template,
             of_vectors: false,
         };
-        signatures.push(signature)?;
-        if takes_either(parameters_of(overload)) {
-            signatures.push(Signature {
-                of_vectors: true,
-                ..signature
-            })?;
-        }
+        push_signature(signatures, signature)?;
+    }
+    Ok(())
+}
+
+/// Adds the signature, which is that for scalars, and that for vectors if there is one.
+fn push_signature<'a>(
+    signatures: &mut Vec<Signature<'a>>,
+    signature: Signature<'a>,
+) -> Result<(), AllocError>
+    requires { signature.of_vectors ≡ false }
+    ensures { IfOk result (λ u. map line_of signatures.new.items
+        ≡ map line_of signatures.old.items ++ overload_lines (callee_text signature.entry.callee)
+        signature.entry.has_template signature.entry.overload.now) }
+{
+    signatures.push(signature)?;
+    if takes_either(parameters_of(signature.overload)) {
+        signatures.push(Signature {
+            of_vectors: true,
+            ..signature
+        })?;
     }
     Ok(())
 }
 
 impl fmt::Display for Signature<'_> {
+    ghost use Rattle.std.specs.Prelude.{Some};
+    ghost use Rattle.wgsl_standard.specs.Texts.{line_of};
+
+    ghost output = { λ s. Some (line_of s) };
+
     fn fmt<W: Write>(&self, f: &mut fmt::Formatter<W>) -> fmt::Result {
         write_callee(f, self.callee)?;
         let parameters = parameters_of(self.overload);
-        write_template(f, parameters, self.has_template, self.of_vectors)?;
         write_parameters(f, parameters, self.has_template, self.of_vectors)?;
         write_returns(f, result_of(self.overload), self.of_vectors)?;
         write_letters(f, self.overload, resource_of(parameters))
     }
 }
 
-fn write_callee<W: Write>(f: &mut fmt::Formatter<W>, callee: Callee<'_>) -> fmt::Result {
+fn write_callee<W: Write>(f: &mut fmt::Formatter<W>, callee: Callee<'_>) -> fmt::Result
+    ensures { WritesOnOk W.write_str_gives f.old result (callee_text callee.entry) f.new }
+{
     match callee {
         Callee::Unary(operator) => write!(f, "{operator}"),
         Callee::Binary(operator) => write!(f, "{operator}"),
         Callee::Function(name) => f.write_str(name),
         Callee::Constructor(name) => f.write_str(name),
     }
-}
-
-fn write_template<W: Write>(
-    f: &mut fmt::Formatter<W>,
-    parameters: &Parameters,
-    has_template: bool,
-    of_vectors: bool,
-) -> fmt::Result {
-    if !has_template {
-        return Ok(());
-    }
-    match pattern_at(parameters, 0) {
-        Some(template) => {
-            f.write_str("<")?;
-            write_pattern(f, template, of_vectors)?;
-            f.write_str(">")
-        }
-        None => Ok(()),
-    }
-}
-
-fn write_parameters<W: Write>(
-    f: &mut fmt::Formatter<W>,
-    parameters: &Parameters,
-    has_template: bool,
-    of_vectors: bool,
-) -> fmt::Result {
-    let first = if has_template { 1 } else { 0 };
-    f.write_str("(")?;
-    for index in first..parameter_count(parameters) {
-        if index > first {
-            f.write_str(", ")?;
-        }
-        if let Some(pattern) = pattern_at(parameters, index) {
-            write_pattern(f, pattern, of_vectors)?;
-        }
-    }
-    f.write_str(")")
 }

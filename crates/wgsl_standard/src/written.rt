@@ -1,13 +1,15 @@
 // The parameters and results of overloads, as WGSL writes them.
-ghost use Rattle.std.specs.Prelude.{◌≡◌, length};
+ghost use Rattle.std.specs.Prelude.{◌≡◌, ◌++◌, codes, drop, length, slice_get, true};
+ghost use Rattle.std.specs.Fmt.{WritesOnOk};
+ghost use Rattle.std.specs.List.{flat_map, list_any};
+ghost use Rattle.std.specs.Option.{option_to_list};
 ghost use Rattle.wgsl_rules.specs.standard.Overloads.{in_order};
+ghost use Rattle.wgsl_rules.specs.standard.Signatures.{after_comma, component_text, count_text, is_scalar_or_vector, parameters_text, pattern_text, patterns_text, resource_text as resource_written, result_text, template_text, value_text, vector_text};
 
 use std::fmt;
 use std::fmt::Write;
-use wgsl_core::ty::Type;
 use wgsl_syntax::overload::{Component, Count, Parameters, Pattern, Resource, Returns, Shape};
 use wgsl_syntax::result_struct::{ResultFunction, ResultShape};
-use wgsl_syntax::texture::SamplerType;
 
 /// The number of parameters.
 pub fn parameter_count(parameters: &Parameters) -> usize
@@ -28,7 +30,9 @@ pub fn parameter_count(parameters: &Parameters) -> usize
 }
 
 /// The parameter at an index, if there is one.
-pub fn pattern_at(parameters: &Parameters, index: usize) -> Option<Pattern> {
+pub fn pattern_at(parameters: &Parameters, index: usize) -> Option<Pattern>
+    ensures { result ≡ slice_get (in_order parameters.now) index }
+{
     match parameters {
         Parameters::Nothing => None,
         Parameters::One(a) => at(&[*a], index),
@@ -38,50 +42,165 @@ pub fn pattern_at(parameters: &Parameters, index: usize) -> Option<Pattern> {
         Parameters::Five(a, b, c, d, e) => at(&[*a, *b, *c, *d, *e], index),
         Parameters::Six(a, b, c, d, e, f) => at(&[*a, *b, *c, *d, *e, *f], index),
         Parameters::Seven(a, b, c, d, e, f, g) => at(&[*a, *b, *c, *d, *e, *f, *g], index),
-        Parameters::Times(count, a) => at(&[*a], if index < *count as usize { 0 } else { 1 }),
+        Parameters::Times(count, a) => if index < *count as usize {
+            Some(*a)
+        } else {
+            None
+        },
         Parameters::AndTimes(a, count, b) => {
-            at(
-                &[*a, *b],
-                if index > *count as usize {
-                    2
-                } else {
-                    index.min(1)
-                },
-            )
+            if index == 0 {
+                Some(*a)
+            } else if index <= *count as usize {
+                Some(*b)
+            } else {
+                None
+            }
         }
     }
 }
 
-fn at(patterns: &[Pattern], index: usize) -> Option<Pattern> {
+fn at(patterns: &[Pattern], index: usize) -> Option<Pattern>
+    ensures { result ≡ slice_get patterns.now index }
+{
     patterns.get(index).copied()
 }
 
 /// Whether a parameter is a scalar or a vector.
-pub fn takes_either(parameters: &Parameters) -> bool {
+pub fn takes_either(parameters: &Parameters) -> bool
+    ensures { result ≡ list_any is_scalar_or_vector (in_order parameters.now) }
+{
     for index in 0..parameter_count(parameters) {
-        if let Some(Pattern::Value(Shape::OneOrVector, _)) = pattern_at(parameters, index) {
+        if is_either(pattern_at(parameters, index)) {
             return true;
         }
     }
     false
 }
 
+fn is_either(pattern: Option<Pattern>) -> bool
+    ensures { result ≡ list_any is_scalar_or_vector (option_to_list pattern) }
+{
+    match pattern {
+        Some(Pattern::Value(shape, _)) => matches!(shape, Shape::OneOrVector),
+        Some(Pattern::Sampler(_) | Pattern::Texture(_) | Pattern::Resource(_)) | None => false,
+    }
+}
+
+/// The parameters, behind the template if the first is one.
+pub fn write_parameters<W: Write>(
+    f: &mut fmt::Formatter<W>,
+    parameters: &Parameters,
+    has_template: bool,
+    of_vectors: bool,
+) -> fmt::Result
+    ensures { WritesOnOk W.write_str_gives f.old result
+        (parameters_text has_template of_vectors (in_order parameters.now)) f.new }
+{
+    if has_template {
+        write_template(f, pattern_at(parameters, 0), of_vectors)?;
+        write_from(f, parameters, 1, of_vectors)
+    } else {
+        write_from(f, parameters, 0, of_vectors)
+    }
+}
+
+fn write_template<W: Write>(
+    f: &mut fmt::Formatter<W>,
+    template: Option<Pattern>,
+    of_vectors: bool,
+) -> fmt::Result
+    ensures { WritesOnOk W.write_str_gives f.old result
+        (template_text true of_vectors (option_to_list template)) f.new }
+{
+    match template {
+        Some(template) => {
+            f.write_str("<")?;
+            write_pattern(f, template, of_vectors)?;
+            f.write_str(">")
+        }
+        None => Ok(()),
+    }
+}
+
+/// The parameters from an index on, in parentheses.
+fn write_from<W: Write>(
+    f: &mut fmt::Formatter<W>,
+    parameters: &Parameters,
+    first: u8,
+    of_vectors: bool,
+) -> fmt::Result
+    ensures { WritesOnOk W.write_str_gives f.old result
+        (codes "(" ++ patterns_text of_vectors (drop first (in_order parameters.now)) ++ codes ")") f.new }
+{
+    f.write_str("(")?;
+    write_list(f, parameters, first, of_vectors)?;
+    f.write_str(")")
+}
+
+fn write_list<W: Write>(
+    f: &mut fmt::Formatter<W>,
+    parameters: &Parameters,
+    first: u8,
+    of_vectors: bool,
+) -> fmt::Result
+    ensures { WritesOnOk W.write_str_gives f.old result
+        (patterns_text of_vectors (drop first (in_order parameters.now))) f.new }
+{
+    match pattern_at(parameters, first as usize) {
+        Some(pattern) => {
+            write_pattern(f, pattern, of_vectors)?;
+            write_after(f, parameters, first as usize + 1, of_vectors)
+        }
+        None => Ok(()),
+    }
+}
+
+/// The parameters from an index on, each after a comma.
+fn write_after<W: Write>(
+    f: &mut fmt::Formatter<W>,
+    parameters: &Parameters,
+    first: usize,
+    of_vectors: bool,
+) -> fmt::Result
+    ensures { WritesOnOk W.write_str_gives f.old result
+        (flat_map (after_comma of_vectors) (drop first (in_order parameters.now))) f.new }
+{
+    for index in first..parameter_count(parameters) {
+        write_next(f, pattern_at(parameters, index), of_vectors)?;
+    }
+    Ok(())
+}
+
+fn write_next<W: Write>(
+    f: &mut fmt::Formatter<W>,
+    pattern: Option<Pattern>,
+    of_vectors: bool,
+) -> fmt::Result
+    ensures { WritesOnOk W.write_str_gives f.old result
+        (flat_map (after_comma of_vectors) (option_to_list pattern)) f.new }
+{
+    match pattern {
+        Some(pattern) => {
+            f.write_str(", ")?;
+            write_pattern(f, pattern, of_vectors)
+        }
+        None => Ok(()),
+    }
+}
+
 pub fn write_pattern<W: Write>(
     f: &mut fmt::Formatter<W>,
     pattern: Pattern,
     of_vectors: bool,
-) -> fmt::Result {
+) -> fmt::Result
+    ensures { WritesOnOk W.write_str_gives f.old result (pattern_text of_vectors pattern) f.new }
+{
     match pattern {
         Pattern::Value(shape, component) => write_value(f, shape, component, of_vectors),
-        Pattern::Sampler(SamplerType::Sampler) => f.write_str("sampler"),
-        Pattern::Sampler(SamplerType::SamplerComparison) => f.write_str("sampler_comparison"),
-        Pattern::Texture(texture) => write_type(f, &Type::Texture(texture)),
+        Pattern::Sampler(sampler) => write!(f, "{sampler}"),
+        Pattern::Texture(texture) => write!(f, "{texture}"),
         Pattern::Resource(resource) => f.write_str(resource_text(resource)),
     }
-}
-
-fn write_type<W: Write>(f: &mut fmt::Formatter<W>, ty: &Type) -> fmt::Result {
-    write!(f, "{ty}")
 }
 
 fn write_value<W: Write>(
@@ -89,7 +208,9 @@ fn write_value<W: Write>(
     shape: Shape,
     component: Component,
     of_vectors: bool,
-) -> fmt::Result {
+) -> fmt::Result
+    ensures { WritesOnOk W.write_str_gives f.old result (value_text of_vectors shape component) f.new }
+{
     match shape {
         Shape::One => write_component(f, component),
         Shape::Vector(count) => write_vector(f, count, component),
@@ -114,19 +235,25 @@ fn write_vector<W: Write>(
     f: &mut fmt::Formatter<W>,
     count: Count,
     component: Component,
-) -> fmt::Result {
+) -> fmt::Result
+    ensures { WritesOnOk W.write_str_gives f.old result (vector_text count component) f.new }
+{
     f.write_str("vec")?;
     write_count(f, count)?;
     write_within(f, component)
 }
 
-fn write_within<W: Write>(f: &mut fmt::Formatter<W>, component: Component) -> fmt::Result {
+fn write_within<W: Write>(f: &mut fmt::Formatter<W>, component: Component) -> fmt::Result
+    ensures { WritesOnOk W.write_str_gives f.old result (codes "<" ++ component_text component ++ codes ">") f.new }
+{
     f.write_str("<")?;
     write_component(f, component)?;
     f.write_str(">")
 }
 
-fn write_component<W: Write>(f: &mut fmt::Formatter<W>, component: Component) -> fmt::Result {
+fn write_component<W: Write>(f: &mut fmt::Formatter<W>, component: Component) -> fmt::Result
+    ensures { WritesOnOk W.write_str_gives f.old result (component_text component) f.new }
+{
     match component {
         Component::T => f.write_str("T"),
         Component::U => f.write_str("U"),
@@ -136,7 +263,9 @@ fn write_component<W: Write>(f: &mut fmt::Formatter<W>, component: Component) ->
     }
 }
 
-fn write_count<W: Write>(f: &mut fmt::Formatter<W>, count: Count) -> fmt::Result {
+fn write_count<W: Write>(f: &mut fmt::Formatter<W>, count: Count) -> fmt::Result
+    ensures { WritesOnOk W.write_str_gives f.old result (count_text count) f.new }
+{
     match count {
         Count::N => f.write_str("N"),
         Count::M => f.write_str("M"),
@@ -145,7 +274,9 @@ fn write_count<W: Write>(f: &mut fmt::Formatter<W>, count: Count) -> fmt::Result
     }
 }
 
-fn resource_text(resource: Resource) -> &'static str {
+fn resource_text(resource: Resource) -> &'static str
+    ensures { result.now ≡ resource_written resource }
+{
     match resource {
         Resource::Texture1D => "texture_1d<T>",
         Resource::Texture2D => "texture_2d<T>",
@@ -170,7 +301,9 @@ pub fn write_returns<W: Write>(
     f: &mut fmt::Formatter<W>,
     returns: Returns,
     of_vectors: bool,
-) -> fmt::Result {
+) -> fmt::Result
+    ensures { WritesOnOk W.write_str_gives f.old result (result_text of_vectors returns) f.new }
+{
     match returns {
         Returns::NoValue => Ok(()),
         Returns::Gives(pattern) => {

@@ -1,17 +1,24 @@
-use Rattle.std.proofs.Common.{◌≡◌, ◌+◌, ◌∙◌, ℕ, suc, [], ap, arith, map, subst, sym, take}
+use Rattle.std.proofs.Common.{◌≡◌, ◌+◌, ◌∙◌, ℕ, suc, [], ap, arith, map, refl, subst, sym, take}
 use Rattle.std.proofs.Math.Seq.{take-suc}
 use Rattle.wgsl_standard.specs.Operands.{operands_view}
 use Rattle.wgsl_standard.specs.Explained.{note_view, AreNotes, no_overloads}
+use Rattle.wgsl_standard.specs.Texts.{line_with, note_text, types_given}
 use Rattle.wgsl_standard.proofs.Noted.{one_more}
 use Rattle.wgsl_standard.proofs.explanation.notes.Goals as goal
 
 pub loop-index-init : goal.loop-index-init
-loop-index-init c = subst (λ items. AreNotes (operands_view c.args.operands.now) [] (map note_view items)) (sym c.new-notes.ensures.items) no_overloads
+loop-index-init c = record {
+  notes = subst (λ items. AreNotes (operands_view c.args.operands.now) [] (map note_view items)) (sym c.new-notes.ensures.items) no_overloads;
+  texts = subst (λ items. map note_text items ≡ map (line_with c.args.callee c.args.has_template (types_given c.args.operands.now)) (map note_view items)) (sym c.new-notes.ensures.items) refl;
+}
 
 next : (n : ℕ) → suc n ≡ n + 1
 next n = omega arith
 
 pub loop-index-preserved : goal.loop-index-preserved
-loop-index-preserved c = subst (λ os. AreNotes (operands_view c.args.operands.now) os (map note_view c.push_note.new.notes.items))
-    (sym (take-suc c.unwrap_or-listed.result.now c.loop-index.index _ c.loop-index-test.true) ∙ ap (λ n. take n c.unwrap_or-listed.result.now) (next c.loop-index.index))
-    (one_more _ c.loop-index.invariant c.in_ok-push_note.ensures)
+loop-index-preserved c = record {
+  notes = subst (λ os. AreNotes (operands_view c.args.operands.now) os (map note_view c.push_note.new.notes.items))
+      (sym (take-suc c.unwrap_or-listed.result.now c.loop-index.index _ c.loop-index-test.true) ∙ ap (λ n. take n c.unwrap_or-listed.result.now) (next c.loop-index.index))
+      (one_more _ c.loop-index.invariant.notes c.in_ok-push_note.ensures.note);
+  texts = c.in_ok-push_note.ensures.text c.loop-index.invariant.texts;
+}

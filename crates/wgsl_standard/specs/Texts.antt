@@ -1,0 +1,84 @@
+-- What is printed of the overloads of a call, and of why they don't take its operands.
+use Rattle.std.specs.Prelude.{ℕ, ◌+◌, ◌-◌, ◌^◌, List, [], ◌∷◌, ◌++◌, Option, Some, None, option_map, Bool, true, false, codes, decimal, length, map, min, slice_get, ◌==◌, if◌then◌else◌}
+use Rattle.wgsl_syntax.specs.Operator.{binary_text, unary_text}
+use Rattle.wgsl_syntax.specs.declared.overload.Overload.{Overload}
+use Rattle.wgsl_rules.specs.types.Types.{WgslType, vec}
+use Rattle.wgsl_rules.specs.types.Spelling.{spelling}
+use Rattle.wgsl_rules.specs.standard.Choice.{value_of}
+use Rattle.wgsl_rules.specs.standard.Signatures.{signature_lines, signature_text}
+use Rattle.wgsl_core.specs.View.{view}
+use Rattle.wgsl_standard.specs.Callees.{overloads_of}
+use Rattle.wgsl_standard.specs.Explained.{or_none}
+use Rattle.wgsl_standard.specs.declared.callee.Callee.{Callee}
+use Rattle.wgsl_standard.specs.declared.callee.Callee.TheVariants as callees
+use Rattle.wgsl_standard.specs.declared.explanation.Note.{Note}
+use Rattle.wgsl_standard.specs.declared.operand.Operand.{Operand as CodeOperand}
+use Rattle.wgsl_standard.specs.declared.refusal.Mismatch.{Mismatch}
+use Rattle.wgsl_standard.specs.declared.refusal.Mismatch.TheVariants.{Count, Argument}
+use Rattle.wgsl_standard.specs.declared.signature.Signature.{Signature}
+
+abbrev pub callee_text : Callee → List ℕ
+callee_text (callees.Unary o) = unary_text o
+callee_text (callees.Binary o) = binary_text o
+callee_text (callees.Function name) = name.now
+callee_text (callees.Constructor name) = name.now
+
+-- `clamp(vecN<T>, vecN<T>, vecN<T>) -> vecN<T>, T: number`
+abbrev pub line_of : Signature → List ℕ
+line_of s = signature_text (callee_text s.callee) s.has_template s.of_vectors s.overload.now
+
+abbrev pub lines_with : Callee → Bool → List (List ℕ)
+lines_with callee has_template = signature_lines (callee_text callee) has_template (or_none (overloads_of callee has_template))
+
+-- the lines of all overloads of what is called, those without a template first
+abbrev pub overload_texts : Callee → List (List ℕ)
+overload_texts callee = lines_with callee false ++ lines_with callee true
+
+-- `takes 2 arguments, not 3`; a template is none of them
+abbrev pub counts_text : Bool → ℕ → ℕ → List ℕ
+counts_text false m n = codes "takes " ++ decimal m ++ codes " arguments, not " ++ decimal n
+counts_text true m n = codes "takes " ++ decimal (m - 1) ++ codes " arguments, not " ++ decimal (n - 1)
+
+-- `argument 2`, counted from 1; `the template`
+abbrev pub operand_text : Bool → ℕ → List ℕ
+operand_text false i = codes "argument " ++ decimal (min (i + 1) (2 ^ 64 - 1))
+operand_text true i = if i == 0 then codes "the template" else codes "argument " ++ decimal i
+
+-- why an overload doesn't take that many operands, the template among them, if it has another number of parameters;
+-- `argument 2 is f32` if it doesn't take an operand of this type
+abbrev pub reason_text : Bool → ℕ → Option WgslType → Mismatch → List ℕ
+reason_text has_template count found (Count n) = counts_text has_template n count
+reason_text has_template count (Some t) (Argument i) = operand_text has_template i ++ codes " is " ++ spelling t
+reason_text has_template count None (Argument i) = []
+
+-- `dot(vecN<T>, vecN<T>) -> T, T: number: argument 2 is f32`
+abbrev pub note_text : Note → List ℕ
+note_text n = line_of n.signature ++ codes ": "
+    ++ reason_text n.signature.has_template n.count (option_map (λ t. view t.now) n.found) n.mismatch
+
+-- The notes on a call. Its operands are printed as they are given: a reference is not loaded.
+
+abbrev pub types_given : List CodeOperand → List WgslType
+types_given xs = map (λ x. view x.ty.now) xs
+
+abbrev pub is_vector : WgslType → Bool
+is_vector (vec n t) = true
+is_vector t = false
+
+-- an overload that takes scalars or vectors is printed for vectors if the first operand is one
+abbrev pub begins_with_vector : List WgslType → Bool
+begins_with_vector [] = false
+begins_with_vector (t ∷ ts) = is_vector (value_of t)
+
+abbrev pub type_refused : Mismatch → List WgslType → Option WgslType
+type_refused (Count n) ts = None
+type_refused (Argument i) ts = slice_get ts i
+
+abbrev pub line_with : Callee → Bool → List WgslType → Overload × Mismatch → List ℕ
+line_with callee has_template ts n = signature_text (callee_text callee) has_template (begins_with_vector ts) n.0 ++ codes ": "
+    ++ reason_text has_template (length ts) (type_refused n.1 ts) n.1
+
+-- the line for an overload, and why it doesn't take the operands; the template is the first of them
+abbrev pub note_line : Callee → Option WgslType → List WgslType → Overload × Mismatch → List ℕ
+note_line callee None ts n = line_with callee false ts n
+note_line callee (Some t) ts n = line_with callee true (t ∷ ts) n
