@@ -1,5 +1,5 @@
 -- The reply to a request, from the answer that it writes.
-use Rattle.std.proofs.Common.{◌≡◌, ◌≢◌, Option, Some, Result, Ok, Err, refl}
+use Rattle.std.proofs.Common.{◌≢◌, Some, Result, Ok, Err, refl}
 use Rattle.wgsl_rules.specs.errors.Refusals.{Refusal}
 use Rattle.wgsl_core.specs.Answer.{AnswersAs}
 use Rattle.wgsl_core.specs.declared.error.Fail.{Fail}
@@ -8,7 +8,7 @@ use Rattle.wgsl_asked.specs.Answers.{Answers, WgslAnswer, out_of_memory}
 use Rattle.wgsl_asked.specs.Requests.{WgslRequest}
 use Rattle.wgsl_asked.specs.Views.{outcome}
 use Rattle.wgsl_coded.specs.Replies.{IsReplyTo, answer_words}
-use Rattle.wgsl_coded.specs.Seen.{HasRefused, HasWords, Writes, reply_words, seen}
+use Rattle.wgsl_coded.specs.Seen.{HasWords, Writes, reply_words, seen}
 use Rattle.wgsl_coded.specs.declared.fault.Fault.{Fault}
 use Rattle.wgsl_coded.specs.declared.fault.Fault.TheVariants.{Memory, NoType}
 use Rattle.wgsl_coded.specs.declared.reply.Reply.{Reply}

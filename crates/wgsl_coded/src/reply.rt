@@ -10,7 +10,7 @@ ghost use Rattle.wgsl_coded.specs.Replies.{IsReplyTo, answered};
 ghost use Rattle.wgsl_coded.specs.Seen.{HasRefused, HasWords, Writes, reply_words, seen};
 
 use crate::candidates::{refuse_operands, reply_with_candidate, reply_with_resolved};
-use crate::fast::short::{ShortWords, short_code};
+use crate::fast::short::ShortWords;
 use crate::fault::Fault;
 use crate::layouts::reply_with_layout;
 use crate::refusals::write_error;
@@ -126,7 +126,7 @@ fn words_of_type(alloc: Global, ty: &Type) -> Result<Vec<u32>, AllocError>
 fn reply_with_code(alloc: Global, ty: &Type) -> Result<Reply, Fault>
     ensures { HasWords (answered (code (view ty.now))) result }
 {
-    match short_code(ty) {
+    match ShortWords::of_type(ty) {
         Some(words) => Ok(Reply::Short(words)),
         None => Ok(Reply::Answer(words_of_type(alloc, ty)?)),
     }

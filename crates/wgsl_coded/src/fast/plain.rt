@@ -91,19 +91,12 @@ pub(crate) fn reply_to_three(
 
 /// The reply to a call without a template.
 #[inline(always)]
-fn reply_to_plain(
-    alloc: Global,
-    kind: Kind,
-    name: &str,
-    arguments: &[Type],
-) -> Result<Reply, Fault>
+fn reply_to_plain(alloc: Global, kind: Kind, name: &str, arguments: &[Type]) -> Result<Reply, Fault>
     ensures { IsReplyTo (Some (request_of kind (call_of name.now (map view arguments.now))))
         (seen reply_words result) }
 {
     match kind {
         Kind::Constructor => reply_with_type(alloc, type_ctor(alloc, name, None, arguments)),
-        Kind::Function => {
-            reply_with_value(alloc, type_builtin_fn(alloc, name, None, arguments))
-        }
+        Kind::Function => { reply_with_value(alloc, type_builtin_fn(alloc, name, None, arguments)) }
     }
 }

@@ -13,11 +13,7 @@ use wgsl_syntax::scalar::Scalar;
 
 /// The rank of the conversion from one scalar to another, refused without words if there is none.
 #[inline(always)]
-pub(crate) fn rank_of_scalars(
-    alloc: Global,
-    source: Scalar,
-    target: Scalar,
-) -> Result<Reply, Fault>
+pub(crate) fn rank_of_scalars(alloc: Global, source: Scalar, target: Scalar) -> Result<Reply, Fault>
     ensures { IsReplyTo (Some (rank (scalar source) (scalar target))) (seen reply_words result) }
 {
     match scalar_rank(source, target) {

@@ -1,11 +1,10 @@
 // Words of short replies, which do not allocate.
-ghost use Rattle.std.specs.Prelude.{◌≡◌, ◌++◌, ◌∷◌, [], IfSome, IsTrue};
+ghost use Rattle.std.specs.Prelude.{◌≡◌, ◌≤◌, ◌++◌, ◌∷◌, [], IfSome, IsTrue};
 ghost use Rattle.wgsl_rules.specs.types.Types.{scalar};
 ghost use Rattle.wgsl_rules.specs.codes.Codes.{code};
 ghost use Rattle.wgsl_rules.specs.codes.Heads.{head_word};
 ghost use Rattle.wgsl_rules.specs.codes.Words.{attribute};
 ghost use Rattle.wgsl_core.specs.View.{view};
-ghost use Rattle.wgsl_coded.specs.Short.{short_items};
 
 use crate::heads::word_of_head;
 use wgsl_core::ty::Type;
@@ -18,9 +17,12 @@ use wgsl_syntax::scalar::Scalar;
 pub struct ShortWords {
     words: [u32; 6],
     len: usize,
+    ghost short: { len ≤ 6 },
 }
 
 impl ShortWords {
+    ghost use Rattle.wgsl_coded.specs.Short.{short_items};
+
     #[inline(always)]
     pub(crate) fn new() -> ShortWords
         ensures { short_items result ≡ [] }
@@ -50,7 +52,7 @@ impl ShortWords {
     pub fn as_slice(&self) -> &[u32]
         ensures { result.now ≡ short_items self.now }
     {
-        &self.words[..self.len.min(6)]
+        &self.words[..self.len]
     }
 
     /// Adds the first word of a type; false if there is no room for it.
@@ -97,17 +99,17 @@ impl ShortWords {
             },
         }
     }
-}
 
-/// The code of a scalar or of a vector of scalars.
-#[inline(always)]
-pub(crate) fn short_code(ty: &Type) -> Option<ShortWords>
-    ensures { IfSome result (λ words. short_items words ≡ code (view ty.now)) }
-{
-    let mut words = ShortWords::new();
-    if words.push_type(ty) {
-        Some(words)
-    } else {
-        None
+    /// The code of a scalar or of a vector of scalars.
+    #[inline(always)]
+    pub(crate) fn of_type(ty: &Type) -> Option<ShortWords>
+        ensures { IfSome result (λ words. short_items words ≡ code (view ty.now)) }
+    {
+        let mut words = ShortWords::new();
+        if words.push_type(ty) {
+            Some(words)
+        } else {
+            None
+        }
     }
 }

@@ -11,8 +11,8 @@ returns-in-Some c =
     rw (← c.in-Some.is) c.scalar_rank.ensures in
     (a_number (Some c.in-Some.rank), rank_is _ h, refl)
 
-pub returns : goal.returns
-returns c =
+pub returns-in-None : goal.returns-in-None
+returns-in-None c =
     let h : IsExactly None (Converts (scalar c.args.source) (scalar c.args.target)) =
     rw (← c.in-None.is) c.scalar_rank.ensures in
     (a_number None, rank_is _ h, rw c.new.ensures.items refl)
