@@ -8,6 +8,7 @@ ghost use Rattle.wgsl_coded.specs.Requests.{call_signature, layout_in};
 ghost use Rattle.wgsl_coded.specs.Seen.{reply_words, seen};
 
 use crate::coded::read_whole;
+use crate::fast::operands::reply_to_operands;
 use crate::fast::placing::layout_while_reading;
 use crate::fast::plain::{read_plain_head, reply_to_one, reply_to_three, reply_to_two};
 use crate::fast::scalars::rank_of_scalars;
@@ -67,7 +68,7 @@ pub fn binary(alloc: Global, request: &[u32]) -> Result<Reply, Fault>
     ensures { IsBinaryReply request.now (seen reply_words result) }
 {
     let (operator, left, right) = read_binary(alloc, request)?;
-    reply_to(alloc, Request::Candidate(operator, &left, &right))
+    reply_to_operands(alloc, operator, &left, &right)
 }
 
 /// The size and the alignment of a type. The request is the type.

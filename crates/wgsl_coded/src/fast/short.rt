@@ -1,5 +1,5 @@
 // Words of short replies, which do not allocate.
-ghost use Rattle.std.specs.Prelude.{◌≡◌, ◌≤◌, ◌++◌, ◌∷◌, [], IfSome, IsTrue};
+ghost use Rattle.std.specs.Prelude.{◌≡◌, ◌++◌, ◌∷◌, [], IfSome, IsTrue};
 ghost use Rattle.wgsl_rules.specs.types.Types.{scalar};
 ghost use Rattle.wgsl_rules.specs.codes.Codes.{code};
 ghost use Rattle.wgsl_rules.specs.codes.Heads.{head_word};
@@ -17,7 +17,6 @@ use wgsl_syntax::scalar::Scalar;
 pub struct ShortWords {
     words: [u32; 6],
     len: usize,
-    ghost short: { len ≤ 6 },
 }
 
 impl ShortWords {
@@ -52,7 +51,7 @@ impl ShortWords {
     pub fn as_slice(&self) -> &[u32]
         ensures { result.now ≡ short_items self.now }
     {
-        &self.words[..self.len]
+        &self.words[..self.len.min(6)]
     }
 
     /// Adds the first word of a type; false if there is no room for it.
