@@ -20,8 +20,8 @@ use Rattle.wgsl_asked.specs.declared.requests.Request.TheVariants as requests
 use Rattle.wgsl_asked.specs.declared.answers.Operands.{Operands}
 use Rattle.wgsl_asked.specs.declared.answers.Answer.{Answer}
 use Rattle.wgsl_asked.specs.declared.answers.Answer.TheVariants as answers
-use Rattle.wgsl_asked.specs.Requests.{WgslRequest, rank, common, left_common, unary, binary, candidate, size, offsets, layout, ctor, call}
-use Rattle.wgsl_asked.specs.Answers.{WgslAnswer, WgslLayout, a_number, a_size, a_common_type, a_type, a_value, a_candidate, some_offsets, a_layout, out_of_memory}
+use Rattle.wgsl_asked.specs.Requests.{WgslRequest, rank, common, left_common, unary, binary, size, offsets, layout, ctor, call}
+use Rattle.wgsl_asked.specs.Answers.{WgslAnswer, WgslLayout, a_number, a_size, a_common_type, a_type, a_value, some_offsets, a_layout, out_of_memory}
 
 abbrev pub callee_view : Callee → Signature
 callee_view c = call_view c.name.now c.template c.arguments.now
@@ -32,7 +32,6 @@ request_view (requests.Common ts) = common (map view ts.now)
 request_view (requests.LeftCommon ts) = left_common (map view ts.now)
 request_view (requests.Unary o t) = unary o (view t.now)
 request_view (requests.Binary o t u) = binary o (view t.now) (view u.now)
-request_view (requests.Candidate o t u) = candidate o (view t.now) (view u.now)
 request_view (requests.Size t) = size (view t.now)
 request_view (requests.Offsets s) = let seen = struct_view s.now in offsets seen.name seen.members
 request_view (requests.Layout s) = let seen = struct_view s.now in layout seen.name seen.members
@@ -75,7 +74,6 @@ answer_view (answers.Common t) = a_common_type (option_map (λ t. view t.now) t)
 answer_view (answers.Type r) = outcome a_type view r
 answer_view (answers.Value r) = outcome a_value (option_map view) r
 answer_view (answers.Binary r) = a_type (binary_view r)
-answer_view (answers.Candidate operands c) = a_candidate (candidate_view operands c)
 answer_view (answers.Offsets o) = some_offsets (option_map (λ v. v.items) o)
 answer_view (answers.Layout s l) =
     let seen = struct_view s.now in a_layout seen.name seen.members (option_map layout_view l)

@@ -1,7 +1,7 @@
 // What is answered.
 use wgsl_core::error::Fail;
 use wgsl_core::layout::StructLayout;
-use wgsl_core::operators::resolve::{Resolution, ResolvedType};
+use wgsl_core::operators::resolve::ResolvedType;
 use wgsl_core::ty::{StructType, Type};
 use wgsl_syntax::operator::BinaryOperator;
 
@@ -17,8 +17,6 @@ pub enum Answer<'r> {
     Value(Result<Option<Type>, Fail>),
     /// The type of a binary expression, or the operands that the operator doesn't take.
     Binary(Result<ResolvedType<'r>, Operands<'r>>),
-    /// The operands of a binary operator, and the candidate that takes them if there is one.
-    Candidate(Operands<'r>, Option<Resolution<'r>>),
     Offsets(Option<Vec<u32>>),
     Layout(&'r StructType, Option<StructLayout>),
 }

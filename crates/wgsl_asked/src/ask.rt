@@ -36,10 +36,6 @@ pub fn answer<'r>(alloc: Global, request: Request<'r>) -> Result<Answer<'r>, All
         Request::Binary(operator, lhs, rhs) => {
             Ok(Answer::Binary(resolved_type(operator, lhs, rhs)))
         }
-        Request::Candidate(operator, lhs, rhs) => {
-            let operands = Operands { operator, lhs, rhs };
-            Ok(Answer::Candidate(operands, resolve_operator(operator, lhs, rhs)))
-        }
         Request::Size(ty) => Ok(Answer::Size(ty.size_of(), ty.align_of())),
         Request::Offsets(structure) => Ok(Answer::Offsets(structure.offsets(alloc)?)),
         Request::Layout(structure) => { Ok(Answer::Layout(structure, structure.layout(alloc)?)) }

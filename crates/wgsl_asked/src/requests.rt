@@ -16,8 +16,6 @@ pub enum Request<'r> {
     Unary(UnaryOperator, &'r Type),
     /// The type of a binary expression.
     Binary(BinaryOperator, &'r Type, &'r Type),
-    /// The type of a binary expression, and those to which its operands convert.
-    Candidate(BinaryOperator, &'r Type, &'r Type),
     /// The size and the alignment of a type.
     Size(&'r Type),
     /// The offsets of a struct's members.

@@ -7,8 +7,8 @@ ghost use Rattle.wgsl_coded.specs.Replies.{IsBinaryReply, IsCallReply, IsCommonR
 ghost use Rattle.wgsl_coded.specs.Requests.{call_signature, layout_in};
 ghost use Rattle.wgsl_coded.specs.Seen.{reply_words, seen};
 
+use crate::candidates::reply_to_operands;
 use crate::coded::read_whole;
-use crate::fast::operands::reply_to_operands;
 use crate::fast::placing::layout_while_reading;
 use crate::fast::plain::{read_plain_head, reply_to_one, reply_to_three, reply_to_two};
 use crate::fast::scalars::rank_of_scalars;

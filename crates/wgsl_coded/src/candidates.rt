@@ -1,12 +1,13 @@
 // The words of candidates, or of the operands that an operator refuses.
-ghost use Rattle.std.specs.Prelude.{◌≡◌, ◌++◌, IfOk, IsTrue, OnOk};
+ghost use Rattle.std.specs.Prelude.{◌≡◌, ◌++◌, IfOk, IsTrue, OnOk, Some};
 ghost use Rattle.wgsl_rules.specs.codes.Codes.{code};
 ghost use Rattle.wgsl_rules.specs.codes.Refusals.{refusal_code};
 ghost use Rattle.wgsl_core.specs.View.{view};
 ghost use Rattle.wgsl_core.specs.internal.Resolution.{element_view, resolution_view, resolved_view};
+ghost use Rattle.wgsl_asked.specs.Requests.{candidate};
 ghost use Rattle.wgsl_asked.specs.Views.{operands_refusal};
-ghost use Rattle.wgsl_coded.specs.Replies.{answered, candidate_words, refused};
-ghost use Rattle.wgsl_coded.specs.Seen.{HasWords};
+ghost use Rattle.wgsl_coded.specs.Replies.{IsReplyTo, answered, candidate_words, refused};
+ghost use Rattle.wgsl_coded.specs.Seen.{HasWords, reply_words, seen};
 ghost use Rattle.wgsl_coded.specs.Short.{short_items};
 
 use crate::fast::short::ShortWords;
@@ -16,13 +17,33 @@ use crate::reply::{Reply, new_words};
 use crate::writing::write;
 use std::alloc::{AllocError, Global};
 use wgsl_asked::answers::Operands;
-use wgsl_core::operators::resolve::{Element, Extent, Resolution, ResolvedType};
+use wgsl_core::operators::resolve::{Element, Extent, Resolution, ResolvedType, resolve_operator};
+use wgsl_core::ty::Type;
 use wgsl_syntax::around::Around;
 use wgsl_syntax::code::Head;
+use wgsl_syntax::operator::BinaryOperator;
+
+/// The codes of the types of the candidate that takes the operands, or of the refusal. The candidate borrows from the
+/// operands: it is written where it was found.
+#[inline(always)]
+pub(crate) fn reply_to_operands(
+    alloc: Global,
+    operator: BinaryOperator,
+    lhs: &Type,
+    rhs: &Type,
+) -> Result<Reply, Fault>
+    ensures { IsReplyTo (Some (candidate operator (view lhs.now) (view rhs.now)))
+        (seen reply_words result) }
+{
+    match &resolve_operator(operator, lhs, rhs) {
+        Some(found) => reply_with_candidate(alloc, found),
+        None => refuse_operands(alloc, Operands { operator, lhs, rhs }),
+    }
+}
 
 /// The codes of a candidate's types.
 #[inline(always)]
-pub(crate) fn reply_with_candidate(alloc: Global, found: &Resolution<'_>) -> Result<Reply, Fault>
+fn reply_with_candidate(alloc: Global, found: &Resolution<'_>) -> Result<Reply, Fault>
     ensures { HasWords (answered (candidate_words (resolution_view found.now))) result }
 {
     let mut words = ShortWords::new();

@@ -1,5 +1,4 @@
 // What is answered without allocating, or while it is read.
-pub(crate) mod operands;
 pub(crate) mod placing;
 pub(crate) mod plain;
 pub(crate) mod scalars;

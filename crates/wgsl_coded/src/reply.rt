@@ -9,7 +9,7 @@ ghost use Rattle.wgsl_asked.specs.Views.{answer_view, outcome, request_view};
 ghost use Rattle.wgsl_coded.specs.Replies.{IsReplyTo, answered};
 ghost use Rattle.wgsl_coded.specs.Seen.{HasRefused, HasWords, Writes, reply_words, seen};
 
-use crate::candidates::{refuse_operands, reply_with_candidate, reply_with_resolved};
+use crate::candidates::{refuse_operands, reply_with_resolved};
 use crate::fast::short::ShortWords;
 use crate::fault::Fault;
 use crate::layouts::reply_with_layout;
@@ -54,11 +54,8 @@ fn write_answer(alloc: Global, answer: Answer<'_>) -> Result<Reply, Fault>
         Answer::Common(Some(common)) => reply_with_code(alloc, common),
         Answer::Type(made) => reply_with_type(alloc, made),
         Answer::Value(returned) => reply_with_value(alloc, returned),
-        Answer::Candidate(_, Some(found)) => reply_with_candidate(alloc, &found),
         Answer::Binary(Ok(ty)) => reply_with_resolved(alloc, ty),
-        Answer::Binary(Err(operands)) | Answer::Candidate(operands, None) => {
-            refuse_operands(alloc, operands)
-        }
+        Answer::Binary(Err(operands)) => refuse_operands(alloc, operands),
         Answer::Offsets(Some(offsets)) => Ok(Reply::Answer(offsets)),
         Answer::Layout(_, Some(layout)) => reply_with_layout(alloc, layout),
         Answer::Number(None)

@@ -18,7 +18,7 @@ use wgsl_core::operators::resolve::{Element, Extent, ResolvedType};
 use wgsl_types::error::Fail;
 use wgsl_types::ty::Type;
 
-/// Writes an answer at the end of the text; of a candidate its result.
+/// Writes an answer at the end of the text.
 #[inline(always)]
 pub fn write(answer: Answer<'_>, text: &mut String) -> Result<(), AllocError>
     ensures { OnOk result (string_bytes text.new
@@ -35,10 +35,7 @@ pub fn write(answer: Answer<'_>, text: &mut String) -> Result<(), AllocError>
         Answer::Type(made) => write_type_or_refusal(text, made),
         Answer::Value(returned) => write_value_or_refusal(text, returned),
         Answer::Binary(Ok(ty)) => write_resolved(text, ty),
-        Answer::Candidate(_, Some(found)) => write_resolved(text, found.result),
-        Answer::Binary(Err(operands)) | Answer::Candidate(operands, None) => {
-            write_operands(text, operands)
-        }
+        Answer::Binary(Err(operands)) => write_operands(text, operands),
         Answer::Offsets(offsets) => write_offsets(text, offsets),
         Answer::Layout(structure, layout) => write_layout(text, structure, layout),
     }

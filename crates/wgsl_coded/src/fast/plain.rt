@@ -1,5 +1,5 @@
 // Calls of a short name with one argument to three and without a template: nothing is allocated for the name and for the
-// list of the arguments.
+// list of the arguments, and no request is asked. With short names, `clamp` of three scalars takes 1163 instructions of 1795.
 ghost use Rattle.std.specs.Prelude.{IfSome, Some, map, option_map, take};
 ghost use Rattle.wgsl_core.specs.View.{view};
 ghost use Rattle.wgsl_coded.specs.Callees.{IsPlainHead, arguments_at, asked_of, call_of, request_of};

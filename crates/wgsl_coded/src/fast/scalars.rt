@@ -1,4 +1,4 @@
-// The rank of two scalars.
+// The rank of two scalars, without a request: 143 instructions of 253.
 ghost use Rattle.std.specs.Prelude.{Some};
 ghost use Rattle.wgsl_rules.specs.types.Types.{scalar};
 ghost use Rattle.wgsl_asked.specs.Requests.{rank};

@@ -1,4 +1,4 @@
-// Short names, kept in an array.
+// Short names, kept in an array: for plain calls, with which their gain is counted.
 ghost use Rattle.std.specs.Prelude.{◌≡◌, ◌≤◌, IfSome, IsAscii, Some, take};
 ghost use Rattle.wgsl_rules.specs.codes.Reading.{name_at};
 

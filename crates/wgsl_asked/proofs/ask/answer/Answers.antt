@@ -5,10 +5,9 @@ use Rattle.wgsl_rules.specs.calls.Answers.{IsCallAnswer}
 use Rattle.wgsl_core.specs.View.{struct_view, view}
 use Rattle.wgsl_rules.proofs.conversion.Lists.{common_of_list}
 use Rattle.wgsl_asked.specs.Requests.{unary, ctor, call}
-use Rattle.wgsl_asked.specs.Answers.{a_type, a_value, rank_is, common_is, left_common_is, unary_is, binary_is, candidate_is, size_is, offsets_are, layout_is, ctor_is, call_is}
-use Rattle.wgsl_asked.specs.declared.answers.Operands.{Operands}
+use Rattle.wgsl_asked.specs.Answers.{a_type, a_value, rank_is, common_is, left_common_is, unary_is, binary_is, size_is, offsets_are, layout_is, ctor_is, call_is}
 use Rattle.wgsl_asked.specs.Views.{callee_view}
-use Rattle.wgsl_asked.proofs.Settled.{candidate_seen, settles, offsets_seen, layout_seen}
+use Rattle.wgsl_asked.proofs.Settled.{settles, offsets_seen, layout_seen}
 use Rattle.wgsl_asked.proofs.ask.answer.Goals as goal
 
 pub returns-in-Rank : goal.returns-in-Rank
@@ -19,11 +18,6 @@ returns-in-Common c = rw c.in-Common.is (common_is _ c.common_type.ensures)
 
 pub returns-in-LeftCommon : goal.returns-in-LeftCommon
 returns-in-LeftCommon c = rw c.in-LeftCommon.is (left_common_is _ (common_of_list _ _ c.common_of.ensures))
-
-pub returns-in-Candidate : goal.returns-in-Candidate
-returns-in-Candidate c =
-    let operands : Operands = record { operator = c.in-Candidate.operator; lhs = c.in-Candidate.lhs; rhs = c.in-Candidate.rhs } in
-    rw c.in-Candidate.is (candidate_is _ (candidate_seen operands c.resolve_operator.result c.resolve_operator.ensures))
 
 pub returns-in-Size : goal.returns-in-Size
 returns-in-Size c = rw c.in-Size.is (size_is _ _ c.size_of.ensures.exact c.align_of.ensures)

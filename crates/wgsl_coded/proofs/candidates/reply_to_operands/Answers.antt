@@ -9,7 +9,7 @@ use Rattle.wgsl_asked.specs.Views.{candidate_view}
 use Rattle.wgsl_asked.specs.declared.answers.Operands.{Operands}
 use Rattle.wgsl_asked.proofs.Settled.{candidate_seen}
 use Rattle.wgsl_coded.proofs.Replied.{replied, writes}
-use Rattle.wgsl_coded.proofs.fast.operands.reply_to_operands.Goals as goal
+use Rattle.wgsl_coded.proofs.candidates.reply_to_operands.Goals as goal
 
 pub returns-in-Some : goal.returns-in-Some
 returns-in-Some c =
