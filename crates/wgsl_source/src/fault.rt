@@ -1,0 +1,137 @@
+// Why a text was not read.
+
+use std::alloc::{AllocError, AllocFailed};
+
+/// What should have stood where something else stands.
+#[derive(Clone, Copy, Debug, PartialEq, Eq)]
+pub enum Expected {
+    Declaration,
+    Name,
+    Type,
+    Integer,
+    Space,
+    Access,
+    TexelFormat,
+    Sign(u8),
+}
+
+/// Why a text was not read.
+#[derive(Clone, Copy, Debug, PartialEq, Eq)]
+pub enum Cause {
+    Expected(Expected),
+    UnknownName,
+    DeclaredTwice,
+    /// A declaration that needs itself.
+    ContainsItself,
+    TooDeep,
+    NotUtf8,
+    /// What stands there has no integer value that is known.
+    NotInteger,
+    /// A value that is known only when the pipeline is made.
+    KnownLater,
+    Overflow,
+    DivisionByZero,
+    /// An `i32` and a `u32`.
+    MixedIntegers,
+    NegatedUnsigned,
+    ShiftTooFar,
+    /// An array without elements.
+    NoElements,
+    VectorComponent,
+    MatrixComponent,
+    AtomicContent,
+    /// An element or a member of a type that has no fixed footprint.
+    RuntimeSized,
+    /// An element or a member of a type that is not plain.
+    NotPlain,
+    TooLarge,
+    NoMembers,
+    /// An attribute `align` that is no power of two.
+    AlignNotPower,
+    /// An attribute `size` below the size of the member's type.
+    SizeTooSmall,
+    NegativeAttribute,
+}
+
+impl Expected {
+    /// What it is called.
+    pub fn text(self) -> &'static str {
+        match self {
+            Expected::Declaration => "expected a declaration",
+            Expected::Name => "expected a name",
+            Expected::Type => "expected a type",
+            Expected::Integer => "expected an integer expression",
+            Expected::Space => "expected an address space",
+            Expected::Access => "expected an access mode",
+            Expected::TexelFormat => "expected a texel format",
+            Expected::Sign(b';') => "expected `;`",
+            Expected::Sign(b':') => "expected `:`",
+            Expected::Sign(b',') => "expected `,`",
+            Expected::Sign(b'=') => "expected `=`",
+            Expected::Sign(b'<') => "expected `<`",
+            Expected::Sign(b'>') => "expected `>`",
+            Expected::Sign(b'(') => "expected `(`",
+            Expected::Sign(b')') => "expected `)`",
+            Expected::Sign(b'{') => "expected `{`",
+            Expected::Sign(_) => "expected `}`",
+        }
+    }
+}
+
+impl Cause {
+    /// What is wrong.
+    pub fn text(self) -> &'static str {
+        match self {
+            Cause::Expected(expected) => expected.text(),
+            Cause::UnknownName => "no declaration has this name",
+            Cause::DeclaredTwice => "another declaration has this name",
+            Cause::ContainsItself => "this declaration contains itself",
+            Cause::TooDeep => "more than 255 levels",
+            Cause::NotUtf8 => "the text is not UTF-8 from here on",
+            Cause::NotInteger => "this has no integer value",
+            Cause::KnownLater => "an override has a value only when the pipeline is made",
+            Cause::Overflow => "an integer overflows",
+            Cause::DivisionByZero => "a division by 0",
+            Cause::MixedIntegers => "an i32 and a u32 do not mix",
+            Cause::NegatedUnsigned => "a u32 has no negative",
+            Cause::ShiftTooFar => "a shift by more bits than there are",
+            Cause::NoElements => "an array has at least one element",
+            Cause::VectorComponent => "a vector's component is a scalar",
+            Cause::MatrixComponent => "a matrix's component is f32 or f16",
+            Cause::AtomicContent => "an atomic holds i32 or u32",
+            Cause::RuntimeSized => {
+                "a runtime-sized array may only be the last member of a struct, or a whole variable"
+            }
+            Cause::NotPlain => {
+                "an element or a member is a scalar, vector, matrix, atomic, array or struct"
+            }
+            Cause::TooLarge => "more than 4294967295 bytes",
+            Cause::NoMembers => "a struct has at least one member",
+            Cause::AlignNotPower => "`@align` is not a power of two",
+            Cause::SizeTooSmall => "`@size` is below the size of the type",
+            Cause::NegativeAttribute => "an attribute is 0 to 4294967295",
+        }
+    }
+}
+
+/// Why a text was not read.
+#[derive(Clone, Copy, Debug, PartialEq, Eq)]
+pub enum Fault {
+    Memory,
+    /// What is wrong at this index of the text.
+    At(usize, Cause),
+    /// A declaration that is needed has a fault of its own.
+    Elsewhere,
+}
+
+impl From<AllocError> for Fault {
+    fn from(_e: AllocError) -> Fault {
+        Fault::Memory
+    }
+}
+
+impl<T: Drop> From<AllocFailed<T>> for Fault {
+    fn from(_e: AllocFailed<T>) -> Fault {
+        Fault::Memory
+    }
+}
