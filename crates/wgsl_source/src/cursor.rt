@@ -2,7 +2,7 @@
 ghost use Rattle.std.specs.Prelude.{IsTrue, OnOk};
 ghost use Rattle.wgsl_source.specs.Cursor.{GoesOn, Takes};
 
-use crate::fault::{Cause, Expected, Fault};
+use crate::fault::{Cause, Expected, Stop};
 use wgsl_tokens::token::{Kind, Token};
 
 /// A place among the tokens of a text.
@@ -14,6 +14,15 @@ pub struct Cursor<'t> {
 }
 
 impl<'t> Cursor<'t> {
+    /// Before the first token.
+    pub fn start(text: &'t str, tokens: &'t [Token]) -> Cursor<'t> {
+        Cursor {
+            text,
+            tokens,
+            at: 0,
+        }
+    }
+
     /// The same tokens from another place on.
     pub fn moved_to(&self, at: usize) -> Cursor<'t> {
         Cursor {
@@ -47,14 +56,14 @@ impl<'t> Cursor<'t> {
         }
     }
 
-    /// A fault at the next token.
-    pub fn fault(&self, cause: Cause) -> Fault {
-        Fault::At(self.index(), cause)
+    /// Reading stops at the next token.
+    pub fn stop(&self, cause: Cause) -> Stop {
+        Stop::at(self.index(), cause)
     }
 
-    /// The fault that something else was expected at the next token.
-    pub fn expected(&self, expected: Expected) -> Fault {
-        self.fault(Cause::Expected(expected))
+    /// Reading stops where something else was expected.
+    pub fn expected(&self, expected: Expected) -> Stop {
+        self.stop(Cause::Expected(expected))
     }
 
     /// Goes on to the token after the next; whether there is a next one.
@@ -105,7 +114,7 @@ impl<'t> Cursor<'t> {
     }
 
     /// Takes this sign.
-    pub fn expect(&mut self, sign: u8) -> Result<(), Fault>
+    pub fn expect(&mut self, sign: u8) -> Result<(), Stop>
         ensures goes_on { GoesOn self.old self.new }
     {
         if self.take(sign) {
@@ -116,7 +125,7 @@ impl<'t> Cursor<'t> {
     }
 
     /// Takes a name.
-    pub fn name(&mut self, expected: Expected) -> Result<&'t str, Fault>
+    pub fn name(&mut self, expected: Expected) -> Result<&'t str, Stop>
         ensures goes_on { GoesOn self.old self.new }
         ensures one { OnOk result (Takes self.old self.new) }
     {

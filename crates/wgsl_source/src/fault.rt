@@ -9,13 +9,15 @@ pub enum Expected {
     Name,
     Type,
     Integer,
-    Space,
-    Access,
+    AddressSpace,
+    AccessMode,
     TexelFormat,
+    SampledType,
+    Flag,
     Sign(u8),
 }
 
-/// Why a text was not read.
+/// What is wrong.
 #[derive(Clone, Copy, Debug, PartialEq, Eq)]
 pub enum Cause {
     Expected(Expected),
@@ -54,16 +56,18 @@ pub enum Cause {
 }
 
 impl Expected {
-    /// What it is called.
+    /// What is told of it.
     pub fn text(self) -> &'static str {
         match self {
             Expected::Declaration => "expected a declaration",
             Expected::Name => "expected a name",
             Expected::Type => "expected a type",
             Expected::Integer => "expected an integer expression",
-            Expected::Space => "expected an address space",
-            Expected::Access => "expected an access mode",
+            Expected::AddressSpace => "expected an address space",
+            Expected::AccessMode => "expected an access mode",
             Expected::TexelFormat => "expected a texel format",
+            Expected::SampledType => "expected `f32`, `i32` or `u32`",
+            Expected::Flag => "expected `vertex_return`",
             Expected::Sign(b';') => "expected `;`",
             Expected::Sign(b':') => "expected `:`",
             Expected::Sign(b',') => "expected `,`",
@@ -79,7 +83,7 @@ impl Expected {
 }
 
 impl Cause {
-    /// What is wrong.
+    /// What is told of it.
     pub fn text(self) -> &'static str {
         match self {
             Cause::Expected(expected) => expected.text(),
@@ -114,24 +118,37 @@ impl Cause {
     }
 }
 
-/// Why a text was not read.
+/// What is wrong at an index of the text.
 #[derive(Clone, Copy, Debug, PartialEq, Eq)]
-pub enum Fault {
+pub struct Fault {
+    pub at: usize,
+    pub cause: Cause,
+}
+
+/// Why reading stopped.
+#[derive(Clone, Copy, Debug, PartialEq, Eq)]
+pub enum Stop {
     Memory,
-    /// What is wrong at this index of the text.
-    At(usize, Cause),
+    Fault(Fault),
     /// A declaration that is needed has a fault of its own.
     Elsewhere,
 }
 
-impl From<AllocError> for Fault {
-    fn from(_e: AllocError) -> Fault {
-        Fault::Memory
+impl Stop {
+    /// At a fault.
+    pub fn at(at: usize, cause: Cause) -> Stop {
+        Stop::Fault(Fault { at, cause })
     }
 }
 
-impl<T: Drop> From<AllocFailed<T>> for Fault {
-    fn from(_e: AllocFailed<T>) -> Fault {
-        Fault::Memory
+impl From<AllocError> for Stop {
+    fn from(_e: AllocError) -> Stop {
+        Stop::Memory
+    }
+}
+
+impl<T: Drop> From<AllocFailed<T>> for Stop {
+    fn from(_e: AllocFailed<T>) -> Stop {
+        Stop::Memory
     }
 }

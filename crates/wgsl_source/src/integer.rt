@@ -1,4 +1,5 @@
 // Integers with their types: literals, operators, conversions.
+ghost use Rattle.std.specs.Prelude.{◌<◌};
 
 use crate::fault::{Cause, Expected};
 
@@ -47,6 +48,16 @@ pub struct Integer {
 }
 
 impl Integer {
+    /// The type to which both integers convert.
+    fn common(self, other: Integer) -> Result<IntegerType, Cause> {
+        let ty = self.ty.common(other.ty)?;
+        if ty.holds(self.value) && ty.holds(other.value) {
+            Ok(ty)
+        } else {
+            Err(Cause::Overflow)
+        }
+    }
+
     /// The negative.
     pub fn negated(self) -> Result<Integer, Cause> {
         match self.ty {
@@ -148,15 +159,32 @@ pub enum Operator {
 }
 
 impl Operator {
+    /// How tightly the operator binds.
+    pub fn level(self) -> u32
+        ensures { result < 4 }
+    {
+        match self {
+            Operator::Mul | Operator::Div | Operator::Rem => 3,
+            Operator::Add | Operator::Sub => 2,
+            Operator::ShiftLeft | Operator::ShiftRight => 1,
+            Operator::And | Operator::Or | Operator::Xor => 0,
+        }
+    }
+
+    /// Whether the operator is written with two signs.
+    pub fn is_shift(self) -> bool {
+        matches!(self, Operator::ShiftLeft | Operator::ShiftRight)
+    }
+
     /// The integer, unless it overflows, the divisor is 0 or the types differ.
     pub fn apply(self, left: Integer, right: Integer) -> Result<Integer, Cause> {
         match self {
             Operator::ShiftLeft => shifted_left(left, count_of(left, right)?),
             Operator::ShiftRight => shifted_right(left, count_of(left, right)?),
-            _ => left
-                .ty
-                .common(right.ty)?
-                .of(self.value(left.value, right.value)?),
+            _ => {
+                let ty = left.common(right)?;
+                ty.of(self.value(left.value, right.value)?)
+            }
         }
     }
 
@@ -218,9 +246,6 @@ impl Choice {
             Choice::Min => left.value.min(right.value),
             Choice::Max => left.value.max(right.value),
         };
-        let ty = left.ty.common(right.ty)?;
-        ty.of(Some(left.value))?;
-        ty.of(Some(right.value))?;
-        ty.of(Some(value))
+        left.common(right)?.of(Some(value))
     }
 }
