@@ -69,7 +69,7 @@ impl<'a, 't> Scope<'a, 't> {
         if align.is_power_of_two() {
             Ok(align)
         } else {
-            Err(Stop::at(at, Cause::AlignNotPower))
+            Err(Stop::at(at.saturating_add(1), Cause::AlignNotPower))
         }
     }
 

@@ -31,6 +31,28 @@ pub struct Module<'t> {
     pub has_standard_uniform: bool,
 }
 
+impl<'t> Module<'t> {
+    /// The struct that a declaration stands for.
+    pub fn structure(&self, meaning: Meaning) -> Option<&Struct> {
+        match meaning {
+            Meaning::Struct(index) => self.structs.get(index),
+            _ => None,
+        }
+    }
+
+    /// A module of which nothing is read but a fault.
+    pub fn faulty(alloc: Global, fault: Fault) -> Result<Module<'t>, AllocError> {
+        Ok(Module {
+            declarations: Vec::new(alloc),
+            meanings: Vec::new(alloc),
+            structs: Vec::new(alloc),
+            variables: Vec::new(alloc),
+            faults: vec![in alloc; fault]?,
+            has_standard_uniform: false,
+        })
+    }
+}
+
 /// What is read of a module.
 #[derive(Drop)]
 struct Reader<'t> {

@@ -4,8 +4,8 @@ ghost use Rattle.wgsl_source.specs.Cursor.{GoesOn};
 use crate::attribute::BindingAttributes;
 use crate::check::type_fault;
 use crate::cursor::Cursor;
-use crate::fault::{Expected, Stop};
-use crate::scope::Scope;
+use crate::fault::{Cause, Expected, Stop};
+use crate::scope::{Meaning, Scope};
 use crate::types::{read_access, read_space};
 use wgsl_core::ty::Type;
 use wgsl_syntax::address::{AccessMode, AddressSpace};
@@ -21,6 +21,8 @@ pub struct Variable<'t> {
     pub space: AddressSpace,
     pub access: AccessMode,
     pub ty: Type,
+    /// The index of the struct that is its type, if it is one.
+    pub structure: Option<usize>,
 }
 
 /// What stands in front of the type of a variable.
@@ -43,13 +45,17 @@ impl<'a, 't> Scope<'a, 't> {
             return Ok(None);
         }
         let at = cursor.index();
+        let structure = match self.meaning(cursor.word()) {
+            Some(Meaning::Struct(index)) => Some(index),
+            _ => None,
+        };
         let ty = self.read_type(cursor)?;
         match type_fault(&ty) {
             Some(cause) => {
                 drop(ty);
                 Err(Stop::at(at, cause))
             }
-            None => Ok(Some(variable_of(head, ty))),
+            None => Ok(Some(variable_of(head, ty, structure))),
         }
     }
 
@@ -71,7 +77,7 @@ impl<'a, 't> Scope<'a, 't> {
     }
 }
 
-fn variable_of<'t>(head: Head<'t>, ty: Type) -> Variable<'t> {
+fn variable_of<'t>(head: Head<'t>, ty: Type, structure: Option<usize>) -> Variable<'t> {
     Variable {
         name: head.name,
         place: head.place,
@@ -80,6 +86,7 @@ fn variable_of<'t>(head: Head<'t>, ty: Type) -> Variable<'t> {
         space: head.space,
         access: head.access,
         ty,
+        structure,
     }
 }
 
@@ -90,7 +97,11 @@ fn read_qualifiers(cursor: &mut Cursor) -> Result<(AddressSpace, AccessMode), St
     if !cursor.take(b'<') {
         return Ok((AddressSpace::Handle, AccessMode::Read));
     }
+    let at = cursor.index();
     let space = read_space(cursor)?;
+    if space == AddressSpace::Function {
+        return Err(Stop::at(at, Cause::Expected(Expected::AddressSpace)));
+    }
     let mut access = space.default_access_mode();
     if cursor.take(b',') && !cursor.is_at(b'>') {
         access = read_access(cursor)?;

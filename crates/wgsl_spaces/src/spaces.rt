@@ -32,7 +32,8 @@ pub fn required_align(space: AddressSpace, ty: &Type) -> Option<u32>
     }
 }
 
-fn up_to_16(number: Option<u32>) -> Option<u32>
+/// A number rounded up to a multiple of 16.
+pub fn up_to_16(number: Option<u32>) -> Option<u32>
     ensures { IsExactly result (IsUpTo16 (IsValue number)) }
 {
     number?.checked_next_multiple_of(16)
