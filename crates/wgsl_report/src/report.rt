@@ -153,7 +153,7 @@ pub(crate) fn write_fault(
 ) -> Result<(), AllocError> {
     output.push_str(fault.cause.text())?;
     match (fault.cause, word_at(text, fault.at)) {
-        (Cause::NotUtf8, _) => Ok(()),
+        (Cause::NotUtf8 | Cause::OpenComment, _) => Ok(()),
         (Cause::Expected(_), Some(word)) => write_found(output, ", found `", word, format),
         (Cause::Expected(_), None) => output.push_str(", found the end"),
         (_, Some(word)) => write_found(output, ": `", word, format),

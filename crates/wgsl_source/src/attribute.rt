@@ -31,7 +31,7 @@ impl<'a, 't> Scope<'a, 't> {
             align: None,
         };
         while cursor.take(b'@') {
-            match cursor.name(Expected::Name)? {
+            match cursor.take_word(Expected::Name)? {
                 "size" => attributes.size = Some(self.read_attribute(cursor)?),
                 "align" => attributes.align = Some(self.read_alignment(cursor)?),
                 _ => skip_group(cursor)?,
@@ -52,7 +52,7 @@ impl<'a, 't> Scope<'a, 't> {
             binding: None,
         };
         while cursor.take(b'@') {
-            match cursor.name(Expected::Name)? {
+            match cursor.take_word(Expected::Name)? {
                 "group" => attributes.group = Some(self.read_attribute(cursor)?),
                 "binding" => attributes.binding = Some(self.read_attribute(cursor)?),
                 _ => skip_group(cursor)?,
@@ -64,17 +64,23 @@ impl<'a, 't> Scope<'a, 't> {
     fn read_alignment(&self, cursor: &mut Cursor<'t>) -> Result<u32, Stop>
         ensures goes_on { GoesOn cursor.old cursor.new }
     {
-        let at = cursor.index();
-        let align = self.read_attribute(cursor)?;
+        let (at, align) = self.read_number(cursor)?;
         if align.is_power_of_two() {
             Ok(align)
         } else {
-            Err(Stop::at(at.saturating_add(1), Cause::AlignNotPower))
+            Err(Stop::at(at, Cause::AlignNotPower))
         }
     }
 
-    /// The number of an attribute in parentheses.
     fn read_attribute(&self, cursor: &mut Cursor<'t>) -> Result<u32, Stop>
+        ensures goes_on { GoesOn cursor.old cursor.new }
+    {
+        let (_, number) = self.read_number(cursor)?;
+        Ok(number)
+    }
+
+    /// The number of an attribute in parentheses, and where it stands.
+    fn read_number(&self, cursor: &mut Cursor<'t>) -> Result<(usize, u32), Stop>
         ensures goes_on { GoesOn cursor.old cursor.new }
     {
         cursor.expect(b'(')?;
@@ -82,6 +88,9 @@ impl<'a, 't> Scope<'a, 't> {
         let number = self.read_integer(cursor, Site::Other)?;
         cursor.take(b',');
         cursor.expect(b')')?;
-        u32::try_from(number.value).map_err(|_| Stop::at(at, Cause::NegativeAttribute))
+        match u32::try_from(number.value) {
+            Ok(number) => Ok((at, number)),
+            Err(_) => Err(Stop::at(at, Cause::NegativeAttribute)),
+        }
     }
 }

@@ -3,7 +3,6 @@
 use crate::fault::Cause;
 use wgsl_core::ty::Type;
 use wgsl_core::ty::form::Form;
-use wgsl_syntax::scalar::Scalar;
 
 /// What is wrong with a type as it is written, if anything is.
 pub fn type_fault(ty: &Type) -> Option<Cause> {
@@ -27,14 +26,15 @@ pub fn stored_fault(ty: &Type) -> Option<Cause> {
     }
 }
 
-/// Why a type has no size, if it has none.
+/// Why a type has no size or no alignment, if it lacks one.
 fn footprint_fault(ty: &Type) -> Option<Cause> {
-    if ty.size_of().is_some() {
+    if ty.size_of().is_some() && ty.align_of().is_some() {
         return None;
     }
     match ty.form() {
         Form::Array(None, _) | Form::Struct(_) => Some(Cause::RuntimeSized),
         Form::Array(Some(_), _) => Some(Cause::TooLarge),
+        Form::Vector(_, _) | Form::Matrix(_, _, _) => Some(Cause::NoLayout),
         _ => Some(Cause::NotPlain),
     }
 }

@@ -63,7 +63,10 @@ impl<'t> Cursor<'t> {
 
     /// Reading stops where something else was expected.
     pub fn expected(&self, expected: Expected) -> Stop {
-        self.stop(Cause::Expected(expected))
+        match self.kind() {
+            Kind::OpenComment => self.stop(Cause::OpenComment),
+            _ => self.stop(Cause::Expected(expected)),
+        }
     }
 
     /// Goes on to the token after the next; whether there is a next one.
@@ -124,8 +127,20 @@ impl<'t> Cursor<'t> {
         }
     }
 
-    /// Takes a name.
+    /// Takes a name that a declaration can have.
     pub fn name(&mut self, expected: Expected) -> Result<&'t str, Stop>
+        ensures goes_on { GoesOn self.old self.new }
+        ensures one { OnOk result (Takes self.old self.new) }
+    {
+        if is_keyword(self.word()) {
+            Err(self.expected(expected))
+        } else {
+            self.take_word(expected)
+        }
+    }
+
+    /// Takes a name or a keyword.
+    pub fn take_word(&mut self, expected: Expected) -> Result<&'t str, Stop>
         ensures goes_on { GoesOn self.old self.new }
         ensures one { OnOk result (Takes self.old self.new) }
     {
@@ -136,4 +151,37 @@ impl<'t> Cursor<'t> {
             Err(self.expected(expected))
         }
     }
+}
+
+/// Whether a word is a keyword (WGSL, "Keyword Summary").
+fn is_keyword(word: &str) -> bool {
+    matches!(
+        word,
+        "alias"
+            | "break"
+            | "case"
+            | "const"
+            | "const_assert"
+            | "continue"
+            | "continuing"
+            | "default"
+            | "diagnostic"
+            | "discard"
+            | "else"
+            | "enable"
+            | "false"
+            | "fn"
+            | "for"
+            | "if"
+            | "let"
+            | "loop"
+            | "override"
+            | "requires"
+            | "return"
+            | "struct"
+            | "switch"
+            | "true"
+            | "var"
+            | "while"
+    )
 }

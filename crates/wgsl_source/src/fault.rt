@@ -27,6 +27,7 @@ pub enum Cause {
     ContainsItself,
     TooDeep,
     NotUtf8,
+    OpenComment,
     /// What stands there has no integer value that is known.
     NotInteger,
     /// A value that is known only when the pipeline is made.
@@ -46,6 +47,8 @@ pub enum Cause {
     RuntimeSized,
     /// An element or a member of a type that is not plain.
     NotPlain,
+    /// An element or a member whose type has no alignment, as `vec3<bool>`.
+    NoLayout,
     TooLarge,
     NoMembers,
     /// An attribute `align` that is no power of two.
@@ -91,6 +94,7 @@ impl Cause {
             Cause::DeclaredTwice => "another declaration has this name",
             Cause::ContainsItself => "this declaration contains itself",
             Cause::TooDeep => "more than 255 levels",
+            Cause::OpenComment => "a comment has no end",
             Cause::NotUtf8 => "the text is not UTF-8 from here on",
             Cause::NotInteger => "this has no integer value",
             Cause::KnownLater => "an override has a value only when the pipeline is made",
@@ -109,6 +113,7 @@ impl Cause {
             Cause::NotPlain => {
                 "an element or a member is a scalar, vector, matrix, atomic, array or struct"
             }
+            Cause::NoLayout => "this type has no layout",
             Cause::TooLarge => "more than 4294967295 bytes",
             Cause::NoMembers => "a struct has at least one member",
             Cause::AlignNotPower => "`@align` is not a power of two",

@@ -64,7 +64,7 @@ pub fn skip_attributes(cursor: &mut Cursor) -> Result<(), Stop>
     ensures goes_on { GoesOn cursor.old cursor.new }
 {
     while cursor.take(b'@') {
-        cursor.name(Expected::Name)?;
+        cursor.take_word(Expected::Name)?;
         skip_group(cursor)?;
     }
     Ok(())

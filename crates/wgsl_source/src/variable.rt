@@ -63,7 +63,7 @@ impl<'a, 't> Scope<'a, 't> {
         ensures goes_on { GoesOn cursor.old cursor.new }
     {
         let attributes = self.read_binding_attributes(cursor)?;
-        cursor.name(Expected::Declaration)?;
+        cursor.take_word(Expected::Declaration)?;
         let (space, access) = read_qualifiers(cursor)?;
         let place = cursor.index();
         let name = cursor.name(Expected::Name)?;

@@ -13,6 +13,8 @@ pub enum Kind {
     Number,
     /// Another character, alone.
     Sign(u8),
+    /// A block comment that doesn't end, up to the end of the text.
+    OpenComment,
     /// The end of the text.
     End,
 }
@@ -53,6 +55,7 @@ pub fn next_token(text: &[u8], at: usize) -> Option<Token>
     let (kind, end) = match text[start] {
         b'0'..=b'9' => (Kind::Number, number_end(text, start)),
         first if is_in_name(first) => (Kind::Name, name_end(text, start)),
+        b'/' if text.get(start + 1) == Some(&b'*') => (Kind::OpenComment, text.len()),
         first => (Kind::Sign(first), start + 1),
     };
     Some(Token { kind, start, end })
