@@ -105,11 +105,14 @@ impl<'t> Declarations<'t> {
         Ok(())
     }
 
+    /// Keeps a fault, once for each place.
     fn tell(&mut self, stop: Stop) -> Result<(), AllocError> {
-        if let Stop::Fault(fault) = stop {
-            self.faults.push(fault)?;
+        match stop {
+            Stop::Fault(fault) if self.faults.last() != Some(&fault) => {
+                Ok(self.faults.push(fault)?)
+            }
+            _ => Ok(()),
         }
-        Ok(())
     }
 }
 

@@ -14,7 +14,8 @@ pub fn skip_to_end(cursor: &mut Cursor) -> Result<(), Stop>
     let mut depth: usize = 0;
     loop {
         let kind = cursor.kind();
-        if begins_declaration(cursor) || !cursor.advance() {
+        let is_at_end = matches!(kind, Kind::End | Kind::OpenComment);
+        if is_at_end || begins_declaration(cursor) || !cursor.advance() {
             return Err(cursor.expected(Expected::Sign(missing_at(depth))));
         }
         match kind {
@@ -22,7 +23,6 @@ pub fn skip_to_end(cursor: &mut Cursor) -> Result<(), Stop>
             Kind::Sign(b'{' | b'(' | b'[') => depth = depth.saturating_add(1),
             Kind::Sign(b'}') if depth <= 1 => return Ok(()),
             Kind::Sign(b'}' | b')' | b']') => depth = depth.saturating_sub(1),
-            Kind::End => return Err(cursor.expected(Expected::Sign(missing_at(depth)))),
             _ => {}
         }
     }
@@ -52,7 +52,8 @@ pub fn skip_group(cursor: &mut Cursor) -> Result<(), Stop>
         } else if cursor.is_at(b')') {
             depth -= 1;
         }
-        if cursor.kind() == Kind::End || !cursor.advance() {
+        let is_at_end = matches!(cursor.kind(), Kind::End | Kind::OpenComment);
+        if is_at_end || !cursor.advance() {
             return Err(cursor.expected(Expected::Sign(b')')));
         }
     }

@@ -1,5 +1,7 @@
 // Structs, read and laid out.
-ghost use Rattle.std.specs.Prelude.{OnOk};
+ghost use Rattle.std.specs.Prelude.{◌≡◌, IfOk, OnOk};
+ghost use Rattle.wgsl_core.specs.Layout.{IsLayoutOf};
+ghost use Rattle.wgsl_core.specs.View.{struct_view};
 ghost use Rattle.wgsl_source.specs.Cursor.{GoesOn, Takes};
 
 use crate::attribute::MemberAttributes;
@@ -26,7 +28,10 @@ pub struct Struct {
 
 impl Struct {
     /// What others see of the struct, which has this name.
-    pub fn measured<'t>(&self, name: &'t str) -> Measured<'t> {
+    pub fn measured<'t>(&self, name: &'t str) -> Measured<'t>
+        ensures size { result.size ≡ self.now.layout.size }
+        ensures align { result.align ≡ self.now.layout.align }
+    {
         Measured {
             name,
             size: self.layout.size,
@@ -56,7 +61,10 @@ impl Draft {
         })
     }
 
-    fn finished(self, layout: StructLayout) -> Struct {
+    fn finished(self, layout: StructLayout) -> Struct
+        ensures ty { result.ty ≡ self.ty }
+        ensures layout { result.layout ≡ layout }
+    {
         Struct {
             ty: self.ty,
             layout,
@@ -87,6 +95,7 @@ impl<'a, 't> Scope<'a, 't> {
     /// A struct from the name on, at which the cursor stands.
     pub fn read_struct(&self, cursor: &mut Cursor<'t>) -> Result<Struct, Stop>
         ensures goes_on { GoesOn cursor.old cursor.new }
+        ensures layout { IfOk result (λ s. IsLayoutOf (struct_view s.ty).members s.layout) }
     {
         let at = cursor.index();
         let name = cursor.name(Expected::Name)?;
@@ -108,6 +117,7 @@ impl<'a, 't> Scope<'a, 't> {
         at: usize,
     ) -> Result<StructLayout, Stop>
         ensures goes_on { GoesOn cursor.old cursor.new }
+        ensures layout { IfOk result (IsLayoutOf (struct_view draft.new.ty).members) }
     {
         self.read_members(cursor, draft)?;
         match draft.ty.layout(self.alloc)? {
