@@ -54,14 +54,24 @@ impl Place {
         }
     }
 
-    /// Whether memory there is shared with the host.
-    pub fn is_shared(self) -> bool {
-        !matches!(self, Place::Workgroup | Place::Private | Place::Handle)
+    pub fn space(self) -> AddressSpace {
+        match self {
+            Place::Uniform => AddressSpace::Uniform,
+            Place::ReadStorage | Place::Storage => AddressSpace::Storage,
+            Place::Workgroup => AddressSpace::Workgroup,
+            Place::Private => AddressSpace::Private,
+            Place::Immediate => AddressSpace::PushConstant,
+            Place::Handle => AddressSpace::Handle,
+        }
     }
 
-    /// Whether an atomic may stand there.
-    pub fn takes_atomics(self) -> bool {
-        matches!(self, Place::Storage | Place::Workgroup)
+    pub fn access(self) -> AccessMode {
+        match self {
+            Place::Uniform | Place::ReadStorage | Place::Immediate | Place::Handle => {
+                AccessMode::Read
+            }
+            Place::Storage | Place::Workgroup | Place::Private => AccessMode::ReadWrite,
+        }
     }
 
     /// Whether a runtime-sized array may stand there.

@@ -9,6 +9,7 @@ use wgsl_core::ty::{StructMemberType, StructType, Type};
 use wgsl_source::module::Module;
 use wgsl_source::structure::Struct;
 use wgsl_source::variable::Variable;
+use wgsl_spaces::content::{innermost, may_be_innermost};
 use wgsl_spaces::spaces::{Rule, broken_rule, may_be_elements, required_align, stride, up_to_16};
 use wgsl_syntax::address::AddressSpace;
 
@@ -205,7 +206,7 @@ impl<'a> Checker<'a> {
     fn rules(&self, place: Place) -> AddressSpace {
         match place {
             Place::Uniform => self.uniform,
-            _ => AddressSpace::Storage,
+            _ => place.space(),
         }
     }
 
@@ -214,12 +215,13 @@ impl<'a> Checker<'a> {
         if let Some(stride) = crowded_stride(self.rules(subject.place), ty) {
             self.find(subject, Trouble::Stride { stride })?;
         }
-        match innermost(ty) {
-            Type::Bool if subject.place.is_shared() => self.find(subject, Trouble::Bool),
-            Type::Atomic(_) if !subject.place.takes_atomics() => {
-                self.find(subject, Trouble::Atomic)
-            }
-            _ => Ok(()),
+        let inner = innermost(ty);
+        if may_be_innermost(subject.place.space(), subject.place.access(), inner) {
+            Ok(())
+        } else if inner.is_bool() {
+            self.find(subject, Trouble::Bool)
+        } else {
+            self.find(subject, Trouble::Atomic)
         }
     }
 }
@@ -248,14 +250,6 @@ fn crowded_stride(rules: AddressSpace, ty: &Type) -> Option<u32> {
         }
         Type::Array(element, _) => stride(element),
         _ => None,
-    }
-}
-
-/// The type in the innermost array or vector.
-fn innermost(ty: &Type) -> &Type {
-    match ty {
-        Type::Array(inner, _) | Type::Vec(_, inner) => innermost(inner),
-        _ => ty,
     }
 }
 
