@@ -55,8 +55,8 @@ fn write_structs(
     request: Request,
 ) -> Result<(), AllocError> {
     let mut written = 0usize;
-    for meaning in &source.module.meanings {
-        if let Some(structure) = source.module.structure(*meaning) {
+    for index in &source.module.in_text {
+        if let Some(structure) = source.module.structs.get(*index) {
             if is_asked(structure, request) {
                 separate(output, written)?;
                 write_struct(output, structure)?;

@@ -7,7 +7,6 @@ use crate::table::{write_struct, write_variable};
 use crate::write::{write_escaped, write_number};
 use std::alloc::{AllocError, Global};
 use std::str::from_utf8;
-use wgsl_source::cursor::Cursor;
 use wgsl_source::fault::{Cause, Fault};
 use wgsl_source::module::{Module, read_module};
 use wgsl_source::place::{Lines, Place};
@@ -54,7 +53,7 @@ pub fn report_on(alloc: Global, bytes: &[u8], request: Request) -> Result<Report
     match from_utf8(bytes) {
         Ok(text) => {
             let tokens = tokens(alloc, bytes)?;
-            let module = read_module(alloc, Cursor::start(text, &tokens))?;
+            let module = read_module(alloc, text, &tokens)?;
             report_module(alloc, request, text, &lines, &module)
         }
         Err(error) => {
@@ -108,8 +107,8 @@ fn write_tables(
     source: Source,
     request: Request,
 ) -> Result<(), AllocError> {
-    for meaning in &source.module.meanings {
-        if let Some(structure) = source.module.structure(*meaning) {
+    for index in &source.module.in_text {
+        if let Some(structure) = source.module.structs.get(*index) {
             if is_asked(structure, request) {
                 write_struct(output, structure)?;
             }

@@ -16,15 +16,15 @@ use std::collections::BTreeMap;
 use wgsl_core::ty::Type;
 use wgsl_core::ty::form::Form;
 use wgsl_syntax::scalar::Scalar;
+use wgsl_tokens::token::Token;
 
 /// A module that is read.
 #[derive(Drop)]
 pub struct Module<'t> {
-    pub declarations: Vec<Declaration<'t>>,
-    /// What each declaration stands for.
-    pub meanings: Vec<Meaning>,
-    /// Each behind those that it contains.
+    /// Each behind those that stand in it.
     pub structs: Vec<Struct>,
+    /// The indices of the structs in the order of the text.
+    pub in_text: Vec<usize>,
     pub variables: Vec<Variable<'t>>,
     pub faults: Vec<Fault>,
     /// Whether `requires uniform_buffer_standard_layout;` is there.
@@ -32,20 +32,11 @@ pub struct Module<'t> {
 }
 
 impl<'t> Module<'t> {
-    /// The struct that a declaration stands for.
-    pub fn structure(&self, meaning: Meaning) -> Option<&Struct> {
-        match meaning {
-            Meaning::Struct(index) => self.structs.get(index),
-            _ => None,
-        }
-    }
-
     /// A module of which nothing is read but a fault.
     pub fn faulty(alloc: Global, fault: Fault) -> Result<Module<'t>, AllocError> {
         Ok(Module {
-            declarations: Vec::new(alloc),
-            meanings: Vec::new(alloc),
             structs: Vec::new(alloc),
+            in_text: Vec::new(alloc),
             variables: Vec::new(alloc),
             faults: vec![in alloc; fault]?,
             has_standard_uniform: false,
@@ -67,8 +58,13 @@ struct Reader<'t> {
     faults: Vec<Fault>,
 }
 
-/// The module from a cursor on.
-pub fn read_module<'t>(alloc: Global, start: Cursor<'t>) -> Result<Module<'t>, AllocError> {
+/// The module of a text with these tokens.
+pub fn read_module<'t>(
+    alloc: Global,
+    text: &'t str,
+    tokens: &'t [Token],
+) -> Result<Module<'t>, AllocError> {
+    let start = Cursor::start(text, tokens);
     let Declarations {
         declarations,
         faults,
@@ -88,21 +84,31 @@ pub fn read_module<'t>(alloc: Global, start: Cursor<'t>) -> Result<Module<'t>, A
     reader.name_all(&declarations)?;
     reader.read_all(&declarations)?;
     reader.faults.sort_unstable_by_key(|fault| fault.at);
+    let in_text = structs_in_text(alloc, &reader.meanings)?;
     let Reader {
-        meanings,
         structs,
         variables,
         faults,
         ..
     } = reader;
     Ok(Module {
-        declarations,
-        meanings,
         structs,
+        in_text,
         variables,
         faults,
         has_standard_uniform,
     })
+}
+
+/// The indices of the structs that declarations stand for. An alias of a struct is none.
+fn structs_in_text(alloc: Global, meanings: &[Meaning]) -> Result<Vec<usize>, AllocError> {
+    let mut indices = Vec::new(alloc);
+    for meaning in meanings {
+        if let Meaning::Struct(index) = meaning {
+            indices.push(*index)?;
+        }
+    }
+    Ok(indices)
 }
 
 impl<'t> Reader<'t> {

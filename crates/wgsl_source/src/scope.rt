@@ -19,6 +19,8 @@ pub enum Meaning {
     Alias(usize),
     /// The struct at this index of the structs.
     Struct(usize),
+    /// Another name of the struct at this index.
+    StructAlias(usize),
     /// Neither a type nor an integer.
     Other,
 }
@@ -37,6 +39,14 @@ pub struct Scope<'a, 't> {
 }
 
 impl<'a, 't> Scope<'a, 't> {
+    /// The index of the struct that a name stands for.
+    pub fn structure(&self, name: &'t str) -> Option<usize> {
+        match self.meaning(name) {
+            Some(Meaning::Struct(index) | Meaning::StructAlias(index)) => Some(index),
+            _ => None,
+        }
+    }
+
     /// What the module's declaration with this name stands for.
     pub fn meaning(&self, name: &'t str) -> Option<Meaning> {
         let index = self.names.get(&name)?;

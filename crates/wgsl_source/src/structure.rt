@@ -28,7 +28,7 @@ pub struct Struct {
 
 impl Struct {
     /// What others see of the struct, which has this name.
-    pub fn measured<'t>(&self, name: &'t str) -> Measured<'t>
+    pub(crate) fn measured<'t>(&self, name: &'t str) -> Measured<'t>
         ensures size { result.size ≡ self.now.layout.size }
         ensures align { result.align ≡ self.now.layout.align }
     {

@@ -64,7 +64,7 @@ impl<'a, 't> Scope<'a, 't> {
                 Some(_) => Err(Stop::at(at, Cause::TooDeep)),
                 None => Err(Stop::Elsewhere),
             },
-            Meaning::Struct(index) => match self.structs.get(index) {
+            Meaning::Struct(index) | Meaning::StructAlias(index) => match self.structs.get(index) {
                 Some(measured) => Ok(measured.stand_in(self.alloc)?),
                 None => Err(Stop::Elsewhere),
             },

@@ -5,7 +5,7 @@ use crate::attribute::BindingAttributes;
 use crate::check::type_fault;
 use crate::cursor::Cursor;
 use crate::fault::{Cause, Expected, Stop};
-use crate::scope::{Meaning, Scope};
+use crate::scope::Scope;
 use crate::types::{read_access, read_space};
 use wgsl_core::ty::Type;
 use wgsl_syntax::address::{AccessMode, AddressSpace};
@@ -45,10 +45,7 @@ impl<'a, 't> Scope<'a, 't> {
             return Ok(None);
         }
         let at = cursor.index();
-        let structure = match self.meaning(cursor.word()) {
-            Some(Meaning::Struct(index)) => Some(index),
-            _ => None,
-        };
+        let structure = self.structure(cursor.word());
         let ty = self.read_type(cursor)?;
         match type_fault(&ty) {
             Some(cause) => {
