@@ -4,7 +4,7 @@ use crate::finding::Finding;
 use crate::json::write_json;
 use crate::rules::findings_of;
 use crate::table::{write_struct, write_variable};
-use crate::write::{write_escaped, write_number};
+use crate::write::{write_between, write_escaped, write_number};
 use std::alloc::{AllocError, Global};
 use std::str::from_utf8;
 use wgsl_source::fault::{Cause, Fault};
@@ -86,11 +86,15 @@ fn report_module(
         Format::Tables => write_tables(&mut output, source, request)?,
         Format::Json => write_json(&mut output, source, request)?,
     }
-    let is_asked = request.only.is_none() || module.structs.iter().any(|s| is_asked(s, request));
     Ok(Report {
         text: output,
-        is_clean: module.faults.is_empty() && findings.is_empty() && is_asked,
+        is_clean: module.faults.is_empty() && findings.is_empty() && has_asked(source, request),
     })
+}
+
+/// Whether the struct that is asked about is there, if it is one.
+fn has_asked(source: Source, request: Request) -> bool {
+    request.only.is_none() || source.module.structs.iter().any(|s| is_asked(s, request))
 }
 
 /// Whether a struct is asked about.
@@ -118,6 +122,10 @@ fn write_tables(
         for variable in &source.module.variables {
             write_variable(output, source.module, variable)?;
         }
+    }
+    if !has_asked(source, request) {
+        let name = request.only.unwrap_or("");
+        write_between(output, "no struct is called `", name, "`\n")?;
     }
     for fault in &source.module.faults {
         write_place(output, request.file, source.lines.place(fault.at))?;

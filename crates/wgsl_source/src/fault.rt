@@ -56,6 +56,8 @@ pub enum Cause {
     /// An attribute `size` below the size of the member's type.
     SizeTooSmall,
     NegativeAttribute,
+    /// An attribute `size` of a runtime-sized array.
+    SizedRuntimeArray,
 }
 
 impl Expected {
@@ -119,6 +121,7 @@ impl Cause {
             Cause::AlignNotPower => "`@align` is not a power of two",
             Cause::SizeTooSmall => "`@size` is below the size of the type",
             Cause::NegativeAttribute => "an attribute is 0 to 4294967295",
+            Cause::SizedRuntimeArray => "a runtime-sized array has no `@size`",
         }
     }
 }

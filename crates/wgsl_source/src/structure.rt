@@ -156,7 +156,7 @@ impl<'a, 't> Scope<'a, 't> {
         if is_runtime_sized {
             draft.runtime_sized = Some(at);
         }
-        match member_fault(&ty, attributes) {
+        match member_fault(&ty, is_runtime_sized, attributes) {
             Some(cause) => {
                 drop(ty);
                 Err(Stop::at(at, cause))
@@ -175,9 +175,14 @@ fn counted(ty: Type) -> (Type, bool) {
 }
 
 /// What is wrong with the type of a member, if anything is.
-fn member_fault(ty: &Type, attributes: MemberAttributes) -> Option<Cause> {
+fn member_fault(
+    ty: &Type,
+    is_runtime_sized: bool,
+    attributes: MemberAttributes,
+) -> Option<Cause> {
     match (stored_fault(ty), ty.size_of(), attributes.size) {
         (Some(cause), _, _) => Some(cause),
+        (None, _, Some(_)) if is_runtime_sized => Some(Cause::SizedRuntimeArray),
         (None, Some(least), Some(size)) if size < least => Some(Cause::SizeTooSmall),
         _ => None,
     }

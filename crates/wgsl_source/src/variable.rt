@@ -47,10 +47,10 @@ impl<'a, 't> Scope<'a, 't> {
         let at = cursor.index();
         let structure = self.structure(cursor.word());
         let ty = self.read_type(cursor)?;
-        match type_fault(&ty) {
-            Some(cause) => {
+        match variable_fault(&ty, at, cursor) {
+            Some(stop) => {
                 drop(ty);
-                Err(Stop::at(at, cause))
+                Err(stop)
             }
             None => Ok(Some(variable_of(head, ty, structure))),
         }
@@ -71,6 +71,15 @@ impl<'a, 't> Scope<'a, 't> {
             space,
             access,
         })
+    }
+}
+
+/// What is wrong with the type of a variable, which stands at an index of the text, or with what is behind it.
+fn variable_fault(ty: &Type, at: usize, cursor: &Cursor) -> Option<Stop> {
+    match type_fault(ty) {
+        Some(cause) => Some(Stop::at(at, cause)),
+        None if cursor.is_at(b';') || cursor.is_at(b'=') => None,
+        None => Some(cursor.expected(Expected::Sign(b';'))),
     }
 }
 
