@@ -5,11 +5,9 @@ mod arguments;
 
 use arguments::{Arguments, Asked, read_arguments};
 use std::alloc::Global;
-use std::env;
-use std::fs;
-use std::io;
 use std::io::{Read, Write};
 use std::process::ExitCode;
+use std::{env, fs, io};
 use wgsl_report::report::{Request, report_on};
 
 const HELP: &str = "\

@@ -53,7 +53,13 @@ impl Trouble {
     fn sentence(self) -> Sentence {
         let (start, first, needs, second, end) = match self {
             Trouble::Offset { offset, align } => {
-                ("lies at ", Some(offset), "it needs `@align(", Some(align), ")`")
+                (
+                    "lies at ",
+                    Some(offset),
+                    "it needs `@align(",
+                    Some(align),
+                    ")`",
+                )
             }
             Trouble::Behind { room } => (
                 "is a struct behind which the next member begins too soon",

@@ -13,11 +13,7 @@ use wgsl_source::variable::Variable;
 use wgsl_syntax::address::AddressSpace;
 
 /// One object: the file, structs in the order of the text, variables, errors and findings.
-pub fn write_json(
-    output: &mut String,
-    source: Source,
-    request: Request,
-) -> Result<(), AllocError> {
+pub fn write_json(output: &mut String, source: Source, request: Request) -> Result<(), AllocError> {
     output.push_str("{\"file\":\"")?;
     write_escaped(output, request.file)?;
     output.push_str("\",\"structs\":[")?;
@@ -49,11 +45,7 @@ fn separate(output: &mut String, index: usize) -> Result<(), AllocError> {
     output.push_str(if index == 0 { "\n" } else { ",\n" })
 }
 
-fn write_structs(
-    output: &mut String,
-    source: Source,
-    request: Request,
-) -> Result<(), AllocError> {
+fn write_structs(output: &mut String, source: Source, request: Request) -> Result<(), AllocError> {
     let mut written = 0usize;
     for index in &source.module.in_text {
         if let Some(structure) = source.module.structs.get(*index) {
@@ -98,7 +90,12 @@ fn write_member(
     member: &StructMemberType,
     placed: PlacedMember,
 ) -> Result<(), AllocError> {
-    write_between(output, "{\"name\":\"", member.name.as_str(), "\",\"type\":\"")?;
+    write_between(
+        output,
+        "{\"name\":\"",
+        member.name.as_str(),
+        "\",\"type\":\"",
+    )?;
     write_type(output, &member.ty, is_endless(structure, index))?;
     output.push_str("\"")?;
     write_field(output, "offset", Some(placed.offset))?;

@@ -106,11 +106,7 @@ pub(crate) fn is_asked(structure: &Struct, request: Request) -> bool {
 }
 
 /// The structs in the order of the text, the variables, the faults and the findings.
-fn write_tables(
-    output: &mut String,
-    source: Source,
-    request: Request,
-) -> Result<(), AllocError> {
+fn write_tables(output: &mut String, source: Source, request: Request) -> Result<(), AllocError> {
     for index in &source.module.in_text {
         if let Some(structure) = source.module.structs.get(*index) {
             if is_asked(structure, request) {

@@ -9,7 +9,7 @@ use wgsl_core::ty::{StructMemberType, StructType, Type};
 use wgsl_source::module::Module;
 use wgsl_source::structure::Struct;
 use wgsl_source::variable::Variable;
-use wgsl_spaces::content::{innermost, may_be_innermost};
+use wgsl_spaces::content::{innermost, may_be_innermost, may_hold_elements};
 use wgsl_spaces::spaces::{Rule, broken_rule, may_be_elements, required_align, stride, up_to_16};
 use wgsl_syntax::address::AddressSpace;
 
@@ -212,7 +212,9 @@ impl<'a> Checker<'a> {
 
     /// Checks the elements of arrays, and what stands innermost.
     fn check_content(&mut self, subject: Subject<'a>, ty: &Type) -> Result<(), AllocError> {
-        if let Some(stride) = crowded_stride(self.rules(subject.place), ty) {
+        let rules = self.rules(subject.place);
+        if !may_hold_elements(rules, ty) {
+            let stride = crowded_stride(rules, ty).unwrap_or(0);
             self.find(subject, Trouble::Stride { stride })?;
         }
         let inner = innermost(ty);

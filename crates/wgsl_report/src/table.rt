@@ -77,11 +77,7 @@ pub fn write_variable(
     output.push_str("\n")
 }
 
-fn write_attribute(
-    output: &mut String,
-    name: &str,
-    number: Option<u32>,
-) -> Result<(), AllocError> {
+fn write_attribute(output: &mut String, name: &str, number: Option<u32>) -> Result<(), AllocError> {
     if number.is_none() {
         return Ok(());
     }

@@ -175,11 +175,7 @@ fn counted(ty: Type) -> (Type, bool) {
 }
 
 /// What is wrong with the type of a member, if anything is.
-fn member_fault(
-    ty: &Type,
-    is_runtime_sized: bool,
-    attributes: MemberAttributes,
-) -> Option<Cause> {
+fn member_fault(ty: &Type, is_runtime_sized: bool, attributes: MemberAttributes) -> Option<Cause> {
     match (stored_fault(ty), ty.size_of(), attributes.size) {
         (Some(cause), _, _) => Some(cause),
         (None, _, Some(_)) if is_runtime_sized => Some(Cause::SizedRuntimeArray),

@@ -1,12 +1,45 @@
 // What may stand inside the types of an address space.
 ghost use Rattle.std.specs.Prelude.{◌≡◌, ◌↔◌, IsTrue};
 ghost use Rattle.wgsl_core.specs.View.{view};
-ghost use Rattle.wgsl_spaces.specs.Spaces.{IsShared, MayBeInnermost, TakesAtomics, innermost};
+ghost use Rattle.wgsl_spaces.specs.Spaces.{IsShared, MayBeInnermost, MayHoldElements, TakesAtomics, innermost};
 
+use crate::spaces::may_be_elements;
 use wgsl_core::ty::Type;
 use wgsl_core::ty::form::Form;
 use wgsl_syntax::address::{AccessMode, AddressSpace};
 use wgsl_syntax::scalar::Scalar;
+
+/// Whether the elements of each array in a type may lie so.
+pub fn may_hold_elements(space: AddressSpace, ty: &Type) -> bool
+    ensures { IsTrue result ↔ MayHoldElements space (view ty.now) }
+{
+    match ty {
+        Type::Array(element, _) => {
+            may_be_elements(space, element) && may_hold_elements(space, element)
+        }
+        Type::Bool
+        | Type::AbstractInt
+        | Type::AbstractFloat
+        | Type::I32
+        | Type::U32
+        | Type::F32
+        | Type::F16
+        | Type::I64
+        | Type::U64
+        | Type::F64
+        | Type::Struct(_)
+        | Type::Vec(_, _)
+        | Type::Mat(_, _, _)
+        | Type::Atomic(_)
+        | Type::Ptr(_, _, _)
+        | Type::Ref(_, _, _)
+        | Type::Texture(_)
+        | Type::Sampler(_)
+        | Type::BindingArray(_, _)
+        | Type::RayQuery(_)
+        | Type::AccelerationStructure(_) => true,
+    }
+}
 
 /// The type in the innermost array or vector.
 pub fn innermost(ty: &Type) -> &Type
