@@ -67,23 +67,32 @@ pub fn predeclared(name: &str) -> Option<Head> {
     }
     match texture_named(name) {
         Some(texture) => Some(Head::Texture(texture)),
-        None => other_head(name.as_bytes()),
+        None => other_head(name),
     }
 }
 
-fn other_head(name: &[u8]) -> Option<Head> {
+/// What the name of a vector or a matrix says, or one without numbers in it.
+fn other_head(name: &str) -> Option<Head> {
+    if let Some(rest) = name.strip_prefix("vec") {
+        vector_head(rest.as_bytes())
+    } else if let Some(rest) = name.strip_prefix("mat") {
+        matrix_head(rest.as_bytes())
+    } else {
+        named_head(name)
+    }
+}
+
+fn named_head(name: &str) -> Option<Head> {
     match name {
-        b"array" => Some(Head::Layer(LayerName::Array)),
-        b"atomic" => Some(Head::Layer(LayerName::Atomic)),
-        b"ptr" => Some(Head::Layer(LayerName::Pointer)),
-        b"ref" => Some(Head::Layer(LayerName::Reference)),
-        b"binding_array" => Some(Head::Layer(LayerName::BindingArray)),
-        b"sampler" => Some(Head::Sampler(SamplerType::Sampler)),
-        b"sampler_comparison" => Some(Head::Sampler(SamplerType::SamplerComparison)),
-        b"ray_query" => Some(Head::RayQuery),
-        b"acceleration_structure" => Some(Head::AccelerationStructure),
-        [b'v', b'e', b'c', rest @ ..] => vector_head(rest),
-        [b'm', b'a', b't', rest @ ..] => matrix_head(rest),
+        "array" => Some(Head::Layer(LayerName::Array)),
+        "atomic" => Some(Head::Layer(LayerName::Atomic)),
+        "ptr" => Some(Head::Layer(LayerName::Pointer)),
+        "ref" => Some(Head::Layer(LayerName::Reference)),
+        "binding_array" => Some(Head::Layer(LayerName::BindingArray)),
+        "sampler" => Some(Head::Sampler(SamplerType::Sampler)),
+        "sampler_comparison" => Some(Head::Sampler(SamplerType::SamplerComparison)),
+        "ray_query" => Some(Head::RayQuery),
+        "acceleration_structure" => Some(Head::AccelerationStructure),
         _ => None,
     }
 }
