@@ -1,4 +1,4 @@
-# What ./wgsl_check, ./build_library and tests/memory share: a crate and those that it stands on are proved, where a file of
+# What ./wgsl_check, ./wgsl_layout, ./build_library and tests/memory share: a crate and those that it stands on are proved, where a file of
 # theirs has changed. Each line on standard error begins with the name of the script that runs.
 # shellcheck shell=bash
 
@@ -147,7 +147,7 @@ stop() {
     kill -s "$1" $$
 }
 
-# Proves those that a crate stands on, and then the crate itself, by a verb of `rt` that also builds.
+# Proves those that a crate stands on, and then the crate itself, by a verb of `rt` with its words that also builds.
 prove() {
     local crates at=0 crate verb
     mapfile -t crates < <(crates_of "$1")
@@ -155,14 +155,14 @@ prove() {
         "about 30 to 65 minutes of processor time, half of that on four processors. A crate that has not changed takes seconds"
     for crate in "${crates[@]}"; do
         at=$((at + 1))
-        verb=lib
-        [ "$crate" != "$1" ] || verb=$2
-        step "$at of ${#crates[@]}" "$crate" call_rt "$verb" || return 1
+        verb=(lib)
+        [ "$crate" != "$1" ] || verb=("${@:2}")
+        step "$at of ${#crates[@]}" "$crate" call_rt "${verb[@]}" || return 1
     done
 }
 
 call_rt() {
-    exec rt "$1"
+    exec rt "$@"
 }
 
 # Runs a function, which ends in `exec`, in a crate's folder. What it prints goes to a log. One line says how it ended.

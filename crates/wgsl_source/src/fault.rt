@@ -1,0 +1,162 @@
+// Why a text was not read.
+
+use std::alloc::{AllocError, AllocFailed};
+
+/// What should have stood where something else stands.
+#[derive(Clone, Copy, Debug, PartialEq, Eq)]
+pub enum Expected {
+    Declaration,
+    Name,
+    Type,
+    Integer,
+    AddressSpace,
+    AccessMode,
+    TexelFormat,
+    SampledType,
+    Flag,
+    Sign(u8),
+}
+
+/// What is wrong.
+#[derive(Clone, Copy, Debug, PartialEq, Eq)]
+pub enum Cause {
+    Expected(Expected),
+    UnknownName,
+    DeclaredTwice,
+    /// A declaration that needs itself.
+    ContainsItself,
+    TooDeep,
+    NotUtf8,
+    OpenComment,
+    /// What stands there has no integer value that is known.
+    NotInteger,
+    /// A value that is known only when the pipeline is made.
+    KnownLater,
+    Overflow,
+    DivisionByZero,
+    /// An `i32` and a `u32`.
+    MixedIntegers,
+    NegatedUnsigned,
+    ShiftTooFar,
+    /// An array without elements.
+    NoElements,
+    VectorComponent,
+    MatrixComponent,
+    AtomicContent,
+    /// An element or a member of a type that has no fixed footprint.
+    RuntimeSized,
+    /// An element or a member of a type that is not plain.
+    NotPlain,
+    /// An element or a member whose type has no alignment, as `vec3<bool>`.
+    NoLayout,
+    TooLarge,
+    NoMembers,
+    /// An attribute `align` that is no power of two.
+    AlignNotPower,
+    /// An attribute `size` below the size of the member's type.
+    SizeTooSmall,
+    NegativeAttribute,
+    /// An attribute `size` of a runtime-sized array.
+    SizedRuntimeArray,
+}
+
+impl Expected {
+    /// What is told of it.
+    pub fn text(self) -> &'static str {
+        match self {
+            Expected::Declaration => "expected a declaration",
+            Expected::Name => "expected a name",
+            Expected::Type => "expected a type",
+            Expected::Integer => "expected an integer expression",
+            Expected::AddressSpace => "expected an address space",
+            Expected::AccessMode => "expected an access mode",
+            Expected::TexelFormat => "expected a texel format",
+            Expected::SampledType => "expected `f32`, `i32` or `u32`",
+            Expected::Flag => "expected `vertex_return`",
+            Expected::Sign(b';') => "expected `;`",
+            Expected::Sign(b':') => "expected `:`",
+            Expected::Sign(b',') => "expected `,`",
+            Expected::Sign(b'=') => "expected `=`",
+            Expected::Sign(b'<') => "expected `<`",
+            Expected::Sign(b'>') => "expected `>`",
+            Expected::Sign(b'(') => "expected `(`",
+            Expected::Sign(b')') => "expected `)`",
+            Expected::Sign(b'{') => "expected `{`",
+            Expected::Sign(_) => "expected `}`",
+        }
+    }
+}
+
+impl Cause {
+    /// What is told of it.
+    pub fn text(self) -> &'static str {
+        match self {
+            Cause::Expected(expected) => expected.text(),
+            Cause::UnknownName => "no declaration has this name",
+            Cause::DeclaredTwice => "another declaration has this name",
+            Cause::ContainsItself => "this declaration contains itself",
+            Cause::TooDeep => "more than 255 levels",
+            Cause::OpenComment => "a comment has no end",
+            Cause::NotUtf8 => "the text is not UTF-8 from here on",
+            Cause::NotInteger => "this has no integer value",
+            Cause::KnownLater => "an override has a value only when the pipeline is made",
+            Cause::Overflow => "an integer overflows",
+            Cause::DivisionByZero => "a division by 0",
+            Cause::MixedIntegers => "an i32 and a u32 do not mix",
+            Cause::NegatedUnsigned => "a u32 has no negative",
+            Cause::ShiftTooFar => "a shift by more bits than there are",
+            Cause::NoElements => "an array has at least one element",
+            Cause::VectorComponent => "a vector's component is a scalar",
+            Cause::MatrixComponent => "a matrix's component is f32 or f16",
+            Cause::AtomicContent => "an atomic holds i32 or u32",
+            Cause::RuntimeSized => {
+                "a runtime-sized array may only be the last member of a struct, or a whole variable"
+            }
+            Cause::NotPlain => {
+                "an element or a member is a scalar, vector, matrix, atomic, array or struct"
+            }
+            Cause::NoLayout => "this type has no layout",
+            Cause::TooLarge => "more than 4294967295 bytes",
+            Cause::NoMembers => "a struct has at least one member",
+            Cause::AlignNotPower => "`@align` is not a power of two",
+            Cause::SizeTooSmall => "`@size` is below the size of the type",
+            Cause::NegativeAttribute => "an attribute is 0 to 4294967295",
+            Cause::SizedRuntimeArray => "a runtime-sized array has no `@size`",
+        }
+    }
+}
+
+/// What is wrong at an index of the text.
+#[derive(Clone, Copy, Debug, PartialEq, Eq)]
+pub struct Fault {
+    pub at: usize,
+    pub cause: Cause,
+}
+
+/// Why reading stopped.
+#[derive(Clone, Copy, Debug, PartialEq, Eq)]
+pub enum Stop {
+    Memory,
+    Fault(Fault),
+    /// A declaration that is needed has a fault of its own.
+    Elsewhere,
+}
+
+impl Stop {
+    /// At a fault.
+    pub fn at(at: usize, cause: Cause) -> Stop {
+        Stop::Fault(Fault { at, cause })
+    }
+}
+
+impl From<AllocError> for Stop {
+    fn from(_e: AllocError) -> Stop {
+        Stop::Memory
+    }
+}
+
+impl<T: Drop> From<AllocFailed<T>> for Stop {
+    fn from(_e: AllocFailed<T>) -> Stop {
+        Stop::Memory
+    }
+}
