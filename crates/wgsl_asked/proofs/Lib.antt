@@ -1,2 +1,3 @@
+pub mod Overloaded
 pub mod Received
 pub mod Settled

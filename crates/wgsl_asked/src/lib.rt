@@ -5,3 +5,4 @@ pub mod answers;
 pub mod ask;
 pub mod common;
 pub mod requests;
+pub mod standard;

@@ -1,5 +1,7 @@
 -- What is called, and the overloads of it.
-use Rattle.std.specs.Prelude.{List, Option, Some, None, Bool, true, false}
+use Rattle.std.specs.Prelude.{ℕ, List, Option, Some, None, Bool, true, false}
+use Rattle.wgsl_syntax.specs.declared.operator.BinaryOperator.{BinaryOperator}
+use Rattle.wgsl_syntax.specs.declared.operator.UnaryOperator.{UnaryOperator}
 use Rattle.wgsl_syntax.specs.declared.overload.Overload.{Overload}
 use Rattle.wgsl_rules.specs.standard.Operators.{binary_overloads, unary_overloads}
 use Rattle.wgsl_rules.specs.standard.Names.{function_table, template_function_table, overloads_named}
@@ -7,13 +9,29 @@ use Rattle.wgsl_rules.specs.standard.ConstructorNames.{constructor_table, templa
 use Rattle.wgsl_standard.specs.declared.callee.Callee.{Callee}
 use Rattle.wgsl_standard.specs.declared.callee.Callee.TheVariants as callees
 
+-- an operator, or the name of a built-in function or of a constructor
+pub data WgslCallee : Type 0 where
+  a_unary : UnaryOperator → WgslCallee
+  a_binary : BinaryOperator → WgslCallee
+  a_function : List ℕ → WgslCallee
+  a_constructor : List ℕ → WgslCallee
+
+abbrev pub callee_view : Callee → WgslCallee
+callee_view (callees.Unary o) = a_unary o
+callee_view (callees.Binary o) = a_binary o
+callee_view (callees.Function name) = a_function name.now
+callee_view (callees.Constructor name) = a_constructor name.now
+
 -- the overloads without a template, or those with one; None if no such call is listed
+abbrev pub overloads_listed : WgslCallee → Bool → Option (List Overload)
+overloads_listed (a_unary o) false = Some (unary_overloads o)
+overloads_listed (a_unary o) true = None
+overloads_listed (a_binary o) false = Some (binary_overloads o)
+overloads_listed (a_binary o) true = None
+overloads_listed (a_function name) false = overloads_named name function_table
+overloads_listed (a_function name) true = overloads_named name template_function_table
+overloads_listed (a_constructor name) false = overloads_named name constructor_table
+overloads_listed (a_constructor name) true = overloads_named name template_constructor_table
+
 abbrev pub overloads_of : Callee → Bool → Option (List Overload)
-overloads_of (callees.Unary o) false = Some (unary_overloads o)
-overloads_of (callees.Unary o) true = None
-overloads_of (callees.Binary o) false = Some (binary_overloads o)
-overloads_of (callees.Binary o) true = None
-overloads_of (callees.Function name) false = overloads_named name.now function_table
-overloads_of (callees.Function name) true = overloads_named name.now template_function_table
-overloads_of (callees.Constructor name) false = overloads_named name.now constructor_table
-overloads_of (callees.Constructor name) true = overloads_named name.now template_constructor_table
+overloads_of callee has_template = overloads_listed (callee_view callee) has_template

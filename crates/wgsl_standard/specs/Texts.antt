@@ -7,32 +7,40 @@ use Rattle.wgsl_rules.specs.types.Spelling.{spelling}
 use Rattle.wgsl_rules.specs.standard.Choice.{value_of}
 use Rattle.wgsl_rules.specs.standard.Signatures.{signature_lines, signature_text}
 use Rattle.wgsl_core.specs.View.{view}
-use Rattle.wgsl_standard.specs.Callees.{overloads_of}
+use Rattle.wgsl_standard.specs.Callees.{WgslCallee, a_binary, a_constructor, a_function, a_unary, callee_view, overloads_listed}
 use Rattle.wgsl_standard.specs.Explained.{or_none}
 use Rattle.wgsl_standard.specs.declared.callee.Callee.{Callee}
-use Rattle.wgsl_standard.specs.declared.callee.Callee.TheVariants as callees
 use Rattle.wgsl_standard.specs.declared.explanation.Note.{Note}
 use Rattle.wgsl_standard.specs.declared.operand.Operand.{Operand as CodeOperand}
 use Rattle.wgsl_standard.specs.declared.refusal.Mismatch.{Mismatch}
 use Rattle.wgsl_standard.specs.declared.refusal.Mismatch.TheVariants.{Count, Argument}
 use Rattle.wgsl_standard.specs.declared.signature.Signature.{Signature}
 
+abbrev pub name_of : WgslCallee → List ℕ
+name_of (a_unary o) = unary_text o
+name_of (a_binary o) = binary_text o
+name_of (a_function name) = name
+name_of (a_constructor name) = name
+
 abbrev pub callee_text : Callee → List ℕ
-callee_text (callees.Unary o) = unary_text o
-callee_text (callees.Binary o) = binary_text o
-callee_text (callees.Function name) = name.now
-callee_text (callees.Constructor name) = name.now
+callee_text callee = name_of (callee_view callee)
 
 -- `clamp(vecN<T>, vecN<T>, vecN<T>) -> vecN<T>, T: number`
 abbrev pub line_of : Signature → List ℕ
 line_of s = signature_text (callee_text s.callee) s.has_template s.of_vectors s.overload.now
 
-abbrev pub lines_with : Callee → Bool → List (List ℕ)
-lines_with callee has_template = signature_lines (callee_text callee) has_template (or_none (overloads_of callee has_template))
+abbrev pub lines_listed : WgslCallee → Bool → List (List ℕ)
+lines_listed callee has_template = signature_lines (name_of callee) has_template (or_none (overloads_listed callee has_template))
 
 -- the lines of all overloads of what is called, those without a template first
+abbrev pub texts_listed : WgslCallee → List (List ℕ)
+texts_listed callee = lines_listed callee false ++ lines_listed callee true
+
+abbrev pub lines_with : Callee → Bool → List (List ℕ)
+lines_with callee has_template = lines_listed (callee_view callee) has_template
+
 abbrev pub overload_texts : Callee → List (List ℕ)
-overload_texts callee = lines_with callee false ++ lines_with callee true
+overload_texts callee = texts_listed (callee_view callee)
 
 -- `takes 2 arguments, not 3`; a template is none of them
 abbrev pub counts_text : Bool → ℕ → ℕ → List ℕ
@@ -74,11 +82,17 @@ abbrev pub type_refused : Mismatch → List WgslType → Option WgslType
 type_refused (Count n) ts = None
 type_refused (Argument i) ts = slice_get ts i
 
-abbrev pub line_with : Callee → Bool → List WgslType → Overload × Mismatch → List ℕ
-line_with callee has_template ts n = signature_text (callee_text callee) has_template (begins_with_vector ts) n.0 ++ codes ": "
+abbrev pub line_listed : WgslCallee → Bool → List WgslType → Overload × Mismatch → List ℕ
+line_listed callee has_template ts n = signature_text (name_of callee) has_template (begins_with_vector ts) n.0 ++ codes ": "
     ++ reason_text has_template (length ts) (type_refused n.1 ts) n.1
 
 -- the line for an overload, and why it doesn't take the operands; the template is the first of them
+abbrev pub note_listed : WgslCallee → Option WgslType → List WgslType → Overload × Mismatch → List ℕ
+note_listed callee None ts n = line_listed callee false ts n
+note_listed callee (Some t) ts n = line_listed callee true (t ∷ ts) n
+
+abbrev pub line_with : Callee → Bool → List WgslType → Overload × Mismatch → List ℕ
+line_with callee has_template ts n = line_listed (callee_view callee) has_template ts n
+
 abbrev pub note_line : Callee → Option WgslType → List WgslType → Overload × Mismatch → List ℕ
-note_line callee None ts n = line_with callee false ts n
-note_line callee (Some t) ts n = line_with callee true (t ∷ ts) n
+note_line callee template ts n = note_listed (callee_view callee) template ts n

@@ -105,7 +105,7 @@ pub fn type_ctor(
 }
 
 /// The type of a call by the overloads of its name, if it has any.
-fn named_type(
+pub(crate) fn named_type(
     alloc: Global,
     overloads: Option<&[Overload]>,
     operands: &[Operand<'_>],
@@ -120,7 +120,7 @@ fn named_type(
 }
 
 /// The same with a template, which is the first operand.
-fn templated_type(
+pub(crate) fn templated_type(
     alloc: Global,
     overloads: Option<&[Overload]>,
     template: &Type,

@@ -3,6 +3,7 @@
 
 pub mod answer;
 pub mod binding;
+pub mod call;
 pub mod callee;
 pub mod constructors;
 pub mod explanation;

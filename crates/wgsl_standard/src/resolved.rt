@@ -96,7 +96,7 @@ pub fn resolve_ctor(
     }
 }
 
-fn named_call(
+pub(crate) fn named_call(
     alloc: Global,
     overloads: Option<&[Overload]>,
     operands: &[Operand<'_>],
@@ -110,7 +110,7 @@ fn named_call(
     }
 }
 
-fn templated_call(
+pub(crate) fn templated_call(
     alloc: Global,
     overloads: Option<&[Overload]>,
     template: &Type,
