@@ -6,7 +6,7 @@ use std::alloc::Global;
 use std::collections::BTreeMap;
 use wgsl_core::ty::Type;
 
-/// What a declaration stands for, as far as it is read.
+/// What a declaration stands for, or that it isn't read yet.
 #[derive(Clone, Copy)]
 pub enum Meaning {
     Unread,
