@@ -1,9 +1,8 @@
 // Where WGSL's own overloads meet requests.
-ghost use Rattle.std.specs.Prelude.{◌≡◌, Err, IfOk, MatchOption, Ok, map, option_map};
+ghost use Rattle.std.specs.Prelude.{◌≡◌, IfOk, map, option_map};
 ghost use Rattle.wgsl_core.specs.Instances.{parameter_view};
 ghost use Rattle.wgsl_core.specs.View.{view};
 ghost use Rattle.wgsl_standard.specs.Resolved.{resolved_view};
-ghost use Rattle.wgsl_standard.specs.declared.answer.Unresolved.TheVariants.{NoOverload};
 ghost use Rattle.wgsl_asked.specs.Standard.{IsResolutionOf, IsTypeOf, StandardAnswers, template_type};
 ghost use Rattle.wgsl_asked.specs.StandardViews.{call_view, answer_view, request_view};
 
@@ -75,7 +74,11 @@ fn type_of(alloc: Global, call: Call<'_>) -> Result<Option<Option<Type>>, AllocE
     let Some(template) = template_type(call.template) else {
         return Ok(None);
     };
-    if_resolved(type_of_call(alloc, call.callee, template, call.operands))
+    match type_of_call(alloc, call.callee, template, call.operands) {
+        Ok(value) => Ok(Some(value)),
+        Err(Unresolved::NoOverload) => Ok(None),
+        Err(Unresolved::OutOfMemory(error)) => Err(error),
+    }
 }
 
 fn resolution_of(alloc: Global, call: Call<'_>) -> Result<Option<ResolvedCall>, AllocError>
@@ -84,15 +87,8 @@ fn resolution_of(alloc: Global, call: Call<'_>) -> Result<Option<ResolvedCall>, 
     let Some(template) = template_type(call.template) else {
         return Ok(None);
     };
-    if_resolved(resolve_callee(alloc, call.callee, template, call.operands))
-}
-
-/// What was made, or None if no overload takes the operands.
-fn if_resolved<T: Drop>(made: Result<T, Unresolved>) -> Result<Option<T>, AllocError>
-    ensures { IfOk result (λ found. MatchOption found (made ≡ Err NoOverload) (λ x. made ≡ Ok x)) }
-{
-    match made {
-        Ok(value) => Ok(Some(value)),
+    match resolve_callee(alloc, call.callee, template, call.operands) {
+        Ok(resolved) => Ok(Some(resolved)),
         Err(Unresolved::NoOverload) => Ok(None),
         Err(Unresolved::OutOfMemory(error)) => Err(error),
     }
