@@ -11,6 +11,10 @@ say() {
     echo "${0##*/}: $*" >&2 || true
 }
 
+show_version() {
+    echo "${0##*/} $(<"$top/VERSION")"
+}
+
 # Ends with a status that no run of the program has.
 end_as_wrong_use() {
     say "$1: see ./${0##*/} --help"

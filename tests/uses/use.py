@@ -37,7 +37,7 @@ def add(path, text="\n"):
 def make_template(folder):
     """The repository that each use begins with, all of whose files are old; and the stand-in's own folder."""
     top, said = os.path.join(folder, "a repository"), os.path.join(folder, "said")
-    for name in ("wgsl_check", "wgsl_layout", "build_library", "test", "proving.sh", "crates.txt", "README.md"):
+    for name in ("wgsl_check", "wgsl_layout", "build_library", "test", "proving.sh", "crates.txt", "VERSION", "README.md"):
         os.makedirs(top, exist_ok=True)
         shutil.copy(os.path.join(TOP, name), top)
     shutil.copytree(os.path.join(TOP, "bindings", "c"), os.path.join(top, "bindings", "c"))
