@@ -1,7 +1,8 @@
 #!/usr/bin/env python3
-"""Writes the structs of a WGSL file as a C header, as Rust or as numpy dtypes, from the JSON of ./wgsl_layout:
+"""Writes the structs of a WGSL file as a C header, as Rust or as numpy dtypes, from the JSON of wgsl_layout. This file is a
+program too, which needs no library:
 
-    ./wgsl_layout --json scene.wgsl | python3 wgsl_forms.py --c
+    ./wgsl_layout --json scene.wgsl | python3 bindings/python/wgsl/forms.py --c
 
 Padding is written out, and what is written checks each offset and size when it is compiled or, for numpy, made. Vectors are
 arrays of their components, matrices arrays of columns with their padding. A runtime-sized array has one element. A `bool`
@@ -177,6 +178,34 @@ class NumpyWriter(Writer):
         return "\n".join(["import numpy", ""] + self.lines)
 
 
+def data_of(text, sizes, dtypes):
+    """A type as what `numpy.dtype` takes, where the dtypes of its structs are known."""
+    shape, _, _ = shape_of(text, sizes)
+    base = SCALARS[shape.name][NUMPY] if shape.name in SCALARS else dtypes[shape.name]
+    counts = ()
+    for count, inside, stride in layers(shape, sizes):
+        if stride != inside:
+            base, counts = {"names": ["value"], "formats": [(base, counts)], "offsets": [0], "itemsize": stride}, ()
+        counts = (count, *counts)
+    return (base, counts) if counts else base
+
+
+def dtypes(document):
+    """The dtypes of the structs, by their names. Raises ImportError without numpy."""
+    import numpy  # only who asks for dtypes needs it
+
+    sizes, found = sizes_of(document), {}
+    for struct in in_order(document):
+        members = struct["members"]
+        found[struct["name"]] = numpy.dtype({
+            "names": [member["name"] for member in members],
+            "formats": [data_of(member["type"], sizes, found) for member in members],
+            "offsets": [member["offset"] for member in members],
+            "itemsize": struct["size"],
+        })
+    return found
+
+
 WRITERS = {"--c": CWriter, "--rust": RustWriter, "--numpy": NumpyWriter}
 
 
@@ -205,7 +234,7 @@ def written(document, form):
 
 def main():
     if len(sys.argv) != 2 or sys.argv[1] not in WRITERS:
-        print("usage: ./wgsl_layout --json FILE | python3 wgsl_forms.py --c | --rust | --numpy", file=sys.stderr)
+        print("usage: ./wgsl_layout --json FILE | python3 forms.py --c | --rust | --numpy", file=sys.stderr)
         return 64
     sys.stdout.write(written(json.load(sys.stdin), sys.argv[1]))
     return 0
