@@ -43,8 +43,13 @@ impl<'a, 't> Scope<'a, 't> {
             return Err(cursor.stop(Cause::TooDeep));
         };
         let mut value = self.read_operand(cursor, site, inner)?;
+        let mut before = None;
         while let Some((at, operator)) = take_operator(cursor, level, site) {
-            let right = self.read_value(cursor, operator.level() + 1, site, inner)?;
+            if !operator.may_follow(before) {
+                return Err(Stop::at(at, Cause::NoParentheses));
+            }
+            before = Some(operator);
+            let right = self.read_value(cursor, operator.inner_level(), site, inner)?;
             match operator.apply(value, right) {
                 Ok(result_value) => value = result_value,
                 Err(cause) => return Err(Stop::at(at, cause)),
@@ -78,7 +83,7 @@ impl<'a, 't> Scope<'a, 't> {
             Kind::Sign(b'~') => Ok(self.read_operand(cursor, site, inner)?.complement()),
             _ => Ok(self.read_group(cursor, inner)?),
         };
-        value.map_err(|cause| Stop::at(at, cause))
+        known_at(value, at)
     }
 
     /// The rest of an expression in parentheses.
@@ -116,7 +121,7 @@ impl<'a, 't> Scope<'a, 't> {
             "max" => self.read_choice(cursor, Choice::Max, depth)?,
             _ => Err(Cause::NotInteger),
         };
-        value.map_err(|cause| Stop::at(at, cause))
+        known_at(value, at)
     }
 
     /// The arguments of `min` or `max`, and its value.
@@ -133,6 +138,14 @@ impl<'a, 't> Scope<'a, 't> {
         cursor.expect(b',')?;
         let right = self.read_group(cursor, depth)?;
         Ok(choice.apply(left, right))
+    }
+}
+
+/// A value, or what is wrong at an index of the text.
+fn known_at(value: Result<Integer, Cause>, at: usize) -> Result<Integer, Stop> {
+    match value {
+        Ok(value) => Ok(value),
+        Err(cause) => Err(Stop::at(at, cause)),
     }
 }
 

@@ -1,10 +1,8 @@
 // Integers with their types: literals, operators, conversions.
-ghost use Rattle.std.specs.Prelude.{◌<◌};
-
 use crate::fault::{Cause, Expected};
 
 /// The type of an integer (WGSL, "Integer Types").
-#[derive(Clone, Copy, Debug, PartialEq, Eq)]
+#[derive(Clone, Copy, PartialEq, Eq)]
 pub enum IntegerType {
     Abstract,
     I32,
@@ -41,7 +39,7 @@ impl IntegerType {
 }
 
 /// An integer with its type.
-#[derive(Clone, Copy, Debug, PartialEq, Eq)]
+#[derive(Clone, Copy)]
 pub struct Integer {
     pub value: i64,
     pub ty: IntegerType,
@@ -144,7 +142,7 @@ fn digit_value(digit: u8, base: i64) -> Result<i64, Cause> {
 }
 
 /// A binary operator on integers.
-#[derive(Clone, Copy, Debug, PartialEq, Eq)]
+#[derive(Clone, Copy)]
 pub enum Operator {
     Add,
     Sub,
@@ -158,16 +156,50 @@ pub enum Operator {
     Xor,
 }
 
+/// Which operators may stand beside each other without parentheses.
+#[derive(Clone, Copy, PartialEq, Eq)]
+pub enum Family {
+    /// `+ - * / %`
+    Arithmetic,
+    And,
+    Or,
+    Xor,
+    /// A shift, which stands beside no other operator.
+    Shift,
+}
+
 impl Operator {
     /// How tightly the operator binds.
-    pub fn level(self) -> u32
-        ensures { result < 4 }
-    {
+    pub fn level(self) -> u32 {
         match self {
-            Operator::Mul | Operator::Div | Operator::Rem => 3,
-            Operator::Add | Operator::Sub => 2,
-            Operator::ShiftLeft | Operator::ShiftRight => 1,
-            Operator::And | Operator::Or | Operator::Xor => 0,
+            Operator::Mul | Operator::Div | Operator::Rem => 1,
+            _ => 0,
+        }
+    }
+
+    /// How tightly operators in its right operand bind.
+    pub fn inner_level(self) -> u32 {
+        match self {
+            Operator::Add | Operator::Sub => 1,
+            _ => 2,
+        }
+    }
+
+    fn family(self) -> Family {
+        match self {
+            Operator::ShiftLeft | Operator::ShiftRight => Family::Shift,
+            Operator::And => Family::And,
+            Operator::Or => Family::Or,
+            Operator::Xor => Family::Xor,
+            _ => Family::Arithmetic,
+        }
+    }
+
+    /// Whether the operator may stand behind another without parentheses.
+    pub fn may_follow(self, before: Option<Operator>) -> bool {
+        match before {
+            Some(before) => before.family() == self.family() && !self.is_shift(),
+            None => true,
         }
     }
 
@@ -233,7 +265,7 @@ fn shifted_right(left: Integer, count: u32) -> Result<Integer, Cause> {
 }
 
 /// A function of two integers.
-#[derive(Clone, Copy, Debug, PartialEq, Eq)]
+#[derive(Clone, Copy)]
 pub enum Choice {
     Min,
     Max,
