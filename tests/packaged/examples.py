@@ -1,4 +1,4 @@
-"""The examples in the package's documentation hold, and in its README.md."""
+"""The examples in the documentation of the package hold."""
 import doctest
 import importlib
 import pkgutil

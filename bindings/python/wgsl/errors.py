@@ -97,14 +97,15 @@ class NoLayout(ValueError):
 
 
 class ParseError(ValueError):
-    """A text is no type in WGSL's spelling. Its text says what was expected, and where."""
+    """A text is no type in WGSL's spelling: `offset` says where, in bytes from 0, and `message` what is expected there."""
 
     def __init__(self, why: str, text: str) -> None:
         super().__init__(why, text)
-        self.why, self.text = why, text
+        place, _, self.message = why.partition(": ")
+        self.text, self.offset = text, int(place.split(" ")[-1]) - 1 if place.startswith("column ") else 0
 
     def __str__(self) -> str:
-        return f"{self.text!r} is no type: {self.why}" if self.why else f"{self.text!r} is no type"
+        return f"column {self.offset + 1}: {self.message}"
 
 
 def _read_refusal(reader: Reader) -> Refused:
