@@ -22,6 +22,8 @@ def check_python(top, asked, wanted):
     program = os.path.join(LINKED, "python_threads.py")
     threads = run(sys.executable, program, asked=asked, where=top, WGSL_LIB="out", **FOUND)
     print(f"link: Python: {threads.decode().strip()}")
+    values = run(sys.executable, os.path.join(LINKED, "python_values.py"), where=top, WGSL_LIB="out", **FOUND)
+    print(f"link: Python: {values.decode().strip()}")
 
 
 def check_python_statuses(top):
