@@ -4,6 +4,7 @@ use crate::ask;
 use crate::code::Words;
 use crate::ffi::Call;
 use crate::ty::{Ty, Type};
+use alloc::vec::Vec;
 
 /// The rank of the conversion from `a` to `b`, or None if `a` doesn't convert to `b`.
 ///

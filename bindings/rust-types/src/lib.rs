@@ -27,9 +27,12 @@
 //!
 //! A call that asks the library panics if a type is more than [`ty::MAX_DEPTH`] levels deep. WGSL asks implementations for
 //! 15. If types come from untrusted input, look at [`Type::depth`] first.
+#![no_std]
 #![forbid(unsafe_op_in_unsafe_fn)]
 #![deny(unsafe_code)]
 #![warn(missing_docs)]
+
+extern crate alloc;
 
 mod ask;
 pub mod builtin;
@@ -40,6 +43,8 @@ mod ffi;
 pub mod inst;
 pub mod mem;
 mod signature;
+pub mod source;
+pub mod standard;
 pub mod syntax;
 pub mod tplt;
 pub mod ty;

@@ -4,6 +4,7 @@ use crate::ask;
 use crate::code::{Reader, Words};
 use crate::ffi::Call;
 use crate::ty::{StructType, Type};
+use alloc::vec::Vec;
 
 /// The layout of a struct (WGSL, "Structure Member Layout"), in bytes.
 #[derive(Clone, Debug, PartialEq, Eq, Hash)]
