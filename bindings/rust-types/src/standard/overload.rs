@@ -17,6 +17,19 @@ pub struct Overload {
 }
 
 impl Overload {
+    /// Whether it is called with a template, as `vec3<f32>(..)` is.
+    ///
+    /// ```
+    /// use wgsl_types_proved::standard::overloads;
+    ///
+    /// assert!(overloads("bitcast").iter().all(|overload| overload.has_template()));
+    /// assert!(overloads("<").iter().all(|overload| !overload.has_template()));
+    /// ```
+    pub fn has_template(&self) -> bool {
+        let name = self.text.trim_start_matches(|c: char| c.is_ascii_alphanumeric());
+        name.len() < self.text.len() && name.starts_with('<')
+    }
+
     /// Where the parameters stand in the text, in bytes: what an editor highlights at an argument.
     ///
     /// ```
@@ -24,7 +37,7 @@ impl Overload {
     ///
     /// let ldexp = &overloads("ldexp")[1];
     /// let parameters: Vec<&str> = ldexp.parameters().into_iter().map(|at| &ldexp.text[at]).collect();
-    /// assert_eq!(ldexp.text, "ldexp(vecN<T>, vecN<U>) -> vecN<T>, T: float, U: i32 or AbstractInt");
+    /// assert_eq!(ldexp.text, "ldexp(vecN<T>, vecN<U>) -> vecN<T>, T: float, U: signed integer");
     /// assert_eq!(parameters, ["vecN<T>", "vecN<U>"]);
     /// ```
     pub fn parameters(&self) -> Vec<Range<usize>> {
