@@ -24,6 +24,16 @@ pub struct Candidate {
 
 /// The type of a unary expression. [`Error::PtrHandle`] for `&` of a reference in the handle space, [`Error::Unary`] with
 /// the operator and the operand for any other operand that the operator doesn't take.
+///
+/// ```
+/// use wgsl_types_proved::builtin::type_unary_op;
+/// use wgsl_types_proved::syntax::UnaryOperator::BitwiseComplement;
+/// use wgsl_types_proved::Type;
+///
+/// assert_eq!(type_unary_op(BitwiseComplement, &Type::U32), Ok(Type::U32));
+/// let refused = type_unary_op(BitwiseComplement, &Type::F32).unwrap_err();
+/// assert_eq!(refused.to_string(), "cannot use unary operator `~` on type `f32`");
+/// ```
 pub fn type_unary_op(operator: UnaryOperator, operand: &Type) -> Result<Type, Error> {
     let mut request = Words::new();
     request.operator(operator as u8);
@@ -48,6 +58,16 @@ pub fn type_binary_op(operator: BinaryOperator, lhs: &Type, rhs: &Type) -> Resul
 }
 
 /// The candidate chosen for two operands, or [`Error::Binary`] with the operator and both operands.
+///
+/// ```
+/// use wgsl_types_proved::builtin::binary_candidate;
+/// use wgsl_types_proved::syntax::BinaryOperator::ShiftLeft;
+/// use wgsl_types_proved::Type;
+///
+/// let chosen = binary_candidate(ShiftLeft, &Type::I32, &Type::AbstractInt)?;
+/// assert_eq!((chosen.lhs, chosen.rhs, chosen.result), (Type::I32, Type::U32, Type::I32));
+/// # Ok::<(), wgsl_types_proved::Error>(())
+/// ```
 pub fn binary_candidate(
     operator: BinaryOperator,
     lhs: &Type,
@@ -84,6 +104,17 @@ pub fn is_ctor(name: &str) -> bool {
 
 /// The type that a constructor returns for its arguments (WGSL, "Value Constructor Built-in Functions"), or why it refuses
 /// them. [`Error::Signature`] refuses a name that is no constructor's.
+///
+/// ```
+/// use wgsl_types_proved::builtin::type_ctor;
+/// use wgsl_types_proved::tplt::TpltParam;
+/// use wgsl_types_proved::Type;
+///
+/// let f16 = [TpltParam::Type(Type::F16)];
+/// assert_eq!(type_ctor("vec3", Some(&f16), &[Type::AbstractInt])?, Type::vector(3, Type::F16));
+/// assert_eq!(type_ctor("array", None, &[Type::U32, Type::AbstractInt])?, Type::array(Some(2), Type::U32));
+/// # Ok::<(), wgsl_types_proved::Error>(())
+/// ```
 pub fn type_ctor(name: &str, tplt: Option<&[TpltParam]>, args: &[Type]) -> Result<Type, Error> {
     let mut request = Words::new();
     request.signature(name, tplt, args);
