@@ -2,7 +2,7 @@
 ghost use Rattle.wgsl_source.specs.Cursor.{GoesOn};
 
 use crate::cursor::Cursor;
-use crate::expression::Site;
+use crate::expression::{Site, close};
 use crate::fault::{Cause, Expected, Stop};
 use crate::scope::Scope;
 use crate::skip::skip_group;
@@ -83,8 +83,7 @@ impl<'a, 't> Scope<'a, 't> {
         cursor.expect(b'(')?;
         let at = cursor.index();
         let number = self.read_integer(cursor, Site::Other)?;
-        cursor.take(b',');
-        cursor.expect(b')')?;
+        close(cursor)?;
         match u32::try_from(number.value) {
             Ok(number) if is_power && !number.is_power_of_two() => {
                 Err(Stop::at(at, Cause::AlignNotPower))

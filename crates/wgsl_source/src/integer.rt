@@ -264,19 +264,39 @@ fn shifted_right(left: Integer, count: u32) -> Result<Integer, Cause> {
     left.ty.of(left.value.checked_shr(count))
 }
 
-/// A function of two integers.
+/// A function that is known where an integer is wanted.
 #[derive(Clone, Copy)]
-pub enum Choice {
+pub enum Function {
+    U32,
+    I32,
     Min,
     Max,
 }
 
-impl Choice {
-    /// The smaller or the greater of two integers, in their common type.
+impl Function {
+    /// The function with this name.
+    pub fn named(name: &str) -> Option<Function> {
+        match name {
+            "u32" => Some(Function::U32),
+            "i32" => Some(Function::I32),
+            "min" => Some(Function::Min),
+            "max" => Some(Function::Max),
+            _ => None,
+        }
+    }
+
+    /// Whether it takes two integers.
+    pub fn takes_two(self) -> bool {
+        matches!(self, Function::Min | Function::Max)
+    }
+
+    /// The conversion of the first integer, or the smaller or the greater of both in their common type.
     pub fn apply(self, left: Integer, right: Integer) -> Result<Integer, Cause> {
         let value = match self {
-            Choice::Min => left.value.min(right.value),
-            Choice::Max => left.value.max(right.value),
+            Function::U32 => return left.converted(IntegerType::U32),
+            Function::I32 => return left.converted(IntegerType::I32),
+            Function::Min => left.value.min(right.value),
+            Function::Max => left.value.max(right.value),
         };
         left.common(right)?.of(Some(value))
     }
