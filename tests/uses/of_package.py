@@ -33,7 +33,7 @@ def packages_made_twice(use):
 def packages_after_a_change_of_a_binding(use):
     first = _makes(use, "one", "wgsl_c is proved")
     use.calls()
-    add(use.path("bindings", "python", "wgsl", "types.py"), "# changed\n")
+    add(use.path("bindings", "python", "wgsl", "values.py"), "# changed\n")
     second = _makes(use, "two")
     equal(use.calls(), [])
     equal([read(one) == read(two) for one, two in zip(first[:1], second[:1])], [False])

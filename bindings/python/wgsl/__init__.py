@@ -22,7 +22,7 @@ from .errors import NoLayout, ParseError, Refused, Unreadable
 from .requests import answer
 from .source import parse, source_dtypes, source_layout
 from .standard import NoOverload, Operand, Resolution
-from .types import (ABSTRACT_FLOAT, ABSTRACT_INT, BOOL, F16, F32, F64, I32, I64, U32, U64, AccelerationStructure, Array,
+from .values import (ABSTRACT_FLOAT, ABSTRACT_INT, BOOL, F16, F32, F64, I32, I64, U32, U64, AccelerationStructure, Array,
                     Atomic, BindingArray, Enumerant, Literal, Matrix, Member, Pointer, RayQuery, Reference, Sampler, Scalar,
                     Signature, Struct, Texture, Type, Vector)
 

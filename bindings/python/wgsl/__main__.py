@@ -18,7 +18,8 @@ def read_arguments():
         prog="python -m wgsl",
         description="Answers each line of standard input, as the programs wgsl_check and wgsl_standard do. With a form and a "
         "file it prints the layouts of the structs of that WGSL file instead; - is standard input.",
-        epilog="Exit status: 0, or 2 if a line or the file couldn't be read, 1 if the file has an error, 3 if memory ran out.",
+        epilog="Exit status: 0, or 1 if there is an error or a finding in the file, 2 if a line or the file can't be read, 3 if "
+        "memory ran out.",
     )
     parser.add_argument("--version", action="version", version=f"wgsl {__version__}")
     parser.add_argument("--rules", choices=list(RULES), default="wgsl-types", help="whose rules answer: wgsl-types' or WGSL's own")
@@ -47,11 +48,13 @@ def print_layouts(form, name):
         sys.exit(f"wgsl: {wrong}")
     except MemoryError:
         return 3
+    written = json.dumps(told, ensure_ascii=False, indent=2) + "\n" if form == "json" else forms.written(told, f"--{form}")
     with open(sys.stdout.fileno(), "w", **TEXT) as output:
-        output.write(json.dumps(told, ensure_ascii=False, indent=2) + "\n" if form == "json" else forms.written(told, f"--{form}"))
-    for error in told["errors"]:
-        print(f"{name}:{error['line']}:{error['column']}: {error['message']}", file=sys.stderr)
-    return 1 if told["errors"] else 0
+        output.write(written)
+    wrong = [(kind, fault) for kind in ("error", "finding") for fault in told[f"{kind}s"]]
+    for kind, fault in wrong:
+        print(f"{name}:{fault['line']}:{fault['column']}: {kind}: {fault['message']}", file=sys.stderr)
+    return 1 if wrong else 0
 
 
 def main():

@@ -6,7 +6,7 @@ from . import forms
 from ._library import ANSWERED, REFUSED, ask_codes
 from .codes import BINARY, UNARY, Reader, encode, encode_list, encode_operator, encode_signature
 from .errors import NoLayout, refusal
-from .types import Parameter, Struct, Type
+from .values import Parameter, Struct, Type
 
 
 def ask(name: str, words: List[int]) -> Optional[List[int]]:

@@ -8,7 +8,7 @@
 import struct as _struct
 from typing import Any, Callable, Iterable, List, Optional, Sequence, Tuple
 
-from .types import (ACCESS, ENUMERANTS, F32, LITERALS, SAMPLERS, SCALARS, SPACES, TEXTURE_NAMES, TEXTURES,
+from .values import (ACCESS, ENUMERANTS, F32, LITERALS, SAMPLERS, SCALARS, SPACES, TEXTURE_NAMES, TEXTURES,
                     AccelerationStructure, Array, Atomic, BindingArray, Enumerant, Literal, Matrix, Member, Parameter, Pointer,
                     RayQuery, Reference, Sampler, Scalar, Signature, Struct, Texture, Type, Vector)
 

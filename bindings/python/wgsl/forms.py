@@ -4,7 +4,8 @@ program too, which needs no library:
 
     ./wgsl_layout --json scene.wgsl | python3 bindings/python/wgsl/forms.py --c
 
-`./wgsl_layout --c scene.wgsl` does so. What is wrong in the file is told on standard error.
+`./wgsl_layout --c scene.wgsl` does so, and `python3 -m wgsl --c scene.wgsl` over the library. What is wrong in the file is
+told on standard error.
 
 Padding is written out, and what is written checks each offset and size when it is compiled or, for numpy, made. Vectors are
 arrays of their components, matrices arrays of columns with their padding. A runtime-sized array has one element. A `bool`
@@ -268,7 +269,7 @@ class NumpyWriter(Writer):
 def data_of(text, sizes, dtypes):
     """A type as what `numpy.dtype` takes, where the dtypes of its structs are known."""
     shape, _, _ = shape_of(text, sizes)
-    base = SCALARS[shape.name][NUMPY] if shape.name in SCALARS else dtypes[shape.name]
+    base = dtypes[shape.name] if shape.is_struct else SCALARS[shape.name][NUMPY]
     counts = ()
     for count, inside, stride in layers(shape, sizes):
         if stride != inside:
@@ -335,7 +336,7 @@ def main():
     try:
         sys.stdout.write(written(document, sys.argv[1]))
     except Unknown as unknown:
-        print(f"wgsl_forms: {unknown} isn't in the JSON: leave out --struct", file=sys.stderr)
+        print(f"forms.py: {unknown} isn't in the JSON: leave out --struct", file=sys.stderr)
         return 2
     return 0
 

@@ -6,7 +6,7 @@ from . import forms
 from ._library import ask_text, read_text
 from .codes import Reader
 from .errors import ParseError
-from .types import Type
+from .values import Type
 
 
 def parse(text: str) -> Type:

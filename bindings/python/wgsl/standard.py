@@ -7,7 +7,7 @@ from typing import Any, Iterable, List, Optional, Tuple, Union
 
 from ._library import ANSWERED, REFUSED, ask_codes
 from .codes import BINARY, UNARY, Reader, encode, encode_list, encode_name, encode_operator, encode_template
-from .types import Parameter, Type
+from .values import Parameter, Type
 
 __all__ = ["KINDS", "NoOverload", "Operand", "Resolution", "overloads", "resolve", "resolve_binary", "resolve_call",
            "resolve_constructor", "resolve_unary", "why"]
