@@ -84,3 +84,5 @@ OUT_OF_MEMORY(wgsl_constructor)
 OUT_OF_MEMORY(wgsl_call)
 OUT_OF_MEMORY(wgsl_size)
 OUT_OF_MEMORY(wgsl_layout)
+
+const char *wgsl_version(void) { return WGSL_VERSION; }
