@@ -1,5 +1,5 @@
 -- Whether a type is of a kind.
-use Rattle.std.proofs.Common.{List, [], ◌∷◌, All, refl}
+use Rattle.std.proofs.Common.{◌⊎◌, List, [], ◌∷◌, All, refl, inl, inr}
 use Rattle.std.proofs.lemmas.List.Elements.{All-nil, All-cons, All-head, All-tail}
 use Rattle.wgsl_syntax.specs.declared.scalar.Scalar.{Scalar}
 use Rattle.wgsl_syntax.specs.declared.scalar.Scalar.TheVariants.{Bool, AbstractInt, AbstractFloat, I32, U32, F32, F16, I64, U64, F64}
@@ -59,6 +59,12 @@ dec_abstract (scalar AbstractInt) = yes refl
 dec_abstract (scalar AbstractFloat) = yes refl
 dec_abstract (within l t) = dec_abstract t
 dec_abstract t = no (λ e. cc e)
+
+-- one of two decidable facts
+pub either : {A B : Type 0} → Dec A → Dec B → Dec (A ⊎ B)
+either (yes a) b = yes (inl a)
+either (no n) (yes b) = yes (inr b)
+either (no n) (no m) = no (λ h. elim h [ inl a ↦ n a | inr b ↦ m b ])
 
 -- a decidable property of each type of a list
 pub dec_all : (P : WgslType → Type 0) → ((t : WgslType) → Dec (P t)) → (ts : List WgslType) → Dec (All P ts)

@@ -21,7 +21,7 @@ use Rattle.wgsl_rules.proofs.operators.Groups.{Fits, IsShifted, elements}
 use Rattle.wgsl_rules.proofs.operators.Rows.{unfit, elements_apart, not_compared, compared_apart, not_logical, no_bits, bits_apart, not_shifted}
 use Rattle.wgsl_rules.proofs.operators.Unary.{not_negated, not_opposed, not_complemented, no_handle, not_addressed, not_pointed}
 use Rattle.wgsl_rules.proofs.types.Equality.{both, same_type}
-use Rattle.wgsl_total.proofs.Deciders.{dec_integer, dec_integer_or_vector}
+use Rattle.wgsl_total.proofs.Deciders.{dec_integer, dec_integer_or_vector, either}
 
 -- Unary operators
 
@@ -63,11 +63,6 @@ dec_or_and : (o : BinaryOperator) → Dec (IsOrAnd o)
 dec_or_and BitwiseOr = yes tt
 dec_or_and BitwiseAnd = yes tt
 dec_or_and o = no (λ h. h)
-
-either : {A B : Type 0} → Dec A → Dec B → Dec (A ⊎ B)
-either (yes a) b = yes (inl a)
-either (no n) (yes b) = yes (inr b)
-either (no n) (no m) = no (λ h. elim h [ inl a ↦ n a | inr b ↦ m b ])
 
 dec_matrices : (o : BinaryOperator) (c r d s : ℕ) → Dec ((IsSum o × (c ≡ d) × (r ≡ s)) ⊎ ((o ≡ Multiplication) × (c ≡ s)))
 dec_matrices o c r d s = either (sum (dec_sum o) (ℕ_discrete c d) (ℕ_discrete r s)) (both (dec_product o) (ℕ_discrete c s))
