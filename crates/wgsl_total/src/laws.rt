@@ -1,11 +1,17 @@
-// Every request has an answer: each function returns nothing, and its contract is the law.
-ghost use Rattle.std.specs.Prelude.{ℕ, Option};
-ghost use Rattle.wgsl_rules.specs.types.Types.{WgslType};
-ghost use Rattle.wgsl_rules.specs.conversion.Conversion.{Converts};
-ghost use Rattle.wgsl_rules.specs.layout.Layout.{IsExactly};
+// Every request has exactly one answer: each function returns nothing, and its contract is the law.
+ghost use Rattle.std.specs.Prelude.{◌≡◌};
+ghost use Rattle.wgsl_asked.specs.Answers.{Answers, WgslAnswer};
+ghost use Rattle.wgsl_asked.specs.Requests.{WgslRequest};
 
-/// Two types have a rank, or none.
-#[tactic(auto, using(crate::proofs::Conversions::a_rank))]
-pub fn every_rank_has_an_answer()
-    ensures { (t u : WgslType) → (w : Option ℕ) × IsExactly w (Converts t u) }
+/// Every request has an answer, whatever types it names.
+#[tactic(auto, using(crate::proofs::Answered::some_answer))]
+pub fn every_request_has_an_answer()
+    ensures { (request : WgslRequest) → (a : WgslAnswer) × Answers request a }
+{}
+
+/// A request has at most one answer.
+#[tactic(auto, using(crate::proofs::Answered::answer_once))]
+pub fn no_request_has_two_answers()
+    ensures { (request : WgslRequest) (a b : WgslAnswer)
+        → Answers request a → Answers request b → a ≡ b }
 {}
