@@ -1,5 +1,5 @@
 -- Every request has exactly one answer.
-use Rattle.std.proofs.Common.{◌≡◌, ℕ, List, Option, Some, None, refl, sym, ap, ◌⊎◌, inl, inr}
+use Rattle.std.proofs.Common.{◌≡◌, ℕ, List, Option, Some, None, refl, sym, ap, ◌∙◌, inl, inr}
 use Rattle.wgsl_rules.specs.types.Types.{WgslType, Members}
 use Rattle.wgsl_rules.specs.conversion.Conversion.{Converts}
 use Rattle.wgsl_rules.specs.layout.Layout.{HasSize, HasAlignment, IsExactly}
@@ -10,14 +10,16 @@ use Rattle.wgsl_rules.proofs.constructors.OneAnswer.{constructor_answer_once}
 use Rattle.wgsl_rules.proofs.layout.OneLayout.{layout_once, offsets_once}
 use Rattle.wgsl_rules.proofs.layout.StructSizes.{never_both}
 use Rattle.wgsl_rules.proofs.operators.OneAnswer.{operator_answer_once, unary_answer_once}
-use Rattle.wgsl_asked.specs.Answers.{Answers, WgslAnswer, WgslLayout, IsReceivedCommon, AreOffsetsOf, IsLayoutOf, a_number, a_size, a_common_type, a_type, a_value, a_candidate, some_offsets, a_layout, rank_is, common_is, left_common_is, unary_is, binary_is, candidate_is, size_is, offsets_are, layout_is, ctor_is, call_is}
-use Rattle.wgsl_asked.specs.Requests.{WgslRequest, rank, common, left_common, unary, binary, candidate, size, offsets, layout, ctor, call}
+use Rattle.wgsl_asked.specs.Answers.{Answers, WgslAnswer, WgslLayout, IsReceivedCommon, AreOffsetsOf, IsLayoutOf, a_number, a_size, a_common_type, a_type, a_value, a_candidate, some_offsets, a_layout, a_type_of, a_resolution_of, some_lines, rank_is, common_is, left_common_is, unary_is, binary_is, candidate_is, size_is, offsets_are, layout_is, ctor_is, call_is, type_of_is, resolution_of_is, explanation_of_is, overloads_of_are}
+use Rattle.wgsl_asked.specs.Requests.{WgslRequest, rank, common, left_common, unary, binary, candidate, size, offsets, layout, ctor, call, type_of, resolution_of, explanation_of, overloads_of}
+use Rattle.wgsl_asked.specs.Overloads.{lines_named}
 use Rattle.wgsl_total.proofs.Calls.{a_call}
 use Rattle.wgsl_total.proofs.Constructors.{a_constructor}
 use Rattle.wgsl_total.proofs.Conversions.{a_rank, a_received}
 use Rattle.wgsl_total.proofs.OneCandidate.{candidate_answer_once}
 use Rattle.wgsl_total.proofs.Operators.{a_binary, a_candidate as some_candidate, a_unary}
 use Rattle.wgsl_total.proofs.Sizes.{exact_alignment, exact_size}
+use Rattle.wgsl_total.proofs.Standard.{a_resolution_of as some_resolution, a_type_of as some_type, an_explanation_of, explanation_of_once, resolution_of_once, type_of_once}
 use Rattle.wgsl_total.proofs.Structs.{layout_or_cause, offsets_or_cause}
 
 -- There is an answer
@@ -56,6 +58,10 @@ some_answer (offsets name ms) = of_offsets name ms
 some_answer (layout name ms) = of_layout name ms
 some_answer (ctor c) = let r = a_constructor c in (a_type r.0, ctor_is r.0 r.1)
 some_answer (call c) = let r = a_call c in (a_value r.0, call_is r.0 r.1)
+some_answer (type_of c) = let r = some_type c in (a_type_of c r.0, type_of_is r.0 r.1)
+some_answer (resolution_of c) = let r = some_resolution c in (a_resolution_of c r.0, resolution_of_is r.0 r.1)
+some_answer (explanation_of c) = let r = an_explanation_of c in (some_lines r.0, explanation_of_is r.0 r.1)
+some_answer (overloads_of name) = (some_lines (lines_named name), overloads_of_are (lines_named name) refl)
 
 -- There is no other
 
@@ -96,3 +102,7 @@ answer_once (offsets_are {ms} o f) (offsets_are p g) = ap some_offsets (one_offs
 answer_once (layout_is {name} {ms} k f) (layout_is l g) = ap (a_layout name ms) (one_layout ms k l f g)
 answer_once (ctor_is {c} r f) (ctor_is s g) = ap a_type (constructor_answer_once c r s f g)
 answer_once (call_is {c} r f) (call_is s g) = ap a_value (call_answer_once c r s f g)
+answer_once (type_of_is {c} r f) (type_of_is s g) = ap (a_type_of c) (type_of_once c r s f g)
+answer_once (resolution_of_is {c} r f) (resolution_of_is s g) = ap (a_resolution_of c) (resolution_of_once c r s f g)
+answer_once (explanation_of_is {c} r f) (explanation_of_is s g) = ap some_lines (explanation_of_once c r s f g)
+answer_once (overloads_of_are r f) (overloads_of_are s g) = ap some_lines (f ∙ sym g)

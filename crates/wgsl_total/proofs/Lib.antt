@@ -7,4 +7,7 @@ pub mod OneCandidate
 pub mod Constructors
 pub mod Shapes
 pub mod Calls
+pub mod Overloads
+pub mod Notes
+pub mod Standard
 pub mod Answered
