@@ -13,11 +13,12 @@ use Rattle.wgsl_standard.specs.Answered.{Answers}
 use Rattle.wgsl_standard.specs.declared.answer.Unresolved.{Unresolved}
 use Rattle.wgsl_standard.specs.declared.answer.Unresolved.TheVariants.{NoOverload}
 use Rattle.wgsl_standard.specs.declared.operand.Operand.{Operand}
-use Rattle.wgsl_asked.specs.Standard.{WithTemplate, loaded, template_type}
+use Rattle.wgsl_asked.specs.Calls.{loaded, template_type}
+use Rattle.wgsl_asked.specs.Standard.{WithTemplate}
 use Rattle.wgsl_asked.specs.StandardViews.{written_view}
 
 -- operands as they are written, and loaded
-same_operands : (xs : List Operand) → operands_view xs ≡ loaded (map written_view xs)
+pub same_operands : (xs : List Operand) → operands_view xs ≡ loaded (map written_view xs)
 same_operands [] = refl
 same_operands (x ∷ xs) = ap (λ ys. operand_view x ∷ ys) (same_operands xs)
 

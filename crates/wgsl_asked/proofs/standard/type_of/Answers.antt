@@ -6,7 +6,7 @@ use Rattle.wgsl_standard.specs.Callees.{overloads_of}
 use Rattle.wgsl_asked.proofs.Overloaded.{answered}
 use Rattle.wgsl_asked.proofs.standard.type_of.Goals as goal
 
-pub returns-in-Some : goal.returns-in-Some
-returns-in-Some c =
-    let P = IsCallAnswer (overloads_of c.args.call.callee false) (overloads_of c.args.call.callee true) in
-    answered (option_map view) P _ c.template_type.result c.in-Some.template c.args.call.operands.now _ _ c.template_type.ensures c.in-Some.is c.type_of_call.ensures c.if_resolved.ensures
+pub returns : goal.returns
+returns c =
+    let P = IsCallAnswer (overloads_of c.args.call.now.callee false) (overloads_of c.args.call.now.callee true) in
+    answered (option_map view) P _ c.template_type.result c.in-Some.template c.args.call.now.operands.now _ _ c.template_type.ensures c.in-Some.is c.type_of_call.ensures c.if_resolved.ensures
