@@ -90,19 +90,22 @@ one_layout ms (Some k) None f g = absurd (never_both ms k.size f.sized g)
 one_layout ms None (Some l) f g = absurd (never_both ms l.size g.sized f)
 one_layout ms None None f g = refl
 
-pub answer_once : {request : WgslRequest} {a b : WgslAnswer} → Answers request a → Answers request b → a ≡ b
-answer_once (rank_is {t} {u} v f) (rank_is w g) = ap a_number (one_number (Converts t u) v w f g)
-answer_once (common_is {ts} c f) (common_is d g) = ap a_common_type (one_received ts c d f g)
-answer_once (left_common_is {ts} c f) (left_common_is d g) = ap a_common_type (left_common_once ts c d f.left g.left)
-answer_once (unary_is {o} {t} r f) (unary_is s g) = ap a_type (unary_answer_once o t r s f g)
-answer_once (binary_is {o} {t} {u} r f) (binary_is s g) = ap a_type (operator_answer_once o t u r s f g)
-answer_once (candidate_is {o} {t} {u} r f) (candidate_is s g) = ap a_candidate (candidate_answer_once o t u r s f g)
-answer_once (size_is {t} s a f g) (size_is r b h k) = λ i. a_size (one_number (HasSize t) s r f h i) (one_number (HasAlignment t) a b g k i)
-answer_once (offsets_are {ms} o f) (offsets_are p g) = ap some_offsets (one_offsets ms o p f g)
-answer_once (layout_is {name} {ms} k f) (layout_is l g) = ap (a_layout name ms) (one_layout ms k l f g)
-answer_once (ctor_is {c} r f) (ctor_is s g) = ap a_type (constructor_answer_once c r s f g)
-answer_once (call_is {c} r f) (call_is s g) = ap a_value (call_answer_once c r s f g)
-answer_once (type_of_is {c} r f) (type_of_is s g) = ap (a_type_of c) (type_of_once c r s f g)
-answer_once (resolution_of_is {c} r f) (resolution_of_is s g) = ap (a_resolution_of c) (resolution_of_once c r s f g)
-answer_once (explanation_of_is {c} r f) (explanation_of_is s g) = ap some_lines (explanation_of_once c r s f g)
-answer_once (overloads_of_are r f) (overloads_of_are s g) = ap some_lines (f ∙ sym g)
+same_answer : {request : WgslRequest} {a b : WgslAnswer} → Answers request a → Answers request b → a ≡ b
+same_answer (rank_is {t} {u} v f) (rank_is w g) = ap a_number (one_number (Converts t u) v w f g)
+same_answer (common_is {ts} c f) (common_is d g) = ap a_common_type (one_received ts c d f g)
+same_answer (left_common_is {ts} c f) (left_common_is d g) = ap a_common_type (left_common_once ts c d f.left g.left)
+same_answer (unary_is {o} {t} r f) (unary_is s g) = ap a_type (unary_answer_once o t r s f g)
+same_answer (binary_is {o} {t} {u} r f) (binary_is s g) = ap a_type (operator_answer_once o t u r s f g)
+same_answer (candidate_is {o} {t} {u} r f) (candidate_is s g) = ap a_candidate (candidate_answer_once o t u r s f g)
+same_answer (size_is {t} s a f g) (size_is r b h k) = λ i. a_size (one_number (HasSize t) s r f h i) (one_number (HasAlignment t) a b g k i)
+same_answer (offsets_are {ms} o f) (offsets_are p g) = ap some_offsets (one_offsets ms o p f g)
+same_answer (layout_is {name} {ms} k f) (layout_is l g) = ap (a_layout name ms) (one_layout ms k l f g)
+same_answer (ctor_is {c} r f) (ctor_is s g) = ap a_type (constructor_answer_once c r s f g)
+same_answer (call_is {c} r f) (call_is s g) = ap a_value (call_answer_once c r s f g)
+same_answer (type_of_is {c} r f) (type_of_is s g) = ap (a_type_of c) (type_of_once c r s f g)
+same_answer (resolution_of_is {c} r f) (resolution_of_is s g) = ap (a_resolution_of c) (resolution_of_once c r s f g)
+same_answer (explanation_of_is {c} r f) (explanation_of_is s g) = ap some_lines (explanation_of_once c r s f g)
+same_answer (overloads_of_are r f) (overloads_of_are s g) = ap some_lines (f ∙ sym g)
+
+pub answer_once : (request : WgslRequest) (a b : WgslAnswer) → Answers request a → Answers request b → a ≡ b
+answer_once request a b h k = same_answer h k

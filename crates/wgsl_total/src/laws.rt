@@ -10,7 +10,6 @@ pub fn every_request_has_an_answer()
 {}
 
 /// A request has at most one answer.
-#[tactic(auto, using(crate::proofs::Answered::answer_once))]
 pub fn no_request_has_two_answers()
     ensures { (request : WgslRequest) (a b : WgslAnswer)
         → Answers request a → Answers request b → a ≡ b }
