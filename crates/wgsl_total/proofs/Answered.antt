@@ -42,7 +42,7 @@ of_offsets name ms = elim (offsets_or_cause ms) [
 of_layout : (name : List ℕ) (ms : Members) → Answered (layout name ms)
 of_layout name ms = elim (layout_or_cause ms) [
   | inl h ↦ let l : WgslLayout = record { layouts = h.sized.layouts; offsets = h.offsets; size = h.size; align = h.align } in
-    (a_layout name ms (Some l), layout_is (Some l) h.layout)
+      (a_layout name ms (Some l), layout_is (Some l) h.layout)
   | inr cause ↦ (a_layout name ms None, layout_is None cause)
 ]
 

@@ -1,5 +1,5 @@
 -- What a built-in function returns, or the refusal of its call.
-use Rattle.std.proofs.Common.{◌≡◌, ℕ, ◌⊎◌, List, [], ◌∷◌, Option, Some, None, Result, Ok, Err, codes, option_map, refl, inl, inr}
+use Rattle.std.proofs.Common.{◌≡◌, List, [], ◌∷◌, Option, Some, None, Result, Ok, Err, codes, option_map, refl, inl, inr}
 use Rattle.std.specs.Prelude.{Bool, true, false, IsSome}
 use Rattle.std.specs.Option.{option_and_then}
 use native.Mathlib.Decide.{ℕ_discrete}
@@ -22,9 +22,8 @@ use Rattle.wgsl_rules.specs.types.Signatures.{Parameter, Signature}
 use Rattle.wgsl_rules.specs.conversion.Concrete.{concretized, is_abstract}
 use Rattle.wgsl_rules.specs.errors.Refusals.{Refusal, signature}
 use Rattle.wgsl_rules.specs.calls.Answers.{IsAnswerOf, IsCallAnswer}
-use Rattle.wgsl_rules.specs.calls.ResultTypes.{IsResultOf, exchange_struct, ray_intersection_struct, hit_positions_type, size_type, transposed_of}
-use Rattle.wgsl_rules.specs.calls.Rows.{AllAre, BeginAs, Fits, HaveEqualLengths, HaveSameAbstractness, Holds, IsCommonOf, IsFromTemplate, IsResultFor, IsReturnType, IsSource, channel_in, first, given, return_type_of, sampled_in, second, shapes_of, texture_in, third, vector_like}
-use Rattle.wgsl_rules.specs.calls.Shapes.{Is}
+use Rattle.wgsl_rules.specs.calls.ResultTypes.{exchange_struct, ray_intersection_struct, hit_positions_type, size_type, transposed_of}
+use Rattle.wgsl_rules.specs.calls.Rows.{AllAre, BeginAs, Fits, HaveEqualLengths, Holds, IsCommonOf, IsFromTemplate, IsResultFor, IsReturnType, IsSource, channel_in, first, given, return_type_of, sampled_in, second, shapes_of, texture_in, third, vector_like}
 use Rattle.wgsl_rules.specs.calls.Table.{call_table, rows_named}
 use Rattle.wgsl_rules.specs.templates.Templates.{IsBitcastTemplate}
 use Rattle.wgsl_rules.proofs.conversion.Commons.{some_common}

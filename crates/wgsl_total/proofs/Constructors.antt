@@ -1,12 +1,11 @@
 -- What a constructor makes, or its refusal.
-use Rattle.std.proofs.Common.{◌≡◌, ℕ, ◌*◌, ◌⊎◌, List, [], ◌∷◌, Option, Some, None, Result, Ok, Err, All, codes, length, map, ok_or, refl, inl, inr}
+use Rattle.std.proofs.Common.{◌≡◌, ℕ, ◌*◌, ◌⊎◌, List, [], ◌∷◌, Option, Some, None, Result, Ok, Err, codes, length, map, ok_or, refl, inl, inr}
 use native.Mathlib.Decide.{ℕ_discrete}
 use Rattle.wgsl_syntax.specs.declared.scalar.Scalar.TheVariants.{AbstractInt}
 use Rattle.wgsl_rules.specs.types.Types.{WgslType, scalar, array, vec, mat}
 use Rattle.wgsl_rules.specs.types.Kinds.{IsScalar, IsScalarOrVector, IsFloatScalar}
 use Rattle.wgsl_rules.specs.types.Inner.{inner_of}
 use Rattle.wgsl_rules.specs.types.Signatures.{Parameter, Signature, of_type}
-use Rattle.wgsl_rules.specs.conversion.Conversion.{ConvertsTo}
 use Rattle.wgsl_rules.specs.conversion.Concrete.{IsAbstract}
 use Rattle.wgsl_rules.specs.errors.Refusals.{Refusal, builtin, conversion, param_count, signature, template_args}
 use Rattle.wgsl_rules.specs.Headline.{Receives}

@@ -1,8 +1,8 @@
 -- A rank, a common type of a list, and whether each type of a list converts to one.
-use Rattle.std.proofs.Common.{◌≡◌, ℕ, List, [], ◌∷◌, Option, Some, None, refl, sym, subst}
+use Rattle.std.proofs.Common.{◌≡◌, ℕ, List, [], ◌∷◌, Option, Some, None, subst}
 use Rattle.wgsl_rules.specs.types.Types.{WgslType}
 use Rattle.wgsl_rules.specs.conversion.Common.{IsLeftCommon}
-use Rattle.wgsl_rules.specs.conversion.Conversion.{Converts, ConvertsTo}
+use Rattle.wgsl_rules.specs.conversion.Conversion.{Converts}
 use Rattle.wgsl_rules.specs.Headline.{Receives}
 use Rattle.wgsl_rules.specs.layout.Layout.{IsExactly}
 use Rattle.wgsl_asked.specs.Answers.{IsReceivedCommon}

@@ -5,7 +5,7 @@ use Rattle.wgsl_syntax.specs.declared.scalar.Scalar.{Scalar}
 use Rattle.wgsl_syntax.specs.declared.scalar.Scalar.TheVariants.{Bool, AbstractInt, AbstractFloat, I32, U32, F32, F16, I64, U64, F64}
 use Rattle.wgsl_rules.specs.types.Types.{vec_of, WgslType, scalar, within}
 use Rattle.wgsl_rules.specs.types.Kinds.{IsInteger, IsFloat, IsNumeric, IsIntegerOrVector, IsNumericOrVector, IsFloatScalar, IsScalar, IsScalarOrVector}
-use Rattle.wgsl_rules.specs.conversion.Concrete.{is_abstract, IsAbstract}
+use Rattle.wgsl_rules.specs.conversion.Concrete.{IsAbstract}
 
 pub dec_integer : (s : Scalar) → Dec (IsInteger s)
 dec_integer AbstractInt = yes tt

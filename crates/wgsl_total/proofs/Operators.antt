@@ -1,5 +1,5 @@
 -- What an operator returns, or its refusal.
-use Rattle.std.proofs.Common.{◌≡◌, ℕ, ◌⊎◌, List, Option, Some, None, Result, Ok, Err, refl, sym, subst, inl, inr}
+use Rattle.std.proofs.Common.{◌≡◌, ℕ, ◌⊎◌, Option, Some, None, Result, Ok, Err, refl, sym, subst, inl, inr}
 use native.Mathlib.Decide.{ℕ_discrete}
 use Rattle.wgsl_syntax.specs.declared.address.AddressSpace.TheVariants.{Handle}
 use Rattle.wgsl_syntax.specs.declared.scalar.Scalar.TheVariants.{Bool, U32}
@@ -8,7 +8,6 @@ use Rattle.wgsl_syntax.specs.declared.operator.BinaryOperator.TheVariants.{Short
 use Rattle.wgsl_syntax.specs.declared.operator.UnaryOperator.{UnaryOperator}
 use Rattle.wgsl_syntax.specs.declared.operator.UnaryOperator.TheVariants.{LogicalNegation, Negation, BitwiseComplement, AddressOf, Indirection}
 use Rattle.wgsl_rules.specs.types.Types.{vec_of, mat_of, WgslType, scalar, within, pointer, reference, vec, mat}
-use Rattle.wgsl_rules.specs.types.Kinds.{IsIntegerOrVector}
 use Rattle.wgsl_rules.specs.errors.Refusals.{Refusal, unary, binary, ptr_handle}
 use Rattle.wgsl_rules.specs.conversion.Common.{IsCommon}
 use Rattle.wgsl_rules.specs.operators.Answers.{BinaryCandidate, HasCandidate, IsUnaryAnswer, IsCandidateAnswer, IsOperatorAnswer}

@@ -1,17 +1,17 @@
 -- What a call returns and resolves to by WGSL's own overloads.
-use Rattle.std.proofs.Common.{◌≡◌, ℕ, List, [], ◌∷◌, Option, Some, None, refl, sym, ap, ◌∙◌, subst}
+use Rattle.std.proofs.Common.{◌≡◌, ℕ, List, [], ◌∷◌, Option, Some, None, refl, sym, ◌∙◌}
 use Rattle.std.specs.Prelude.{Bool, true, false, IsTrue, bytes_eq, if◌then◌else◌}
 use Rattle.wgsl_syntax.specs.declared.overload.Instance.{Instance}
 use Rattle.wgsl_syntax.specs.declared.overload.Overload.{Overload}
 use Rattle.wgsl_rules.specs.types.Types.{WgslType}
-use Rattle.wgsl_rules.specs.standard.Answers.{IsCallAnswer, IsNamedAnswer, IsResolution, IsStandardAnswer, IsTemplateAnswer, is_template, template_operand}
+use Rattle.wgsl_rules.specs.standard.Answers.{IsCallAnswer, IsNamedAnswer, IsResolution, IsStandardAnswer, is_template, template_operand}
 use Rattle.wgsl_rules.specs.standard.Choice.{IsChosen, Operand, parameters_for, result_for}
 use Rattle.wgsl_rules.specs.standard.ConstructorNames.{constructor_table, template_constructor_table}
 use Rattle.wgsl_rules.specs.standard.Names.{function_table, template_function_table, overloads_named}
 use Rattle.wgsl_rules.specs.standard.Overloads.{patterns_of}
 use Rattle.wgsl_rules.specs.standard.Tables.{IsUnambiguous}
 use Rattle.wgsl_standard.specs.Callees.{WgslCallee, a_unary, a_binary, a_function, a_constructor, overloads_listed}
-use Rattle.wgsl_standard.specs.Resolved.{IsCallResolution, IsNamedResolution, IsTemplateResolution}
+use Rattle.wgsl_standard.specs.Resolved.{IsCallResolution, IsNamedResolution}
 use Rattle.wgsl_standard.specs.internal.Ambiguity.{is_unambiguous, rows_unambiguous}
 use Rattle.wgsl_standard.proofs.Choices.{found}
 use Rattle.wgsl_standard.proofs.OneChoice.{chosen_once}
@@ -74,7 +74,7 @@ pub call_result : (c : WgslCallee) (template : Option WgslType) (xs : List Opera
 call_result c None xs = named_result (overloads_listed c false) (listed_unambiguous c false) xs
 call_result c (Some t) xs = elim (dec_true (is_template t)) [
   | yes h ↦ let r = named_result (overloads_listed c true) (listed_unambiguous c true) (template_operand t ∷ xs) in
-    (r.0, record { named = λ k. r.1; refused = λ n. absurd (n h) })
+      (r.0, record { named = λ k. r.1; refused = λ n. absurd (n h) })
   | no n ↦ (None, record { named = λ k. absurd (n k); refused = λ n. refl })
 ]
 
@@ -83,7 +83,7 @@ pub call_resolution : (c : WgslCallee) (template : Option WgslType) (xs : List O
 call_resolution c None xs = named_resolution (overloads_listed c false) (listed_unambiguous c false) xs
 call_resolution c (Some t) xs = elim (dec_true (is_template t)) [
   | yes h ↦ let r = named_resolution (overloads_listed c true) (listed_unambiguous c true) (template_operand t ∷ xs) in
-    (r.0, record { named = λ k. r.1; refused = λ n. absurd (n h) })
+      (r.0, record { named = λ k. r.1; refused = λ n. absurd (n h) })
   | no n ↦ (None, record { named = λ k. absurd (n k); refused = λ n. refl })
 ]
 

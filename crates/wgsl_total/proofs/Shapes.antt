@@ -1,5 +1,5 @@
 -- Whether an argument is as a row of the built-in functions wants it.
-use Rattle.std.proofs.Common.{◌≡◌, ◌⊎◌, refl, inl, inr}
+use Rattle.std.proofs.Common.{◌≡◌, refl}
 use native.Mathlib.Decide.{ℕ_discrete}
 use Rattle.wgsl_syntax.specs.declared.address.AccessMode.TheVariants.{ReadWrite}
 use Rattle.wgsl_syntax.specs.declared.address.AddressSpace.TheVariants.{Function, Workgroup}
@@ -25,7 +25,7 @@ use Rattle.wgsl_syntax.proofs.Discrete.{same_space, same_access}
 use Rattle.wgsl_rules.specs.types.Types.{vec_of, mat_of, WgslType, scalar, within, struct, atomic, pointer, texture, acceleration_structure, vec}
 use Rattle.wgsl_rules.specs.types.Kinds.{IsAtomic}
 use Rattle.wgsl_rules.specs.types.ResultStructs.{shaped, float_of}
-use Rattle.wgsl_rules.specs.calls.Shapes.{Is, IsAccelerationStructure, IsFraction, IsOfKind, IsPointerInWorkgroup, IsPointerToAtomic, IsQuery, IsScalarOf, IsScalarOrVectorOf, IsSquareMatrix, IsTextureOf, IsTextureTypeOf, IsVectorOf}
+use Rattle.wgsl_rules.specs.calls.Shapes.{Is, IsFraction, IsOfKind, IsPointerInWorkgroup, IsPointerToAtomic, IsQuery, IsScalarOf, IsScalarOrVectorOf, IsSquareMatrix, IsTextureOf, IsTextureTypeOf, IsVectorOf}
 use Rattle.wgsl_rules.proofs.conversion.Order.{dec_converts}
 use Rattle.wgsl_rules.proofs.types.Equality.{both, by, same_type}
 use Rattle.wgsl_total.proofs.Deciders.{dec_float, dec_integer, dec_not, dec_numeric, dec_scalar_or_vector, either}

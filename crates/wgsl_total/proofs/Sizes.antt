@@ -1,5 +1,5 @@
 -- The size and the alignment of a type, and the layout of a struct.
-use Rattle.std.proofs.Common.{◌≡◌, ℕ, ◌*◌, ◌<◌, ◌≤◌, ◌^◌, ◌⊎◌, inl, inr, zero, suc, List, [], ◌∷◌, length, get_or, Option, Some, None, refl, sym, ap, subst, ◌∙◌, arith}
+use Rattle.std.proofs.Common.{◌≡◌, ℕ, ◌*◌, ◌<◌, ◌≤◌, ◌^◌, ◌⊎◌, inl, inr, zero, suc, List, [], ◌∷◌, Option, Some, None, refl, ap, subst, ◌∙◌, arith}
 use Rattle.std.specs.Int.{next_multiple_of}
 use Rattle.std.specs.List.{All}
 use Rattle.std.proofs.lemmas.Bool.{cases_lt}
@@ -9,8 +9,8 @@ use Rattle.wgsl_syntax.specs.declared.scalar.Scalar.{Scalar}
 use Rattle.wgsl_syntax.specs.declared.scalar.Scalar.TheVariants.{Bool, AbstractInt, AbstractFloat, I32, U32, F32, F16, I64, U64, F64}
 use Rattle.wgsl_rules.specs.types.Types.{WgslType, scalar, struct, atomic, Members, no_members, member, array, vec, mat}
 use Rattle.wgsl_rules.specs.layout.Placement.{MemberLayout, greatest, greatest_align, IsLeastTotal, IsPlacement}
-use Rattle.wgsl_rules.specs.layout.Layout.{IsScalarSize, IsAtomicSize, IsTimes, IsRoundedUp, IsStride, IsArraySize, IsAlignOfThree, IsVectorAlign, IsGiven, IsStructSize, IsStructAlign, HasSize, HasAlignment, HaveLayouts, HaveAlignments, IsExactly, SomeUnknown, SomeZeroAlign, HasNoSize, unknown, zero_align, empty, too_large}
-use Rattle.wgsl_rules.proofs.layout.OneSize.{IsOne, one_times, one_vector_align, one_size, one_align, one_layouts, one_stride}
+use Rattle.wgsl_rules.specs.layout.Layout.{IsScalarSize, IsAtomicSize, IsTimes, IsRoundedUp, IsStride, IsArraySize, IsAlignOfThree, IsVectorAlign, IsGiven, IsStructSize, HasSize, HasAlignment, HaveLayouts, HaveAlignments, IsExactly, SomeUnknown, SomeZeroAlign, HasNoSize, unknown, zero_align, empty, too_large}
+use Rattle.wgsl_rules.proofs.layout.OneSize.{IsOne, one_vector_align, one_size, one_align, one_layouts, one_stride}
 use Rattle.wgsl_rules.proofs.layout.Placing.{Aligned, end_of, least_total}
 use Rattle.wgsl_rules.proofs.layout.Steps.{rounded_up, one_rounded}
 use Rattle.wgsl_rules.proofs.layout.StructSizes.{never_both}
