@@ -1,3 +1,5 @@
+pub mod Named
+pub mod Noted
 pub mod Overloaded
 pub mod Received
 pub mod Settled

@@ -1,5 +1,5 @@
 -- The answers to requests.
-use Rattle.std.specs.Prelude.{ℕ, List, Option, Some, None, Result}
+use Rattle.std.specs.Prelude.{◌≡◌, ℕ, List, Option, Some, None, Result}
 use Rattle.wgsl_syntax.specs.declared.operator.BinaryOperator.{BinaryOperator}
 use Rattle.wgsl_syntax.specs.declared.operator.UnaryOperator.{UnaryOperator}
 use Rattle.wgsl_rules.specs.types.Types.{WgslType, Members}
@@ -14,7 +14,10 @@ use Rattle.wgsl_rules.specs.layout.Layout.{AreOffsets, HasAlignment, HasNoSize, 
 use Rattle.wgsl_rules.specs.operators.Answers.{BinaryCandidate, IsCandidateAnswer, IsOperatorAnswer, IsUnaryAnswer}
 use Rattle.wgsl_rules.specs.constructors.Constructors.{IsConstructorAnswer}
 use Rattle.wgsl_rules.specs.calls.Answers.{IsCallAnswer}
-use Rattle.wgsl_asked.specs.Requests.{WgslRequest, rank, common, left_common, unary, binary, candidate, size, offsets, layout, ctor, call}
+use Rattle.wgsl_asked.specs.Calls.{WgslCall, WgslResolution}
+use Rattle.wgsl_asked.specs.Overloads.{lines_named}
+use Rattle.wgsl_asked.specs.Standard.{IsExplanationOf, IsResolutionOf, IsTypeOf}
+use Rattle.wgsl_asked.specs.Requests.{WgslRequest, rank, common, left_common, unary, binary, candidate, size, offsets, layout, ctor, call, type_of, resolution_of, explanation_of, overloads_of}
 
 -- a struct's layout: the size, the alignment and the offset of each member, its own size and alignment
 pub record WgslLayout : Type 0 where
@@ -33,6 +36,11 @@ pub data WgslAnswer : Type 0 where
   a_candidate : Result BinaryCandidate Refusal → WgslAnswer
   some_offsets : Option (List ℕ) → WgslAnswer
   a_layout : List ℕ → Members → Option WgslLayout → WgslAnswer
+  -- None if no overload takes the operands
+  a_type_of : WgslCall → Option (Option WgslType) → WgslAnswer
+  a_resolution_of : WgslCall → Option WgslResolution → WgslAnswer
+  -- a line for each overload
+  some_lines : List (List ℕ) → WgslAnswer
   -- no request has this answer
   out_of_memory : WgslAnswer
 
@@ -75,3 +83,11 @@ pub data Answers : WgslRequest → WgslAnswer → Type 0 where
       IsConstructorAnswer c r → Answers (ctor c) (a_type r)
   call_is : {c : Signature} (r : Result (Option WgslType) Refusal) →
       IsCallAnswer c r → Answers (call c) (a_value r)
+  type_of_is : {c : WgslCall} (r : Option (Option WgslType)) →
+      IsTypeOf c r → Answers (type_of c) (a_type_of c r)
+  resolution_of_is : {c : WgslCall} (r : Option WgslResolution) →
+      IsResolutionOf c r → Answers (resolution_of c) (a_resolution_of c r)
+  explanation_of_is : {c : WgslCall} (lines : List (List ℕ)) →
+      IsExplanationOf c lines → Answers (explanation_of c) (some_lines lines)
+  overloads_of_are : {name : List ℕ} (lines : List (List ℕ)) →
+      lines ≡ lines_named name → Answers (overloads_of name) (some_lines lines)

@@ -1,8 +1,12 @@
 // What is answered.
+use crate::requests::Call;
 use wgsl_core::error::Fail;
 use wgsl_core::layout::StructLayout;
 use wgsl_core::operators::resolve::ResolvedType;
 use wgsl_core::ty::{StructType, Type};
+use wgsl_standard::explanation::Note;
+use wgsl_standard::resolved::ResolvedCall;
+use wgsl_standard::signature::Signature;
 use wgsl_syntax::operator::BinaryOperator;
 
 /// The answer to a request.
@@ -19,6 +23,12 @@ pub enum Answer<'r> {
     Binary(Result<ResolvedType<'r>, Operands<'r>>),
     Offsets(Option<Vec<u32>>),
     Layout(&'r StructType, Option<StructLayout>),
+    /// The call, and its type, if it has a value; None if no overload takes the operands.
+    TypeOf(&'r Call<'r>, Option<Option<Type>>),
+    /// The call, and what it resolves to; None if no overload takes the operands.
+    Resolution(&'r Call<'r>, Option<ResolvedCall>),
+    Overloads(Vec<Signature<'r>>),
+    Notes(Vec<Note<'r>>),
 }
 
 /// Operands of a binary operator.

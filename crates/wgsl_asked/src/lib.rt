@@ -4,5 +4,6 @@
 pub mod answers;
 pub mod ask;
 pub mod common;
+mod overloads;
 pub mod requests;
-pub mod standard;
+mod standard;

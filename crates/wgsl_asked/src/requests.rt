@@ -1,6 +1,8 @@
 // What is asked.
 use wgsl_core::signature::TpltParam;
 use wgsl_core::ty::{StructType, Type};
+use wgsl_standard::callee::Callee as OverloadedCallee;
+use wgsl_standard::operand::Operand;
 use wgsl_syntax::operator::{BinaryOperator, UnaryOperator};
 
 /// What is asked of the rules.
@@ -26,6 +28,14 @@ pub enum Request<'r> {
     Constructor(Callee<'r>),
     /// What a built-in function returns.
     Call(Callee<'r>),
+    /// The type of a call by WGSL's own overloads.
+    Type(&'r Call<'r>),
+    /// The overload of a call, the types of its parameters, and its result.
+    Resolution(&'r Call<'r>),
+    /// The overloads of a name, which may be an operator.
+    Overloads(&'r str),
+    /// Why overloads don't take the operands of a call.
+    Explanation(&'r Call<'r>),
 }
 
 /// The call of a constructor or of a built-in function.
@@ -34,4 +44,12 @@ pub struct Callee<'r> {
     pub name: &'r str,
     pub template: Option<&'r [TpltParam]>,
     pub arguments: &'r [Type],
+}
+
+/// The call of what has overloads of WGSL's own.
+#[derive(Clone, Copy)]
+pub struct Call<'r> {
+    pub callee: OverloadedCallee<'r>,
+    pub template: Option<&'r [TpltParam]>,
+    pub operands: &'r [Operand<'r>],
 }

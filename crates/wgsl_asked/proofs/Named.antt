@@ -1,0 +1,72 @@
+-- The overloads of a name.
+use Rattle.std.proofs.Common.{◌≡◌, ◌∙◌, ℕ, Bool, true, false, List, [], ◌∷◌, Result, Ok, Err, map, filter, refl, sym, ap}
+use Rattle.std.specs.List.{flat_map}
+use Rattle.std.specs.Prelude.{⊤}
+use Rattle.std.specs.Str.{bytes_eq}
+use Rattle.std.proofs.lemmas.List.{append-nil}
+use Rattle.std.proofs.lemmas.Slice.Eq.{bytes_eq-Decides}
+use Rattle.wgsl_syntax.specs.Names.{Reads}
+use Rattle.wgsl_syntax.specs.Operator.{binary_operators, binary_text, unary_operators, unary_text}
+use Rattle.wgsl_syntax.specs.declared.operator.BinaryOperator.{BinaryOperator}
+use Rattle.wgsl_syntax.specs.declared.operator.BinaryOperator.TheVariants as b
+use Rattle.wgsl_syntax.specs.declared.operator.UnaryOperator.{UnaryOperator}
+use Rattle.wgsl_syntax.specs.declared.operator.UnaryOperator.TheVariants as u
+use Rattle.wgsl_standard.specs.Callees.{a_binary, a_unary}
+use Rattle.wgsl_standard.specs.Texts.{texts_listed}
+use Rattle.wgsl_asked.specs.Overloads.{binary_operators_named, unary_operators_named}
+
+one_unary : (o : UnaryOperator) → unary_operators_named (unary_text o) ≡ a_unary o ∷ []
+one_unary u.LogicalNegation = refl
+one_unary u.Negation = refl
+one_unary u.BitwiseComplement = refl
+one_unary u.AddressOf = refl
+one_unary u.Indirection = refl
+
+one_binary : (o : BinaryOperator) → binary_operators_named (binary_text o) ≡ a_binary o ∷ []
+one_binary b.ShortCircuitOr = refl
+one_binary b.ShortCircuitAnd = refl
+one_binary b.Addition = refl
+one_binary b.Subtraction = refl
+one_binary b.Multiplication = refl
+one_binary b.Division = refl
+one_binary b.Remainder = refl
+one_binary b.Equality = refl
+one_binary b.Inequality = refl
+one_binary b.LessThan = refl
+one_binary b.LessThanEqual = refl
+one_binary b.GreaterThan = refl
+one_binary b.GreaterThanEqual = refl
+one_binary b.BitwiseOr = refl
+one_binary b.BitwiseAnd = refl
+one_binary b.BitwiseXor = refl
+one_binary b.ShiftLeft = refl
+one_binary b.ShiftRight = refl
+
+-- where no value has the text, none of a list is left
+none_left : {A : Type 0} (text : A → List ℕ) (name : List ℕ) → ((x : A) → ¬ name ≡ text x) → (xs : List A) → filter (λ x. bytes_eq name (text x)) xs ≡ []
+none_left text name none [] = refl
+none_left {A} text name none (x ∷ xs) = step (none_left text name none xs) (bytes_eq name (text x)) refl
+  where
+    step : filter (λ x. bytes_eq name (text x)) xs ≡ [] → (is : Bool) → bytes_eq name (text x) ≡ is → filter (λ x. bytes_eq name (text x)) (x ∷ xs) ≡ []
+    step rest true e = absurd (none x ((bytes_eq-Decides name (text x)).0 e))
+    step rest false e = rw e rest
+
+-- what is read of a name
+no_value : {A : Type 0} (text : A → List ℕ) (name : List ℕ) (r : Result A ⊤) (e : ⊤) → Reads text name r → r ≡ Err e → (x : A) → ¬ name ≡ text x
+no_value text name r e reads is x same = let k : Err e ≡ Ok x = sym is ∙ (reads x).1 same in absurd (cc k)
+
+pub unary_listed : (name : List ℕ) (r : Result UnaryOperator ⊤) (o : UnaryOperator) → Reads unary_text name r → r ≡ Ok o → flat_map texts_listed (unary_operators_named name) ≡ texts_listed (a_unary o)
+unary_listed name r o reads is =
+    ap (λ n. flat_map texts_listed (unary_operators_named n)) ((reads o).0 is) ∙ ap (flat_map texts_listed) (one_unary o) ∙ append-nil (texts_listed (a_unary o))
+
+pub no_unary_listed : (name : List ℕ) (r : Result UnaryOperator ⊤) (e : ⊤) → Reads unary_text name r → r ≡ Err e → flat_map texts_listed (unary_operators_named name) ≡ []
+no_unary_listed name r e reads is =
+    ap (λ os. flat_map texts_listed (map a_unary os)) (none_left unary_text name (no_value unary_text name r e reads is) unary_operators)
+
+pub binary_listed : (name : List ℕ) (r : Result BinaryOperator ⊤) (o : BinaryOperator) → Reads binary_text name r → r ≡ Ok o → flat_map texts_listed (binary_operators_named name) ≡ texts_listed (a_binary o)
+binary_listed name r o reads is =
+    ap (λ n. flat_map texts_listed (binary_operators_named n)) ((reads o).0 is) ∙ ap (flat_map texts_listed) (one_binary o) ∙ append-nil (texts_listed (a_binary o))
+
+pub no_binary_listed : (name : List ℕ) (r : Result BinaryOperator ⊤) (e : ⊤) → Reads binary_text name r → r ≡ Err e → flat_map texts_listed (binary_operators_named name) ≡ []
+no_binary_listed name r e reads is =
+    ap (λ os. flat_map texts_listed (map a_binary os)) (none_left binary_text name (no_value binary_text name r e reads is) binary_operators)

@@ -1,0 +1,13 @@
+pub mod Deciders
+pub mod Conversions
+pub mod Sizes
+pub mod Structs
+pub mod Operators
+pub mod OneCandidate
+pub mod Constructors
+pub mod Shapes
+pub mod Calls
+pub mod Overloads
+pub mod Notes
+pub mod Standard
+pub mod Answered

@@ -1,0 +1,4 @@
+//! Every request has an answer.
+#![tactic(auto)]
+
+pub mod laws;
