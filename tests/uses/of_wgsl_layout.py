@@ -36,6 +36,17 @@ def arguments_and_status(use):
     expect(use.run("./wgsl_layout", "--struct", "a b", "--help"), 2, "<--struct><a b><--help>")
 
 
+def forms(use):
+    """A form is written from the JSON, with the other arguments; what is wrong is told, and the status stays."""
+    use.run("./wgsl_layout")
+    program = use.path("crates", "wgsl_layout", "out", "wgsl_layout")
+    told = '{"file":"f","structs":[],"variables":[],"errors":[],"findings":[{"line":1,"column":2,"message":"m"}]}'
+    with open(program, "w", encoding="utf-8") as file:
+        file.write(f"#!/bin/sh\n[ \"$1 $2 $3\" = \"--json a b -\" ] || exit 2\necho '{told}'\nexit 1\n")
+    expect(use.run("./wgsl_layout", "a b", "--numpy", "-"), 1, "import numpy\n", "f:1:2: finding: m")
+    expect(use.run("./wgsl_layout", "--c"), 2, "")
+
+
 def proof_that_fails(use):
     use.say("fails-wgsl_source")
     expect(use.run("./wgsl_layout"), 4, "", "wgsl_source could not be proved and built")

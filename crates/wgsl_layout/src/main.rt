@@ -11,13 +11,16 @@ use std::{env, fs, io};
 use wgsl_report::report::{Request, report_on};
 
 const HELP: &str = "\
-usage: ./wgsl_layout [--json] [--struct NAME] FILE
+usage: ./wgsl_layout [--json | --c | --rust | --numpy] [--struct NAME] FILE
 
 Prints the layout of each struct of a WGSL file, where its variables are bound, and what is wrong with them.
 FILE - is standard input. README.md shows the tables and the JSON.
 
   --struct NAME  of this struct alone
   --json         the same for programs
+  --c            the structs as a C header that checks each offset; what is wrong goes to standard error
+  --rust         as Rust
+  --numpy        as numpy dtypes
   --help, --version
 
 Exit status: 0 if nothing is wrong, 1 if there is an error or a finding, 2 if the arguments or the file can't be read,

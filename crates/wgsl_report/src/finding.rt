@@ -1,7 +1,7 @@
 // What breaks a rule of an address space, and what would mend it.
 
 use crate::place::Place;
-use crate::write::{write_between, write_some};
+use crate::write::{Piece, write_all};
 use std::alloc::AllocError;
 
 /// A rule that a variable or a member of a struct breaks, at an index of the text.
@@ -39,106 +39,62 @@ pub enum Trouble {
     NeedlessBinding,
 }
 
-/// The words around the numbers of a finding.
-#[derive(Clone, Copy)]
-struct Sentence {
-    start: &'static str,
-    first: Option<u32>,
-    needs: &'static str,
-    second: Option<u32>,
-    end: &'static str,
-}
-
 impl Trouble {
-    fn sentence(self) -> Sentence {
-        let (start, first, needs, second, end) = match self {
-            Trouble::Offset { offset, align } => {
-                (
-                    "lies at ",
-                    Some(offset),
-                    "it needs `@align(",
-                    Some(align),
-                    ")`",
-                )
+    /// What is wrong, up to the number of it.
+    fn start(self) -> &'static str {
+        match self {
+            Trouble::Offset { .. } => "lies at ",
+            Trouble::Behind { .. } => "is a struct behind which the next member begins too soon",
+            Trouble::Align { .. } => "has an `@align` that does not suit its type",
+            Trouble::Size => "has a `@size` below the size of its type",
+            Trouble::Stride { .. } => "has elements with the stride ",
+            Trouble::Bool => "holds `bool`",
+            Trouble::Atomic => "holds an atomic",
+            Trouble::RuntimeSized => "is runtime-sized",
+            Trouble::NoData => "is no data",
+            Trouble::NoHandle => "is neither a sampler nor a texture",
+            Trouble::NoBinding => "lacks `@group` or `@binding`",
+            Trouble::NeedlessBinding => "has `@group` or `@binding`",
+        }
+    }
+
+    /// What would mend it, up to the number of it.
+    fn needs(self) -> &'static str {
+        match self {
+            Trouble::Offset { .. } => "it needs `@align(",
+            Trouble::Behind { .. } => "it needs `@size(",
+            Trouble::Align { .. } => "it needs a multiple of ",
+            Trouble::Size => "it needs no less",
+            Trouble::Stride { .. } => "these lie a multiple of ",
+            Trouble::Bool => "it needs `u32`",
+            Trouble::Atomic => "none may stand: use `workgroup`, or `storage` with `read_write`",
+            Trouble::RuntimeSized => "it needs a number of elements, or use `storage`",
+            Trouble::NoData => "it can't stand: a sampler or a texture has no address space",
+            Trouble::NoHandle => "it can't stand: use `var<uniform>` or `var<storage>`",
+            Trouble::NoBinding => "it needs both",
+            Trouble::NeedlessBinding => "it has no use for them",
+        }
+    }
+
+    /// What is told behind the number that would mend it.
+    fn end(self) -> &'static str {
+        match self {
+            Trouble::Offset { .. } | Trouble::Behind { .. } => ")`",
+            Trouble::Stride { .. } => {
+                " bytes apart: use elements like `vec4<f32>`, or structs with a member of `@size(16)`"
             }
-            Trouble::Behind { room } => (
-                "is a struct behind which the next member begins too soon",
-                None,
-                "it needs `@size(",
-                Some(room),
-                ")`",
-            ),
-            Trouble::Align { align } => (
-                "has an `@align` that does not suit its type",
-                None,
-                "it needs a multiple of ",
-                Some(align),
-                "",
-            ),
-            Trouble::Size => (
-                "has a `@size` below the size of its type",
-                None,
-                "it needs no less",
-                None,
-                "",
-            ),
-            Trouble::Stride { stride } => (
-                "has elements with the stride ",
-                Some(stride),
-                "these lie a multiple of ",
-                Some(16),
-                " bytes apart: use elements like `vec4<f32>`, or structs with a member of `@size(16)`",
-            ),
-            Trouble::Bool => ("holds `bool`", None, "it needs `u32`", None, ""),
-            Trouble::Atomic => (
-                "holds an atomic",
-                None,
-                "none may stand: use `workgroup`, or `storage` with `read_write`",
-                None,
-                "",
-            ),
-            Trouble::RuntimeSized => (
-                "is runtime-sized",
-                None,
-                "it needs a number of elements, or use `storage`",
-                None,
-                "",
-            ),
-            Trouble::NoData => (
-                "is no data",
-                None,
-                "it can't stand: a sampler or a texture has no address space",
-                None,
-                "",
-            ),
-            Trouble::NoHandle => (
-                "is neither a sampler nor a texture",
-                None,
-                "it can't stand: use `var<uniform>` or `var<storage>`",
-                None,
-                "",
-            ),
-            Trouble::NoBinding => (
-                "lacks `@group` or `@binding`",
-                None,
-                "it needs both",
-                None,
-                "",
-            ),
-            Trouble::NeedlessBinding => (
-                "has `@group` or `@binding`",
-                None,
-                "it has no use for them",
-                None,
-                "",
-            ),
-        };
-        Sentence {
-            start,
-            first,
-            needs,
-            second,
-            end,
+            _ => "",
+        }
+    }
+
+    /// The number of what is wrong, and the one that would mend it.
+    fn numbers(self) -> (Option<u32>, Option<u32>) {
+        match self {
+            Trouble::Offset { offset, align } => (Some(offset), Some(align)),
+            Trouble::Behind { room } => (None, Some(room)),
+            Trouble::Align { align } => (None, Some(align)),
+            Trouble::Stride { stride } => (Some(stride), Some(16)),
+            _ => (None, None),
         }
     }
 
@@ -157,20 +113,33 @@ impl Trouble {
 impl<'a> Finding<'a> {
     /// Writes what is told of it.
     pub fn write_to(&self, output: &mut String) -> Result<(), AllocError> {
-        let sentence = self.trouble.sentence();
-        output.push_str("`")?;
-        if let Some(of) = self.of {
-            write_between(output, "", of, ".")?;
-        }
-        write_between(output, self.name, "` ", sentence.start)?;
-        write_some(output, sentence.first)?;
-        write_between(output, "; in `", self.place.text(), "` ")?;
-        output.push_str(sentence.needs)?;
-        write_some(output, sentence.second)?;
-        output.push_str(sentence.end)?;
-        if self.place == Place::Uniform && self.trouble.is_lifted() {
-            output.push_str(" (`requires uniform_buffer_standard_layout;` lifts this rule)")?;
-        }
-        Ok(())
+        let trouble = self.trouble;
+        let (number, mending) = trouble.numbers();
+        let (of, dot) = match self.of {
+            Some(of) => (of, "."),
+            None => ("", ""),
+        };
+        let lifted = if self.place == Place::Uniform && trouble.is_lifted() {
+            " (`requires uniform_buffer_standard_layout;` lifts this rule)"
+        } else {
+            ""
+        };
+        let pieces = [
+            Piece::Text("`"),
+            Piece::Text(of),
+            Piece::Text(dot),
+            Piece::Text(self.name),
+            Piece::Text("` "),
+            Piece::Text(trouble.start()),
+            Piece::Number(number),
+            Piece::Text("; in `"),
+            Piece::Text(self.place.text()),
+            Piece::Text("` "),
+            Piece::Text(trouble.needs()),
+            Piece::Number(mending),
+            Piece::Text(trouble.end()),
+            Piece::Text(lifted),
+        ];
+        write_all(output, &pieces)
     }
 }

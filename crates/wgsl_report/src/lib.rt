@@ -6,6 +6,7 @@ mod json;
 mod place;
 pub mod report;
 mod rules;
+pub mod spelled;
 mod table;
 mod told;
 mod write;

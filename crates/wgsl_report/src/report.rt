@@ -1,10 +1,10 @@
 // What is told of a text.
 
 use crate::finding::Finding;
-use crate::json::write_json;
+use crate::json::separator;
 use crate::rules::findings_of;
-use crate::table::{write_struct, write_variable};
-use crate::write::{write_between, write_escaped, write_number};
+use crate::write::{Piece, write_all};
+use crate::{json, table};
 use std::alloc::{AllocError, Global};
 use std::str::from_utf8;
 use wgsl_source::fault::{Cause, Fault};
@@ -18,6 +18,29 @@ use wgsl_tokens::token::{next_token, tokens};
 pub enum Format {
     Tables,
     Json,
+}
+
+impl Format {
+    /// What stands behind the structs, the variables, the errors and the findings.
+    fn between(self) -> [&'static str; 4] {
+        match self {
+            Format::Tables => ["", "", "", ""],
+            Format::Json => [
+                "],\n\"variables\":[",
+                "],\n\"errors\":[",
+                "],\n\"findings\":[",
+                "]}\n",
+            ],
+        }
+    }
+
+    /// What stands behind an error or a finding.
+    fn end(self) -> &'static str {
+        match self {
+            Format::Tables => "\n",
+            Format::Json => "\"}",
+        }
+    }
 }
 
 /// What is asked of a text.
@@ -82,10 +105,7 @@ fn report_module(
         findings: &findings,
     };
     let mut output = String::new(alloc);
-    match request.format {
-        Format::Tables => write_tables(&mut output, source, request)?,
-        Format::Json => write_json(&mut output, source, request)?,
-    }
+    write_report(&mut output, source, request)?;
     Ok(Report {
         text: output,
         is_clean: module.faults.is_empty() && findings.is_empty() && has_asked(source, request),
@@ -106,45 +126,147 @@ pub(crate) fn is_asked(structure: &Struct, request: Request) -> bool {
 }
 
 /// The structs in the order of the text, the variables, the faults and the findings.
-fn write_tables(output: &mut String, source: Source, request: Request) -> Result<(), AllocError> {
+fn write_report(output: &mut String, source: Source, request: Request) -> Result<(), AllocError> {
+    let [variables, errors, findings, end] = request.format.between();
+    write_start(output, request)?;
+    write_structs(output, source, request)?;
+    output.push_str(variables)?;
+    write_variables(output, source, request)?;
+    output.push_str(errors)?;
+    write_faults(output, source, request)?;
+    output.push_str(findings)?;
+    write_findings(output, source, request)?;
+    output.push_str(end)
+}
+
+fn write_start(output: &mut String, request: Request) -> Result<(), AllocError> {
+    let start = [
+        Piece::Text("{\"file\":\""),
+        Piece::Escaped(request.file),
+        Piece::Text("\",\"structs\":["),
+    ];
+    match request.format {
+        Format::Tables => Ok(()),
+        Format::Json => write_all(output, &start),
+    }
+}
+
+fn write_structs(output: &mut String, source: Source, request: Request) -> Result<(), AllocError> {
+    let mut written = 0usize;
     for index in &source.module.in_text {
-        if let Some(structure) = source.module.structs.get(*index) {
-            if is_asked(structure, request) {
-                write_struct(output, structure)?;
+        match source.module.structs.get(*index) {
+            Some(structure) if is_asked(structure, request) => {
+                write_one(output, structure, request.format, written)?;
+                written = 1;
             }
+            _ => {}
         }
-    }
-    if request.only.is_none() {
-        for variable in &source.module.variables {
-            write_variable(output, source.module, variable)?;
-        }
-    }
-    if !has_asked(source, request) {
-        let name = request.only.unwrap_or("");
-        write_between(output, "no struct is called `", name, "`\n")?;
-    }
-    for fault in &source.module.faults {
-        write_place(output, request.file, source.lines.place(fault.at))?;
-        output.push_str("error: ")?;
-        write_fault(output, source.text, *fault, request.format)?;
-        output.push_str("\n")?;
-    }
-    for finding in source.findings {
-        write_place(output, request.file, source.lines.place(finding.at))?;
-        output.push_str("finding: ")?;
-        finding.write_to(output)?;
-        output.push_str("\n")?;
     }
     Ok(())
 }
 
-fn write_place(output: &mut String, file: &str, place: Place) -> Result<(), AllocError> {
-    output.push_str(file)?;
-    output.push_str(":")?;
-    write_number(output, place.line)?;
-    output.push_str(":")?;
-    write_number(output, place.column)?;
-    output.push_str(": ")
+fn write_one(
+    output: &mut String,
+    structure: &Struct,
+    format: Format,
+    index: usize,
+) -> Result<(), AllocError> {
+    match format {
+        Format::Tables => table::write_struct(output, structure),
+        Format::Json => {
+            output.push_str(separator(index))?;
+            json::write_struct(output, structure)
+        }
+    }
+}
+
+/// The variables. Tables have them only if no struct is asked about, and say if that one isn't there.
+fn write_variables(
+    output: &mut String,
+    source: Source,
+    request: Request,
+) -> Result<(), AllocError> {
+    if let (Format::Tables, Some(name)) = (request.format, request.only) {
+        return write_absence(output, name, has_asked(source, request));
+    }
+    for (index, variable) in source.module.variables.iter().enumerate() {
+        match request.format {
+            Format::Tables => table::write_variable(output, source.module, variable)?,
+            Format::Json => {
+                output.push_str(separator(index))?;
+                json::write_variable(output, source.module, variable)?;
+            }
+        }
+    }
+    Ok(())
+}
+
+fn write_absence(output: &mut String, name: &str, is_there: bool) -> Result<(), AllocError> {
+    let pieces = [
+        Piece::Text("no struct is called `"),
+        Piece::Text(name),
+        Piece::Text("`\n"),
+    ];
+    if is_there {
+        Ok(())
+    } else {
+        write_all(output, &pieces)
+    }
+}
+
+fn write_faults(output: &mut String, source: Source, request: Request) -> Result<(), AllocError> {
+    for (index, fault) in source.module.faults.iter().enumerate() {
+        let place = source.lines.place(fault.at);
+        write_place(output, request, place, index, "error")?;
+        write_fault(output, source.text, *fault, request.format)?;
+        output.push_str(request.format.end())?;
+    }
+    Ok(())
+}
+
+fn write_findings(output: &mut String, source: Source, request: Request) -> Result<(), AllocError> {
+    for (index, finding) in source.findings.iter().enumerate() {
+        let place = source.lines.place(finding.at);
+        write_place(output, request, place, index, "finding")?;
+        finding.write_to(output)?;
+        output.push_str(request.format.end())?;
+    }
+    Ok(())
+}
+
+/// Where something is wrong, in front of what it is.
+fn write_place<'a>(
+    output: &mut String,
+    request: Request<'a>,
+    place: Place,
+    index: usize,
+    kind: &'a str,
+) -> Result<(), AllocError> {
+    let (front, line, column, message, behind) = match request.format {
+        Format::Tables => (request.file, ":", ":", ": ", ": "),
+        Format::Json => (
+            separator(index),
+            "{\"line\":",
+            ",\"column\":",
+            ",\"message\":\"",
+            "",
+        ),
+    };
+    let kind = match request.format {
+        Format::Tables => kind,
+        Format::Json => "",
+    };
+    let pieces = [
+        Piece::Text(front),
+        Piece::Text(line),
+        Piece::Count(place.line),
+        Piece::Text(column),
+        Piece::Count(place.column),
+        Piece::Text(message),
+        Piece::Text(kind),
+        Piece::Text(behind),
+    ];
+    write_all(output, &pieces)
 }
 
 /// What is wrong, and what stands there.
@@ -154,28 +276,24 @@ pub(crate) fn write_fault(
     fault: Fault,
     format: Format,
 ) -> Result<(), AllocError> {
-    output.push_str(fault.cause.text())?;
-    match (fault.cause, word_at(text, fault.at)) {
-        (Cause::NotUtf8 | Cause::OpenComment, _) => Ok(()),
-        (Cause::Expected(_), Some(word)) => write_found(output, ", found `", word, format),
-        (Cause::Expected(_), None) => output.push_str(", found the end"),
-        (_, Some(word)) => write_found(output, ": `", word, format),
-        (_, None) => Ok(()),
-    }
-}
-
-fn write_found(
-    output: &mut String,
-    start: &str,
-    word: &str,
-    format: Format,
-) -> Result<(), AllocError> {
-    output.push_str(start)?;
-    match format {
-        Format::Tables => output.push_str(word)?,
-        Format::Json => write_escaped(output, word)?,
-    }
-    output.push_str("`")
+    let (start, word, end) = match (fault.cause, word_at(text, fault.at)) {
+        (Cause::NotUtf8 | Cause::OpenComment, _) => ("", "", ""),
+        (Cause::Expected(_), Some(word)) => (", found `", word, "`"),
+        (Cause::Expected(_), None) => (", found the end", "", ""),
+        (_, Some(word)) => (": `", word, "`"),
+        (_, None) => ("", "", ""),
+    };
+    let word = match format {
+        Format::Tables => Piece::Text(word),
+        Format::Json => Piece::Escaped(word),
+    };
+    let pieces = [
+        Piece::Text(fault.cause.text()),
+        Piece::Text(start),
+        word,
+        Piece::Text(end),
+    ];
+    write_all(output, &pieces)
 }
 
 /// The word that stands at an index.

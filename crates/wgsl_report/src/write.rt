@@ -1,54 +1,62 @@
-// Numbers and texts, written one after another.
+// Pieces of a text, written one after another.
 
 use std::alloc::AllocError;
 use wgsl_core::ty::Type;
+use wgsl_syntax::address::AccessMode;
 
-/// Writes a text between two others.
-pub fn write_between(
-    output: &mut String,
-    start: &str,
-    text: &str,
-    end: &str,
-) -> Result<(), AllocError> {
-    output.push_str(start)?;
-    output.push_str(text)?;
-    output.push_str(end)
+/// A piece of a text.
+#[derive(Clone, Copy)]
+pub enum Piece<'a> {
+    Text(&'a str),
+    /// The inside of a text of JSON.
+    Escaped(&'a str),
+    Count(usize),
+    /// A number, if there is one.
+    Number(Option<u32>),
+    /// A number, or `-`, in a column of a table.
+    Column(Option<u32>),
+    /// A field of JSON behind another: a number, or `null`.
+    Field(&'a str, Option<u32>),
+    /// An attribute of a variable, if it is there.
+    Attribute(&'a str, Option<u32>),
+    Access(AccessMode),
+    /// A type, spelled as a runtime-sized array if it is an array that is said to be one.
+    Type(&'a Type, bool),
 }
 
-pub fn write_number(output: &mut String, number: usize) -> Result<(), AllocError> {
-    write!(output, "{number}")
+/// Writes pieces.
+pub fn write_all(output: &mut String, pieces: &[Piece]) -> Result<(), AllocError> {
+    for piece in pieces {
+        write_piece(output, *piece)?;
+    }
+    Ok(())
 }
 
-/// A number, if there is one.
-pub fn write_some(output: &mut String, number: Option<u32>) -> Result<(), AllocError> {
-    match number {
-        Some(number) => write!(output, "{number}"),
-        None => Ok(()),
+fn write_piece(output: &mut String, piece: Piece) -> Result<(), AllocError> {
+    match piece {
+        Piece::Text(text) => output.push_str(text),
+        Piece::Escaped(text) => write_escaped(output, text),
+        Piece::Count(count) => write!(output, "{count}"),
+        Piece::Number(Some(number)) => write!(output, "{number}"),
+        Piece::Number(None) | Piece::Attribute(_, None) => Ok(()),
+        Piece::Column(Some(number)) => write!(output, "{number:>8}"),
+        Piece::Column(None) => output.push_str("       -"),
+        Piece::Field(name, Some(number)) => write!(output, ",\"{name}\":{number}"),
+        Piece::Field(name, None) => write!(output, ",\"{name}\":null"),
+        Piece::Attribute(name, Some(number)) => write!(output, "@{name}({number}) "),
+        Piece::Access(access) => write!(output, "{access}"),
+        Piece::Type(ty, is_runtime_sized) => write_type(output, ty, is_runtime_sized),
     }
 }
 
-/// A number, or `-`, in a column of a table.
-pub fn write_column(output: &mut String, number: Option<u32>) -> Result<(), AllocError> {
-    match number {
-        Some(number) => write!(output, "{number:>8}"),
-        None => output.push_str("       -"),
-    }
-}
-
-/// The type, whose spelling is that of a runtime-sized array if it is an array that is said to be one.
-pub fn write_type(
-    output: &mut String,
-    ty: &Type,
-    is_runtime_sized: bool,
-) -> Result<(), AllocError> {
+fn write_type(output: &mut String, ty: &Type, is_runtime_sized: bool) -> Result<(), AllocError> {
     match ty {
         Type::Array(element, Some(_)) if is_runtime_sized => write!(output, "array<{element}>"),
         _ => write!(output, "{ty}"),
     }
 }
 
-/// The inside of a text of JSON.
-pub fn write_escaped(output: &mut String, text: &str) -> Result<(), AllocError> {
+fn write_escaped(output: &mut String, text: &str) -> Result<(), AllocError> {
     for letter in text.chars() {
         match letter {
             '"' => output.push_str("\\\"")?,

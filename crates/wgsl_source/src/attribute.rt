@@ -2,94 +2,93 @@
 ghost use Rattle.wgsl_source.specs.Cursor.{GoesOn};
 
 use crate::cursor::Cursor;
-use crate::expression::Site;
+use crate::expression::{Site, close};
 use crate::fault::{Cause, Expected, Stop};
 use crate::scope::Scope;
 use crate::skip::skip_group;
 
-/// The attributes of a member on which its layout depends.
+/// The attributes of a member or a variable that are read.
 #[derive(Clone, Copy)]
-pub struct MemberAttributes {
+pub struct Attributes {
     pub size: Option<u32>,
     pub align: Option<u32>,
-}
-
-/// The attributes of a variable that say where it is bound.
-#[derive(Clone, Copy)]
-pub struct BindingAttributes {
     pub group: Option<u32>,
     pub binding: Option<u32>,
 }
 
-impl<'a, 't> Scope<'a, 't> {
-    /// The attributes of a member.
-    pub fn read_member_attributes(&self, cursor: &mut Cursor<'t>) -> Result<MemberAttributes, Stop>
-        ensures goes_on { GoesOn cursor.old cursor.new }
-    {
-        let mut attributes = MemberAttributes {
-            size: None,
-            align: None,
-        };
-        while cursor.take(b'@') {
-            match cursor.take_word(Expected::Name)? {
-                "size" => attributes.size = Some(self.read_attribute(cursor)?),
-                "align" => attributes.align = Some(self.read_alignment(cursor)?),
-                _ => skip_group(cursor)?,
-            }
+impl Attributes {
+    /// The attribute with a name, if there is one.
+    fn get(&self, name: &str) -> Option<u32> {
+        match name {
+            "size" => self.size,
+            "align" => self.align,
+            "group" => self.group,
+            _ => self.binding,
         }
-        Ok(attributes)
     }
 
-    /// The attributes of a variable.
-    pub fn read_binding_attributes(
-        &self,
-        cursor: &mut Cursor<'t>,
-    ) -> Result<BindingAttributes, Stop>
+    /// Keeps the attribute with a name.
+    fn set(&mut self, name: &str, number: u32) {
+        match name {
+            "size" => self.size = Some(number),
+            "align" => self.align = Some(number),
+            "group" => self.group = Some(number),
+            _ => self.binding = Some(number),
+        }
+    }
+}
+
+impl<'a, 't> Scope<'a, 't> {
+    /// The attributes of a member or a variable.
+    pub fn read_attributes(&self, cursor: &mut Cursor<'t>) -> Result<Attributes, Stop>
         ensures goes_on { GoesOn cursor.old cursor.new }
     {
-        let mut attributes = BindingAttributes {
+        let mut attributes = Attributes {
+            size: None,
+            align: None,
             group: None,
             binding: None,
         };
         while cursor.take(b'@') {
-            match cursor.take_word(Expected::Name)? {
-                "group" => attributes.group = Some(self.read_attribute(cursor)?),
-                "binding" => attributes.binding = Some(self.read_attribute(cursor)?),
-                _ => skip_group(cursor)?,
-            }
+            self.read_attribute(cursor, &mut attributes)?;
         }
         Ok(attributes)
     }
 
-    fn read_alignment(&self, cursor: &mut Cursor<'t>) -> Result<u32, Stop>
+    /// An attribute behind its `@`.
+    fn read_attribute(
+        &self,
+        cursor: &mut Cursor<'t>,
+        attributes: &mut Attributes,
+    ) -> Result<(), Stop>
         ensures goes_on { GoesOn cursor.old cursor.new }
     {
-        let (at, align) = self.read_number(cursor)?;
-        if align.is_power_of_two() {
-            Ok(align)
-        } else {
-            Err(Stop::at(at, Cause::AlignNotPower))
+        let at = cursor.index();
+        let name = cursor.take_word(Expected::Name)?;
+        if !matches!(name, "size" | "align" | "group" | "binding") {
+            return skip_group(cursor);
         }
+        if attributes.get(name).is_some() {
+            return Err(Stop::at(at, Cause::AttributeTwice));
+        }
+        let number = self.read_number(cursor, name == "align")?;
+        attributes.set(name, number);
+        Ok(())
     }
 
-    fn read_attribute(&self, cursor: &mut Cursor<'t>) -> Result<u32, Stop>
-        ensures goes_on { GoesOn cursor.old cursor.new }
-    {
-        let (_, number) = self.read_number(cursor)?;
-        Ok(number)
-    }
-
-    /// The number of an attribute in parentheses, and where it stands.
-    fn read_number(&self, cursor: &mut Cursor<'t>) -> Result<(usize, u32), Stop>
+    /// The number of an attribute in parentheses.
+    fn read_number(&self, cursor: &mut Cursor<'t>, is_power: bool) -> Result<u32, Stop>
         ensures goes_on { GoesOn cursor.old cursor.new }
     {
         cursor.expect(b'(')?;
         let at = cursor.index();
         let number = self.read_integer(cursor, Site::Other)?;
-        cursor.take(b',');
-        cursor.expect(b')')?;
+        close(cursor)?;
         match u32::try_from(number.value) {
-            Ok(number) => Ok((at, number)),
+            Ok(number) if is_power && !number.is_power_of_two() => {
+                Err(Stop::at(at, Cause::AlignNotPower))
+            }
+            Ok(number) => Ok(number),
             Err(_) => Err(Stop::at(at, Cause::NegativeAttribute)),
         }
     }

@@ -3,6 +3,7 @@ ghost use Rattle.std.specs.Prelude.{IsTrue, OnOk};
 ghost use Rattle.wgsl_source.specs.Cursor.{GoesOn, Takes};
 
 use crate::fault::{Cause, Expected, Stop};
+use crate::keyword::is_name;
 use wgsl_tokens::token::{Kind, Token};
 
 /// A place among the tokens of a text.
@@ -132,10 +133,10 @@ impl<'t> Cursor<'t> {
         ensures goes_on { GoesOn self.old self.new }
         ensures one { OnOk result (Takes self.old self.new) }
     {
-        if is_keyword(self.word()) {
-            Err(self.expected(expected))
-        } else {
+        if is_name(self.word()) {
             self.take_word(expected)
+        } else {
+            Err(self.expected(expected))
         }
     }
 
@@ -151,37 +152,4 @@ impl<'t> Cursor<'t> {
             Err(self.expected(expected))
         }
     }
-}
-
-/// Whether a word is a keyword (WGSL, "Keyword Summary").
-fn is_keyword(word: &str) -> bool {
-    matches!(
-        word,
-        "alias"
-            | "break"
-            | "case"
-            | "const"
-            | "const_assert"
-            | "continue"
-            | "continuing"
-            | "default"
-            | "diagnostic"
-            | "discard"
-            | "else"
-            | "enable"
-            | "false"
-            | "fn"
-            | "for"
-            | "if"
-            | "let"
-            | "loop"
-            | "override"
-            | "requires"
-            | "return"
-            | "struct"
-            | "switch"
-            | "true"
-            | "var"
-            | "while"
-    )
 }

@@ -41,6 +41,8 @@ pub struct Declarations<'t> {
     pub faults: Vec<Fault>,
     /// Whether `requires uniform_buffer_standard_layout;` is there: then `uniform` has the rules of other address spaces.
     pub has_standard_uniform: bool,
+    /// Whether `enable f16;` is there.
+    pub has_half: bool,
 }
 
 impl<'t> Declarations<'t> {
@@ -49,6 +51,7 @@ impl<'t> Declarations<'t> {
             declarations: Vec::new(alloc),
             faults: Vec::new(alloc),
             has_standard_uniform: false,
+            has_half: false,
         }
     }
 
@@ -60,7 +63,11 @@ impl<'t> Declarations<'t> {
         let fault = match read_head(cursor) {
             Ok(Head::Named(kind)) => return self.read_named(cursor, first, kind),
             Ok(Head::Requires) => {
-                self.has_standard_uniform |= read_requires(cursor);
+                self.has_standard_uniform |= lists(cursor, "uniform_buffer_standard_layout");
+                skip_to_end(cursor)
+            }
+            Ok(Head::Enable) => {
+                self.has_half |= lists(cursor, "f16");
                 skip_to_end(cursor)
             }
             Ok(Head::Skipped) => skip_to_end(cursor),
@@ -121,7 +128,8 @@ impl<'t> Declarations<'t> {
 enum Head {
     Named(DeclarationKind),
     Requires,
-    /// `enable`, `diagnostic` or `const_assert`.
+    Enable,
+    /// `diagnostic` or `const_assert`.
     Skipped,
     /// A `;` alone.
     Empty,
@@ -168,7 +176,8 @@ fn head_of(word: &str) -> Option<Head> {
         "var" => Some(Head::Named(DeclarationKind::Variable)),
         "fn" => Some(Head::Named(DeclarationKind::Function)),
         "requires" => Some(Head::Requires),
-        "enable" | "diagnostic" | "const_assert" => Some(Head::Skipped),
+        "enable" => Some(Head::Enable),
+        "diagnostic" | "const_assert" => Some(Head::Skipped),
         ";" => Some(Head::Empty),
         _ => None,
     }
@@ -186,13 +195,13 @@ fn skip_list(cursor: &mut Cursor) -> Result<(), Stop>
     Ok(())
 }
 
-/// Whether a list of language extensions has the one for the layout of `uniform`.
-fn read_requires(cursor: &mut Cursor) -> bool
+/// Whether a list of extensions has this one.
+fn lists(cursor: &mut Cursor, extension: &str) -> bool
     ensures goes_on { GoesOn cursor.old cursor.new }
 {
     let mut is_there = false;
     while cursor.kind() == Kind::Name {
-        is_there |= cursor.word() == "uniform_buffer_standard_layout";
+        is_there |= cursor.word() == extension;
         if !cursor.advance() || !cursor.take(b',') {
             break;
         }

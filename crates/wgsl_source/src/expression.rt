@@ -4,7 +4,7 @@ ghost use Rattle.wgsl_source.specs.Cursor.{GoesOn, Takes};
 
 use crate::cursor::Cursor;
 use crate::fault::{Cause, Expected, Stop};
-use crate::integer::{Choice, Integer, IntegerType, Operator, integer_of};
+use crate::integer::{Function, Integer, Operator, integer_of};
 use crate::scope::{Meaning, Scope};
 use wgsl_tokens::token::Kind;
 
@@ -43,8 +43,13 @@ impl<'a, 't> Scope<'a, 't> {
             return Err(cursor.stop(Cause::TooDeep));
         };
         let mut value = self.read_operand(cursor, site, inner)?;
+        let mut before = None;
         while let Some((at, operator)) = take_operator(cursor, level, site) {
-            let right = self.read_value(cursor, operator.level() + 1, site, inner)?;
+            if !operator.may_follow(before) {
+                return Err(Stop::at(at, Cause::NoParentheses));
+            }
+            before = Some(operator);
+            let right = self.read_value(cursor, operator.inner_level(), site, inner)?;
             match operator.apply(value, right) {
                 Ok(result_value) => value = result_value,
                 Err(cause) => return Err(Stop::at(at, cause)),
@@ -74,11 +79,10 @@ impl<'a, 't> Scope<'a, 't> {
         let value = match kind {
             Kind::Number => integer_of(word),
             Kind::Name => return self.read_named(cursor, word, at, inner),
-            Kind::Sign(b'-') => self.read_operand(cursor, site, inner)?.negated(),
-            Kind::Sign(b'~') => Ok(self.read_operand(cursor, site, inner)?.complement()),
-            _ => Ok(self.read_group(cursor, inner)?),
+            Kind::Sign(b'(') => return self.read_group(cursor, inner),
+            _ => signed(word, self.read_operand(cursor, site, inner)?),
         };
-        value.map_err(|cause| Stop::at(at, cause))
+        known_at(value, at)
     }
 
     /// The rest of an expression in parentheses.
@@ -87,8 +91,7 @@ impl<'a, 't> Scope<'a, 't> {
         ensures goes_on { GoesOn cursor.old cursor.new }
     {
         let value = self.read_value(cursor, 0, Site::Other, depth)?;
-        cursor.take(b',');
-        cursor.expect(b')')?;
+        close(cursor)?;
         Ok(value)
     }
 
@@ -109,30 +112,56 @@ impl<'a, 't> Scope<'a, 't> {
         if !cursor.take(b'(') {
             return Err(Stop::at(at, unknown_value(cursor, name)));
         }
-        let value = match name {
-            "u32" => self.read_group(cursor, depth)?.converted(IntegerType::U32),
-            "i32" => self.read_group(cursor, depth)?.converted(IntegerType::I32),
-            "min" => self.read_choice(cursor, Choice::Min, depth)?,
-            "max" => self.read_choice(cursor, Choice::Max, depth)?,
-            _ => Err(Cause::NotInteger),
+        let Some(function) = Function::named(name) else {
+            return Err(Stop::at(at, Cause::NotInteger));
         };
-        value.map_err(|cause| Stop::at(at, cause))
+        let value = self.read_call(cursor, function, depth)?;
+        known_at(value, at)
     }
 
-    /// The arguments of `min` or `max`, and its value.
+    /// The arguments of a function, and its value.
     #[cycle(valuing)]
-    fn read_choice(
+    fn read_call(
         &self,
         cursor: &mut Cursor<'t>,
-        choice: Choice,
+        function: Function,
         depth: u32,
     ) -> Result<Result<Integer, Cause>, Stop>
         ensures goes_on { GoesOn cursor.old cursor.new }
     {
         let left = self.read_value(cursor, 0, Site::Other, depth)?;
-        cursor.expect(b',')?;
-        let right = self.read_group(cursor, depth)?;
-        Ok(choice.apply(left, right))
+        let mut right = left;
+        if function.takes_two() {
+            cursor.expect(b',')?;
+            right = self.read_value(cursor, 0, Site::Other, depth)?;
+        }
+        close(cursor)?;
+        Ok(function.apply(left, right))
+    }
+}
+
+/// The end of parentheses, perhaps behind a comma.
+pub fn close(cursor: &mut Cursor) -> Result<(), Stop>
+    ensures goes_on { GoesOn cursor.old cursor.new }
+{
+    cursor.take(b',');
+    cursor.expect(b')')
+}
+
+/// An integer behind a `-` or a `~`.
+fn signed(sign: &str, integer: Integer) -> Result<Integer, Cause> {
+    if sign == "-" {
+        integer.negated()
+    } else {
+        Ok(integer.complement())
+    }
+}
+
+/// A value, or what is wrong at an index of the text.
+fn known_at(value: Result<Integer, Cause>, at: usize) -> Result<Integer, Stop> {
+    match value {
+        Ok(value) => Ok(value),
+        Err(cause) => Err(Stop::at(at, cause)),
     }
 }
 

@@ -23,11 +23,15 @@ pub enum Cause {
     Expected(Expected),
     UnknownName,
     DeclaredTwice,
+    MemberTwice,
+    AttributeTwice,
     /// A declaration that needs itself.
     ContainsItself,
     TooDeep,
     NotUtf8,
     OpenComment,
+    /// A type, in another spelling than its own.
+    OtherSpelling,
     /// What stands there has no integer value that is known.
     NotInteger,
     /// A value that is known only when the pipeline is made.
@@ -38,8 +42,12 @@ pub enum Cause {
     MixedIntegers,
     NegatedUnsigned,
     ShiftTooFar,
+    /// Operators beside each other that need parentheses.
+    NoParentheses,
     /// An array without elements.
     NoElements,
+    /// A type of half precision without `enable f16;`.
+    NoHalf,
     VectorComponent,
     MatrixComponent,
     AtomicContent,
@@ -56,6 +64,8 @@ pub enum Cause {
     /// An attribute `size` below the size of the member's type.
     SizeTooSmall,
     NegativeAttribute,
+    /// An access mode that a variable can't have.
+    NoAccess,
     /// An attribute `size` of a runtime-sized array.
     SizedRuntimeArray,
 }
@@ -94,10 +104,13 @@ impl Cause {
             Cause::Expected(expected) => expected.text(),
             Cause::UnknownName => "no declaration has this name",
             Cause::DeclaredTwice => "another declaration has this name",
+            Cause::MemberTwice => "another member has this name",
+            Cause::AttributeTwice => "this attribute is there already",
             Cause::ContainsItself => "this declaration contains itself",
             Cause::TooDeep => "more than 255 levels",
             Cause::OpenComment => "a comment has no end",
             Cause::NotUtf8 => "the text is not UTF-8 from here on",
+            Cause::OtherSpelling => "the type is spelled otherwise",
             Cause::NotInteger => "this has no integer value",
             Cause::KnownLater => "an override has a value only when the pipeline is made",
             Cause::Overflow => "an integer overflows",
@@ -105,7 +118,9 @@ impl Cause {
             Cause::MixedIntegers => "an i32 and a u32 do not mix",
             Cause::NegatedUnsigned => "a u32 has no negative",
             Cause::ShiftTooFar => "a shift by more bits than there are",
+            Cause::NoParentheses => "this operator needs parentheses",
             Cause::NoElements => "an array has at least one element",
+            Cause::NoHalf => "this type needs `enable f16;`",
             Cause::VectorComponent => "a vector's component is a scalar",
             Cause::MatrixComponent => "a matrix's component is f32 or f16",
             Cause::AtomicContent => "an atomic holds i32 or u32",
@@ -121,6 +136,7 @@ impl Cause {
             Cause::AlignNotPower => "`@align` is not a power of two",
             Cause::SizeTooSmall => "`@size` is below the size of the type",
             Cause::NegativeAttribute => "an attribute is 0 to 4294967295",
+            Cause::NoAccess => "only `storage` has an access mode, `read` or `read_write`",
             Cause::SizedRuntimeArray => "a runtime-sized array has no `@size`",
         }
     }

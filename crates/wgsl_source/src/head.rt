@@ -23,6 +23,18 @@ pub enum Head {
     Layer(LayerName),
 }
 
+impl Head {
+    /// Whether the type is one of half precision.
+    pub fn is_half(self) -> bool {
+        match self {
+            Head::Scalar(scalar) | Head::Vec(_, scalar) | Head::Mat(_, _, scalar) => {
+                scalar == Scalar::F16
+            }
+            _ => false,
+        }
+    }
+}
+
 /// The name of what stands around a type.
 #[derive(Clone, Copy, PartialEq, Eq)]
 pub enum LayerName {

@@ -1,10 +1,8 @@
 // Integers with their types: literals, operators, conversions.
-ghost use Rattle.std.specs.Prelude.{◌<◌};
-
 use crate::fault::{Cause, Expected};
 
 /// The type of an integer (WGSL, "Integer Types").
-#[derive(Clone, Copy, Debug, PartialEq, Eq)]
+#[derive(Clone, Copy, PartialEq, Eq)]
 pub enum IntegerType {
     Abstract,
     I32,
@@ -41,7 +39,7 @@ impl IntegerType {
 }
 
 /// An integer with its type.
-#[derive(Clone, Copy, Debug, PartialEq, Eq)]
+#[derive(Clone, Copy)]
 pub struct Integer {
     pub value: i64,
     pub ty: IntegerType,
@@ -144,7 +142,7 @@ fn digit_value(digit: u8, base: i64) -> Result<i64, Cause> {
 }
 
 /// A binary operator on integers.
-#[derive(Clone, Copy, Debug, PartialEq, Eq)]
+#[derive(Clone, Copy)]
 pub enum Operator {
     Add,
     Sub,
@@ -158,16 +156,50 @@ pub enum Operator {
     Xor,
 }
 
+/// Which operators may stand beside each other without parentheses.
+#[derive(Clone, Copy, PartialEq, Eq)]
+pub enum Family {
+    /// `+ - * / %`
+    Arithmetic,
+    And,
+    Or,
+    Xor,
+    /// A shift, which stands beside no other operator.
+    Shift,
+}
+
 impl Operator {
     /// How tightly the operator binds.
-    pub fn level(self) -> u32
-        ensures { result < 4 }
-    {
+    pub fn level(self) -> u32 {
         match self {
-            Operator::Mul | Operator::Div | Operator::Rem => 3,
-            Operator::Add | Operator::Sub => 2,
-            Operator::ShiftLeft | Operator::ShiftRight => 1,
-            Operator::And | Operator::Or | Operator::Xor => 0,
+            Operator::Mul | Operator::Div | Operator::Rem => 1,
+            _ => 0,
+        }
+    }
+
+    /// How tightly operators in its right operand bind.
+    pub fn inner_level(self) -> u32 {
+        match self {
+            Operator::Add | Operator::Sub => 1,
+            _ => 2,
+        }
+    }
+
+    fn family(self) -> Family {
+        match self {
+            Operator::ShiftLeft | Operator::ShiftRight => Family::Shift,
+            Operator::And => Family::And,
+            Operator::Or => Family::Or,
+            Operator::Xor => Family::Xor,
+            _ => Family::Arithmetic,
+        }
+    }
+
+    /// Whether the operator may stand behind another without parentheses.
+    pub fn may_follow(self, before: Option<Operator>) -> bool {
+        match before {
+            Some(before) => before.family() == self.family() && !self.is_shift(),
+            None => true,
         }
     }
 
@@ -232,19 +264,39 @@ fn shifted_right(left: Integer, count: u32) -> Result<Integer, Cause> {
     left.ty.of(left.value.checked_shr(count))
 }
 
-/// A function of two integers.
-#[derive(Clone, Copy, Debug, PartialEq, Eq)]
-pub enum Choice {
+/// A function that is known where an integer is wanted.
+#[derive(Clone, Copy)]
+pub enum Function {
+    U32,
+    I32,
     Min,
     Max,
 }
 
-impl Choice {
-    /// The smaller or the greater of two integers, in their common type.
+impl Function {
+    /// The function with this name.
+    pub fn named(name: &str) -> Option<Function> {
+        match name {
+            "u32" => Some(Function::U32),
+            "i32" => Some(Function::I32),
+            "min" => Some(Function::Min),
+            "max" => Some(Function::Max),
+            _ => None,
+        }
+    }
+
+    /// Whether it takes two integers.
+    pub fn takes_two(self) -> bool {
+        matches!(self, Function::Min | Function::Max)
+    }
+
+    /// The conversion of the first integer, or the smaller or the greater of both in their common type.
     pub fn apply(self, left: Integer, right: Integer) -> Result<Integer, Cause> {
         let value = match self {
-            Choice::Min => left.value.min(right.value),
-            Choice::Max => left.value.max(right.value),
+            Function::U32 => return left.converted(IntegerType::U32),
+            Function::I32 => return left.converted(IntegerType::I32),
+            Function::Min => left.value.min(right.value),
+            Function::Max => left.value.max(right.value),
         };
         left.common(right)?.of(Some(value))
     }

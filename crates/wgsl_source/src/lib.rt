@@ -9,6 +9,7 @@ mod expression;
 pub mod fault;
 mod head;
 mod integer;
+mod keyword;
 mod measured;
 pub mod module;
 mod order;

@@ -7,7 +7,7 @@ use crate::expression::Site;
 use crate::fault::{Cause, Expected, Fault, Stop};
 use crate::integer::IntegerType;
 use crate::measured::Measured;
-use crate::order::order_of;
+use crate::order::{Order, order_of};
 use crate::scope::{Meaning, Scope};
 use crate::structure::Struct;
 use crate::variable::Variable;
@@ -49,6 +49,7 @@ impl<'t> Module<'t> {
 struct Reader<'t> {
     alloc: Global,
     start: Cursor<'t>,
+    has_half: bool,
     names: BTreeMap<&'t str, usize>,
     meanings: Vec<Meaning>,
     aliases: Vec<Type>,
@@ -69,35 +70,27 @@ pub fn read_module<'t>(
         declarations,
         faults,
         has_standard_uniform,
+        has_half,
     } = read_declarations(alloc, start)?;
     let mut reader = Reader {
         alloc,
         start,
+        has_half,
         names: BTreeMap::new(alloc),
-        meanings: vec![in alloc; Meaning::Unread; declarations.len()]?,
+        meanings: Vec::new(alloc),
         aliases: Vec::new(alloc),
         measured: Vec::new(alloc),
         structs: Vec::new(alloc),
         variables: Vec::new(alloc),
         faults,
     };
-    reader.name_all(&declarations)?;
-    reader.read_all(&declarations)?;
-    reader.faults.sort_unstable_by_key(|fault| fault.at);
-    let in_text = structs_in_text(alloc, &reader.meanings)?;
-    let Reader {
-        structs,
-        variables,
-        faults,
-        ..
-    } = reader;
-    Ok(Module {
-        structs,
-        in_text,
-        variables,
-        faults,
-        has_standard_uniform,
-    })
+    match reader.read(&declarations) {
+        Ok(in_text) => Ok(reader.finished(in_text, has_standard_uniform)),
+        Err(e) => {
+            drop(reader);
+            Err(e)
+        }
+    }
 }
 
 /// The indices of the structs that declarations stand for. An alias of a struct is none.
@@ -120,26 +113,49 @@ impl<'t> Reader<'t> {
             meanings: &self.meanings,
             aliases: &self.aliases,
             structs: &self.measured,
+            has_half: self.has_half,
             is_spelling: false,
+        }
+    }
+
+    /// Reads the declarations. The indices of the structs in the order of the text.
+    fn read(&mut self, declarations: &[Declaration<'t>]) -> Result<Vec<usize>, AllocError> {
+        self.name_all(declarations)?;
+        self.read_ordered(declarations)?;
+        self.read_variables(declarations)?;
+        self.faults.sort_unstable_by_key(|fault| fault.at);
+        structs_in_text(self.alloc, &self.meanings)
+    }
+
+    fn finished(self, in_text: Vec<usize>, has_standard_uniform: bool) -> Module<'t> {
+        let Reader {
+            structs,
+            variables,
+            faults,
+            ..
+        } = self;
+        Module {
+            structs,
+            in_text,
+            variables,
+            faults,
+            has_standard_uniform,
         }
     }
 
     /// Names the declarations. Of two with one name the first has it.
     fn name_all(&mut self, declarations: &[Declaration<'t>]) -> Result<(), AllocError> {
         for (index, declaration) in declarations.iter().enumerate() {
-            if self.names.contains_key(&declaration.name) {
+            let is_twice = self.names.contains_key(&declaration.name);
+            if is_twice {
                 let at = self.start.moved_to(declaration.named).index();
-                self.faults.push(Fault {
-                    at,
-                    cause: Cause::DeclaredTwice,
-                })?;
-                self.mean(index, Meaning::Faulty);
+                let cause = Cause::DeclaredTwice;
+                self.faults.push(Fault { at, cause })?;
             } else {
                 self.names.insert(declaration.name, index)?;
-                if declaration.is_faulty {
-                    self.mean(index, Meaning::Faulty);
-                }
             }
+            self.meanings
+                .push(first_meaning(is_twice || declaration.is_faulty))?;
         }
         Ok(())
     }
@@ -154,9 +170,19 @@ impl<'t> Reader<'t> {
         matches!(self.meanings.get(index), Some(Meaning::Unread))
     }
 
-    /// Reads each declaration behind those that it names, and the variables behind all others.
-    fn read_all(&mut self, declarations: &[Declaration<'t>]) -> Result<(), AllocError> {
+    /// Reads each declaration but the variables behind those that it names.
+    fn read_ordered(&mut self, declarations: &[Declaration<'t>]) -> Result<(), AllocError> {
         let order = order_of(self.alloc, self.start, &self.names, &*declarations)?;
+        let read = self.read_in_order(&order, declarations);
+        drop(order);
+        read
+    }
+
+    fn read_in_order(
+        &mut self,
+        order: &Order,
+        declarations: &[Declaration<'t>],
+    ) -> Result<(), AllocError> {
         for circular in &order.circular {
             if self.is_unread(circular.index) {
                 self.mean(circular.index, Meaning::Faulty);
@@ -168,6 +194,10 @@ impl<'t> Reader<'t> {
                 self.read_unread(*index, declaration)?;
             }
         }
+        Ok(())
+    }
+
+    fn read_variables(&mut self, declarations: &[Declaration<'t>]) -> Result<(), AllocError> {
         for declaration in declarations {
             if declaration.kind == DeclarationKind::Variable && !declaration.is_faulty {
                 let read = self.read_variable(declaration);
@@ -193,9 +223,16 @@ impl<'t> Reader<'t> {
             DeclarationKind::Override => Ok(Meaning::KnownLater),
             DeclarationKind::Variable | DeclarationKind::Function => Ok(Meaning::Other),
         };
-        let meaning = read.ok().unwrap_or(Meaning::Faulty);
-        self.mean(index, meaning);
-        self.tell(read.map(|_| ()))
+        match read {
+            Ok(meaning) => {
+                self.mean(index, meaning);
+                Ok(())
+            }
+            Err(stop) => {
+                self.mean(index, Meaning::Faulty);
+                self.tell(Err(stop))
+            }
+        }
     }
 
     /// Keeps why reading stopped.
@@ -213,11 +250,8 @@ impl<'t> Reader<'t> {
         cursor.name(Expected::Name)?;
         cursor.expect(b'=')?;
         let scope = self.scope();
-        if let (Some(Meaning::Struct(index)), true) = (
-            scope.meaning(cursor.word()),
-            cursor.is_behind(b';'),
-        ) {
-            return Ok(Meaning::Struct(index));
+        if let (Some(index), true) = (scope.structure(cursor.word()), cursor.is_behind(b';')) {
+            return Ok(Meaning::StructAlias(index));
         }
         let ty = scope.read_type(cursor)?;
         self.keep_alias(cursor, ty)
@@ -279,6 +313,15 @@ impl<'t> Reader<'t> {
             self.variables.push(variable)?;
         }
         Ok(())
+    }
+}
+
+/// What a declaration stands for before it is read.
+fn first_meaning(is_faulty: bool) -> Meaning {
+    if is_faulty {
+        Meaning::Faulty
+    } else {
+        Meaning::Unread
     }
 }
 

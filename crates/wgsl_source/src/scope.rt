@@ -34,6 +34,8 @@ pub struct Scope<'a, 't> {
     pub meanings: &'a [Meaning],
     pub aliases: &'a [Type],
     pub structs: &'a [Measured<'t>],
+    /// Whether the module may have types of half precision.
+    pub has_half: bool,
     /// Whether the spelling of a type is read, which may be one that no module can write.
     pub is_spelling: bool,
 }

@@ -4,7 +4,7 @@ ghost use Rattle.wgsl_rules.specs.types.Spelling.{spelling};
 ghost use Rattle.wgsl_core.specs.View.{view};
 
 use crate::cursor::Cursor;
-use crate::fault::{Cause, Expected, Stop};
+use crate::fault::{Cause, Stop};
 use crate::scope::Scope;
 use std::alloc::Global;
 use std::collections::BTreeMap;
@@ -20,13 +20,21 @@ pub fn read_type(alloc: Global, text: &str) -> Result<Type, Stop>
         Ok(true) => Ok(ty),
         Ok(false) => {
             drop(ty);
-            Err(Stop::at(text.len(), Cause::Expected(Expected::Type)))
+            Err(Stop::at(0, Cause::OtherSpelling))
         }
         Err(stop) => {
             drop(ty);
             Err(stop)
         }
     }
+}
+
+/// The spelling of the type that a text begins with, as a module may write it.
+pub fn spelling_of(alloc: Global, text: &str) -> Result<String, Stop> {
+    let ty = read_alone(alloc, text)?;
+    let spelled = ty.to_string(alloc);
+    drop(ty);
+    Ok(spelled?)
 }
 
 fn is_spelled(alloc: Global, ty: &Type, text: &str) -> Result<bool, Stop>
@@ -45,6 +53,7 @@ fn read_alone(alloc: Global, text: &str) -> Result<Type, Stop> {
         meanings: &[],
         aliases: &[],
         structs: &[],
+        has_half: true,
         is_spelling: true,
     };
     scope.read_type(&mut Cursor::start(text, &tokens))

@@ -4,13 +4,14 @@ ghost use Rattle.wgsl_core.specs.Layout.{IsLayoutOf};
 ghost use Rattle.wgsl_core.specs.View.{struct_view};
 ghost use Rattle.wgsl_source.specs.Cursor.{GoesOn, Takes};
 
-use crate::attribute::MemberAttributes;
+use crate::attribute::Attributes;
 use crate::check::stored_fault;
 use crate::cursor::Cursor;
 use crate::fault::{Cause, Expected, Stop};
 use crate::measured::Measured;
 use crate::scope::Scope;
 use std::alloc::{AllocError, Global};
+use std::collections::BTreeMap;
 use wgsl_core::layout::StructLayout;
 use wgsl_core::ty::{StructMemberType, StructType, Type};
 
@@ -43,26 +44,29 @@ impl Struct {
 
 /// A struct of which members are read.
 #[derive(Drop)]
-struct Draft {
+struct Draft<'t> {
     ty: StructType,
     places: Vec<usize>,
+    /// The names of the members, with their indices.
+    names: BTreeMap<&'t str, usize>,
     /// Where the type of a runtime-sized member stands.
     runtime_sized: Option<usize>,
 }
 
-impl Draft {
-    fn new(alloc: Global, name: &str) -> Result<Draft, AllocError> {
+impl<'t> Draft<'t> {
+    fn new(alloc: Global, name: &str) -> Result<Draft<'t>, AllocError> {
         let name = String::from_str(alloc, name)?;
         let members = Vec::new(alloc);
         Ok(Draft {
             ty: StructType { name, members },
             places: Vec::new(alloc),
+            names: BTreeMap::new(alloc),
             runtime_sized: None,
         })
     }
 
     fn finished(self, layout: StructLayout) -> Struct
-        ensures ty { result.ty ≡ self.ty }
+        ensures ty { result.ty ≡ self.entry.ty }
         ensures layout { result.layout ≡ layout }
     {
         Struct {
@@ -77,15 +81,16 @@ impl Draft {
     fn add(
         &mut self,
         alloc: Global,
-        name: &str,
+        name: &'t str,
         place: usize,
         ty: Type,
-        attributes: MemberAttributes,
+        attributes: Attributes,
     ) -> Result<(), AllocError> {
         let mut member = StructMemberType::new(String::from_str(alloc, name)?, ty);
         member.size = attributes.size;
         member.align = attributes.align;
         self.ty.members.push(member)?;
+        self.names.insert(name, self.places.len())?;
         self.places.push(place)?;
         Ok(())
     }
@@ -113,7 +118,7 @@ impl<'a, 't> Scope<'a, 't> {
     fn read_layout(
         &self,
         cursor: &mut Cursor<'t>,
-        draft: &mut Draft,
+        draft: &mut Draft<'t>,
         at: usize,
     ) -> Result<StructLayout, Stop>
         ensures goes_on { GoesOn cursor.old cursor.new }
@@ -127,7 +132,7 @@ impl<'a, 't> Scope<'a, 't> {
         }
     }
 
-    fn read_members(&self, cursor: &mut Cursor<'t>, draft: &mut Draft) -> Result<(), Stop>
+    fn read_members(&self, cursor: &mut Cursor<'t>, draft: &mut Draft<'t>) -> Result<(), Stop>
         ensures goes_on { GoesOn cursor.old cursor.new }
     {
         while !cursor.take(b'}') {
@@ -142,13 +147,16 @@ impl<'a, 't> Scope<'a, 't> {
         Ok(())
     }
 
-    fn read_member(&self, cursor: &mut Cursor<'t>, draft: &mut Draft) -> Result<(), Stop>
+    fn read_member(&self, cursor: &mut Cursor<'t>, draft: &mut Draft<'t>) -> Result<(), Stop>
         ensures goes_on { GoesOn cursor.old cursor.new }
         ensures one { OnOk result (Takes cursor.old cursor.new) }
     {
-        let attributes = self.read_member_attributes(cursor)?;
+        let attributes = self.read_attributes(cursor)?;
         let place = cursor.index();
         let name = cursor.name(Expected::Name)?;
+        if draft.names.contains_key(&name) {
+            return Err(Stop::at(place, Cause::MemberTwice));
+        }
         cursor.expect(b':')?;
         let at = cursor.index();
         let ty = self.read_type(cursor)?;
@@ -175,7 +183,7 @@ fn counted(ty: Type) -> (Type, bool) {
 }
 
 /// What is wrong with the type of a member, if anything is.
-fn member_fault(ty: &Type, is_runtime_sized: bool, attributes: MemberAttributes) -> Option<Cause> {
+fn member_fault(ty: &Type, is_runtime_sized: bool, attributes: Attributes) -> Option<Cause> {
     match (stored_fault(ty), ty.size_of(), attributes.size) {
         (Some(cause), _, _) => Some(cause),
         (None, _, Some(_)) if is_runtime_sized => Some(Cause::SizedRuntimeArray),

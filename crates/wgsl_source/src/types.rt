@@ -31,29 +31,34 @@ impl<'a, 't> Scope<'a, 't> {
         ensures goes_on { GoesOn cursor.old cursor.new }
     {
         let at = cursor.index();
-        let name = cursor.name(Expected::Type)?;
+        let name = cursor.take_word(Expected::Type)?;
         if let Some(meaning) = self.meaning(name) {
             return self.declared_type(meaning, at, depth);
         }
         match self.head(name) {
-            Some(Head::Layer(layer)) => self.read_layer(cursor, layer, depth),
-            Some(head) => self.read_leaf(cursor, head),
-            None => Err(Stop::at(at, unknown_type(cursor))),
+            Ok(Head::Layer(layer)) => self.read_layer(cursor, layer, depth),
+            Ok(head) => self.read_leaf(cursor, head),
+            Err(cause) => Err(Stop::at(at, cause)),
         }
     }
 
     /// What the predeclared name of a type says. Some types of spellings have no name in a module.
-    fn head(&self, name: &str) -> Option<Head> {
-        let head = predeclared(name)?;
+    fn head(&self, name: &str) -> Result<Head, Cause> {
+        let Some(head) = predeclared(name) else {
+            return Err(Cause::UnknownName);
+        };
         let is_spelled_alone = matches!(
             head,
             Head::Scalar(Scalar::AbstractInt | Scalar::AbstractFloat)
                 | Head::Layer(LayerName::Reference)
         );
         if is_spelled_alone && !self.is_spelling {
-            return None;
+            Err(Cause::UnknownName)
+        } else if head.is_half() && !self.has_half {
+            Err(Cause::NoHalf)
+        } else {
+            Ok(head)
         }
-        Some(head)
     }
 
     /// The type that a declaration stands for, named at an index of the text.
@@ -127,9 +132,12 @@ impl<'a, 't> Scope<'a, 't> {
     {
         let at = cursor.index();
         if self.is_spelling {
-            let count = usize::from_str(cursor.word());
+            let word = cursor.word();
             cursor.advance();
-            return count.map_err(|_| Stop::at(at, Cause::Expected(Expected::Integer)));
+            return match usize::from_str(word) {
+                Ok(count) => Ok(count),
+                Err(_) => Err(Stop::at(at, Cause::Expected(Expected::Integer))),
+            };
         }
         let count = self.read_integer(cursor, Site::Template)?;
         match usize::try_from(count.value) {
@@ -175,7 +183,7 @@ impl<'a, 't> Scope<'a, 't> {
     {
         cursor.expect(b'<')?;
         let at = cursor.index();
-        let name = cursor.name(Expected::SampledType)?;
+        let name = cursor.take_word(Expected::SampledType)?;
         cursor.take(b',');
         cursor.expect(b'>')?;
         match self.sampled_type(name) {
@@ -214,15 +222,6 @@ fn levels(ty: &Type) -> u32 {
     }
 }
 
-/// What is wrong with a name that stands for no type.
-fn unknown_type(cursor: &Cursor) -> Cause {
-    if cursor.is_at(b'(') {
-        Cause::Expected(Expected::Type)
-    } else {
-        Cause::UnknownName
-    }
-}
-
 /// The address space of a pointer or a reference, with the `,` behind it.
 fn read_pointed(cursor: &mut Cursor, layer: LayerName) -> Result<AddressSpace, Stop>
     ensures goes_on { GoesOn cursor.old cursor.new }
@@ -240,7 +239,7 @@ pub fn read_space(cursor: &mut Cursor) -> Result<AddressSpace, Stop>
     ensures goes_on { GoesOn cursor.old cursor.new }
 {
     let at = cursor.index();
-    let space = match cursor.name(Expected::AddressSpace)? {
+    let space = match cursor.take_word(Expected::AddressSpace)? {
         "immediate" => Some(AddressSpace::PushConstant),
         name => AddressSpace::from_str(name).ok(),
     };
@@ -252,8 +251,10 @@ pub fn read_access(cursor: &mut Cursor) -> Result<AccessMode, Stop>
     ensures goes_on { GoesOn cursor.old cursor.new }
 {
     let at = cursor.index();
-    let name = cursor.name(Expected::AccessMode)?;
-    AccessMode::from_str(name).map_err(|_| Stop::at(at, Cause::Expected(Expected::AccessMode)))
+    match AccessMode::from_str(cursor.take_word(Expected::AccessMode)?) {
+        Ok(access) => Ok(access),
+        Err(_) => Err(Stop::at(at, Cause::Expected(Expected::AccessMode))),
+    }
 }
 
 /// The template list of a storage texture.
@@ -262,7 +263,7 @@ fn read_storage(cursor: &mut Cursor) -> Result<TextureParameters, Stop>
 {
     cursor.expect(b'<')?;
     let at = cursor.index();
-    let format = TexelFormat::from_str(cursor.name(Expected::TexelFormat)?);
+    let format = TexelFormat::from_str(cursor.take_word(Expected::TexelFormat)?);
     cursor.expect(b',')?;
     let access = read_access(cursor)?;
     cursor.take(b',');
@@ -281,7 +282,7 @@ fn read_flag(cursor: &mut Cursor) -> Result<Option<AccelerationStructureFlags>, 
         return Ok(None);
     }
     let at = cursor.index();
-    let flag = AccelerationStructureFlags::from_str(cursor.name(Expected::Flag)?);
+    let flag = AccelerationStructureFlags::from_str(cursor.take_word(Expected::Flag)?);
     cursor.take(b',');
     cursor.expect(b'>')?;
     match flag {

@@ -1,7 +1,7 @@
 // Variables of a module.
 ghost use Rattle.wgsl_source.specs.Cursor.{GoesOn};
 
-use crate::attribute::BindingAttributes;
+use crate::attribute::Attributes;
 use crate::check::type_fault;
 use crate::cursor::Cursor;
 use crate::fault::{Cause, Expected, Stop};
@@ -30,7 +30,7 @@ pub struct Variable<'t> {
 struct Head<'t> {
     name: &'t str,
     place: usize,
-    attributes: BindingAttributes,
+    attributes: Attributes,
     space: AddressSpace,
     access: AccessMode,
 }
@@ -59,7 +59,7 @@ impl<'a, 't> Scope<'a, 't> {
     fn read_variable_head(&self, cursor: &mut Cursor<'t>) -> Result<Head<'t>, Stop>
         ensures goes_on { GoesOn cursor.old cursor.new }
     {
-        let attributes = self.read_binding_attributes(cursor)?;
+        let attributes = self.read_attributes(cursor)?;
         cursor.take_word(Expected::Declaration)?;
         let (space, access) = read_qualifiers(cursor)?;
         let place = cursor.index();
@@ -110,9 +110,18 @@ fn read_qualifiers(cursor: &mut Cursor) -> Result<(AddressSpace, AccessMode), St
     }
     let mut access = space.default_access_mode();
     if cursor.take(b',') && !cursor.is_at(b'>') {
+        let at = cursor.index();
         access = read_access(cursor)?;
+        if space != AddressSpace::Storage || !is_buffer_access(access) {
+            return Err(Stop::at(at, Cause::NoAccess));
+        }
         cursor.take(b',');
     }
     cursor.expect(b'>')?;
     Ok((space, access))
+}
+
+/// Whether a variable of `storage` may have this access mode.
+fn is_buffer_access(access: AccessMode) -> bool {
+    matches!(access, AccessMode::Read | AccessMode::ReadWrite)
 }

@@ -11,8 +11,8 @@ decreases-read_operand l = 4 * l.depth + 1
 abbrev pub decreases-read_group : goal.decreases-read_group
 decreases-read_group l = 4 * l.depth + 1
 
-abbrev pub decreases-read_choice : goal.decreases-read_choice
-decreases-read_choice l = 4 * l.depth + 2
+abbrev pub decreases-read_call : goal.decreases-read_call
+decreases-read_call l = 4 * l.depth + 2
 
 abbrev pub decreases-read_named : goal.decreases-read_named
 decreases-read_named l = 4 * l.depth + 3

@@ -1,6 +1,6 @@
 use Rattle.std.proofs.Common.{length, ◌-◌}
 use Rattle.wgsl_source.specs.Cursor.{GoesOn}
-use Rattle.wgsl_source.proofs.scope.Scope.read_binding_attributes.Given as goal
+use Rattle.wgsl_source.proofs.scope.Scope.read_attributes.Given as goal
 
 abbrev pub invariant-loop-cursor : goal.invariant-loop-cursor
 invariant-loop-cursor l = GoesOn l.fn.cursor l.cursor
