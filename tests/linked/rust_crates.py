@@ -6,7 +6,7 @@ import shutil
 import signal
 import sys
 
-from tools import BINDINGS, LINKED, TOP, WARNINGS, answers_and_notes, compare, compare_both, expect_shown, failure, is_there, run
+from tools import BINDINGS, LINKED, TOP, WARNINGS, answers_and_notes, compare, compare_both, expect_shown, failure, run
 from tools import write_shown
 
 sys.path.insert(0, os.path.join(TOP, "tests", "overloads"))
@@ -38,16 +38,9 @@ class Crates:
         in_folder = ["sh", "-c", 'cd "$1" && shift && exec "$@"', "sh", self.path(crate)]
         return failure(*in_folder, "cargo", *words, "--quiet", "--offline", status=status, **more)
 
-    def pack(self, crate):
-        """The crate is packed as it is to be published, without a warning, and what is packed builds."""
-        said = failure("cargo", "package", "--offline", status=0, where=self.path(crate), WGSL_LIB=os.path.join(self.top, "out"))
-        if "warning" in said or "Verifying" not in said:
-            sys.exit(f"link: cargo package writes {said}")
-
 
 def check_rust(crates, asked, wanted):
     """The crate over texts: its documentation's tests, its example over all requests, the program of docs/USING.md."""
-    crates.pack("rust")
     write_shown("rust", crates.path("rust", "examples", "shown.rs"))
     crates.cargo("rust", "test", WGSL_LIB="out")
     examples = crates.path("rust", "target", "debug", "examples")
@@ -94,7 +87,6 @@ def check_rust_standard(crates):
 def check_rust_types(crates):
     """The crate over numbers, beside the one over texts, which its tests ask too."""
     check_texts()
-    crates.pack("rust-types")
     shutil.copy(os.path.join(LINKED, "questions.rs"), crates.path("rust-types", "examples"))
     write_shown("rust", crates.path("rust-types", "examples", "shown.rs"), 1)
     crates.cargo("rust-types", "test", WGSL_LIB="out")
@@ -187,15 +179,3 @@ def check_versions(crates):
         if f'{package} asks a libwgsl 0.x, and that in "{other}" is 17.2.0' not in said:
             sys.exit(f"link: with the header of another version cargo writes {said}")
     print("link: a library of another major version is refused in Rust, when it is built and when it is asked")
-
-
-def check_package(crates):
-    """Without WGSL_LIB the library is where pkg-config finds it."""
-    if not is_there("pkg-config"):
-        return
-    folder = os.path.join(crates.top, "out")
-    with open(os.path.join(folder, "wgsl.pc"), "w", encoding="utf-8") as file:
-        file.write("libdir=${pcfiledir}\n\nName: wgsl\nDescription: wgsl\nVersion: 0.1.0\nLibs: -L${libdir} -lwgsl\n")
-    crates.cargo("rust", "build", "--examples", PKG_CONFIG_PATH=folder)
-    lines = crates.path("rust", "target", "debug", "examples", "lines")
-    compare("Rust, over pkg-config,", b"6\n", run(lines, asked=b"rank AbstractInt f32\n"))
