@@ -59,7 +59,8 @@ fn installed() -> Result<PathBuf, String> {
     let said = Command::new(program).args(["--variable=libdir", "wgsl"]).output();
     let folder = said.ok().filter(|said| said.status.success()).and_then(|said| {
         let folder = String::from_utf8(said.stdout).ok()?;
-        Some(PathBuf::from(folder.trim_end()))
+        // It writes a backslash before a blank.
+        Some(PathBuf::from(folder.trim_end().replace('\\', "")))
     });
     match folder {
         Some(folder) if folder.join(LIBRARY).is_file() => Ok(folder),

@@ -237,7 +237,7 @@ impl Random {
         match self.below(8) {
             0 => Operand::new(Type::Ref(self.of(&SPACES), Box::new(ty), self.of(&ACCESS_MODES))),
             1..=4 => Operand::constant(ty),
-            _ => Operand { ty, is_constant: false },
+            _ => Operand::new(ty),
         }
     }
 
@@ -245,8 +245,8 @@ impl Random {
     pub fn standard_call(&mut self) -> (&'static str, Option<Type>, Vec<Operand>) {
         let (name, _, arguments) = self.call();
         let template = (self.below(4) == 0).then(|| self.value());
-        let is_constant = self.below(2) == 0;
-        let operands = arguments.into_iter().map(|ty| Operand { ty, is_constant }).collect();
+        let operand = if self.below(2) == 0 { Operand::constant } else { Operand::new };
+        let operands = arguments.into_iter().map(operand).collect();
         (name, template, operands)
     }
 
