@@ -11,6 +11,10 @@ say() {
     echo "${0##*/}: $*" >&2 || true
 }
 
+show_version() {
+    echo "${0##*/} $(<"$top/VERSION")"
+}
+
 # Ends with a status that no run of the program has.
 end_as_wrong_use() {
     say "$1: see ./${0##*/} --help"
@@ -121,12 +125,33 @@ has_folders() {
     done
 }
 
-# Has a file built from a crate by a command, unless it is built. The file is then as old as the start, so that what is
-# edited meanwhile is newer. `touch` would open it without `-c`, and then nobody could run it.
+# Has a file built from a crate by a command, unless it is built.
 ensure_built() {
-    local file=$1 crate=$2 list started signal
+    local file=$1 crate=$2 turn
     ! is_built "$file" "$crate" || return 0
-    has_toolchain && has_folders "$crate" || return 1
+    has_toolchain || return 1
+    if ! take_turn "$crate"; then
+        has_folders "$crate"
+        return 1
+    fi
+    if ! is_built "$file" "$crate"; then
+        has_folders "$crate" && build_now "$@" || return 1
+    fi
+    exec {turn}>&-
+}
+
+# Waits until no other script builds from a crate, and keeps others from it. False if there is no folder to work in.
+take_turn() {
+    local out=$top/crates/$1/out
+    [ -d "$top/crates/$1" ] && mkdir -p "$out" 2>/dev/null && [ -w "$out" ] || return 1
+    exec {turn}>"$out/turn"
+    flock "$turn"
+}
+
+# The file is then as old as the start, so that what is edited meanwhile is newer. `touch` would open it without `-c`, and
+# then nobody could run it.
+build_now() {
+    local file=$1 crate=$2 list started signal
     list=$(stands_on "$crate")
     started=$(date +%s.%N)
     for signal in INT QUIT TERM HUP; do

@@ -1,19 +1,19 @@
-"""The Python module over the linked library, and over a stub in its place."""
+"""The Python package over the linked library, and over a stub in its place."""
 import os
 import sys
 
 from tools import BINDINGS, LINKED, answers_and_notes, compare_both, expect_shown, failure, run, write_shown
 
 FOLDER = os.path.join(BINDINGS, "python")
-MODULE = os.path.join(FOLDER, "wgsl.py")
+PROGRAM = [sys.executable, "-B", "-m", "wgsl"]
 TO_DO = "set it to the folder where ./build_library FOLDER wrote libwgsl.so"
 
 FOUND = {"PYTHONPATH": FOLDER, "PYTHONDONTWRITEBYTECODE": "1"}
 
 
 def check_python(top, asked, wanted):
-    """The module as a program, the program of docs/USING.md, and threads. A relative folder is found from below."""
-    given = answers_and_notes(sys.executable, MODULE, asked=asked, WGSL_LIB=os.path.join(top, "out"))
+    """The package as a program, the program of docs/USING.md, and threads. A relative folder is found from below."""
+    given = answers_and_notes(*PROGRAM, asked=asked, WGSL_LIB=os.path.join(top, "out"), **FOUND)
     compare_both("Python", wanted, given)
     below = os.path.join(top, "below", "that")
     os.makedirs(below)
@@ -22,6 +22,8 @@ def check_python(top, asked, wanted):
     program = os.path.join(LINKED, "python_threads.py")
     threads = run(sys.executable, program, asked=asked, where=top, WGSL_LIB="out", **FOUND)
     print(f"link: Python: {threads.decode().strip()}")
+    values = run(sys.executable, os.path.join(LINKED, "python_values.py"), where=top, WGSL_LIB="out", **FOUND)
+    print(f"link: Python: {values.decode().strip()}")
 
 
 def check_python_statuses(top):
@@ -40,11 +42,11 @@ def write_wrong_libraries(top):
 
 
 def check_python_folders(top):
-    """Without the library the module and the program say in one line what to do."""
+    """Without the library the package and its program say in one line what to do."""
     write_wrong_libraries(top)
     again = "write the library again with ./build_library FOLDER"
     wrong = [
-        ({}, f"WGSL_LIB is not set, and there is no libwgsl.so in '{FOLDER}': {TO_DO}"),
+        ({}, f"WGSL_LIB is not set, and there is no libwgsl.so in '{FOLDER}/wgsl': {TO_DO}"),
         ({"WGSL_LIB": ""}, f"WGSL_LIB is empty: {TO_DO}"),
         ({"WGSL_LIB": "none"}, f"WGSL_LIB is 'none', but there is no 'none/libwgsl.so' in '{top}', nor above: {TO_DO}"),
         ({"WGSL_LIB": top}, f"WGSL_LIB is '{top}', but there is no '{top}/libwgsl.so': {TO_DO}"),
@@ -56,7 +58,7 @@ def check_python_folders(top):
         raised = failure(sys.executable, "-c", "import wgsl", where=top, **given, **FOUND)
         if raised.count("Traceback") != 1 or raised.splitlines()[-1] != f"ImportError: {why}":
             sys.exit(f"link: with {given} Python raises {raised}")
-        said = failure(sys.executable, MODULE, where=top, **given)
-        if said != f"wgsl: {why}\n":
-            sys.exit(f"link: with {given} wgsl.py writes {said}")
+        said = failure(*PROGRAM, where=top, **given, **FOUND)
+        if said.splitlines()[-1] != f"ImportError: {why}":
+            sys.exit(f"link: with {given} python -m wgsl writes {said}")
     print(f"link: {len(wrong)} wrong values of WGSL_LIB are told in Python")

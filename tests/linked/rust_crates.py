@@ -6,10 +6,19 @@ import shutil
 import signal
 import sys
 
-from tools import BINDINGS, LINKED, TOP, answers_and_notes, compare, compare_both, expect_shown, failure, run, write_shown
+from tools import BINDINGS, LINKED, TOP, WARNINGS, answers_and_notes, compare, compare_both, expect_shown, failure, run
+from tools import write_shown
+
+sys.path.insert(0, os.path.join(TOP, "tests", "overloads"))
+from calls import Calls, in_words  # noqa: E402, of tests/standard
+from facts import OWN_FUNCTIONS, read_facts  # noqa: E402
 
 CRATES = ["rust", "rust-types"]
-TO_DO = "set it to the folder where ./build_library FOLDER wrote libwgsl.a"
+TO_DO = "set WGSL_LIB to the folder where ./build_library FOLDER wrote libwgsl.a"
+# Of how many questions on WGSL's own overloads one is also explained.
+EXPLAINED = 40
+# Lines that no command of wgsl_standard is.
+UNREADABLE = ["binary + i32", "call", "unary - f32 f32", "why", "resolve rank f32 f32", "overloads", "const f32", "foo"]
 
 
 class Crates:
@@ -39,15 +48,53 @@ def check_rust(crates, asked, wanted):
     expect_shown("Rust", run(os.path.join(examples, "shown")))
 
 
+def standard_calls():
+    """The calls that tests/standard asks, and the names whose overloads it lists."""
+    formats, table = read_facts()
+    return Calls(table, formats).all(), [*table, *OWN_FUNCTIONS]
+
+
+def in_fields(call):
+    """The call as questions.rs reads it."""
+    name, template, operands, constant = call
+    command = in_words(call).split(" ", 1)[0]
+    said = [("const " if is_const else "") + t for t, is_const in zip(operands, constant)]
+    return "\t".join([command, name, template or "-", *said])
+
+
+def check_rust_standard(crates):
+    """WGSL's own overloads: both crates answer what the program `wgsl_standard` answers, for each call of tests/standard."""
+    calls, names = standard_calls()
+    lines, fields = [], []
+    for index, call in enumerate(calls):
+        asked = in_words(call)
+        lines += [asked, f"resolve {asked}"] + ([f"why {asked}"] if index % EXPLAINED == 0 else [])
+        fields.append(in_fields(call))
+    lines += [f"overloads {name}" for name in names]
+    fields += [f"overloads\t{name}" for name in names]
+    program = os.path.join(TOP, "wgsl_standard")
+    asked = "".join(f"{line}\n" for line in lines + UNREADABLE).encode()
+    wanted = answers_and_notes(program, asked=asked)
+    example = crates.path("rust", "target", "debug", "examples", "lines")
+    compare_both("Rust, by WGSL's own overloads,", wanted, answers_and_notes(example, "standard", asked=asked))
+    questions = crates.path("rust-types", "target", "debug", "examples", "questions")
+    typed = run(questions, str(EXPLAINED), asked="".join(f"{line}\n" for line in fields).encode())
+    bad = [f"bad line {len(lines) + number}\n" for number in range(1, len(UNREADABLE) + 1)]
+    compare("Rust, asked in numbers,", wanted[0], typed + "".join(bad).encode())
+    print(f"link: {len(calls)} calls and {len(names)} lists of overloads are answered in Rust as by wgsl_standard")
+
+
 def check_rust_types(crates):
     """The crate over numbers, beside the one over texts, which its tests ask too."""
     check_texts()
+    shutil.copy(os.path.join(LINKED, "questions.rs"), crates.path("rust-types", "examples"))
     write_shown("rust", crates.path("rust-types", "examples", "shown.rs"), 1)
     crates.cargo("rust-types", "test", WGSL_LIB="out")
     examples = crates.path("rust-types", "target", "debug", "examples")
     expect_shown("Rust", run(os.path.join(examples, "shown")), b"vec3<f32>\n[0, 16, 28]\n")
-    with open(os.path.join(LINKED, "front_end.txt"), "rb") as file:
-        compare("the front end in Rust", file.read(), run(os.path.join(examples, "front_end")))
+    for example, language in (("front_end", "the front end in Rust"), ("editor", "the editor in Rust")):
+        with open(os.path.join(LINKED, f"{example}.txt"), "rb") as file:
+            compare(language, file.read(), run(os.path.join(examples, example)))
 
 
 def check_texts():
@@ -81,8 +128,10 @@ def check_types_out_of_memory(crates):
 def check_folders(crates):
     """Without the library what links fails with one line that says what to do, and what doesn't link passes."""
     here, nowhere = crates.path("rust"), os.path.join(crates.top, "bindings")
+    no_package = {"PKG_CONFIG_LIBDIR": nowhere}
     wrong = [
-        ({}, "WGSL_LIB is not set"),
+        (no_package, "WGSL_LIB is not set, and pkg-config finds no wgsl"),
+        ({"PKG_CONFIG": os.path.join(nowhere, "no_program")}, "WGSL_LIB is not set, and pkg-config finds no wgsl"),
         ({"WGSL_LIB": ""}, "WGSL_LIB is empty"),
         ({"WGSL_LIB": "\udcff"}, "WGSL_LIB is not UTF-8"),
         ({"WGSL_LIB": "nowhere"}, f'WGSL_LIB is "nowhere", but there is no "nowhere/libwgsl.a" in "{here}", nor above'),
@@ -95,10 +144,38 @@ def check_folders(crates):
         if f"`wgsl ({why}; {TO_DO})`" not in first or len(others) != 1 or "could not compile" not in others[0]:
             sys.exit(f"link: with {given} cargo writes {said}")
     for crate, command in [("rust", "check"), ("rust", "doc"), ("rust-types", "check")]:
-        said = crates.cargo(crate, command)
+        said = crates.cargo(crate, command, **no_package)
         if said:
             sys.exit(f"link: without a library cargo {command} writes {said}")
     with open(crates.path("rust", "build.rs")) as one, open(crates.path("rust-types", "build.rs")) as other:
         if one.read() != other.read():
             sys.exit("link: the crates' build scripts differ")
     print(f"link: {len(wrong)} wrong values of WGSL_LIB are told in Rust, and without one it is checked and documented")
+
+
+def check_versions(crates):
+    """A library of another major version is refused: by its header when it is built, or else when it is first asked."""
+    headers = os.path.join(BINDINGS, "c")
+    other = os.path.join(crates.top, "other")
+    os.mkdir(other)
+    built = os.path.join(other, "stub.o")
+    run("cc", *WARNINGS, "-I", headers, '-DOTHER_VERSION="17.2.0"', "-c", os.path.join(LINKED, "stub.c"), "-o", built)
+    run("ar", "rc", os.path.join(other, "libwgsl.a"), built)
+    crates.cargo("rust", "build", "--examples", WGSL_LIB="other")
+    crates.cargo("rust-types", "build", "--examples", WGSL_LIB="other")
+    for crate, example, package in (("rust", "lines", "wgsl-requests"), ("rust-types", "front_end", "wgsl-types-proved")):
+        program = crates.path(crate, "target", "debug", "examples", example)
+        said = failure(program, asked=b"rank f32 f32\n", status=101)
+        if f"{package} asks a libwgsl 0.x, and libwgsl 17.2.0 is linked" not in said:
+            sys.exit(f"link: with a library of another version {example} writes {said}")
+    with open(os.path.join(headers, "wgsl.h"), encoding="utf-8") as file:
+        header = re.sub(r'(#define WGSL_VERSION ").*"', r'\g<1>17.2.0"', file.read())
+    with open(os.path.join(other, "wgsl.h"), "w", encoding="utf-8") as file:
+        file.write(header)
+    for crate, package in (("rust", "wgsl-requests"), ("rust-types", "wgsl-types-proved")):
+        # What was built is touched, so that cargo runs the build script again.
+        os.utime(crates.path(crate, "build.rs"))
+        said = crates.cargo(crate, "build", "--examples", status=101, WGSL_LIB="other")
+        if f'{package} asks a libwgsl 0.x, and that in "{other}" is 17.2.0' not in said:
+            sys.exit(f"link: with the header of another version cargo writes {said}")
+    print("link: a library of another major version is refused in Rust, when it is built and when it is asked")

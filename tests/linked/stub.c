@@ -7,8 +7,9 @@
  *   memory N    out of memory, once there is room for N bytes
  *   status N    the status N
  *
- * Any other request is unreadable, which is explained by the request itself. The calls over numbers are always out of
- * memory. */
+ * Any other request is unreadable, which is explained by the request itself. Requests of WGSL's own overloads are answered
+ * in the same way. The calls over numbers and over texts of WGSL are always out of memory. The version is that of wgsl.h, or
+ * OTHER_VERSION. */
 #include "wgsl.h"
 #include <sched.h>
 #include <stdatomic.h>
@@ -69,12 +70,27 @@ uint8_t wgsl_explain(const uint8_t *bytes, size_t len, uint8_t *room, size_t roo
     return say(request, request + len, room, room_len, text_len);
 }
 
-#define OUT_OF_MEMORY(name) \
-    uint8_t name(const uint32_t *request, size_t request_len, uint32_t *room, size_t room_len, size_t *len) { \
+uint8_t wgsl_standard_answer(const uint8_t *bytes, size_t len, uint8_t *room, size_t room_len, size_t *text_len) {
+    return wgsl_answer(bytes, len, room, room_len, text_len);
+}
+
+uint8_t wgsl_standard_explain(const uint8_t *bytes, size_t len, uint8_t *room, size_t room_len, size_t *text_len) {
+    return wgsl_explain(bytes, len, room, room_len, text_len);
+}
+
+#ifndef OTHER_VERSION
+#define OTHER_VERSION WGSL_VERSION
+#endif
+
+const char *wgsl_version(void) { return OTHER_VERSION; }
+
+#define OUT_OF_MEMORY_BETWEEN(given, found, name) \
+    uint8_t name(const given *request, size_t request_len, found *room, size_t room_len, size_t *len) { \
         (void)request, (void)request_len, (void)room, (void)room_len; \
         *len = 0; \
         return WGSL_OUT_OF_MEMORY; \
     }
+#define OUT_OF_MEMORY(name) OUT_OF_MEMORY_BETWEEN(uint32_t, uint32_t, name)
 
 OUT_OF_MEMORY(wgsl_rank)
 OUT_OF_MEMORY(wgsl_common)
@@ -84,3 +100,9 @@ OUT_OF_MEMORY(wgsl_constructor)
 OUT_OF_MEMORY(wgsl_call)
 OUT_OF_MEMORY(wgsl_size)
 OUT_OF_MEMORY(wgsl_layout)
+OUT_OF_MEMORY(wgsl_standard_resolve)
+OUT_OF_MEMORY(wgsl_standard_overloads)
+OUT_OF_MEMORY(wgsl_standard_why)
+OUT_OF_MEMORY_BETWEEN(uint8_t, uint32_t, wgsl_read_type)
+OUT_OF_MEMORY_BETWEEN(uint8_t, uint8_t, wgsl_explain_type)
+OUT_OF_MEMORY_BETWEEN(uint8_t, uint8_t, wgsl_source_layout)

@@ -5,7 +5,12 @@ import signal
 
 from use import BELOW, LIBRARY, add, end_of, equal, expect, read, wait_for_end
 
-WRITTEN = ["libwgsl.a", "libwgsl.so", "libwgsl.so.0", "wgsl.h", "wgsl_codes.h"]
+HEADERS = ["wgsl.h", "wgsl.hpp", "wgsl_codes.h", "wgsl_types.hpp", "wgsl_words.hpp"]
+WRITTEN = ["libwgsl.a", "libwgsl.so", "libwgsl.so.0", *HEADERS]
+INSTALLED = sorted(
+    ["lib/libwgsl.a", "lib/libwgsl.so", "lib/libwgsl.so.0", "lib/pkgconfig/wgsl.pc", "lib/cmake/wgsl/wgslConfig.cmake",
+     "lib/cmake/wgsl/wgslConfigVersion.cmake", *[f"include/{name}" for name in HEADERS]]
+)
 
 
 def _writes(use, folder, *said, at=None):
@@ -25,6 +30,18 @@ def second_build(use):
     use.calls()
     _writes(use, "two")
     equal(use.calls(), [])
+
+
+def prefix(use):
+    expect(use.run("./build_library", "--prefix", "a prefix"), 0, "", "10 of 10")
+    found = [os.path.join(at, name) for at, _, names in os.walk(use.path("a prefix")) for name in names]
+    equal(sorted(os.path.relpath(path, use.path("a prefix")) for path in found), INSTALLED)
+    assert "Version: " + read(use.path("VERSION")) in read(use.path("a prefix", "lib", "pkgconfig", "wgsl.pc"))
+
+
+def prefix_without_a_folder(use):
+    _wrong_use(use, "--prefix")
+    _wrong_use(use, "--prefix", "")
 
 
 def relative_folder(use):

@@ -57,6 +57,12 @@ def help_is_asked_for(use):
     equal(use.calls(), [])
 
 
+def version_is_asked_for(use):
+    """It is that of the file VERSION, and nothing is proved for it."""
+    expect(use.run("./wgsl_check", "--version"), 0, f"wgsl_check {read(use.path('VERSION'))}")
+    equal(use.calls(), [])
+
+
 def help_without_a_toolchain(use):
     use.without("rt")
     equal(use.run("./wgsl_check", "--help")[::2], (0, ""))

@@ -18,7 +18,7 @@ LIBRARY = [f"rt lib {crate}" for crate in BELOW_C + ["wgsl_c"]]
 GIVEN, ANSWERS = "a\nb\n", "answer to a\nanswer to b\n"
 # The programs that the scripts call, for uses that lack one.
 TOOLS = (
-    "ar as bash cat cc cp date dirname find install ld ln mkdir mktemp mv objcopy readlink rm sed sleep sort tail touch wc"
+    "ar as bash cat cc cp date dirname find flock install ld ln mkdir mktemp mv objcopy readlink rm sed sleep sort tail touch wc"
 ).split()
 OLD = 1_000_000_000
 
@@ -38,11 +38,13 @@ def add(path, text="\n"):
 def make_template(folder):
     """The repository that each use begins with, all of whose files are old; and the stand-in's own folder."""
     top, said = os.path.join(folder, "a repository"), os.path.join(folder, "said")
-    for name in ("wgsl_check", "wgsl_layout", "build_library", "test", "proving.sh", "crates.txt", "README.md"):
+    for name in ("wgsl_check", "wgsl_layout", "build_library", "package", "test", "proving.sh", "crates.txt", "VERSION", "README.md"):
         os.makedirs(top, exist_ok=True)
         shutil.copy(os.path.join(TOP, name), top)
-    for language in ("c", "python"):
-        shutil.copytree(os.path.join(TOP, "bindings", language), os.path.join(top, "bindings", language))
+    for name in ("LICENSE", "NOTICE", "CHANGELOG.md"):
+        shutil.copy(os.path.join(TOP, name), top)
+    ignored = shutil.ignore_patterns("target", "__pycache__")
+    shutil.copytree(os.path.join(TOP, "bindings"), os.path.join(top, "bindings"), ignore=ignored)
     for line in read(os.path.join(TOP, "crates.txt")).splitlines():
         if not line.startswith("#"):
             crate = os.path.join(top, "crates", line.split(":")[0].split()[0])

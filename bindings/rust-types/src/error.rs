@@ -4,10 +4,12 @@ use crate::inst::LiteralInstance;
 use crate::signature::CallSignature;
 use crate::syntax::{BinaryOperator, UnaryOperator};
 use crate::ty::Type;
-use std::fmt;
+use alloc::string::String;
+use core::fmt;
 
-/// Why an expression has no type, or no value (WGSL, "Errors").
+/// Why an expression has no type, or no value (WGSL, "Errors"). A later minor version may have more.
 #[derive(Clone, Debug, PartialEq, Eq, Hash)]
+#[non_exhaustive]
 pub enum Error {
     /// What isn't implemented.
     Todo(String),
@@ -140,4 +142,4 @@ impl fmt::Display for Error {
     }
 }
 
-impl std::error::Error for Error {}
+impl core::error::Error for Error {}

@@ -1,14 +1,17 @@
-//! The calls of the library. Nothing else in this crate is unsafe.
+//! The calls of the library, as in bindings/c/wgsl.h. Nothing else in this crate is unsafe.
 #![allow(unsafe_code)]
 
-/// Declares calls of one form, as in bindings/c/wgsl.h.
+use core::ffi::{c_char, CStr};
+use core::sync::atomic::{AtomicBool, Ordering};
+
+/// Declares calls of one form, which take one kind of numbers and give another.
 macro_rules! calls {
-    ($($name:ident)*) => {
+    ($In:ty => $Out:ty: $($name:ident)*) => {
         extern "C" {
             $(fn $name(
-                request: *const u32,
+                request: *const $In,
                 request_len: usize,
-                room: *mut u32,
+                room: *mut $Out,
                 room_len: usize,
                 len: *mut usize,
             ) -> u8;)*
@@ -16,15 +19,24 @@ macro_rules! calls {
     };
 }
 
-calls! {
+calls! { u32 => u32:
     wgsl_rank wgsl_common wgsl_unary wgsl_binary wgsl_constructor wgsl_call wgsl_size wgsl_layout
+    wgsl_standard_resolve wgsl_standard_overloads wgsl_standard_why
+}
+calls! { u8 => u32: wgsl_read_type }
+calls! { u8 => u8: wgsl_explain_type wgsl_source_layout }
+
+extern "C" {
+    fn wgsl_version() -> *const c_char;
 }
 
-/// One of the eight calls, which have one form.
+/// One of the calls, all of which have one form.
 #[derive(Clone, Copy)]
-pub(crate) struct Call(unsafe extern "C" fn(*const u32, usize, *mut u32, usize, *mut usize) -> u8);
+pub(crate) struct Call<In, Out>(
+    unsafe extern "C" fn(*const In, usize, *mut Out, usize, *mut usize) -> u8,
+);
 
-/// What the library says of a request. The numbers are of words.
+/// What the library says of a request. The numbers are of words, or of bytes.
 #[derive(Clone, Copy, Debug, PartialEq, Eq)]
 pub(crate) enum Status {
     /// The room begins with that many words of an answer.
@@ -39,22 +51,37 @@ pub(crate) enum Status {
     NoRoom(usize),
 }
 
-impl Call {
-    pub(crate) const RANK: Call = Call(wgsl_rank);
-    pub(crate) const COMMON: Call = Call(wgsl_common);
-    pub(crate) const UNARY: Call = Call(wgsl_unary);
-    pub(crate) const BINARY: Call = Call(wgsl_binary);
-    pub(crate) const CONSTRUCTOR: Call = Call(wgsl_constructor);
-    pub(crate) const FUNCTION: Call = Call(wgsl_call);
-    pub(crate) const SIZE: Call = Call(wgsl_size);
-    pub(crate) const LAYOUT: Call = Call(wgsl_layout);
+impl Call<u32, u32> {
+    pub(crate) const RANK: Self = Call(wgsl_rank);
+    pub(crate) const COMMON: Self = Call(wgsl_common);
+    pub(crate) const UNARY: Self = Call(wgsl_unary);
+    pub(crate) const BINARY: Self = Call(wgsl_binary);
+    pub(crate) const CONSTRUCTOR: Self = Call(wgsl_constructor);
+    pub(crate) const FUNCTION: Self = Call(wgsl_call);
+    pub(crate) const SIZE: Self = Call(wgsl_size);
+    pub(crate) const LAYOUT: Self = Call(wgsl_layout);
+    pub(crate) const RESOLVE: Self = Call(wgsl_standard_resolve);
+    pub(crate) const OVERLOADS: Self = Call(wgsl_standard_overloads);
+    pub(crate) const WHY: Self = Call(wgsl_standard_why);
+}
 
+impl Call<u8, u32> {
+    pub(crate) const READ_TYPE: Self = Call(wgsl_read_type);
+}
+
+impl Call<u8, u8> {
+    pub(crate) const EXPLAIN_TYPE: Self = Call(wgsl_explain_type);
+    pub(crate) const SOURCE_LAYOUT: Self = Call(wgsl_source_layout);
+}
+
+impl<In, Out> Call<In, Out> {
     /// Asks once, with this room for the answer.
     #[inline]
-    pub(crate) fn ask(self, request: &[u32], room: &mut [u32]) -> Status {
+    pub(crate) fn ask(self, request: &[In], room: &mut [Out]) -> Status {
+        check_version();
         let mut len = 0;
         // SAFETY: each pointer is that of a live slice with this length, or of `len`; the mutable ones overlap nothing,
-        // and no slice has 2^61 words. The library is linked with one malloc, realloc and free.
+        // and no slice has 2^63 bytes. The library is linked with one malloc, realloc and free.
         let status = unsafe {
             (self.0)(request.as_ptr(), request.len(), room.as_mut_ptr(), room.len(), &mut len)
         };
@@ -67,4 +94,30 @@ impl Call {
             status => unreachable!("bindings/c/wgsl.h has no status {status}"),
         }
     }
+}
+
+/// Whether the library has the version that is needed.
+static IS_CHECKED: AtomicBool = AtomicBool::new(false);
+
+/// Panics if the library has another major version than this crate.
+#[inline]
+fn check_version() {
+    if !IS_CHECKED.load(Ordering::Relaxed) {
+        compare_versions();
+    }
+}
+
+#[cold]
+fn compare_versions() {
+    // SAFETY: the function returns a constant with a NUL at its end.
+    let version = unsafe { CStr::from_ptr(wgsl_version()) }.to_bytes();
+    let needed = env!("CARGO_PKG_VERSION_MAJOR");
+    if version.split(|&byte| byte == b'.').next() != Some(needed.as_bytes()) {
+        let version = version.escape_ascii();
+        panic!(
+            "{} asks a libwgsl {needed}.x, and libwgsl {version} is linked",
+            env!("CARGO_PKG_NAME")
+        );
+    }
+    IS_CHECKED.store(true, Ordering::Relaxed);
 }

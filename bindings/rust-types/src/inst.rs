@@ -1,7 +1,7 @@
 //! Instances: literals, with their types and their texts. Other values belong to the layer above.
 
 use crate::ty::{Ty, Type};
-use std::fmt;
+use core::fmt;
 
 /// A value: a literal.
 #[derive(Clone, Copy, Debug, PartialEq, Eq, Hash)]

@@ -2,7 +2,9 @@
 
 use crate::tplt::TpltParam;
 use crate::ty::Type;
-use std::fmt;
+use alloc::string::String;
+use alloc::vec::Vec;
+use core::fmt;
 
 /// A call (WGSL, "Function Calls"): its name, its template parameters if it has a template, and the types of its
 /// arguments.

@@ -10,8 +10,8 @@ use crate::inst::Instance;
 use crate::syntax::Enumerant;
 use crate::ty::Type;
 pub use asked::{ArrayTemplate, BitcastTemplate, MatTemplate, VecTemplate};
+use core::fmt;
 pub use parsed::{AtomicTemplate, BindingArrayTemplate, PtrTemplate, TextureTemplate};
-use std::fmt;
 
 /// A template parameter.
 #[derive(Clone, Debug, PartialEq, Eq, Hash)]

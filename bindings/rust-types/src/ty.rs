@@ -3,10 +3,15 @@
 mod build;
 mod kinds;
 mod show;
+mod spelled;
 mod texture;
 
 use crate::error::Error;
 use crate::syntax::{AccelerationStructureFlags, AccessMode, AddressSpace, SampledType, Scalar};
+use alloc::boxed::Box;
+use alloc::string::String;
+use alloc::vec::Vec;
+pub use spelled::SpellingError;
 pub use texture::{SamplerType, TextureDimensions, TextureType};
 
 /// How many levels deep a type can be that the library is asked about. A scalar, a texture or a sampler has one level, and

@@ -1,10 +1,12 @@
-//! Answers each line of standard input, as the program `wgsl_check` does.
+//! Answers each line of standard input, as the program `wgsl_check` does; with the argument `standard`, as `wgsl_standard`.
 
 use std::io::{self, BufRead, BufWriter, Write};
 use std::process::ExitCode;
-use wgsl_requests::{answer, Error};
+use wgsl_requests::{answer, standard_answer, Error};
 
 fn main() -> io::Result<ExitCode> {
+    let is_standard = std::env::args().nth(1).is_some_and(|rules| rules == "standard");
+    let answer = if is_standard { standard_answer } else { answer };
     let mut output = BufWriter::new(io::stdout().lock());
     let mut readable = true;
     for (index, line) in io::stdin().lock().split(b'\n').enumerate() {
@@ -21,7 +23,7 @@ fn main() -> io::Result<ExitCode> {
                 writeln!(output, "bad line {}", index + 1)?;
                 eprintln!("line {}: {why}", index + 1);
             }
-            Err(Error::OutOfMemory) => return Ok(ExitCode::from(3)),
+            Err(_) => return Ok(ExitCode::from(3)),
         }
     }
     output.flush()?;

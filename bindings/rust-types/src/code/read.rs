@@ -5,12 +5,16 @@ mod refusal;
 use super::tag;
 use crate::inst::{Instance, LiteralInstance};
 use crate::signature::CallSignature;
+use crate::standard::Resolution;
 use crate::syntax::named::Named;
 use crate::syntax::{
     AccelerationStructureFlags, AccessMode, Enumerant, SampledType, Scalar, TexelFormat,
 };
 use crate::tplt::TpltParam;
 use crate::ty::{StructMemberType, StructType, TextureType, Type};
+use alloc::boxed::Box;
+use alloc::string::String;
+use alloc::vec::Vec;
 
 /// Takes codes from the front of words.
 pub(crate) struct Reader<'a> {
@@ -55,7 +59,7 @@ impl<'a> Reader<'a> {
         }
     }
 
-    pub(super) fn name(&mut self) -> Option<String> {
+    pub(crate) fn name(&mut self) -> Option<String> {
         let len = self.count()?;
         let (words, rest) = self.words.split_at_checked(len.div_ceil(4))?;
         let mut text: Vec<u8> = words.iter().copied().flat_map(u32::to_le_bytes).collect();
@@ -77,9 +81,19 @@ impl<'a> Reader<'a> {
         T::at(self.word()?.try_into().ok()?)
     }
 
+    /// The type. Scalars and vectors of scalars, which most are, have no further call.
+    #[inline]
     pub(crate) fn ty(&mut self) -> Option<Type> {
-        let head = self.head()?;
-        self.ty_from(head)
+        match self.head()? {
+            [tag::SCALAR, scalar, 0, 0] => Scalar::at(scalar).map(Type::from),
+            [tag::VEC, components, 0, 0] => match self.head()? {
+                [tag::SCALAR, scalar, 0, 0] => {
+                    Some(Type::vector(components, Type::from(Scalar::at(scalar)?)))
+                }
+                head => Some(Type::vector(components, self.ty_from(head)?)),
+            },
+            head => self.ty_from(head),
+        }
     }
 
     fn boxed(&mut self) -> Option<Box<Type>> {
@@ -166,6 +180,52 @@ impl<'a> Reader<'a> {
             0 => Some(None),
             1 => Some(Some(self.list(Reader::parameter)?)),
             _ => None,
+        }
+    }
+
+    /// What a call resolves to.
+    pub(crate) fn resolution(&mut self) -> Option<Resolution> {
+        let overload = self.index()?;
+        let parameters = self.list(Reader::ty)?;
+        let result = self.optional_ty()?;
+        Some(Resolution { overload, parameters, result })
+    }
+
+    /// The result alone of what a call resolves to.
+    pub(crate) fn result(&mut self) -> Option<Option<Type>> {
+        self.index()?;
+        for _ in 0..self.count()? {
+            self.skip_ty()?;
+        }
+        self.optional_ty()
+    }
+
+    /// The same of a call that has a result.
+    pub(crate) fn value(&mut self) -> Option<Type> {
+        self.result()?
+    }
+
+    fn index(&mut self) -> Option<usize> {
+        self.word()?.try_into().ok()
+    }
+
+    fn optional_ty(&mut self) -> Option<Option<Type>> {
+        match self.word()? {
+            0 => Some(None),
+            1 => self.ty().map(Some),
+            _ => None,
+        }
+    }
+
+    /// Goes behind a type, which is made only if it has more than layers.
+    fn skip_ty(&mut self) -> Option<()> {
+        loop {
+            match self.head()? {
+                [tag::VEC | tag::MAT | tag::ATOMIC | tag::PTR | tag::REF | tag::RUNTIME_ARRAY, ..] =>
+                    {}
+                [tag::SCALAR | tag::TEXTURE | tag::SAMPLER, ..] => return Some(()),
+                head => return self.ty_from(head).map(drop),
+            }
         }
     }
 

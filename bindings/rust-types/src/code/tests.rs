@@ -1,5 +1,7 @@
 //! The codes as they are defined, word by word.
 
+extern crate std;
+
 use super::{Reader, Words};
 use crate::error::Error;
 use crate::inst::{Instance, LiteralInstance};
@@ -11,6 +13,8 @@ use crate::syntax::{SampledType, Scalar, TexelFormat, UnaryOperator};
 use crate::tplt::TpltParam;
 use crate::ty::{SamplerType, StructMemberType, StructType, TextureType, Type};
 use crate::CallSignature;
+use std::prelude::v1::*;
+use std::vec;
 
 fn code(ty: &Type) -> Vec<u32> {
     written(|words| words.ty(ty))

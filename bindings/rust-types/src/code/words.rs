@@ -1,5 +1,7 @@
 //! A buffer of words.
 
+use alloc::vec::Vec;
+
 /// So many words fit the stack: most requests are shorter.
 const INLINE: usize = 32;
 

@@ -2,6 +2,7 @@
 
 use super::{tag, Words};
 use crate::inst::{Instance, LiteralInstance};
+use crate::standard::{Called, Operand};
 use crate::syntax::{AccelerationStructureFlags, Enumerant};
 use crate::tplt::TpltParam;
 use crate::ty::{StructType, TextureType, Type};
@@ -25,7 +26,7 @@ impl Words {
     }
 
     /// The number of bytes, and the bytes, four in a word.
-    pub(super) fn name(&mut self, name: &str) {
+    pub(crate) fn name(&mut self, name: &str) {
         self.number(name.len() as u64);
         for bytes in name.as_bytes().chunks(4) {
             self.push(bytes.iter().rev().fold(0, |word, &byte| word << 8 | u32::from(byte)));
@@ -36,10 +37,22 @@ impl Words {
         self.push(u32::from(index));
     }
 
+    /// The type. Scalars and vectors of scalars, which most are, have no further call.
+    #[inline]
     pub(crate) fn ty(&mut self, ty: &Type) {
         if let Some(scalar) = ty.scalar() {
             return self.head(tag::SCALAR, scalar as u8, 0, 0);
         }
+        if let Type::Vec(components, of) = ty {
+            if let Some(scalar) = of.scalar() {
+                self.head(tag::VEC, *components, 0, 0);
+                return self.head(tag::SCALAR, scalar as u8, 0, 0);
+            }
+        }
+        self.layered(ty);
+    }
+
+    fn layered(&mut self, ty: &Type) {
         match ty {
             Type::Struct(of) => self.structure(of),
             Type::Array(ty, None) => self.around(tag::RUNTIME_ARRAY, 0, 0, ty),
@@ -165,6 +178,49 @@ impl Words {
         self.name(name);
         self.template(tplt);
         self.types(args.iter());
+    }
+
+    fn called(&mut self, called: Called<'_>) {
+        let name = match called {
+            Called::Unary(operator) => {
+                self.push(0);
+                return self.operator(operator as u8);
+            }
+            Called::Binary(operator) => {
+                self.push(1);
+                return self.operator(operator as u8);
+            }
+            Called::Function(name) => {
+                self.push(2);
+                name
+            }
+            Called::Constructor(name) => {
+                self.push(3);
+                name
+            }
+        };
+        self.name(name);
+    }
+
+    /// A call by WGSL's own overloads: what is called, its template if it has one, and its operands.
+    #[inline]
+    pub(crate) fn call<'a>(
+        &mut self,
+        called: Called<'_>,
+        template: Option<&Type>,
+        operands: impl ExactSizeIterator<Item = &'a Operand>,
+    ) {
+        self.called(called);
+        self.push(u32::from(template.is_some()));
+        if let Some(template) = template {
+            self.number(1);
+            self.ty(template);
+        }
+        self.number(operands.len() as u64);
+        for operand in operands {
+            self.push(u32::from(operand.is_constant));
+            self.ty(&operand.ty);
+        }
     }
 }
 

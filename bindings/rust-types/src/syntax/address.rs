@@ -1,7 +1,7 @@
 //! Address spaces and access modes.
 
 use super::named::{named, read_by_name, Named};
-use std::str::FromStr;
+use core::str::FromStr;
 
 named! {
     /// An address space (WGSL, "Address Spaces"), including `handle` and naga's `push_constant`.

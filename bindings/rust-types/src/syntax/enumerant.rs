@@ -1,8 +1,8 @@
 //! The predeclared enumerants.
 
 use crate::syntax::{AccelerationStructureFlags, AccessMode, AddressSpace, TexelFormat};
-use std::fmt;
-use std::str::FromStr;
+use core::fmt;
+use core::str::FromStr;
 
 /// A predeclared enumerant (WGSL, "Predeclared Enumerants").
 #[derive(Clone, Copy, Debug, PartialEq, Eq, Hash)]

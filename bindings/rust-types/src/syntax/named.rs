@@ -38,8 +38,8 @@ macro_rules! named {
             }
         }
 
-        impl std::fmt::Display for $Name {
-            fn fmt(&self, f: &mut std::fmt::Formatter<'_>) -> std::fmt::Result {
+        impl core::fmt::Display for $Name {
+            fn fmt(&self, f: &mut core::fmt::Formatter<'_>) -> core::fmt::Result {
                 f.pad($crate::syntax::named::Named::name(*self))
             }
         }
@@ -49,7 +49,7 @@ macro_rules! named {
 /// Reads the values of an enumeration by their names.
 macro_rules! read_by_name {
     ($Name:ident) => {
-        impl std::str::FromStr for $Name {
+        impl core::str::FromStr for $Name {
             type Err = ();
 
             /// The value with exactly that name.

@@ -5,6 +5,8 @@ use crate::error::Error;
 use crate::syntax::{AccessMode, AddressSpace, Enumerant, SampledType, TexelFormat};
 use crate::tplt::TpltParam;
 use crate::ty::{TextureType, Type};
+use alloc::boxed::Box;
+use alloc::string::ToString;
 
 /// The template of naga's binding array: its element, and the number of elements if there is one.
 #[derive(Clone, Debug, PartialEq, Eq, Hash)]

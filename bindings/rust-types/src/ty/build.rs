@@ -1,6 +1,8 @@
 //! Types built in one call, and taken apart.
 
 use crate::ty::{StructMemberType, StructType, Type};
+use alloc::boxed::Box;
+use alloc::string::String;
 
 impl Type {
     /// A vector with that many components (WGSL, "Vector Types").

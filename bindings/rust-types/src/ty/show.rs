@@ -1,7 +1,7 @@
 //! How types are spelled.
 
 use crate::ty::{TextureType, Type};
-use std::fmt;
+use core::fmt;
 
 impl fmt::Display for Type {
     fn fmt(&self, f: &mut fmt::Formatter<'_>) -> fmt::Result {

@@ -1,6 +1,9 @@
 //! Random types and calls, and the words of a request for them.
+// Each test that has this module uses a part of it.
+#![allow(dead_code)]
 
 use wgsl_types_proved::inst::LiteralInstance;
+use wgsl_types_proved::standard::Operand;
 use wgsl_types_proved::syntax::{
     AccelerationStructureFlags, AccessMode, AddressSpace, BinaryOperator, Enumerant,
 };
@@ -102,6 +105,10 @@ pub struct Random(u64);
 impl Random {
     pub fn new(seed: u64) -> Random {
         Random(seed.wrapping_mul(0x9e37_79b9_7f4a_7c15) | 1)
+    }
+
+    pub fn number(&mut self, bound: usize) -> usize {
+        self.below(bound)
     }
 
     fn below(&mut self, bound: usize) -> usize {
@@ -222,6 +229,25 @@ impl Random {
                 },
             );
         (name, tplt, args.collect())
+    }
+
+    /// An operand, which is now and then a const-expression or a reference.
+    pub fn operand(&mut self) -> Operand {
+        let ty = self.value();
+        match self.below(8) {
+            0 => Operand::new(Type::Ref(self.of(&SPACES), Box::new(ty), self.of(&ACCESS_MODES))),
+            1..=4 => Operand::constant(ty),
+            _ => Operand::new(ty),
+        }
+    }
+
+    /// A name, a template and operands, for WGSL's own overloads.
+    pub fn standard_call(&mut self) -> (&'static str, Option<Type>, Vec<Operand>) {
+        let (name, _, arguments) = self.call();
+        let template = (self.below(4) == 0).then(|| self.value());
+        let operand = if self.below(2) == 0 { Operand::constant } else { Operand::new };
+        let operands = arguments.into_iter().map(operand).collect();
+        (name, template, operands)
     }
 
     fn parameter(&mut self, index: usize) -> TpltParam {

@@ -1,9 +1,11 @@
 #!/usr/bin/env python3
-"""Writes the structs of a WGSL file as a C header, as Rust or as numpy dtypes, from the JSON of ./wgsl_layout:
+"""Writes the structs of a WGSL file as a C header, as Rust or as numpy dtypes, from the JSON of wgsl_layout. This file is a
+program too, which needs no library:
 
-    ./wgsl_layout --json scene.wgsl | python3 wgsl_forms.py --c
+    ./wgsl_layout --json scene.wgsl | python3 bindings/python/wgsl/forms.py --c
 
-`./wgsl_layout --c scene.wgsl` does so. What is wrong in the file is told on standard error.
+`./wgsl_layout --c scene.wgsl` does so, and `python3 -m wgsl --c scene.wgsl` over the library. What is wrong in the file is
+told on standard error.
 
 Padding is written out, and what is written checks each offset and size when it is compiled or, for numpy, made. Vectors are
 arrays of their components, matrices arrays of columns with their padding. A runtime-sized array has one element. A `bool`
@@ -264,6 +266,34 @@ class NumpyWriter(Writer):
         return "\n".join(["import numpy", ""] + self.lines)
 
 
+def data_of(text, sizes, dtypes):
+    """A type as what `numpy.dtype` takes, where the dtypes of its structs are known."""
+    shape, _, _ = shape_of(text, sizes)
+    base = dtypes[shape.name] if shape.is_struct else SCALARS[shape.name][NUMPY]
+    counts = ()
+    for count, inside, stride in layers(shape, sizes):
+        if stride != inside:
+            base, counts = {"names": ["value"], "formats": [(base, counts)], "offsets": [0], "itemsize": stride}, ()
+        counts = (count, *counts)
+    return (base, counts) if counts else base
+
+
+def dtypes(document):
+    """The dtypes of the structs, by their names. Raises ImportError without numpy."""
+    import numpy  # only who asks for dtypes needs it
+
+    sizes, found = sizes_of(document), {}
+    for struct in in_order(document):
+        members = struct["members"]
+        found[struct["name"]] = numpy.dtype({
+            "names": [member["name"] for member in members],
+            "formats": [data_of(member["type"], sizes, found) for member in members],
+            "offsets": [member["offset"] for member in members],
+            "itemsize": struct["size"],
+        })
+    return found
+
+
 WRITERS = {"--c": CWriter, "--rust": RustWriter, "--numpy": NumpyWriter}
 
 
@@ -293,7 +323,7 @@ def written(document, form):
 
 def main():
     if len(sys.argv) != 2 or sys.argv[1] not in WRITERS:
-        print("usage: ./wgsl_layout --json FILE | python3 wgsl_forms.py --c | --rust | --numpy", file=sys.stderr)
+        print("usage: ./wgsl_layout --json FILE | python3 forms.py --c | --rust | --numpy", file=sys.stderr)
         return 64
     told = sys.stdin.read()
     if not told.startswith("{"):
@@ -306,7 +336,7 @@ def main():
     try:
         sys.stdout.write(written(document, sys.argv[1]))
     except Unknown as unknown:
-        print(f"wgsl_forms: {unknown} isn't in the JSON: leave out --struct", file=sys.stderr)
+        print(f"forms.py: {unknown} isn't in the JSON: leave out --struct", file=sys.stderr)
         return 2
     return 0
 

@@ -1,0 +1,175 @@
+//! The overload of a call, and its type.
+
+use super::{Called, NoOverload, Operand, Resolution};
+use crate::ask;
+use crate::code::{Reader, Words};
+use crate::ffi::Call;
+use crate::syntax::{BinaryOperator, UnaryOperator};
+use crate::ty::Type;
+
+/// What a binary expression resolves to.
+///
+/// ```
+/// use wgsl_types_proved::standard::{resolve_binary_op, Operand};
+/// use wgsl_types_proved::syntax::BinaryOperator::Multiplication;
+/// use wgsl_types_proved::Type;
+///
+/// let matrix = Operand::new(Type::matrix(2, 3, Type::F32));
+/// let vector = Operand::new(Type::vector(2, Type::AbstractInt));
+/// let product = resolve_binary_op(Multiplication, &matrix, &vector).unwrap();
+/// assert_eq!(product.parameters[1], Type::vector(2, Type::F32));
+/// assert_eq!(product.result, Some(Type::vector(3, Type::F32)));
+/// ```
+pub fn resolve_binary_op(
+    operator: BinaryOperator,
+    lhs: &Operand,
+    rhs: &Operand,
+) -> Result<Resolution, NoOverload> {
+    ask_for(Called::Binary(operator), None, [lhs, rhs], |words| words.resolution())
+}
+
+/// What a unary expression resolves to. `&` and `*` have no overloads.
+///
+/// ```
+/// use wgsl_types_proved::standard::{resolve_unary_op, Operand};
+/// use wgsl_types_proved::syntax::UnaryOperator::LogicalNegation;
+/// use wgsl_types_proved::Type;
+///
+/// let negated = resolve_unary_op(LogicalNegation, &Operand::new(Type::Bool)).unwrap();
+/// assert_eq!(negated.result, Some(Type::Bool));
+/// ```
+pub fn resolve_unary_op(
+    operator: UnaryOperator,
+    operand: &Operand,
+) -> Result<Resolution, NoOverload> {
+    ask_for(Called::Unary(operator), None, [operand], |words| words.resolution())
+}
+
+/// What a call of a built-in function resolves to. The template is that of `bitcast<T>(..)`.
+///
+/// ```
+/// use wgsl_types_proved::standard::{resolve_builtin_fn, Operand};
+/// use wgsl_types_proved::Type;
+///
+/// let arguments = [Type::AbstractInt, Type::F32, Type::AbstractFloat].map(Operand::new);
+/// let clamp = resolve_builtin_fn("clamp", None, &arguments).unwrap();
+/// assert_eq!(clamp.parameters, [Type::F32, Type::F32, Type::F32]);
+/// ```
+pub fn resolve_builtin_fn(
+    name: &str,
+    template: Option<&Type>,
+    arguments: &[Operand],
+) -> Result<Resolution, NoOverload> {
+    ask_for(Called::Function(name), template, arguments, |words| words.resolution())
+}
+
+/// What a constructor's call resolves to: `vec3(..)`, or with a template `vec3<f32>(..)`.
+///
+/// ```
+/// use wgsl_types_proved::standard::{resolve_ctor, Operand};
+/// use wgsl_types_proved::Type;
+///
+/// let arguments = [Operand::new(Type::vector(2, Type::F32)), Operand::new(Type::AbstractInt)];
+/// let vector = resolve_ctor("vec3", None, &arguments).unwrap();
+/// assert_eq!(vector.result, Some(Type::vector(3, Type::F32)));
+/// let vector = resolve_ctor("vec3", Some(&Type::F32), &arguments).unwrap();
+/// assert_eq!(vector.parameters, [Type::F32, Type::vector(2, Type::F32), Type::F32]);
+/// ```
+pub fn resolve_ctor(
+    name: &str,
+    template: Option<&Type>,
+    arguments: &[Operand],
+) -> Result<Resolution, NoOverload> {
+    ask_for(Called::Constructor(name), template, arguments, |words| words.resolution())
+}
+
+/// The type of a binary expression, without what its operands convert to.
+///
+/// ```
+/// use wgsl_types_proved::standard::{type_binary_op, Operand};
+/// use wgsl_types_proved::syntax::BinaryOperator::Addition;
+/// use wgsl_types_proved::Type;
+///
+/// let sum = type_binary_op(Addition, &Operand::new(Type::AbstractInt), &Operand::new(Type::F32));
+/// assert_eq!(sum, Ok(Type::F32));
+/// let truth = Operand::new(Type::Bool);
+/// let refused = type_binary_op(Addition, &truth, &truth).unwrap_err();
+/// assert_eq!(refused.to_string(), "no overload of `+` takes (bool, bool)");
+/// ```
+pub fn type_binary_op(
+    operator: BinaryOperator,
+    lhs: &Operand,
+    rhs: &Operand,
+) -> Result<Type, NoOverload> {
+    ask_for(Called::Binary(operator), None, [lhs, rhs], |words| words.value())
+}
+
+/// The type of a unary expression. `&` and `*` have no overloads.
+///
+/// ```
+/// use wgsl_types_proved::standard::{type_unary_op, Operand};
+/// use wgsl_types_proved::syntax::UnaryOperator::Negation;
+/// use wgsl_types_proved::Type;
+///
+/// let vector = Operand::new(Type::vector(3, Type::F32));
+/// assert_eq!(type_unary_op(Negation, &vector), Ok(vector.ty.clone()));
+/// assert!(type_unary_op(Negation, &Operand::new(Type::U32)).is_err());
+/// ```
+pub fn type_unary_op(operator: UnaryOperator, operand: &Operand) -> Result<Type, NoOverload> {
+    ask_for(Called::Unary(operator), None, [operand], |words| words.value())
+}
+
+/// The type of a call of a built-in function, or None if it has no value.
+///
+/// ```
+/// use wgsl_types_proved::standard::{type_builtin_fn, Operand};
+/// use wgsl_types_proved::Type;
+///
+/// let two = [Operand::new(Type::AbstractInt)];
+/// assert_eq!(type_builtin_fn("sqrt", None, &two), Ok(Some(Type::AbstractFloat)));
+/// let x = [Operand::new(Type::F32)];
+/// assert_eq!(type_builtin_fn("bitcast", Some(&Type::U32), &x), Ok(Some(Type::U32)));
+/// assert_eq!(type_builtin_fn("workgroupBarrier", None, &[]), Ok(None));
+/// ```
+pub fn type_builtin_fn(
+    name: &str,
+    template: Option<&Type>,
+    arguments: &[Operand],
+) -> Result<Option<Type>, NoOverload> {
+    ask_for(Called::Function(name), template, arguments, |words| words.result())
+}
+
+/// The type that a constructor makes. Those of arrays and structs have no overloads.
+///
+/// ```
+/// use wgsl_types_proved::standard::{type_ctor, Operand};
+/// use wgsl_types_proved::Type;
+///
+/// let ones = [Operand::new(Type::AbstractInt)];
+/// assert_eq!(type_ctor("vec3", Some(&Type::F16), &ones), Ok(Type::vector(3, Type::F16)));
+/// ```
+pub fn type_ctor(
+    name: &str,
+    template: Option<&Type>,
+    arguments: &[Operand],
+) -> Result<Type, NoOverload> {
+    ask_for(Called::Constructor(name), template, arguments, |words| words.value())
+}
+
+/// Asks for the resolution of a call.
+#[inline]
+fn ask_for<'a, T, Operands>(
+    called: Called<'_>,
+    template: Option<&Type>,
+    operands: Operands,
+    answer: impl FnOnce(&mut Reader<'_>) -> Option<T>,
+) -> Result<T, NoOverload>
+where
+    Operands: IntoIterator<Item = &'a Operand, IntoIter: ExactSizeIterator + Clone>,
+{
+    let operands = operands.into_iter();
+    let mut request = Words::new();
+    request.call(called, template, operands.clone());
+    let found = ask::option(Call::RESOLVE, &request, answer);
+    found.ok_or_else(|| NoOverload::new(called, template, operands))
+}

@@ -1,0 +1,128 @@
+//! Types from their spellings, and the layouts of a file.
+
+mod random;
+
+use random::Random;
+use wgsl_types_proved::source::{layouts, Message};
+use wgsl_types_proved::syntax::{AccessMode, AddressSpace};
+use wgsl_types_proved::ty::StructType;
+use wgsl_types_proved::Type;
+
+const ROUNDS: usize = 20_000;
+
+#[test]
+fn what_displays_is_read() {
+    let mut random = Random::new(8);
+    for _ in 0..ROUNDS {
+        let ty = random.ty(4);
+        let text = ty.to_string();
+        match text.parse::<Type>() {
+            Ok(read) => assert_eq!(read, ty),
+            Err(error) => assert!(has_no_spelling(&ty), "{text}: {error}"),
+        }
+    }
+}
+
+/// Whether a struct is in the type, or `handle`, or a number of components, none of which WGSL spells.
+fn has_no_spelling(ty: &Type) -> bool {
+    let is_count = |count: &u8| (2..=4).contains(count);
+    match ty {
+        Type::Struct(_) => true,
+        Type::Vec(count, _) if !is_count(count) => true,
+        Type::Mat(columns, rows, _) if !is_count(columns) || !is_count(rows) => true,
+        Type::Ptr(space, inner, _) | Type::Ref(space, inner, _) => {
+            *space == AddressSpace::Handle || has_no_spelling(inner)
+        }
+        Type::Array(inner, _)
+        | Type::Vec(_, inner)
+        | Type::Mat(_, _, inner)
+        | Type::Atomic(inner)
+        | Type::BindingArray(inner, _) => has_no_spelling(inner),
+        _ => false,
+    }
+}
+
+#[test]
+fn what_is_no_spelling_has_a_place() {
+    for (text, offset) in [("", 0), ("vec3<float>", 5), ("array<f32, 4", 12), ("S", 0)] {
+        let error = text.parse::<Type>().unwrap_err();
+        assert_eq!(error.offset, offset, "{text}: {error}");
+        assert_eq!(error.to_string(), format!("column {}: {}", offset + 1, error.message));
+        assert!(!error.message.is_empty());
+    }
+}
+
+const MODULE: &str = "
+struct Light { color: vec3f, power: f32, @align(16) cone: vec2f }
+struct Particles { count: u32, items: array<Light> }
+var<private> counter: i32;
+@group(0) @binding(1) var<storage, read_write> particles: Particles;
+@group(1) @binding(2) var map: texture_2d<f32>;
+@group(1) @binding(3) var<uniform> weights: array<f32, 3>;
+";
+
+#[test]
+fn a_module_is_laid_out() {
+    let module = layouts(MODULE);
+    let [light, particles] = &module.structs[..] else { panic!("{:?}", module.structs) };
+    let members = [
+        ("color", Type::vector(3, Type::F32)),
+        ("power", Type::F32),
+        ("cone", Type::vector(2, Type::F32)),
+    ];
+    let mut of = StructType::new("Light", members);
+    of.members[2].align = Some(16);
+    let layout = of.layout().unwrap();
+    assert_eq!(
+        (light.name.as_str(), light.size, light.align),
+        ("Light", layout.size, layout.align)
+    );
+    for (member, placed) in light.members.iter().zip(&layout.members) {
+        assert_eq!(
+            (member.offset, member.size, member.align),
+            (placed.offset, placed.size, placed.align)
+        );
+    }
+    assert_eq!((light.is_runtime_sized, particles.is_runtime_sized), (false, true));
+    let items = &particles.members[1];
+    assert_eq!((items.ty.as_str(), items.offset, items.stride), ("array<Light>", 16, Some(32)));
+    assert_eq!(particles.members[0].padding, 12);
+}
+
+#[test]
+fn variables_and_findings_are_told() {
+    let module = layouts(MODULE);
+    let variable = |name| module.variables.iter().find(|variable| variable.name == name).unwrap();
+    let particles = variable("particles");
+    assert_eq!((particles.group, particles.binding), (Some(0), Some(1)));
+    assert_eq!((particles.space, particles.access), (AddressSpace::Storage, AccessMode::ReadWrite));
+    assert_eq!((particles.ty.as_str(), particles.min_binding_size), ("Particles", Some(48)));
+    assert_eq!(variable("map").space, AddressSpace::Handle);
+    assert!(module.errors.is_empty(), "{:?}", module.errors);
+    let [Message { line: 7, text, .. }] = &module.findings[..] else {
+        panic!("{:?}", module.findings)
+    };
+    assert!(text.contains("stride 4"), "{text}");
+}
+
+#[test]
+fn faults_are_told_and_reading_goes_on() {
+    let module = layouts("struct A { a: \"x\", }\nstruct B { b: f32 }");
+    assert_eq!(module.structs.len(), 1);
+    let [error] = &module.errors[..] else { panic!("{:?}", module.errors) };
+    assert_eq!((error.line, error.column), (1, 15));
+    assert!(error.to_string().starts_with("1:15: "));
+    let [error] = &layouts(b"struct A { \xff }").errors[..] else { panic!() };
+    assert_eq!((error.line, error.column), (1, 12));
+    let empty = layouts("");
+    assert!(empty.structs.is_empty() && empty.variables.is_empty() && empty.errors.is_empty());
+}
+
+#[test]
+fn large_modules_need_more_room_than_text() {
+    let structs: String =
+        (0..2000).map(|index| format!("struct S{index}{{a:f32,b:u32}}")).collect();
+    let module = layouts(structs);
+    assert_eq!(module.structs.len(), 2000);
+    assert!(module.structs.iter().all(|of| of.size == 8));
+}

@@ -1,0 +1,81 @@
+"""Uses of ./package."""
+import os
+import tarfile
+
+from use import add, equal, expect, read
+
+PROGRAMS = ["wgsl_check", "wgsl_layout", "wgsl_standard"]
+
+
+def _makes(use, folder, *said):
+    expect(use.run("./package", folder), 0, "", *said)
+    version = read(use.path("VERSION")).strip()
+    wheel = f"wgsl-{version}-py3-none-manylinux_2_17_x86_64.whl"
+    names = ["SHA256SUMS", f"wgsl-{version}-bindings.tar.gz", wheel, f"wgsl-{version}-x86_64-linux.tar.gz"]
+    equal(sorted(os.listdir(use.path(folder))), names)
+    return [use.path(folder, name) for name in names]
+
+
+def packages_made_twice(use):
+    """Nothing is proved a second time, and the second packages are the first."""
+    first = _makes(use, "one", "wgsl_c is proved", "wgsl_check is proved", "wgsl_layout is proved", "wgsl_standard_check is proved")
+    use.calls()
+    second = _makes(use, "two")
+    equal(use.calls(), [])
+    for one, two in zip(first, second):
+        with open(one, "rb") as file, open(two, "rb") as other:
+            assert file.read() == other.read(), f"{one} differs"
+    with tarfile.open(first[3]) as packed:
+        found = packed.getnames()
+    equal(sorted(os.path.basename(name) for name in found if "/bin/" in name), PROGRAMS)
+
+
+def packages_after_a_change_of_a_binding(use):
+    first = _makes(use, "one", "wgsl_c is proved")
+    use.calls()
+    add(use.path("bindings", "python", "wgsl", "values.py"), "# changed\n")
+    second = _makes(use, "two")
+    equal(use.calls(), [])
+    equal([read(one) == read(two) for one, two in zip(first[:1], second[:1])], [False])
+
+
+def help_is_asked_for(use):
+    for option in ("--help", "-h"):
+        status, printed, said = use.run("./package", option)
+        equal((status, said), (0, ""))
+        for text in ("usage: ./package FOLDER", ".tar.gz", "SHA256SUMS", "64"):
+            assert text in printed, printed
+    equal(use.calls(), [])
+
+
+def _wrong_use(use, *arguments):
+    expect(use.run("./package", *arguments), 64, "", "package: it takes", "./package --help")
+    equal(use.calls(), [])
+
+
+def no_folder(use):
+    _wrong_use(use)
+
+
+def two_folders(use):
+    _wrong_use(use, "one", "two")
+
+
+def unknown_option(use):
+    _wrong_use(use, "--release")
+
+
+def folder_that_is_a_file(use):
+    expect(use.run("./package", "crates.txt"), 4, "", "package: cannot write in crates.txt")
+    equal(use.calls(), [])
+
+
+def no_toolchain(use):
+    use.without("rt")
+    expect(use.run("./package", "made"), 4, "", "there is no `rt` on the path")
+
+
+def proof_that_fails(use):
+    use.say("fails-wgsl_check")
+    expect(use.run("./package", "made"), 4, "", "package: wgsl_check could not be proved and built")
+    equal(os.listdir(use.path("made")), [])
