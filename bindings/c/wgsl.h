@@ -88,6 +88,20 @@ uint8_t wgsl_call(const uint32_t *request, size_t request_len, uint32_t *room, s
 uint8_t wgsl_size(const uint32_t *request, size_t request_len, uint32_t *room, size_t room_len, size_t *len);
 uint8_t wgsl_layout(const uint32_t *request, size_t request_len, uint32_t *room, size_t room_len, size_t *len);
 
+/* Three calls over texts of WGSL. The caller owes what it owes for wgsl_answer, but WGSL_SOURCE_STACK bytes of stack.
+ *
+ * wgsl_source_layout writes what `./wgsl_layout --json` prints of a module, with an empty name of the file: the layouts of
+ * its structs, where its variables are bound, and what is wrong, each with its line. README.md has the fields. It returns
+ * WGSL_ANSWERED for every text, WGSL_OUT_OF_MEMORY or WGSL_NO_ROOM.
+ *
+ * wgsl_read_type reads a type without structs as messages spell it, `array<vec3<f32>, 4>`, and writes its code. It returns
+ * WGSL_UNREADABLE for every other text, and wgsl_explain_type says why: `column 1: the type is spelled `vec3<f32>``, of
+ * `vec3f`. That one returns WGSL_UNREADABLE if the text is read. All lengths but that of a code are in bytes. */
+enum { WGSL_SOURCE_STACK = 512 * 1024 };
+uint8_t wgsl_source_layout(const uint8_t *text, size_t text_len, uint8_t *json, size_t room_len, size_t *json_len);
+uint8_t wgsl_read_type(const uint8_t *text, size_t text_len, uint32_t *room, size_t room_len, size_t *len);
+uint8_t wgsl_explain_type(const uint8_t *text, size_t text_len, uint8_t *room, size_t room_len, size_t *why_len);
+
 /* The lowest byte of a code's first word. The three bytes above it are small numbers, or 0. After the word come the parts,
  * in the order listed here, behind the semicolon. A number is two words, the lower first; an attribute is 0, or 1 and its
  * word; a name is the number of its bytes, and those, four in a word, filled up with zeros; a list is the number of its

@@ -2,36 +2,7 @@
  * wrapped. The call says so, writes nothing and keeps nothing, and the same call then answers as before. Prints how many
  * requests for memory each call makes, one number per line. */
 #include "requests.h"
-
-static long asked, live, refused = -1, refused_from = -1;
-
-void *__real_malloc(size_t size);
-void *__real_realloc(void *old, size_t size);
-void __real_free(void *at);
-
-static int is_refused(void) {
-    asked++;
-    return asked == refused || (refused_from >= 0 && asked >= refused_from);
-}
-
-void *__wrap_malloc(size_t size) {
-    if (is_refused()) return NULL;
-    void *at = __real_malloc(size);
-    live += at != NULL;
-    return at;
-}
-
-void *__wrap_realloc(void *old, size_t size) {
-    if (is_refused()) return NULL;
-    void *at = __real_realloc(old, size);
-    live += !old && at;
-    return at;
-}
-
-void __wrap_free(void *at) {
-    live -= at != NULL;
-    __real_free(at);
-}
+#include "wrapped.h"
 
 static Unit wanted[LONG_ANSWER], room[LONG_ANSWER];
 

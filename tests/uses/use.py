@@ -12,7 +12,8 @@ STAND_IN = os.path.join(HERE, "stand_in")
 # The crates that the program stands on, in the order of their proofs; and what the toolchain is asked if all are proved.
 BELOW = ["wgsl_syntax", "wgsl_rules", "wgsl_core", "wgsl_calls", "wgsl_standard", "wgsl_types", "wgsl_asked", "wgsl_requests"]
 PROGRAM = [f"rt lib {crate}" for crate in BELOW] + ["rt run wgsl_check"]
-LIBRARY = [f"rt lib {crate}" for crate in BELOW + ["wgsl_coded", "wgsl_c"]]
+BELOW_C = BELOW + ["wgsl_coded", "wgsl_tokens", "wgsl_source", "wgsl_spaces", "wgsl_report"]
+LIBRARY = [f"rt lib {crate}" for crate in BELOW_C + ["wgsl_c"]]
 # What a use gives to standard input, and what the stand-in for the program answers.
 GIVEN, ANSWERS = "a\nb\n", "answer to a\nanswer to b\n"
 # The programs that the scripts call, for uses that lack one.
@@ -131,7 +132,7 @@ class Use:
         """Leaves what the gate leaves: libraries without stamps, and the program without a list."""
         os.makedirs(os.path.dirname(self.program))
         shutil.copy(os.path.join(STAND_IN, "program"), self.program)
-        rlibs = [self.path("crates", crate, "out", "rlib", crate + ".rlib") for crate in BELOW + ["wgsl_coded"]]
+        rlibs = [self.path("crates", crate, "out", "rlib", crate + ".rlib") for crate in BELOW_C]
         for rlib in rlibs:
             os.makedirs(rlib)
         for made in [self.program, *rlibs]:

@@ -1,0 +1,70 @@
+/* Asks for the layouts of the deepest modules and for the deepest types, on a thread with the stack that wgsl.h promises to be
+ * enough, and prints how much the deepest takes. It fails if that is more than half of what is promised. */
+#include "stack.h"
+
+enum { ROOM = 1 << 20, DEEP = 300 };
+
+static char text[ROOM];
+static uint32_t room[ROOM];
+static size_t len;
+static int status, reads_type;
+
+static void *ask(void *none) {
+    const uint8_t *at = (const uint8_t *)text;
+    status = reads_type ? wgsl_read_type(at, strlen(text), room, ROOM, &len)
+                        : wgsl_source_layout(at, strlen(text), (uint8_t *)room, ROOM, &len);
+    return none;
+}
+
+/* What stands in front of a text, around its middle, and behind. */
+static const char *const forms[][5] = {
+    {"struct S { a: ", "array<", "f32", ", 1>", " }"},
+    {"var<storage> a: ", "array<", "f32", ", 1>", ";"},
+    {"@group(0) @binding(0) var<uniform> a: ", "array<", "f32", ", 1>", ";"},
+    {"var<private> a: ", "ptr<function, ", "f32", ">", ";"},
+    {"const A = ", "(", "1", ")", "; struct S { a: array<f32, A> }"},
+    {"const A = ", "-", "1", "", "; struct S { a: array<f32, A> }"},
+    {"const A = ", "min(1, ", "1", ")", "; struct S { a: array<f32, A> }"},
+    {"const A = ", "u32(1 + ", "1", ")", "; struct S { a: array<f32, A> }"},
+    {"fn f() { ", "{ (", "a", ") }", " }"},
+    {"/* ", "/* ", "a", " */", " */ struct S { a: f32 }"},
+    {"", "array<", "f32", ", 1>", ""},
+    {"", "ptr<function, ", "f32", ", read_write>", ""},
+    {"", "vec2<", "f32", ">", ""},
+    {"", "atomic<", "f32", ">", ""},
+};
+
+static void write_text(const char *const form[5], int deep) {
+    char *to = stpcpy(text, form[0]);
+    for (int i = 0; i < deep; i++) to = stpcpy(to, form[1]);
+    to = stpcpy(to, form[2]);
+    for (int i = 0; i < deep; i++) to = stpcpy(to, form[3]);
+    stpcpy(to, form[4]);
+}
+
+/* Structs, each with the one before. */
+static void write_structs(int count) {
+    char *to = stpcpy(text, "struct S0 { a: f32 }");
+    for (int i = 1; i < count; i++) to += sprintf(to, "struct S%d { a: S%d, b: S%d }", i, i - 1, i - 1);
+    sprintf(to, "@group(0) @binding(0) var<storage> v: S%d;", count - 1);
+}
+
+static size_t most_touched(size_t base) {
+    size_t most = 0;
+    for (size_t f = 0; f <= sizeof forms / sizeof *forms; f++)
+        for (int deep = 100; deep <= DEEP; deep++) {
+            if (f < sizeof forms / sizeof *forms) write_text(forms[f], deep);
+            else write_structs(deep / 15);
+            reads_type = f < sizeof forms / sizeof *forms && !forms[f][0][0];
+            size_t taken = touched(ask, WGSL_SOURCE_STACK) - base;
+            if (status != WGSL_ANSWERED && !(reads_type && status == WGSL_UNREADABLE)) exit(printf("status %d of %.60s\n", status, text));
+            if (taken > most) most = taken;
+        }
+    return most;
+}
+
+int main(void) {
+    size_t most = most_touched(touched(idle, WGSL_SOURCE_STACK));
+    printf("%zu bytes of stack at most\n", most);
+    return most > WGSL_SOURCE_STACK / 2;
+}
