@@ -33,7 +33,7 @@ def second_build(use):
 
 
 def prefix(use):
-    expect(use.run("./build_library", "--prefix", "a prefix"), 0, "", "10 of 10")
+    expect(use.run("./build_library", "--prefix", "a prefix"), 0, "", "14 of 14")
     found = [os.path.join(at, name) for at, _, names in os.walk(use.path("a prefix")) for name in names]
     equal(sorted(os.path.relpath(path, use.path("a prefix")) for path in found), INSTALLED)
     assert "Version: " + read(use.path("VERSION")) in read(use.path("a prefix", "lib", "pkgconfig", "wgsl.pc"))
