@@ -74,7 +74,12 @@ impl<'a> Reader<'a> {
     /// As many items as the number before them says.
     pub(crate) fn list<T>(&mut self, item: impl Fn(&mut Self) -> Option<T>) -> Option<Vec<T>> {
         let count = self.count()?;
-        (0..count).map(|_| item(self)).collect()
+        // Each item has a word or more, so a wrong number takes no memory.
+        let mut items = Vec::with_capacity(count.min(self.words.len()));
+        for _ in 0..count {
+            items.push(item(self)?);
+        }
+        Some(items)
     }
 
     fn operator<T: Named>(&mut self) -> Option<T> {
