@@ -2,10 +2,9 @@
 #![tactic(auto)]
 
 pub mod command;
+mod fast;
 pub mod laws;
 mod leaf;
-mod marks;
-mod number;
 mod outer;
 pub mod read;
 mod report;

@@ -1,11 +1,10 @@
 // The first word of a text.
-ghost use Rattle.std.specs.Prelude.{◌≡◌, ◌+◌, ◌<◌, ◌≤◌, ◌∷◌, ◌↔◌, [], All, IfSome, IsTrue, MatchOption, drop, length, not};
+ghost use Rattle.std.specs.Prelude.{◌≡◌, ◌<◌, ◌≤◌, ◌∷◌, ◌↔◌, [], IfSome, IsTrue, MatchOption, drop, length, not};
 ghost use Rattle.std.specs.List.{take_while};
 ghost use Rattle.std.specs.Str.{IsCharBoundary};
-ghost use Rattle.wgsl_requests.specs.internal.Lanes.{AllFrom};
 ghost use Rattle.wgsl_requests.specs.Words.{has_line_feed, is_line_feed, is_separator, words_of};
 
-use std::simd::Simd;
+use crate::fast::line_feeds::are_great;
 
 /// The first word of a text, and the index after it.
 #[inline(always)]
@@ -62,43 +61,6 @@ pub fn has_line_feed(bytes: &[u8]) -> bool
     ensures { result ≡ has_line_feed bytes.now }
 {
     !are_great(bytes) && bytes.iter().any(|byte| is_line_feed(*byte))
-}
-
-/// Whether each byte is greater than a line feed, as far as 16 or 8 can be compared at a time.
-fn are_great(bytes: &[u8]) -> bool
-    ensures { IsTrue result → All (λ byte. 10 < byte) bytes.now }
-{
-    let len = bytes.len();
-    if len >= 16 {
-        are_great_up_to(bytes, len - 16) && next_are_great::<16>(bytes, len - 16)
-    } else {
-        len >= 8 && next_are_great::<8>(bytes, 0) && next_are_great::<8>(bytes, len - 8)
-    }
-}
-
-/// Whether each byte before the end is greater than a line feed. The bytes are compared 16 at a time.
-fn are_great_up_to(bytes: &[u8], end: usize) -> bool
-    requires { end + 16 ≤ length bytes.now }
-    ensures { IsTrue result → AllFrom (λ byte. 10 < byte) 0 end bytes.now }
-{
-    let mut at = 0;
-    while at < end {
-        if !next_are_great::<16>(bytes, at) {
-            return false;
-        }
-        at += 16;
-    }
-    true
-}
-
-/// Whether each of the next N bytes is greater than a line feed.
-fn next_are_great<const N: usize>(bytes: &[u8], at: usize) -> bool
-    requires few { (0 < N) × (N ≤ 64) }
-    requires room { at + N ≤ length bytes.now }
-    ensures { IsTrue result → AllFrom (λ byte. 10 < byte) at (at + N) bytes.now }
-{
-    let small = Simd::<u8, N>::from_slice(&bytes[at..]).simd_le(Simd::splat(b'\n'));
-    small.to_bitmask() == 0
 }
 
 fn is_line_feed(byte: u8) -> bool

@@ -6,7 +6,7 @@ ghost use Rattle.wgsl_requests.specs.Reading.{Answers, OneWord, Reads, ReadsWord
 ghost use Rattle.wgsl_requests.specs.Words.{words_of};
 ghost use Rattle.wgsl_requests.specs.internal.Marks.{IsMarked, marks_of};
 
-use crate::marks::{first_marked, is_marked, marks};
+use crate::fast::marks::{first_marked, is_marked, marks};
 use crate::split::{first_word, is_blank};
 use crate::wanted::{Misfit, Wanted};
 use std::alloc::{AllocError, AllocFailed};

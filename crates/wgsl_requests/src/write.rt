@@ -10,7 +10,7 @@ ghost use Rattle.wgsl_requests.specs.Layouts.{spaced};
 ghost use Rattle.wgsl_requests.specs.Texts.{answer_text, or_none, value_text};
 ghost use Rattle.wgsl_requests.specs.internal.Written.{IsRefusal};
 
-use crate::number::write_number;
+use crate::fast::number::write_number;
 use crate::report::write_layout;
 use std::alloc::AllocError;
 use wgsl_asked::answers::{Answer, Operands};

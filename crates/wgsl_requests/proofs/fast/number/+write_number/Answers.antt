@@ -1,8 +1,8 @@
 use Rattle.std.proofs.Common.{◌≡◌, ◌∙◌, ◌+◌, ◌%◌, ◌∷◌, ◌++◌, [], ap, arith, decimal, string_bytes}
 use Rattle.wgsl_requests.proofs.Digits.{last_digit, one_digit}
 use Rattle.wgsl_requests.proofs.Written.{on_ok, pushed}
-use Rattle.wgsl_requests.proofs.number.+write_number.Goals.{then-number-ge10+in_ok-write_number, else-number-ge10}
-use Rattle.wgsl_requests.proofs.number.+write_number.Goals as goal
+use Rattle.wgsl_requests.proofs.fast.number.+write_number.Goals.{then-number-ge10+in_ok-write_number, else-number-ge10}
+use Rattle.wgsl_requests.proofs.fast.number.+write_number.Goals as goal
 
 pub returns : goal.returns
 returns t c =

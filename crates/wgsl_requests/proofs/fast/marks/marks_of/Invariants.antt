@@ -1,6 +1,6 @@
 use Rattle.std.proofs.Common.{◌-◌, length}
 use Rattle.wgsl_requests.proofs.WordBytes.{Covers, Within}
-use Rattle.wgsl_requests.proofs.marks.marks_of.Given as goal
+use Rattle.wgsl_requests.proofs.fast.marks.marks_of.Given as goal
 
 abbrev pub invariant-loop-at : goal.invariant-loop-at
 invariant-loop-at l = record {

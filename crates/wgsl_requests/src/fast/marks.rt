@@ -1,4 +1,5 @@
-// Texts whose bytes are marked, so that a word is found without a look at its bytes.
+// Texts whose bytes are marked, so that a word is found without a look at its bytes: `ctor vec4` of a vector and two scalars
+// takes 2704 instructions of 2990, a rank of scalars 719 of 815.
 ghost use Rattle.std.specs.Prelude.{◌≡◌, ◌+◌, ◌<◌, ◌≤◌, ◌∷◌, ◌↔◌, [], IfSome, IsTrue, MatchOption, drop, length};
 ghost use Rattle.std.specs.Simd.Lanes.{chunk};
 ghost use Rattle.std.specs.Str.{IsCharBoundary};

@@ -2,7 +2,7 @@ use Rattle.std.proofs.Common.{ℕ, eqb, not, w8}
 use Rattle.std.specs.Simd.Lanes.{chunk}
 use Rattle.std.proofs.lemmas.Simd.{bitmask_splat, length-chunk}
 use Rattle.wgsl_requests.proofs.WordBytes.{three_marks}
-use Rattle.wgsl_requests.proofs.marks.next_marks.Goals as goal
+use Rattle.wgsl_requests.proofs.fast.marks.next_marks.Goals as goal
 
 pub returns : goal.returns
 returns g c =

@@ -2,7 +2,7 @@ use Rattle.std.proofs.Common.{leb, w8}
 use Rattle.std.specs.Simd.Lanes.{chunk}
 use Rattle.std.proofs.lemmas.Simd.{bitmask_splat, length-chunk}
 use Rattle.wgsl_requests.proofs.Lanes.{great_from_mask}
-use Rattle.wgsl_requests.proofs.split.next_are_great.Goals as goal
+use Rattle.wgsl_requests.proofs.fast.line_feeds.next_are_great.Goals as goal
 
 pub returns : goal.returns
 returns g c =

@@ -1,6 +1,6 @@
 use Rattle.std.proofs.Common.{◌+◌, ◌-◌, ◌≤◌, arith, length}
 use Rattle.wgsl_requests.proofs.WordBytes.{all_marked, covers_back, covers_both, covers_first, covers_front, covers_nothing, covers_placed, covers_second, within_back, within_front, within_or, within_placed}
-use Rattle.wgsl_requests.proofs.marks.marks_of.Goals as goal
+use Rattle.wgsl_requests.proofs.fast.marks.marks_of.Goals as goal
 
 pub returns-then-len-lt16 : goal.returns-then-len-lt16
 returns-then-len-lt16 c =

@@ -7,7 +7,7 @@ use Rattle.wgsl_requests.specs.Words.{words_of}
 use Rattle.wgsl_requests.proofs.Cuts.{gap_boundary, word_boundary, word_has_bytes}
 use Rattle.wgsl_requests.proofs.FirstWord.{words_of-first}
 use Rattle.wgsl_requests.proofs.WordBytes.{gap_is, none_marked, parted}
-use Rattle.wgsl_requests.proofs.marks.first_marked.Goals as goal
+use Rattle.wgsl_requests.proofs.fast.marks.first_marked.Goals as goal
 
 pub returns-then-marks-eq0-clause-words : goal.returns-then-marks-eq0-clause-words
 returns-then-marks-eq0-clause-words c = none_marked c.args.text.now (sym c.requires.marked ∙ c.if-marks-eq0.true)
