@@ -9,3 +9,5 @@ pub mod Seen
 pub mod Within
 pub mod Layouts
 pub mod Callees
+pub mod StandardCalls
+pub mod Overloaded
