@@ -11,3 +11,6 @@ pub mod Layouts
 pub mod Callees
 pub mod StandardCalls
 pub mod Overloaded
+pub mod PlainCalls
+pub mod Texts
+pub mod ReadRefusals

@@ -8,6 +8,8 @@ ghost use Rattle.wgsl_coded.specs.Replies.{IsOverloadsReply, IsReplyTo, IsResolv
 ghost use Rattle.wgsl_coded.specs.Requests.{whole};
 ghost use Rattle.wgsl_coded.specs.Seen.{reply_words, seen};
 
+use crate::fast::callees::read_plain_call;
+use crate::fast::resolved::{resolve_one, resolve_three, resolve_two};
 use crate::fault::Fault;
 use crate::names::read_name;
 use crate::overloaded::{ReadCall, borrowed_operands, read_standard_call};
@@ -17,8 +19,25 @@ use std::alloc::Global;
 use wgsl_asked::requests::{Call, Request};
 
 /// The overload that a call has, the types of its parameters and its result; refused without words if none takes the
-/// operands. The request is the call.
+/// operands. The request is the call. If it is plain, nothing is allocated for its name and for the list of its operands.
+#[inline(always)]
 pub fn resolve(alloc: Global, request: &[u32]) -> Result<Reply, Fault>
+    ensures { IsResolveReply request.now (seen reply_words result) }
+{
+    let Some((callee, count, words)) = read_plain_call(request) else {
+        return resolve_any(alloc, request);
+    };
+    match count {
+        1 => resolve_one(alloc, callee.borrowed(), words),
+        2 => resolve_two(alloc, callee.borrowed(), words),
+        3 => resolve_three(alloc, callee.borrowed(), words),
+        _ => resolve_any(alloc, request),
+    }
+}
+
+/// The reply to a call, with a template or without one, and any number of operands.
+#[inline(never)]
+fn resolve_any(alloc: Global, request: &[u32]) -> Result<Reply, Fault>
     ensures { IsResolveReply request.now (seen reply_words result) }
 {
     let call = read_standard_call(alloc, request)?;
