@@ -142,7 +142,10 @@ fn read_bounds(alloc: Global, words: &[u32]) -> InFront<'_>
     let (ty, rest) = read_type(alloc, rest, DEPTH)?;
     match read_number(rest) {
         Some((count, rest)) => {
-            Ok((ReadRefusal::Whole(Error::OutOfBounds(index, ty, count)), rest))
+            Ok((
+                ReadRefusal::Whole(Error::OutOfBounds(index, ty, count)),
+                rest,
+            ))
         }
         None => {
             drop(ty);
@@ -231,7 +234,10 @@ fn read_counts(alloc: Global, words: &[u32]) -> InFront<'_>
     let Some((count, rest)) = read_number(rest) else {
         return Err(Fault::NoType);
     };
-    Ok((ReadRefusal::Whole(Error::ParamCount(name, expected, count)), rest))
+    Ok((
+        ReadRefusal::Whole(Error::ParamCount(name, expected, count)),
+        rest,
+    ))
 }
 
 /// The refusal of that kind, whose fields the words begin with, and the words after it.

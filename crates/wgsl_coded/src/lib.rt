@@ -35,6 +35,6 @@ pub use fault::Fault;
 pub use refusals::write_error;
 pub use reply::Reply;
 pub use signatures::write_signature;
-pub use standard::{overloads, resolve, why};
 pub use spelling::{message, spell};
+pub use standard::{overloads, resolve, why};
 pub use writing::write;

@@ -12,8 +12,8 @@ ghost use Rattle.wgsl_coded.specs.Requests.{all_types, binary_expression, call_s
 use crate::coded::{DEPTH, read_whole};
 use crate::fault::Fault;
 use crate::heads::read_scalar;
-use crate::reading::read_type;
 use crate::parts::read_list;
+use crate::reading::read_type;
 use crate::signatures::read_signature;
 use std::alloc::Global;
 use wgsl_core::signature::CallSignature;

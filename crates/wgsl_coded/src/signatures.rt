@@ -97,7 +97,10 @@ impl ReadPart for TpltParam {
 }
 
 /// A template, or that there is none.
-pub(crate) fn read_template(alloc: Global, words: &[u32]) -> Result<(Option<Vec<TpltParam>>, &[u32]), Fault>
+pub(crate) fn read_template(
+    alloc: Global,
+    words: &[u32],
+) -> Result<(Option<Vec<TpltParam>>, &[u32]), Fault>
     ensures { Reads (λ t. (option_map (λ ps. map parameter_view ps.items) t.0, t.1.now)) result
         (template_at (decode 255) words.now) }
 {

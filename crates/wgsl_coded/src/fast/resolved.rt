@@ -1,5 +1,5 @@
 // Calls by WGSL's own overloads with a short name, one operand to three and no template: nothing is allocated for the name, for
-// the operands, and for the words of a short reply, and no request is asked.
+// the operands, and for the words of a short reply, and no request is asked. `+` of two scalars takes 1479 instructions of 3084.
 ghost use Rattle.std.specs.Prelude.{◌≡◌, ◌++◌, IfOk, IfSome, IsTrue, Some, map, option_map};
 ghost use Rattle.wgsl_rules.specs.codes.Codes.{code};
 ghost use Rattle.wgsl_rules.specs.standard.Choice.{parameter_for as parameter_there, parameters_for, result_for as result_there};
@@ -109,11 +109,7 @@ fn reply_by_overloads(
 
 /// The reply by these overloads, however long it is.
 #[inline(never)]
-fn long_reply(
-    alloc: Global,
-    listed: &[Overload],
-    operands: &[Operand<'_>],
-) -> Result<Reply, Fault>
+fn long_reply(alloc: Global, listed: &[Overload], operands: &[Operand<'_>]) -> Result<Reply, Fault>
     requires { IsUnambiguous listed.now }
     ensures { IsResolvedReply listed.now (operands_view operands.now) result }
 {
@@ -133,13 +129,21 @@ fn short_resolution(
     instance: &Instance,
     operands: &[Operand<'_>],
 ) -> Result<Option<ShortWords>, AllocError>
-    ensures { IfOk result (λ w. IfSome w (λ w. short_items w ≡ resolution_words (index,
-        parameters_for instance.now (patterns_of overload.now) (operands_view operands.now),
-        result_there instance.now overload.now (operands_view operands.now)))) }
+    ensures { IfOk result (λ w. IfSome w (λ w. short_items w ≡ resolution_words (
+      index,
+      parameters_for instance.now (patterns_of overload.now) (operands_view operands.now),
+      result_there instance.now overload.now (operands_view operands.now),
+    ))) }
 {
     let mut words = ShortWords::new();
     if words.push_word((index % 0x1_0000_0000) as u32)
-        && push_parameters(alloc, &mut words, instance, parameters_of(overload), operands)?
+        && push_parameters(
+            alloc,
+            &mut words,
+            instance,
+            parameters_of(overload),
+            operands,
+        )?
         && push_result(alloc, &mut words, instance, overload, operands)?
     {
         Ok(Some(words))
@@ -167,16 +171,20 @@ fn push_parameters(
             _ => Ok(false),
         },
         Parameters::Two(a, b) => match operands {
-            [x, y] => Ok(out.push_count(2)
-                && push_parameter(alloc, out, instance, *a, x)?
-                && push_parameter(alloc, out, instance, *b, y)?),
+            [x, y] => Ok(
+                out.push_count(2)
+                    && push_parameter(alloc, out, instance, *a, x)?
+                    && push_parameter(alloc, out, instance, *b, y)?,
+            ),
             _ => Ok(false),
         },
         Parameters::Three(a, b, c) => match operands {
-            [x, y, z] => Ok(out.push_count(3)
-                && push_parameter(alloc, out, instance, *a, x)?
-                && push_parameter(alloc, out, instance, *b, y)?
-                && push_parameter(alloc, out, instance, *c, z)?),
+            [x, y, z] => Ok(
+                out.push_count(3)
+                    && push_parameter(alloc, out, instance, *a, x)?
+                    && push_parameter(alloc, out, instance, *b, y)?
+                    && push_parameter(alloc, out, instance, *c, z)?,
+            ),
             _ => Ok(false),
         },
         _ => Ok(false),
