@@ -1,4 +1,4 @@
-/* Prints how many nanoseconds of processor time a call of the library takes, for ten requests in text and four in numbers,
+/* Prints how many nanoseconds of processor time a call of the library takes, for ten requests in text and seven in numbers,
  * the best of five rounds. With the index of a call in numbers, and how often to make it, it makes that call alone and prints its
  * name. */
 #include "wgsl_codes.h"
@@ -91,6 +91,37 @@ static void ask_layout(void) {
     wgsl_scalar(&words, WGSL_SCALAR_F32);
 }
 
+static void operands(int constant, int a, int b) {
+    wgsl_operand(&words, constant);
+    wgsl_scalar(&words, a);
+    wgsl_operand(&words, 0);
+    wgsl_scalar(&words, b);
+}
+
+static void resolve_sum(void) {
+    call = wgsl_standard_resolve;
+    wgsl_binary_expression(&words, WGSL_BINARY_ADDITION);
+    operands(1, WGSL_SCALAR_ABSTRACT_INT, WGSL_SCALAR_F32);
+}
+
+static void resolve_clamp(void) {
+    call = wgsl_standard_resolve;
+    wgsl_call_of(&words, WGSL_CALLEE_FUNCTION, "clamp", 3);
+    operands(1, WGSL_SCALAR_ABSTRACT_INT, WGSL_SCALAR_F32);
+    wgsl_operand(&words, 1);
+    wgsl_scalar(&words, WGSL_SCALAR_ABSTRACT_FLOAT);
+}
+
+static void resolve_clamp_of_vectors(void) {
+    call = wgsl_standard_resolve;
+    wgsl_call_of(&words, WGSL_CALLEE_FUNCTION, "clamp", 3);
+    for (int k = 0; k < 3; k++) {
+        wgsl_operand(&words, 0);
+        wgsl_vec(&words, 3);
+        wgsl_scalar(&words, WGSL_SCALAR_F32);
+    }
+}
+
 /* The calls in numbers, and what each asks. */
 static const struct {
     void (*set)(void);
@@ -100,6 +131,9 @@ static const struct {
     {ask_sum, "wgsl_binary: AbstractInt + vec3<f32>"},
     {ask_clamp, "wgsl_call: clamp(AbstractInt, f32, AbstractFloat)"},
     {ask_layout, "wgsl_layout: struct S { a: f32, b: vec3<f32>, c: f32 }"},
+    {resolve_sum, "wgsl_standard_resolve: AbstractInt + f32"},
+    {resolve_clamp, "wgsl_standard_resolve: clamp(AbstractInt, f32, AbstractFloat)"},
+    {resolve_clamp_of_vectors, "wgsl_standard_resolve: clamp of three vec3<f32>"},
 };
 
 static int make_one(size_t index, long times) {

@@ -23,10 +23,14 @@ static int show_layout(void) {
     size_t len;
     write_light(&light);
     if (!wgsl_fits(&light) || wgsl_layout(at, light.len, room, ROOM, &len) != WGSL_ANSWERED) return 1;
-    for (const uint32_t *member = room + 2; member < room + len - 2; member += 3)
-        printf("%4u %4u %4u\n", (unsigned)member[0], (unsigned)member[1], (unsigned)member[2]);
-    printf("%4u    - %4u\n", (unsigned)room[len - 2], (unsigned)room[len - 1]);
-    return 0;
+    WgslCursor layout = wgsl_cursor(room, len);
+    for (uint64_t members = wgsl_read_number(&layout); members; members--) {
+        struct wgsl_placed member = wgsl_read_placed(&layout);
+        printf("%4u %4u %4u\n", (unsigned)member.offset, (unsigned)member.size, (unsigned)member.align);
+    }
+    struct wgsl_placed light_struct = wgsl_read_placed_struct(&layout);
+    printf("%4u    - %4u\n", (unsigned)light_struct.size, (unsigned)light_struct.align);
+    return !wgsl_is_read(&layout);
 }
 
 /* `mat2x3<f32> * vec2<AbstractInt>` */
@@ -40,9 +44,11 @@ static int show_product(void) {
     wgsl_vec(&product, 2);
     wgsl_scalar(&product, WGSL_SCALAR_ABSTRACT_INT);
     if (wgsl_binary(at, product.len, room, ROOM, &len) != WGSL_ANSWERED) return 1;
-    if ((room[0] & 255) == WGSL_TAG_VEC && room[1] == (uint32_t)WGSL_SCALAR_F32 << 8)
-        printf("a vector of %u components of f32\n", (unsigned)(room[0] >> 8 & 255));
-    return 0;
+    WgslCursor types = wgsl_cursor(room, len);
+    WgslHead outer = wgsl_read_level(&types).head, inner = wgsl_read_level(&types).head;
+    if (outer.tag == WGSL_TAG_VEC && inner.tag == WGSL_TAG_SCALAR && inner.a == WGSL_SCALAR_F32)
+        printf("a vector of %d components of f32\n", outer.a);
+    return types.failed;
 }
 
 int main(void) { return show_layout() || show_product(); }

@@ -4,7 +4,7 @@
  *
  *     binary + AbstractInt vec 3 f32     is answered     vec3<f32>
  *
- * In numbers: eight calls take and give types as words of 32 bits. wgsl_codes.h writes such words.
+ * In numbers: calls take and give types as words of 32 bits. wgsl_codes.h writes and reads such words.
  *
  * README.md lists the requests in texts. Link with libwgsl.a or libwgsl.so, which run on x86-64 Linux, on processors with
  * SSE4.2. wgsl_codes.h needs C99, this header C99 or C++11.
@@ -87,6 +87,33 @@ uint8_t wgsl_constructor(const uint32_t *request, size_t request_len, uint32_t *
 uint8_t wgsl_call(const uint32_t *request, size_t request_len, uint32_t *room, size_t room_len, size_t *len);
 uint8_t wgsl_size(const uint32_t *request, size_t request_len, uint32_t *room, size_t room_len, size_t *len);
 uint8_t wgsl_layout(const uint32_t *request, size_t request_len, uint32_t *room, size_t room_len, size_t *len);
+
+/* Calls by WGSL's own overloads, in numbers: as the eight above, by other rules. A request is a call:
+ *
+ *   what is called, WGSL_CALLEE_.. and an operator or a name; a template as in a signature; the list of the operands,
+ *   each 1 if it is a const-expression or else 0, and its type. Abstract types are const-expressions anyway.
+ *
+ *   call                     request  answer                                                              refusal
+ *   wgsl_standard_resolve    a call   the index of the overload, one word; the list of the parameters'    nothing
+ *                                     types; 0 without a value, or 1 and the type of the result
+ *   wgsl_standard_overloads  a name   a list of texts, each as a name: one per overload of the operators, never
+ *                                     the function and the constructor of that name
+ *   wgsl_standard_why        a call   a list of texts: one per overload that doesn't take the operands    never
+ *
+ * wgsl_standard_resolve refuses a call whose operands no overload takes; wgsl_standard_why says why. A call without overloads
+ * has no texts. With a template, its type counts as the first parameter. */
+uint8_t wgsl_standard_resolve(const uint32_t *request, size_t request_len, uint32_t *room, size_t room_len, size_t *len);
+uint8_t wgsl_standard_overloads(const uint32_t *request, size_t request_len, uint32_t *room, size_t room_len, size_t *len);
+uint8_t wgsl_standard_why(const uint32_t *request, size_t request_len, uint32_t *room, size_t room_len, size_t *len);
+
+/* What is called: an operator, a built-in function or a constructor. */
+enum { WGSL_CALLEE_UNARY, WGSL_CALLEE_BINARY, WGSL_CALLEE_FUNCTION, WGSL_CALLEE_CONSTRUCTOR };
+
+/* The text for words: the spelling of a type, and the message of an error. They take what the calls answer, whole, and write
+ * bytes as wgsl_answer does. WGSL_UNREADABLE if the words are no such code, or have a type of more than WGSL_DEEPEST levels.
+ * All else is as for wgsl_answer, but WGSL_NUMBERS_STACK bytes of stack; `codes` is aligned to 4. */
+uint8_t wgsl_spell(const uint32_t *codes, size_t codes_len, uint8_t *room, size_t room_len, size_t *text_len);
+uint8_t wgsl_message(const uint32_t *codes, size_t codes_len, uint8_t *room, size_t room_len, size_t *text_len);
 
 /* Three calls over texts of WGSL. The caller owes what it owes for wgsl_answer, but WGSL_SOURCE_STACK bytes of stack.
  *

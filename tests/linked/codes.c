@@ -60,6 +60,30 @@ static void write_signatures(void) {
     f32();
 }
 
+static void operand(int is_constant) {
+    wgsl_operand(&words, is_constant);
+    wgsl_scalar(&words, WGSL_SCALAR_F32);
+}
+
+static void write_calls(void) {
+    wgsl_unary_expression(&words, WGSL_UNARY_NEGATION);
+    operand(1);
+    show();
+    wgsl_binary_expression(&words, WGSL_BINARY_SHIFT_RIGHT);
+    operand(0);
+    operand(1);
+    show();
+    wgsl_call_of(&words, WGSL_CALLEE_FUNCTION, "min", 2);
+    operand(1);
+    operand(0);
+    show();
+    wgsl_call_of_with(&words, WGSL_CALLEE_CONSTRUCTOR, "vec2", 1);
+    wgsl_scalar(&words, WGSL_SCALAR_I32);
+    wgsl_arguments(&words, 1);
+    operand(0);
+    show();
+}
+
 /* What doesn't fit is counted and not stored. */
 static int is_cut(void) {
     uint32_t one[2] = {7, 7};
@@ -73,5 +97,6 @@ int main(void) {
     write_leaves();
     write_struct();
     write_signatures();
+    write_calls();
     return !is_cut();
 }

@@ -4,21 +4,25 @@ import os
 import sys
 
 from type_codes import BINARY, UNARY, NoCode, Random, Reader
-from type_codes import code, list_code, parameter_words, signature_code, signature_words, spelling, words
+from type_codes import code, list_code, name_code, parameter_words, signature_code, signature_words, spelling, words
 
 CALLS = "rank common unary binary constructor call size layout".split()
+# The calls by WGSL's own overloads, and the texts for codes.
+STANDARD = "standard_resolve standard_overloads standard_why".split()
+TEXTS = ["spell", "message"]
 ROOM = 1 << 14
 FILL = 0xAAAAAAAA
 
 
 class Library:
     def __init__(self, folder):
-        shared = ctypes.CDLL(os.path.join(folder, "libwgsl.so"))
-        size, pointer = ctypes.c_size_t, ctypes.POINTER
+        self.shared = ctypes.CDLL(os.path.join(folder, "libwgsl.so"))
+        size, pointer, byte, word = ctypes.c_size_t, ctypes.POINTER, ctypes.c_uint8, ctypes.c_uint32
         self.calls = {}
-        for name, unit in [("answer", ctypes.c_uint8)] + [(name, ctypes.c_uint32) for name in CALLS]:
-            call = getattr(shared, f"wgsl_{name}")
-            call.argtypes = [pointer(unit), size, pointer(unit), size, pointer(size)]
+        units = [("answer", byte, byte)] + [(name, word, byte) for name in TEXTS]
+        for name, asked, unit in units + [(name, word, word) for name in CALLS + STANDARD]:
+            call = getattr(self.shared, f"wgsl_{name}")
+            call.argtypes = [pointer(asked), size, pointer(unit), size, pointer(size)]
             call.restype = ctypes.c_uint8
             self.calls[name] = call
         self.room = (ctypes.c_uint32 * ROOM)(*[FILL] * ROOM)
@@ -35,6 +39,12 @@ class Library:
         if self.room[count] != FILL or self.room[ROOM - 1] != FILL:
             sys.exit(f"link: {name} {given} writes more than its reply")
         return status, found
+
+    def spell(self, name, given):
+        """The status, and the text for the words."""
+        codes = (ctypes.c_uint32 * max(len(given), 1))(*given)
+        status = self.calls[name](codes, len(given), self.text_room, 1 << 16, ctypes.byref(self.len))
+        return status, bytes(self.text_room[:self.len.value]).decode() if status == 0 else None
 
     def text(self, request):
         data = request.encode()
@@ -162,6 +172,9 @@ def codes_in_c():
     ]
     template = [("type", ("scalar", "i32")), ("literal", 2, -3), ("enumerant", 2, 40)]
     codes = [code(t) for t in types] + [signature_code("min", None, [f32]), signature_code("array", template, [f32])]
+    codes += [[0, 1, 0, 1, 0, 1] + code(f32), [1, 17, 0, 2, 0, 0] + code(f32) + [1] + code(f32)]
+    codes += [[2] + name_code("min") + [0, 2, 0, 1] + code(f32) + [0] + code(f32)]
+    codes += [[3] + name_code("vec2") + [1, 1, 0, 3 << 8, 1, 0, 0] + code(f32)]
     return "".join(" ".join(f"{word:08x}" for word in words) + "\n" for words in codes)
 
 
@@ -189,6 +202,17 @@ def shown_common(library, given):
         if status == 0 and library.ask("rank", code(t) + common)[0] == 1:
             return "none"
     return shown("common", status, common)
+
+
+def refusals(library, count):
+    """The errors that random questions are refused with."""
+    rng, found = Random(14), []
+    while len(found) < count:
+        name, given, _ = question(rng)
+        status, reply = library.ask(name, given)
+        if status == 1 and reply:
+            found.append(reply)
+    return found
 
 
 def compare_types(library, count):

@@ -1,5 +1,6 @@
 /* What the tests of the linked library share: the requests, one per line of standard input. A line is a request in text, or
- * with NUMBERS defined the name of a call and its request, words of 32 bits in hexadecimal. */
+ * with NUMBERS defined the name of a call and its request, words of 32 bits in hexadecimal. With TEXTS the calls are those that
+ * say what words are. */
 #include "wgsl.h"
 #include <stdio.h>
 #include <stdlib.h>
@@ -17,17 +18,27 @@ static void wrong(size_t k, const char *what) {
 }
 
 /* What requests and answers are made of, and one call. */
+#if defined NUMBERS || defined TEXTS
 #ifdef NUMBERS
 typedef uint32_t Unit;
+#else
+typedef uint8_t Unit;
+#endif
 
 static const struct {
     const char *name;
-    uint8_t (*call)(const uint32_t *, size_t, uint32_t *, size_t, size_t *);
+    uint8_t (*call)(const uint32_t *, size_t, Unit *, size_t, size_t *);
 } calls[] = {
+#ifdef NUMBERS
     {"rank", wgsl_rank}, {"common", wgsl_common}, {"unary", wgsl_unary}, {"binary", wgsl_binary},
     {"constructor", wgsl_constructor}, {"call", wgsl_call}, {"size", wgsl_size}, {"layout", wgsl_layout},
+    {"standard_resolve", wgsl_standard_resolve}, {"standard_overloads", wgsl_standard_overloads},
+    {"standard_why", wgsl_standard_why},
+#else
+    {"spell", wgsl_spell}, {"message", wgsl_message},
+#endif
 };
-static Unit *requests[MOST];
+static uint32_t *requests[MOST];
 static size_t called[MOST];
 
 /* Reads the name of the call and the words. */
@@ -36,10 +47,10 @@ static void read_line(size_t k) {
     size_t name = strcspn(at, " ");
     while (strlen(calls[called[k]].name) != name || memcmp(calls[called[k]].name, at, name))
         if (++called[k] == sizeof calls / sizeof *calls) wrong(k, "no such call");
-    requests[k] = calloc(lengths[k] / 9 + 1, sizeof(Unit));
+    requests[k] = calloc(lengths[k] / 9 + 1, sizeof(uint32_t));
     if (!requests[k]) exit(1);
     lengths[k] = 0;
-    for (at += name; *at; lengths[k]++) requests[k][lengths[k]] = (Unit)strtoul(at, &at, 16);
+    for (at += name; *at; lengths[k]++) requests[k][lengths[k]] = (uint32_t)strtoul(at, &at, 16);
 }
 
 static int ask(size_t k, Unit *room, size_t room_len, size_t *len) {

@@ -5,6 +5,7 @@
 enum { ROOM = 1 << 16 };
 
 static uint32_t request[ROOM], room[ROOM];
+static uint8_t text[ROOM];
 static WgslWords words = {request, ROOM, 0};
 static size_t len;
 static int status;
@@ -45,9 +46,13 @@ static void *constructor(void *none) { status = wgsl_constructor(request, words.
 static void *call(void *none) { status = wgsl_call(request, words.len, room, ROOM, &len); return none; }
 static void *size(void *none) { status = wgsl_size(request, words.len, room, ROOM, &len); return none; }
 static void *layout(void *none) { status = wgsl_layout(request, words.len, room, ROOM, &len); return none; }
+static void *resolve(void *none) { status = wgsl_standard_resolve(request, words.len, room, ROOM, &len); return none; }
+static void *why(void *none) { status = wgsl_standard_why(request, words.len, room, ROOM, &len); return none; }
+static void *spell(void *none) { status = wgsl_spell(request, words.len, text, ROOM, &len); return none; }
+static void *message(void *none) { status = wgsl_message(request, words.len, text, ROOM, &len); return none; }
 
 /* Each call, what it is asked first, and how many types follow. S is a signature of two arguments, T one of one argument
- * whose template has a type too. */
+ * whose template has a type too; C and D are the same of a call by WGSL's own overloads; E is an error with two types. */
 static const struct {
     void *(*ask)(void *);
     char first;
@@ -56,17 +61,22 @@ static const struct {
 } asked[] = {
     {rank, '-', "", 2}, {common, 'L', "", 2}, {unary, 'O', "", 1}, {binary, 'O', "", 2}, {constructor, 'S', "array", 2},
     {constructor, 'S', "vec2", 2}, {constructor, 'T', "array", 2}, {call, 'S', "min", 2}, {call, 'S', "foo", 2},
-    {call, 'T', "bitcast", 2}, {size, '-', "", 1}, {layout, '-', "", 1},
+    {call, 'T', "bitcast", 2}, {size, '-', "", 1}, {layout, '-', "", 1}, {resolve, 'C', "min", 2}, {resolve, 'D', "bitcast", 2},
+    {why, 'C', "min", 2}, {why, 'D', "bitcast", 2}, {spell, '-', "", 1}, {message, 'E', "", 2},
 };
 
 static void write_request(size_t a, int layer, int levels) {
     words.len = 0;
     if (asked[a].first == 'L') wgsl_number(&words, 2);
     if (asked[a].first == 'O') wgsl_word(&words, 4);
+    if (asked[a].first == 'C') wgsl_call_of(&words, WGSL_CALLEE_FUNCTION, asked[a].name, 2);
+    if (asked[a].first == 'D') wgsl_call_of_with(&words, WGSL_CALLEE_FUNCTION, asked[a].name, 1);
+    if (asked[a].first == 'E') wgsl_word(&words, WGSL_ERROR_CONVERSION);
     if (asked[a].first == 'S') wgsl_signature(&words, asked[a].name, 2);
     if (asked[a].first == 'T') wgsl_signature_with(&words, asked[a].name, 1);
     for (int k = 0; k < asked[a].types; k++) {
-        if (asked[a].first == 'T' && k) wgsl_arguments(&words, 1);
+        if ((asked[a].first == 'T' || asked[a].first == 'D') && k) wgsl_arguments(&words, 1);
+        if (asked[a].first == 'C' || (asked[a].first == 'D' && k)) wgsl_operand(&words, 0);
         write_type(layer, levels, asked[a].ask == layout);
     }
 }

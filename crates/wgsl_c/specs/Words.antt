@@ -1,5 +1,6 @@
 -- What C is handed by the calls over words.
-use Rattle.std.specs.Prelude.{◌≡◌, ◌⊎◌, ◌<◌, ◌≤◌, ℕ, List, Result, Ok, Err, drop, length}
+use Rattle.std.specs.Prelude.{◌≡◌, ◌⊎◌, ◌<◌, ◌≤◌, ℕ, List, Result, Ok, Err, drop, length, String, string_bytes}
+use Rattle.std.specs.Global.{Global}
 use Rattle.wgsl_coded.specs.Replies.{ReplyWords, answered, refused}
 use Rattle.wgsl_coded.specs.declared.fault.Fault.{Fault}
 use Rattle.wgsl_coded.specs.declared.fault.Fault.TheVariants.{Memory, NoType}
@@ -21,3 +22,9 @@ pub record IsRoomKept (old new : List ℕ) (len status : ℕ) : Type 0 where
   pub unwritten : 2 ≤ status → new ≡ old
   pub no_length : (status ≡ 2) ⊎ (status ≡ 3) → len ≡ 0
   pub no_room : status ≡ 4 → length old < len
+
+-- the text is handed over in the same way
+abbrev pub IsHandedText : Result (String Global) Fault → List ℕ → List ℕ → ℕ → ℕ → Type 0
+IsHandedText (Ok text) old new len status = IsWritten 0 (string_bytes text) old new len status
+IsHandedText (Err NoType) old new len status = IsRefused 2 old new len status
+IsHandedText (Err Memory) old new len status = IsRefused 3 old new len status

@@ -5,6 +5,7 @@
 mod hand_over;
 mod hand_over_words;
 mod source;
+mod standard_words;
 mod words;
 
 ghost use Rattle.std.specs.Prelude.{◌≡◌, ◌≢◌, ◌⊎◌, ◌<◌, ◌≤◌, [], All, IsUtf8, Ok, Result, drop, length, take, true};

@@ -11,3 +11,4 @@ pub mod LaidOut
 pub mod InOrder
 pub mod InSequence
 pub mod Deep
+pub mod PlainReplies

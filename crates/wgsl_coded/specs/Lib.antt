@@ -9,3 +9,8 @@ pub mod Seen
 pub mod Within
 pub mod Layouts
 pub mod Callees
+pub mod StandardCalls
+pub mod Overloaded
+pub mod PlainCalls
+pub mod Texts
+pub mod ReadRefusals

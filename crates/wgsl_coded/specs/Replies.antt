@@ -1,16 +1,19 @@
 -- What the calls over words reply.
-use Rattle.std.specs.Prelude.{ℕ, ◌≡◌, List, [], ◌∷◌, ◌++◌, Option, Some, None, IsSomeAnd, Result, Ok, Err, length}
+use Rattle.std.specs.Prelude.{ℕ, ◌≡◌, List, [], ◌∷◌, ◌++◌, ◌%◌, ◌^◌, Option, Some, None, IsSomeAnd, Result, Ok, Err, length}
 use Rattle.wgsl_rules.specs.types.Types.{WgslType}
-use Rattle.wgsl_rules.specs.codes.Words.{attribute, number}
+use Rattle.wgsl_rules.specs.codes.Words.{attribute, name_code, number}
 use Rattle.wgsl_rules.specs.codes.Codes.{code}
 use Rattle.wgsl_rules.specs.codes.Refusals.{refusal_code}
+use Rattle.wgsl_rules.specs.codes.Signatures.{list_code}
 use Rattle.wgsl_rules.specs.errors.Refusals.{Refusal}
 use Rattle.wgsl_rules.specs.operators.Answers.{BinaryCandidate}
 use Rattle.wgsl_rules.specs.layout.Placement.{MemberLayout}
-use Rattle.wgsl_asked.specs.Answers.{Answers, WgslAnswer, WgslLayout, a_number, a_size, a_common_type, a_type, a_value, a_candidate, some_offsets, a_layout, out_of_memory}
+use Rattle.wgsl_asked.specs.Answers.{Answers, WgslAnswer, WgslLayout, a_number, a_size, a_common_type, a_type, a_value, a_candidate, some_offsets, a_layout, a_type_of, a_resolution_of, some_lines, out_of_memory}
+use Rattle.wgsl_asked.specs.Calls.{WgslResolution}
 use Rattle.wgsl_asked.specs.Requests.{WgslRequest}
 use Rattle.wgsl_coded.specs.declared.fault.Fault.{Fault}
 use Rattle.wgsl_coded.specs.Reads.{Fails}
+use Rattle.wgsl_coded.specs.StandardCalls.{resolve_request, why_request, overloads_request}
 use Rattle.wgsl_coded.specs.Requests.{rank_request, common_request, unary_request, binary_request, constructor_request, call_request, size_request, layout_request}
 
 -- the words of an answer, or of a refusal by the rules
@@ -47,6 +50,15 @@ abbrev pub value_words : Option WgslType → List ℕ
 value_words None = []
 value_words (Some t) = code t
 
+-- 0 without a type, or 1 and the type
+abbrev pub optional_code : Option WgslType → List ℕ
+optional_code None = 0 ∷ []
+optional_code (Some t) = 1 ∷ code t
+
+-- the index of the overload in one word, the list of the parameters' types, and the type of the result
+abbrev pub resolution_words : WgslResolution → List ℕ
+resolution_words r = r.0 % 2 ^ 32 ∷ list_code code r.1 ++ optional_code r.2
+
 -- the words of an answer
 abbrev pub answer_words : WgslAnswer → ReplyWords
 answer_words (a_number w) = words_or_none (λ n. n ∷ []) w
@@ -57,6 +69,9 @@ answer_words (a_value r) = words_or_refusal value_words r
 answer_words (a_candidate r) = words_or_refusal candidate_words r
 answer_words (some_offsets o) = words_or_none (λ offsets. offsets) o
 answer_words (a_layout name ms l) = words_or_none layout_words l
+answer_words (a_type_of c r) = words_or_none value_words r
+answer_words (a_resolution_of c r) = words_or_none resolution_words r
+answer_words (some_lines lines) = answered (list_code name_code lines)
 answer_words out_of_memory = refused []
 
 -- the words of an answer to the request
@@ -99,3 +114,15 @@ IsConstructorReply ws = IsReplyTo (constructor_request ws)
 -- The request is the signature of a built-in function's call. The answer is the type of the call.
 abbrev pub IsCallReply : List ℕ → Result ReplyWords Fault → Type 0
 IsCallReply ws = IsReplyTo (call_request ws)
+
+-- The request is a call of WGSL's own overloads. The answer is what it resolves to.
+abbrev pub IsResolveReply : List ℕ → Result ReplyWords Fault → Type 0
+IsResolveReply ws = IsReplyTo (resolve_request ws)
+
+-- The request is such a call. The answer is a text for each overload that doesn't take the operands.
+abbrev pub IsWhyReply : List ℕ → Result ReplyWords Fault → Type 0
+IsWhyReply ws = IsReplyTo (why_request ws)
+
+-- The request is a name. The answer is a text for each of its overloads.
+abbrev pub IsOverloadsReply : List ℕ → Result ReplyWords Fault → Type 0
+IsOverloadsReply ws = IsReplyTo (overloads_request ws)

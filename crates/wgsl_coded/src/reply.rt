@@ -1,19 +1,23 @@
 // What the calls over words reply.
-ghost use Rattle.std.specs.Prelude.{◌≡◌, [], IfOk, Some, option_map};
+ghost use Rattle.std.specs.Prelude.{◌≡◌, [], IfOk, Some, map, option_map};
 ghost use Rattle.wgsl_rules.specs.codes.Codes.{code};
 ghost use Rattle.wgsl_rules.specs.codes.Refusals.{refusal_code};
+ghost use Rattle.wgsl_rules.specs.codes.Signatures.{list_code};
 ghost use Rattle.wgsl_core.specs.Answer.{refusal};
 ghost use Rattle.wgsl_core.specs.View.{view};
 ghost use Rattle.wgsl_asked.specs.Answers.{a_type, a_value};
 ghost use Rattle.wgsl_asked.specs.Views.{answer_view, outcome, request_view};
-ghost use Rattle.wgsl_coded.specs.Replies.{IsReplyTo, answered};
+ghost use Rattle.wgsl_standard.specs.Resolved.{resolved_view};
+ghost use Rattle.wgsl_coded.specs.Replies.{IsReplyTo, answered, resolution_words, value_words};
 ghost use Rattle.wgsl_coded.specs.Seen.{HasRefused, HasWords, Writes, reply_words, seen};
 
 use crate::candidates::{refuse_operands, reply_with_resolved};
 use crate::fast::short::ShortWords;
 use crate::fault::Fault;
 use crate::layouts::reply_with_layout;
+use crate::parts::{WritePart, write_list};
 use crate::refusals::write_error;
+use crate::resolved::words_of_resolved;
 use crate::writing::write;
 use std::alloc::{AllocError, Global};
 use wgsl_asked::answers::Answer;
@@ -21,6 +25,7 @@ use wgsl_asked::ask::answer;
 use wgsl_asked::requests::Request;
 use wgsl_core::error::{Error, Fail};
 use wgsl_core::ty::Type;
+use wgsl_standard::resolved::ResolvedCall;
 
 /// The words of a reply.
 #[derive(Drop)]
@@ -58,10 +63,16 @@ fn write_answer(alloc: Global, answer: Answer<'_>) -> Result<Reply, Fault>
         Answer::Binary(Err(operands)) => refuse_operands(alloc, operands),
         Answer::Offsets(Some(offsets)) => Ok(Reply::Answer(offsets)),
         Answer::Layout(_, Some(layout)) => reply_with_layout(alloc, layout),
+        Answer::TypeOf(_, Some(returned)) => reply_with_returned(alloc, returned),
+        Answer::Resolution(_, Some(resolved)) => reply_with_resolution(alloc, resolved),
+        Answer::Overloads(signatures) => reply_with_list(alloc, signatures),
+        Answer::Notes(notes) => reply_with_list(alloc, notes),
         Answer::Number(None)
         | Answer::Common(None)
         | Answer::Offsets(None)
-        | Answer::Layout(_, None) => Ok(Reply::Refusal(Vec::new(alloc))),
+        | Answer::Layout(_, None)
+        | Answer::TypeOf(_, None)
+        | Answer::Resolution(_, None) => Ok(Reply::Refusal(Vec::new(alloc))),
     }
 }
 
@@ -83,10 +94,47 @@ pub(crate) fn reply_with_value(
     ensures { Writes (outcome a_value (option_map view) returned) result }
 {
     match returned {
-        Ok(Some(ty)) => reply_with_code(alloc, &ty),
-        Ok(None) => Ok(Reply::Short(ShortWords::new())),
+        Ok(returned) => reply_with_returned(alloc, returned),
         Err(fail) => refuse(alloc, fail),
     }
+}
+
+/// The code of a type that a call returns, or no words.
+#[inline(always)]
+fn reply_with_returned(alloc: Global, returned: Option<Type>) -> Result<Reply, Fault>
+    ensures { HasWords (answered (value_words (option_map view returned))) result }
+{
+    match returned {
+        Some(ty) => reply_with_code(alloc, &ty),
+        None => Ok(Reply::Short(ShortWords::new())),
+    }
+}
+
+/// The words of what a call resolves to.
+pub(crate) fn reply_with_resolution(alloc: Global, resolved: ResolvedCall) -> Result<Reply, Fault>
+    ensures { HasWords (answered (resolution_words (resolved_view resolved))) result }
+{
+    let words = words_of_resolved(alloc, &resolved);
+    drop(resolved);
+    Ok(Reply::Answer(words?))
+}
+
+/// The words of a list.
+fn reply_with_list<T: WritePart + Drop>(alloc: Global, parts: Vec<T>) -> Result<Reply, Fault>
+    ensures { HasWords (answered (list_code T.part_code (map T.written parts.items))) result }
+{
+    let words = words_of_list(alloc, &parts);
+    drop(parts);
+    Ok(Reply::Answer(words?))
+}
+
+fn words_of_list<T: WritePart>(alloc: Global, parts: &[T]) -> Result<Vec<u32>, AllocError>
+    ensures { IfOk result (λ words. words.items
+        ≡ list_code T.part_code (map T.written parts.now)) }
+{
+    let mut words = new_words(alloc)?;
+    write_list(&mut words, parts)?;
+    Ok(words)
 }
 
 /// The code of a refusal.

@@ -1,17 +1,20 @@
 // What requests ask is read.
-ghost use Rattle.std.specs.Prelude.{◌≡◌, IfSome, Some, map, slice_get};
-ghost use Rattle.wgsl_syntax.specs.Operator.{binary_operators, unary_operators};
+ghost use Rattle.std.specs.Prelude.{◌≡◌, IfSome, MatchResult, Some, false, length, map, nat_eq, option_map, slice_get, true};
+ghost use Rattle.wgsl_syntax.specs.Operator.{binary_operators};
 ghost use Rattle.wgsl_rules.specs.types.Types.{scalar};
+ghost use Rattle.wgsl_rules.specs.codes.DecodingLiterals.{binary_operator_at, unary_operator_at};
 ghost use Rattle.wgsl_core.specs.Instances.{signature_view};
 ghost use Rattle.wgsl_core.specs.View.{view};
 ghost use Rattle.wgsl_coded.specs.Reads.{Reads};
+ghost use Rattle.wgsl_coded.specs.declared.fault.Fault.TheVariants.{NoType};
 ghost use Rattle.wgsl_coded.specs.Requests.{all_types, binary_expression, call_signature, two_types, unary_expression};
 
 use crate::coded::{DEPTH, read_whole};
 use crate::fault::Fault;
 use crate::heads::read_scalar;
+use crate::parts::read_list;
 use crate::reading::read_type;
-use crate::signatures::{read_signature, read_types};
+use crate::signatures::read_signature;
 use std::alloc::Global;
 use wgsl_core::signature::CallSignature;
 use wgsl_core::ty::Type;
@@ -39,38 +42,69 @@ pub(crate) fn read_two(alloc: Global, words: &[u32]) -> Result<(Type, Type), Fau
     Ok((first, second))
 }
 
+/// What is read, if no words are left.
+#[inline(always)]
+pub(crate) fn if_ended<T: Drop>(read: (T, &[u32])) -> Result<T, Fault>
+    ensures { MatchResult result
+        (λ x. (read.entry.0 ≡ x) × (nat_eq (length (read.entry.1).now) 0 ≡ true))
+        (λ fault. (fault ≡ NoType) × (nat_eq (length (read.entry.1).now) 0 ≡ false)) }
+{
+    let (value, rest) = read;
+    if !rest.is_empty() {
+        drop(value);
+        return Err(Fault::NoType);
+    }
+    Ok(value)
+}
+
 /// A list of types.
 pub(crate) fn read_all_types(alloc: Global, words: &[u32]) -> Result<Vec<Type>, Fault>
     ensures { Reads (λ types. map view types.items) result (all_types words.now) }
 {
-    let (types, rest) = read_types(alloc, words)?;
-    if !rest.is_empty() {
-        drop(types);
-        return Err(Fault::NoType);
-    }
-    Ok(types)
+    if_ended(read_list(alloc, words)?)
 }
 
 /// The signature of a call.
 pub(crate) fn read_call(alloc: Global, words: &[u32]) -> Result<CallSignature, Fault>
     ensures { Reads signature_view result (call_signature words.now) }
 {
-    let (call, rest) = read_signature(alloc, words)?;
-    if !rest.is_empty() {
-        drop(call);
-        return Err(Fault::NoType);
-    }
-    Ok(call)
+    if_ended(read_signature(alloc, words)?)
+}
+
+/// A unary operator, and the words after it.
+#[inline(always)]
+pub(crate) fn read_unary_operator(words: &[u32]) -> Option<(UnaryOperator, &[u32])>
+    ensures { option_map (λ o. (o.0, o.1.now)) result ≡ unary_operator_at words.now }
+{
+    let [word, rest @ ..] = words else {
+        return None;
+    };
+    Some((UnaryOperator::ALL.get(*word as usize).copied()?, rest))
+}
+
+/// A binary operator, and the words after it.
+#[inline(always)]
+pub(crate) fn read_binary_operator(words: &[u32]) -> Option<(BinaryOperator, &[u32])>
+    ensures { option_map (λ o. (o.0, o.1.now)) result ≡ binary_operator_at words.now }
+{
+    let [word, rest @ ..] = words else {
+        return None;
+    };
+    Some((binary_operator_by(*word)?, rest))
+}
+
+#[inline(always)]
+fn binary_operator_by(word: u32) -> Option<BinaryOperator>
+    ensures { result ≡ slice_get binary_operators word }
+{
+    BinaryOperator::ALL.get(word as usize).copied()
 }
 
 /// A unary operator, and then a type.
 pub(crate) fn read_unary(alloc: Global, words: &[u32]) -> Result<(UnaryOperator, Type), Fault>
     ensures { Reads (λ e. (e.0, view e.1)) result (unary_expression words.now) }
 {
-    let [word, rest @ ..] = words else {
-        return Err(Fault::NoType);
-    };
-    let Some(operator) = unary_operator_by(*word) else {
+    let Some((operator, rest)) = read_unary_operator(words) else {
         return Err(Fault::NoType);
     };
     let operand = read_whole(alloc, rest)?;
@@ -85,24 +119,9 @@ pub(crate) fn read_binary(
 ) -> Result<(BinaryOperator, Type, Type), Fault>
     ensures { Reads (λ e. (e.0, view e.1, view e.2)) result (binary_expression words.now) }
 {
-    let [word, rest @ ..] = words else {
-        return Err(Fault::NoType);
-    };
-    let Some(operator) = binary_operator_by(*word) else {
+    let Some((operator, rest)) = read_binary_operator(words) else {
         return Err(Fault::NoType);
     };
     let (left, right) = read_two(alloc, rest)?;
     Ok((operator, left, right))
-}
-
-fn unary_operator_by(word: u32) -> Option<UnaryOperator>
-    ensures { result ≡ slice_get unary_operators word }
-{
-    UnaryOperator::ALL.get(word as usize).copied()
-}
-
-fn binary_operator_by(word: u32) -> Option<BinaryOperator>
-    ensures { result ≡ slice_get binary_operators word }
-{
-    BinaryOperator::ALL.get(word as usize).copied()
 }

@@ -12,7 +12,7 @@ use crate::coded::DEPTH;
 use crate::fault::Fault;
 use crate::literals::{read_enumerant, read_literal, write_enumerant, write_literal};
 use crate::names::{read_name, write_name};
-use crate::numbers::{read_number, write_number};
+use crate::parts::{ReadPart, WritePart, read_list, write_list};
 use crate::reading::read_type;
 use crate::writing::write;
 use std::alloc::{AllocError, Global};
@@ -20,37 +20,37 @@ use wgsl_core::literal::Instance;
 use wgsl_core::signature::{CallSignature, TpltParam};
 use wgsl_core::ty::Type;
 
-/// That many types.
-fn read_types_in_order(
-    alloc: Global,
-    count: usize,
-    words: &[u32],
-) -> Result<(Vec<Type>, &[u32]), Fault>
-    ensures { Reads (λ ts. (map view ts.0.items, ts.1.now)) result
-        (parts_in_order (decode 255) count words.now) }
-{
-    let mut types = Vec::with_capacity(alloc, count.min(words.len()))?;
-    let mut rest = words;
-    for _ in 0..count {
-        match read_type(alloc, rest, DEPTH) {
-            Ok((ty, after)) => {
-                types.push(ty)?;
-                rest = after;
-            }
-            Err(fault) => return Err(fault),
-        }
+impl ReadPart for Type {
+    ghost use Rattle.wgsl_rules.specs.types.Types.{WgslType};
+    ghost use Rattle.wgsl_rules.specs.codes.Decoding.{decode};
+    ghost use Rattle.wgsl_core.specs.View.{view};
+
+    ghost Shown = { WgslType };
+
+    ghost shown = { view };
+
+    ghost part_at = { decode 255 };
+
+    #[inline(always)]
+    fn read_part(alloc: Global, words: &[u32]) -> Result<(Type, &[u32]), Fault> {
+        read_type(alloc, words, DEPTH)
     }
-    Ok((types, rest))
 }
 
-/// A list of types.
-pub(crate) fn read_types(alloc: Global, words: &[u32]) -> Result<(Vec<Type>, &[u32]), Fault>
-    ensures { Reads (λ ts. (map view ts.0.items, ts.1.now)) result
-        (types_at (decode 255) words.now) }
-{
-    match read_number(words) {
-        Some((count, rest)) => read_types_in_order(alloc, count, rest),
-        None => Err(Fault::NoType),
+impl WritePart for Type {
+    ghost use Rattle.wgsl_rules.specs.types.Types.{WgslType};
+    ghost use Rattle.wgsl_rules.specs.codes.Codes.{code};
+    ghost use Rattle.wgsl_core.specs.View.{view};
+
+    ghost Written = { WgslType };
+
+    ghost written = { view };
+
+    ghost part_code = { code };
+
+    #[inline(always)]
+    fn write_part(&self, out: &mut Vec<u32>) -> Result<(), AllocError> {
+        write(out, self)
     }
 }
 
@@ -79,49 +79,35 @@ fn read_parameter(alloc: Global, words: &[u32]) -> Result<(TpltParam, &[u32]), F
     }
 }
 
-/// That many template parameters.
-fn read_parameters_in_order(
-    alloc: Global,
-    count: usize,
-    words: &[u32],
-) -> Result<(Vec<TpltParam>, &[u32]), Fault>
-    ensures { Reads (λ ps. (map parameter_view ps.0.items, ps.1.now)) result
-        (parts_in_order (parameter_at (decode 255)) count words.now) }
-{
-    let mut parameters = Vec::with_capacity(alloc, count.min(words.len()))?;
-    let mut rest = words;
-    for _ in 0..count {
-        match read_parameter(alloc, rest) {
-            Ok((parameter, after)) => {
-                parameters.push(parameter)?;
-                rest = after;
-            }
-            Err(fault) => return Err(fault),
-        }
-    }
-    Ok((parameters, rest))
-}
+impl ReadPart for TpltParam {
+    ghost use Rattle.wgsl_rules.specs.types.Signatures.{Parameter};
+    ghost use Rattle.wgsl_rules.specs.codes.Decoding.{decode};
+    ghost use Rattle.wgsl_rules.specs.codes.DecodingSignatures.{parameter_at};
+    ghost use Rattle.wgsl_core.specs.Instances.{parameter_view};
 
-/// A list of template parameters.
-fn read_parameters(alloc: Global, words: &[u32]) -> Result<(Vec<TpltParam>, &[u32]), Fault>
-    ensures { Reads (λ ps. (map parameter_view ps.0.items, ps.1.now)) result
-        (list_at (parameter_at (decode 255)) words.now) }
-{
-    match read_number(words) {
-        Some((count, rest)) => read_parameters_in_order(alloc, count, rest),
-        None => Err(Fault::NoType),
+    ghost Shown = { Parameter };
+
+    ghost shown = { parameter_view };
+
+    ghost part_at = { parameter_at (decode 255) };
+
+    fn read_part(alloc: Global, words: &[u32]) -> Result<(TpltParam, &[u32]), Fault> {
+        read_parameter(alloc, words)
     }
 }
 
 /// A template, or that there is none.
-fn read_template(alloc: Global, words: &[u32]) -> Result<(Option<Vec<TpltParam>>, &[u32]), Fault>
+pub(crate) fn read_template(
+    alloc: Global,
+    words: &[u32],
+) -> Result<(Option<Vec<TpltParam>>, &[u32]), Fault>
     ensures { Reads (λ t. (option_map (λ ps. map parameter_view ps.items) t.0, t.1.now)) result
         (template_at (decode 255) words.now) }
 {
     match words {
         [0, rest @ ..] => Ok((None, rest)),
         [1, rest @ ..] => {
-            let (parameters, rest) = read_parameters(alloc, rest)?;
+            let (parameters, rest) = read_list(alloc, rest)?;
             Ok((Some(parameters), rest))
         }
         _ => Err(Fault::NoType),
@@ -135,28 +121,8 @@ pub(crate) fn read_signature(alloc: Global, words: &[u32]) -> Result<(CallSignat
 {
     let (name, rest) = read_name(alloc, words)?;
     let (tplt, rest) = read_template(alloc, rest)?;
-    let (args, rest) = read_types(alloc, rest)?;
+    let (args, rest) = read_list(alloc, rest)?;
     Ok((CallSignature { name, tplt, args }, rest))
-}
-
-fn write_types_in_order(out: &mut Vec<u32>, types: &Vec<Type>) -> Result<(), AllocError>
-    ensures { OnOk result (out.new.items
-        ≡ out.old.items ++ flat_map code (map view types.now.items)) }
-{
-    for ty in types {
-        write(out, ty)?;
-    }
-    Ok(())
-}
-
-/// Writes a list of types at the end.
-#[tactic(auto, using(std::proofs::lemmas::List::append_assoc))]
-fn write_types(out: &mut Vec<u32>, types: &Vec<Type>) -> Result<(), AllocError>
-    ensures { OnOk result (out.new.items
-        ≡ out.old.items ++ list_code code (map view types.now.items)) }
-{
-    write_number(out, types.len())?;
-    write_types_in_order(out, types)
 }
 
 fn write_parameter(out: &mut Vec<u32>, parameter: &TpltParam) -> Result<(), AllocError>
@@ -170,17 +136,20 @@ fn write_parameter(out: &mut Vec<u32>, parameter: &TpltParam) -> Result<(), Allo
     }
 }
 
-fn write_parameters_in_order(
-    out: &mut Vec<u32>,
-    parameters: &Vec<TpltParam>,
-) -> Result<(), AllocError>
-    ensures { OnOk result (out.new.items
-        ≡ out.old.items ++ flat_map parameter_code (map parameter_view parameters.now.items)) }
-{
-    for parameter in parameters {
-        write_parameter(out, parameter)?;
+impl WritePart for TpltParam {
+    ghost use Rattle.wgsl_rules.specs.types.Signatures.{Parameter};
+    ghost use Rattle.wgsl_rules.specs.codes.Signatures.{parameter_code};
+    ghost use Rattle.wgsl_core.specs.Instances.{parameter_view};
+
+    ghost Written = { Parameter };
+
+    ghost written = { parameter_view };
+
+    ghost part_code = { parameter_code };
+
+    fn write_part(&self, out: &mut Vec<u32>) -> Result<(), AllocError> {
+        write_parameter(out, self)
     }
-    Ok(())
 }
 
 /// Writes a template, or that there is none, at the end.
@@ -196,8 +165,7 @@ fn write_template(out: &mut Vec<u32>, template: &Option<Vec<TpltParam>>) -> Resu
         }
         Some(parameters) => {
             out.push(1)?;
-            write_number(out, parameters.len())?;
-            write_parameters_in_order(out, parameters)
+            write_list(out, parameters)
         }
     }
 }
@@ -210,5 +178,5 @@ pub fn write_signature(out: &mut Vec<u32>, signature: &CallSignature) -> Result<
 {
     write_name(out, &signature.name)?;
     write_template(out, &signature.tplt)?;
-    write_types(out, &signature.args)
+    write_list(out, &signature.args)
 }

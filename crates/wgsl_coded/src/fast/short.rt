@@ -3,7 +3,7 @@ ghost use Rattle.std.specs.Prelude.{◌≡◌, ◌++◌, ◌∷◌, [], IfSome, 
 ghost use Rattle.wgsl_rules.specs.types.Types.{scalar};
 ghost use Rattle.wgsl_rules.specs.codes.Codes.{code};
 ghost use Rattle.wgsl_rules.specs.codes.Heads.{head_word};
-ghost use Rattle.wgsl_rules.specs.codes.Words.{attribute};
+ghost use Rattle.wgsl_rules.specs.codes.Words.{attribute, number};
 ghost use Rattle.wgsl_core.specs.View.{view};
 
 use crate::heads::word_of_head;
@@ -12,10 +12,10 @@ use wgsl_syntax::around::Around;
 use wgsl_syntax::code::{Head, LeafType};
 use wgsl_syntax::scalar::Scalar;
 
-/// At most six words.
+/// At most twelve words.
 #[derive(Clone, Copy)]
 pub struct ShortWords {
-    words: [u32; 6],
+    words: [u32; 12],
     len: usize,
 }
 
@@ -27,7 +27,7 @@ impl ShortWords {
         ensures { short_items result ≡ [] }
     {
         ShortWords {
-            words: [0; 6],
+            words: [0; 12],
             len: 0,
         }
     }
@@ -38,10 +38,10 @@ impl ShortWords {
         ensures { short_items result ≡ attribute size ++ attribute align }
     {
         let (words, len) = match (size, align) {
-            (Some(size), Some(align)) => ([1, size, 1, align, 0, 0], 4),
-            (Some(size), None) => ([1, size, 0, 0, 0, 0], 3),
-            (None, Some(align)) => ([0, 1, align, 0, 0, 0], 3),
-            (None, None) => ([0; 6], 2),
+            (Some(size), Some(align)) => ([1, size, 1, align, 0, 0, 0, 0, 0, 0, 0, 0], 4),
+            (Some(size), None) => ([1, size, 0, 0, 0, 0, 0, 0, 0, 0, 0, 0], 3),
+            (None, Some(align)) => ([0, 1, align, 0, 0, 0, 0, 0, 0, 0, 0, 0], 3),
+            (None, None) => ([0; 12], 2),
         };
         ShortWords { words, len }
     }
@@ -51,7 +51,30 @@ impl ShortWords {
     pub fn as_slice(&self) -> &[u32]
         ensures { result.now ≡ short_items self.now }
     {
-        &self.words[..self.len.min(6)]
+        &self.words[..self.len.min(12)]
+    }
+
+    /// Adds a word; false if there is no room for it.
+    #[inline(always)]
+    pub(crate) fn push_word(&mut self, word: u32) -> bool
+        ensures { IsTrue result → short_items self.new ≡ short_items self.old ++ (word ∷ []) }
+    {
+        let len = self.len;
+        if len >= 12 {
+            return false;
+        }
+        self.words[len] = word;
+        self.len = len + 1;
+        true
+    }
+
+    /// Adds a number of two words, the upper of which is 0; false if there is no room for it.
+    #[inline(always)]
+    #[tactic(auto, using(std::proofs::lemmas::List::append_assoc))]
+    pub(crate) fn push_count(&mut self, count: u32) -> bool
+        ensures { IsTrue result → short_items self.new ≡ short_items self.old ++ number count }
+    {
+        self.push_word(count) && self.push_word(0)
     }
 
     /// Adds the first word of a type; false if there is no room for it.
@@ -60,13 +83,7 @@ impl ShortWords {
         ensures { IsTrue result
             → short_items self.new ≡ short_items self.old ++ (head_word head ∷ []) }
     {
-        let len = self.len;
-        if len >= 6 {
-            return false;
-        }
-        self.words[len] = word_of_head(head);
-        self.len = len + 1;
-        true
+        self.push_word(word_of_head(head))
     }
 
     /// Adds the code of a scalar; false if there is no room for it.

@@ -1,0 +1,92 @@
+// The calls over words that WGSL's own overloads answer, and what words say, for C.
+//
+// The first three set `len`, write words and return a status as the calls of `words.rt` do; 1 is for a call whose operands
+// no overload takes. The others set `text_len` to the length of the text on the statuses 0 and 4, and else to 0. They write
+// the text on 0 alone, without a NUL after it. The status is 0 for a text, 2 for words that are no code of what is asked,
+// 3 if memory runs out, and 4 if the text is longer than the room.
+ghost use Rattle.std.specs.Prelude.{Result, String, string_bytes};
+ghost use Rattle.std.specs.Global.{Global};
+ghost use Rattle.wgsl_coded.specs.Reads.{Reads};
+ghost use Rattle.wgsl_coded.specs.Replies.{IsOverloadsReply, IsResolveReply, IsWhyReply, ReplyWords};
+ghost use Rattle.wgsl_coded.specs.Texts.{message_in, spelling_in};
+ghost use Rattle.wgsl_coded.specs.declared.fault.Fault.{Fault};
+ghost use Rattle.wgsl_c.specs.Words.{IsHandedReply, IsHandedText, IsRoomKept};
+
+use crate::hand_over_words::{hand_over_reply, hand_over_text};
+use std::alloc::Global;
+use wgsl_coded::{message, overloads, resolve, spell, why};
+
+/// What a call of an operator, of a built-in function or of a constructor resolves to.
+#[unsafe(no_mangle)]
+pub extern "C" fn wgsl_standard_resolve(
+    alloc: Global,
+    request: &[u32],
+    room: &mut [u32],
+    len: &mut usize,
+) -> u8
+    ensures reply { (reply : Result ReplyWords Fault) × IsResolveReply request.now reply
+        × IsHandedReply reply room.old room.new len.new result }
+    ensures room { IsRoomKept room.old room.new len.new result }
+{
+    hand_over_reply(&resolve(alloc, request), room, len)
+}
+
+/// The overloads of a name.
+#[unsafe(no_mangle)]
+pub extern "C" fn wgsl_standard_overloads(
+    alloc: Global,
+    request: &[u32],
+    room: &mut [u32],
+    len: &mut usize,
+) -> u8
+    ensures reply { (reply : Result ReplyWords Fault) × IsOverloadsReply request.now reply
+        × IsHandedReply reply room.old room.new len.new result }
+    ensures room { IsRoomKept room.old room.new len.new result }
+{
+    hand_over_reply(&overloads(alloc, request), room, len)
+}
+
+/// Why overloads don't take the operands of a call.
+#[unsafe(no_mangle)]
+pub extern "C" fn wgsl_standard_why(
+    alloc: Global,
+    request: &[u32],
+    room: &mut [u32],
+    len: &mut usize,
+) -> u8
+    ensures reply { (reply : Result ReplyWords Fault) × IsWhyReply request.now reply
+        × IsHandedReply reply room.old room.new len.new result }
+    ensures room { IsRoomKept room.old room.new len.new result }
+{
+    hand_over_reply(&why(alloc, request), room, len)
+}
+
+/// The spelling of a type.
+#[unsafe(no_mangle)]
+pub extern "C" fn wgsl_spell(
+    alloc: Global,
+    codes: &[u32],
+    room: &mut [u8],
+    text_len: &mut usize,
+) -> u8
+    ensures text { (text : Result (String Global) Fault) × Reads string_bytes text (spelling_in codes.now)
+        × IsHandedText text room.old room.new text_len.new result }
+    ensures room { IsRoomKept room.old room.new text_len.new result }
+{
+    hand_over_text(&spell(alloc, codes), room, text_len)
+}
+
+/// The message of an error.
+#[unsafe(no_mangle)]
+pub extern "C" fn wgsl_message(
+    alloc: Global,
+    codes: &[u32],
+    room: &mut [u8],
+    text_len: &mut usize,
+) -> u8
+    ensures text { (text : Result (String Global) Fault) × Reads string_bytes text (message_in codes.now)
+        × IsHandedText text room.old room.new text_len.new result }
+    ensures room { IsRoomKept room.old room.new text_len.new result }
+{
+    hand_over_text(&message(alloc, codes), room, text_len)
+}

@@ -1,0 +1,74 @@
+// What is called, with a short name kept in an array: for plain calls by WGSL's own overloads, with which their gain is counted.
+ghost use Rattle.std.specs.Prelude.{◌≡◌, IfSome, Some};
+ghost use Rattle.wgsl_standard.specs.Callees.{callee_view};
+ghost use Rattle.wgsl_coded.specs.PlainCalls.{IsPlainCall, short_callee_view};
+ghost use Rattle.wgsl_coded.specs.StandardCalls.{callee_at};
+
+use crate::fast::short_name::{ShortName, read_short_name};
+use crate::numbers::read_number;
+use crate::requests::{read_binary_operator, read_unary_operator};
+use wgsl_standard::callee::Callee;
+use wgsl_syntax::operator::{BinaryOperator, UnaryOperator};
+
+/// An operator, or a short name.
+#[derive(Clone, Copy)]
+pub(crate) enum ShortCallee {
+    Unary(UnaryOperator),
+    Binary(BinaryOperator),
+    Function(ShortName),
+    Constructor(ShortName),
+}
+
+impl ShortCallee {
+    #[inline(always)]
+    pub(crate) fn borrowed(&self) -> Callee<'_>
+        ensures { callee_view result ≡ short_callee_view self.now }
+    {
+        match self {
+            ShortCallee::Unary(operator) => Callee::Unary(*operator),
+            ShortCallee::Binary(operator) => Callee::Binary(*operator),
+            ShortCallee::Function(name) => Callee::Function(name.as_str()),
+            ShortCallee::Constructor(name) => Callee::Constructor(name.as_str()),
+        }
+    }
+}
+
+/// What is called, if its name is short, and the words after it.
+#[inline(always)]
+fn read_short_callee(words: &[u32]) -> Option<(ShortCallee, &[u32])>
+    ensures { IfSome result (λ c. callee_at words.now ≡ Some (short_callee_view c.0, c.1.now)) }
+{
+    match words {
+        [0, rest @ ..] => {
+            let (operator, rest) = read_unary_operator(rest)?;
+            Some((ShortCallee::Unary(operator), rest))
+        }
+        [1, rest @ ..] => {
+            let (operator, rest) = read_binary_operator(rest)?;
+            Some((ShortCallee::Binary(operator), rest))
+        }
+        [2, rest @ ..] => {
+            let (name, rest) = read_short_name(rest)?;
+            Some((ShortCallee::Function(name), rest))
+        }
+        [3, rest @ ..] => {
+            let (name, rest) = read_short_name(rest)?;
+            Some((ShortCallee::Constructor(name), rest))
+        }
+        _ => None,
+    }
+}
+
+/// What is called, if its name is short and there is no template, the number of the operands, and the words from the first
+/// operand on.
+#[inline(always)]
+pub(crate) fn read_plain_call(words: &[u32]) -> Option<(ShortCallee, usize, &[u32])>
+    ensures { IfSome result (λ h. IsPlainCall words.now (short_callee_view h.0) h.1 h.2.now) }
+{
+    let (callee, rest) = read_short_callee(words)?;
+    let [0, rest @ ..] = rest else {
+        return None;
+    };
+    let (count, rest) = read_number(rest)?;
+    Some((callee, count, rest))
+}
