@@ -41,7 +41,6 @@ pub data IsRequest : RuleSet → List (List ℕ) → Request → Type 0 where
   layout_words : {rules : RuleSet} {words : List (List ℕ)} {name : List ℕ} {ms : Members} →
       TypeAt words (struct name ms) [] →
       IsRequest rules (codes "layout" ∷ words) (layout name ms)
-
   -- by the rules of wgsl-types
 
   -- `unary - vec 3 f32`
@@ -57,7 +56,6 @@ pub data IsRequest : RuleSet → List (List ℕ) → Request → Type 0 where
   -- `call clamp - AbstractInt f32 f32`
   call_words : {words : List (List ℕ)} {c : Signature} → IsCallee words c →
       IsRequest Ported (codes "call" ∷ words) (call c)
-
   -- by WGSL's own overloads
 
   -- `binary + const i32 AbstractInt`, `call clamp - f32 AbstractInt AbstractInt`

@@ -59,11 +59,7 @@ pub(crate) fn read_call<'t>(
 }
 
 /// What is called, and its template: the command and what comes after it.
-fn read_head<'t>(
-    alloc: Global,
-    command: &str,
-    words: &mut Words<'t>,
-) -> Result<Head<'t>, Unread>
+fn read_head<'t>(alloc: Global, command: &str, words: &mut Words<'t>) -> Result<Head<'t>, Unread>
     ensures { Reads HeadAt head_view (command.now ∷ left words.old) (left words.new) result }
 {
     match command {
@@ -178,11 +174,7 @@ fn has_arity(count: usize, arity: Option<usize>) -> bool
 }
 
 /// The operand that begins with this word: `const` and a type, or a type.
-fn read_operand(
-    alloc: Global,
-    word: &str,
-    words: &mut Words,
-) -> Result<WrittenOperand, Unread>
+fn read_operand(alloc: Global, word: &str, words: &mut Words) -> Result<WrittenOperand, Unread>
     ensures goes_on { GoesOn words.old words.new }
     ensures read { Reads OperandAt operand_view (word.now ∷ left words.old) (left words.new) result }
 {

@@ -12,8 +12,8 @@ ghost use Rattle.wgsl_requests.specs.internal.Replied.{Replies, WritesOfStruct, 
 ghost use Rattle.wgsl_requests.specs.internal.Taken.{left};
 ghost use Rattle.wgsl_requests.specs.internal.Written.{Adds};
 
-use crate::rules::RuleSet;
 use crate::read::{read_last_type, read_pair, read_types};
+use crate::rules::RuleSet;
 use crate::standard::answer_standard;
 use crate::template::read_template;
 use crate::wanted::{Misfit, Misread, Wanted};
@@ -90,7 +90,11 @@ fn answer_command(
 
 /// Writes the answer to the request.
 #[inline(always)]
-pub(crate) fn write_answer_to(alloc: Global, request: Request<'_>, text: &mut String) -> Result<(), AllocError>
+pub(crate) fn write_answer_to(
+    alloc: Global,
+    request: Request<'_>,
+    text: &mut String,
+) -> Result<(), AllocError>
     ensures { OnOk result (Adds (IsAnswer (request_view request.entry))
         (string_bytes text.old) (string_bytes text.new)) }
 {

@@ -99,10 +99,7 @@ fn write_callee(text: &mut String, callee: Callee<'_>) -> Result<(), AllocError>
     }
 }
 
-fn write_template(
-    text: &mut String,
-    template: Option<&[TpltParam]>,
-) -> Result<(), AllocError>
+fn write_template(text: &mut String, template: Option<&[TpltParam]>) -> Result<(), AllocError>
     ensures { OnOk result (string_bytes text.new ≡ string_bytes text.old
         ++ template_text (option_map (λ ps. map parameter_view ps.now) template.entry)) }
 {

@@ -30,9 +30,10 @@ returns-then-is_full c =
 pub returns-then-has_arity : goal.returns-then-has_arity
 returns-then-has_arity c =
     let many : vec_len c.loop-word.operands ≡ length c.loop-word.operands.items = search rules in
-    let count : c.len-2.result ≡ length c.loop-word.operands.items = c.len-2.ensures ∙ many in
-    (listed_end _ _ _ c.loop-word.invariant c.in_default.ensures.word,
-      subst (λ n. MatchOption c.args.arity (Unit {0}) (λ m. n ≡ m)) (count ∙ sym (length-map c.loop-word.operands.items operand_view)) (c.has_arity.ensures.0 (search rules)))
+    let count : c.len-2.result ≡ length c.loop-word.operands.items = c.len-2.ensures ∙ many in (
+      listed_end _ _ _ c.loop-word.invariant c.in_default.ensures.word,
+      subst (λ n. MatchOption c.args.arity (Unit {0}) (λ m. n ≡ m)) (count ∙ sym (length-map c.loop-word.operands.items operand_view)) (c.has_arity.ensures.0 (search rules)),
+    )
 
 pub returns-else-has_arity : goal.returns-else-has_arity
 returns-else-has_arity c =
@@ -40,4 +41,4 @@ returns-else-has_arity c =
     let count : c.len-2.result ≡ length c.loop-word.operands.items = c.len-2.ensures ∙ many in
     listed_missing _ _ _ c.loop-word.invariant c.args.arity c.in_default.ensures.word
     (λ h. let k = c.has_arity.ensures.1 (subst (λ n. MatchOption c.args.arity (Unit {0}) (λ m. n ≡ m)) (sym (count ∙ sym (length-map c.loop-word.operands.items operand_view))) h) in
-        let e = c.if-has_arity.false in absurd (cc (k, e)))
+    let e = c.if-has_arity.false in absurd (cc (k, e)))

@@ -1,8 +1,7 @@
-use Rattle.std.proofs.Common.{rules}
-use Rattle.wgsl_rules.specs.types.Spelling.{spelling}
-use Rattle.wgsl_core.specs.View.{view}
-use Rattle.wgsl_requests.proofs.Listings.{listed_seen}
+use Rattle.wgsl_requests.proofs.Listings.{resolution_written}
+use Rattle.std.proofs.Common.{◌∙◌}
+use Rattle.wgsl_requests.proofs.Written.{on_ok}
 use Rattle.wgsl_requests.proofs.overloaded.write_resolved_call.Goals as goal
 
 pub returns : goal.returns
-returns c = rw (listed_seen spelling view c.args.resolved.now.parameters.items) (search rules)
+returns c = on_ok c.write_result.result (λ e. e ∙ resolution_written _ _ _ _ _ _ c.deref.ensures.value c.in_ok-write.ensures.bytes) c.write_result.ensures

@@ -49,5 +49,5 @@ pub returns-in_default : goal.returns-in_default
 returns-in_default c =
     type_replied _ _ _ c.answer_call.result
     (no_type c.args.command.now (left c.args.words.now) c.in_default.not-rank c.in_default.not-common c.in_default.not-size c.in_default.not-offsets c.in_default.not-layout
-        c.in_default.not-resolve c.in_default.not-why c.in_default.not-overloads)
+    c.in_default.not-resolve c.in_default.not-why c.in_default.not-overloads)
     c.answer_call.ensures
