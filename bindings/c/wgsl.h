@@ -60,6 +60,11 @@ uint8_t wgsl_answer(const uint8_t *request, size_t request_len, uint8_t *room, s
  * It returns WGSL_UNREADABLE, and explains nothing, if wgsl_answer has an answer. All else is as for wgsl_answer. */
 uint8_t wgsl_explain(const uint8_t *request, size_t request_len, uint8_t *room, size_t room_len, size_t *text_len);
 
+/* The same by WGSL's own overloads, as the program wgsl_standard answers: README.md has its commands. That no overload takes
+ * the operands is an answer. All else is as for wgsl_answer and wgsl_explain. */
+uint8_t wgsl_standard_answer(const uint8_t *request, size_t request_len, uint8_t *room, size_t room_len, size_t *text_len);
+uint8_t wgsl_standard_explain(const uint8_t *request, size_t request_len, uint8_t *room, size_t room_len, size_t *text_len);
+
 /* The eight calls over numbers. All lengths are in words. *len is set to the length of the answer, on WGSL_RULED_OUT to
  * that of the refusal, on WGSL_NO_ROOM to that of the one that doesn't fit, and else to 0. The room is written on
  * WGSL_ANSWERED and WGSL_RULED_OUT alone, and there its first *len words. The caller owes what it owes for wgsl_answer, but

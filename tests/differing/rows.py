@@ -213,7 +213,7 @@ NOT_ASKED = [
     ("functions of ray queries", None, "they are naga's, so they have no overloads"),
     ("`rayQueryTerminate`, `rayQueryConfirmIntersection`, `rayQueryGenerateIntersection`", None, "these too"),
     ("constructors of arrays with a template", None, "constructors of arrays have no overloads"),
-    ("`atomicCompareExchangeWeak`", None, "ask_standard prints the name of that struct without a type too"),
+    ("`atomicCompareExchangeWeak`", None, "wgsl_standard prints the name of that struct without a type too"),
     ("the texel format `rg11b10ufloat`", None, "both programs have its name from the same crate"),
     ("`TextureType::sampled_type` of `texture_multisampled_2d`", None, "no request asks for it"),
     ("the size and the alignment of `bool`", None, "it is about layout"),

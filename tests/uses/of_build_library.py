@@ -3,7 +3,7 @@ import os
 import shutil
 import signal
 
-from use import BELOW, LIBRARY, add, end_of, equal, expect, read, wait_for_end
+from use import LIBRARY, REQUESTS, add, end_of, equal, expect, read, wait_for_end
 
 HEADERS = ["wgsl.h", "wgsl.hpp", "wgsl_codes.h", "wgsl_types.hpp", "wgsl_words.hpp"]
 WRITTEN = ["libwgsl.a", "libwgsl.so", "libwgsl.so.0", *HEADERS]
@@ -278,7 +278,7 @@ def own_change_after_the_gate(use):
 def proofs_of_ones_own_beside_the_gate(use):
     """Where the crates below were proved by `rt` itself, it goes on from there."""
     use.build_as_gate()
-    for crate in BELOW:
+    for crate in REQUESTS:
         add(use.path("crates", crate, "out", "rlib", "stamp"))
     _writes(use, "built", "14 of 14")
     equal(use.calls(), LIBRARY)

@@ -10,9 +10,10 @@ HERE = os.path.dirname(os.path.realpath(__file__))
 TOP = os.path.dirname(os.path.dirname(HERE))
 STAND_IN = os.path.join(HERE, "stand_in")
 # The crates that the program stands on, in the order of their proofs; and what the toolchain is asked if all are proved.
-BELOW = ["wgsl_syntax", "wgsl_rules", "wgsl_core", "wgsl_calls", "wgsl_standard", "wgsl_types", "wgsl_asked", "wgsl_requests"]
+REQUESTS = ["wgsl_syntax", "wgsl_rules", "wgsl_core", "wgsl_calls", "wgsl_standard", "wgsl_types", "wgsl_asked", "wgsl_requests"]
+BELOW = REQUESTS + ["wgsl_lines"]
 PROGRAM = [f"rt lib {crate}" for crate in BELOW] + ["rt run wgsl_check"]
-BELOW_C = BELOW + ["wgsl_coded", "wgsl_tokens", "wgsl_source", "wgsl_spaces", "wgsl_report"]
+BELOW_C = REQUESTS + ["wgsl_coded", "wgsl_tokens", "wgsl_source", "wgsl_spaces", "wgsl_report"]
 LIBRARY = [f"rt lib {crate}" for crate in BELOW_C + ["wgsl_c"]]
 # What a use gives to standard input, and what the stand-in for the program answers.
 GIVEN, ANSWERS = "a\nb\n", "answer to a\nanswer to b\n"
@@ -38,7 +39,8 @@ def add(path, text="\n"):
 def make_template(folder):
     """The repository that each use begins with, all of whose files are old; and the stand-in's own folder."""
     top, said = os.path.join(folder, "a repository"), os.path.join(folder, "said")
-    for name in ("wgsl_check", "wgsl_layout", "build_library", "package", "test", "proving.sh", "crates.txt", "VERSION", "README.md"):
+    names = "wgsl_check wgsl_standard wgsl_layout build_library package test proving.sh crates.txt VERSION README.md"
+    for name in names.split():
         os.makedirs(top, exist_ok=True)
         shutil.copy(os.path.join(TOP, name), top)
     for name in ("LICENSE", "NOTICE", "CHANGELOG.md"):

@@ -3,6 +3,7 @@ use Rattle.std.specs.Prelude.{◌≡◌, ◌⊎◌, ◌<◌, ◌≤◌, ◌++◌
 use Rattle.std.specs.declared.alloc.AllocError.{AllocError}
 use Rattle.wgsl_requests.specs.Replies.{IsExplanation, IsReplyTo, reply_text}
 use Rattle.wgsl_requests.specs.Words.{has_line_feed, words_of}
+use Rattle.wgsl_requests.specs.declared.rules.RuleSet.{RuleSet}
 use Rattle.wgsl_requests.specs.declared.request.Reply.{Reply}
 use Rattle.wgsl_requests.specs.declared.request.Reply.TheVariants.{Nothing, Answer, Unreadable}
 
@@ -10,17 +11,17 @@ use Rattle.wgsl_requests.specs.declared.request.Reply.TheVariants.{Nothing, Answ
 abbrev pub IsStatus : ℕ → Type 0
 IsStatus status = (status ≡ 0) ⊎ (status ≡ 2) ⊎ (status ≡ 3) ⊎ (status ≡ 4)
 
--- What the library promises of the reply to a request: which it is, and when memory can't have run out.
-pub record IsPromised (request : List ℕ) (reply : Result Reply AllocError) : Type 0 where
-  pub which : IfOk reply (λ r. IsReplyTo request (reply_text r))
+-- What the library promises of the reply to a request, by a set of rules: which it is, and when memory can't have run out.
+pub record IsPromised (rules : RuleSet) (request : List ℕ) (reply : Result Reply AllocError) : Type 0 where
+  pub which : IfOk reply (λ r. IsReplyTo rules request (reply_text r))
   pub too_long : 4096 < length request → reply ≡ Ok Unreadable
   pub forbidden : has_line_feed request ≡ true → reply ≡ Ok Unreadable
   pub no_text : ¬ All IsUtf8 (words_of request) → IfOk reply (λ r. r ≡ Unreadable)
   pub no_words : length request ≤ 4096 → words_of request ≡ [] → IfOk reply (λ r. r ≡ Nothing)
 
 -- what the library promises of an explanation: there is one exactly if the request has no answer
-abbrev pub IsExplained : List ℕ → Result Reply AllocError → Type 0
-IsExplained request reply = IfOk reply (λ r. IsExplanation request r)
+abbrev pub IsExplained : RuleSet → List ℕ → Result Reply AllocError → Type 0
+IsExplained rules request reply = IfOk reply (λ r. IsExplanation rules request r)
 
 -- bytes or words are written if there is room for them: at the start of the room, whose rest stays
 -- as it was

@@ -5,6 +5,7 @@
 mod hand_over;
 mod hand_over_words;
 mod source;
+mod standard_text;
 mod standard_words;
 mod words;
 
@@ -17,6 +18,7 @@ ghost use Rattle.wgsl_c.specs.HandOver.{IsExplained, IsHandedOver, IsPromised, I
 use hand_over::hand_over;
 use std::alloc::Global;
 use wgsl_requests::request::{explain, reply_to};
+use wgsl_requests::rules::RuleSet;
 
 /// Answers one request, as the program answers a line.
 ///
@@ -31,7 +33,7 @@ pub extern "C" fn wgsl_answer(
     text_len: &mut usize,
 ) -> u8
     // The reply to the request is handed over, and what holds of it is said again.
-    ensures reply { (reply : Result Reply AllocError) × IsPromised request.now reply
+    ensures reply { (reply : Result Reply AllocError) × IsPromised RuleSet.Ported request.now reply
         × IsHandedOver reply answer.old answer.new text_len.new result }
 
     ensures status { IsStatus result }
@@ -46,7 +48,7 @@ pub extern "C" fn wgsl_answer(
     ensures no_text { ¬ All IsUtf8 (words_of request.now) → (result ≡ 2) ⊎ (result ≡ 3) }
     ensures no_words { words_of request.now ≡ [] → (result ≡ 2) ⊎ (result ≡ 3) }
 {
-    hand_over(&reply_to(alloc, request), answer, text_len)
+    hand_over(&reply_to(alloc, RuleSet::Ported, request), answer, text_len)
 }
 
 /// Explains why a request can't be read.
@@ -62,7 +64,7 @@ pub extern "C" fn wgsl_explain(
     text_len: &mut usize,
 ) -> u8
     // What the caller gets; the clauses below follow from it.
-    ensures reply { (reply : Result Reply AllocError) × IsExplained request.now reply
+    ensures reply { (reply : Result Reply AllocError) × IsExplained RuleSet.Ported request.now reply
         × IsHandedOver reply room.old room.new text_len.new result }
 
     ensures status { IsStatus result }
@@ -72,5 +74,5 @@ pub extern "C" fn wgsl_explain(
     ensures no_room { result ≡ 4 → length room.old < text_len.new }
     ensures unwritten { result ≢ 0 → room.new ≡ room.old }
 {
-    hand_over(&explain(alloc, request), room, text_len)
+    hand_over(&explain(alloc, RuleSet::Ported, request), room, text_len)
 }

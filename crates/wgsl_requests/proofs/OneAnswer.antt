@@ -13,11 +13,12 @@ use Rattle.wgsl_rules.proofs.layout.StructSizes.{never_both}
 use Rattle.wgsl_rules.proofs.operators.OneAnswer.{operator_answer_once, unary_answer_once}
 use Rattle.wgsl_rules.proofs.constructors.OneAnswer.{constructor_answer_once}
 use Rattle.wgsl_rules.proofs.calls.OneAnswer.{call_answer_once}
-use Rattle.wgsl_asked.specs.Answers.{Answers, WgslAnswer, WgslLayout, IsReceivedCommon, AreOffsetsOf, IsLayoutOf, rank_is, common_is, left_common_is, unary_is, binary_is, candidate_is, size_is, offsets_are, layout_is, ctor_is, call_is}
+use Rattle.wgsl_asked.specs.Answers.{Answers, WgslAnswer, WgslLayout, IsReceivedCommon, AreOffsetsOf, IsLayoutOf, rank_is, common_is, left_common_is, unary_is, binary_is, candidate_is, size_is, offsets_are, layout_is, ctor_is, call_is, type_of_is, resolution_of_is, explanation_of_is, overloads_of_are}
 use Rattle.wgsl_requests.specs.Layouts.{layout_text, spaced}
 use Rattle.wgsl_requests.specs.Laws.{OneAnswer}
 use Rattle.wgsl_requests.specs.Requests.{Request}
-use Rattle.wgsl_requests.specs.Texts.{answer_text, candidate_result, or_message, or_none, value_text}
+use Rattle.wgsl_requests.specs.Texts.{answer_text, candidate_result, lines_text, or_message, or_no_overload, or_none, resolution_text, value_text}
+use Rattle.wgsl_requests.proofs.OneOverloaded.{explanation_once, resolution_once, type_once}
 
 -- at most one number is exactly that
 one_number : (P : ℕ → Type 0) (v w : Option ℕ) → IsExactly v P → IsExactly w P → v ≡ w
@@ -65,6 +66,10 @@ answer_once (offsets_are {ms} o f) (offsets_are p g) = ap (or_none spaced) (some
 answer_once (layout_is {name} {ms} k f) (layout_is l g) = ap (or_none (layout_text name ms)) (some_layout_once ms k l f g)
 answer_once (ctor_is {c} r f) (ctor_is s g) = ap (or_message spelling) (constructor_answer_once c r s f g)
 answer_once (call_is {c} r f) (call_is s g) = ap (or_message value_text) (call_answer_once c r s f g)
+answer_once (type_of_is {c} r f) (type_of_is s g) = ap (or_no_overload value_text c) (type_once c r s f g)
+answer_once (resolution_of_is {c} r f) (resolution_of_is s g) = ap (or_no_overload resolution_text c) (resolution_once c r s f g)
+answer_once (explanation_of_is {c} ls f) (explanation_of_is ms g) = ap lines_text (explanation_once c ls ms f g)
+answer_once (overloads_of_are ls f) (overloads_of_are ms g) = ap lines_text (f ∙ sym g)
 
 pub one_answer : (request : Request) → OneAnswer request
 one_answer request a b d e = d.2 ∙ (answer_once d.1 e.1 ∙ sym e.2)

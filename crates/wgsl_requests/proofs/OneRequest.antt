@@ -5,11 +5,15 @@ use Rattle.wgsl_syntax.proofs.Naming.{binary_naming, unary_naming}
 use Rattle.wgsl_rules.specs.types.Types.{WgslType, struct, Members}
 use Rattle.wgsl_rules.specs.types.Signatures.{Parameter, Signature}
 use Rattle.wgsl_requests.specs.Grammar.{TypeAt, TypesAt}
-use Rattle.wgsl_requests.specs.Requests.{Request, rank, common, unary, binary, size, offsets, layout, ctor, call, IsCallee, IsRequest}
+use Rattle.wgsl_requests.specs.Requests.{Request, rank, common, unary, binary, size, offsets, layout, ctor, call, type_of, resolution_of, explanation_of, overloads_of, IsCallee, IsRequest}
 use Rattle.wgsl_requests.proofs.Meanings.{both_bool}
 use Rattle.wgsl_requests.proofs.OneType.{one_list, one_type}
-use Rattle.wgsl_requests.proofs.Requested.{BinaryForm, CalleeForm, CommonForm, RankForm, RequestForm, SizeForm, StructForm, UnaryForm, request_form}
+use Rattle.wgsl_requests.proofs.Requested.{BinaryForm, CallForm, CalleeForm, OverloadsForm, PortedForm, StandardForm, CommonForm, RankForm, RequestForm, SizeForm, StructForm, UnaryForm, request_form}
+use Rattle.wgsl_requests.proofs.CallReads.{one_call as one_call_read}
 use Rattle.wgsl_requests.proofs.TemplateReads.{one_template}
+use Rattle.wgsl_asked.specs.Calls.{WgslCall}
+use Rattle.wgsl_requests.specs.declared.rules.RuleSet.{RuleSet}
+use Rattle.wgsl_requests.specs.declared.rules.RuleSet.TheVariants.{Ported, Standard}
 
 -- words have this form for at most one request
 abbrev OneForm : (List (List ℕ) → Request → Type 0) → Type 0
@@ -67,9 +71,9 @@ one_callee (word ∷ words) c d f g =
 one_call : (ask : Signature → Request) → OneForm (CalleeForm ask)
 one_call ask words r s f g = f.2 ∙ (ap ask (one_callee words f.0 g.0 f.1 g.1) ∙ sym g.2)
 
-one_form : OneForm RequestForm
-one_form [] r s f g = absurd f
-one_form (word ∷ words) r s f g =
+one_ported : OneForm PortedForm
+one_ported [] r s f g = absurd f
+one_ported (word ∷ words) r s f g =
     both_bool _ _ _ _ _ _ (one_rank words r s)
     (both_bool _ _ _ _ _ _ (one_common words r s)
     (both_bool _ _ _ _ _ _ (one_unary words r s)
@@ -80,5 +84,30 @@ one_form (word ∷ words) r s f g =
     (both_bool _ _ _ _ _ _ (one_call ctor words r s)
     (both_bool _ _ _ _ _ _ (one_call call words r s) (λ x y. absurd x))))))))) f g
 
-pub one_request : (words : List (List ℕ)) (r s : Request) → IsRequest words r → IsRequest words s → r ≡ s
-one_request words r s f g = one_form words r s (request_form f) (request_form g)
+one_overloaded : (ask : WgslCall → Request) → OneForm (CallForm ask)
+one_overloaded ask words r s f g = f.2 ∙ (ap ask (one_call_read words f.0 g.0 f.1 g.1) ∙ sym g.2)
+
+one_overloads : OneForm OverloadsForm
+one_overloads words r s f g =
+    let e : f.0 ∷ [] ≡ g.0 ∷ [] = sym f.1 ∙ g.1 in
+    let name : f.0 ≡ g.0 = cc e in
+    f.2 ∙ (ap overloads_of name ∙ sym g.2)
+
+one_standard : OneForm StandardForm
+one_standard [] r s f g = absurd f
+one_standard (word ∷ words) r s f g =
+    both_bool _ _ _ _ _ _ (one_rank words r s)
+    (both_bool _ _ _ _ _ _ (one_common words r s)
+    (both_bool _ _ _ _ _ _ (one_size words r s)
+    (both_bool _ _ _ _ _ _ (one_struct offsets words r s)
+    (both_bool _ _ _ _ _ _ (one_struct layout words r s)
+    (both_bool _ _ _ _ _ _ (one_overloaded resolution_of words r s)
+    (both_bool _ _ _ _ _ _ (one_overloaded explanation_of words r s)
+    (both_bool _ _ _ _ _ _ (one_overloads words r s) (one_overloaded type_of (word ∷ words) r s)))))))) f g
+
+one_form : (rules : RuleSet) → OneForm (RequestForm rules)
+one_form Ported words r s f g = one_ported words r s f g
+one_form Standard words r s f g = one_standard words r s f g
+
+pub one_request : (rules : RuleSet) (words : List (List ℕ)) (r s : Request) → IsRequest rules words r → IsRequest rules words s → r ≡ s
+one_request rules words r s f g = one_form rules words r s (request_form f) (request_form g)

@@ -1,5 +1,5 @@
 -- What request words spell, by the first word.
-use Rattle.std.proofs.Common.{◌≡◌, ◌≢◌, ℕ, Bool, true, false, List, [], ◌∷◌, codes, refl, sym, subst, ◌∙◌}
+use Rattle.std.proofs.Common.{◌≡◌, ◌≢◌, ℕ, Bool, true, false, List, [], ◌∷◌, Option, codes, refl, sym, subst, ◌∙◌}
 use Rattle.std.specs.Bool.{MatchBool}
 use Rattle.std.specs.Str.{bytes_eq}
 use Rattle.std.proofs.lemmas.Slice.Eq.{bytes_eq-Decides}
@@ -7,10 +7,15 @@ use Rattle.wgsl_syntax.specs.Operator.{binary_text, unary_text}
 use Rattle.wgsl_syntax.specs.declared.operator.BinaryOperator.{BinaryOperator}
 use Rattle.wgsl_syntax.specs.declared.operator.UnaryOperator.{UnaryOperator}
 use Rattle.wgsl_rules.specs.types.Types.{WgslType, struct, Members}
-use Rattle.wgsl_rules.specs.types.Signatures.{Signature}
+use Rattle.wgsl_rules.specs.types.Signatures.{Parameter, Signature}
+use Rattle.wgsl_standard.specs.Callees.{WgslCallee}
+use Rattle.wgsl_asked.specs.Calls.{WgslCall}
+use Rattle.wgsl_requests.specs.Calls.{HeadAt, IsCall, binary_at, call_at, ctor_at, unary_at}
 use Rattle.wgsl_requests.specs.Grammar.{TypeAt, TypesAt}
+use Rattle.wgsl_requests.specs.declared.rules.RuleSet.{RuleSet}
+use Rattle.wgsl_requests.specs.declared.rules.RuleSet.TheVariants.{Ported, Standard}
 use Rattle.wgsl_requests.proofs.OneType.{one_type}
-use Rattle.wgsl_requests.specs.Requests.{Request, rank, common, unary, binary, size, offsets, layout, ctor, call, IsRequest, rank_words, common_words, unary_words, binary_words, size_words, offsets_words, layout_words, ctor_words, call_words, IsCallee, NoRequest}
+use Rattle.wgsl_requests.specs.Requests.{Request, rank, common, unary, binary, size, offsets, layout, ctor, call, IsRequest, rank_words, common_words, unary_words, binary_words, size_words, offsets_words, layout_words, ctor_words, call_words, type_words, resolve_words, why_words, overloads_words, type_of, resolution_of, explanation_of, overloads_of, IsCallee, NoRequest}
 
 abbrev pub RankForm : List (List ℕ) → Request → Type 0
 RankForm words request = (t : WgslType) × (u : WgslType) × TypesAt words (t ∷ u ∷ []) × (request ≡ rank t u)
@@ -33,13 +38,20 @@ StructForm ask words request = (name : List ℕ) × (ms : Members) × TypeAt wor
 abbrev pub CalleeForm : (Signature → Request) → List (List ℕ) → Request → Type 0
 CalleeForm ask words request = (c : Signature) × IsCallee words c × (request ≡ ask c)
 
+abbrev pub CallForm : (WgslCall → Request) → List (List ℕ) → Request → Type 0
+CallForm ask words request = (c : WgslCall) × IsCall words c × (request ≡ ask c)
+
+abbrev pub OverloadsForm : List (List ℕ) → Request → Type 0
+OverloadsForm words request = (name : List ℕ) × (words ≡ name ∷ []) × (request ≡ overloads_of name)
+
 -- P if the word is the key, else Q
 abbrev If : List ℕ → List ℕ → Type 0 → Type 0 → Type 0
 If word key P Q = MatchBool (bytes_eq word key) P Q
 
-abbrev pub RequestForm : List (List ℕ) → Request → Type 0
-RequestForm [] request = ⊥
-RequestForm (word ∷ words) request =
+-- by the rules of wgsl-types
+abbrev pub PortedForm : List (List ℕ) → Request → Type 0
+PortedForm [] request = ⊥
+PortedForm (word ∷ words) request =
     If word (codes "rank") (RankForm words request)
     (If word (codes "common") (CommonForm words request)
     (If word (codes "unary") (UnaryForm words request)
@@ -50,74 +62,129 @@ RequestForm (word ∷ words) request =
     (If word (codes "ctor") (CalleeForm ctor words request)
     (If word (codes "call") (CalleeForm call words request) ⊥))))))))
 
-pub request_form : {words : List (List ℕ)} {request : Request} → IsRequest words request → RequestForm words request
-request_form (rank_words {words} {t} {u} d) = (t, u, d, refl)
-request_form (common_words {words} {ts} d) = (ts, d, refl)
+-- by WGSL's own overloads
+abbrev pub StandardForm : List (List ℕ) → Request → Type 0
+StandardForm [] request = ⊥
+StandardForm (word ∷ words) request =
+    If word (codes "rank") (RankForm words request)
+    (If word (codes "common") (CommonForm words request)
+    (If word (codes "size") (SizeForm words request)
+    (If word (codes "offsets") (StructForm offsets words request)
+    (If word (codes "layout") (StructForm layout words request)
+    (If word (codes "resolve") (CallForm resolution_of words request)
+    (If word (codes "why") (CallForm explanation_of words request)
+    (If word (codes "overloads") (OverloadsForm words request)
+    (CallForm type_of (word ∷ words) request))))))))
+
+abbrev pub RequestForm : RuleSet → List (List ℕ) → Request → Type 0
+RequestForm Ported words request = PortedForm words request
+RequestForm Standard words request = StandardForm words request
+
+-- the words of a call begin with none of the other commands
+call_form : {words after : List (List ℕ)} {h : WgslCallee × Option (List Parameter)} (request : Request) → HeadAt words h after → CallForm type_of words request → StandardForm words request
+call_form request (unary_at o) f = f
+call_form request (binary_at o) f = f
+call_form request (ctor_at d) f = f
+call_form request (call_at d) f = f
+
+-- a form that both sets of rules read alike
+
+rank_form : (rules : RuleSet) (words : List (List ℕ)) (request : Request) → RankForm words request → RequestForm rules (codes "rank" ∷ words) request
+rank_form Ported words request f = f
+rank_form Standard words request f = f
+
+common_form : (rules : RuleSet) (words : List (List ℕ)) (request : Request) → CommonForm words request → RequestForm rules (codes "common" ∷ words) request
+common_form Ported words request f = f
+common_form Standard words request f = f
+
+size_form : (rules : RuleSet) (words : List (List ℕ)) (request : Request) → SizeForm words request → RequestForm rules (codes "size" ∷ words) request
+size_form Ported words request f = f
+size_form Standard words request f = f
+
+offsets_form : (rules : RuleSet) (words : List (List ℕ)) (request : Request) → StructForm offsets words request → RequestForm rules (codes "offsets" ∷ words) request
+offsets_form Ported words request f = f
+offsets_form Standard words request f = f
+
+layout_form : (rules : RuleSet) (words : List (List ℕ)) (request : Request) → StructForm layout words request → RequestForm rules (codes "layout" ∷ words) request
+layout_form Ported words request f = f
+layout_form Standard words request f = f
+
+pub request_form : {rules : RuleSet} {words : List (List ℕ)} {request : Request} → IsRequest rules words request → RequestForm rules words request
+request_form (rank_words {rules} {words} {t} {u} d) = rank_form rules words (rank t u) (t, u, d, refl)
+request_form (common_words {rules} {words} {ts} d) = common_form rules words (common ts) (ts, d, refl)
+request_form (size_words {rules} {words} {t} d) = size_form rules words (size t) (t, d, refl)
+request_form (offsets_words {rules} {words} {name} {ms} d) = offsets_form rules words (offsets name ms) (name, ms, d, refl)
+request_form (layout_words {rules} {words} {name} {ms} d) = layout_form rules words (layout name ms) (name, ms, d, refl)
 request_form (unary_words {words} {t} o d) = (o, t, words, refl, d, refl)
 request_form (binary_words {words} {t} {u} o d) = (o, t, u, words, refl, d, refl)
-request_form (size_words {words} {t} d) = (t, d, refl)
-request_form (offsets_words {words} {name} {ms} d) = (name, ms, d, refl)
-request_form (layout_words {words} {name} {ms} d) = (name, ms, d, refl)
 request_form (ctor_words {words} {c} d) = (c, d, refl)
 request_form (call_words {words} {c} d) = (c, d, refl)
+request_form (type_words {words} {c} d) = call_form (type_of c) d.1 (c, d, refl)
+request_form (resolve_words {words} {c} d) = (c, d, refl)
+request_form (why_words {words} {c} d) = (c, d, refl)
+request_form (overloads_words name) = (name, refl, refl)
 
-pub no_words_no_request : (words : List (List ℕ)) → words ≡ [] → NoRequest words
-no_words_no_request words none request d = subst (λ ws. RequestForm ws request) none (request_form d)
+no_words_no_form : (rules : RuleSet) (request : Request) → ¬ RequestForm rules [] request
+no_words_no_form Ported request f = f
+no_words_no_form Standard request f = f
 
-pub no_rank : (words : List (List ℕ)) → ((t u : WgslType) → TypesAt words (t ∷ u ∷ []) → ⊥) → NoRequest (codes "rank" ∷ words)
+pub no_words_no_request : (rules : RuleSet) (words : List (List ℕ)) → words ≡ [] → NoRequest rules words
+no_words_no_request rules words none request d = no_words_no_form rules request (subst (λ ws. RequestForm rules ws request) none (request_form d))
+
+pub no_rank : (words : List (List ℕ)) → ((t u : WgslType) → TypesAt words (t ∷ u ∷ []) → ⊥) → NoRequest Ported (codes "rank" ∷ words)
 no_rank words none request d = let f : RankForm words request = request_form d in none f.0 f.1 f.2
 
-pub no_common : (words : List (List ℕ)) → ((ts : List WgslType) → TypesAt words ts → ⊥) → NoRequest (codes "common" ∷ words)
+pub no_common : (words : List (List ℕ)) → ((ts : List WgslType) → TypesAt words ts → ⊥) → NoRequest Ported (codes "common" ∷ words)
 no_common words none request d = let f : CommonForm words request = request_form d in none f.0 f.1
 
-pub no_size : (words : List (List ℕ)) → ((t : WgslType) → TypeAt words t [] → ⊥) → NoRequest (codes "size" ∷ words)
+pub no_size : (words : List (List ℕ)) → ((t : WgslType) → TypeAt words t [] → ⊥) → NoRequest Ported (codes "size" ∷ words)
 no_size words none request d = let f : SizeForm words request = request_form d in none f.0 f.1
 
-pub no_offsets : (words : List (List ℕ)) → ((name : List ℕ) (ms : Members) → TypeAt words (struct name ms) [] → ⊥) → NoRequest (codes "offsets" ∷ words)
+pub no_offsets : (words : List (List ℕ)) → ((name : List ℕ) (ms : Members) → TypeAt words (struct name ms) [] → ⊥) → NoRequest Ported (codes "offsets" ∷ words)
 no_offsets words none request d = let f : StructForm offsets words request = request_form d in none f.0 f.1 f.2
 
-pub no_layout : (words : List (List ℕ)) → ((name : List ℕ) (ms : Members) → TypeAt words (struct name ms) [] → ⊥) → NoRequest (codes "layout" ∷ words)
+pub no_layout : (words : List (List ℕ)) → ((name : List ℕ) (ms : Members) → TypeAt words (struct name ms) [] → ⊥) → NoRequest Ported (codes "layout" ∷ words)
 no_layout words none request d = let f : StructForm layout words request = request_form d in none f.0 f.1 f.2
 
-pub no_ctor : (words : List (List ℕ)) → ((c : Signature) → ¬ IsCallee words c) → NoRequest (codes "ctor" ∷ words)
+pub no_ctor : (words : List (List ℕ)) → ((c : Signature) → ¬ IsCallee words c) → NoRequest Ported (codes "ctor" ∷ words)
 no_ctor words none request d = let f : CalleeForm ctor words request = request_form d in none f.0 f.1
 
-pub no_call : (words : List (List ℕ)) → ((c : Signature) → ¬ IsCallee words c) → NoRequest (codes "call" ∷ words)
+pub no_call : (words : List (List ℕ)) → ((c : Signature) → ¬ IsCallee words c) → NoRequest Ported (codes "call" ∷ words)
 no_call words none request d = let f : CalleeForm call words request = request_form d in none f.0 f.1
 
 -- no operator
-pub no_unary_word : (words : List (List ℕ)) → words ≡ [] → NoRequest (codes "unary" ∷ words)
+pub no_unary_word : (words : List (List ℕ)) → words ≡ [] → NoRequest Ported (codes "unary" ∷ words)
 no_unary_word words none request d =
     let f : UnaryForm words request = request_form d in
     let e : [] ≡ unary_text f.0 ∷ f.2 = sym none ∙ f.3 in cc
 
-pub no_binary_word : (words : List (List ℕ)) → words ≡ [] → NoRequest (codes "binary" ∷ words)
+pub no_binary_word : (words : List (List ℕ)) → words ≡ [] → NoRequest Ported (codes "binary" ∷ words)
 no_binary_word words none request d =
     let f : BinaryForm words request = request_form d in
     let e : [] ≡ binary_text f.0 ∷ f.3 = sym none ∙ f.4 in cc
 
 -- another word in the operator's place
-pub no_unary_operator : (words after : List (List ℕ)) (word : List ℕ) → words ≡ word ∷ after → ((o : UnaryOperator) → word ≡ unary_text o → ⊥) → NoRequest (codes "unary" ∷ words)
+pub no_unary_operator : (words after : List (List ℕ)) (word : List ℕ) → words ≡ word ∷ after → ((o : UnaryOperator) → word ≡ unary_text o → ⊥) → NoRequest Ported (codes "unary" ∷ words)
 no_unary_operator words after word is none request d =
     let f : UnaryForm words request = request_form d in
     let e : word ∷ after ≡ unary_text f.0 ∷ f.2 = sym is ∙ f.3 in
     none f.0 (cc e)
 
-pub no_binary_operator : (words after : List (List ℕ)) (word : List ℕ) → words ≡ word ∷ after → ((o : BinaryOperator) → word ≡ binary_text o → ⊥) → NoRequest (codes "binary" ∷ words)
+pub no_binary_operator : (words after : List (List ℕ)) (word : List ℕ) → words ≡ word ∷ after → ((o : BinaryOperator) → word ≡ binary_text o → ⊥) → NoRequest Ported (codes "binary" ∷ words)
 no_binary_operator words after word is none request d =
     let f : BinaryForm words request = request_form d in
     let e : word ∷ after ≡ binary_text f.0 ∷ f.3 = sym is ∙ f.4 in
     none f.0 (cc e)
 
 -- no operands
-pub no_unary_operand : (words after : List (List ℕ)) (word : List ℕ) → words ≡ word ∷ after → ((t : WgslType) → TypeAt after t [] → ⊥) → NoRequest (codes "unary" ∷ words)
+pub no_unary_operand : (words after : List (List ℕ)) (word : List ℕ) → words ≡ word ∷ after → ((t : WgslType) → TypeAt after t [] → ⊥) → NoRequest Ported (codes "unary" ∷ words)
 no_unary_operand words after word is none request d =
     let f : UnaryForm words request = request_form d in
     let e : word ∷ after ≡ unary_text f.0 ∷ f.2 = sym is ∙ f.3 in
     let same : f.2 ≡ after = cc e in
     none f.1 (subst (λ ws. TypeAt ws f.1 []) same f.4)
 
-pub no_binary_operands : (words after : List (List ℕ)) (word : List ℕ) → words ≡ word ∷ after → ((t u : WgslType) → TypesAt after (t ∷ u ∷ []) → ⊥) → NoRequest (codes "binary" ∷ words)
+pub no_binary_operands : (words after : List (List ℕ)) (word : List ℕ) → words ≡ word ∷ after → ((t u : WgslType) → TypesAt after (t ∷ u ∷ []) → ⊥) → NoRequest Ported (codes "binary" ∷ words)
 no_binary_operands words after word is none request d =
     let f : BinaryForm words request = request_form d in
     let e : word ∷ after ≡ binary_text f.0 ∷ f.3 = sym is ∙ f.4 in
@@ -136,10 +203,86 @@ past : (b : Bool) (P Q : Type 0) → b ≡ false → MatchBool b P Q → Q
 past false P Q e m = m
 past true P Q e m = absurd (cc e)
 
-pub no_command : (word : List ℕ) (words : List (List ℕ)) → word ≢ codes "rank" → word ≢ codes "common" → word ≢ codes "unary" → word ≢ codes "binary" → word ≢ codes "size" → word ≢ codes "offsets" → word ≢ codes "layout" → word ≢ codes "ctor" → word ≢ codes "call" → NoRequest (word ∷ words)
+pub no_command : (word : List ℕ) (words : List (List ℕ)) → word ≢ codes "rank" → word ≢ codes "common" → word ≢ codes "unary" → word ≢ codes "binary" → word ≢ codes "size" → word ≢ codes "offsets" → word ≢ codes "layout" → word ≢ codes "ctor" → word ≢ codes "call" → NoRequest Ported (word ∷ words)
 no_command word words a b c d e f g h i request q =
     past _ _ _ (not_eq word _ i) (past _ _ _ (not_eq word _ h) (past _ _ _ (not_eq word _ g) (past _ _ _ (not_eq word _ f) (past _ _ _ (not_eq word _ e) (past _ _ _ (not_eq word _ d) (past _ _ _ (not_eq word _ c) (past _ _ _ (not_eq word _ b) (past _ _ _ (not_eq word _ a) (request_form q)))))))))
 
 -- no struct
 pub other_struct : (words : List (List ℕ)) (t : WgslType) → TypeAt words t [] → ((name : List ℕ) (ms : Members) → ¬ t ≡ struct name ms) → (name : List ℕ) (ms : Members) → TypeAt words (struct name ms) [] → ⊥
 other_struct words t d none name ms e = none name ms (one_type d (struct name ms) [] e).0
+
+-- by WGSL's own overloads
+
+pub no_overloads_name : (words : List (List ℕ)) → words ≡ [] → NoRequest Standard (codes "overloads" ∷ words)
+no_overloads_name words none request d = let f : OverloadsForm words request = request_form d in let e : [] ≡ f.0 ∷ [] = sym none ∙ f.1 in cc e
+
+pub no_overloads_more : (words after : List (List ℕ)) (name : List ℕ) → words ≡ name ∷ after → (after ≡ [] → ⊥) → NoRequest Standard (codes "overloads" ∷ words)
+no_overloads_more words after name is more request d =
+    let f : OverloadsForm words request = request_form d in
+    let e : name ∷ after ≡ f.0 ∷ [] = sym is ∙ f.1 in
+    more (cc e)
+
+pub no_resolve : (words : List (List ℕ)) → ((c : WgslCall) → ¬ IsCall words c) → NoRequest Standard (codes "resolve" ∷ words)
+no_resolve words none request d = let f : CallForm resolution_of words request = request_form d in none f.0 f.1
+
+pub no_why : (words : List (List ℕ)) → ((c : WgslCall) → ¬ IsCall words c) → NoRequest Standard (codes "why" ∷ words)
+no_why words none request d = let f : CallForm explanation_of words request = request_form d in none f.0 f.1
+
+pub no_type : (word : List ℕ) (words : List (List ℕ)) → word ≢ codes "rank" → word ≢ codes "common" → word ≢ codes "size" → word ≢ codes "offsets" → word ≢ codes "layout" → word ≢ codes "resolve" → word ≢ codes "why" → word ≢ codes "overloads"
+    → ((c : WgslCall) → ¬ IsCall (word ∷ words) c) → NoRequest Standard (word ∷ words)
+no_type word words a b c d e f g h none request q =
+    let k : CallForm type_of (word ∷ words) request =
+    past _ _ _ (not_eq word _ h) (past _ _ _ (not_eq word _ g) (past _ _ _ (not_eq word _ f) (past _ _ _ (not_eq word _ e) (past _ _ _ (not_eq word _ d) (past _ _ _ (not_eq word _ c) (past _ _ _ (not_eq word _ b) (past _ _ _ (not_eq word _ a) (request_form q)))))))) in
+    none k.0 k.1
+
+-- what is asked about types alone is the same by both sets of rules
+
+-- a command that is read alike
+pub record IsShared (key : List ℕ) : Type 0 where
+  pub forth : (words : List (List ℕ)) (request : Request) → IsRequest Ported (key ∷ words) request → IsRequest Standard (key ∷ words) request
+  pub back : (words : List (List ℕ)) (request : Request) → IsRequest Standard (key ∷ words) request → IsRequest Ported (key ∷ words) request
+
+in_rank : (rules : RuleSet) (words : List (List ℕ)) (request : Request) → RankForm words request → IsRequest rules (codes "rank" ∷ words) request
+in_rank rules words request f = subst (IsRequest rules (codes "rank" ∷ words)) (sym f.3) (rank_words f.2)
+
+in_common : (rules : RuleSet) (words : List (List ℕ)) (request : Request) → CommonForm words request → IsRequest rules (codes "common" ∷ words) request
+in_common rules words request f = subst (IsRequest rules (codes "common" ∷ words)) (sym f.2) (common_words f.1)
+
+in_size : (rules : RuleSet) (words : List (List ℕ)) (request : Request) → SizeForm words request → IsRequest rules (codes "size" ∷ words) request
+in_size rules words request f = subst (IsRequest rules (codes "size" ∷ words)) (sym f.2) (size_words f.1)
+
+in_offsets : (rules : RuleSet) (words : List (List ℕ)) (request : Request) → StructForm offsets words request → IsRequest rules (codes "offsets" ∷ words) request
+in_offsets rules words request f = subst (IsRequest rules (codes "offsets" ∷ words)) (sym f.3) (offsets_words f.2)
+
+in_layout : (rules : RuleSet) (words : List (List ℕ)) (request : Request) → StructForm layout words request → IsRequest rules (codes "layout" ∷ words) request
+in_layout rules words request f = subst (IsRequest rules (codes "layout" ∷ words)) (sym f.3) (layout_words f.2)
+
+pub rank_shared : IsShared (codes "rank")
+rank_shared = record {
+  forth = λ ws r d. in_rank Standard ws r (request_form d);
+  back = λ ws r d. in_rank Ported ws r (request_form d);
+}
+
+pub common_shared : IsShared (codes "common")
+common_shared = record {
+  forth = λ ws r d. in_common Standard ws r (request_form d);
+  back = λ ws r d. in_common Ported ws r (request_form d);
+}
+
+pub size_shared : IsShared (codes "size")
+size_shared = record {
+  forth = λ ws r d. in_size Standard ws r (request_form d);
+  back = λ ws r d. in_size Ported ws r (request_form d);
+}
+
+pub offsets_shared : IsShared (codes "offsets")
+offsets_shared = record {
+  forth = λ ws r d. in_offsets Standard ws r (request_form d);
+  back = λ ws r d. in_offsets Ported ws r (request_form d);
+}
+
+pub layout_shared : IsShared (codes "layout")
+layout_shared = record {
+  forth = λ ws r d. in_layout Standard ws r (request_form d);
+  back = λ ws r d. in_layout Ported ws r (request_form d);
+}

@@ -1,4 +1,5 @@
 pub mod Answers
+pub mod Calls
 pub mod Grammar
 pub mod Laws
 pub mod Layouts

@@ -3,6 +3,7 @@ use Rattle.std.specs.Prelude.{◌≡◌, ◌≢◌, ◌<◌, ◌≤◌, ◌++◌
 use Rattle.wgsl_requests.specs.Answers.{IsReply}
 use Rattle.wgsl_requests.specs.Requests.{NoRequest}
 use Rattle.wgsl_requests.specs.Words.{has_line_feed, words_of}
+use Rattle.wgsl_requests.specs.declared.rules.RuleSet.{RuleSet}
 use Rattle.wgsl_requests.specs.declared.request.Reply.{Reply}
 use Rattle.wgsl_requests.specs.declared.request.Reply.TheVariants as r
 use Rattle.wgsl_requests.specs.declared.request.ReplyKind.{ReplyKind}
@@ -20,15 +21,15 @@ pub record IsLineOfText (bytes : List ℕ) : Type 0 where
   pub allowed : has_line_feed bytes ≡ false
   pub is_text : All IsUtf8 (words_of bytes)
 
--- the reply to the bytes of a request
-pub data IsReplyTo (bytes : List ℕ) : ReplyText → Type 0 where
-  too_long : 4096 < length bytes → IsReplyTo bytes unreadable
-  forbidden : has_line_feed bytes ≡ true → IsReplyTo bytes unreadable
-  no_text : ¬ All IsUtf8 (words_of bytes) → IsReplyTo bytes unreadable
-  no_request : IsLineOfText bytes → words_of bytes ≢ [] → NoRequest (words_of bytes) → IsReplyTo bytes unreadable
-  no_words : IsLineOfText bytes → words_of bytes ≡ [] → IsReplyTo bytes nothing
-  answered : (text : List ℕ) → IsLineOfText bytes → words_of bytes ≢ [] → IsReply (words_of bytes) text →
-      IsReplyTo bytes (answer text)
+-- the reply to the bytes of a request, by a set of rules
+pub data IsReplyTo (rules : RuleSet) (bytes : List ℕ) : ReplyText → Type 0 where
+  too_long : 4096 < length bytes → IsReplyTo rules bytes unreadable
+  forbidden : has_line_feed bytes ≡ true → IsReplyTo rules bytes unreadable
+  no_text : ¬ All IsUtf8 (words_of bytes) → IsReplyTo rules bytes unreadable
+  no_request : IsLineOfText bytes → words_of bytes ≢ [] → NoRequest rules (words_of bytes) → IsReplyTo rules bytes unreadable
+  no_words : IsLineOfText bytes → words_of bytes ≡ [] → IsReplyTo rules bytes nothing
+  answered : (text : List ℕ) → IsLineOfText bytes → words_of bytes ≢ [] → IsReply rules (words_of bytes) text →
+      IsReplyTo rules bytes (answer text)
 
 -- a request of this kind can't be read
 abbrev pub IsUnreadable : ReplyKind → Type 0
@@ -37,11 +38,11 @@ IsUnreadable k.Answer = ⊥
 IsUnreadable (k.Unreadable why) = Unit {0}
 
 -- the reply is of this kind, and an answer is written at the end of the text
-abbrev pub WritesReply : List ℕ → ReplyKind → List ℕ → List ℕ → Type 0
-WritesReply bytes k.Nothing old new = IsReplyTo bytes nothing
-WritesReply bytes k.Answer old new =
-    (text : List ℕ) × IsReplyTo bytes (answer text) × (new ≡ old ++ text)
-WritesReply bytes (k.Unreadable why) old new = IsReplyTo bytes unreadable
+abbrev pub WritesReply : RuleSet → List ℕ → ReplyKind → List ℕ → List ℕ → Type 0
+WritesReply rules bytes k.Nothing old new = IsReplyTo rules bytes nothing
+WritesReply rules bytes k.Answer old new =
+    (text : List ℕ) × IsReplyTo rules bytes (answer text) × (new ≡ old ++ text)
+WritesReply rules bytes (k.Unreadable why) old new = IsReplyTo rules bytes unreadable
 
 -- a reply, without the memory that holds its text
 abbrev pub reply_text : Reply → ReplyText
@@ -50,7 +51,7 @@ reply_text (r.Answer text) = answer (string_bytes text)
 reply_text r.Unreadable = unreadable
 
 -- what is explained: a sentence for a request that is not answered, and nothing for one that is
-abbrev pub IsExplanation : List ℕ → Reply → Type 0
-IsExplanation bytes r.Nothing = (text : List ℕ) × IsReplyTo bytes (answer text)
-IsExplanation bytes (r.Answer text) = IsReplyTo bytes nothing ⊎ IsReplyTo bytes unreadable
-IsExplanation bytes r.Unreadable = ⊥
+abbrev pub IsExplanation : RuleSet → List ℕ → Reply → Type 0
+IsExplanation rules bytes r.Nothing = (text : List ℕ) × IsReplyTo rules bytes (answer text)
+IsExplanation rules bytes (r.Answer text) = IsReplyTo rules bytes nothing ⊎ IsReplyTo rules bytes unreadable
+IsExplanation rules bytes r.Unreadable = ⊥

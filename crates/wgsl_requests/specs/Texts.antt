@@ -1,10 +1,15 @@
 -- How answers are written.
-use Rattle.std.specs.Prelude.{◌++◌, ℕ, List, [], Option, Some, None, Result, Ok, Err, codes, decimal}
+use Rattle.std.specs.Prelude.{◌++◌, ℕ, List, [], ◌∷◌, Option, Some, None, Result, Ok, Err, codes, decimal}
+use Rattle.std.specs.List.{flat_map}
 use Rattle.wgsl_rules.specs.types.Types.{WgslType}
 use Rattle.wgsl_rules.specs.types.Spelling.{spelling}
 use Rattle.wgsl_rules.specs.errors.Refusals.{Refusal, message}
 use Rattle.wgsl_rules.specs.operators.Answers.{BinaryCandidate}
-use Rattle.wgsl_asked.specs.Answers.{WgslAnswer, a_number, a_size, a_common_type, a_type, a_value, a_candidate, some_offsets, a_layout, out_of_memory}
+use Rattle.wgsl_rules.specs.standard.Choice.{types_of}
+use Rattle.wgsl_rules.specs.types.Signatures.{listed, template_text}
+use Rattle.wgsl_standard.specs.Texts.{name_of}
+use Rattle.wgsl_asked.specs.Calls.{WgslCall, WgslResolution}
+use Rattle.wgsl_asked.specs.Answers.{WgslAnswer, a_number, a_size, a_common_type, a_type, a_value, a_candidate, some_offsets, a_layout, a_type_of, a_resolution_of, some_lines, out_of_memory}
 use Rattle.wgsl_requests.specs.Layouts.{layout_text, spaced}
 
 -- the text of a value, or `none`
@@ -27,6 +32,29 @@ abbrev pub candidate_result : Result BinaryCandidate Refusal → Result WgslType
 candidate_result (Ok c) = Ok c.result
 candidate_result (Err e) = Err e
 
+-- lines, or `none` if there is none
+abbrev pub lines_text : List (List ℕ) → List ℕ
+lines_text [] = codes "none"
+lines_text (line ∷ lines) = line ++ flat_map (λ line. codes "\n" ++ line) lines
+
+-- ``no overload of `vec3<f32>` takes (bool, i32)``
+abbrev pub no_overload_text : WgslCall → List ℕ
+no_overload_text c = codes "no overload of `" ++ name_of c.callee ++ template_text c.template ++ codes "` takes ("
+    ++ listed spelling (types_of c.operands) ++ codes ")"
+
+-- the text of a value, or that no overload takes the operands
+abbrev pub or_no_overload : {A : Type 0} → (A → List ℕ) → WgslCall → Option A → List ℕ
+or_no_overload text c (Some x) = text x
+or_no_overload text c None = no_overload_text c
+
+abbrev pub result_text : Option WgslType → List ℕ
+result_text (Some t) = codes " -> " ++ spelling t
+result_text None = []
+
+-- the index of the overload, the types of its parameters, and its result: `1 (vec3<f32>, f32) -> vec3<f32>`
+abbrev pub resolution_text : WgslResolution → List ℕ
+resolution_text r = decimal r.0 ++ codes " (" ++ listed spelling r.1 ++ codes ")" ++ result_text r.2
+
 -- the text of an answer, of a candidate its result; no request is answered by out of memory
 abbrev pub answer_text : WgslAnswer → List ℕ
 -- `6`
@@ -43,4 +71,8 @@ answer_text (a_candidate r) = or_message spelling (candidate_result r)
 -- `0 16 32`
 answer_text (some_offsets o) = or_none spaced o
 answer_text (a_layout name ms l) = or_none (layout_text name ms) l
+-- `f32`, `no value`, ``no overload of `+` takes (bool, i32)``
+answer_text (a_type_of c r) = or_no_overload value_text c r
+answer_text (a_resolution_of c r) = or_no_overload resolution_text c r
+answer_text (some_lines lines) = lines_text lines
 answer_text out_of_memory = []

@@ -13,6 +13,8 @@ ghost use Rattle.wgsl_requests.specs.internal.Taken.{left};
 ghost use Rattle.wgsl_requests.specs.internal.Written.{Adds};
 
 use crate::read::{read_last_type, read_pair, read_types};
+use crate::rules::RuleSet;
+use crate::standard::answer_standard;
 use crate::template::read_template;
 use crate::wanted::{Misfit, Misread, Wanted};
 use crate::words::{Unread, Words, parsed};
@@ -27,15 +29,16 @@ use wgsl_types::ty::Type;
 /// Writes the answer to the command and the words after it, or returns what is wrong with them if they are no command.
 pub fn write_answer(
     alloc: Global,
+    rules: RuleSet,
     command: &str,
     words: &mut Words,
     text: &mut String,
 ) -> Result<Option<Misread>, AllocError>
     ensures { IfOk result (λ misread. MatchOption misread
-        (Adds (IsReply (command.now ∷ left words.old)) (string_bytes text.old) (string_bytes text.new))
-        (λ misread. NoRequest (command.now ∷ left words.old))) }
+        (Adds (IsReply rules (command.now ∷ left words.old)) (string_bytes text.old) (string_bytes text.new))
+        (λ misread. NoRequest rules (command.now ∷ left words.old))) }
 {
-    match answer_command(alloc, command, words, text) {
+    match answer_by(alloc, rules, command, words, text) {
         Ok(()) => Ok(None),
         Err(Unread::Word(misfit)) => Ok(Some(Misread {
             misfit,
@@ -45,13 +48,30 @@ pub fn write_answer(
     }
 }
 
+#[inline(always)]
+fn answer_by(
+    alloc: Global,
+    rules: RuleSet,
+    command: &str,
+    words: &mut Words,
+    text: &mut String,
+) -> Result<(), Unread>
+    ensures { Replies rules (command.now ∷ left words.old)
+        (string_bytes text.old) (string_bytes text.new) result }
+{
+    match rules {
+        RuleSet::Ported => answer_command(alloc, command, words, text),
+        RuleSet::Standard => answer_standard(alloc, command, words, text),
+    }
+}
+
 fn answer_command(
     alloc: Global,
     command: &str,
     words: &mut Words,
     text: &mut String,
 ) -> Result<(), Unread>
-    ensures { Replies (command.now ∷ left words.old)
+    ensures { Replies RuleSet.Ported (command.now ∷ left words.old)
         (string_bytes text.old) (string_bytes text.new) result }
 {
     match command {
@@ -70,7 +90,11 @@ fn answer_command(
 
 /// Writes the answer to the request.
 #[inline(always)]
-fn write_answer_to(alloc: Global, request: Request<'_>, text: &mut String) -> Result<(), AllocError>
+pub(crate) fn write_answer_to(
+    alloc: Global,
+    request: Request<'_>,
+    text: &mut String,
+) -> Result<(), AllocError>
     ensures { OnOk result (Adds (IsAnswer (request_view request.entry))
         (string_bytes text.old) (string_bytes text.new)) }
 {
@@ -79,8 +103,8 @@ fn write_answer_to(alloc: Global, request: Request<'_>, text: &mut String) -> Re
 }
 
 /// `rank T U`: the rank of the conversion.
-fn rank(alloc: Global, words: &mut Words, text: &mut String) -> Result<(), Unread>
-    ensures { Replies (codes "rank" ∷ left words.old)
+pub(crate) fn rank(alloc: Global, words: &mut Words, text: &mut String) -> Result<(), Unread>
+    ensures { Replies RuleSet.Ported (codes "rank" ∷ left words.old)
         (string_bytes text.old) (string_bytes text.new) result }
 {
     let types = read_pair(alloc, words)?;
@@ -90,8 +114,8 @@ fn rank(alloc: Global, words: &mut Words, text: &mut String) -> Result<(), Unrea
 }
 
 /// `common T..`: the common type of all.
-fn common(alloc: Global, words: &mut Words, text: &mut String) -> Result<(), Unread>
-    ensures { Replies (codes "common" ∷ left words.old)
+pub(crate) fn common(alloc: Global, words: &mut Words, text: &mut String) -> Result<(), Unread>
+    ensures { Replies RuleSet.Ported (codes "common" ∷ left words.old)
         (string_bytes text.old) (string_bytes text.new) result }
 {
     let types = read_types(alloc, words)?;
@@ -102,7 +126,7 @@ fn common(alloc: Global, words: &mut Words, text: &mut String) -> Result<(), Unr
 
 /// `unary OP T`: the type of the expression, or why it has none.
 fn unary(alloc: Global, words: &mut Words, text: &mut String) -> Result<(), Unread>
-    ensures { Replies (codes "unary" ∷ left words.old)
+    ensures { Replies RuleSet.Ported (codes "unary" ∷ left words.old)
         (string_bytes text.old) (string_bytes text.new) result }
 {
     let operator = unary_operator(words.next(Wanted::UnaryOperator)?)?;
@@ -112,7 +136,7 @@ fn unary(alloc: Global, words: &mut Words, text: &mut String) -> Result<(), Unre
     Ok(written?)
 }
 
-fn unary_operator(word: &str) -> Result<UnaryOperator, Unread>
+pub(crate) fn unary_operator(word: &str) -> Result<UnaryOperator, Unread>
     ensures { ReadsWord (λ word operator. word ≡ unary_text operator) word.now result }
 {
     parsed(word, Wanted::UnaryOperator)
@@ -120,7 +144,7 @@ fn unary_operator(word: &str) -> Result<UnaryOperator, Unread>
 
 /// `binary OP T U`: the type of the expression, or why it has none.
 fn binary(alloc: Global, words: &mut Words, text: &mut String) -> Result<(), Unread>
-    ensures { Replies (codes "binary" ∷ left words.old)
+    ensures { Replies RuleSet.Ported (codes "binary" ∷ left words.old)
         (string_bytes text.old) (string_bytes text.new) result }
 {
     let operator = binary_operator(words.next(Wanted::BinaryOperator)?)?;
@@ -130,15 +154,15 @@ fn binary(alloc: Global, words: &mut Words, text: &mut String) -> Result<(), Unr
     Ok(written?)
 }
 
-fn binary_operator(word: &str) -> Result<BinaryOperator, Unread>
+pub(crate) fn binary_operator(word: &str) -> Result<BinaryOperator, Unread>
     ensures { ReadsWord (λ word operator. word ≡ binary_text operator) word.now result }
 {
     parsed(word, Wanted::BinaryOperator)
 }
 
 /// `size T`: the size and the alignment.
-fn size(alloc: Global, words: &mut Words, text: &mut String) -> Result<(), Unread>
-    ensures { Replies (codes "size" ∷ left words.old)
+pub(crate) fn size(alloc: Global, words: &mut Words, text: &mut String) -> Result<(), Unread>
+    ensures { Replies RuleSet.Ported (codes "size" ∷ left words.old)
         (string_bytes text.old) (string_bytes text.new) result }
 {
     let ty = read_last_type(alloc, words)?;
@@ -148,8 +172,8 @@ fn size(alloc: Global, words: &mut Words, text: &mut String) -> Result<(), Unrea
 }
 
 /// `offsets T` for a struct T: the offset of each member.
-fn offsets(alloc: Global, words: &mut Words, text: &mut String) -> Result<(), Unread>
-    ensures { Replies (codes "offsets" ∷ left words.old)
+pub(crate) fn offsets(alloc: Global, words: &mut Words, text: &mut String) -> Result<(), Unread>
+    ensures { Replies RuleSet.Ported (codes "offsets" ∷ left words.old)
         (string_bytes text.old) (string_bytes text.new) result }
 {
     let ty = read_last_type(alloc, words)?;
@@ -169,8 +193,8 @@ fn write_offsets_of(alloc: Global, ty: &Type, text: &mut String) -> Result<(), U
 }
 
 /// `layout T` for a struct T: a report of its members and of the whole.
-fn layout(alloc: Global, words: &mut Words, text: &mut String) -> Result<(), Unread>
-    ensures { Replies (codes "layout" ∷ left words.old)
+pub(crate) fn layout(alloc: Global, words: &mut Words, text: &mut String) -> Result<(), Unread>
+    ensures { Replies RuleSet.Ported (codes "layout" ∷ left words.old)
         (string_bytes text.old) (string_bytes text.new) result }
 {
     let ty = read_last_type(alloc, words)?;
@@ -226,7 +250,7 @@ fn read_callee<'t>(alloc: Global, words: &mut Words<'t>) -> Result<Callee<'t>, U
 
 /// `ctor NAME P T..`: the type that the constructor makes, or why it makes none.
 fn ctor(alloc: Global, words: &mut Words, text: &mut String) -> Result<(), Unread>
-    ensures { Replies (codes "ctor" ∷ left words.old)
+    ensures { Replies RuleSet.Ported (codes "ctor" ∷ left words.old)
         (string_bytes text.old) (string_bytes text.new) result }
 {
     let callee = read_callee(alloc, words)?;
@@ -237,7 +261,7 @@ fn ctor(alloc: Global, words: &mut Words, text: &mut String) -> Result<(), Unrea
 
 /// `call NAME P T..`: the type of the call, or why it has none; `no value` if it gives none.
 fn call(alloc: Global, words: &mut Words, text: &mut String) -> Result<(), Unread>
-    ensures { Replies (codes "call" ∷ left words.old)
+    ensures { Replies RuleSet.Ported (codes "call" ∷ left words.old)
         (string_bytes text.old) (string_bytes text.new) result }
 {
     let callee = read_callee(alloc, words)?;

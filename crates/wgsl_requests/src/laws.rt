@@ -5,12 +5,13 @@ ghost use Rattle.wgsl_requests.specs.Grammar.{TypeAt};
 ghost use Rattle.wgsl_requests.specs.Laws.{OneAnswer};
 ghost use Rattle.wgsl_requests.specs.Replies.{ReplyText, IsReplyTo};
 ghost use Rattle.wgsl_requests.specs.Requests.{Request, IsRequest};
+ghost use Rattle.wgsl_requests.specs.declared.rules.RuleSet.{RuleSet};
 
-/// Words spell at most one request.
+/// By a set of rules, words spell at most one request.
 #[tactic(auto, using(crate::proofs::OneRequest::one_request))]
 pub fn one_request()
-    ensures { (words : List (List ℕ)) (a b : Request)
-        → IsRequest words a → IsRequest words b → a ≡ b }
+    ensures { (rules : RuleSet) (words : List (List ℕ)) (a b : Request)
+        → IsRequest rules words a → IsRequest rules words b → a ≡ b }
 {}
 
 /// Words begin with at most one type, and no type's words begin another's.
@@ -25,8 +26,9 @@ pub fn one_answer()
     ensures { (request : Request) → OneAnswer request }
 {}
 
-/// The bytes of a request have at most one reply.
+/// By a set of rules, the bytes of a request have at most one reply.
 #[tactic(auto, using(crate::proofs::OneReply::one_reply))]
 pub fn one_reply()
-    ensures { (bytes : List ℕ) (a b : ReplyText) → IsReplyTo bytes a → IsReplyTo bytes b → a ≡ b }
+    ensures { (rules : RuleSet) (bytes : List ℕ) (a b : ReplyText)
+        → IsReplyTo rules bytes a → IsReplyTo rules bytes b → a ≡ b }
 {}

@@ -1,15 +1,20 @@
 //! Requests in words, and their answers: what the program and the library for C have in common.
 #![tactic(auto)]
 
+mod call;
 pub mod command;
 mod fast;
 pub mod laws;
 mod leaf;
+mod lists;
 mod outer;
+mod overloaded;
 pub mod read;
 mod report;
 pub mod request;
+pub mod rules;
 pub mod split;
+mod standard;
 pub mod template;
 pub mod wanted;
 pub mod why;

@@ -4,6 +4,7 @@ ghost use Rattle.wgsl_requests.specs.Replies.{IsExplanation, IsReplyTo, IsUnread
 ghost use Rattle.wgsl_requests.specs.Words.{has_line_feed, words_of};
 
 use crate::command::write_answer;
+use crate::rules::RuleSet;
 use crate::split::has_line_feed;
 use crate::wanted::Wanted;
 use crate::why::{Why, write_why};
@@ -32,28 +33,29 @@ pub enum ReplyKind {
     Unreadable(Why),
 }
 
-/// The reply to the request.
-pub fn reply_to(alloc: Global, request: &[u8]) -> Result<Reply, AllocError>
+/// The reply to the request, by a set of rules.
+pub fn reply_to(alloc: Global, rules: RuleSet, request: &[u8]) -> Result<Reply, AllocError>
     ensures too_long { LONGEST < length request.now → result ≡ Ok Reply.Unreadable }
     ensures forbidden { has_line_feed request.now ≡ true → result ≡ Ok Reply.Unreadable }
     ensures no_text { ¬ All IsUtf8 (words_of request.now)
         → IfOk result (λ reply. reply ≡ Reply.Unreadable) }
     ensures no_words { length request.now ≤ LONGEST → words_of request.now ≡ []
         → IfOk result (λ reply. reply ≡ Reply.Nothing) }
-    ensures reply { IfOk result (λ reply. IsReplyTo request.now (reply_text reply)) }
+    ensures reply { IfOk result (λ reply. IsReplyTo rules request.now (reply_text reply)) }
 {
     let mut text = String::new(alloc);
-    match write_reply(alloc, request, &mut text)? {
+    match write_reply(alloc, rules, request, &mut text)? {
         ReplyKind::Nothing => Ok(Reply::Nothing),
         ReplyKind::Answer => Ok(Reply::Answer(text)),
         ReplyKind::Unreadable(_) => Ok(Reply::Unreadable),
     }
 }
 
-/// The kind of the reply to the request. An answer is written at the end of the text.
+/// The kind of the reply to the request, by a set of rules. An answer is written at the end of the text.
 #[inline(always)]
 pub fn write_reply(
     alloc: Global,
+    rules: RuleSet,
     request: &[u8],
     text: &mut String,
 ) -> Result<ReplyKind, AllocError>
@@ -64,7 +66,7 @@ pub fn write_reply(
     ensures no_words { length request.now ≤ LONGEST → words_of request.now ≡ []
         → result ≡ Ok ReplyKind.Nothing }
     ensures reply { IfOk result (λ kind.
-        WritesReply request.now kind (string_bytes text.old) (string_bytes text.new)) }
+        WritesReply rules request.now kind (string_bytes text.old) (string_bytes text.new)) }
 {
     if request.len() > LONGEST {
         return Ok(ReplyKind::Unreadable(Why::TooLong));
@@ -78,18 +80,18 @@ pub fn write_reply(
     let Ok(command) = words.next(Wanted::Command) else {
         return Ok(ReplyKind::Nothing);
     };
-    match write_answer(alloc, command, &mut words, text)? {
+    match write_answer(alloc, rules, command, &mut words, text)? {
         None => Ok(ReplyKind::Answer),
         Some(misread) => Ok(ReplyKind::Unreadable(Why::Word(misread))),
     }
 }
 
 /// Why the request can't be read: the sentence is the answer. There is nothing to explain of a request that is answered.
-pub fn explain(alloc: Global, request: &[u8]) -> Result<Reply, AllocError>
-    ensures { IfOk result (λ reply. IsExplanation request.now reply) }
+pub fn explain(alloc: Global, rules: RuleSet, request: &[u8]) -> Result<Reply, AllocError>
+    ensures { IfOk result (λ reply. IsExplanation rules request.now reply) }
 {
     let mut text = String::new(alloc);
-    let kind = write_reply(alloc, request, &mut text);
+    let kind = write_reply(alloc, rules, request, &mut text);
     drop(text);
     match kind? {
         ReplyKind::Answer => Ok(Reply::Nothing),

@@ -77,6 +77,8 @@ pub enum Misfit {
     Wrong(Wanted),
     /// A word is left, and nothing is wanted.
     LeftOver,
+    /// Nothing was wanted when the last word was taken.
+    Surplus,
     /// The words after the command are a type, and not a struct.
     NoStruct,
 }

@@ -30,7 +30,7 @@ pub fn write_why(request: &[u8], why: Why, text: &mut String) -> Result<(), Allo
 fn write_misread(request: &[u8], misread: Misread, text: &mut String) -> Result<(), AllocError> {
     let taken = words_up_to(request, misread.taken);
     let number = match misread.misfit {
-        Misfit::Wrong(_) => taken,
+        Misfit::Wrong(_) | Misfit::Surplus => taken,
         Misfit::Missing(_) | Misfit::LeftOver => taken.saturating_add(1),
         Misfit::NoStruct => 2,
     };
@@ -41,7 +41,7 @@ fn write_misread(request: &[u8], misread: Misread, text: &mut String) -> Result<
 fn wanted(misfit: Misfit) -> Option<Wanted> {
     match misfit {
         Misfit::Missing(wanted) | Misfit::Wrong(wanted) => Some(wanted),
-        Misfit::LeftOver => None,
+        Misfit::LeftOver | Misfit::Surplus => None,
         Misfit::NoStruct => Some(Wanted::Struct),
     }
 }

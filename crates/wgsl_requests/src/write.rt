@@ -11,6 +11,7 @@ ghost use Rattle.wgsl_requests.specs.Texts.{answer_text, or_none, value_text};
 ghost use Rattle.wgsl_requests.specs.internal.Written.{IsRefusal};
 
 use crate::fast::number::write_number;
+use crate::overloaded::{write_notes, write_resolution_of, write_signatures, write_type_of};
 use crate::report::write_layout;
 use std::alloc::AllocError;
 use wgsl_asked::answers::{Answer, Operands};
@@ -38,6 +39,10 @@ pub fn write(answer: Answer<'_>, text: &mut String) -> Result<(), AllocError>
         Answer::Binary(Err(operands)) => write_operands(text, operands),
         Answer::Offsets(offsets) => write_offsets(text, offsets),
         Answer::Layout(structure, layout) => write_layout(text, structure, layout),
+        Answer::TypeOf(call, found) => write_type_of(text, call, found),
+        Answer::Resolution(call, found) => write_resolution_of(text, call, found),
+        Answer::Overloads(signatures) => write_signatures(text, signatures),
+        Answer::Notes(notes) => write_notes(text, notes),
     }
 }
 
@@ -127,7 +132,7 @@ fn write_value_or_refusal(
     written
 }
 
-fn write_value(text: &mut String, value: &Option<Type>) -> Result<(), AllocError>
+pub(crate) fn write_value(text: &mut String, value: &Option<Type>) -> Result<(), AllocError>
     ensures { OnOk result (string_bytes text.new
         ≡ string_bytes text.old ++ value_text (option_map view value.now)) }
 {

@@ -11,3 +11,11 @@ pub mod Overloads
 pub mod Notes
 pub mod Standard
 pub mod Answered
+pub mod Found
+pub mod WordMeanings
+pub mod TypesFound
+pub mod ListsFound
+pub mod CalleesFound
+pub mod CallsFound
+pub mod RequestsFound
+pub mod Replied

@@ -1,7 +1,9 @@
 // Every request has exactly one answer: each function returns nothing, and its contract is the law.
-ghost use Rattle.std.specs.Prelude.{◌≡◌};
+ghost use Rattle.std.specs.Prelude.{◌≡◌, ℕ, List};
 ghost use Rattle.wgsl_asked.specs.Answers.{Answers, WgslAnswer};
 ghost use Rattle.wgsl_asked.specs.Requests.{WgslRequest};
+ghost use Rattle.wgsl_requests.specs.Replies.{IsReplyTo, ReplyText};
+ghost use Rattle.wgsl_requests.specs.declared.rules.RuleSet.{RuleSet};
 
 /// Every request has an answer, whatever types it names.
 #[tactic(auto, using(crate::proofs::Answered::some_answer))]
@@ -13,4 +15,11 @@ pub fn every_request_has_an_answer()
 pub fn no_request_has_two_answers()
     ensures { (request : WgslRequest) (a b : WgslAnswer)
         → Answers request a → Answers request b → a ≡ b }
+{}
+
+/// The bytes of a request have exactly one reply, by either set of rules.
+#[tactic(auto, using(crate::proofs::Replied::only_reply))]
+pub fn every_text_has_one_reply()
+    ensures { (rules : RuleSet) (bytes : List ℕ) → (reply : ReplyText) × IsReplyTo rules bytes reply
+        × ((other : ReplyText) → IsReplyTo rules bytes other → other ≡ reply) }
 {}

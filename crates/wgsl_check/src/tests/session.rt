@@ -1,7 +1,7 @@
 // A session: what short, interrupted and failed reads and writes come to.
 use super::support::streams::{Source, Target};
 use super::support::{WHOLE, expect};
-use crate::run::RunError;
+use wgsl_lines::run::RunError;
 use std::io::ErrorKind;
 
 // A body of most calls that answers out of memory whatever it is asked meets its contract too.

@@ -8,13 +8,14 @@ use Rattle.wgsl_requests.specs.Answers.{IsAnswer, IsReply}
 use Rattle.wgsl_requests.specs.Reading.{Answers}
 use Rattle.wgsl_requests.specs.Requests.{NoRequest, Request}
 use Rattle.wgsl_requests.specs.declared.command.Callee.{Callee}
+use Rattle.wgsl_requests.specs.declared.rules.RuleSet.{RuleSet}
 use Rattle.wgsl_requests.specs.declared.words.Unread.{Unread}
 use Rattle.wgsl_requests.specs.internal.Written.{Adds}
 
 -- The answer to the request that the words spell is written. The error is `Word` only if they
 -- spell none.
-abbrev pub Replies : List (List ℕ) → List ℕ → List ℕ → Result (Unit {0}) Unread → Type 0
-Replies words old new r = Answers (λ done. Adds (IsReply words) old new) (NoRequest words) r
+abbrev pub Replies : RuleSet → List (List ℕ) → List ℕ → List ℕ → Result (Unit {0}) Unread → Type 0
+Replies rules words old new r = Answers (λ done. Adds (IsReply rules words) old new) (NoRequest rules words) r
 
 -- The answer to what is asked of the struct is written. The error is `Word` only if the type is no struct.
 abbrev pub WritesOfStruct : (List ℕ → Members → Request) → WgslType → List ℕ → List ℕ →

@@ -5,6 +5,7 @@ use Rattle.wgsl_requests.specs.Requests.{NoRequest}
 use Rattle.wgsl_requests.specs.internal.Written.{Adds}
 use Rattle.wgsl_requests.specs.Replies.{IsLineOfText, too_long, forbidden, no_text, no_request, no_words, answered}
 use Rattle.wgsl_requests.specs.Words.{has_line_feed, words_of}
+use Rattle.wgsl_requests.specs.declared.rules.RuleSet.{RuleSet}
 use Rattle.wgsl_requests.proofs.FirstWord.{blank-no_line_feed}
 use Rattle.wgsl_requests.proofs.request.write_reply.Goals as goal
 
@@ -35,8 +36,8 @@ returns-in_default-next-clause-reply c =
     (sym c.in-Some.ensures.words ∙ c.in_default-next.ensures.word)
 
 -- what was written for all of the words
-written : (words all : List (List ℕ)) (old new : List ℕ) → words ≡ all → Adds (IsReply words) old new → Adds (IsReply all) old new
-written words all old new same w = subst (λ ws. Adds (IsReply ws) old new) same w
+written : (rules : RuleSet) (words all : List (List ℕ)) (old new : List ℕ) → words ≡ all → Adds (IsReply rules words) old new → Adds (IsReply rules all) old new
+written rules words all old new same w = subst (λ ws. Adds (IsReply rules ws) old new) same w
 
 -- what write_answer promises where it finds nothing wrong, and where it does
 told_none : {A : Type 0} (found : Option A) (P N : Type 0) → found ≡ None → MatchOption found P (λ misread. N) → P
@@ -50,11 +51,11 @@ told_some (Some b) a P N e m = m
 pub returns-in-None-clause-reply : goal.returns-in-None-clause-reply
 returns-in-None-clause-reply c =
     let first = sym c.in-Some.ensures.words ∙ c.in-Ok.ensures.word in
-    let w = written _ _ _ _ (sym first) (told_none _ _ _ c.in-None.is c.in_ok-write_answer.ensures) in
+    let w = written c.args.rules _ _ _ _ (sym first) (told_none _ _ _ c.in-None.is c.in_ok-write_answer.ensures) in
     (w.0, answered _ (line _ _ (first_of (search rules, omega arith)) c.has_line_feed.ensures c.if-has_line_feed.false c.in-Some.ensures.text) (begins _ _ _ first) w.1, w.2)
 
 pub returns-in-Some-2-clause-reply : goal.returns-in-Some-2-clause-reply
 returns-in-Some-2-clause-reply c =
     let first = sym c.in-Some.ensures.words ∙ c.in-Ok.ensures.word in
     no_request (line _ _ (first_of (search rules, omega arith)) c.has_line_feed.ensures c.if-has_line_feed.false c.in-Some.ensures.text)
-    (begins _ _ _ first) (subst NoRequest (sym first) (told_some _ _ _ _ c.in-Some-2.is c.in_ok-write_answer.ensures))
+    (begins _ _ _ first) (subst (NoRequest c.args.rules) (sym first) (told_some _ _ _ _ c.in-Some-2.is c.in_ok-write_answer.ensures))

@@ -1,5 +1,0 @@
-use Rattle.wgsl_check.proofs.OneText.{one_text}
-use Rattle.wgsl_check.proofs.laws.one_text.Goals as goal
-
-pub returns : goal.returns
-returns c = one_text

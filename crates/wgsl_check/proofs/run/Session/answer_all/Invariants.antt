@@ -1,6 +1,0 @@
-use Rattle.wgsl_check.specs.Session.{IsAtStart}
-use Rattle.wgsl_check.proofs.Steps.{HasReached}
-use Rattle.wgsl_check.proofs.run.Session.answer_all.Given as goal
-
-abbrev pub invariant-loop : goal.invariant-loop
-invariant-loop g l = IsAtStart l.fn.self → HasReached (g.R.Read.remaining l.fn.input) (g.R.Read.remaining l.input) (g.W.Write.contents l.fn.output) (g.W.Write.contents l.output) l.self

@@ -1,0 +1,184 @@
+-- A step of a run: bytes taken, a line answered, answers written.
+use Rattle.std.proofs.Common.{◌≡◌, ◌≢◌, ◌∙◌, ℕ, Bool, true, ◌&&◌, List, [], ◌∷◌, ◌++◌, ap, append_assoc, arith, refl, string_bytes, subst, sym, take}
+use Rattle.std.proofs.lemmas.List.{append-nil, take_all}
+use Rattle.std.proofs.lemmas.List.Elements.{All-append, All-nil}
+use Rattle.std.proofs.lemmas.Slice.Zip.{all_zipped_more}
+use Rattle.std.specs.List.{AllZip, list_all}
+use Rattle.wgsl_requests.specs.Replies.{IsReplyTo}
+use Rattle.wgsl_lines.specs.declared.run.RunError.TheVariants.{Write, Memory}
+use Rattle.wgsl_lines.specs.declared.run.Session.{Session}
+use Rattle.wgsl_lines.specs.Output.{is_readable, lines_of, next_number, printed, printed_from, Prints, PrintsLines, PrintsUntil, PrintsUpTo}
+use Rattle.wgsl_lines.specs.Session.{AnswersLine, HasTaken, IsAtStart, StopsAfter}
+use Rattle.wgsl_lines.proofs.Lines.{NoLineFeed, ends_last, ends_line, ends_more, ends_none, lines-some}
+use Rattle.wgsl_lines.proofs.Replies.{number-push, of_cut_first, printed-push, readable-push, take-cut}
+use Rattle.wgsl_requests.specs.declared.rules.RuleSet.{RuleSet}
+
+-- of the block some bytes are taken, and the rest is left
+pub record TakesPart (rules : RuleSet) (bytes before block rest : List ℕ) (session : Session) : Type 0 where
+  pub part : List ℕ
+  pub block_is : block ≡ part ++ rest
+  pub taken : HasTaken rules (bytes ++ part) before session
+
+-- the line goes on by these bytes, and all else stays
+pub record IsExtended (more : List ℕ) (old new : Session) : Type 0 where
+  pub kept : new.line.bytes.items ≡ take 4097 (old.line.bytes.items ++ more)
+  pub number : new.line.number ≡ old.line.number
+  pub answers : string_bytes new.answers ≡ string_bytes old.answers
+  pub all_readable : new.all_readable ≡ old.all_readable
+
+module _ (rules : RuleSet) where
+  -- before the first byte
+  pub taken_none : (session : Session) → IsAtStart session → HasTaken rules [] [] session
+  taken_none session start = record {
+    ended = [];
+    begun = [];
+    lines = ends_none;
+    no_line_feed = All-nil (λ byte. byte ≢ 10);
+    replies = [];
+    each = tt;
+    answers = start.no_answers;
+    all_readable = start.all_readable;
+    kept = start.no_bytes ∙ sym (take_all 4097 [] (omega arith));
+    number = start.first_line;
+  }
+
+  -- more bytes of the line
+  pub taken_more : (bytes before more : List ℕ) (old new : Session) → HasTaken rules bytes before old → NoLineFeed more
+      → new.line.bytes.items ≡ take 4097 (old.line.bytes.items ++ more) → new.line.number ≡ old.line.number
+      → string_bytes new.answers ≡ string_bytes old.answers → new.all_readable ≡ old.all_readable → HasTaken rules (bytes ++ more) before new
+  taken_more bytes before more old new taken all kept number answers readable = record {
+    ended = taken.ended;
+    begun = taken.begun ++ more;
+    lines = ends_more bytes taken.begun more taken.ended taken.lines;
+    no_line_feed = All-append (λ byte. byte ≢ 10) taken.begun more taken.no_line_feed all;
+    replies = taken.replies;
+    each = taken.each;
+    answers = ap (λ text. before ++ text) answers ∙ taken.answers;
+    all_readable = readable ∙ taken.all_readable;
+    kept = kept ∙ (ap (λ line. take 4097 (line ++ more)) taken.kept ∙ take-cut 4097 taken.begun more);
+    number = number ∙ taken.number;
+  }
+
+  -- the line that has begun ends with these bytes, and is answered
+  module _ (bytes before : List ℕ) (old new : Session) (taken : HasTaken rules bytes before old) (end : List ℕ) (a : AnswersLine rules (old.line.bytes.items ++ end) old new) where
+    is_reply : IsReplyTo rules (taken.begun ++ end) a.reply
+    is_reply = of_cut_first rules taken.begun end a.reply (subst (λ begun. IsReplyTo rules (begun ++ end) a.reply) taken.kept a.is_reply)
+
+    each_more : AllZip (IsReplyTo rules) (taken.ended ++ (taken.begun ++ end) ∷ []) (taken.replies ++ a.reply ∷ [])
+    each_more = all_zipped_more IsReplyTo rules taken.ended taken.replies (taken.begun ++ end) a.reply taken.each is_reply
+
+    no_feed : NoLineFeed end → NoLineFeed (taken.begun ++ end)
+    no_feed all = All-append (λ byte. byte ≢ 10) taken.begun end taken.no_line_feed all
+
+    text_more : before ++ string_bytes new.answers ≡ printed_from 1 (taken.replies ++ a.reply ∷ [])
+    text_more =
+        let one = printed old.line.number a.reply in
+        ap (λ t. before ++ t) a.answers ∙ (sym (append_assoc before (string_bytes old.answers) one) ∙ (ap (λ t. t ++ one) taken.answers
+        ∙ (ap (λ n. printed_from 1 taken.replies ++ printed n a.reply) taken.number ∙ sym (printed-push 1 taken.replies a.reply))))
+
+    readable_more : new.all_readable ≡ list_all is_readable (taken.replies ++ a.reply ∷ [])
+    readable_more = a.all_readable ∙ (ap (λ b. b && is_readable a.reply) taken.all_readable ∙ sym (readable-push taken.replies a.reply))
+
+    -- its line feed is taken too
+    pub taken_line : NoLineFeed end → new.line.bytes.items ≡ [] → new.line.number ≡ next_number old.line.number → HasTaken rules ((bytes ++ end) ++ 10 ∷ []) before new
+    taken_line all empty number = record {
+      ended = taken.ended ++ (taken.begun ++ end) ∷ [];
+      begun = [];
+      lines = ends_line (bytes ++ end) (taken.begun ++ end) taken.ended (ends_more bytes taken.begun end taken.ended taken.lines) (no_feed all);
+      no_line_feed = All-nil (λ byte. byte ≢ 10);
+      replies = taken.replies ++ a.reply ∷ [];
+      each = each_more;
+      answers = text_more;
+      all_readable = readable_more;
+      kept = empty ∙ sym (take_all 4097 [] (omega arith));
+      number = number ∙ (ap next_number taken.number ∙ sym (number-push 1 taken.replies a.reply));
+    }
+
+    -- the input ends there
+    pub taken_last : NoLineFeed end → Prints rules (bytes ++ end) (before ++ string_bytes new.answers) new.all_readable
+    taken_last all = record {
+      replies = taken.replies ++ a.reply ∷ [];
+      each = subst (λ lines. AllZip (IsReplyTo rules) lines (taken.replies ++ a.reply ∷ []))
+          (sym (ends_last (bytes ++ end) (taken.begun ++ end) taken.ended (ends_more bytes taken.begun end taken.ended taken.lines) (no_feed all))) each_more;
+      text_is = text_more;
+      readable_is = readable_more;
+    }
+
+  -- what was answered so far is the text of the first lines
+  pub taken_so_far : (bytes before : List ℕ) (session : Session) → HasTaken rules bytes before session → StopsAfter rules Memory bytes (before ++ string_bytes session.answers)
+  taken_so_far bytes before session taken = λ more. (
+    lines_of (taken.begun ++ more),
+    record {
+      first = taken.ended;
+      lines = taken.lines more;
+      readable = session.all_readable;
+      prints = record { replies = taken.replies; each = taken.each; text_is = taken.answers; readable_is = taken.all_readable };
+    },
+    lines-some (taken.begun ++ more),
+  )
+
+  -- the same after more bytes
+  pub stops_more : (bytes more text : List ℕ) → StopsAfter rules Memory bytes text → StopsAfter rules Memory (bytes ++ more) text
+  stops_more bytes more text stops = λ rest. subst (λ b. PrintsUntil rules Memory b text) (sym (append_assoc bytes more rest)) (stops (more ++ rest))
+
+  -- a beginning of the text of the first lines
+  pub cut_of_first : (input text rest whole : List ℕ) → PrintsUntil rules Memory input whole → whole ≡ text ++ rest → whole ≢ [] → PrintsUntil rules Write input text
+  cut_of_first input text rest whole until is some =
+      (until.0, rest, subst (PrintsUpTo rules input until.0) is until.1, λ none. some (is ∙ none))
+
+  -- a beginning of the text of all lines
+  pub cut_of_all : (input text rest whole : List ℕ) (readable : Bool) → Prints rules input whole readable → whole ≡ text ++ rest → whole ≢ [] → PrintsUntil rules Write input text
+  cut_of_all input text rest whole readable prints is some = (
+    [],
+    rest,
+    record {
+      first = lines_of input;
+      lines = sym (append-nil (lines_of input));
+      readable = readable;
+      prints = subst (λ t. PrintsLines rules (lines_of input) t readable) is prints;
+    },
+    λ none. some (is ∙ none),
+  )
+
+  -- nothing is taken yet
+  pub part_none : (bytes before block : List ℕ) (session : Session) → HasTaken rules bytes before session → TakesPart rules bytes before block block session
+  part_none bytes before block session taken = record {
+    part = [];
+    block_is = refl;
+    taken = subst (λ b. HasTaken rules b before session) (sym (append-nil bytes)) taken;
+  }
+
+  module _ (bytes before block rest : List ℕ) (old : Session) (part : TakesPart rules bytes before block rest old) where
+    -- a line of the block is taken with its line feed, and answered
+    pub part_line : (new : Session) (end after : List ℕ) → AnswersLine rules (old.line.bytes.items ++ end) old new → NoLineFeed end → rest ≡ end ++ 10 ∷ after
+        → new.line.bytes.items ≡ [] → new.line.number ≡ next_number old.line.number → TakesPart rules bytes before block after new
+    part_line new end after a all is empty number = record {
+      part = part.part ++ (end ++ 10 ∷ []);
+      block_is = part.block_is ∙ (ap (λ r. part.part ++ r) (is ∙ sym (append_assoc end (10 ∷ []) after)) ∙ sym (append_assoc part.part (end ++ 10 ∷ []) after));
+      taken = subst (λ b. HasTaken rules b before new) (append_assoc (bytes ++ part.part) end (10 ∷ []) ∙ append_assoc bytes part.part (end ++ 10 ∷ []))
+          (taken_line (bytes ++ part.part) before old new part.taken end a all empty number);
+    }
+
+    whole : (bytes ++ part.part) ++ rest ≡ bytes ++ block
+    whole = append_assoc bytes part.part rest ∙ ap (λ b. bytes ++ b) (sym part.block_is)
+
+    -- the rest of the block has no line feed
+    pub part_last : (mid : Session) → NoLineFeed rest → IsExtended rest old mid → HasTaken rules (bytes ++ block) before mid
+    part_last mid all e =
+        subst (λ b. HasTaken rules b before mid) whole
+        (taken_more (bytes ++ part.part) before rest old mid part.taken all e.kept e.number e.answers e.all_readable)
+
+    -- memory is refused in the rest of the block
+    pub part_stops : (new : Session) → string_bytes new.answers ≡ string_bytes old.answers → StopsAfter rules Memory (bytes ++ block) (before ++ string_bytes new.answers)
+    part_stops new same =
+        subst (λ b. StopsAfter rules Memory b (before ++ string_bytes new.answers)) whole
+        (subst (λ t. StopsAfter rules Memory ((bytes ++ part.part) ++ rest) (before ++ t)) (sym same)
+        (stops_more (bytes ++ part.part) rest (before ++ string_bytes old.answers) (taken_so_far (bytes ++ part.part) before old part.taken)))
+
+  -- no line is answered yet
+  pub until_none : (input : List ℕ) → PrintsUntil rules Memory input []
+  until_none input = (
+    lines_of input,
+    record { first = []; lines = refl; readable = true; prints = record { replies = []; each = tt; text_is = refl; readable_is = refl } },
+    lines-some input,
+  )

@@ -1,0 +1,71 @@
+-- What a program prints for an input, by a set of rules.
+use Rattle.std.specs.Prelude.{◌≡◌, ◌≢◌, ◌+◌, ◌-◌, ◌^◌, ◌++◌, ℕ, min, nat_eq, decimal, codes}
+use Rattle.std.specs.Prelude.{Bool, true, false, List, [], ◌∷◌}
+use Rattle.std.specs.Io.{StartsWith}
+use Rattle.std.specs.List.{AllZip, list_all}
+use Rattle.wgsl_requests.specs.Replies.{ReplyText, nothing, answer, unreadable, IsReplyTo}
+use Rattle.wgsl_requests.specs.Words.{pieces}
+use Rattle.wgsl_requests.specs.declared.rules.RuleSet.{RuleSet}
+use Rattle.wgsl_lines.specs.declared.run.RunError.{RunError}
+use Rattle.wgsl_lines.specs.declared.run.RunError.TheVariants.{Read, Write, Memory}
+
+-- a line ends at a line feed, and the last one at the end of the input
+abbrev pub lines_of : List ℕ → List (List ℕ)
+lines_of input = pieces (λ byte. nat_eq byte 10) input
+
+-- the line that is printed for line n if it can't be read
+abbrev pub bad_line : ℕ → List ℕ
+bad_line n = codes "bad line " ++ decimal n ++ codes "\n"
+
+-- what is printed for line n if this is the reply to it
+abbrev pub printed : ℕ → ReplyText → List ℕ
+printed n nothing = []
+printed n (answer text) = text ++ codes "\n"
+printed n unreadable = bad_line n
+
+-- the number after n: numbers stay at 18446744073709551615
+abbrev pub next_number : ℕ → ℕ
+next_number n = min (n + 1) (2 ^ 64 - 1)
+
+-- what is printed for the replies to the lines from line n on
+abbrev pub printed_from : ℕ → List ReplyText → List ℕ
+printed_from n [] = []
+printed_from n (reply ∷ replies) = printed n reply ++ printed_from (next_number n) replies
+
+-- whether this is the reply to a line that can be read
+abbrev pub is_readable : ReplyText → Bool
+is_readable nothing = true
+is_readable (answer text) = true
+is_readable unreadable = false
+
+-- the text is the replies to the lines, in their order; `readable` tells whether each can be read
+pub record PrintsLines (rules : RuleSet) (lines : List (List ℕ)) (text : List ℕ) (readable : Bool) : Type 0 where
+  pub replies : List ReplyText
+  pub each : AllZip (IsReplyTo rules) lines replies
+  pub text_is : text ≡ printed_from 1 replies
+  pub readable_is : readable ≡ list_all is_readable replies
+
+-- the input prints this text
+abbrev pub Prints : RuleSet → List ℕ → List ℕ → Bool → Type 0
+Prints rules input text readable = PrintsLines rules (lines_of input) text readable
+
+-- the first lines of the input, up to these others, print this text
+pub record PrintsUpTo (rules : RuleSet) (input : List ℕ) (others : List (List ℕ)) (text : List ℕ) : Type 0 where
+  pub first : List (List ℕ)
+  pub lines : lines_of input ≡ first ++ others
+  pub readable : Bool
+  pub prints : PrintsLines rules first text readable
+
+-- What a run has printed when it stops. If a read failed or memory was refused, it is the text of the
+-- first lines, whole, and another line follows them. If a write failed, it is a beginning of the text
+-- of the first lines, or of all, which isn't empty.
+abbrev pub PrintsUntil : RuleSet → RunError → List ℕ → List ℕ → Type 0
+PrintsUntil rules Read input text = (others : List (List ℕ)) × PrintsUpTo rules input others text × (others ≢ [])
+PrintsUntil rules Memory input text = (others : List (List ℕ)) × PrintsUpTo rules input others text × (others ≢ [])
+PrintsUntil rules Write input text = (others : List (List ℕ)) × (rest : List ℕ)
+    × PrintsUpTo rules input others (text ++ rest) × (text ++ rest ≢ [])
+
+-- whatever the whole input prints starts with this text
+abbrev pub PrintsFirst : RuleSet → List ℕ → List ℕ → Type 0
+PrintsFirst rules input text = (whole : List ℕ) (readable : Bool)
+    → Prints rules input whole readable → StartsWith whole text

@@ -1,0 +1,6 @@
+//! Requests, one per line: what the programs that answer them have in common.
+#![tactic(auto)]
+
+pub mod laws;
+mod line;
+pub mod run;

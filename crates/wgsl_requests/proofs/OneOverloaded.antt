@@ -1,0 +1,121 @@
+-- WGSL's own overloads have at most one answer.
+use Rattle.std.proofs.Common.{rules, ◌≡◌, ◌≢◌, ◌⊎◌, inl, inr, ◌+◌, ◌<◌, ◌∙◌, ℕ, zero, suc, Bool, true, false, List, [], ◌∷◌, Option, Some, None, length, take, map, refl, sym, ap, subst, arith}
+use Rattle.std.specs.Bool.{MatchBool}
+use Rattle.std.specs.Prelude.{IsTrue}
+use Rattle.wgsl_syntax.specs.declared.overload.Overload.{Overload}
+use Rattle.wgsl_rules.specs.types.Types.{WgslType}
+use Rattle.wgsl_rules.specs.standard.Answers.{is_template, template_operand, IsCallAnswer, IsNamedAnswer, IsResolution, IsStandardAnswer, IsTemplateAnswer}
+use Rattle.wgsl_rules.specs.standard.Choice.{Operand, types_of}
+use Rattle.wgsl_rules.specs.standard.Refusal.{IsRefusedAt}
+use Rattle.wgsl_standard.specs.Callees.{WgslCallee, overloads_listed}
+use Rattle.wgsl_standard.specs.Explained.{AreNotes, no_overloads, or_none, refused, taken}
+use Rattle.wgsl_standard.specs.Mismatches.{IsMismatch}
+use Rattle.wgsl_standard.specs.Resolved.{IsCallResolution, IsNamedResolution, IsTemplateResolution}
+use Rattle.wgsl_standard.specs.Texts.{note_listed}
+use Rattle.wgsl_standard.specs.declared.refusal.Mismatch.{Mismatch}
+use Rattle.wgsl_standard.specs.declared.refusal.Mismatch.TheVariants.{Count, Argument}
+use Rattle.wgsl_standard.proofs.OneChoice.{chosen_once}
+use Rattle.wgsl_asked.specs.Calls.{WgslCall, WgslResolution, loaded, template_type}
+use Rattle.wgsl_asked.specs.Standard.{AreNotesWith, IsExplanationOf, IsResolutionOf, IsTypeOf}
+use Rattle.wgsl_requests.proofs.Meanings.{both_bool, both_option}
+
+-- what P and Q say of two answers, by whether P's question is asked
+by_test : {A : Type 0} (is : Bool) (r s : Option A) → (IsTrue is → r ≡ s) → ((¬ IsTrue is) → r ≡ s) → r ≡ s
+by_test true r s f g = f (search rules)
+by_test false r s f g = g (λ e. cc)
+
+answer_once : (os : List Overload) (xs : List Operand) (r s : Option (Option WgslType)) → IsStandardAnswer os xs r → IsStandardAnswer os xs s → r ≡ s
+answer_once os xs (Some t) s f g = sym ((g.least t).1 ((f.least t).0 refl))
+answer_once os xs None s f g = sym (g.none.1 (f.none.0 refl))
+
+named_once : (os : Option (List Overload)) (xs : List Operand) (r s : Option (Option WgslType)) → IsNamedAnswer os xs r → IsNamedAnswer os xs s → r ≡ s
+named_once (Some os) xs r s f g = answer_once os xs r s f g
+named_once None xs r s f g = f ∙ sym g
+
+template_once : (os : Option (List Overload)) (t : WgslType) (xs : List Operand) (r s : Option (Option WgslType)) → IsTemplateAnswer os t xs r → IsTemplateAnswer os t xs s → r ≡ s
+template_once os t xs r s f g = by_test (is_template t) r s (λ is. named_once os (template_operand t ∷ xs) r s (f.named is) (g.named is)) (λ none. f.refused none ∙ sym (g.refused none))
+
+call_once : (plain templated : Option (List Overload)) (t : Option WgslType) (xs : List Operand) (r s : Option (Option WgslType)) → IsCallAnswer plain templated t xs r → IsCallAnswer plain templated t xs s → r ≡ s
+call_once plain templated None xs r s f g = named_once plain xs r s f g
+call_once plain templated (Some t) xs r s f g = template_once templated t xs r s f g
+
+pub type_once : (c : WgslCall) (r s : Option (Option WgslType)) → IsTypeOf c r → IsTypeOf c s → r ≡ s
+type_once c r s f g =
+    both_option (template_type c.template) (r ≡ None) (s ≡ None) _ _ (r ≡ s) (λ a b. a ∙ sym b)
+    (λ t a b. call_once (overloads_listed c.callee false) (overloads_listed c.callee true) t (loaded c.operands) r s a b) f g
+
+chosen_both : (os : List Overload) (xs : List Operand) (r s : Option WgslResolution) → IsResolution os xs r → IsResolution os xs s → r ≡ s
+chosen_both os xs (Some c) (Some d) f g =
+    let same = chosen_once os xs c.0 d.0 c.1 d.1 c.2 d.2 f g in
+    λ i. Some (same.0 i, same.1 i, same.2 i)
+chosen_both os xs (Some c) None f g = absurd (g c.0 c.1 c.2 f.ranks f.candidate f.takes)
+chosen_both os xs None (Some d) f g = absurd (f d.0 d.1 d.2 g.ranks g.candidate g.takes)
+chosen_both os xs None None f g = refl
+
+named_resolution_once : (os : Option (List Overload)) (xs : List Operand) (r s : Option WgslResolution) → IsNamedResolution os xs r → IsNamedResolution os xs s → r ≡ s
+named_resolution_once (Some os) xs r s f g = chosen_both os xs r s f g
+named_resolution_once None xs r s f g = f ∙ sym g
+
+template_resolution_once : (os : Option (List Overload)) (t : WgslType) (xs : List Operand) (r s : Option WgslResolution) → IsTemplateResolution os t xs r → IsTemplateResolution os t xs s → r ≡ s
+template_resolution_once os t xs r s f g =
+    by_test (is_template t) r s (λ is. named_resolution_once os (template_operand t ∷ xs) r s (f.named is) (g.named is)) (λ none. f.refused none ∙ sym (g.refused none))
+
+call_resolution_once : (plain templated : Option (List Overload)) (t : Option WgslType) (xs : List Operand) (r s : Option WgslResolution) → IsCallResolution plain templated t xs r → IsCallResolution plain templated t xs s → r ≡ s
+call_resolution_once plain templated None xs r s f g = named_resolution_once plain xs r s f g
+call_resolution_once plain templated (Some t) xs r s f g = template_resolution_once templated t xs r s f g
+
+pub resolution_once : (c : WgslCall) (r s : Option WgslResolution) → IsResolutionOf c r → IsResolutionOf c s → r ≡ s
+resolution_once c r s f g =
+    both_option (template_type c.template) (r ≡ None) (s ≡ None) _ _ (r ≡ s) (λ a b. a ∙ sym b)
+    (λ t a b. call_resolution_once (overloads_listed c.callee false) (overloads_listed c.callee true) t (loaded c.operands) r s a b) f g
+
+-- notes
+
+in_order : (n m : ℕ) → (n < m) ⊎ (n ≡ m) ⊎ (m < n)
+in_order zero zero = inr (inl refl)
+in_order zero (suc m) = inl (omega arith)
+in_order (suc n) zero = inr (inr (omega arith))
+in_order (suc n) (suc m) = step (in_order n m)
+  where
+    step : (n < m) ⊎ (n ≡ m) ⊎ (m < n) → (suc n < suc m) ⊎ (suc n ≡ suc m) ⊎ (suc m < suc n)
+    step (inl p) = inl (omega (arith, p))
+    step (inr (inl p)) = inr (inl (ap suc p))
+    step (inr (inr p)) = inr (inr (omega (arith, p)))
+
+refused_once : (os : List Overload) (xs : List Operand) (n m : ℕ) → IsRefusedAt os xs (Some n) → IsRefusedAt os xs (Some m) → n ≡ m
+refused_once os xs n m f g = step (in_order n m)
+  where
+    step : (n < m) ⊎ (n ≡ m) ⊎ (m < n) → n ≡ m
+    step (inl p) = absurd (f.1 (g.2 n p))
+    step (inr (inl p)) = p
+    step (inr (inr p)) = absurd (g.1 (f.2 m p))
+
+mismatch_once : (o : Overload) (xs : List Operand) (m n : Option Mismatch) → IsMismatch o xs m → IsMismatch o xs n → m ≡ n
+mismatch_once o xs (Some (Count a)) (Some (Count b)) f g = ap (λ n. Some (Count n)) (sym f.0 ∙ g.0)
+mismatch_once o xs (Some (Count a)) (Some (Argument b)) f g = absurd (f.1 (sym f.0 ∙ g.0))
+mismatch_once o xs (Some (Count a)) None f g = absurd (f.1 (sym f.0 ∙ g.0))
+mismatch_once o xs (Some (Argument a)) (Some (Count b)) f g = absurd (g.1 (sym g.0 ∙ f.0))
+mismatch_once o xs (Some (Argument a)) (Some (Argument b)) f g = ap (λ n. Some (Argument n)) (refused_once (o ∷ []) xs a b f.1 g.1)
+mismatch_once o xs (Some (Argument a)) None f g = absurd (f.1.1 (g.1 a f.1.0))
+mismatch_once o xs None (Some (Count b)) f g = absurd (g.1 (sym g.0 ∙ f.0))
+mismatch_once o xs None (Some (Argument b)) f g = absurd (g.1.1 (f.1 b g.1.0))
+mismatch_once o xs None None f g = refl
+
+notes_once : {xs : List Operand} {os : List Overload} {ns ms : List (Overload × Mismatch)} → AreNotes xs os ns → AreNotes xs os ms → ns ≡ ms
+notes_once no_overloads no_overloads = refl
+notes_once (taken a d) (taken b e) = notes_once d e
+notes_once {xs} (taken {o} a d) (refused {m} b e) = let k : None ≡ Some m = mismatch_once o xs None (Some m) a b in absurd (cc k)
+notes_once {xs} (refused {o} {os} {m} a d) (taken b e) = let k : None ≡ Some m = mismatch_once o xs None (Some m) b a in absurd (cc k)
+notes_once {xs} (refused {o} {os} {m} {ns} a d) (refused {m = k} {ns = ms} b e) =
+    let both : Some m ≡ Some k = mismatch_once o xs (Some m) (Some k) a b in
+    let same : m ≡ k = cc both in
+    ap (λ m. (o, m) ∷ ns) same ∙ ap (λ ns. (o, k) ∷ ns) (notes_once d e)
+
+notes_with_once : (callee : WgslCallee) (t : Option WgslType) (xs : List Operand) (ns ms : List (Overload × Mismatch)) → AreNotesWith callee t xs ns → AreNotesWith callee t xs ms → ns ≡ ms
+notes_with_once callee None xs ns ms f g = notes_once f g
+notes_with_once callee (Some t) xs ns ms f g = both_bool (is_template t) _ _ (ns ≡ []) (ms ≡ []) (ns ≡ ms) (λ a b. notes_once a b) (λ a b. a ∙ sym b) f g
+
+pub explanation_once : (c : WgslCall) (lines others : List (List ℕ)) → IsExplanationOf c lines → IsExplanationOf c others → lines ≡ others
+explanation_once c lines others f g =
+    both_option (template_type c.template) (lines ≡ []) (others ≡ []) _ _ (lines ≡ others) (λ a b. a ∙ sym b)
+    (λ t a b. a.2 ∙ (ap (map (note_listed c.callee t (types_of c.operands))) (notes_with_once c.callee t (loaded c.operands) a.0 b.0 a.1 b.1) ∙ sym b.2)) f g

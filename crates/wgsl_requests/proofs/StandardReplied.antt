@@ -1,0 +1,50 @@
+-- The answers to requests of WGSL's own overloads.
+use Rattle.std.proofs.Common.{◌≡◌, ◌∷◌, ℕ, List, Option, Some, None, codes, map, sym, ap, subst}
+use Rattle.std.specs.Prelude.{Result, Ok, Err, option_map, vec_items}
+use Rattle.std.specs.Borrow.{Bor}
+use Rattle.wgsl_core.specs.Instances.{parameter_view}
+use Rattle.wgsl_core.specs.declared.signature.TpltParam.{TpltParam}
+use Rattle.wgsl_standard.specs.Callees.{callee_view}
+use Rattle.wgsl_standard.specs.declared.operand.Operand.{Operand}
+use Rattle.wgsl_asked.specs.Calls.{WgslCall}
+use Rattle.wgsl_asked.specs.StandardViews.{written_view, call_view as standard_view}
+use Rattle.wgsl_asked.specs.declared.requests.Call.{Call}
+use Rattle.wgsl_requests.specs.Calls.{IsCall}
+use Rattle.wgsl_requests.specs.Requests.{NoRequest, Request, explanation_of, resolution_of, resolve_words, type_of, type_words, why_words}
+use Rattle.wgsl_requests.specs.declared.call.WrittenCall.{WrittenCall}
+use Rattle.wgsl_requests.specs.declared.rules.RuleSet.TheVariants.{Ported, Standard}
+use Rattle.wgsl_requests.specs.declared.words.Unread.{Unread}
+use Rattle.wgsl_requests.specs.declared.words.Unread.TheVariants.{Word, Memory}
+use Rattle.wgsl_requests.specs.internal.Asked.{WritesOfCall, call_view, operand_view}
+use Rattle.wgsl_requests.specs.internal.Replied.{Replies}
+use Rattle.wgsl_requests.proofs.Replied.{replied, same_shown}
+use Rattle.wgsl_requests.proofs.Requested.{IsShared, no_resolve, no_why}
+
+-- what is written of a command that both sets of rules read alike
+pub shared : (key : List ℕ) (words : List (List ℕ)) (old new : List ℕ) (r : Result (Unit {0}) Unread) → IsShared key → Replies Ported (key ∷ words) old new r → Replies Standard (key ∷ words) old new r
+shared key words old new (Ok x) same w = (w.0, (w.1.0, same.forth words w.1.0 w.1.1, w.1.2), w.2)
+shared key words old new (Err (Word misfit)) same none = λ request d. none request (same.back words request d)
+shared key words old new (Err (Memory e)) same none = tt
+
+-- what is written of a call
+pub resolve_replied : (words : List (List ℕ)) (old new : List ℕ) (r : Result (Unit {0}) Unread) → WritesOfCall resolution_of words old new r → Replies Standard (codes "resolve" ∷ words) old new r
+resolve_replied words old new (Ok x) w = replied old new (resolve_words w.1) w.2
+resolve_replied words old new (Err (Word misfit)) none = no_resolve words none
+resolve_replied words old new (Err (Memory e)) none = tt
+
+pub why_replied : (words : List (List ℕ)) (old new : List ℕ) (r : Result (Unit {0}) Unread) → WritesOfCall explanation_of words old new r → Replies Standard (codes "why" ∷ words) old new r
+why_replied words old new (Ok x) w = replied old new (why_words w.1) w.2
+why_replied words old new (Err (Word misfit)) none = no_why words none
+why_replied words old new (Err (Memory e)) none = tt
+
+pub type_replied : (words : List (List ℕ)) (old new : List ℕ) (r : Result (Unit {0}) Unread) → (((c : WgslCall) → ¬ IsCall words c) → NoRequest Standard words) → WritesOfCall type_of words old new r → Replies Standard words old new r
+type_replied words old new (Ok x) no_other w = replied old new (type_words w.1) w.2
+type_replied words old new (Err (Word misfit)) no_other none = no_other none
+type_replied words old new (Err (Memory e)) no_other none = tt
+
+-- the call that is asked about is the one that was read
+pub call_seen : (call : WrittenCall) (r : Option (Bor (List TpltParam))) (xs : Bor (List Operand)) → option_map (λ y. y.now) r ≡ option_map vec_items call.head.template → map written_view xs.now ≡ map operand_view call.operands.items →
+    standard_view (record { callee = call.head.callee; template = r; operands = xs }) ≡ call_view call
+call_seen call r xs e f =
+    let template = same_shown (λ (y : Bor (List TpltParam)). y.now) vec_items (λ ps. map parameter_view ps) r call.head.template e in
+    λ i. record { callee = callee_view call.head.callee; template = template i; operands = f i }

@@ -1,0 +1,53 @@
+use Rattle.std.proofs.Common.{◌∷◌, codes, string_bytes, subst, sym}
+use Rattle.wgsl_requests.specs.declared.rules.RuleSet.TheVariants.{Standard}
+use Rattle.wgsl_requests.specs.internal.Replied.{Replies}
+use Rattle.wgsl_requests.specs.internal.Taken.{left}
+use Rattle.wgsl_requests.proofs.Requested.{common_shared, layout_shared, offsets_shared, rank_shared, size_shared, no_type}
+use Rattle.wgsl_requests.proofs.StandardReplied.{resolve_replied, shared, type_replied, why_replied}
+use Rattle.wgsl_requests.proofs.standard.answer_standard.Goals as goal
+
+pub returns-in-rank : goal.returns-in-rank
+returns-in-rank c =
+    subst (λ w. Replies Standard (w ∷ left c.args.words.now) (string_bytes c.args.text.now) (string_bytes c.rank.new.text) c.rank.result) (sym c.in-rank.is)
+    (shared (codes "rank") (left c.args.words.now) _ _ c.rank.result rank_shared c.rank.ensures)
+
+pub returns-in-common : goal.returns-in-common
+returns-in-common c =
+    subst (λ w. Replies Standard (w ∷ left c.args.words.now) (string_bytes c.args.text.now) (string_bytes c.common.new.text) c.common.result) (sym c.in-common.is)
+    (shared (codes "common") (left c.args.words.now) _ _ c.common.result common_shared c.common.ensures)
+
+pub returns-in-size : goal.returns-in-size
+returns-in-size c =
+    subst (λ w. Replies Standard (w ∷ left c.args.words.now) (string_bytes c.args.text.now) (string_bytes c.size.new.text) c.size.result) (sym c.in-size.is)
+    (shared (codes "size") (left c.args.words.now) _ _ c.size.result size_shared c.size.ensures)
+
+pub returns-in-offsets : goal.returns-in-offsets
+returns-in-offsets c =
+    subst (λ w. Replies Standard (w ∷ left c.args.words.now) (string_bytes c.args.text.now) (string_bytes c.offsets.new.text) c.offsets.result) (sym c.in-offsets.is)
+    (shared (codes "offsets") (left c.args.words.now) _ _ c.offsets.result offsets_shared c.offsets.ensures)
+
+pub returns-in-layout : goal.returns-in-layout
+returns-in-layout c =
+    subst (λ w. Replies Standard (w ∷ left c.args.words.now) (string_bytes c.args.text.now) (string_bytes c.layout.new.text) c.layout.result) (sym c.in-layout.is)
+    (shared (codes "layout") (left c.args.words.now) _ _ c.layout.result layout_shared c.layout.ensures)
+
+pub returns-in-resolve : goal.returns-in-resolve
+returns-in-resolve c =
+    subst (λ w. Replies Standard (w ∷ left c.args.words.now) (string_bytes c.args.text.now) (string_bytes c.answer_next_call.new.text) c.answer_next_call.result) (sym c.in-resolve.is)
+    (resolve_replied (left c.args.words.now) _ _ c.answer_next_call.result c.answer_next_call.ensures)
+
+pub returns-in-why : goal.returns-in-why
+returns-in-why c =
+    subst (λ w. Replies Standard (w ∷ left c.args.words.now) (string_bytes c.args.text.now) (string_bytes c.answer_next_call-in-why.new.text) c.answer_next_call-in-why.result) (sym c.in-why.is)
+    (why_replied (left c.args.words.now) _ _ c.answer_next_call-in-why.result c.answer_next_call-in-why.ensures)
+
+pub returns-in-overloads : goal.returns-in-overloads
+returns-in-overloads c =
+    subst (λ w. Replies Standard (w ∷ left c.args.words.now) (string_bytes c.args.text.now) (string_bytes c.overloads.new.text) c.overloads.result) (sym c.in-overloads.is) c.overloads.ensures
+
+pub returns-in_default : goal.returns-in_default
+returns-in_default c =
+    type_replied _ _ _ c.answer_call.result
+    (no_type c.args.command.now (left c.args.words.now) c.in_default.not-rank c.in_default.not-common c.in_default.not-size c.in_default.not-offsets c.in_default.not-layout
+    c.in_default.not-resolve c.in_default.not-why c.in_default.not-overloads)
+    c.answer_call.ensures

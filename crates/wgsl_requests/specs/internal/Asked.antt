@@ -1,0 +1,58 @@
+-- How calls that are read from words are seen, and what is asked of them.
+use Rattle.std.specs.Prelude.{◌≡◌, ℕ, List, Option, Result, Ok, Err, map, option_map}
+use Rattle.wgsl_rules.specs.types.Types.{WgslType}
+use Rattle.wgsl_rules.specs.types.Signatures.{Parameter}
+use Rattle.wgsl_rules.specs.conversion.Concrete.{is_abstract}
+use Rattle.wgsl_rules.specs.standard.Choice.{Operand}
+use Rattle.wgsl_core.specs.Instances.{parameter_view}
+use Rattle.wgsl_core.specs.View.{view}
+use Rattle.wgsl_standard.specs.Callees.{WgslCallee, callee_view}
+use Rattle.wgsl_asked.specs.Calls.{WgslCall}
+use Rattle.wgsl_requests.specs.Answers.{IsAnswer}
+use Rattle.wgsl_requests.specs.Calls.{HasArity, IsCall, OperandsAt}
+use Rattle.wgsl_requests.specs.Reading.{Answers, Beginning, OneWord, Then}
+use Rattle.wgsl_requests.specs.Templates.{TemplateAt}
+use Rattle.wgsl_requests.specs.Requests.{Request, explanation_of, resolution_of, type_of}
+use Rattle.wgsl_requests.specs.declared.call.Head.{Head}
+use Rattle.wgsl_requests.specs.declared.call.WrittenCall.{WrittenCall}
+use Rattle.wgsl_requests.specs.declared.call.WrittenOperand.{WrittenOperand}
+use Rattle.wgsl_requests.specs.declared.standard.Question.{Question}
+use Rattle.wgsl_requests.specs.declared.standard.Question.TheVariants as questions
+use Rattle.wgsl_requests.specs.declared.words.Unread.{Unread}
+use Rattle.wgsl_requests.specs.internal.Written.{Adds}
+
+abbrev pub operand_view : WrittenOperand → Operand
+operand_view x = record { of_type = view x.ty; is_constant = x.is_constant }
+
+-- an operand of this type that isn't said to be a const-expression
+abbrev pub plain_there : WgslType → Operand
+plain_there t = record { of_type = t; is_constant = is_abstract t }
+
+-- the words begin with a name and a template
+abbrev pub NamedAt : Beginning (List ℕ × Option (List Parameter))
+NamedAt = Then (OneWord (λ word name. word ≡ name)) TemplateAt
+
+abbrev pub head_view : Head → WgslCallee × Option (List Parameter)
+head_view h = (callee_view h.callee, option_map (λ ps. map parameter_view ps.items) h.template)
+
+abbrev pub call_view : WrittenCall → WgslCall
+call_view c = record {
+  callee = callee_view c.head.callee;
+  template = option_map (λ ps. map parameter_view ps.items) c.head.template;
+  operands = map operand_view c.operands.items;
+}
+
+-- what is asked of a call
+abbrev pub asked : Question → WgslCall → Request
+asked questions.Type = type_of
+asked questions.Resolution = resolution_of
+asked questions.Explanation = explanation_of
+
+-- The answer to what is asked of the call that the words spell is written. The error is `Word` only if they spell none.
+abbrev pub WritesOfCall : (WgslCall → Request) → List (List ℕ) → List ℕ → List ℕ → Result (Unit {0}) Unread → Type 0
+WritesOfCall ask words old new r =
+    Answers (λ done. (c : WgslCall) × IsCall words c × Adds (IsAnswer (ask c)) old new) ((c : WgslCall) → ¬ IsCall words c) r
+
+-- the words are as many operands as are taken
+abbrev pub AreOperands : Option ℕ → List (List ℕ) → List Operand → Type 0
+AreOperands arity words xs = OperandsAt words xs × HasArity arity xs

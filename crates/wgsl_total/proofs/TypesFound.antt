@@ -1,0 +1,144 @@
+-- A type at the front of words is found, or none stands there.
+use Rattle.std.proofs.Common.{◌≡◌, ◌<◌, ◌≤◌, ℕ, true, List, [], ◌∷◌, length, Option, Some, None, codes, refl, sym, ap, ◌∙◌, subst, inl, inr, arith}
+use Rattle.std.specs.Str.{bytes_eq}
+use Rattle.std.proofs.lemmas.List.{length-append}
+use Rattle.std.proofs.lemmas.Slice.Eq.{bytes_eq-Decides}
+use Rattle.wgsl_syntax.specs.Address.{access_modes, access_text, space_text, spaces}
+use Rattle.wgsl_syntax.specs.Names.{named, table}
+use Rattle.wgsl_syntax.specs.Texel.{texel_formats, texel_text}
+use Rattle.wgsl_syntax.specs.Texture.{sampled_text, sampled_types, sampler_text, samplers}
+use Rattle.wgsl_syntax.specs.TextureName.{parameter_kind, texture_name_text, texture_names, texture_with}
+use Rattle.wgsl_syntax.specs.declared.around.Around.{Around}
+use Rattle.wgsl_syntax.specs.declared.around.Around.TheVariants as arounds
+use Rattle.wgsl_syntax.specs.declared.texture.TextureType.{TextureType}
+use Rattle.wgsl_syntax.specs.declared.texture_name.TextureName.{TextureName}
+use Rattle.wgsl_syntax.specs.declared.texture_name.TextureParameterKind.{TextureParameterKind}
+use Rattle.wgsl_syntax.specs.declared.texture_name.TextureParameters.{TextureParameters}
+use Rattle.wgsl_syntax.specs.declared.texture_name.TextureParameterKind.TheVariants as kinds
+use Rattle.wgsl_syntax.specs.declared.texture_name.TextureParameters.TheVariants as parameters
+use Rattle.wgsl_syntax.proofs.Naming.{access_naming, sampled_naming, space_naming, texel_naming, texture_naming}
+use Rattle.wgsl_rules.specs.types.Types.{WgslType, texture, sampler, ray_query, acceleration_structure, Members}
+use Rattle.wgsl_requests.specs.Grammar.{IsFlag, LayerAt, LeafAt, MembersAt, TypeAt, acceleration_structure_at, array_at, atomic_at, binding_array_at, layer_at, leaf_at, mat_at, member_at, no_members_at, ptr_at, ray_query_at, ref_at, sampler_at, scalar_at, struct_at, texture_at, texture_words, vec_at}
+use Rattle.wgsl_requests.specs.Numbers.{IsCount, IsSmall}
+use Rattle.wgsl_requests.specs.Reading.{IsText, OneWord}
+use Rattle.wgsl_requests.specs.internal.Leaves.{ParametersAt, TextureAt}
+use Rattle.wgsl_requests.proofs.Forms.{LayerForm, LeafForm, MemoryAt, TwoSmall, layer_form, leaf_form}
+use Rattle.wgsl_requests.proofs.LayerReads.{array_read, atomic_read, binding_array_read, mat_read, ptr_read, ref_read, vec_read}
+use Rattle.wgsl_requests.proofs.LeafReads.{query_read, sampler_read, structure_read, texture_read}
+use Rattle.wgsl_requests.proofs.Meanings.{named_text, one_word, small_one, text_one}
+use Rattle.wgsl_requests.proofs.Textures.{no_name, no_parameters, no_sampled, no_texels, none_with, texture_there}
+use Rattle.wgsl_total.proofs.Found.{Found, a_word, and_then, by_bool, by_option, from_bool, from_option, made, nothing, same_as}
+use Rattle.wgsl_total.proofs.WordMeanings.{a_count, a_flag, a_name, a_small}
+
+pub equal : {a b : List ℕ} → bytes_eq a b ≡ true → a ≡ b
+equal {a} {b} e = (bytes_eq-Decides a b).0 e
+
+-- Textures
+
+some_parameters : (kind : TextureParameterKind) (words : List (List ℕ)) → Found (ParametersAt kind words)
+some_parameters kinds.None words = inl (parameters.None, words, (refl, refl))
+some_parameters kinds.Sampled words = elim (a_word (IsText sampled_text) (a_name sampled_text sampled_types sampled_naming) words) [
+  | inl f ↦ inl (parameters.Sampled f.0, f.1, (refl, f.2.1 ∙ ap (λ w. w ∷ f.1) f.2.2))
+  | inr none ↦ inr (no_sampled kinds.Sampled words refl none)
+]
+some_parameters kinds.Storage words =
+    elim (and_then (OneWord (IsText texel_text)) (OneWord (IsText access_text)) (one_word (IsText texel_text) (text_one texel_text texel_naming.distinct)) words
+    (a_word (IsText texel_text) (a_name texel_text texel_formats texel_naming) words) (a_word (IsText access_text) (a_name access_text access_modes access_naming))) [
+      | inl f ↦
+          let first = f.2.1 in
+          let second = f.2.2 in
+          inl (parameters.Storage f.0.0 f.0.1, f.1, (refl, first.1 ∙ (ap (λ w. w ∷ f.2.0) first.2 ∙ ap (λ ws. texel_text f.0.0 ∷ ws) (second.1 ∙ ap (λ w. w ∷ f.1) second.2))))
+      | inr none ↦ inr (no_texels kinds.Storage words refl none)
+    ]
+
+-- the texture with this name and these parameters, if there is one
+texture_made : (name : List ℕ) (words : List (List ℕ)) (n : TextureName) (p : TextureParameters) (rest : List (List ℕ)) → name ≡ texture_name_text n → ParametersAt (parameter_kind n) words p rest
+    → (o : Option TextureType) → texture_with n p ≡ o → Found (TextureAt (name ∷ words))
+texture_made name words n p rest is there (Some x) e = inl (x, rest, texture_there name words n p x rest is there e)
+texture_made name words n p rest is there None e = inr (none_with name words n p rest is there e)
+
+a_texture : (name : List ℕ) (words : List (List ℕ)) → Found (TextureAt (name ∷ words))
+a_texture name words = elim (a_name texture_name_text texture_names texture_naming name) [
+  | inr none ↦ inr (no_name name words none)
+  | inl n ↦ elim (some_parameters (parameter_kind n.0) words) [
+    | inr none ↦ inr (no_parameters name words n.0 n.1 none)
+    | inl p ↦ texture_made name words n.0 p.0 p.1 n.1 p.2 (texture_with n.0 p.0) refl
+  ]
+]
+
+-- Leaves
+
+leaf_of : (word : List ℕ) (words : List (List ℕ)) (t : WgslType) (rest : List (List ℕ)) → LeafForm (word ∷ words) t rest → LeafAt (word ∷ words) t rest
+leaf_of word words t rest =
+    from_bool (bytes_eq word (codes "ray_query")) (λ e f. query_read word words f.0 t rest (equal e) f.2 f.1)
+    (from_bool (bytes_eq word (codes "acceleration_structure")) (λ e f. structure_read word words f.0 t rest (equal e) f.2 f.1)
+    (from_option (named (table sampler_text samplers) word) (λ f. texture_read word words f.0 t rest f.2 f.1)
+    (λ s e f. subst (λ ws. LeafAt (word ∷ words) t ws) f.1 (sampler_read word words s t (named_text sampler_text samplers word s e) f.0))))
+
+pub a_leaf : (words : List (List ℕ)) → Found (LeafAt words)
+a_leaf [] = inr (λ t rest d. leaf_form d)
+a_leaf (word ∷ words) = same_as (LeafForm (word ∷ words)) (LeafAt (word ∷ words)) (leaf_of word words) (λ t rest d. leaf_form d)
+    (by_bool (bytes_eq word (codes "ray_query")) (made (OneWord IsFlag) ray_query words (a_word IsFlag a_flag words))
+    (by_bool (bytes_eq word (codes "acceleration_structure")) (made (OneWord IsFlag) acceleration_structure words (a_word IsFlag a_flag words))
+    (by_option (named (table sampler_text samplers) word) (made TextureAt texture (word ∷ words) (a_texture word words)) (λ s. inl (sampler s, words, (refl, refl))))))
+
+-- Layers
+
+layer_of : (word : List ℕ) (words : List (List ℕ)) (layer : Around) (rest : List (List ℕ)) → LayerForm (word ∷ words) layer rest → LayerAt (word ∷ words) layer rest
+layer_of word words layer rest =
+    from_bool (bytes_eq word (codes "vec")) (λ e f. is f.2 (vec_read word words rest f.0 (equal e) f.1))
+    (from_bool (bytes_eq word (codes "mat")) (λ e f. is f.2 (mat_read word words rest f.1.0 f.0.0 f.0.1 (equal e) f.1.1 f.1.2))
+    (from_bool (bytes_eq word (codes "array")) (λ e f. is f.2 (array_read word words rest f.0 (equal e) f.1))
+    (from_bool (bytes_eq word (codes "binding_array")) (λ e f. is f.2 (binding_array_read word words rest f.0 (equal e) f.1))
+    (from_bool (bytes_eq word (codes "atomic")) (λ e f. is f.2 (atomic_read word words rest (equal e) f.1))
+    (from_bool (bytes_eq word (codes "ptr")) (λ e f. is f.2 (ptr_read word words rest f.0.0 f.0.1 (equal e) f.1))
+    (from_bool (bytes_eq word (codes "ref")) (λ e f. is f.2 (ref_read word words rest f.0.0 f.0.1 (equal e) f.1)) (λ h. absurd h)))))))
+  where
+    is : {made : Around} → layer ≡ made → LayerAt (word ∷ words) made rest → LayerAt (word ∷ words) layer rest
+    is e d = subst (λ l. LayerAt (word ∷ words) l rest) (sym e) d
+
+pub a_layer : (words : List (List ℕ)) → Found (LayerAt words)
+a_layer [] = inr (λ l rest d. layer_form d)
+a_layer (word ∷ words) = same_as (LayerForm (word ∷ words)) (LayerAt (word ∷ words)) (layer_of word words) (λ l rest d. layer_form d)
+    (by_bool (bytes_eq word (codes "vec")) (made (OneWord IsSmall) (λ n. arounds.Vec n) words small)
+    (by_bool (bytes_eq word (codes "mat")) (made TwoSmall (λ p. arounds.Mat p.0 p.1) words (and_then (OneWord IsSmall) (OneWord IsSmall) (one_word IsSmall small_one) words small (a_word IsSmall a_small)))
+    (by_bool (bytes_eq word (codes "array")) (made (OneWord IsCount) (λ n. arounds.Array n) words (a_word IsCount a_count words))
+    (by_bool (bytes_eq word (codes "binding_array")) (made (OneWord IsCount) (λ n. arounds.BindingArray n) words (a_word IsCount a_count words))
+    (by_bool (bytes_eq word (codes "atomic")) (inl (arounds.Atomic, words, (tt, refl, refl)))
+    (by_bool (bytes_eq word (codes "ptr")) (made MemoryAt (λ p. arounds.Ptr p.0 p.1) words memory)
+    (by_bool (bytes_eq word (codes "ref")) (made MemoryAt (λ p. arounds.Ref p.0 p.1) words memory) nothing)))))))
+  where
+    small : Found (OneWord IsSmall words)
+    small = a_word IsSmall a_small words
+
+    memory : Found (MemoryAt words)
+    memory = and_then (OneWord (IsText space_text)) (OneWord (IsText access_text)) (one_word (IsText space_text) (text_one space_text space_naming.distinct)) words
+        (a_word (IsText space_text) (a_name space_text spaces space_naming) words) (a_word (IsText access_text) (a_name access_text access_modes access_naming))
+
+-- What is read is taken off the words
+
+pub layer_shorter : {words rest : List (List ℕ)} {l : Around} → LayerAt words l rest → length rest < length words
+layer_shorter (vec_at h) = omega arith
+layer_shorter (mat_at h k) = omega arith
+layer_shorter (array_at h) = omega arith
+layer_shorter (binding_array_at h) = omega arith
+layer_shorter atomic_at = omega arith
+layer_shorter (ptr_at s m) = omega arith
+layer_shorter (ref_at s m) = omega arith
+
+leaf_shorter : {words rest : List (List ℕ)} {t : WgslType} → LeafAt words t rest → length rest < length words
+leaf_shorter (ray_query_at h) = omega arith
+leaf_shorter (acceleration_structure_at h) = omega arith
+leaf_shorter (sampler_at s) = omega arith
+leaf_shorter (texture_at {rest} x) = omega (arith, length-append (texture_words x) rest)
+
+mutual
+  pub type_shorter : {words rest : List (List ℕ)} {t : WgslType} → TypeAt words t rest → length rest < length words
+  type_shorter (scalar_at s) = omega arith
+  type_shorter (leaf_at d) = leaf_shorter d
+  type_shorter (layer_at d inner) = omega (arith, layer_shorter d, type_shorter inner)
+  type_shorter (struct_at is d) = omega (arith, members_shorter d)
+
+  members_shorter : {n : ℕ} {words rest : List (List ℕ)} {ms : Members} → MembersAt n words ms rest → length rest ≤ length words
+  members_shorter no_members_at = omega arith
+  members_shorter (member_at i j d ds) = omega (arith, type_shorter d, members_shorter ds)
