@@ -365,7 +365,7 @@ static inline void wgsl_skip_type(WgslCursor *cursor, int levels) {
     }
 }
 
-static inline WgslType wgsl_read_type(WgslCursor *cursor) {
+static inline WgslType wgsl_next_type(WgslCursor *cursor) {
     WgslType type = {cursor->at, 0};
     wgsl_skip_type(cursor, WGSL_DEEPEST + 1);
     if (!cursor->failed) type.len = WGSL_AS(size_t, cursor->at - type.words);
@@ -411,7 +411,7 @@ static inline WgslType wgsl_read_result(WgslCursor *cursor) {
     WgslType none = {cursor->at, 0};
     uint32_t is_there = wgsl_read_word(cursor);
     if (is_there > 1) cursor->failed = 1;
-    return is_there == 1 ? wgsl_read_type(cursor) : none;
+    return is_there == 1 ? wgsl_next_type(cursor) : none;
 }
 
 /* The fields behind the first word of an error's code, in order: `n` a name or a text, `t` a type, `l` a literal, `i` a

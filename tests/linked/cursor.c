@@ -28,7 +28,7 @@ static int show_resolution(void) {
     WgslCursor cursor = wgsl_cursor(room, len);
     WgslResolution resolution = wgsl_read_resolution(&cursor);
     printf("%" PRIu64 " parameters\n", resolution.parameters);
-    for (uint64_t k = 0; k < resolution.parameters; k++) show_type(wgsl_read_type(&cursor));
+    for (uint64_t k = 0; k < resolution.parameters; k++) show_type(wgsl_next_type(&cursor));
     show_type(wgsl_read_result(&cursor));
     return !wgsl_is_read(&cursor);
 }
@@ -68,7 +68,7 @@ static int show_error(void) {
     WgslCursor cursor = wgsl_cursor(room, len);
     for (const char *field = wgsl_error_fields(wgsl_read_word(&cursor)); field && *field; field++) {
         if (*field == 'o') printf("operator %u\n", (unsigned)wgsl_read_word(&cursor));
-        if (*field == 't') show_type(wgsl_read_type(&cursor));
+        if (*field == 't') show_type(wgsl_next_type(&cursor));
     }
     return !wgsl_is_read(&cursor);
 }
@@ -101,7 +101,7 @@ static int show_struct(void) {
     WgslCursor cursor = wgsl_cursor(at, words.len);
     WgslCursor whole = cursor;
     show_levels(&cursor);
-    WgslType type = wgsl_read_type(&whole);
+    WgslType type = wgsl_next_type(&whole);
     return !wgsl_is_read(&cursor) || !wgsl_is_read(&whole) || type.len != words.len;
 }
 
@@ -109,7 +109,7 @@ static int show_struct(void) {
 static int is_cut(void) {
     for (size_t k = 0; k < words.len; k++) {
         WgslCursor cursor = wgsl_cursor(at, k);
-        if (wgsl_read_type(&cursor).len || !cursor.failed || wgsl_is_read(&cursor)) return 0;
+        if (wgsl_next_type(&cursor).len || !cursor.failed || wgsl_is_read(&cursor)) return 0;
     }
     return 1;
 }

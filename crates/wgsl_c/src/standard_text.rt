@@ -38,7 +38,11 @@ pub extern "C" fn wgsl_standard_answer(
     ensures no_text { ¬ All IsUtf8 (words_of request.now) → (result ≡ 2) ⊎ (result ≡ 3) }
     ensures no_words { words_of request.now ≡ [] → (result ≡ 2) ⊎ (result ≡ 3) }
 {
-    hand_over(&reply_to(alloc, RuleSet::Standard, request), answer, text_len)
+    hand_over(
+        &reply_to(alloc, RuleSet::Standard, request),
+        answer,
+        text_len,
+    )
 }
 
 /// Explains why a request can't be read that is answered by WGSL's own overloads.

@@ -4,13 +4,13 @@ pub mod sixty;
 pub mod streams;
 pub mod texts;
 
-use wgsl_lines::run::{RunError, run};
-use wgsl_requests::rules::RuleSet;
 use std::alloc::{AllocError, Global};
 use std::process::Abort;
 use std::test::Fail;
 use streams::{Source, Target};
+use wgsl_lines::run::{RunError, run};
 use wgsl_requests::read::{read_type, read_types};
+use wgsl_requests::rules::RuleSet;
 use wgsl_requests::template::read_template;
 use wgsl_requests::wanted::Misfit;
 use wgsl_requests::words::{Unread, Words};
@@ -30,7 +30,14 @@ pub fn expect(
     output: &str,
 ) {
     let mut notes = Target::new(rt.alloc(), WHOLE);
-    let ended = run(rt.alloc(), RuleSet::Ported, "wgsl_check", &mut source, &mut target, &mut notes);
+    let ended = run(
+        rt.alloc(),
+        RuleSet::Ported,
+        "wgsl_check",
+        &mut source,
+        &mut target,
+        &mut notes,
+    );
     assert_eq!(rt; ended, outcome);
     assert_eq!(rt; target.taken.as_slice(), output.as_bytes());
     assert_eq!(rt; target.flushed, target.taken.len());
@@ -46,7 +53,14 @@ pub fn expect_answers(
     let mut source = Source::new(input.as_bytes(), WHOLE);
     let mut target = Target::new(rt.alloc(), WHOLE);
     let mut notes = Target::new(rt.alloc(), 0);
-    let outcome = run(rt.alloc(), RuleSet::Ported, "wgsl_check", &mut source, &mut target, &mut notes);
+    let outcome = run(
+        rt.alloc(),
+        RuleSet::Ported,
+        "wgsl_check",
+        &mut source,
+        &mut target,
+        &mut notes,
+    );
     expect_printed(rt, rows, std::str::from_utf8(&target.taken).unwrap_or(""));
     assert_eq!(rt; outcome, Ok(are_readable(rows)));
     assert_eq!(rt; target.flushed, target.taken.len());
