@@ -14,6 +14,7 @@ use Rattle.wgsl_lines.proofs.Bytes.{appends_more, appends_none}
 use Rattle.wgsl_lines.proofs.OneText.{prints_first}
 use Rattle.wgsl_lines.proofs.Taken.{cut_of_all, cut_of_first, taken_last, taken_none, taken_so_far, until_none}
 use Rattle.wgsl_requests.specs.declared.rules.RuleSet.{RuleSet}
+
 -- a write failed after a beginning of the answers
 pub record IsCutOff (answers : List ℕ) (before now : Option (List ℕ)) : Type 0 where
   pub text : List ℕ
@@ -27,6 +28,10 @@ pub record HasReached (rules : RuleSet) (input left start now : Option (List ℕ
   pub bytes : List ℕ
   pub consumed : Consumes input left bytes
   pub between : IsBetween rules bytes start now session
+
+pub keeps_all : (left : Option (List ℕ)) → Keeps left left
+keeps_all None = tt
+keeps_all (Some bytes) = refl
 
 module _ (rules : RuleSet) where
   some_more : (text more : List ℕ) → more ≢ [] → text ++ more ≢ []
@@ -134,10 +139,6 @@ module _ (rules : RuleSet) where
   consumes_kept (Some all) None after bytes a kept = absurd a
   consumes_kept (Some all) (Some rest) None bytes a kept = absurd kept
   consumes_kept (Some all) (Some rest) (Some last) bytes a kept = a ∙ ap (λ r. bytes ++ r) (sym kept)
-
-  pub keeps_all : (left : Option (List ℕ)) → Keeps left left
-  keeps_all None = tt
-  keeps_all (Some bytes) = refl
 
   -- before the first read
   pub reached_none : (input start : Option (List ℕ)) (session : Session) → IsAtStart session → HasReached rules input input start start session

@@ -65,7 +65,7 @@ module _ (rules : RuleSet) where
     is_reply = of_cut_first rules taken.begun end a.reply (subst (λ begun. IsReplyTo rules (begun ++ end) a.reply) taken.kept a.is_reply)
 
     each_more : AllZip (IsReplyTo rules) (taken.ended ++ (taken.begun ++ end) ∷ []) (taken.replies ++ a.reply ∷ [])
-    each_more = all_zipped_more IsReplyTo rules taken.ended taken.replies (taken.begun ++ end) a.reply taken.each is_reply
+    each_more = all_zipped_more (IsReplyTo rules) taken.ended taken.replies (taken.begun ++ end) a.reply taken.each is_reply
 
     no_feed : NoLineFeed end → NoLineFeed (taken.begun ++ end)
     no_feed all = All-append (λ byte. byte ≢ 10) taken.begun end taken.no_line_feed all

@@ -1,6 +1,7 @@
 use Rattle.std.proofs.lemmas.Result.{err_from_is_err_and}
 use Rattle.wgsl_lines.proofs.Steps.{cut_known, none_known, printed_known}
 use Rattle.wgsl_lines.proofs.run.run.Goals as goal
+
 pub returns-in_err-new-clause-beginning : goal.returns-in_err-new-clause-beginning
 returns-in_err-new-clause-beginning g c =
     let p = err_from_is_err_and c.from_residual.result c.from_residual.ensures.1 in

@@ -9,6 +9,7 @@ use Rattle.wgsl_requests.specs.declared.rules.RuleSet.{RuleSet}
 use Rattle.wgsl_lines.specs.Session.{reply_of_kind}
 use Rattle.wgsl_lines.proofs.Replies.{of_cut}
 use Rattle.wgsl_lines.proofs.run.write_reply_to.Goals as goal
+
 -- what is written to an empty text
 of_kind : (rules : RuleSet) (kind : ReplyKind) (bytes old new : List ℕ) → old ≡ [] → WritesReply rules bytes kind old new → IsReplyTo rules bytes (reply_of_kind kind new)
 of_kind rules k.Nothing bytes old new empty w = w

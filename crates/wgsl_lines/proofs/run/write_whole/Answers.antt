@@ -3,6 +3,7 @@ use Rattle.std.proofs.lemmas.Grind.{common_steps}
 use Rattle.wgsl_lines.proofs.Bytes.{IsWritten, appends_kept, written_more}
 use Rattle.wgsl_lines.proofs.run.write_whole.Goals.{in-Ok, in-Err}
 use Rattle.wgsl_lines.proofs.run.write_whole.Goals as goal
+
 pub loop-preserved : goal.loop-preserved
 loop-preserved g c = elim c.match-write.branch [
   | in-Ok w ↦

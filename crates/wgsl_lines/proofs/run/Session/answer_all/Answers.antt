@@ -4,6 +4,7 @@ use Rattle.std.specs.Io.KnownBytes.{Consumes}
 use Rattle.wgsl_lines.proofs.Steps.{HasReached, keeps_all, passed_on, reached_again, reached_end, reached_fail, reached_more, reached_none, reached_stop}
 use Rattle.wgsl_lines.proofs.run.Session.answer_all.Goals.{in-Ok+in_ok-answer_block-in-Ok, in-Err}
 use Rattle.wgsl_lines.proofs.run.Session.answer_all.Goals as goal
+
 pub loop-init : goal.loop-init
 loop-init g c = λ start. reached_none _ _ _ _ start
 

@@ -3,6 +3,7 @@ use Rattle.std.proofs.lemmas.Result.{err_from_is_err_and}
 use Rattle.wgsl_lines.specs.Session.{HasStopped}
 use Rattle.wgsl_lines.proofs.Steps.{IsCutOff, block_cut, block_done, block_stops}
 use Rattle.wgsl_lines.proofs.run.Session.answer_block.Goals as goal
+
 pub returns : goal.returns
 returns g c = λ bytes start at.
     let done = c.in_ok-write_answers.ensures in

@@ -1,6 +1,7 @@
 use Rattle.std.proofs.Common.{refl}
 use Rattle.wgsl_lines.proofs.Taken.{part_none, part_line, part_last, part_stops}
 use Rattle.wgsl_lines.proofs.run.Session.take.Goals as goal
+
 pub loop-end-init : goal.loop-end-init
 loop-end-init c = λ bytes before taken. part_none _ bytes before _ _ taken
 

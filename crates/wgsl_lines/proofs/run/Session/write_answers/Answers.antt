@@ -3,6 +3,7 @@ use Rattle.std.proofs.lemmas.List.{append-nil}
 use Rattle.std.proofs.lemmas.Result.{err_from_is_err_and}
 use Rattle.wgsl_lines.proofs.Bytes.{appends_kept}
 use Rattle.wgsl_lines.proofs.run.Session.write_answers.Goals as goal
+
 pub returns-in_err-map_err-clause-cut : goal.returns-in_err-map_err-clause-cut
 returns-in_err-map_err-clause-cut g c =
     let p = err_from_is_err_and c.from_residual-in_err-map_err.result c.from_residual-in_err-map_err.ensures.1 in
