@@ -24,7 +24,7 @@ use Rattle.wgsl_requests.specs.Words.{words_of}
 use Rattle.wgsl_requests.specs.declared.rules.RuleSet.{RuleSet}
 use Rattle.wgsl_requests.proofs.OneAnswer.{one_answer as text_once, result_is}
 use Rattle.wgsl_requests.proofs.OneRequest.{one_request}
-use Rattle.wgsl_requests.proofs.Requested.{request_form}
+use Rattle.wgsl_requests.proofs.Requested.{no_words_no_request}
 use Rattle.wgsl_coded.specs.declared.fault.Fault.{Fault}
 use Rattle.wgsl_coded.specs.declared.fault.Fault.TheVariants.{Memory, NoType}
 use Rattle.wgsl_coded.specs.Replies.{IsAnswered, ReplyWords, answer_words}
@@ -48,7 +48,7 @@ text_form (text_answered text l w r) = r
 text_answer : (rules : RuleSet) (bytes : List ℕ) (request : WgslRequest) (in_text : ReplyText) → IsRequest rules (words_of bytes) request → TextForm rules bytes in_text → IsLineOfText bytes
     → (text : List ℕ) × (in_text ≡ answer text)
 text_answer rules bytes request (answer text) q f line = (text, refl)
-text_answer rules bytes request nothing q f line = absurd (request_form (subst (λ ws. IsRequest rules ws request) f q))
+text_answer rules bytes request nothing q f line = absurd (no_words_no_request rules (words_of bytes) f request q)
 text_answer rules bytes request unreadable q (inl n) line = absurd (n line)
 text_answer rules bytes request unreadable q (inr n) line = absurd (n request q)
 
