@@ -227,6 +227,14 @@ inline Callee constructor(std::string name) { return Callee{std::move(name), tru
 
 namespace detail {
 
+inline bool is_abstract(const Type &type) {
+    if (auto scalar = type.as<Scalar>()) return *scalar == Scalar::abstract_int || *scalar == Scalar::abstract_float;
+    if (auto array = type.as<Array>()) return is_abstract(array->element);
+    if (auto vector = type.as<Vector>()) return is_abstract(vector->element);
+    auto matrix = type.as<Matrix>();
+    return matrix && is_abstract(matrix->element);
+}
+
 inline wgsl::detail::Words words_of(const Callee &callee, const std::vector<Operand> &operands, const Template &parameters) {
     wgsl::detail::Words words;
     if (auto unary = std::get_if<UnaryOperator>(&callee.name)) {
@@ -244,7 +252,7 @@ inline wgsl::detail::Words words_of(const Callee &callee, const std::vector<Oper
     words.parameters(parameters);
     words.number(operands.size());
     for (const Operand &operand : operands) {
-        words.word(operand.constant ? 1 : 0);
+        words.word(operand.constant || is_abstract(operand.type) ? 1 : 0);
         words.type(operand.type);
     }
     return words;

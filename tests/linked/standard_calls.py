@@ -16,7 +16,7 @@ sys.path[1:1] = [os.path.join(TOP, "tests"), os.path.join(TOP, "tests", "overloa
 from calls import Calls, in_words, is_constructor  # noqa: E402, beside tests/standard
 from facts import read_facts  # noqa: E402
 from search import Search  # noqa: E402
-from spelling import words  # noqa: E402
+from spelling import is_abstract, words  # noqa: E402
 
 ROOM = 1 << 16
 
@@ -82,7 +82,7 @@ def callee_code(name, count):
 def call_code(call):
     name, template, operands, constant = call
     written = [0] if template is None else [1] + list_code([parameter_code(("type", type_of(words(template))))])
-    codes = [operand_code(type_of(words(t)), c) for t, c in zip(operands, constant)]
+    codes = [operand_code(type_of(words(t)), c or is_abstract(t)) for t, c in zip(operands, constant)]
     return callee_code(name, len(operands)) + written + list_code(codes)
 
 
@@ -199,7 +199,8 @@ def compare_results(asked, replies):
     search = Search(read_facts()[1])
     for call, (status, found) in zip(asked, replies):
         name, template, operands, constant = call
-        wanted, reader = search.answer(name, template, operands, all(constant)), CallReader(found)
+        are_constant = all(c or is_abstract(t) for t, c in zip(operands, constant))
+        wanted, reader = search.answer(name, template, operands, are_constant), CallReader(found)
         result = reader.all(reader.resolution)[1] if status == 0 else None
         shown = "no overload" if status == 1 else "no value" if result is None else spelling(result)
         if shown != wanted:

@@ -7,7 +7,8 @@ import wgsl
 
 
 def main():
-    names = ["wgsl", *(f"wgsl.{module.name}" for module in pkgutil.iter_modules(wgsl.__path__) if module.name != "__main__")]
+    found = {module.name for module in pkgutil.iter_modules(wgsl.__path__)} - {"__main__", "libwgsl"}
+    names = ["wgsl", *(f"wgsl.{name}" for name in sorted(found))]
     results = [doctest.testmod(importlib.import_module(name)) for name in names]
     failed, tried = sum(result.failed for result in results), sum(result.attempted for result in results)
     if failed or tried < 40:

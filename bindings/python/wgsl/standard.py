@@ -7,7 +7,7 @@ from typing import Any, Iterable, List, Optional, Tuple, Union
 
 from ._library import ANSWERED, REFUSED, ask_codes
 from .codes import BINARY, UNARY, Reader, encode, encode_list, encode_name, encode_operator, encode_template
-from .values import Parameter, Type
+from .values import ABSTRACT_FLOAT, ABSTRACT_INT, Array, Matrix, Parameter, Type, Vector
 
 __all__ = ["KINDS", "NoOverload", "Operand", "Resolution", "overloads", "resolve", "resolve_binary", "resolve_call",
            "resolve_constructor", "resolve_unary", "why"]
@@ -66,6 +66,12 @@ class NoOverload(Exception):
         return f"no overload of `{self.name}{template}` takes ({types})"
 
 
+def _is_abstract(type: Type) -> bool:
+    if isinstance(type, (Array, Matrix, Vector)):
+        return _is_abstract(type.element)
+    return type in (ABSTRACT_INT, ABSTRACT_FLOAT)
+
+
 def _operands(given: Iterable[AnyOperand]) -> Tuple[Operand, ...]:
     return tuple(operand if isinstance(operand, Operand) else Operand(operand) for operand in given)
 
@@ -75,7 +81,7 @@ def _encode_call(kind: str, name: str, operands: Tuple[Operand, ...], template: 
         raise ValueError(f"{kind!r} is none of {', '.join(KINDS)}")
     tag = KINDS.index(kind)
     callee = encode_operator(name, [UNARY, BINARY][tag]) if tag < 2 else encode_name(name)
-    codes = [[int(operand.const)] + encode(operand.type) for operand in operands]
+    codes = [[int(operand.const or _is_abstract(operand.type))] + encode(operand.type) for operand in operands]
     return [tag] + callee + encode_template(template) + encode_list(codes)
 
 
