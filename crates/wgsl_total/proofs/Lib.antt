@@ -19,3 +19,4 @@ pub mod CalleesFound
 pub mod CallsFound
 pub mod RequestsFound
 pub mod Replied
+pub mod Printed
