@@ -69,10 +69,7 @@ impl<'a, 't> Scope<'a, 't> {
         let at = cursor.index();
         let word = cursor.word();
         let kind = cursor.kind();
-        if !matches!(
-            kind,
-            Kind::Number | Kind::Name | Kind::Sign(b'(' | b'-' | b'~')
-        ) {
+        if !begins_operand(cursor) {
             return Err(cursor.expected(Expected::Integer));
         }
         cursor.advance();
@@ -140,6 +137,15 @@ impl<'a, 't> Scope<'a, 't> {
     }
 }
 
+/// Whether an operand comes next. `--` is one token in WGSL, and begins none.
+fn begins_operand(cursor: &Cursor) -> bool {
+    match cursor.kind() {
+        Kind::Number | Kind::Name | Kind::Sign(b'(' | b'~') => true,
+        Kind::Sign(b'-') => !cursor.is_next(b'-'),
+        _ => false,
+    }
+}
+
 /// The end of parentheses, perhaps behind a comma.
 pub fn close(cursor: &mut Cursor) -> Result<(), Stop>
     ensures goes_on { GoesOn cursor.old cursor.new }
@@ -200,7 +206,7 @@ fn take_operator(cursor: &mut Cursor, level: u32, site: Site) -> Option<(usize, 
     Some((at, operator))
 }
 
-/// The operator that comes next. A `>` in a template list ends it, and `&&` is no operator on integers.
+/// The operator that comes next. A `>` in a template list ends it, and `&&`, `||` and `--` are no operators on integers.
 fn operator_at(cursor: &Cursor, site: Site) -> Option<Operator> {
     let Kind::Sign(sign) = cursor.kind() else {
         return None;
@@ -208,7 +214,7 @@ fn operator_at(cursor: &Cursor, site: Site) -> Option<Operator> {
     let is_doubled = cursor.is_next(sign);
     match sign {
         b'+' => Some(Operator::Add),
-        b'-' => Some(Operator::Sub),
+        b'-' if !is_doubled => Some(Operator::Sub),
         b'*' => Some(Operator::Mul),
         b'/' => Some(Operator::Div),
         b'%' => Some(Operator::Rem),

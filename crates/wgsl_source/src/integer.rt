@@ -213,11 +213,17 @@ impl Operator {
         match self {
             Operator::ShiftLeft => shifted_left(left, count_of(left, right)?),
             Operator::ShiftRight => shifted_right(left, count_of(left, right)?),
-            _ => {
-                let ty = left.common(right)?;
-                ty.of(self.value(left.value, right.value)?)
+            Operator::Rem => {
+                Operator::Div.in_common_type(left, right)?;
+                self.in_common_type(left, right)
             }
+            _ => self.in_common_type(left, right),
         }
+    }
+
+    fn in_common_type(self, left: Integer, right: Integer) -> Result<Integer, Cause> {
+        let ty = left.common(right)?;
+        ty.of(self.value(left.value, right.value)?)
     }
 
     /// The value, or None if it overflows 64 bits.
@@ -240,7 +246,7 @@ impl Operator {
 /// By how many bits an integer is shifted.
 fn count_of(left: Integer, right: Integer) -> Result<u32, Cause> {
     let bits: u32 = match left.ty {
-        IntegerType::Abstract => 63,
+        IntegerType::Abstract => 64,
         _ => 32,
     };
     if right.ty == IntegerType::I32 {
@@ -253,11 +259,17 @@ fn count_of(left: Integer, right: Integer) -> Result<u32, Cause> {
 }
 
 fn shifted_left(left: Integer, count: u32) -> Result<Integer, Cause> {
-    left.ty.of(power_of_two(count).and_then(|power| left.value.checked_mul(power)))
+    left.ty.of(times_power(left.value, count))
 }
 
-fn power_of_two(count: u32) -> Option<i64> {
-    1i64.checked_shl(count)
+/// The value times that power of two, or None if it overflows 64 bits.
+fn times_power(value: i64, count: u32) -> Option<i64> {
+    let shifted = value.checked_shl(count)?;
+    if shifted.checked_shr(count)? == value {
+        Some(shifted)
+    } else {
+        None
+    }
 }
 
 fn shifted_right(left: Integer, count: u32) -> Result<Integer, Cause> {

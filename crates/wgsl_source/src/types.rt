@@ -5,6 +5,7 @@ use crate::cursor::Cursor;
 use crate::expression::{LEVELS, Site};
 use crate::fault::{Cause, Expected, Stop};
 use crate::head::{Head, LayerName, predeclared};
+use crate::keyword::is_name;
 use crate::scope::{Meaning, Scope};
 use std::str::FromStr;
 use wgsl_core::ty::Type;
@@ -45,7 +46,7 @@ impl<'a, 't> Scope<'a, 't> {
     /// What the predeclared name of a type says. Some types of spellings have no name in a module.
     fn head(&self, name: &str) -> Result<Head, Cause> {
         let Some(head) = predeclared(name) else {
-            return Err(Cause::UnknownName);
+            return Err(unknown_type(name));
         };
         let is_spelled_alone = matches!(
             head,
@@ -53,7 +54,7 @@ impl<'a, 't> Scope<'a, 't> {
                 | Head::Layer(LayerName::Reference)
         );
         if is_spelled_alone && !self.is_spelling {
-            Err(Cause::UnknownName)
+            Err(unknown_type(name))
         } else if head.is_half() && !self.has_half {
             Err(Cause::NoHalf)
         } else {
@@ -288,5 +289,14 @@ fn read_flag(cursor: &mut Cursor) -> Result<Option<AccelerationStructureFlags>, 
     match flag {
         Ok(flag) => Ok(Some(flag)),
         Err(_) => Err(Stop::at(at, Cause::Expected(Expected::Flag))),
+    }
+}
+
+/// What is wrong with a word that nothing declares, where a type is wanted.
+fn unknown_type(word: &str) -> Cause {
+    if is_name(word) {
+        Cause::UnknownName
+    } else {
+        Cause::Expected(Expected::Type)
     }
 }
