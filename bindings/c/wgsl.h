@@ -6,8 +6,8 @@
  *
  * In numbers: calls take and give types as words of 32 bits. wgsl_codes.h writes and reads such words.
  *
- * README.md lists the requests in texts. Link with libwgsl.a or libwgsl.so, which run on x86-64 Linux, on processors with
- * SSE4.2. wgsl_codes.h needs C99, this header C99 or C++11.
+ * docs/USING.md lists the requests in texts. Link with libwgsl.a or libwgsl.so, which run on x86-64 Linux, on processors
+ * with SSE4.2. wgsl_codes.h needs C99, this header C99 or C++11.
  *
  * Types are not validated: counts of components, columns, rows and elements, names, and the attributes `size` and `align`
  * are taken as they are, as in `vec 7 bool` and `array 0 f32`. */
@@ -60,8 +60,8 @@ uint8_t wgsl_answer(const uint8_t *request, size_t request_len, uint8_t *room, s
  * It returns WGSL_UNREADABLE, and explains nothing, if wgsl_answer has an answer. All else is as for wgsl_answer. */
 uint8_t wgsl_explain(const uint8_t *request, size_t request_len, uint8_t *room, size_t room_len, size_t *text_len);
 
-/* The same by WGSL's own overloads, as the program wgsl_standard answers: README.md has its commands. That no overload takes
- * the operands is an answer. All else is as for wgsl_answer and wgsl_explain. */
+/* The same by WGSL's own overloads, as the program wgsl_standard answers: docs/USING.md has its commands. That no overload
+ * takes the operands is an answer. All else is as for wgsl_answer and wgsl_explain. */
 uint8_t wgsl_standard_answer(const uint8_t *request, size_t request_len, uint8_t *room, size_t room_len, size_t *text_len);
 uint8_t wgsl_standard_explain(const uint8_t *request, size_t request_len, uint8_t *room, size_t room_len, size_t *text_len);
 
@@ -124,8 +124,8 @@ uint8_t wgsl_message(const uint32_t *codes, size_t codes_len, uint8_t *room, siz
 /* Three calls over texts of WGSL. The caller owes what it owes for wgsl_answer, but WGSL_SOURCE_STACK bytes of stack.
  *
  * wgsl_source_layout writes what `./wgsl_layout --json` prints of a module, with an empty name of the file: the layouts of
- * its structs, where its variables are bound, and what is wrong, each with its line. README.md has the fields. It returns
- * WGSL_ANSWERED for every text, WGSL_OUT_OF_MEMORY or WGSL_NO_ROOM.
+ * its structs, where its variables are bound, and what is wrong, each with its line. docs/USING.md has the fields. It
+ * returns WGSL_ANSWERED for every text, WGSL_OUT_OF_MEMORY or WGSL_NO_ROOM.
  *
  * wgsl_read_type reads a type without structs as messages spell it, `array<vec3<f32>, 4>`, and writes its code. It returns
  * WGSL_UNREADABLE for every other text, and wgsl_explain_type says why: `column 1: the type is spelled `vec3<f32>``, of

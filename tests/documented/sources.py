@@ -18,6 +18,7 @@ LIBRARIES = (
     "wgsl_asked", "wgsl_coded", "wgsl_typed", "wgsl_requests", "wgsl_lines", "wgsl_agreement", "wgsl_total",
     "wgsl_source", "wgsl_spaces", "wgsl_report",
 )
+CALLED = {"wgsl_requests": ("request", "laws")}  # the modules that users call; the others read, ask and write for these
 PROGRAM, FOR_CALLERS_IN_C = "wgsl_check", "wgsl_c"
 PROMISING = BEHIND + LIBRARIES + (PROGRAM, FOR_CALLERS_IN_C)
 
@@ -75,12 +76,13 @@ def clauses(path):
 
 
 def public_modules(crate):
-    """The files of a library's root and of its public modules."""
+    """The files of a library's root and of its public modules, without those that only the library itself calls."""
     found, left = [], [(os.path.join(folder_of(crate), "lib.rt"), folder_of(crate))]
     for path, folder in left:
         found.append(path)
         for name in re.findall(r"^pub mod (\w+);", read(path), re.MULTILINE):
-            left.append((os.path.join(folder, name + ".rt"), os.path.join(folder, name)))
+            if name in CALLED.get(crate, (name,)):
+                left.append((os.path.join(folder, name + ".rt"), os.path.join(folder, name)))
     return found
 
 

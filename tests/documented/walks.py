@@ -9,10 +9,9 @@ from sources import PROMISING, TOP, files_of, functions, read
 
 BUILT = os.path.join(TOP, "crates", "wgsl_check", "out", "wgsl_check")
 NAMED = re.compile(r"`([\w./-]+\.(?:rt|antt|md|c|h|py|rs|txt))`")
-HEADING = re.compile(r"^### (.*)\n\n(?:[^|#].*\n)*\n?\| \| File \|.*\n\|.*\n((?:\|.*\n)+)", re.MULTILINE)
-ONE = re.compile(r"(\d+) \| `([\w/]+\.rt)` \| (.*)")
-SAME = re.compile(r"(\d+) to (\d+) \| files (\d+) to (\d+) of `(.*?)` \| (.*)")
-ENTERED = re.compile(r"`([a-z_]+)`(?: in `([\w/]+\.rt)`)?")
+WALK = re.compile(r"^\| `([^`]+)` \| (`wgsl_\w+`: .*) \|$", re.MULTILINE)
+STEP = re.compile(r"`([\w/]+\.rt)`(?: \(`(\w+)`\))?")
+CRATE = re.compile(r"^\| (`\w+`(?:, `\w+`)*) \| .* \| (std|`\w+`(?:, `\w+`)*) \|$", re.MULTILINE)
 SYMBOL = re.compile(r"^c?fn=\(\d+\) (\w+(?:::\w+)+)", re.MULTILINE)
 
 
@@ -24,57 +23,55 @@ def repository_files():
 
 
 def compare_paths():
-    """Each file that docs/MAP.md names is there, and it names each file of the crates' code."""
-    text = read("docs", "MAP.md")
+    """Each file that docs/MAP.md names is there."""
     there = list(repository_files())
-    names = set(NAMED.findall(text))
-    faults = [
+    names = set(NAMED.findall(read("docs", "MAP.md")))
+    walked = {file for _, rows in read_walks().items() for file, _ in rows}
+    return [
         f"MAP.md names {name}, which isn't there"
         for name in sorted(names)
-        if not any(path == name or path.endswith("/" + name) for path in there)
+        if not any(path == name or path.endswith("/" + name) for path in there + sorted(walked))
     ]
+
+
+def compare_crates():
+    """docs/MAP.md has each crate, with what crates.txt says that it stands on; and each file of code says what it has."""
+    lines = [line.partition(":") for line in read("crates.txt").split("\n") if line and not line.startswith("#")]
+    listed = {name.split()[0]: sorted(below.split()) for name, _, below in lines}
+    faults, named = [], {}
+    for crates, below in CRATE.findall(read("docs", "MAP.md")):
+        crates, below = re.findall(r"\w+", crates), sorted(re.findall(r"\w+", below.replace("std", "")))
+        named.update((crate, below) for crate in crates)
+        if sorted({other for crate in crates for other in listed.get(crate, ())}) != below:
+            faults.append(f"MAP.md: {crates} stand on {below}, but crates.txt says otherwise")
+    faults += [f"MAP.md has no row of the crate {crate}" for crate in sorted(set(listed) - set(named))]
+    faults += [f"MAP.md has a row of {crate}, which crates.txt doesn't list" for crate in sorted(set(named) - set(listed))]
     for path in (path for crate in PROMISING for path in files_of(crate)):
-        inside = path.split("/src/")[1]
-        if not {inside, os.path.basename(path), os.path.relpath(path, "crates")} & names:
-            faults.append(f"MAP.md doesn't name {path}")
+        if not read(path).startswith("//"):
+            faults.append(f"{path} doesn't say in its first line what it has")
     return faults
 
 
 def read_walks():
-    """Each walk of docs/MAP.md: what is walked, and the rows, each a file with what is said of it."""
-    walks, faults = {}, []
-    for heading, table in HEADING.findall(read("docs", "MAP.md")):
-        name, rows = heading.strip("`"), []
-        for line in table.splitlines():
-            cells = line.strip("| ")
-            if match := SAME.fullmatch(cells):
-                start, end, first, last = map(int, match.groups()[:4])
-                same = walks.get(match[5], [])[first - 1 : last]
-                rows += [(file, "") for file, _ in same[:-1]] + [(file, match[6]) for file, _ in same[-1:]]
-                counted = start == len(rows) - len(same) + 1 and end == len(rows)
-            elif match := ONE.fullmatch(cells):
-                rows.append((os.path.join("crates", match[2]), match[3]))
-                counted = int(match[1]) == len(rows)
-            else:
-                counted = False
-            if not counted:
-                faults.append(f"MAP.md, walk of {name}: a row is not counted right, or not read: {line}")
-        walks[name] = rows
-    return walks, faults if walks else ["MAP.md has no walk"]
+    """Each walk of docs/MAP.md: what is called, and each file that is entered, with the function that it names."""
+    walks = {}
+    for call, groups in WALK.findall(read("docs", "MAP.md")):
+        walks[call] = []
+        for group in groups.split("; "):
+            crate, _, files = group.partition(": ")
+            walks[call] += [(os.path.join("crates", crate.strip("`"), "src", file), name) for file, name in STEP.findall(files)]
+    return walks
 
 
-def compare_rows(name, rows):
-    """Each file of a walk is there once. Each function that a row names is in its file, or in that which the row says."""
+def compare_rows(call, rows):
+    """Each file of a walk is there, once. The function that is named with it is one of it."""
     files = [file for file, _ in rows]
     faults = [f"{file} isn't there" for file in files if not os.path.exists(os.path.join(TOP, file))]
     faults += [f"{file} is named twice" for file in sorted(set(files)) if files.count(file) > 1]
-    for file, said in [] if faults else rows:
-        for function, other in ENTERED.findall(said):
-            places = [path for path in files if path.endswith("/" + other)] if other else [file]
-            is_there = any(function in (found for _, _, found in functions(path)) for path in places)
-            if not is_there and (other or function not in name.split()):
-                faults.append(f"{function} isn't in {other or file}")
-    return [f"MAP.md, walk of {name}: {fault}" for fault in faults]
+    for file, function in [] if faults else rows:
+        if function and function not in (name for _, _, name in functions(file)):
+            faults.append(f"{function} isn't in {file}")
+    return [f"MAP.md, walk of {call}: {fault}" for fault in faults]
 
 
 def homes():
@@ -126,9 +123,10 @@ def compare_with_program(walks):
 
 
 def compare_walks():
-    walks, faults = read_walks()
-    for name, rows in walks.items():
-        faults += compare_rows(name, rows)
+    walks = read_walks()
+    faults = [] if walks else ["MAP.md has no walk"]
+    for call, rows in walks.items():
+        faults += compare_rows(call, rows)
     if faults:
         return faults
     if not os.path.exists(BUILT):

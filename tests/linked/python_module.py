@@ -18,7 +18,7 @@ def check_python(top, asked, wanted):
     below = os.path.join(top, "below", "that")
     os.makedirs(below)
     shown = write_shown("python", os.path.join(below, "shown.py"))
-    expect_shown("Python", run(sys.executable, shown, where=below, WGSL_LIB="out", **FOUND))
+    expect_shown("Python", run(sys.executable, shown, where=below, WGSL_LIB="out", **FOUND), b"vec3<f32>\n[0, 16, 28]\n")
     program = os.path.join(LINKED, "python_threads.py")
     threads = run(sys.executable, program, asked=asked, where=top, WGSL_LIB="out", **FOUND)
     print(f"link: Python: {threads.decode().strip()}")

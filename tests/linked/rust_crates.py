@@ -40,12 +40,10 @@ class Crates:
 
 
 def check_rust(crates, asked, wanted):
-    """The crate over texts: its documentation's tests, its example over all requests, the program of docs/USING.md."""
-    write_shown("rust", crates.path("rust", "examples", "shown.rs"))
+    """The crate over texts: its documentation's tests, and its example over all requests."""
     crates.cargo("rust", "test", WGSL_LIB="out")
     examples = crates.path("rust", "target", "debug", "examples")
     compare_both("Rust", wanted, answers_and_notes(os.path.join(examples, "lines"), asked=asked))
-    expect_shown("Rust", run(os.path.join(examples, "shown")))
 
 
 def standard_calls():
@@ -85,10 +83,10 @@ def check_rust_standard(crates):
 
 
 def check_rust_types(crates):
-    """The crate over numbers, beside the one over texts, which its tests ask too."""
+    """The crate over numbers, beside the one over texts, which its tests ask too; and the program of README.md."""
     check_texts()
     shutil.copy(os.path.join(LINKED, "questions.rs"), crates.path("rust-types", "examples"))
-    write_shown("rust", crates.path("rust-types", "examples", "shown.rs"), 1)
+    write_shown("rust", crates.path("rust-types", "examples", "shown.rs"))
     crates.cargo("rust-types", "test", WGSL_LIB="out")
     examples = crates.path("rust-types", "target", "debug", "examples")
     expect_shown("Rust", run(os.path.join(examples, "shown")), b"vec3<f32>\n[0, 16, 28]\n")

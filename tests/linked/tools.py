@@ -69,15 +69,18 @@ def compare_both(language, wanted, given):
     compare(f"{language}, on what can't be read,", wanted[1], given[1])
 
 
-def write_shown(language, path, index=0):
-    """Writes a program in that language of docs/USING.md, as it stands: the first over texts, the second over numbers."""
-    with open(os.path.join(TOP, "docs", "USING.md"), encoding="utf-8") as file:
-        found = re.findall(r"^```(\w*)\n(.*?)^```$", file.read(), re.DOTALL | re.MULTILINE)
+def write_shown(language, path):
+    """Writes the program in that language of docs/USING.md, or else of README.md, as it stands."""
+    text = ""
+    for document in (os.path.join("docs", "USING.md"), "README.md"):
+        with open(os.path.join(TOP, document), encoding="utf-8") as file:
+            text += file.read()
+    found = re.findall(r"^```(\w*)\n(.*?)^```$", text, re.DOTALL | re.MULTILINE)
     with open(path, "w", encoding="utf-8") as file:
-        file.write([block for name, block in found if name == language][index])
+        file.write([block for name, block in found if name == language][0])
     return path
 
 
 def expect_shown(language, printed, wanted=b"vec3<f32>\n"):
     if printed != wanted:
-        sys.exit(f"link: the program in {language} of docs/USING.md prints {printed}")
+        sys.exit(f"link: the program in {language} of the documents prints {printed}")

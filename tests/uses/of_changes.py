@@ -131,7 +131,7 @@ def source_that_changed_since_the_gate(use):
 def source_of_a_crate_that_stands_elsewhere(use):
     for crate in ("wgsl_c", "wgsl_coded", "wgsl_memory", "example_hover", "hover"):
         add(use.path("crates", crate, "src", "main.rt"))
-    _after(use, "crates", "example_value", "src", "lib.rt")
+    _after(use, "crates", "example_fits", "src", "lib.rt")
     _not_again(use)
 
 

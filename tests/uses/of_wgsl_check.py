@@ -52,7 +52,7 @@ def help_is_asked_for(use):
     for option in ("--help", "-h"):
         status, printed, said = use.run("./wgsl_check", option)
         equal((status, said), (0, ""))
-        for text in ("usage: ./wgsl_check", "README.md", "64", use.program):
+        for text in ("usage: ./wgsl_check", "docs/USING.md", "64", use.program):
             assert text in printed, printed
     equal(use.calls(), [])
 

@@ -37,7 +37,7 @@ def help_is_asked_for(use):
     for option in ("--help", "-h"):
         status, printed, said = use.run("./wgsl_standard", option)
         equal((status, said), (0, ""))
-        for text in ("usage: ./wgsl_standard", "README.md", "64", "wgsl_standard_check"):
+        for text in ("usage: ./wgsl_standard", "docs/USING.md", "64", "wgsl_standard_check"):
             assert text in printed, printed
     equal(use.calls(), [])
 

@@ -45,6 +45,7 @@ def make_template(folder):
         shutil.copy(os.path.join(TOP, name), top)
     for name in ("LICENSE", "NOTICE", "CHANGELOG.md"):
         shutil.copy(os.path.join(TOP, name), top)
+    shutil.copytree(os.path.join(TOP, "docs"), os.path.join(top, "docs"))
     ignored = shutil.ignore_patterns("target", "__pycache__")
     shutil.copytree(os.path.join(TOP, "bindings"), os.path.join(top, "bindings"), ignore=ignored)
     for line in read(os.path.join(TOP, "crates.txt")).splitlines():
