@@ -3,9 +3,17 @@
 A vector that is read or built takes one allocation; the type of a binary expression isn't built. By numbers so do the list
 that `common` reads and the words of a refusal; a name, a list of one argument to three, and the words of a short reply take
 none. In text each list takes one, and so does an answer that is one word or has at most 8 bytes. Other answers of at most 16
-bytes take two."""
+bytes take two.
+
+By WGSL's own overloads a call in numbers builds the types of its parameters and of its result. Why there is none takes three
+if each overload takes the operands, and one more for a name. In text a call builds the type of its result, and takes three. The
+text of a vector grows once for each 8 bytes behind the first. To read a type from its spelling takes three, and two more for a
+vector; it is spelled again, to compare the two."""
 from number_calls import CALLS
-from type_codes import BINARY, SCALARS, UNARY, Random, code, list_code, signature_code, words
+from random_types import Random, words
+from wgsl import standard
+from wgsl.codes import BINARY, UNARY, Reader, encode, encode_list, encode_name, encode_signature
+from wgsl.values import SCALARS, Scalar, Vector
 
 CONSTRUCTORS = "bool i32 u32 f32 f16 vec2 vec3 vec4".split()
 FUNCTIONS = """abs all any atan2 clamp countOneBits cross distance dot extractBits fma insertBits length max min mix
@@ -14,8 +22,12 @@ VECTOR = 3
 
 
 def short_type(rng):
-    scalar = ("scalar", rng.choice(SCALARS))
-    return ("vec", rng.choice([2, 3, 4]), scalar) if rng.randrange(2) else scalar
+    scalar = Scalar(rng.choice(SCALARS))
+    return Vector(rng.choice([2, 3, 4]), scalar) if rng.randrange(2) else scalar
+
+
+def vectors(types):
+    return sum(isinstance(t, Vector) for t in types)
 
 
 def short_question(rng):
@@ -28,10 +40,10 @@ def short_question(rng):
     if name in ("constructor", "call"):
         called = rng.choice(CONSTRUCTORS if name == "constructor" else FUNCTIONS)
         command = "ctor" if name == "constructor" else name
-        return name, signature_code(called, None, types), " ".join([command, called, "-"] + spelled), types
-    codes = [code(t) for t in types]
+        return name, encode_signature(called, None, types), " ".join([command, called, "-"] + spelled), types
+    codes = [encode(t) for t in types]
     if name == "common":
-        return name, list_code(codes), " ".join([name] + spelled), types
+        return name, encode_list(codes), " ".join([name] + spelled), types
     operators = {"unary": UNARY, "binary": BINARY}.get(name, [""])
     index = rng.randrange(len(operators))
     given = ([index] if name in ("unary", "binary") else []) + sum(codes, [])
@@ -40,7 +52,7 @@ def short_question(rng):
 
 def by_numbers(name, types, status, reply):
     """How often a call by numbers allocates, or None for a refusal that holds copies of its types."""
-    read = sum(t[0] == "vec" for t in types)
+    read = vectors(types)
     if name in ("rank", "size", "common"):
         return read + (name == "common")
     if name == "binary":
@@ -52,23 +64,101 @@ def in_text(name, types, status, answer):
     """The same in text, or None for messages and long answers."""
     if len(answer) > 16 or (status == 1 and name not in ("rank", "common")):
         return None
-    read = sum(t[0] == "vec" for t in types)
+    read = vectors(types)
     built = answer.startswith("vec") and name not in ("common", "binary")
     grown = len(answer) > 8 and answer not in SCALARS
     return read + built + (name in ("common", "constructor", "call")) + 1 + grown
 
 
-def questions(library, count):
+def in_hexadecimal(name, given):
+    return " ".join([name] + [f"{word:08x}" for word in given])
+
+
+def ported(library, count):
     """Questions by numbers, as the programs in C read them, and in text, each with the number of its allocations."""
     rng, asked, told = Random(5), [], []
     while min(len(asked), len(told)) < count:
         name, given, request, types = short_question(rng)
         status, reply = library.ask(name, given)
-        line = " ".join([name] + [f"{word:08x}" for word in given])
-        asked += with_number(line, by_numbers(name, types, status, reply))
-        told += with_number(request, in_text(name, types, status, library.text(request)))
+        asked += with_number(in_hexadecimal(name, given), by_numbers(name, types, status, reply))
+        told += with_number(f"answer {request}", in_text(name, types, status, library.text("answer", request)))
     return asked, told
 
 
 def with_number(request, number):
     return [] if number is None else [(request, number)]
+
+
+# By WGSL's own overloads.
+
+def growth(text):
+    """How often the text of a vector grows beyond its first 8 bytes."""
+    return (len(text) - 1) // 8 if text.startswith("vec") else 0
+
+
+def short_call(rng):
+    """The kind of a call, its name, its operands, and the request in text."""
+    kind = rng.choice(standard.KINDS)
+    names = {"unary": UNARY, "binary": BINARY, "call": FUNCTIONS, "constructor": CONSTRUCTORS}[kind]
+    first, count = short_type(rng), {"unary": 1, "binary": 2}.get(kind) or rng.randrange(1, 4)
+    types = [first] + [first if rng.randrange(2) else short_type(rng) for _ in range(count - 1)]
+    operands = [standard.Operand(t, rng.randrange(2) == 1) for t in types]
+    name = rng.choice(names)
+    head = {"call": ["call", name, "-"], "constructor": ["ctor", name, "-"]}.get(kind, [kind, name])
+    spelled = [("const " if operand.const else "") + words(operand.type) for operand in operands]
+    return kind, name, operands, " ".join(head + spelled)
+
+
+def resolved(library, count):
+    """Calls by numbers and in text, each with the number of its allocations. Refusals in text are long."""
+    rng, asked, told = Random(6), [], []
+    while min(len(asked), len(told)) < count:
+        kind, name, operands, request = short_call(rng)
+        given, read = standard.encode_call(kind, name, operands), vectors(operand.type for operand in operands)
+        if library.ask("standard_why", given) == (0, [0, 0]):
+            asked.append((in_hexadecimal("standard_why", given), 3 + read + (kind in ("call", "constructor"))))
+        status, reply = library.ask("standard_resolve", given)
+        if status == 1:
+            asked.append((in_hexadecimal("standard_resolve", given), read))
+            continue
+        found, text = Reader(reply).all(standard.read_resolution), library.text("standard_answer", request)
+        built = isinstance(found.result, Vector)
+        asked.append((in_hexadecimal("standard_resolve", given), read + vectors(found.parameters) + built))
+        told.append((f"standard_answer {request}", 3 + read + built + growth(text)))
+    return asked, told
+
+
+# Types and their spellings.
+
+SHORT = [Scalar(name) for name in SCALARS] + [Vector(count, Scalar(name)) for count in (2, 3, 4) for name in SCALARS]
+
+
+# Errors without fields, and modules with how often the library allocates for each.
+BARE = [8, 9, 10, 11, 12, 21, 22, 23, 24, 25]
+MODULES = [("", 5), ("struct S { a: f32 }", 31), ("@group(0) @binding(0) var<uniform> a: f32;", 16)]
+
+
+def spelled():
+    messages = [(in_hexadecimal("message", [error]), 1) for error in BARE]
+    return [(in_hexadecimal("spell", encode(t)), 1 + isinstance(t, Vector) + growth(str(t))) for t in SHORT] + messages
+
+
+def explained():
+    """Why a type isn't read that is read."""
+    return [(f"explain_type {t}", 2 + 2 * isinstance(t, Vector) + growth(str(t))) for t in SHORT]
+
+
+def taken_in():
+    return [(f"read_type {t}", 3 + 2 * isinstance(t, Vector) + growth(str(t))) for t in SHORT]
+
+
+def questions(library, count):
+    """Short questions with the number of their allocations, by the form that checks.py gives them."""
+    numbers, texts = ported(library, count)
+    calls, requests = resolved(library, count // 3)
+    nothing = [(in_hexadecimal("standard_overloads", encode_name("nothing")), 2)]
+    modules = [(f"source_layout {module}", number) for module, number in MODULES]
+    return {
+        "texts": texts + requests + explained() + modules, "numbers": numbers + calls + nothing, "codes": spelled(),
+        "types": taken_in(),
+    }

@@ -11,10 +11,12 @@ TO_DO = "set it to the folder where ./build_library FOLDER wrote libwgsl.so"
 FOUND = {"PYTHONPATH": FOLDER, "PYTHONDONTWRITEBYTECODE": "1"}
 
 
-def check_python(top, asked, wanted):
+def check_python(top, asked, wanted, standard_asked, standard_wanted):
     """The package as a program, the program of docs/USING.md, and threads. A relative folder is found from below."""
-    given = answers_and_notes(*PROGRAM, asked=asked, WGSL_LIB=os.path.join(top, "out"), **FOUND)
-    compare_both("Python", wanted, given)
+    where = {"WGSL_LIB": os.path.join(top, "out"), **FOUND}
+    compare_both("Python", wanted, answers_and_notes(*PROGRAM, asked=asked, **where))
+    given = answers_and_notes(*PROGRAM, "--rules", "wgsl", asked=standard_asked, **where)
+    compare_both("Python, by WGSL's own overloads", standard_wanted, given)
     below = os.path.join(top, "below", "that")
     os.makedirs(below)
     shown = write_shown("python", os.path.join(below, "shown.py"))

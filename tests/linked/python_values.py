@@ -1,11 +1,12 @@
 """Asks the typed calls of the Python package random questions: each answer, and each refusal's message, is that of the request
-in text. The package's types have the codes that type_codes.py gives, and its spelling."""
+in text. What the package encodes it reads again, the deepest types too, and it spells each type as a parse of that reads it."""
 import sys
 
 import wgsl
-from number_calls import question
-from type_codes import Random, code, parameter_words, signature_code, spelling
-from wgsl.codes import Reader, encode, encode_signature
+from number_calls import question, signature_code
+from random_types import Random
+from source_calls import is_spelled
+from wgsl.codes import DEEPEST, Reader, encode
 
 QUESTIONS, TYPES = 20000, 5000
 
@@ -78,15 +79,27 @@ def answers():
 def types():
     rng = Random(12)
     for _ in range(TYPES):
-        given = rng.type(6)
-        ty = Reader(code(given)).all(Reader.type)
-        expect((encode(ty), str(ty)), (code(given), spelling(given)), given)
-        signature = rng.signature()
-        read = Reader(signature_code(*signature)).all(Reader.signature)
-        expect(encode_signature(read.name, read.template, read.arguments), signature_code(*signature), signature)
-        template = None if signature[1] is None else [parameter_words(p)[2:] for p in signature[1] if p[0] != "type"]
-        if template is not None:
-            expect([str(p) for p in read.template if not isinstance(p, wgsl.Type)], template, signature)
+        ty, signature = rng.type(6), rng.signature()
+        expect(Reader(encode(ty)).all(Reader.type), ty, ty)
+        expect(Reader(signature_code(signature)).all(Reader.signature), signature, signature)
+        if is_spelled(ty):
+            expect(wgsl.parse(str(ty)), ty, ty)
+
+
+def deepest_types():
+    """Types of 255 levels, of each kind that has levels."""
+    kinds = [
+        lambda ty: wgsl.Vector(2, ty), lambda ty: wgsl.Matrix(2, 2, ty), lambda ty: wgsl.Array(ty, 1), wgsl.BindingArray, wgsl.Atomic,
+        lambda ty: wgsl.Pointer("function", ty, "read"), lambda ty: wgsl.Reference("function", ty, "read"),
+        lambda ty: wgsl.Struct("S", [("a", ty)]),
+    ]
+    for kind in kinds:
+        ty = wgsl.F32
+        for _ in range(DEEPEST - 1):
+            ty = kind(ty)
+        expect(encode(Reader(encode(ty), DEEPEST).all(Reader.type)), encode(ty), "the deepest types")
+        expect(len(str(ty)) >= 1, True, "their spellings")
+        expect(wgsl.common([ty, ty]) is None, False, "their common types")
 
 
 def wrong_values():
@@ -110,6 +123,7 @@ def wrong_values():
 
 
 types()
+deepest_types()
 answers()
 wrong_values()
 print(f"{QUESTIONS} random questions to typed calls, and {TYPES} types")

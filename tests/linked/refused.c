@@ -24,9 +24,11 @@ int main(void) {
     read_requests();
     for (size_t k = 0; k < count; k++) {
         size_t len = 0;
+        long before = live;
         asked = 0;
         int status = ask(k, wanted, LONG_ANSWER, &len);
         long needed = asked;
+        if (live != before) wrong(k, "memory is kept");
         for (long n = 1; n <= needed; n++) {
             refuse(k, n, -1, status, len);
             refuse(k, -1, n, status, len);

@@ -39,11 +39,13 @@ class Crates:
         return failure(*in_folder, "cargo", *words, "--quiet", "--offline", status=status, **more)
 
 
-def check_rust(crates, asked, wanted):
+def check_rust(crates, asked, wanted, standard_asked, standard_wanted):
     """The crate over texts: its documentation's tests, and its example over all requests."""
     crates.cargo("rust", "test", WGSL_LIB="out")
     examples = crates.path("rust", "target", "debug", "examples")
     compare_both("Rust", wanted, answers_and_notes(os.path.join(examples, "lines"), asked=asked))
+    given = answers_and_notes(os.path.join(examples, "lines"), "standard", asked=standard_asked)
+    compare_both("Rust, by WGSL's own overloads", standard_wanted, given)
 
 
 def standard_calls():
@@ -74,7 +76,7 @@ def check_rust_standard(crates):
     asked = "".join(f"{line}\n" for line in lines + UNREADABLE).encode()
     wanted = answers_and_notes(program, asked=asked)
     example = crates.path("rust", "target", "debug", "examples", "lines")
-    compare_both("Rust, by WGSL's own overloads,", wanted, answers_and_notes(example, "standard", asked=asked))
+    compare_both("Rust, by WGSL's own overloads", wanted, answers_and_notes(example, "standard", asked=asked))
     questions = crates.path("rust-types", "target", "debug", "examples", "questions")
     typed = run(questions, str(EXPLAINED), asked="".join(f"{line}\n" for line in fields).encode())
     bad = [f"bad line {len(lines) + number}\n" for number in range(1, len(UNREADABLE) + 1)]

@@ -1,19 +1,19 @@
 """The calls over texts of WGSL: the JSON of `./wgsl_layout --json`, and types read from their spellings."""
-import ctypes
 import glob
 import json
 import os
 import random
 
-from tools import LINKED, TOP, compile_c, run
-from type_codes import Random, code, spelling
+from random_types import Random
+from tools import TOP, run
+from wgsl.codes import encode
+from wgsl.values import Matrix, Pointer, Reference, Struct, Vector
 
-WRAPPED = ["-Wl,--wrap=malloc,--wrap=realloc,--wrap=free"]
-NAMES = ["wgsl_explain_type", "wgsl_read_type", "wgsl_source_layout"]
 SOURCED = os.path.join(TOP, "tests", "sourced")
 MODULES = sorted(glob.glob(os.path.join(SOURCED, "*.wgsl")))
-# How many random types are read, and one in how many changed modules the program is asked about too.
-TYPES, COMPARED = 20000, 40
+# How many random types are read, how many of them are lines for the programs in C, and one in how many changed modules the
+# program is asked about too.
+TYPES, LINES, COMPARED = 20000, 300, 40
 
 
 def wrong(what):
@@ -25,42 +25,12 @@ def read(path):
         return file.read()
 
 
-class Calls:
-    """The three calls of the shared library."""
-
-    def __init__(self, folder):
-        library = ctypes.CDLL(os.path.join(folder, "libwgsl.so"))
-        size = ctypes.c_size_t
-        for name, unit in zip(NAMES, (ctypes.c_uint8, ctypes.c_uint32, ctypes.c_uint8)):
-            call = getattr(library, name)
-            call.restype = ctypes.c_uint8
-            call.argtypes = [ctypes.c_char_p, size, ctypes.POINTER(unit), size, ctypes.POINTER(size)]
-            setattr(self, name, self.asking(call, unit))
-
-    @staticmethod
-    def asking(call, unit):
-        def ask(text):
-            """The status and what is in the room."""
-            room_len, length = 4096, ctypes.c_size_t()
-            while True:
-                room = (unit * room_len)()
-                status = call(text, len(text), room, room_len, ctypes.byref(length))
-                if status != 4:
-                    return status, room[: length.value]
-                room_len = length.value
-        return ask
-
-    def layouts(self, text):
-        """The JSON of a text."""
-        status, told = self.wgsl_source_layout(text)
-        if status:
-            wrong(f"the layouts of {text[:200]} have status {status}")
-        return bytes(told)
-
-    def explained(self, text):
-        """Why a text is no type; None if it is one."""
-        status, told = self.wgsl_explain_type(text)
-        return None if status == 2 else bytes(told).decode()
+def layouts(library, text):
+    """The JSON of a text."""
+    status, told = library.ask("source_layout", text)
+    if status:
+        wrong(f"the layouts of {text[:200]} have status {status}")
+    return told
 
 
 def program_json(text):
@@ -69,14 +39,14 @@ def program_json(text):
     return told.replace(b'{"file":"-"', b'{"file":""', 1)
 
 
-def compare_modules(calls):
+def compare_modules(library):
     for path in MODULES:
-        if calls.layouts(read(path)) != program_json(read(path)):
+        if layouts(library, read(path)) != program_json(read(path)):
             wrong(f"the layouts of {path} in C are others than those of the program")
     return len(MODULES)
 
 
-def compare_changed(calls):
+def compare_changed(library):
     """A module cut after each byte, and with each byte changed."""
     module, rng = read(os.path.join(SOURCED, "every_form.wgsl")), random.Random(38)
     texts = [module[:n] for n in range(len(module) + 1)]
@@ -84,38 +54,40 @@ def compare_changed(calls):
         for byte in (rng.choice(b"<>(){}@;:,*/"), rng.randrange(256)):
             texts.append(module[:at] + bytes([byte]) + module[at + 1 :])
     for index, text in enumerate(texts):
-        told = calls.layouts(text)
+        told = layouts(library, text)
         json.loads(told)
         if index % COMPARED == 0 and told != program_json(text):
             wrong(f"the layouts of {text} in C are others than those of the program")
     return len(texts)
 
 
-def is_spelled(t):
+def is_spelled(ty):
     """Whether a type is read from its spelling: no struct is, nor vectors, matrices and spaces that no module can write."""
-    kind, *parts = t
-    if kind == "struct" or kind == "vec" and parts[0] not in (2, 3, 4) or kind == "mat" and not {parts[0], parts[1]} <= {2, 3, 4}:
+    if isinstance(ty, Struct) or isinstance(ty, (Pointer, Reference)) and ty.space == "handle":
         return False
-    if kind in ("ptr", "ref") and parts[0] == "handle":
-        return False
-    return all(is_spelled(part) for part in parts if isinstance(part, tuple))
+    counts = {ty.count} if isinstance(ty, Vector) else {ty.columns, ty.rows} if isinstance(ty, Matrix) else set()
+    return counts <= {2, 3, 4} and (not hasattr(ty, "element") or is_spelled(ty.element))
 
 
-def compare_types(calls):
-    """The code of a type is read from its spelling, and from no beginning of it that is no type."""
-    rng, spellings = Random(38), {}
-    for _ in range(TYPES):
-        t = rng.type(rng.randrange(1, 5))
-        if is_spelled(t):
-            spellings[spelling(t)] = code(t)
-    for text, wanted in spellings.items():
-        if calls.wgsl_read_type(text.encode()) != (0, wanted) or calls.explained(text.encode()) is not None:
-            wrong(f"{text} is read otherwise, or not: {calls.explained(text.encode())}")
+def spellings(count):
+    """The codes of random types, by their spellings."""
+    rng = Random(38)
+    types = (rng.type(rng.randrange(1, 5)) for _ in range(count))
+    return {str(ty): encode(ty) for ty in types if is_spelled(ty)}
+
+
+def compare_types(library):
+    """The code of a type is read from its spelling, and from no beginning of it that is no type. Returns how many types."""
+    rng, spelled = random.Random(39), spellings(TYPES)
+    for text, wanted in spelled.items():
+        if library.ask("read_type", text.encode()) != (0, wanted) or library.text("explain_type", text) is not None:
+            wrong(f"{text} is read otherwise, or not: {library.text('explain_type', text)}")
         cut = text[: rng.randrange(len(text))]
-        status, told = calls.wgsl_read_type(cut.encode())
-        if cut not in spellings and (status == 0) != (calls.explained(cut.encode()) is None) or status == 2 and told:
-            wrong(f"{cut} has the status {status}, and the explanation {calls.explained(cut.encode())}")
-    return spellings
+        status, told = library.ask("read_type", cut.encode())
+        why = library.text("explain_type", cut)
+        if cut not in spelled and (status == 0) != (why is None) or status == 2 and told:
+            wrong(f"{cut} has the status {status}, and the explanation {why}")
+    return len(spelled)
 
 
 EXPLAINED = [
@@ -130,21 +102,25 @@ EXPLAINED = [
 ]
 
 
-def compare_explained(calls):
+def compare_explained(library):
     for text, wanted in EXPLAINED:
-        if calls.explained(text) != wanted or calls.wgsl_read_type(text) != (2, []):
-            wrong(f"{text} is explained by {calls.explained(text)!r}")
+        if library.text("explain_type", text) != wanted or library.ask("read_type", text) != (2, []):
+            wrong(f"{text} is explained by {library.text('explain_type', text)!r}")
 
 
-def check_source(folder):
-    """The calls answer as the program does, in rooms of any size, also when memory is refused, on the promised stack."""
-    calls = Calls(folder)
-    modules, changed, spellings = compare_modules(calls), compare_changed(calls), compare_types(calls)
-    compare_explained(calls)
-    print(f"link: {modules} modules and {changed} changed ones have the layouts of the program, {len(spellings)} types are read")
-    program = compile_c(folder, os.path.join(LINKED, "source.c"), "source", *WRAPPED)
-    refused = sum(int(run(program, asked=read(path))) for path in MODULES)
-    types = "\n".join(list(spellings)[:300]).encode() + b"\nvec3f\narray<\n"
-    refused += int(run(program, "types", asked=types))
-    stack = run(compile_c(folder, os.path.join(LINKED, "stack_source.c"), "stack_source"))
-    print(f"link: WGSL texts: {refused} requests for memory were refused, {stack.decode().strip()}")
+def check_source(library):
+    """The calls answer as the program does."""
+    modules, changed, types = compare_modules(library), compare_changed(library), compare_types(library)
+    compare_explained(library)
+    print(f"link: {modules} modules and {changed} changed ones have the layouts of the program, {types} types are read")
+
+
+# As the programs in C read them.
+
+def types():
+    return [text.encode() for text in list(spellings(4 * LINES))[:LINES]] + [text for text, _ in EXPLAINED] + [b"array<"]
+
+
+def modules():
+    """The modules, each in one line: a carriage return ends a line of WGSL too."""
+    return [read(path).replace(b"\n", b"\r") for path in MODULES]

@@ -1,34 +1,48 @@
-/* Asks the deepest requests of every kind on a thread with the stack that wgsl.h promises to be enough, and prints how much
- * the deepest takes. It fails if that is more than half of what is promised. */
+/* Asks the deepest requests of every kind, and why they can't be read, on a thread with the stack that wgsl.h promises to be
+ * enough, and prints how much the deepest takes. It fails if that is more than half of what is promised. */
 #include "stack.h"
+
+enum { ROOM = 1 << 16 };
 
 static const char *const layers[] = {
     "vec 2 ", "mat 2 2 ", "array 1 ", "array * ", "binding_array * ", "atomic ",
     "ptr function read ", "ref function read ", "struct S 1 a - - ", "array 1 struct S 1 a - - ",
 };
+
+/* The last ones of each can't be read. */
 static const char *const heads[] = {
     "rank T T", "common T", "common T T", "unary - T", "unary & T", "unary * T", "binary == T T", "binary * T T", "size T",
     "offsets T", "layout T", "ctor vec2 - T", "ctor array - T T", "ctor array < t T n 1 >", "ctor array < t T n 1 > T",
     "call min - T T", "call abs - T", "call select - T T bool", "call bitcast < t T > f32", "call foo - T", "call array < t T > T",
+    "rank T", "binary + T", "unary - T f32", "call min T", "ctor array < t T",
 };
-enum { ROOM = 1 << 16 };
+static const char *const standard_heads[] = {
+    "unary - T", "unary & T", "unary * const T", "binary == T T", "binary * const T T", "binary << T T", "ctor vec2 - T",
+    "ctor vec2 < t T > f32", "ctor vec2 < t T > T", "call min - T T", "call abs - T", "call select - T T bool",
+    "call bitcast < t T > f32", "call bitcast < t T > T", "call foo - T", "call foo < t T > T", "binary + T", "unary - T f32",
+    "call min const T", "ctor vec2 < t T",
+};
+static const char *const commands[] = {"", "resolve ", "why "};
+
+typedef uint8_t Call(const uint8_t *request, size_t request_len, uint8_t *room, size_t room_len, size_t *text_len);
 
 static char request[WGSL_LONGEST + 1];
 static uint8_t room[ROOM];
 static size_t text_len;
-static int status;
+static int status, all;
+static Call *call;
 
 static void *ask(void *none) {
-    status = wgsl_answer((const uint8_t *)request, strlen(request), room, sizeof room, &text_len);
+    status = call((const uint8_t *)request, strlen(request), room, sizeof room, &text_len);
     return none;
 }
 
 /* Writes the request with as many of these layers in each T as it has room for, and returns how many those are. */
-static size_t write_request(const char *head, const char *layer) {
-    size_t types = 0, fixed = strlen(head);
+static size_t write_request(const char *command, const char *head, const char *layer) {
+    size_t types = 0, fixed = strlen(command) + strlen(head);
     for (const char *c = head; *c; c++) types += *c == 'T';
     size_t deep = (WGSL_LONGEST - fixed - 2 * types) / types / strlen(layer);
-    char *to = request;
+    char *to = stpcpy(request, command);
     for (const char *c = head; *c; c++) {
         if (*c != 'T') {
             *to++ = *c;
@@ -41,16 +55,35 @@ static size_t write_request(const char *head, const char *layer) {
     return deep;
 }
 
-int main(int arguments, char **argument) {
+/* The most that a request takes with this head, of a call that answers and of one that explains. */
+static size_t most_of(Call *answer, Call *explain, const char *command, const char *head) {
     size_t base = touched(idle, WGSL_STACK), most = 0;
-    int all = arguments > 1 && !strcmp(argument[1], "all");
-    for (size_t h = 0; h < sizeof heads / sizeof *heads; h++)
-        for (size_t l = 0; l < sizeof layers / sizeof *layers; l++) {
-            size_t deep = write_request(heads[h], layers[l]), taken = touched(ask, WGSL_STACK) - base;
-            if (status == WGSL_OUT_OF_MEMORY || status == WGSL_NO_ROOM) return printf("%s of %s: status %d\n", heads[h], layers[l], status), 1;
-            if (all) printf("%7zu bytes, %4zu a layer, status %d: %s of %zu %s\n", taken, taken / deep, status, heads[h], deep, layers[l]);
+    for (size_t l = 0; l < sizeof layers / sizeof *layers; l++) {
+        size_t deep = write_request(command, head, layers[l]);
+        int answered = 0;
+        for (int explains = 0; explains < 2; explains++) {
+            call = explains ? explain : answer;
+            size_t taken = touched(ask, WGSL_STACK) - base;
+            if (explains ? (status == WGSL_ANSWERED) == answered : status != WGSL_ANSWERED && status != WGSL_UNREADABLE)
+                exit(printf("%s%s of %s: status %d\n", command, head, layers[l], status) != 0);
+            answered = status == WGSL_ANSWERED;
+            if (all) printf("%7zu bytes, %4zu a layer, status %d: %s%s of %zu %s\n", taken, taken / deep, status, command, head, deep, layers[l]);
             if (taken > most) most = taken;
         }
+    }
+    return most;
+}
+
+static size_t larger(size_t a, size_t b) { return a > b ? a : b; }
+
+int main(int arguments, char **argument) {
+    size_t most = 0;
+    all = arguments > 1 && !strcmp(argument[1], "all");
+    for (size_t h = 0; h < sizeof heads / sizeof *heads; h++)
+        most = larger(most, most_of(wgsl_answer, wgsl_explain, "", heads[h]));
+    for (size_t c = 0; c < sizeof commands / sizeof *commands; c++)
+        for (size_t h = 0; h < sizeof standard_heads / sizeof *standard_heads; h++)
+            most = larger(most, most_of(wgsl_standard_answer, wgsl_standard_explain, commands[c], standard_heads[h]));
     printf("%zu bytes of stack at most\n", most);
     return most > WGSL_STACK / 2;
 }

@@ -47,12 +47,14 @@ static void *call(void *none) { status = wgsl_call(request, words.len, room, ROO
 static void *size(void *none) { status = wgsl_size(request, words.len, room, ROOM, &len); return none; }
 static void *layout(void *none) { status = wgsl_layout(request, words.len, room, ROOM, &len); return none; }
 static void *resolve(void *none) { status = wgsl_standard_resolve(request, words.len, room, ROOM, &len); return none; }
+static void *overloads(void *none) { status = wgsl_standard_overloads(request, words.len, room, ROOM, &len); return none; }
 static void *why(void *none) { status = wgsl_standard_why(request, words.len, room, ROOM, &len); return none; }
 static void *spell(void *none) { status = wgsl_spell(request, words.len, text, ROOM, &len); return none; }
 static void *message(void *none) { status = wgsl_message(request, words.len, text, ROOM, &len); return none; }
 
 /* Each call, what it is asked first, and how many types follow. S is a signature of two arguments, T one of one argument
- * whose template has a type too; C and D are the same of a call by WGSL's own overloads; E is an error with two types. */
+ * whose template has a type too; C and D are the same of a call by WGSL's own overloads; U and B are
+ * its operators; E is an error with two types, R one with a signature. */
 static const struct {
     void *(*ask)(void *);
     char first;
@@ -61,22 +63,40 @@ static const struct {
 } asked[] = {
     {rank, '-', "", 2}, {common, 'L', "", 2}, {unary, 'O', "", 1}, {binary, 'O', "", 2}, {constructor, 'S', "array", 2},
     {constructor, 'S', "vec2", 2}, {constructor, 'T', "array", 2}, {call, 'S', "min", 2}, {call, 'S', "foo", 2},
-    {call, 'T', "bitcast", 2}, {size, '-', "", 1}, {layout, '-', "", 1}, {resolve, 'C', "min", 2}, {resolve, 'D', "bitcast", 2},
-    {why, 'C', "min", 2}, {why, 'D', "bitcast", 2}, {spell, '-', "", 1}, {message, 'E', "", 2},
+    {call, 'T', "bitcast", 2}, {size, '-', "", 1}, {layout, '-', "", 1}, {spell, '-', "", 1}, {message, 'E', "", 2},
+    {message, 'R', "foo", 2}, {overloads, 'N', "transpose", 0}, {resolve, 'C', "min", 2}, {resolve, 'D', "bitcast", 2},
+    {resolve, 'C', "vec2", 2}, {resolve, 'D', "vec2", 2}, {resolve, 'U', "", 1}, {resolve, 'B', "", 2}, {resolve, 'C', "foo", 2},
+    {why, 'C', "min", 2}, {why, 'D', "bitcast", 2}, {why, 'C', "vec2", 2}, {why, 'D', "vec2", 2}, {why, 'U', "", 1},
+    {why, 'B', "", 2}, {why, 'C', "foo", 2},
 };
 
+static int is_of_overloads(char first) { return first == 'C' || first == 'D' || first == 'U' || first == 'B'; }
+
+static void write_first(char first, const char *name) {
+    int callee = strcmp(name, "vec2") ? WGSL_CALLEE_FUNCTION : WGSL_CALLEE_CONSTRUCTOR;
+    switch (first) {
+    case 'L': wgsl_number(&words, 2); break;
+    case 'O': wgsl_word(&words, 4); break;
+    case 'N': wgsl_name(&words, name); break;
+    case 'C': wgsl_call_of(&words, callee, name, 2); break;
+    case 'D': wgsl_call_of_with(&words, callee, name, 1); break;
+    case 'U': wgsl_unary_expression(&words, WGSL_UNARY_INDIRECTION); break;
+    case 'B': wgsl_binary_expression(&words, WGSL_BINARY_MULTIPLICATION); break;
+    case 'E': wgsl_word(&words, WGSL_ERROR_CONVERSION); break;
+    case 'R': wgsl_word(&words, WGSL_ERROR_SIGNATURE); /* falls through */
+    case 'S': wgsl_signature(&words, name, 2); break;
+    case 'T': wgsl_signature_with(&words, name, 1);
+    }
+}
+
 static void write_request(size_t a, int layer, int levels) {
+    char first = asked[a].first;
+    int has_template = first == 'T' || first == 'D';
     words.len = 0;
-    if (asked[a].first == 'L') wgsl_number(&words, 2);
-    if (asked[a].first == 'O') wgsl_word(&words, 4);
-    if (asked[a].first == 'C') wgsl_call_of(&words, WGSL_CALLEE_FUNCTION, asked[a].name, 2);
-    if (asked[a].first == 'D') wgsl_call_of_with(&words, WGSL_CALLEE_FUNCTION, asked[a].name, 1);
-    if (asked[a].first == 'E') wgsl_word(&words, WGSL_ERROR_CONVERSION);
-    if (asked[a].first == 'S') wgsl_signature(&words, asked[a].name, 2);
-    if (asked[a].first == 'T') wgsl_signature_with(&words, asked[a].name, 1);
+    write_first(first, asked[a].name);
     for (int k = 0; k < asked[a].types; k++) {
-        if ((asked[a].first == 'T' || asked[a].first == 'D') && k) wgsl_arguments(&words, 1);
-        if (asked[a].first == 'C' || (asked[a].first == 'D' && k)) wgsl_operand(&words, 0);
+        if (has_template && k) wgsl_arguments(&words, 1);
+        if (is_of_overloads(first) && (k || !has_template)) wgsl_operand(&words, 0);
         write_type(layer, levels, asked[a].ask == layout);
     }
 }
@@ -90,6 +110,7 @@ int main(void) {
             if (status != WGSL_ANSWERED && status != WGSL_RULED_OUT)
                 return printf("call %zu, layer %d: status %d\n", a, layer, status), 1;
             if (taken > most) most = taken;
+            if (!asked[a].types) continue;
             write_request(a, layer, WGSL_DEEPEST + 3);
             touched(asked[a].ask, WGSL_NUMBERS_STACK);
             if (status != WGSL_UNREADABLE) return printf("call %zu, layer %d: too deep a type is read\n", a, layer), 1;

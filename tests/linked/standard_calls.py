@@ -2,123 +2,98 @@
 changed word by word.
 
 The calls that are asked are those of tests/standard."""
-import ctypes
+import functools
 import os
 import random
+import re
 import sys
 
-from number_calls import changes, message
-from tools import TOP
-from type_codes import ACCESS, BARE_TEXTURES, BINARY, FORMATS, SAMPLED, SAMPLED_TEXTURES, SAMPLERS, SCALARS, STORED_TEXTURES
-from type_codes import UNARY, NoCode, Random, Reader, code, list_code, name_code, parameter_code, spelling
+from number_calls import changes, is_read, signature_code
+from random_types import Random
+from tools import BINDINGS, TOP
+from wgsl import standard
+from wgsl.codes import Reader, encode, encode_name, encode_number, encode_parameter
+from wgsl.errors import refusal
+from wgsl.values import (SAMPLERS, SCALARS, AccelerationStructure, Array, Atomic, BindingArray, Literal, Matrix, Pointer, RayQuery,
+                         Reference, Sampler, Scalar, Signature, Struct, Texture, Vector)
 
 sys.path[1:1] = [os.path.join(TOP, "tests"), os.path.join(TOP, "tests", "overloads")]
 from calls import Calls, in_words, is_constructor  # noqa: E402, beside tests/standard
 from facts import read_facts  # noqa: E402
 from search import Search  # noqa: E402
-from spelling import is_abstract, words  # noqa: E402
-
-ROOM = 1 << 16
+from spelling import STRUCTS, is_abstract, parts_of  # noqa: E402
 
 
-# Types, from their words.
+# Types, from their spellings.
 
+@functools.cache
 def type_of(text):
-    given = text.split(" ")
-    found = take_type(given)
-    assert not given
-    return found
+    name, parts = parts_of(text)
+    inside = [type_of(part) for part in parts[:1]] if name not in ("ptr", "ref") and not name.startswith("texture") else []
+    if name in SCALARS:
+        return Scalar(name)
+    if name in SAMPLERS:
+        return Sampler(name)
+    if name in ("array", "binding_array"):
+        return (Array if name == "array" else BindingArray)(*inside, int(parts[1]) if len(parts) > 1 else None)
+    if name.startswith("vec"):
+        return Vector(int(name[3]), *inside)
+    if name.startswith("mat"):
+        return Matrix(int(name[3]), int(name[5]), *inside)
+    if name in ("ptr", "ref"):
+        space, element, access = parts
+        return (Pointer if name == "ptr" else Reference)(space, type_of(element), access)
+    if name == "atomic":
+        return Atomic(*inside)
+    return other_type(name, parts)
 
 
-def take_type(given):
-    kind = given.pop(0)
-    if kind in SCALARS:
-        return ("scalar", kind)
-    if kind in SAMPLERS:
-        return ("sampler", kind)
-    if kind in ("array", "binding_array"):
-        count = given.pop(0)
-        return (kind, None if count == "*" else int(count), take_type(given))
-    if kind in ("vec", "mat"):
-        counts = [int(given.pop(0)) for _ in range(1 + (kind == "mat"))]
-        return (kind, *counts, take_type(given))
-    if kind in ("ptr", "ref"):
-        return (kind, given.pop(0), given.pop(0), take_type(given))
-    if kind == "atomic":
-        return (kind, take_type(given))
-    if kind == "struct":
-        name, count = given.pop(0), int(given.pop(0))
-        return (kind, name, [take_member(given) for _ in range(count)])
-    return take_texture(kind.removeprefix("texture_"), given)
-
-
-def take_member(given):
-    name, size, align = given.pop(0), given.pop(0), given.pop(0)
-    assert size == align == "-"
-    return name, None, None, take_type(given)
-
-
-def take_texture(kind, given):
-    if kind in BARE_TEXTURES.values():
-        return ("texture", next(k for k, name in BARE_TEXTURES.items() if name == kind), 0, 0)
-    if kind.startswith("storage_"):
-        index = 10 + STORED_TEXTURES.index(kind.removeprefix("storage_"))
-        return ("texture", index, FORMATS.index(given.pop(0)), ACCESS.index(given.pop(0)))
-    return ("texture", SAMPLED_TEXTURES.index(kind), SAMPLED.index(given.pop(0)), 0)
+def other_type(name, parts):
+    if name.startswith("texture"):
+        return Texture(name, parts)
+    if name in ("ray_query", "acceleration_structure"):
+        return (RayQuery if name == "ray_query" else AccelerationStructure)(bool(parts))
+    return Struct(name, [(member, type_of(of)) for member, of in STRUCTS.get(name, [])])
 
 
 # Calls in codes.
 
-def operand_code(t, is_constant):
-    return [int(is_constant)] + code(t)
-
-
-def callee_code(name, count):
+def kind_of(name, count):
     if name[0].isalpha():
-        return [3 if is_constructor(name) else 2] + name_code(name)
-    return [0, UNARY.index(name)] if count == 1 else [1, BINARY.index(name)]
+        return "constructor" if is_constructor(name) else "call"
+    return "unary" if count == 1 else "binary"
 
 
 def call_code(call):
     name, template, operands, constant = call
-    written = [0] if template is None else [1] + list_code([parameter_code(("type", type_of(words(template))))])
-    codes = [operand_code(type_of(words(t)), c or is_abstract(t)) for t, c in zip(operands, constant)]
-    return callee_code(name, len(operands)) + written + list_code(codes)
+    given = [standard.Operand(type_of(operand), is_const) for operand, is_const in zip(operands, constant)]
+    return standard.encode_call(kind_of(name, len(operands)), name, given, None if template is None else [type_of(template)])
 
 
 class CallReader(Reader):
-    def operand(self):
-        return self.pick([False, True], self.word()), self.type()
+    """Reads what is asked."""
 
-    def callee(self):
-        kind = self.pick([UNARY, BINARY, None, None], self.word())
-        return self.pick(kind, self.word()) if kind else self.name()
+    def operand(self):
+        return self.flag(), self.type()
 
     def call(self):
-        callee, given = self.callee(), self.word()
-        if given > 1:
-            raise NoCode
-        return callee, self.list(self.parameter) if given else None, self.list(self.operand)
-
-    def resolution(self):
-        """What the program prints of a resolution."""
-        index, parameters = self.word(), self.list(self.type)
-        result = self.type() if self.pick([False, True], self.word()) else None
-        shown = f"{index} ({', '.join(spelling(t) for t in parameters)})"
-        return (shown if result is None else f"{shown} -> {spelling(result)}"), result
+        callee = self.pick([self.unary, self.binary, self.name, self.name], self.word())
+        return callee(), self.template(), self.list(self.operand)
 
 
-def is_read(form):
-    try:
-        form()
-    except NoCode:
-        return False
-    return True
+def shown(status, found):
+    """What the program prints for a resolution, and the type of its result."""
+    if status == 1:
+        return "no overload", "no overload"
+    resolution = Reader(found).all(standard.read_resolution)
+    return str(resolution), "no value" if resolution.result is None else str(resolution.result)
 
 
 # What is asked.
 
+@functools.cache
 def calls():
+    """All calls, and the names that are called."""
     formats, table = read_facts()
     return Calls(table, formats).all(), list(table)
 
@@ -127,97 +102,70 @@ def some_calls(count, seed=6):
     return random.Random(seed).sample(calls()[0], count)
 
 
+def in_hexadecimal(name, words):
+    return " ".join([name] + [f"{word:08x}" for word in words]) + "\n"
+
+
 def lines(count):
     """Questions as the programs in C read them, on the calls by overloads."""
     rng = random.Random(7)
     asked = [(rng.choice(["resolve", "resolve", "why"]), call_code(call)) for call in some_calls(count)]
-    asked += [("overloads", name_code(name)) for name in rng.sample(calls()[1], min(count // 10, 100))]
-    return "".join(f"standard_{name} " + " ".join(f"{word:08x}" for word in given) + "\n" for name, given in asked)
+    asked += [("overloads", encode_name(name)) for name in rng.sample(calls()[1], min(count // 10, 100))]
+    return "".join(in_hexadecimal(f"standard_{name}", given) for name, given in asked)
 
 
 def text_lines(count):
     """Questions as the programs in C read them, on the texts for codes."""
     rng = Random(13)
-    asked = [("spell", code(rng.type(4))) for _ in range(count)] + [("message", error) for error in errors()]
-    return "".join(f"{name} " + " ".join(f"{word:08x}" for word in given) + "\n" for name, given in asked)
+    asked = [("spell", encode(rng.type(4))) for _ in range(count)] + [("message", error) for error in errors()]
+    return "".join(in_hexadecimal(name, given) for name, given in asked)
+
+
+def requests(count):
+    """Requests in text, on the same calls."""
+    asked = [f"{command}{in_words(call)}" for call in some_calls(count, 15) for command in ("", "resolve ", "why ")]
+    return asked + [f"overloads {name}" for name in calls()[1]]
 
 
 # Against text.
 
-class StandardText:
-    """What the library answers to requests in text, if it does."""
-
-    def __init__(self, library):
-        self.answers = getattr(library.shared, "wgsl_standard_answer", None)
-        if self.answers:
-            byte, size, pointer = ctypes.c_uint8, ctypes.c_size_t, ctypes.POINTER
-            self.answers.argtypes = [pointer(byte), size, pointer(byte), size, pointer(size)]
-            self.answers.restype = byte
-            self.room, self.len = (byte * ROOM)(), size()
-
-    def ask(self, request):
-        data = request.encode()
-        given = (ctypes.c_uint8 * len(data)).from_buffer_copy(data)
-        status = self.answers(given, len(data), self.room, ROOM, ctypes.byref(self.len))
-        if status:
-            sys.exit(f"link: {request}: status {status} in text")
-        return bytes(self.room[:self.len.value]).decode().removesuffix("\n")
-
-
 def compare_texts(library, count):
-    """Resolutions have the types that a search finds, and are those of the text, if the library answers calls by overloads in
-    text. Returns how many were resolved."""
-    text, asked = StandardText(library), some_calls(count)
+    """Resolutions have the types that a search finds, and are those of the text. Returns how many were resolved."""
+    asked, search = some_calls(count), Search(read_facts()[1])
     replies = [library.ask("standard_resolve", call_code(call)) for call in asked]
-    compare_results(asked, replies)
-    if text.answers:
-        compare_whole(library, text, asked, replies)
-    return sum(status == 0 for status, _ in replies)
-
-
-def compare_whole(library, text, asked, replies):
-    for call, (status, found) in zip(asked, replies):
-        wanted = text.ask(f"resolve {in_words(call)}")
-        reader = CallReader(found)
-        shown = reader.all(reader.resolution)[0] if status == 0 else "no overload"
-        if shown != wanted and not (status == 1 and wanted.startswith("no overload of")):
-            sys.exit(f"link: resolve {in_words(call)}: {shown} by numbers, {wanted} in text")
-    for call in asked[:len(asked) // 20]:
-        compare_lines(library, text, "why", call_code(call), f"why {in_words(call)}")
-
-
-def compare_lines(library, text, name, given, request):
-    status, found = library.ask(f"standard_{name}", given)
-    reader = Reader(found)
-    listed = reader.all(lambda: reader.list(reader.name))
-    if status or "\n".join(listed or ["none"]) != text.ask(request):
-        sys.exit(f"link: {request}: {listed} by numbers, {text.ask(request)} in text")
-
-
-def compare_results(asked, replies):
-    """By the search of tests/standard: over all candidates, one after another."""
-    search = Search(read_facts()[1])
     for call, (status, found) in zip(asked, replies):
         name, template, operands, constant = call
         are_constant = all(c or is_abstract(t) for t, c in zip(operands, constant))
-        wanted, reader = search.answer(name, template, operands, are_constant), CallReader(found)
-        result = reader.all(reader.resolution)[1] if status == 0 else None
-        shown = "no overload" if status == 1 else "no value" if result is None else spelling(result)
-        if shown != wanted:
-            sys.exit(f"link: resolve {in_words(call)}: {shown} by numbers, {wanted} by a search")
+        printed, result = shown(status, found)
+        text = library.text("standard_answer", f"resolve {in_words(call)}")
+        if printed != text and not (status == 1 and text.startswith("no overload of")):
+            sys.exit(f"link: resolve {in_words(call)}: {printed} by numbers, {text} in text")
+        if result != search.answer(name, template, operands, are_constant):
+            sys.exit(f"link: resolve {in_words(call)}: {result} by numbers, and otherwise by a search")
+    for call in asked[:len(asked) // 20]:
+        compare_lines(library, "why", call_code(call), f"why {in_words(call)}")
+    return sum(status == 0 for status, _ in replies)
+
+
+def texts(words):
+    return Reader(words).all(lambda reader: reader.list(reader.name))
+
+
+def compare_lines(library, name, given, request):
+    status, found = library.ask(f"standard_{name}", given)
+    text = library.text("standard_answer", request)
+    if status or "\n".join(texts(found) or ["none"]) != text:
+        sys.exit(f"link: {request}: {texts(found)} by numbers, {text} in text")
 
 
 def compare_overloads(library):
-    """Each name has overloads, as many as an explanation of a call with too many operands has lines."""
-    text, names = StandardText(library), calls()[1]
+    """Each name has overloads by numbers, which are those of the text."""
+    names = calls()[1]
     for name in names:
-        status, found = library.ask("standard_overloads", name_code(name))
-        reader = Reader(found)
-        if status or not reader.all(lambda: reader.list(reader.name)):
+        compare_lines(library, "overloads", encode_name(name), f"overloads {name}")
+        if library.ask("standard_overloads", encode_name(name)) == (0, [0, 0]):
             sys.exit(f"link: {name} has no overloads by numbers")
-        if text.answers:
-            compare_lines(library, text, "overloads", name_code(name), f"overloads {name}")
-    if library.ask("standard_overloads", name_code("no_such_name")) != (0, [0, 0]):
+    if library.ask("standard_overloads", encode_name("no_such_name")) != (0, [0, 0]):
         sys.exit("link: a name that nothing has has overloads")
     return len(names)
 
@@ -229,8 +177,7 @@ def compare_broken(library, count):
     rng, asked = random.Random(8), 0
     for call in some_calls(count, 9):
         for broken in changes(rng, call_code(call)):
-            reader = CallReader(broken)
-            readable = is_read(lambda: reader.all(reader.call))
+            readable = is_read(broken, CallReader.call, CallReader)
             for name in ("standard_resolve", "standard_why"):
                 status, _ = library.ask(name, broken)
                 if (status == 2) == readable or status == 3:
@@ -242,64 +189,58 @@ def compare_broken(library, count):
 # Texts for codes.
 
 def compare_spellings(library, count):
-    """Types are spelled, and errors have their messages, as here; changed words are unreadable if they are no code."""
+    """Types are spelled as the package spells them; changed words are unreadable if they are no code."""
     rng, asked = Random(10), 0
     for _ in range(count):
-        t = rng.type(5)
-        if library.spell("spell", code(t)) != (0, spelling(t)):
-            sys.exit(f"link: {spelling(t)} is spelled {library.spell('spell', code(t))}")
+        ty = rng.type(5)
+        if library.text("spell", encode(ty)) != str(ty):
+            sys.exit(f"link: {ty} is spelled {library.text('spell', encode(ty))}")
     for _ in range(count // 20):
-        for broken in changes(rng, code(rng.type(3))):
-            reader = Reader(broken)
-            asked += expect_readable(library, "spell", broken, is_read(lambda: reader.all(reader.type)))
+        for broken in changes(rng, encode(rng.type(3))):
+            asked += expect_readable(library, "spell", broken, Reader.type)
     return asked
 
 
 def compare_messages(library, refusals):
-    """Each refusal has its message; what is changed in it is unreadable if it is no refusal."""
+    """Each refusal has the package's message; what is changed in it is unreadable if it is no refusal."""
     rng, asked = random.Random(11), 0
-    for found in refusals:
-        if library.spell("message", found) != (0, message(Reader(found))):
-            sys.exit(f"link: the message of {found} is {library.spell('message', found)}")
+    for found in refusals + errors():
+        if library.text("message", found) != str(refusal(found)):
+            sys.exit(f"link: the message of {found} is {library.text('message', found)}")
     for error in errors():
-        if library.spell("message", error)[0] != 0:
-            sys.exit(f"link: {error} has no message")
         for broken in changes(rng, error):
-            asked += expect_readable(library, "message", broken, is_read(lambda: read_error(broken)))
+            asked += expect_readable(library, "message", broken, read_error)
     return asked
 
 
-def expect_readable(library, name, given, readable):
-    status, _ = library.spell(name, given)
-    if status != (0 if readable else 2):
+def expect_readable(library, name, given, form):
+    status, _ = library.ask(name, given)
+    if status != (0 if is_read(given, form) else 2):
         sys.exit(f"link: {name} {given}: status {status}")
     return 1
 
 
-# The fields of each error, in the letters of wgsl_error_fields.
-FIELDS = "n t t t n n n tt - - - - - tt lt tn t iti ut ott tt - - - - - bl bl s n n nii tt".replace("-", "").split(" ")
+@functools.cache
+def error_fields():
+    """The fields of each error, in the letters of wgsl_error_fields in wgsl_codes.h."""
+    with open(os.path.join(BINDINGS, "c", "wgsl_codes.h"), encoding="utf-8") as file:
+        return re.findall(r'"(\w*)"', re.search(r"fields\[\] = \{(.*?)\};", file.read(), re.DOTALL).group(1))
 
 
 def errors():
     """An error of each kind."""
     rng = Random(12)
     forms = {
-        "n": lambda: name_code("größe"), "t": lambda: code(rng.type(3)), "i": lambda: [7, 0], "b": lambda: [3],
-        "l": lambda: parameter_code(("literal", 2, -3)), "u": lambda: [1], "o": lambda: [17],
-        "s": lambda: name_code("f") + [1] + list_code([parameter_code(("literal", 1, 9))]) + list_code([code(rng.type(2))]),
+        "n": lambda: encode_name("größe"), "t": lambda: encode(rng.type(3)), "i": lambda: encode_number(7), "b": lambda: [3],
+        "l": lambda: encode_parameter(Literal(-3, "i32")), "u": lambda: [1], "o": lambda: [17],
+        "s": lambda: signature_code(Signature("f", (Literal(9),), (rng.type(2),))),
     }
-    return [sum((forms[field]() for field in fields), [kind]) for kind, fields in enumerate(FIELDS)]
+    return [sum((forms[field]() for field in fields), [kind]) for kind, fields in enumerate(error_fields())]
 
 
-def read_error(given):
-    reader = Reader(given)
+def read_error(reader):
     forms = {
-        "n": reader.name, "t": reader.type, "i": reader.number, "b": reader.word, "l": lambda: literal(reader),
-        "u": lambda: reader.pick(UNARY, reader.word()), "o": lambda: reader.pick(BINARY, reader.word()), "s": reader.signature,
+        "n": reader.name, "t": reader.type, "i": reader.number, "b": reader.word, "l": reader.literal, "u": reader.unary,
+        "o": reader.binary, "s": reader.signature,
     }
-    return reader.all(lambda: [forms[field]() for field in reader.pick(FIELDS, reader.word())])
-
-
-def literal(reader):
-    if reader.parameter()[0] != "literal":
-        raise NoCode
+    return [forms[field]() for field in reader.pick(error_fields(), reader.word())]

@@ -27,7 +27,7 @@ int main(void) {
     pthread_t one, two;
     read_requests();
     for (size_t k = 0; k < count; k++) {
-        wanted_status[k] = ask(k, room, sizeof room, &wanted_len[k]);
+        wanted_status[k] = ask(k, room, LONG_ANSWER, &wanted_len[k]);
         wanted[k] = malloc(wanted_len[k] * sizeof(Unit) + 1);
         if (!wanted[k]) return 1;
         memcpy(wanted[k], room, wanted_len[k] * sizeof(Unit));

@@ -2,7 +2,7 @@
 import os
 import tarfile
 
-from use import add, equal, expect, read
+from use import ANSWERS, add, equal, expect, read
 
 PROGRAMS = ["wgsl_check", "wgsl_layout", "wgsl_standard"]
 
@@ -28,6 +28,27 @@ def packages_made_twice(use):
     with tarfile.open(first[3]) as packed:
         found = packed.getnames()
     equal(sorted(os.path.basename(name) for name in found if "/bin/" in name), PROGRAMS)
+
+
+def programs_unpacked_at_another_place(use):
+    """They start from there, by a link too, say their version, and take no other argument. Uninstalled again nothing is left."""
+    archive = _makes(use, "made", "wgsl_c is proved")[3]
+    with tarfile.open(archive) as packed:
+        packed.extractall(use.path("other place"))
+    (folder,) = os.listdir(use.path("other place"))
+    place, version = use.path("other place", folder), read(use.path("VERSION")).strip()
+    for name in ("wgsl_check", "wgsl_standard"):
+        program = os.path.join(place, "bin", name)
+        os.symlink(program, use.path(f"{name} linked"))
+        expect(use.run(program), 0, ANSWERS)
+        expect(use.run(use.path(f"{name} linked")), 0, ANSWERS)
+        expect(use.run(program, "--version"), 0, f"{name} {version}\n")
+        for arguments in (["--unknown"], ["one", "two"], [""]):
+            expect(use.run(program, *arguments), 64, "", f"{name}: it takes no argument", f"{name} --help")
+        status, printed, said = use.run(program, "--help")
+        assert (status, said) == (0, "") and f"usage: {name} <COMMANDS" in printed and "64" in printed, printed
+    expect(use.run(os.path.join(place, "share", "doc", "wgsl", "uninstall")), 0, "")
+    equal(os.listdir(place), [])
 
 
 def packages_after_a_change_of_a_binding(use):

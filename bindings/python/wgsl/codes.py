@@ -121,6 +121,13 @@ def encode_signature(name: str, template: Optional[Iterable[Parameter]], argumen
 
 # Reading.
 
+def _with_head(word: int, found: Type) -> Type:
+    """The type, if its first word is that one."""
+    if _leaf_head(found) != [word]:
+        raise NoCode
+    return found
+
+
 class Reader:
     """Reads words from the first on. A method raises NoCode if what it reads doesn't stand there."""
 
@@ -164,33 +171,44 @@ class Reader:
             raise NoCode from None
 
     def type(self, levels: Optional[int] = None) -> Type:
-        """A type of at most so many levels. Its first word has to be the one that encodes it."""
-        levels = self.deepest if levels is None else levels
-        if levels == 0:
-            raise NoCode
-        word = self.word()
-        found = self._inside(*_struct.pack("<I", word), levels - 1)
-        if _leaf_head(found) != [word]:
-            raise NoCode
+        """A type of at most so many levels. The first word of each has to be the one that encodes it."""
+        layers, left = [], self.deepest if levels is None else levels
+        while True:
+            if left == 0:
+                raise NoCode
+            word, left = self.word(), left - 1
+            tag, a, b, c = _struct.pack("<I", word)
+            layer = self._layer(tag, a, b)
+            if layer is None:
+                break
+            layers.append((word, layer))
+        found = _with_head(word, self._struct(left) if tag == 5 else self._leaf(tag, a, b, c))
+        for word, layer in reversed(layers):
+            found = _with_head(word, layer(found))
         return found
 
-    def _inside(self, tag: int, a: int, b: int, c: int, levels: int) -> Type:
+    def _layer(self, tag: int, a: int, b: int) -> Optional[Callable[[Type], Type]]:
+        """What puts the layer around the type that follows. None if it is no layer around one type."""
         if tag in (1, 2, 11, 12):
             count = self.number() if tag in (2, 12) else None
-            return (Array if tag < 3 else BindingArray)(self.type(levels), count)
+            return lambda element: (Array if tag < 3 else BindingArray)(element, count)
         if tag == 3:
-            return Vector(a, self.type(levels))
+            return lambda element: Vector(a, element)
         if tag == 4:
-            return Matrix(a, b, self.type(levels))
-        if tag == 5:
-            name, count = self.name(), self.number()
-            return Struct(name, tuple(self._member(levels) for _ in range(count)))
+            return lambda element: Matrix(a, b, element)
         if tag == 6:
-            return Atomic(self.type(levels))
+            return Atomic
         if tag in (7, 8):
             space, access = self.pick(SPACES, a), self.pick(ACCESS, b)
-            return (Pointer if tag == 7 else Reference)(space, self.type(levels), access)
-        return self._leaf(tag, a, b, c)
+            return lambda element: (Pointer if tag == 7 else Reference)(space, element, access)
+        return None
+
+    def _struct(self, levels: int) -> Struct:
+        name, members = self.name(), []
+        for _ in range(self.number()):
+            member, size, align = self.name(), self.attribute(), self.attribute()
+            members.append(Member(member, self.type(levels), size, align))
+        return Struct(name, tuple(members))
 
     def _leaf(self, tag: int, a: int, b: int, c: int) -> Type:
         if tag == 0:
@@ -203,10 +221,6 @@ class Reader:
         if tag in (13, 14):
             return (RayQuery if tag == 13 else AccelerationStructure)(self.pick([False, True], a))
         raise NoCode
-
-    def _member(self, levels: int) -> Member:
-        name, size, align = self.name(), self.attribute(), self.attribute()
-        return Member(name, self.type(levels), size, align)
 
     def list(self, item: Callable[[], Any]) -> List[Any]:
         return [item() for _ in range(self.number())]

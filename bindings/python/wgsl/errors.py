@@ -4,7 +4,7 @@ from typing import Any, Dict, List, Tuple
 from .codes import Reader
 
 # The refusals in the order of wgsl.h: their name, their fields, each with what reads it, and their message.
-_REFUSALS: List[Tuple[str, str, str]] = [
+REFUSALS: List[Tuple[str, str, str]] = [
     ("Todo", "what:name", "not implemented: `{what}`"),
     ("NotScalar", "type:type", "expected a scalar type, got `{type}`"),
     ("NotConstructible", "type:type", "`{type}` is not constructible"),
@@ -43,7 +43,7 @@ _REFUSALS: List[Tuple[str, str, str]] = [
      "incorrect number of arguments to `{name}`, expected `{expected}`, got `{given}`"),
     ("ParamType", "expected:type type:type", "invalid parameter type, expected `{expected}`, got `{type}`"),
 ]
-_MESSAGES = {kind: message for kind, _, message in _REFUSALS}
+_MESSAGES = {kind: message for kind, _, message in REFUSALS}
 
 
 class Unreadable(ValueError):
@@ -109,7 +109,7 @@ class ParseError(ValueError):
 
 
 def _read_refusal(reader: Reader) -> Refused:
-    kind, fields, _ = reader.pick(_REFUSALS, reader.word())
+    kind, fields, _ = reader.pick(REFUSALS, reader.word())
     read = (field.split(":") for field in fields.split())
     return Refused(kind, {name: getattr(reader, form)() for name, form in read})
 

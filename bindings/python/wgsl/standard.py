@@ -9,8 +9,8 @@ from ._library import ANSWERED, REFUSED, ask_codes
 from .codes import BINARY, UNARY, Reader, encode, encode_list, encode_name, encode_operator, encode_template
 from .values import ABSTRACT_FLOAT, ABSTRACT_INT, Array, Matrix, Parameter, Type, Vector
 
-__all__ = ["KINDS", "NoOverload", "Operand", "Resolution", "overloads", "resolve", "resolve_binary", "resolve_call",
-           "resolve_constructor", "resolve_unary", "why"]
+__all__ = ["KINDS", "NoOverload", "Operand", "Resolution", "encode_call", "overloads", "read_resolution", "resolve",
+           "resolve_binary", "resolve_call", "resolve_constructor", "resolve_unary", "why"]
 
 KINDS = ["unary", "binary", "call", "constructor"]
 
@@ -76,16 +76,28 @@ def _operands(given: Iterable[AnyOperand]) -> Tuple[Operand, ...]:
     return tuple(operand if isinstance(operand, Operand) else Operand(operand) for operand in given)
 
 
-def _encode_call(kind: str, name: str, operands: Tuple[Operand, ...], template: Optional[Tuple[Parameter, ...]]) -> List[int]:
+def encode_call(kind: str, name: str, operands: Iterable[AnyOperand], template: Optional[Iterable[Parameter]] = None) -> List[int]:
+    """The words of a call, as wgsl_standard_resolve and wgsl_standard_why take them.
+
+    >>> from wgsl import F32
+    >>> encode_call("unary", "-", [F32])
+    [0, 1, 0, 1, 0, 0, 1280]
+    """
     if kind not in KINDS:
         raise ValueError(f"{kind!r} is none of {', '.join(KINDS)}")
     tag = KINDS.index(kind)
     callee = encode_operator(name, [UNARY, BINARY][tag]) if tag < 2 else encode_name(name)
-    codes = [[int(operand.const or _is_abstract(operand.type))] + encode(operand.type) for operand in operands]
+    given = _operands(operands)
+    codes = [[int(operand.const or _is_abstract(operand.type))] + encode(operand.type) for operand in given]
     return [tag] + callee + encode_template(template) + encode_list(codes)
 
 
-def _read_resolution(reader: Reader) -> Resolution:
+def read_resolution(reader: Reader) -> Resolution:
+    """The resolution that is encoded so.
+
+    >>> print(Reader([0, 1, 0, 1280, 1, 1280]).all(read_resolution))
+    0 (f32) -> f32
+    """
     overload, parameters = reader.word(), tuple(reader.list(reader.type))
     return Resolution(overload, parameters, reader.type() if reader.flag() else None)
 
@@ -103,7 +115,7 @@ def _ask(name: str, words: List[int], form: Any) -> Any:
 def resolve(kind: str, name: str, operands: Iterable[AnyOperand], template: Optional[Iterable[Parameter]] = None) -> Resolution:
     """The overload that takes a call, whose kind is `unary`, `binary`, `call` or `constructor`. Raises NoOverload."""
     given, parameters = _operands(operands), None if template is None else tuple(template)
-    found = _ask("wgsl_standard_resolve", _encode_call(kind, name, given, parameters), _read_resolution)
+    found = _ask("wgsl_standard_resolve", encode_call(kind, name, given, parameters), read_resolution)
     if found is None:
         raise NoOverload(kind, name, given, parameters)
     return found
@@ -171,5 +183,4 @@ def why(kind: str, name: str, operands: Iterable[AnyOperand], template: Optional
     >>> why("call", "distance", [F32])[0].endswith("takes 2 arguments, not 1")
     True
     """
-    words = _encode_call(kind, name, _operands(operands), None if template is None else tuple(template))
-    return _ask("wgsl_standard_why", words, _texts)
+    return _ask("wgsl_standard_why", encode_call(kind, name, operands, template), _texts)

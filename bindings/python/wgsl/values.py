@@ -121,14 +121,15 @@ class _Elements(Type):
 
     element: Type
     count: Optional[int] = None
+    _name = ""
 
     def __post_init__(self) -> None:
         _expect_type(self.element)
         if self.count is not None:
             _expect_below(self.count, 2**64, "number of elements")
 
-    def _spelled(self, name: str) -> str:
-        return f"{name}<{self.element}>" if self.count is None else f"{name}<{self.element}, {self.count}>"
+    def __str__(self) -> str:
+        return f"{self._name}<{self.element}>" if self.count is None else f"{self._name}<{self.element}, {self.count}>"
 
 
 @dataclass(frozen=True)
@@ -139,16 +140,14 @@ class Array(_Elements):
     ('array<f32, 4>', 'array<f32>')
     """
 
-    def __str__(self) -> str:
-        return self._spelled("array")
+    _name = "array"
 
 
 @dataclass(frozen=True)
 class BindingArray(_Elements):
     """naga's binding array."""
 
-    def __str__(self) -> str:
-        return self._spelled("binding_array")
+    _name = "binding_array"
 
 
 @dataclass(frozen=True)

@@ -29,6 +29,14 @@ pub enum LiteralInstance {
 
 impl Instance {
     /// Whether the type of the value converts to `ty`.
+    ///
+    /// ```
+    /// use wgsl_types_proved::inst::{Instance, LiteralInstance};
+    /// use wgsl_types_proved::Type;
+    ///
+    /// let three = Instance::from(LiteralInstance::AbstractInt(3));
+    /// assert!(three.is_convertible_to(&Type::F32) && !three.is_convertible_to(&Type::Bool));
+    /// ```
     pub fn is_convertible_to(&self, ty: &Type) -> bool {
         self.ty().is_convertible_to(ty)
     }

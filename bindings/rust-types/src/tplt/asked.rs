@@ -20,6 +20,18 @@ impl ArrayTemplate {
 
     /// Reads a type, or a type and a literal; else [`Error::TemplateArgs`]. [`Error::Builtin`] if the literal isn't an
     /// integer above 0.
+    ///
+    /// ```
+    /// use wgsl_types_proved::inst::LiteralInstance;
+    /// use wgsl_types_proved::tplt::{ArrayTemplate, TpltParam};
+    /// use wgsl_types_proved::Type;
+    ///
+    /// let four = TpltParam::Instance(LiteralInstance::U32(4).into());
+    /// let template = ArrayTemplate::parse(&[TpltParam::Type(Type::F32), four])?;
+    /// assert_eq!((template.inner_ty(), template.n()), (Type::F32, Some(4)));
+    /// assert_eq!(template.ty().to_string(), "array<f32, 4>");
+    /// # Ok::<(), wgsl_types_proved::Error>(())
+    /// ```
     pub fn parse(tplt: &[TpltParam]) -> Result<ArrayTemplate, Error> {
         match type_ctor("array", Some(tplt), &[])? {
             Type::Array(ty, n) => Ok(ArrayTemplate { ty: *ty, n }),
@@ -51,6 +63,16 @@ pub struct VecTemplate {
 
 impl VecTemplate {
     /// Reads one type, else [`Error::TemplateArgs`]. [`Error::Builtin`] if it isn't a concrete scalar.
+    ///
+    /// ```
+    /// use wgsl_types_proved::tplt::{TpltParam, VecTemplate};
+    /// use wgsl_types_proved::Type;
+    ///
+    /// let template = VecTemplate::parse(&[TpltParam::Type(Type::I32)])?;
+    /// assert_eq!(template.ty(3).to_string(), "vec3<i32>");
+    /// assert!(VecTemplate::parse(&[TpltParam::Type(Type::AbstractInt)]).is_err());
+    /// # Ok::<(), wgsl_types_proved::Error>(())
+    /// ```
     pub fn parse(tplt: &[TpltParam]) -> Result<VecTemplate, Error> {
         let ty = type_ctor("vec2", Some(tplt), &[])?.inner_ty();
         Ok(VecTemplate { ty })
@@ -75,6 +97,16 @@ pub struct MatTemplate {
 
 impl MatTemplate {
     /// Reads one type, else [`Error::TemplateArgs`]. [`Error::Builtin`] if it isn't a float.
+    ///
+    /// ```
+    /// use wgsl_types_proved::tplt::{MatTemplate, TpltParam};
+    /// use wgsl_types_proved::Type;
+    ///
+    /// let template = MatTemplate::parse(&[TpltParam::Type(Type::F16)])?;
+    /// assert_eq!(template.ty(2, 3).to_string(), "mat2x3<f16>");
+    /// assert!(MatTemplate::parse(&[TpltParam::Type(Type::I32)]).is_err());
+    /// # Ok::<(), wgsl_types_proved::Error>(())
+    /// ```
     pub fn parse(tplt: &[TpltParam]) -> Result<MatTemplate, Error> {
         let ty = type_ctor("mat2x2", Some(tplt), &[])?.inner_ty();
         Ok(MatTemplate { ty })
@@ -99,6 +131,16 @@ pub struct BitcastTemplate {
 
 impl BitcastTemplate {
     /// Reads one type, else [`Error::TemplateArgs`]. [`Error::Builtin`] if it is neither a number nor a vector of numbers.
+    ///
+    /// ```
+    /// use wgsl_types_proved::tplt::{BitcastTemplate, TpltParam};
+    /// use wgsl_types_proved::Type;
+    ///
+    /// let template = BitcastTemplate::parse(&[TpltParam::Type(Type::vector(2, Type::U32))])?;
+    /// assert_eq!((template.ty().to_string(), template.inner_ty()), ("vec2<u32>".to_string(), Type::U32));
+    /// assert!(BitcastTemplate::parse(&[TpltParam::Type(Type::Bool)]).is_err());
+    /// # Ok::<(), wgsl_types_proved::Error>(())
+    /// ```
     pub fn parse(tplt: &[TpltParam]) -> Result<BitcastTemplate, Error> {
         // A call has the type of its template, whatever the argument.
         match type_builtin_fn("bitcast", Some(tplt), &[Type::F32])? {

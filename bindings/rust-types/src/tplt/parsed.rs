@@ -17,6 +17,15 @@ pub struct BindingArrayTemplate {
 impl BindingArrayTemplate {
     /// Reads a type, or a type and a literal; else [`Error::TemplateArgs`]. [`Error::Builtin`] if the literal isn't an
     /// integer above 0.
+    ///
+    /// ```
+    /// use wgsl_types_proved::tplt::{BindingArrayTemplate, TpltParam};
+    /// use wgsl_types_proved::Type;
+    ///
+    /// let template = BindingArrayTemplate::parse(&[TpltParam::Type(Type::F32)])?;
+    /// assert_eq!((template.ty().to_string(), template.n()), ("binding_array<f32>".to_string(), None));
+    /// # Ok::<(), wgsl_types_proved::Error>(())
+    /// ```
     pub fn parse(tplt: &[TpltParam]) -> Result<BindingArrayTemplate, Error> {
         match ArrayTemplate::parse(tplt) {
             Ok(of) => Ok(BindingArrayTemplate { of }),
