@@ -14,7 +14,7 @@ const HELP: &str = "\
 usage: ./wgsl_layout [--json | --c | --rust | --numpy] [--struct NAME] FILE
 
 Prints the layout of each struct of a WGSL file, where its variables are bound, and what is wrong with them.
-FILE - is standard input. README.md shows the tables and the JSON.
+FILE - is standard input. docs/USING.md has the fields of the JSON.
 
   --struct NAME  of this struct alone
   --json         the same for programs
