@@ -1,5 +1,6 @@
 // The letters for scalars: what operands require of them, and the least scalar of a kind.
-ghost use Rattle.std.specs.Prelude.{◌≡◌};
+ghost use Rattle.std.specs.Prelude.{◌≡◌, [], ◌∷◌, None, Some, false};
+ghost use Rattle.wgsl_syntax.specs.declared.scalar.Scalar.TheVariants.{AbstractFloat, AbstractInt};
 ghost use Rattle.wgsl_rules.specs.standard.LetterKinds.{is_of_kind as is_in_kind};
 ghost use Rattle.wgsl_standard.specs.internal.Binding.{converts as converts_to, may_be as may_stand, join as joined, join_to as joined_to, first_of_kind as first_in, pick as picked};
 
@@ -58,47 +59,86 @@ pub fn may_be(concrete: bool, scalar: Scalar) -> bool
 }
 
 /// What a letter stands for in the end.
+#[inline(always)]
 pub fn pick(concrete: bool, kind: Kind, letter: Option<Scalar>) -> Option<Scalar>
     ensures { result ≡ picked concrete kind letter }
 {
     match letter {
-        None => first_of_kind(
-            false,
-            kind,
-            &[
-                Scalar::Bool,
-                Scalar::AbstractInt,
-                Scalar::I32,
-                Scalar::U32,
-                Scalar::AbstractFloat,
-                Scalar::F32,
-                Scalar::F16,
-                Scalar::I64,
-                Scalar::U64,
-                Scalar::F64,
-            ],
-        ),
-        Some(Scalar::AbstractInt) => first_of_kind(
-            concrete,
-            kind,
-            &[
-                Scalar::AbstractInt,
-                Scalar::I32,
-                Scalar::U32,
-                Scalar::AbstractFloat,
-                Scalar::F32,
-                Scalar::F16,
-                Scalar::I64,
-                Scalar::U64,
-            ],
-        ),
-        Some(Scalar::AbstractFloat) => first_of_kind(
-            concrete,
-            kind,
-            &[Scalar::AbstractFloat, Scalar::F32, Scalar::F16],
-        ),
-        Some(scalar) => first_of_kind(concrete, kind, &[scalar]),
+        None => Some(least_of(kind)),
+        Some(scalar) => pick_from(concrete, kind, scalar),
     }
+}
+
+/// The least scalar of a kind, in the order of the scalars.
+fn least_of(kind: Kind) -> Scalar
+    ensures { Some result ≡ picked false kind None }
+{
+    match kind {
+        Kind::AnyScalar => Scalar::Bool,
+        Kind::Number => Scalar::AbstractInt,
+        Kind::SignedNumber => Scalar::AbstractInt,
+        Kind::Integer => Scalar::AbstractInt,
+        Kind::SignedInteger => Scalar::AbstractInt,
+        Kind::Float => Scalar::AbstractFloat,
+        Kind::ConcreteScalar => Scalar::Bool,
+        Kind::ConcreteNumber => Scalar::I32,
+        Kind::ConcreteInteger => Scalar::I32,
+        Kind::ConcreteFloat => Scalar::F32,
+        Kind::Number32 => Scalar::I32,
+        Kind::ShortFloat => Scalar::AbstractFloat,
+    }
+}
+
+/// What a letter stands for to which a scalar converts.
+fn pick_from(concrete: bool, kind: Kind, scalar: Scalar) -> Option<Scalar>
+    ensures { result ≡ picked concrete kind (Some scalar) }
+{
+    match scalar {
+        Scalar::AbstractInt => pick_from_int(concrete, kind),
+        Scalar::AbstractFloat => pick_from_float(concrete, kind),
+        _ => itself_of_kind(concrete, kind, scalar),
+    }
+}
+
+fn itself_of_kind(concrete: bool, kind: Kind, scalar: Scalar) -> Option<Scalar>
+    ensures { result ≡ first_in concrete kind (scalar ∷ []) }
+{
+    if is_of_kind(kind, scalar) && may_be(concrete, scalar) {
+        Some(scalar)
+    } else {
+        None
+    }
+}
+
+#[inline(never)]
+fn pick_from_int(concrete: bool, kind: Kind) -> Option<Scalar>
+    ensures { result ≡ picked concrete kind (Some AbstractInt) }
+{
+    first_of_kind(
+        concrete,
+        kind,
+        &[
+            Scalar::AbstractInt,
+            Scalar::I32,
+            Scalar::U32,
+            Scalar::AbstractFloat,
+            Scalar::F32,
+            Scalar::F16,
+            Scalar::I64,
+            Scalar::U64,
+        ],
+    )
+}
+
+#[inline(never)]
+fn pick_from_float(concrete: bool, kind: Kind) -> Option<Scalar>
+    ensures { result ≡ picked concrete kind (Some AbstractFloat) }
+{
+    first_of_kind(
+        concrete,
+        kind,
+        &[Scalar::AbstractFloat, Scalar::F32, Scalar::F16],
+    )
 }
 
 fn first_of_kind(concrete: bool, kind: Kind, scalars: &[Scalar]) -> Option<Scalar>

@@ -30,6 +30,7 @@ pub fn resolve(overloads: &[Overload], operands: &[Operand]) -> Option<Choice>
     first_of(must_be_concrete(operands), overloads, operands)
 }
 
+#[inline(always)]
 fn first_of(concrete: bool, overloads: &[Overload], operands: &[Operand]) -> Option<Choice>
     ensures { option_map choice_view result ≡ first_chosen concrete overloads.now (operands_view operands.now) }
 {
@@ -54,6 +55,7 @@ pub fn must_be_concrete(operands: &[Operand]) -> bool
 }
 
 /// The least instance of the overload that takes the operands.
+#[inline(always)]
 fn instance_of(concrete: bool, overload: &Overload, operands: &[Operand]) -> Option<Instance>
     ensures { result ≡ least_instance concrete overload.now (operands_view operands.now) }
 {
@@ -66,6 +68,7 @@ fn instance_of(concrete: bool, overload: &Overload, operands: &[Operand]) -> Opt
 }
 
 /// What the letters stand for in the end.
+#[inline(always)]
 pub fn settle(concrete: bool, overload: &Overload, binding: &Binding) -> Option<Instance>
     ensures { result ≡ settled concrete overload.now binding.now }
 {
@@ -76,6 +79,7 @@ pub fn settle(concrete: bool, overload: &Overload, binding: &Binding) -> Option<
     Some(instance_at(binding, t, u, v, w))
 }
 
+#[inline(always)]
 fn instance_at(binding: &Binding, t: Scalar, u: Scalar, v: Scalar, w: Scalar) -> Instance
     ensures { result ≡ instance_there binding.now t u v w }
 {
