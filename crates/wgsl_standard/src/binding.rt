@@ -1,12 +1,13 @@
 // What an operand requires of the letters of an overload.
 ghost use Rattle.std.specs.Prelude.{◌≡◌, Bool, false, Option, option_map, option_and_then};
 ghost use Rattle.std.specs.Option.{is_some, option_or};
+ghost use Rattle.wgsl_syntax.specs.declared.overload.Dimensions.TheVariants.{Single};
 ghost use Rattle.wgsl_syntax.specs.declared.overload.Pattern.TheVariants.{Value};
 ghost use Rattle.wgsl_core.specs.View.{view};
 ghost use Rattle.wgsl_core.specs.Forms.{scalar_of};
 ghost use Rattle.wgsl_standard.specs.Operands.{operand_view};
 ghost use Rattle.wgsl_standard.specs.declared.binding.Binding.{Binding};
-ghost use Rattle.wgsl_standard.specs.internal.Binding.{bind_component as component_bound, same_count as counted, bind_count as count_bound, same_width as width_bound, with_width, bind_letter as letter_bound, bind_if, bind_pattern as pattern_bound, bind as bound};
+ghost use Rattle.wgsl_standard.specs.internal.Binding.{bind_component as component_bound, same_count as counted, bind_count as count_bound, same_width as width_bound, with_width, bind_letter as letter_bound, bind_if, bind_parts as parts_bound, bind_pattern as pattern_bound, bind as bound};
 
 use crate::letter::{converts, join_to, may_be};
 use crate::operand::{Operand, loaded};
@@ -44,11 +45,46 @@ pub const FREE: Binding = Binding {
 };
 
 /// Whether the operand fits the parameter, and then what it requires beside the binding.
+#[tactic(auto, using(crate::proofs::BoundScalars::scalar_bound))]
 #[inline(always)]
 pub fn bind(concrete: bool, binding: &mut Binding, pattern: &Pattern, operand: &Operand) -> bool
     ensures { bind_if result binding.new ≡ bound concrete binding.old pattern.now (operand_view operand.now) }
 {
-    let ty = loaded(operand.ty);
+    match pattern {
+        Pattern::Value(shape, component) => match operand.ty.scalar() {
+            Some(scalar) => bind_scalar(concrete, binding, *shape, *component, scalar),
+            None => bind_type(concrete, binding, pattern, loaded(operand.ty)),
+        },
+        _ => bind_type(concrete, binding, pattern, loaded(operand.ty)),
+    }
+}
+
+/// The same of an operand that is a scalar.
+#[inline(always)]
+fn bind_scalar(
+    concrete: bool,
+    binding: &mut Binding,
+    shape: Shape,
+    component: Component,
+    scalar: Scalar,
+) -> bool
+    ensures { bind_if result binding.new ≡ parts_bound concrete binding.old shape component (Single, scalar) }
+{
+    match shape {
+        Shape::One => bind_component(concrete, binding, component, scalar),
+        Shape::Vector(_) => false,
+        Shape::Matrix(_, _) => false,
+        Shape::OneOrVector => {
+            bind_width(binding, None) && bind_component(concrete, binding, component, scalar)
+        }
+    }
+}
+
+/// The same of an operand of any type.
+#[inline(never)]
+fn bind_type(concrete: bool, binding: &mut Binding, pattern: &Pattern, ty: &Type) -> bool
+    ensures { bind_if result binding.new ≡ pattern_bound concrete binding.old pattern.now (view ty.now) }
+{
     has_form(pattern, ty) && bind_pattern(concrete, binding, pattern, ty)
 }
 
