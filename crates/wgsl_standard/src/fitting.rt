@@ -20,8 +20,19 @@ pub fn bind_all(
     ensures { bind_if result binding.new ≡ all_bound concrete binding.old (in_order parameters.now) (operands_view operands.now) }
 {
     match parameters {
+        Parameters::One(a) => bind_one(concrete, binding, a, operands),
         Parameters::Two(a, b) => bind_two(concrete, binding, a, b, operands),
+        Parameters::Three(a, b, c) => bind_three(concrete, binding, a, b, c, operands),
         _ => bind_listed(concrete, binding, parameters, operands),
+    }
+}
+
+fn bind_one(concrete: bool, binding: &mut Binding, pattern: &Pattern, operands: &[Operand]) -> bool
+    ensures { bind_if result binding.new ≡ all_bound concrete binding.old (pattern.now ∷ []) (operands_view operands.now) }
+{
+    match operands {
+        [x] => bind(concrete, binding, pattern, x),
+        _ => false,
     }
 }
 
@@ -40,7 +51,27 @@ fn bind_two(
     }
 }
 
-// Never a part of `bind_all`, since the room for all the lists of `bind_first` would be cleared for two parameters too.
+fn bind_three(
+    concrete: bool,
+    binding: &mut Binding,
+    first: &Pattern,
+    second: &Pattern,
+    third: &Pattern,
+    operands: &[Operand],
+) -> bool
+    ensures { bind_if result binding.new ≡ all_bound concrete binding.old (first.now ∷ second.now ∷ third.now ∷ []) (operands_view operands.now) }
+{
+    match operands {
+        [x, y, z] => {
+            bind(concrete, binding, first, x)
+                && bind(concrete, binding, second, y)
+                && bind(concrete, binding, third, z)
+        }
+        _ => false,
+    }
+}
+
+// Never a part of `bind_all`, since the room for all the lists of `bind_first` would be cleared for one to three parameters too.
 #[inline(never)]
 fn bind_listed(
     concrete: bool,
