@@ -5,3 +5,12 @@ pub mod Fractions
 pub mod Fitting
 pub mod OutOfMemory
 pub mod Named
+pub mod ChosenAmong
+pub mod ChosenVectors
+pub mod ChosenTypedVectors
+pub mod ChosenArrays
+pub mod ChosenScalars
+pub mod MatrixColumns
+pub mod ChosenMatrices
+pub mod ChosenTypedMatrices
+pub mod ChosenConstructors

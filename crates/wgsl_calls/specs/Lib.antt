@@ -1,2 +1,3 @@
+pub mod Constructors
 pub mod Templates
 pub mod internal

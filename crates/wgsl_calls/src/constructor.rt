@@ -9,6 +9,7 @@ ghost use Rattle.wgsl_rules.specs.constructors.Constructors.{constructor_of, IsC
 ghost use Rattle.wgsl_core.specs.View.{view};
 ghost use Rattle.wgsl_core.specs.Instances.{call_view};
 ghost use Rattle.wgsl_core.specs.Answer.{AnswersBy, refusal};
+ghost use Rattle.wgsl_calls.specs.Constructors.{IsLeastConstructorAnswer};
 ghost use Rattle.wgsl_calls.specs.internal.Constructors.{constructor_view, IsStuckAt};
 
 mod array;
@@ -94,6 +95,8 @@ pub fn type_ctor(
     args: &[Type],
 ) -> Result<Type, Fail>
     ensures row { AnswersBy (IsConstructorAnswer (call_view name.now tplt.entry args.now)) result }
+    ensures least { AnswersBy
+        (IsLeastConstructorAnswer (call_view name.now tplt.entry args.now)) result }
     ensures of_a_constructor { IfOk result (λ t. IsSome (constructor_of name.now)) }
 {
     match constructor_named(name) {

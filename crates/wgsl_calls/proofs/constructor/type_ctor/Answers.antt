@@ -8,6 +8,7 @@ use Rattle.wgsl_core.specs.Instances.{parameter_view, call_view}
 use Rattle.wgsl_calls.specs.internal.Constructors.{constructor_view}
 use Rattle.wgsl_calls.proofs.AnswersAs.{answers}
 use Rattle.wgsl_calls.proofs.Constructed.{built}
+use Rattle.wgsl_calls.proofs.ChosenConstructors.{constructor_is_least, least_returned}
 use Rattle.wgsl_calls.proofs.constructor.type_ctor.Goals as goal
 
 pub returns-in-Some-Array-clause-row : goal.returns-in-Some-Array-clause-row
@@ -37,3 +38,23 @@ returns-in-Some-Mat-clause-row c =
 pub returns-in_ok-refuse_call-in-None-clause-row : goal.returns-in_ok-refuse_call-in-None-clause-row
 returns-in_ok-refuse_call-in-None-clause-row c =
     built None (call_view c.args.name.now c.args.tplt c.args.args.now) c.in-None.ensures _ (ap Err c.in_ok-refuse_call-in-None.ensures)
+
+pub returns-in-Some-Array-clause-least : goal.returns-in-Some-Array-clause-least
+returns-in-Some-Array-clause-least c =
+    least_returned (call_view c.args.name.now c.args.tplt c.args.args.now) c.array_type.result (returns-in-Some-Array-clause-row c)
+
+pub returns-in-Some-Scalar-clause-least : goal.returns-in-Some-Scalar-clause-least
+returns-in-Some-Scalar-clause-least c =
+    least_returned (call_view c.args.name.now c.args.tplt c.args.args.now) c.scalar_type.result (returns-in-Some-Scalar-clause-row c)
+
+pub returns-in-Some-Vec-clause-least : goal.returns-in-Some-Vec-clause-least
+returns-in-Some-Vec-clause-least c =
+    least_returned (call_view c.args.name.now c.args.tplt c.args.args.now) c.vector_type.result (returns-in-Some-Vec-clause-row c)
+
+pub returns-in-Some-Mat-clause-least : goal.returns-in-Some-Mat-clause-least
+returns-in-Some-Mat-clause-least c =
+    least_returned (call_view c.args.name.now c.args.tplt c.args.args.now) c.matrix_type.result (returns-in-Some-Mat-clause-row c)
+
+pub returns-in_ok-refuse_call-in-None-clause-least : goal.returns-in_ok-refuse_call-in-None-clause-least
+returns-in_ok-refuse_call-in-None-clause-least c =
+    constructor_is_least (call_view c.args.name.now c.args.tplt c.args.args.now) _ (returns-in_ok-refuse_call-in-None-clause-row c)
