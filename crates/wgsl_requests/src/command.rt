@@ -234,6 +234,7 @@ impl Callee<'_> {
     }
 }
 
+#[inline(always)]
 fn read_callee<'t>(alloc: Global, words: &mut Words<'t>) -> Result<Callee<'t>, Unread>
     ensures { Answers (λ callee. IsCallee (left words.old) (callee_view callee))
         ((call : Signature) → ¬ IsCallee (left words.old) call) result }

@@ -132,6 +132,7 @@ fn write_value_or_refusal(
     written
 }
 
+#[inline(always)]
 pub(crate) fn write_value(text: &mut String, value: &Option<Type>) -> Result<(), AllocError>
     ensures { OnOk result (string_bytes text.new
         ≡ string_bytes text.old ++ value_text (option_map view value.now)) }
