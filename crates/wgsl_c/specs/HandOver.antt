@@ -1,4 +1,4 @@
--- What C is handed.
+-- What is returned to C.
 use Rattle.std.specs.Prelude.{◌≡◌, ◌⊎◌, ◌<◌, ◌≤◌, ◌++◌, ℕ, List, [], All, IfOk, IsUtf8, Result, Ok, Err, drop, length, string_bytes, true}
 use Rattle.std.specs.declared.alloc.AllocError.{AllocError}
 use Rattle.wgsl_requests.specs.Replies.{IsExplanation, IsReplyTo, reply_text}
@@ -39,7 +39,7 @@ pub record IsRefused (wanted : ℕ) (old new : List ℕ) (len status : ℕ) : Ty
   pub no_length : len ≡ 0
   pub unwritten : new ≡ old
 
--- the reply is handed over: the room before and after, the length, the status
+-- the reply is returned: the room before and after, the length, the status
 abbrev pub IsHandedOver : Result Reply AllocError → List ℕ → List ℕ → ℕ → ℕ → Type 0
 IsHandedOver (Ok (Answer text)) old new len status =
     IsWritten 0 (string_bytes text) old new len status

@@ -1,4 +1,4 @@
--- What C is handed by the calls over texts of WGSL.
+-- What the calls over texts of WGSL return to C.
 use Rattle.std.specs.Prelude.{◌≡◌, ℕ, List, Result, Ok, Err}
 use Rattle.std.specs.declared.alloc.AllocError.{AllocError}
 use Rattle.wgsl_rules.specs.types.Types.{WgslType}

@@ -1,4 +1,4 @@
--- What C is handed by the calls over words.
+-- What the calls over words return to C.
 use Rattle.std.specs.Prelude.{◌≡◌, ◌⊎◌, ◌<◌, ◌≤◌, ℕ, List, Result, Ok, Err, drop, length, String, string_bytes}
 use Rattle.std.specs.Global.{Global}
 use Rattle.wgsl_coded.specs.Replies.{ReplyWords, answered, refused}
@@ -6,7 +6,7 @@ use Rattle.wgsl_coded.specs.declared.fault.Fault.{Fault}
 use Rattle.wgsl_coded.specs.declared.fault.Fault.TheVariants.{Memory, NoType}
 use Rattle.wgsl_c.specs.HandOver.{IsWritten, IsRefused}
 
--- the reply is handed over: the room before and after, the length, the status
+-- the reply is returned: the room before and after, the length, the status
 abbrev pub IsHandedReply : Result ReplyWords Fault → List ℕ → List ℕ → ℕ → ℕ → Type 0
 IsHandedReply (Ok (answered ws)) old new len status = IsWritten 0 ws old new len status
 IsHandedReply (Ok (refused ws)) old new len status = IsWritten 1 ws old new len status
@@ -14,7 +14,7 @@ IsHandedReply (Err NoType) old new len status = IsRefused 2 old new len status
 IsHandedReply (Err Memory) old new len status = IsRefused 3 old new len status
 
 -- What holds of the length and the room whatever the request is, by the status: 0 answered,
--- 1 refused by the rules, 2 no such request, 3 memory refused, 4 no room.
+-- 1 refused by the rules, 2 no such request, 3 out of memory, 4 no room.
 pub record IsRoomKept (old new : List ℕ) (len status : ℕ) : Type 0 where
   pub known : status ≤ 4
   pub fits : status ≤ 1 → len ≤ length old
@@ -23,7 +23,7 @@ pub record IsRoomKept (old new : List ℕ) (len status : ℕ) : Type 0 where
   pub no_length : (status ≡ 2) ⊎ (status ≡ 3) → len ≡ 0
   pub no_room : status ≡ 4 → length old < len
 
--- the text is handed over in the same way
+-- the text is returned in the same way
 abbrev pub IsHandedText : Result (String Global) Fault → List ℕ → List ℕ → ℕ → ℕ → Type 0
 IsHandedText (Ok text) old new len status = IsWritten 0 (string_bytes text) old new len status
 IsHandedText (Err NoType) old new len status = IsRefused 2 old new len status

@@ -1,4 +1,4 @@
-// How a reply is handed over to C.
+// How a reply is returned to C.
 ghost use Rattle.wgsl_c.specs.HandOver.{IsHandedOver, IsWritten};
 
 use std::alloc::AllocError;

@@ -22,7 +22,7 @@ pub extern "C" fn wgsl_standard_answer(
     answer: &mut [u8],
     text_len: &mut usize,
 ) -> u8
-    // The reply to the request is handed over, and what holds of it is said again.
+    // The reply to the request is returned; the clauses below follow from it.
     ensures reply { (reply : Result Reply AllocError) × IsPromised RuleSet.Standard request.now reply
         × IsHandedOver reply answer.old answer.new text_len.new result }
 

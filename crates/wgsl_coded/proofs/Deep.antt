@@ -1,4 +1,4 @@
--- Structs are at most so many levels deep.
+-- Structs are at most that many levels deep.
 use Rattle.std.proofs.Common.{◌↔◌, ℕ, suc, ◌<◌, ◌≤◌, ◌^◌, Bool, List, arith}
 use Rattle.wgsl_rules.specs.types.Types.{Members, struct}
 use Rattle.wgsl_rules.specs.codes.Codes.{HaveCodes, IsName, member_count}

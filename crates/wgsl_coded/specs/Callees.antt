@@ -19,7 +19,7 @@ request_of Function c = call c
 abbrev pub asked_of : Kind → Option Signature → Option WgslRequest
 asked_of kind signature = signature >>= λ c. Some (request_of kind c)
 
--- so many types, and nothing after them
+-- that many types, and nothing after them
 abbrev pub arguments_at : ℕ → List ℕ → Option (List WgslType)
 arguments_at count ws = whole (parts_in_order (decode 255) count ws)
 
@@ -27,7 +27,7 @@ arguments_at count ws = whole (parts_in_order (decode 255) count ws)
 abbrev pub call_of : List ℕ → List WgslType → Signature
 call_of name types = record { name = name; template = None; arguments = types }
 
--- the words are a call of that name with no template if the rest begins with so many arguments
+-- the words are a call of that name with no template if the rest begins with that many arguments
 abbrev pub IsPlainHead : List ℕ → List ℕ → ℕ → List ℕ → Type 0
 IsPlainHead ws name count rest = signature_at (decode 255) ws
     ≡ (parts_in_order (decode 255) count rest >>= λ types. Some (call_of name types.0, types.1))

@@ -9,7 +9,7 @@ use Rattle.wgsl_core.specs.View.{Member}
 use Rattle.wgsl_coded.specs.Members.{member_at}
 use Rattle.wgsl_coded.specs.Replies.{member_words}
 
--- the words are a struct's if the rest begins with so many members
+-- the words are a struct's if the rest begins with that many members
 abbrev pub IsStructHead : List ℕ → ℕ → List ℕ → Type 0
 IsStructHead ws count rest = (name : List ℕ) × (decode 255 ws
     ≡ (members_at (decode 254) count rest >>= λ ms. Some (struct name ms.0, ms.1)))
@@ -21,7 +21,7 @@ pub record IsSizedMember (ws : List ℕ) (layout : MemberLayout) (rest : List �
   pub size : IsGiven member.size (HasSize member.ty) layout.size
   pub align : IsGiven member.align (HasAlignment member.ty) layout.align
 
--- All of the words are so many members. The words of their layouts are written after the old ones,
+-- All of the words are that many members. The words of their layouts are written after the old ones,
 -- and the struct has that size and that alignment.
 pub record AreLaidOut (count : ℕ) (ws old new : List ℕ) (size align : ℕ) : Type 0 where
   pub members : Members

@@ -24,14 +24,14 @@ short_callee_view (callees.Binary o) = a_binary o
 short_callee_view (callees.Function name) = a_function (take name.len name.bytes)
 short_callee_view (callees.Constructor name) = a_constructor (take name.len name.bytes)
 
--- so many operands, and nothing after them
+-- that many operands, and nothing after them
 abbrev pub operands_at : ℕ → List ℕ → Option (List Operand)
 operands_at count ws = whole (parts_in_order operand_at count ws)
 
 abbrev pub plain_call : WgslCallee → List Operand → WgslCall
 plain_call callee xs = record { callee = callee; template = None; operands = xs }
 
--- the words are a call without a template if the rest begins with so many operands
+-- the words are a call without a template if the rest begins with that many operands
 abbrev pub IsPlainCall : List ℕ → WgslCallee → ℕ → List ℕ → Type 0
 IsPlainCall ws callee count rest = standard_call_at ws
     ≡ (parts_in_order operand_at count rest >>= λ xs. Some (plain_call callee xs.0, xs.1))

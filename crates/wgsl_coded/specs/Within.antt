@@ -1,4 +1,4 @@
--- Types that are at most so many levels deep.
+-- Types that are at most a number of levels deep.
 use Rattle.std.specs.Prelude.{ℕ, ◌<◌, ◌≤◌, ◌^◌, ◌↔◌, Bool, Option, IfSome, IsTrue}
 use Rattle.wgsl_rules.specs.types.Types.{WgslType, Members}
 use Rattle.wgsl_rules.specs.codes.Codes.{HasCode, HaveCodes, IsName}

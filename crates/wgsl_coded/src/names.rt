@@ -11,7 +11,7 @@ use crate::fault::Fault;
 use crate::numbers::{read_number, word_of, write_number};
 use std::alloc::{AllocError, Global};
 
-/// The number of words that hold so many bytes.
+/// The number of words that hold that many bytes.
 fn words_for(len: usize) -> usize
     ensures { result ≡ word_count len }
 {
@@ -55,7 +55,7 @@ fn unpack(alloc: Global, words: &[u32]) -> Result<Vec<u8>, AllocError>
     Ok(unpacked)
 }
 
-/// The text of `len` bytes in the words that hold so many.
+/// The text of `len` bytes in the words that hold them.
 fn read_packed(alloc: Global, len: usize, words: &[u32]) -> Result<String, Fault>
     ensures { Reads string_bytes result (text_of len words.now) }
 {
@@ -93,7 +93,7 @@ pub(crate) fn read_name(alloc: Global, words: &[u32]) -> Result<(String, &[u32])
     }
 }
 
-/// Whether the first bytes of the word are ASCII, so many, and the others 0.
+/// Whether the first bytes of the word are ASCII, that many, and the others 0.
 pub(crate) fn is_ascii(count: usize, word: u32) -> bool
     ensures { IsTrue result → IsAsciiText count (word ∷ []) [] }
 {
