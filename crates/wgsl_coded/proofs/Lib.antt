@@ -1,4 +1,5 @@
 pub mod Replied
+pub mod Least
 pub mod FirstWords
 pub mod Texts
 pub mod Levels

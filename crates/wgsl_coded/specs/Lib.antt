@@ -3,6 +3,7 @@ pub mod Levels
 pub mod Members
 pub mod Names
 pub mod Requests
+pub mod Least
 pub mod Replies
 pub mod Short
 pub mod Seen

@@ -12,6 +12,7 @@ use Rattle.wgsl_asked.specs.Answers.{Answers, WgslAnswer, WgslLayout, a_number, 
 use Rattle.wgsl_asked.specs.Calls.{WgslResolution}
 use Rattle.wgsl_asked.specs.Requests.{WgslRequest}
 use Rattle.wgsl_coded.specs.declared.fault.Fault.{Fault}
+use Rattle.wgsl_coded.specs.Least.{IsLeastAnswer}
 use Rattle.wgsl_coded.specs.Reads.{Fails}
 use Rattle.wgsl_coded.specs.StandardCalls.{resolve_request, why_request, overloads_request}
 use Rattle.wgsl_coded.specs.Requests.{rank_request, common_request, unary_request, binary_request, constructor_request, call_request, size_request, layout_request}
@@ -83,6 +84,16 @@ abbrev pub IsReplyTo : Option WgslRequest → Result ReplyWords Fault → Type 0
 IsReplyTo asked (Ok reply) = IsSomeAnd asked (λ request. IsAnswered request reply)
 IsReplyTo asked (Err fault) = Fails fault asked
 
+-- the words of an answer to the request, which for value types is that of the least candidate
+abbrev pub IsLeastAnswered : WgslRequest → ReplyWords → Type 0
+IsLeastAnswered request reply =
+    (a : WgslAnswer) × Answers request a × IsLeastAnswer request a × (reply ≡ answer_words a)
+
+-- The reply is such a one to what was asked; if nothing was asked, there is a fault instead.
+abbrev pub IsLeastReplyTo : Option WgslRequest → Result ReplyWords Fault → Type 0
+IsLeastReplyTo asked (Ok reply) = IsSomeAnd asked (λ request. IsLeastAnswered request reply)
+IsLeastReplyTo asked (Err fault) = Fails fault asked
+
 -- The request is two types. The answer is the rank of their conversion.
 abbrev pub IsRankReply : List ℕ → Result ReplyWords Fault → Type 0
 IsRankReply ws = IsReplyTo (rank_request ws)
@@ -111,7 +122,8 @@ IsBinaryReply ws = IsReplyTo (binary_request ws)
 abbrev pub IsConstructorReply : List ℕ → Result ReplyWords Fault → Type 0
 IsConstructorReply ws = IsReplyTo (constructor_request ws)
 
--- The request is the signature of a built-in function's call. The answer is the type of the call.
+-- The request is the signature of a built-in function's call. The answer is the type of the call; for value types it is
+-- that of the least candidate, by the law `call_reply_is_least`.
 abbrev pub IsCallReply : List ℕ → Result ReplyWords Fault → Type 0
 IsCallReply ws = IsReplyTo (call_request ws)
 

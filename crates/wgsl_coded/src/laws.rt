@@ -1,5 +1,5 @@
 // Laws of the codes: each function returns nothing, and its contract is the law.
-ghost use Rattle.std.specs.Prelude.{◌≡◌, ◌++◌, ◌<◌, ◌^◌, ℕ, List, Some, slice_index};
+ghost use Rattle.std.specs.Prelude.{◌≡◌, ◌++◌, ◌<◌, ◌^◌, ℕ, List, Result, Some, slice_index};
 ghost use Rattle.wgsl_rules.specs.types.Types.{WgslType};
 ghost use Rattle.wgsl_rules.specs.types.Signatures.{Signature};
 ghost use Rattle.wgsl_rules.specs.errors.Refusals.{Refusal};
@@ -9,6 +9,9 @@ ghost use Rattle.wgsl_rules.specs.codes.DecodingRefusals.{refusal_at};
 ghost use Rattle.wgsl_rules.specs.codes.DecodingSignatures.{signature_at, types_at};
 ghost use Rattle.wgsl_rules.specs.codes.Refusals.{refusal_code, RefusalHasCode};
 ghost use Rattle.wgsl_rules.specs.codes.Signatures.{list_code, ListHasCode, signature_code, SignatureHasCode};
+ghost use Rattle.wgsl_coded.specs.Replies.{IsCallReply, IsLeastReplyTo, ReplyWords};
+ghost use Rattle.wgsl_coded.specs.Requests.{call_request};
+ghost use Rattle.wgsl_coded.specs.declared.fault.Fault.{Fault};
 
 /// A type is read back from its code, whatever follows it.
 pub fn read_back()
@@ -74,4 +77,11 @@ pub fn refusal_prefix_code()
     ensures { (r s : Refusal) (depth : ℕ) (rest others : List ℕ) → RefusalHasCode depth r
         → RefusalHasCode depth s → refusal_code r ++ rest ≡ refusal_code s ++ others
         → (r ≡ s) × (rest ≡ others) }
+{}
+
+/// The reply to a call of a function with candidates, on value types and without a template, is the result of the least
+/// candidate, and a refusal exactly if no candidate takes the arguments, but for the calls that the table refuses.
+pub fn call_reply_is_least()
+    ensures { (words : List ℕ) (reply : Result ReplyWords Fault) → IsCallReply words reply
+        → IsLeastReplyTo (call_request words) reply }
 {}
