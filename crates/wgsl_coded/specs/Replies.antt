@@ -114,7 +114,8 @@ IsCommonReply ws = IsReplyTo (common_request ws)
 abbrev pub IsUnaryReply : List ℕ → Result ReplyWords Fault → Type 0
 IsUnaryReply ws = IsReplyTo (unary_request ws)
 
--- The request is a binary operator and two types. The answer is the candidate that is chosen.
+-- The request is a binary operator and two types. The answer is the candidate that is chosen; for value types it is the
+-- least one, by the law `binary_reply_is_least`.
 abbrev pub IsBinaryReply : List ℕ → Result ReplyWords Fault → Type 0
 IsBinaryReply ws = IsReplyTo (binary_request ws)
 
