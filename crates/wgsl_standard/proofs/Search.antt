@@ -95,5 +95,11 @@ listed_seen f xs r k d b x o h e =
     listed x (map f xs) r k (f d) (omega (arith, b, length-map xs f)) (ap (λ row. order x row.0) m ∙ (sym h ∙ e))
     ∙ ap (λ (row : List ℕ × List Overload). Some row.1) m
 
+-- the same of the name itself
+pub named_there : {X : Type 0} (f : X → List ℕ × List Overload) (xs : List X) → IsRising (names_of (map f xs)) → (k : ℕ) (d : X) → k < length xs → (x : List ℕ) → (f (get_or xs k d)).0 ≡ x →
+    overloads_named x (map f xs) ≡ Some (f (get_or xs k d)).1
+named_there f xs r k d b x e =
+    listed_seen f xs r k d b x Equal (sym (subst (λ y. order x y ≡ Equal) (sym e) (itself x))) refl
+
 pub as_many : {X : Type 0} (f : X → List ℕ × List Overload) (xs : List X) → length (names_of (map f xs)) ≡ length xs
 as_many f xs = length-map (map f xs) (λ (row : List ℕ × List Overload). row.0) ∙ length-map xs f

@@ -1,5 +1,5 @@
 // The overloads of a name.
-ghost use Rattle.std.specs.Prelude.{◌≡◌, map, option_map, IfSome};
+ghost use Rattle.std.specs.Prelude.{◌≡◌, map, option_map, IfSome, Some};
 ghost use Rattle.wgsl_rules.specs.calls.Names.{IsRising};
 ghost use Rattle.wgsl_rules.specs.standard.Names.{function_table, template_function_table, names_of, overloads_named};
 ghost use Rattle.wgsl_rules.specs.standard.ConstructorNames.{constructor_table, template_constructor_table};
@@ -8,6 +8,7 @@ ghost use Rattle.wgsl_standard.specs.internal.Sets.{function_row, constructor_ro
 
 use crate::constructors::{ConstructorSet, constructor_overloads};
 use crate::functions::{FunctionSet, function_overloads};
+use crate::hint::hint;
 use crate::templates::{BITCAST, TemplateSet, template_overloads};
 use std::cmp::Ordering;
 use wgsl_syntax::overload::Overload;
@@ -18,10 +19,28 @@ pub fn function_named(name: &str) -> Option<&'static [Overload]>
     ensures row { option_map (λ o. o.now) result ≡ overloads_named name.now function_table }
     ensures unambiguous { IfSome result (λ o. IsUnambiguous o.now) }
 {
-    find_function(name, functions())
+    let functions = functions();
+    match hinted_function(name, functions) {
+        Some(overloads) => Some(overloads),
+        None => find_function(name, functions),
+    }
+}
+
+/// The overloads at the index that is hinted, if the name stands there.
+fn hinted_function(name: &str, functions: &[(&str, FunctionSet)]) -> Option<&'static [Overload]>
+    requires { IsRising (names_of (map function_row functions.now)) }
+    ensures { IfSome result (λ o. Some o.now ≡ overloads_named name.now (map function_row functions.now)) }
+{
+    let index = hint(name);
+    if index < functions.len() && functions[index].0 == name {
+        Some(function_overloads(functions[index].1))
+    } else {
+        None
+    }
 }
 
 /// Binary search among the names.
+#[inline(never)]
 fn find_function(name: &str, functions: &[(&str, FunctionSet)]) -> Option<&'static [Overload]>
     requires { IsRising (names_of (map function_row functions.now)) }
     ensures { option_map (λ o. o.now) result ≡ overloads_named name.now (map function_row functions.now) }
