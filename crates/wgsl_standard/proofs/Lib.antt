@@ -1,5 +1,6 @@
 pub mod Scalars
 pub mod Parts
+pub mod Values
 pub mod Letters
 pub mod Boxes
 pub mod Ranks

@@ -105,6 +105,7 @@ pub fn type_ctor(
 }
 
 /// The type of a call by the overloads of its name, if it has any.
+#[inline(always)]
 pub(crate) fn named_type(
     alloc: Global,
     overloads: Option<&[Overload]>,
@@ -120,6 +121,7 @@ pub(crate) fn named_type(
 }
 
 /// The same with a template, which is the first operand.
+#[inline(never)]
 pub(crate) fn templated_type(
     alloc: Global,
     overloads: Option<&[Overload]>,
@@ -167,6 +169,7 @@ pub(crate) fn operands_with<'a>(
 }
 
 /// The type of a call with these overloads.
+#[inline(always)]
 pub fn result_type(
     alloc: Global,
     overloads: &[Overload],
@@ -182,6 +185,7 @@ pub fn result_type(
 }
 
 /// The overload that is chosen, and what its letters stand for.
+#[inline(always)]
 fn chosen<'a>(
     overloads: &'a [Overload],
     operands: &[Operand<'_>],

@@ -15,6 +15,7 @@ use std::alloc::Global;
 use wgsl_core::ty::Type;
 
 /// The type of a call, or None if it has no value. Operators take no template.
+#[inline(always)]
 pub fn type_of_call(
     alloc: Global,
     callee: Callee<'_>,

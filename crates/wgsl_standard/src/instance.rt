@@ -1,11 +1,12 @@
 // The types of parameters and results, for what the letters stand for.
-ghost use Rattle.std.specs.Prelude.{◌≡◌, IfOk, option_map};
+ghost use Rattle.std.specs.Prelude.{◌≡◌, IfOk, Some, option_map};
 ghost use Rattle.wgsl_core.specs.View.{view};
 ghost use Rattle.wgsl_rules.specs.standard.Resources.{precision_of as precision_there};
 ghost use Rattle.wgsl_rules.specs.standard.Overloads.{type_with, type_in as type_there, pointee_of, in_order, count_in as count_there, dimensions_in as dimensions_there, component_in as component_there};
 ghost use Rattle.wgsl_rules.specs.standard.Choice.{parameter_for as parameter_there, parameters_for, result_for as result_there};
 ghost use Rattle.wgsl_standard.specs.Operands.{operand_view, operands_view};
 ghost use Rattle.wgsl_standard.specs.internal.Binding.{first_pattern as first_there};
+ghost use Rattle.wgsl_standard.specs.Values.{value_in as value_there, result_value as result_value_there};
 
 use crate::operand::{Operand, loaded};
 use crate::overload::{parameters_of, result_of};
@@ -27,20 +28,50 @@ pub fn result_for(
 ) -> Result<Option<Type>, AllocError>
     ensures { IfOk result (λ r. option_map view r ≡ result_there instance.now overload.now (operands_view operands.now)) }
 {
+    match result_value(instance, overload) {
+        Some(value) => value_result(alloc, value.0, value.1),
+        None => other_result(alloc, instance, overload, operands),
+    }
+}
+
+/// The same, whatever the result is.
+#[inline(never)]
+fn other_result(
+    alloc: Global,
+    instance: &Instance,
+    overload: &Overload,
+    operands: &[Operand<'_>],
+) -> Result<Option<Type>, AllocError>
+    ensures { IfOk result (λ r. option_map view r ≡ result_there instance.now overload.now (operands_view operands.now)) }
+{
     match result_of(overload) {
         Returns::NoValue => Ok(None),
-        Returns::Gives(pattern) => type_in(alloc, instance, pattern),
+        Returns::Gives(pattern) => type_in(alloc, instance, *pattern),
         Returns::GivesStruct(function, shape) => {
             let precision = precision_of(instance.t);
             let of = ResultStruct {
-                function,
-                shape,
+                function: *function,
+                shape: *shape,
                 precision,
             };
             Ok(Some(result_struct(alloc, of)?))
         }
         Returns::GivesExchange => Ok(Some(exchange_result(alloc, &Type::from(instance.t))?)),
         Returns::GivesPointee => pointee(alloc, instance, parameters_of(overload), operands),
+    }
+}
+
+/// The dimensions and the components of the result, if it is a scalar, a vector or a matrix.
+#[inline(always)]
+pub fn result_value(instance: &Instance, overload: &Overload) -> Option<(Dimensions, Scalar)>
+    ensures { result ≡ result_value_there instance.now overload.now }
+{
+    match result_of(overload) {
+        Returns::NoValue => None,
+        Returns::Gives(pattern) => value_in(instance, pattern),
+        Returns::GivesStruct(_, _) => None,
+        Returns::GivesExchange => None,
+        Returns::GivesPointee => None,
     }
 }
 
@@ -103,9 +134,41 @@ pub fn parameter_for(
 ) -> Result<Type, AllocError>
     ensures { IfOk result (λ t. view t ≡ parameter_there instance.now pattern (operand_view operand.now).of_type) }
 {
+    match value_in(instance, &pattern) {
+        Some(value) => value_type(alloc, value.0, value.1),
+        None => other_parameter(alloc, instance, pattern, operand),
+    }
+}
+
+/// The same, whatever the parameter is.
+#[inline(never)]
+fn other_parameter(
+    alloc: Global,
+    instance: &Instance,
+    pattern: Pattern,
+    operand: &Operand<'_>,
+) -> Result<Type, AllocError>
+    ensures { IfOk result (λ t. view t ≡ parameter_there instance.now pattern (operand_view operand.now).of_type) }
+{
     match type_in(alloc, instance, pattern)? {
         Some(ty) => Ok(ty),
         None => loaded(operand.ty).clone(alloc),
+    }
+}
+
+/// The dimensions and the components of a parameter or a result, if it is a scalar, a vector or a matrix.
+#[inline(always)]
+pub fn value_in(instance: &Instance, pattern: &Pattern) -> Option<(Dimensions, Scalar)>
+    ensures { result ≡ value_there instance.now pattern.now }
+{
+    match pattern {
+        Pattern::Value(shape, component) => Some((
+            dimensions_in(instance, *shape),
+            component_in(instance, *component),
+        )),
+        Pattern::Sampler(_) => None,
+        Pattern::Texture(_) => None,
+        Pattern::Resource(_) => None,
     }
 }
 
@@ -119,12 +182,8 @@ pub fn type_in(
 {
     match pattern {
         Pattern::Value(shape, component) => {
-            let ty = value_type(
-                alloc,
-                dimensions_in(instance, shape),
-                component_in(instance, component),
-            )?;
-            Ok(Some(ty))
+            let dimensions = dimensions_in(instance, shape);
+            value_result(alloc, dimensions, component_in(instance, component))
         }
         Pattern::Sampler(sampler) => Ok(Some(Type::Sampler(sampler))),
         Pattern::Texture(texture) => Ok(Some(Type::Texture(texture))),
@@ -132,7 +191,33 @@ pub fn type_in(
     }
 }
 
+#[inline(always)]
+fn value_result(
+    alloc: Global,
+    dimensions: Dimensions,
+    scalar: Scalar,
+) -> Result<Option<Type>, AllocError>
+    ensures { IfOk result (λ r. option_map view r ≡ Some (type_with dimensions scalar)) }
+{
+    match dimensions {
+        Dimensions::Single => Ok(Some(Type::from(scalar))),
+        _ => Ok(Some(type_around(alloc, dimensions, scalar)?)),
+    }
+}
+
+#[inline(always)]
 fn value_type(alloc: Global, dimensions: Dimensions, scalar: Scalar) -> Result<Type, AllocError>
+    ensures { IfOk result (λ t. view t ≡ type_with dimensions scalar) }
+{
+    match dimensions {
+        Dimensions::Single => Ok(Type::from(scalar)),
+        _ => type_around(alloc, dimensions, scalar),
+    }
+}
+
+/// The same, whatever the dimensions are.
+#[inline(never)]
+fn type_around(alloc: Global, dimensions: Dimensions, scalar: Scalar) -> Result<Type, AllocError>
     ensures { IfOk result (λ t. view t ≡ type_with dimensions scalar) }
 {
     let element = Type::from(scalar);
@@ -143,6 +228,7 @@ fn value_type(alloc: Global, dimensions: Dimensions, scalar: Scalar) -> Result<T
     }
 }
 
+#[inline(always)]
 fn dimensions_in(instance: &Instance, shape: Shape) -> Dimensions
     ensures { result ≡ dimensions_there instance.now shape }
 {
@@ -157,6 +243,7 @@ fn dimensions_in(instance: &Instance, shape: Shape) -> Dimensions
     }
 }
 
+#[inline(always)]
 fn count_in(instance: &Instance, count: Count) -> u8
     ensures { result ≡ count_there instance.now count }
 {
@@ -168,6 +255,7 @@ fn count_in(instance: &Instance, count: Count) -> u8
     }
 }
 
+#[inline(always)]
 fn component_in(instance: &Instance, component: Component) -> Scalar
     ensures { result ≡ component_there instance.now component }
 {

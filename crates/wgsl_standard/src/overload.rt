@@ -16,15 +16,15 @@ pub fn parameters_of(overload: &Overload) -> &Parameters
     }
 }
 
-pub fn result_of(overload: &Overload) -> Returns
-    ensures { result ≡ result_there overload.now }
+pub fn result_of(overload: &Overload) -> &Returns
+    ensures { result.now ≡ result_there overload.now }
 {
     match overload {
-        Overload::Plain(_, result) => *result,
-        Overload::WithT(_, result, _) => *result,
-        Overload::WithTAndU(_, result, _, _) => *result,
-        Overload::WithThree(_, result, _, _, _) => *result,
-        Overload::WithFour(_, result, _, _, _, _) => *result,
+        Overload::Plain(_, result) => result,
+        Overload::WithT(_, result, _) => result,
+        Overload::WithTAndU(_, result, _, _) => result,
+        Overload::WithThree(_, result, _, _, _) => result,
+        Overload::WithFour(_, result, _, _, _, _) => result,
     }
 }
 

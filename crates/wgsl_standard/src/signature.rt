@@ -88,7 +88,7 @@ impl fmt::Display for Signature<'_> {
         write_callee(f, self.callee)?;
         let parameters = parameters_of(self.overload);
         write_parameters(f, parameters, self.has_template, self.of_vectors)?;
-        write_returns(f, result_of(self.overload), self.of_vectors)?;
+        write_returns(f, *result_of(self.overload), self.of_vectors)?;
         write_letters(f, self.overload, resource_of(parameters))
     }
 }
