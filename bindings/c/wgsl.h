@@ -96,8 +96,7 @@ uint8_t wgsl_layout(const uint32_t *request, size_t request_len, uint32_t *room,
 /* Calls by WGSL's own overloads, in numbers: as the eight above, by other rules. A request is a call:
  *
  *   what is called, WGSL_CALLEE_.. and an operator or a name; a template as in a signature; the list of the operands,
- *   each 1 if it is a const-expression or else 0, and its type. In WGSL expressions of abstract types always are: give 1. With
- *   0 an overload must make the type concrete.
+ *   each 1 if it is a const-expression or else 0, and its type. An operand of abstract type is a const-expression with 0 too.
  *
  *   call                     request  answer                                                              refusal
  *   wgsl_standard_resolve    a call   the index of the overload, one word; the list of the parameters'    nothing

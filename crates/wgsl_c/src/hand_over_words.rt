@@ -1,27 +1,54 @@
-// How a reply in words is handed over to C.
-ghost use Rattle.std.specs.Prelude.{Err, List, ℕ};
-ghost use Rattle.wgsl_coded.specs.Seen.{reply_words, seen};
+// How a reply in words is returned to C.
+ghost use Rattle.std.specs.Prelude.{Err, List, Ok, ℕ};
+ghost use Rattle.wgsl_coded.specs.Seen.{reply_words, resolved_words, seen};
 ghost use Rattle.wgsl_c.specs.Words.{IsHandedReply, IsHandedText, IsRoomKept};
 
 use crate::hand_over::{ANSWERED, OUT_OF_MEMORY, RULED_OUT, UNREADABLE, hand_over_items};
-use wgsl_coded::{Fault, Reply};
+use wgsl_coded::{Fault, Reply, Resolved};
 
-/// Hands over the words of a reply.
+/// Returns the words of a reply.
 #[inline(always)]
 pub fn hand_over_reply(reply: &Result<Reply, Fault>, room: &mut [u32], len: &mut usize) -> u8
     ensures reply { IsHandedReply (seen reply_words reply.now) room.old room.new len.new result }
     ensures room { IsRoomKept room.old room.new len.new result }
 {
     match reply {
-        Ok(Reply::Answer(words)) => hand_over_items(ANSWERED, words, room, len),
-        Ok(Reply::Word(word)) => hand_over_items(ANSWERED, &[*word], room, len),
-        Ok(Reply::Short(words)) => hand_over_items(ANSWERED, words.as_slice(), room, len),
-        Ok(Reply::Refusal(words)) => hand_over_items(RULED_OUT, words, room, len),
+        Ok(reply) => hand_over_words(reply, room, len),
         Err(fault) => hand_over_fault(*fault, len),
     }
 }
 
-/// Hands over a text.
+/// Returns the words of what a call resolves to.
+#[inline(always)]
+pub fn hand_over_resolved(
+    resolved: &Result<Resolved, Fault>,
+    room: &mut [u32],
+    len: &mut usize,
+) -> u8
+    ensures reply { IsHandedReply (seen resolved_words resolved.now) room.old room.new len.new result }
+    ensures room { IsRoomKept room.old room.new len.new result }
+{
+    match resolved {
+        Ok(Resolved::Short(words)) => hand_over_items(ANSWERED, words.as_slice(), room, len),
+        Ok(Resolved::Other(reply)) => hand_over_words(reply, room, len),
+        Err(fault) => hand_over_fault(*fault, len),
+    }
+}
+
+#[inline(always)]
+fn hand_over_words(reply: &Reply, room: &mut [u32], len: &mut usize) -> u8
+    ensures reply { IsHandedReply (Ok (reply_words reply.now)) room.old room.new len.new result }
+    ensures room { IsRoomKept room.old room.new len.new result }
+{
+    match reply {
+        Reply::Answer(words) => hand_over_items(ANSWERED, words, room, len),
+        Reply::Word(word) => hand_over_items(ANSWERED, &[*word], room, len),
+        Reply::Short(words) => hand_over_items(ANSWERED, words.as_slice(), room, len),
+        Reply::Refusal(words) => hand_over_items(RULED_OUT, words, room, len),
+    }
+}
+
+/// Returns a text.
 pub fn hand_over_text(text: &Result<String, Fault>, room: &mut [u8], len: &mut usize) -> u8
     ensures text { IsHandedText text.now room.old room.new len.new result }
     ensures room { IsRoomKept room.old room.new len.new result }

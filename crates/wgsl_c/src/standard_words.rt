@@ -12,7 +12,7 @@ ghost use Rattle.wgsl_coded.specs.Texts.{message_in, spelling_in};
 ghost use Rattle.wgsl_coded.specs.declared.fault.Fault.{Fault};
 ghost use Rattle.wgsl_c.specs.Words.{IsHandedReply, IsHandedText, IsRoomKept};
 
-use crate::hand_over_words::{hand_over_reply, hand_over_text};
+use crate::hand_over_words::{hand_over_reply, hand_over_resolved, hand_over_text};
 use std::alloc::Global;
 use wgsl_coded::{message, overloads, resolve, spell, why};
 
@@ -28,7 +28,7 @@ pub extern "C" fn wgsl_standard_resolve(
         × IsHandedReply reply room.old room.new len.new result }
     ensures room { IsRoomKept room.old room.new len.new result }
 {
-    hand_over_reply(&resolve(alloc, request), room, len)
+    hand_over_resolved(&resolve(alloc, request), room, len)
 }
 
 /// The overloads of a name.

@@ -19,12 +19,12 @@ use Rattle.wgsl_coded.specs.PlainCalls.{IsResolvedReply, plain_call}
 use Rattle.wgsl_coded.specs.Replies.{IsReplyTo, answered, refused, resolution_words, words_or_none}
 use Rattle.wgsl_coded.specs.Short.{short_items}
 use Rattle.wgsl_coded.specs.declared.fast.short.ShortWords.{ShortWords}
-use Rattle.wgsl_coded.specs.declared.reply.Reply.TheVariants.{Short}
-use Rattle.wgsl_coded.specs.Seen.{HasWords, reply_words, seen}
+use Rattle.wgsl_coded.specs.declared.resolved.Resolved.{Resolved}
+use Rattle.wgsl_coded.specs.declared.resolved.Resolved.TheVariants.{Other, Short}
+use Rattle.wgsl_coded.specs.Seen.{HasWords, reply_words, resolved_words, seen}
 use Rattle.wgsl_coded.specs.declared.fault.Fault.{Fault}
 use Rattle.wgsl_coded.specs.declared.fault.Fault.TheVariants.{Memory, NoType}
 use Rattle.wgsl_coded.specs.declared.reply.Reply.{Reply}
-use Rattle.wgsl_coded.proofs.Replied.{replied}
 
 -- operands as they are written, and loaded
 same_operands : (xs : List Operand) → operands_view xs ≡ loaded (map written_view xs)
@@ -32,35 +32,39 @@ same_operands [] = refl
 same_operands (x ∷ xs) = ap (λ ys. operand_view x ∷ ys) (same_operands xs)
 
 -- the reply to a plain call, from what it resolves to
-resolved_reply : (callee : WgslCallee) (xs : List Operand) (r : Option WgslResolution) (reply : Reply) →
-    IsNamedResolution (overloads_listed callee false) (operands_view xs) r → reply_words reply ≡ words_or_none resolution_words r →
-    IsReplyTo (Some (resolution_of (plain_call callee (map written_view xs)))) (seen reply_words (Ok reply))
+resolved_reply : (callee : WgslCallee) (xs : List Operand) (r : Option WgslResolution) (reply : Resolved) →
+    IsNamedResolution (overloads_listed callee false) (operands_view xs) r → resolved_words reply ≡ words_or_none resolution_words r →
+    IsReplyTo (Some (resolution_of (plain_call callee (map written_view xs)))) (seen resolved_words (Ok reply))
 resolved_reply callee xs r reply h w =
-    let call = plain_call callee (map written_view xs) in
     let is = subst (λ ys. IsNamedResolution (overloads_listed callee false) ys r) (same_operands xs) h in
-    replied (a_resolution_of call r) (Ok reply) (resolution_of_is r is) ((λ e. cc e), w)
+    (a_resolution_of (plain_call callee (map written_view xs)) r, resolution_of_is r is, w)
 
 -- the same if the call has overloads
-pub plain_reply : (callee : WgslCallee) (xs : List Operand) (os : List Overload) (reply : Result Reply Fault) → Some os ≡ overloads_listed callee false →
-    IsResolvedReply os (operands_view xs) reply → IsReplyTo (Some (resolution_of (plain_call callee (map written_view xs)))) (seen reply_words reply)
+pub plain_reply : (callee : WgslCallee) (xs : List Operand) (os : List Overload) (reply : Result Resolved Fault) → Some os ≡ overloads_listed callee false →
+    IsResolvedReply os (operands_view xs) reply → IsReplyTo (Some (resolution_of (plain_call callee (map written_view xs)))) (seen resolved_words reply)
 plain_reply callee xs os (Ok reply) e h = resolved_reply callee xs h.0 reply (subst (λ o. IsNamedResolution o (operands_view xs) h.0) e h.1) h.2
 plain_reply callee xs os (Err Memory) e h = tt
 plain_reply callee xs os (Err NoType) e h = absurd h
 
 -- the same if it has none
-pub no_reply : (callee : WgslCallee) (xs : List Operand) (reply : Reply) → None ≡ overloads_listed callee false → reply_words reply ≡ refused [] →
-    IsReplyTo (Some (resolution_of (plain_call callee (map written_view xs)))) (seen reply_words (Ok reply))
+pub no_reply : (callee : WgslCallee) (xs : List Operand) (reply : Resolved) → None ≡ overloads_listed callee false → resolved_words reply ≡ refused [] →
+    IsReplyTo (Some (resolution_of (plain_call callee (map written_view xs)))) (seen resolved_words (Ok reply))
 no_reply callee xs reply e w = resolved_reply callee xs None reply (subst (λ o. IsNamedResolution o (operands_view xs) None) e refl) w
 
 -- the reply has the words of a resolution
-pub resolved_words : (os : List Overload) (xs : List WgslOperand) (r : Option WgslResolution) (reply : Result Reply Fault) → IsResolution os xs r →
-    HasWords (words_or_none resolution_words r) reply → IsResolvedReply os xs reply
-resolved_words os xs r (Ok reply) h w = (r, h, w)
-resolved_words os xs r (Err Memory) h w = tt
-resolved_words os xs r (Err NoType) h w = absurd w
+pub resolved_so : (os : List Overload) (xs : List WgslOperand) (r : Option WgslResolution) (reply : Result Reply Fault) (resolved : Result Resolved Fault) → IsResolution os xs r →
+    HasWords (words_or_none resolution_words r) reply → seen resolved_words resolved ≡ seen reply_words reply → IsResolvedReply os xs resolved
+resolved_so os xs r (Ok reply) (Ok resolved) h w e =
+    let same : resolved_words resolved ≡ reply_words reply = cc e in
+    (r, h, same ∙ w)
+resolved_so os xs r (Ok reply) (Err fault) h w e = absurd (cc e)
+resolved_so os xs r (Err Memory) (Ok resolved) h w e = absurd (cc e)
+resolved_so os xs r (Err Memory) (Err Memory) h w e = tt
+resolved_so os xs r (Err Memory) (Err NoType) h w e = absurd (cc e)
+resolved_so os xs r (Err NoType) resolved h w e = absurd w
 
 -- the reply has the short words of a choice
-pub chosen_words : (os : List Overload) (xs : List WgslOperand) (p : ℕ × Instance) (o : Overload) (w : ShortWords) → IsChosen os xs (Some p) → slice_get os p.0 ≡ Some o →
+pub chosen_words : (os : List Overload) (xs : List WgslOperand) (p : ℕ × Instance) (o : Overload) (w : ShortWords 12) → IsChosen os xs (Some p) → slice_get os p.0 ≡ Some o →
     short_items w ≡ resolution_words (p.0, parameters_for p.1 (patterns_of o) xs, result_for p.1 o xs) → IsResolvedReply os xs (Ok (Short w))
 chosen_words os xs p o w c at e =
     let here : Some c.0 ≡ Some o = sym c.1 ∙ at in
@@ -69,6 +73,6 @@ chosen_words os xs p o w c at e =
     subst (λ o. IsPreferred os xs p.0 (parameters_for p.1 (patterns_of o) xs) (result_for p.1 o xs)) same c.2 in
     (Some (p.0, parameters_for p.1 (patterns_of o) xs, result_for p.1 o xs), preferred, ap answered e)
 
-pub chosen_at : (os : List Overload) (xs : List WgslOperand) (p : ℕ × Instance) (d o : Overload) (w : ShortWords) → IsChosen os xs (Some p) → o ≡ slice_index_or os p.0 d →
+pub chosen_at : (os : List Overload) (xs : List WgslOperand) (p : ℕ × Instance) (d o : Overload) (w : ShortWords 12) → IsChosen os xs (Some p) → o ≡ slice_index_or os p.0 d →
     short_items w ≡ resolution_words (p.0, parameters_for p.1 (patterns_of o) xs, result_for p.1 o xs) → IsResolvedReply os xs (Ok (Short w))
 chosen_at os xs p d o w c e k = chosen_words os xs p o w c (c.1 ∙ ap Some (sym (e ∙ get_or_from_slice_get os p.0 c.0 d c.1))) k

@@ -10,11 +10,11 @@ use Rattle.wgsl_asked.specs.Calls.{WgslCall, WgslResolution}
 use Rattle.wgsl_asked.specs.Requests.{WgslRequest, resolution_of}
 use Rattle.wgsl_coded.specs.Replies.{resolution_words, words_or_none}
 use Rattle.wgsl_coded.specs.Requests.{whole}
-use Rattle.wgsl_coded.specs.Seen.{reply_words}
+use Rattle.wgsl_coded.specs.Seen.{resolved_words}
 use Rattle.wgsl_coded.specs.StandardCalls.{operand_at, standard_call_at}
 use Rattle.wgsl_coded.specs.declared.fault.Fault.{Fault}
 use Rattle.wgsl_coded.specs.declared.fault.Fault.TheVariants.{Memory, NoType}
-use Rattle.wgsl_coded.specs.declared.reply.Reply.{Reply}
+use Rattle.wgsl_coded.specs.declared.resolved.Resolved.{Resolved}
 use Rattle.wgsl_coded.specs.declared.fast.callees.ShortCallee.{ShortCallee}
 use Rattle.wgsl_coded.specs.declared.fast.callees.ShortCallee.TheVariants as callees
 
@@ -41,8 +41,8 @@ abbrev pub resolution_in : Option WgslCall → Option WgslRequest
 resolution_in call = call >>= λ c. Some (resolution_of c)
 
 -- the reply has the words of what these overloads resolve to, unless memory runs out
-abbrev pub IsResolvedReply : List Overload → List Operand → Result Reply Fault → Type 0
+abbrev pub IsResolvedReply : List Overload → List Operand → Result Resolved Fault → Type 0
 IsResolvedReply os xs (Ok reply) = (r : Option WgslResolution) × IsResolution os xs r
-    × (reply_words reply ≡ words_or_none resolution_words r)
+    × (resolved_words reply ≡ words_or_none resolution_words r)
 IsResolvedReply os xs (Err Memory) = Unit {0}
 IsResolvedReply os xs (Err NoType) = ⊥

@@ -4,6 +4,8 @@ use Rattle.wgsl_coded.specs.declared.fault.Fault.{Fault}
 use Rattle.wgsl_coded.specs.declared.fault.Fault.TheVariants.{Memory, NoType}
 use Rattle.wgsl_coded.specs.declared.reply.Reply.{Reply}
 use Rattle.wgsl_coded.specs.declared.reply.Reply.TheVariants.{Answer, Word, Short, Refusal}
+use Rattle.wgsl_coded.specs.declared.resolved.Resolved.{Resolved}
+use Rattle.wgsl_coded.specs.declared.resolved.Resolved.TheVariants as resolved
 use Rattle.wgsl_rules.specs.codes.Refusals.{refusal_code}
 use Rattle.wgsl_core.specs.Answer.{refusal}
 use Rattle.wgsl_core.specs.declared.error.Fail.{Fail}
@@ -23,6 +25,11 @@ reply_words (Answer words) = answered words.items
 reply_words (Word word) = answered (word ∷ [])
 reply_words (Short words) = answered (short_items words)
 reply_words (Refusal words) = refused words.items
+
+-- the words of what a call resolves to
+abbrev pub resolved_words : Resolved → ReplyWords
+resolved_words (resolved.Short words) = answered (short_items words)
+resolved_words (resolved.Other reply) = reply_words reply
 
 -- the reply has these words, unless memory runs out
 abbrev pub HasWords : ReplyWords → Result Reply Fault → Type 0

@@ -1,5 +1,6 @@
 -- Calls of WGSL's own overloads in codes: an operand, what is called, and the whole call.
-use Rattle.std.specs.Prelude.{ℕ, suc, zero, List, ◌∷◌, Bool, true, false, Option, Some, None}
+use Rattle.std.specs.Prelude.{ℕ, suc, zero, List, ◌∷◌, Bool, true, false, ◌||◌, Option, Some, None}
+use Rattle.wgsl_rules.specs.conversion.Concrete.{is_abstract}
 use Rattle.wgsl_rules.specs.standard.Choice.{Operand}
 use Rattle.wgsl_rules.specs.codes.Reading.{◌>>=◌, name_at}
 use Rattle.wgsl_rules.specs.codes.Decoding.{decode}
@@ -10,12 +11,12 @@ use Rattle.wgsl_asked.specs.Calls.{WgslCall}
 use Rattle.wgsl_asked.specs.Requests.{WgslRequest, resolution_of, explanation_of, overloads_of}
 use Rattle.wgsl_coded.specs.Requests.{whole}
 
--- a type, as the type of an operand that is a const-expression or isn't one
+-- the type of an operand, which is a const-expression if it is said to be one or the type is abstract
 abbrev pub operand_of : Bool → List ℕ → Option (Operand × List ℕ)
-operand_of is_constant ws =
-    decode 255 ws >>= λ t. Some (record { of_type = t.0; is_constant = is_constant }, t.1)
+operand_of said ws =
+    decode 255 ws >>= λ t. Some (record { of_type = t.0; is_constant = said || is_abstract t.0 }, t.1)
 
--- 0 or 1, whether the operand is a const-expression, and then its type
+-- 1 for a const-expression or else 0, and then the type
 abbrev pub operand_at : List ℕ → Option (Operand × List ℕ)
 operand_at (zero ∷ ws) = operand_of false ws
 operand_at (suc zero ∷ ws) = operand_of true ws

@@ -56,7 +56,7 @@ fn reply_with_candidate(alloc: Global, found: &Resolution<'_>) -> Result<Reply, 
 
 /// Adds the codes of a candidate's types; false if they aren't short.
 #[inline(always)]
-fn push_candidate(out: &mut ShortWords, found: &Resolution<'_>) -> bool
+fn push_candidate(out: &mut ShortWords<6>, found: &Resolution<'_>) -> bool
     ensures { IsTrue result
         → short_items out.new ≡ short_items out.old ++ candidate_words (resolution_view found.now) }
 {
@@ -67,7 +67,7 @@ fn push_candidate(out: &mut ShortWords, found: &Resolution<'_>) -> bool
 
 /// Adds the code of a type that isn't built yet; false if it isn't short.
 #[inline(always)]
-fn push_resolved(out: &mut ShortWords, ty: ResolvedType<'_>) -> bool
+pub(crate) fn push_resolved<const N: usize>(out: &mut ShortWords<N>, ty: ResolvedType<'_>) -> bool
     ensures { IsTrue result
         → short_items out.new ≡ short_items out.old ++ code (resolved_view ty.entry) }
 {
@@ -83,7 +83,7 @@ fn push_resolved(out: &mut ShortWords, ty: ResolvedType<'_>) -> bool
 }
 
 #[inline(always)]
-fn push_element(out: &mut ShortWords, element: Element<'_>) -> bool
+fn push_element<const N: usize>(out: &mut ShortWords<N>, element: Element<'_>) -> bool
     ensures { IsTrue result
         → short_items out.new ≡ short_items out.old ++ code (element_view element.entry) }
 {

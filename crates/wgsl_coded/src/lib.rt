@@ -34,6 +34,7 @@ pub use fast::short::ShortWords;
 pub use fault::Fault;
 pub use refusals::write_error;
 pub use reply::Reply;
+pub use resolved::Resolved;
 pub use signatures::write_signature;
 pub use spelling::{message, spell};
 pub use standard::{overloads, resolve, why};

@@ -1,5 +1,7 @@
 // Calls of WGSL's own overloads are read.
 ghost use Rattle.std.specs.Prelude.{◌≡◌, IfOk, map};
+ghost use Rattle.wgsl_rules.specs.conversion.Concrete.{is_abstract as abstract_there};
+ghost use Rattle.wgsl_core.specs.View.{view};
 ghost use Rattle.wgsl_standard.specs.Callees.{callee_view};
 ghost use Rattle.wgsl_asked.specs.StandardViews.{written_view};
 ghost use Rattle.wgsl_coded.specs.Reads.{Reads};
@@ -41,16 +43,19 @@ impl ReadOperand {
 
 /// An operand with the type that the words begin with, and the words after it.
 #[inline(always)]
-fn read_typed(
-    alloc: Global,
-    is_constant: bool,
-    words: &[u32],
-) -> Result<(ReadOperand, &[u32]), Fault>
-    ensures { Reads (λ x. (read_operand_view x.0, x.1.now)) result
-        (operand_of is_constant words.now) }
+fn read_typed(alloc: Global, said: bool, words: &[u32]) -> Result<(ReadOperand, &[u32]), Fault>
+    ensures { Reads (λ x. (read_operand_view x.0, x.1.now)) result (operand_of said words.now) }
 {
     let (ty, rest) = read_type(alloc, words, DEPTH)?;
+    let is_constant = said | is_abstract(&ty);
     Ok((ReadOperand { ty, is_constant }, rest))
+}
+
+#[inline(always)]
+fn is_abstract(ty: &Type) -> bool
+    ensures { result ≡ abstract_there (view ty.now) }
+{
+    ty.is_abstract()
 }
 
 /// An operand, and the words after it.

@@ -35,7 +35,7 @@ pub enum Reply {
     /// The answer, if it is one word.
     Word(u32),
     /// The answer, if it is short.
-    Short(ShortWords),
+    Short(ShortWords<6>),
     /// The code of the refusal; no words where there is nothing to say but no.
     Refusal(Vec<u32>),
 }

@@ -6,7 +6,7 @@ ghost use Rattle.wgsl_coded.specs.Overloaded.{read_call_view};
 ghost use Rattle.wgsl_coded.specs.Reads.{Reads};
 ghost use Rattle.wgsl_coded.specs.Replies.{IsOverloadsReply, IsReplyTo, IsResolveReply, IsWhyReply};
 ghost use Rattle.wgsl_coded.specs.Requests.{whole};
-ghost use Rattle.wgsl_coded.specs.Seen.{reply_words, seen};
+ghost use Rattle.wgsl_coded.specs.Seen.{reply_words, resolved_words, seen};
 
 use crate::fast::callees::read_plain_call;
 use crate::fast::resolved::{resolve_one, resolve_three, resolve_two};
@@ -15,14 +15,15 @@ use crate::names::read_name;
 use crate::overloaded::{ReadCall, borrowed_operands, read_standard_call};
 use crate::reply::{Reply, reply_to};
 use crate::requests::if_ended;
+use crate::resolved::Resolved;
 use std::alloc::Global;
 use wgsl_asked::requests::{Call, Request};
 
 /// The overload that a call has, the types of its parameters and its result; refused without words if none takes the
 /// operands. The request is the call. If it is plain, nothing is allocated for its name and for the list of its operands.
 #[inline(always)]
-pub fn resolve(alloc: Global, request: &[u32]) -> Result<Reply, Fault>
-    ensures { IsResolveReply request.now (seen reply_words result) }
+pub fn resolve(alloc: Global, request: &[u32]) -> Result<Resolved, Fault>
+    ensures { IsResolveReply request.now (seen resolved_words result) }
 {
     let Some((callee, count, words)) = read_plain_call(request) else {
         return resolve_any(alloc, request);
@@ -37,13 +38,13 @@ pub fn resolve(alloc: Global, request: &[u32]) -> Result<Reply, Fault>
 
 /// The reply to a call, with a template or without one, and any number of operands.
 #[inline(never)]
-fn resolve_any(alloc: Global, request: &[u32]) -> Result<Reply, Fault>
-    ensures { IsResolveReply request.now (seen reply_words result) }
+fn resolve_any(alloc: Global, request: &[u32]) -> Result<Resolved, Fault>
+    ensures { IsResolveReply request.now (seen resolved_words result) }
 {
     let call = read_standard_call(alloc, request)?;
     let reply = resolution(alloc, &call);
     drop(call);
-    reply
+    Ok(Resolved::Other(reply?))
 }
 
 fn resolution(alloc: Global, call: &ReadCall) -> Result<Reply, Fault>

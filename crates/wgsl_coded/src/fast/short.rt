@@ -12,38 +12,42 @@ use wgsl_syntax::around::Around;
 use wgsl_syntax::code::{Head, LeafType};
 use wgsl_syntax::scalar::Scalar;
 
-/// At most twelve words.
+/// At most N words.
 #[derive(Clone, Copy)]
-pub struct ShortWords {
-    words: [u32; 12],
+pub struct ShortWords<const N: usize> {
+    words: [u32; N],
     len: usize,
 }
 
-impl ShortWords {
+impl ShortWords<6> {
     ghost use Rattle.wgsl_coded.specs.Short.{short_items};
-
-    #[inline(always)]
-    pub(crate) fn new() -> ShortWords
-        ensures { short_items result ≡ [] }
-    {
-        ShortWords {
-            words: [0; 12],
-            len: 0,
-        }
-    }
 
     /// A size and an alignment.
     #[inline(always)]
-    pub(crate) fn of_size(size: Option<u32>, align: Option<u32>) -> ShortWords
+    pub(crate) fn of_size(size: Option<u32>, align: Option<u32>) -> ShortWords<6>
         ensures { short_items result ≡ attribute size ++ attribute align }
     {
         let (words, len) = match (size, align) {
-            (Some(size), Some(align)) => ([1, size, 1, align, 0, 0, 0, 0, 0, 0, 0, 0], 4),
-            (Some(size), None) => ([1, size, 0, 0, 0, 0, 0, 0, 0, 0, 0, 0], 3),
-            (None, Some(align)) => ([0, 1, align, 0, 0, 0, 0, 0, 0, 0, 0, 0], 3),
-            (None, None) => ([0; 12], 2),
+            (Some(size), Some(align)) => ([1, size, 1, align, 0, 0], 4),
+            (Some(size), None) => ([1, size, 0, 0, 0, 0], 3),
+            (None, Some(align)) => ([0, 1, align, 0, 0, 0], 3),
+            (None, None) => ([0; 6], 2),
         };
         ShortWords { words, len }
+    }
+}
+
+impl<const N: usize> ShortWords<N> {
+    ghost use Rattle.wgsl_coded.specs.Short.{short_items};
+
+    #[inline(always)]
+    pub(crate) fn new() -> ShortWords<N>
+        ensures { short_items result ≡ [] }
+    {
+        ShortWords {
+            words: [0; N],
+            len: 0,
+        }
     }
 
     /// The words.
@@ -51,7 +55,7 @@ impl ShortWords {
     pub fn as_slice(&self) -> &[u32]
         ensures { result.now ≡ short_items self.now }
     {
-        &self.words[..self.len.min(12)]
+        &self.words[..self.len.min(N)]
     }
 
     /// Adds a word; false if there is no room for it.
@@ -60,7 +64,7 @@ impl ShortWords {
         ensures { IsTrue result → short_items self.new ≡ short_items self.old ++ (word ∷ []) }
     {
         let len = self.len;
-        if len >= 12 {
+        if len >= N {
             return false;
         }
         self.words[len] = word;
@@ -118,7 +122,7 @@ impl ShortWords {
 
     /// The code of a scalar or of a vector of scalars.
     #[inline(always)]
-    pub(crate) fn of_type(ty: &Type) -> Option<ShortWords>
+    pub(crate) fn of_type(ty: &Type) -> Option<ShortWords<N>>
         ensures { IfSome result (λ words. short_items words ≡ code (view ty.now)) }
     {
         let mut words = ShortWords::new();
