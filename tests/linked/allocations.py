@@ -5,9 +5,9 @@ that `common` reads and the words of a refusal; a name, a list of one argument t
 none. In text each list takes one, and so does an answer that is one word or has at most 8 bytes. Other answers of at most 16
 bytes take two.
 
-By WGSL's own overloads a call in numbers builds the types of its parameters and of its result. Why there is none takes three
-if each overload takes the operands, and one more for a name. In text a call builds the type of its result, and takes three. The
-text of a vector grows once for each 8 bytes behind the first. To read a type from its spelling takes three, and two more for a
+By WGSL's own overloads the words of what a call in numbers resolves to take none. Why there is none takes three if each
+overload takes the operands, and one more for a name. In text a call builds the type of its result, and takes three. The text
+of a vector grows once for each 8 bytes behind the first. To read a type from its spelling takes three, and two more for a
 vector; it is spelled again, to compare the two."""
 from number_calls import CALLS
 from random_types import Random, words
@@ -122,9 +122,8 @@ def resolved(library, count):
             asked.append((in_hexadecimal("standard_resolve", given), read))
             continue
         found, text = Reader(reply).all(standard.read_resolution), library.text("standard_answer", request)
-        built = isinstance(found.result, Vector)
-        asked.append((in_hexadecimal("standard_resolve", given), read + vectors(found.parameters) + built))
-        told.append((f"standard_answer {request}", 3 + read + built + growth(text)))
+        asked.append((in_hexadecimal("standard_resolve", given), read))
+        told.append((f"standard_answer {request}", 3 + read + isinstance(found.result, Vector) + growth(text)))
     return asked, told
 
 
