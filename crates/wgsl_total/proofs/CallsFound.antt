@@ -1,5 +1,5 @@
 -- A call of WGSL's own overloads is found, or the words are none.
-use Rattle.std.proofs.Common.{◌≡◌, ◌<◌, ◌≤◌, ℕ, zero, suc, List, [], ◌∷◌, length, Option, Some, None, codes, refl, sym, ap, subst, inl, inr, arith, le_refl}
+use Rattle.std.proofs.Common.{◌≡◌, ◌<◌, ℕ, List, [], ◌∷◌, length, Option, Some, None, codes, refl, sym, ap, subst, inl, inr, arith}
 use native.Mathlib.Decide.{ℕ_discrete}
 use Rattle.wgsl_syntax.specs.Operator.{binary_operators, binary_text, unary_operators, unary_text}
 use Rattle.wgsl_syntax.proofs.Naming.{binary_naming, unary_naming}
@@ -15,7 +15,7 @@ use Rattle.wgsl_requests.specs.internal.Asked.{NamedAt}
 use Rattle.wgsl_requests.proofs.CallReads.{binary_head, binary_read, call_read, constant_read, ctor_read, no_binary, no_call, no_constant, no_ctor, no_head, no_head_no_call, no_operands_no_call, no_plain, no_unary, one_operand, one_operands, unary_head, unary_read}
 use Rattle.wgsl_requests.proofs.Meanings.{OneMeaning, one_word}
 use Rattle.wgsl_total.proofs.CalleesFound.{a_template}
-use Rattle.wgsl_total.proofs.Found.{Found, Means, a_word, and_then}
+use Rattle.wgsl_total.proofs.Found.{Found, IsListOf, ListForm, Means, a_word, all_of, and_then}
 use Rattle.wgsl_total.proofs.ListsFound.{a_type}
 use Rattle.wgsl_total.proofs.TypesFound.{type_shorter}
 use Rattle.wgsl_total.proofs.WordMeanings.{a_name, same_word}
@@ -43,38 +43,21 @@ an_operand (word ∷ words) = elim (same_word word (codes "const")) [
   ]
 ]
 
--- an operand and others, or nothing
-abbrev OperandsForm : List (List ℕ) → List Operand → Type 0
-OperandsForm words [] = words ≡ []
-OperandsForm words (x ∷ xs) = (rest : List (List ℕ)) × OperandAt words x rest × OperandsAt rest xs
+operands_listed : {words : List (List ℕ)} {xs : List Operand} → OperandsAt words xs → ListForm OperandAt OperandsAt words xs
+operands_listed no_operands_at = refl
+operands_listed (operand_at {words} {rest} d ds) = (rest, d, ds)
 
-operands_form : {words : List (List ℕ)} {xs : List Operand} → OperandsAt words xs → OperandsForm words xs
-operands_form no_operands_at = refl
-operands_form (operand_at {words} {rest} d ds) = (rest, d, ds)
-
-operands_up_to : (n : ℕ) (words : List (List ℕ)) → length words ≤ n → Means (OperandsAt words)
-operands_up_to n [] h = inl ([], no_operands_at)
-operands_up_to zero (word ∷ words) h = absurd (omega (arith, h))
-operands_up_to (suc n) (word ∷ words) h = elim (an_operand (word ∷ words)) [
-  | inr none ↦ inr (none_first none)
-  | inl x ↦ elim (operands_up_to n x.1 (omega (arith, h, operand_shorter x.2))) [
-    | inl xs ↦ inl (x.0 ∷ xs.0, operand_at x.2 xs.1)
-    | inr none ↦ inr (none_after x.0 x.1 x.2 none)
-  ]
-]
-  where
-    none_first : ((x : Operand) (rest : List (List ℕ)) → ¬ OperandAt (word ∷ words) x rest) → (xs : List Operand) → ¬ OperandsAt (word ∷ words) xs
-    none_first none [] d = let e : word ∷ words ≡ [] = operands_form d in cc e
-    none_first none (x ∷ xs) d = let f : OperandsForm (word ∷ words) (x ∷ xs) = operands_form d in none x f.0 f.1
-
-    none_after : (x : Operand) (rest : List (List ℕ)) → OperandAt (word ∷ words) x rest → ((xs : List Operand) → ¬ OperandsAt rest xs) → (xs : List Operand) → ¬ OperandsAt (word ∷ words) xs
-    none_after x rest at none [] d = let e : word ∷ words ≡ [] = operands_form d in cc e
-    none_after x rest at none (y ∷ ys) d =
-        let f : OperandsForm (word ∷ words) (y ∷ ys) = operands_form d in
-        none ys (subst (λ ws. OperandsAt ws ys) (one_operand (word ∷ words) y x f.0 rest f.1 at).1 f.2)
+a_list : IsListOf OperandAt OperandsAt
+a_list = record {
+  none = no_operands_at;
+  more = λ words rest x xs d ds. operand_at d ds;
+  form = λ words xs d. operands_listed d;
+  one = one_operand;
+  shorter = λ words rest x d. operand_shorter d;
+}
 
 some_operands : (words : List (List ℕ)) → Means (OperandsAt words)
-some_operands words = operands_up_to (length words) words (le_refl _)
+some_operands = all_of OperandAt OperandsAt a_list an_operand
 
 dec_arity : (arity : Option ℕ) (xs : List Operand) → Dec (HasArity arity xs)
 dec_arity None xs = yes tt

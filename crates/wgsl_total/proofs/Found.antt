@@ -1,5 +1,5 @@
 -- What stands at the front of words is found, or nothing stands there.
-use Rattle.std.proofs.Common.{◌≡◌, ◌⊎◌, ℕ, Bool, true, false, List, [], ◌∷◌, Option, Some, None, refl, sym, subst, inl, inr}
+use Rattle.std.proofs.Common.{◌≡◌, ◌⊎◌, ◌<◌, ◌≤◌, ℕ, zero, suc, Bool, true, false, List, [], ◌∷◌, length, Option, Some, None, refl, sym, subst, inl, inr, arith, le_refl}
 use Rattle.std.specs.Bool.{MatchBool}
 use Rattle.std.specs.Option.{MatchOption}
 use Rattle.wgsl_requests.specs.Reading.{Beginning, OneWord, Then}
@@ -55,3 +55,41 @@ from_bool false f g h = g h
 pub from_option : {A : Type 0} (o : Option A) {P R : Type 0} {Q : A → Type 0} → (P → R) → ((y : A) → o ≡ Some y → Q y → R) → MatchOption o P Q → R
 from_option None f g h = f h
 from_option (Some y) f g h = g y refl h
+
+-- a thing and others, or nothing
+abbrev pub ListForm : {A : Type 0} → Beginning A → (List (List ℕ) → List A → Type 0) → List (List ℕ) → List A → Type 0
+ListForm At Each words [] = words ≡ []
+ListForm At Each words (x ∷ xs) = (rest : List (List ℕ)) × At words x rest × Each rest xs
+
+-- things one after another, as what each is and what all of them are
+pub record IsListOf {A : Type 0} (At : Beginning A) (Each : List (List ℕ) → List A → Type 0) : Type 0 where
+  pub none : Each [] []
+  pub more : (words rest : List (List ℕ)) (x : A) (xs : List A) → At words x rest → Each rest xs → Each words (x ∷ xs)
+  pub form : (words : List (List ℕ)) (xs : List A) → Each words xs → ListForm At Each words xs
+  pub one : OneThing At
+  pub shorter : (words rest : List (List ℕ)) (x : A) → At words x rest → length rest < length words
+
+all_up_to : {A : Type 0} (At : Beginning A) (Each : List (List ℕ) → List A → Type 0) → IsListOf At Each → ((words : List (List ℕ)) → Found (At words)) → (n : ℕ) (words : List (List ℕ)) → length words ≤ n → Means (Each words)
+all_up_to At Each list find n [] h = inl ([], list.none)
+all_up_to At Each list find zero (word ∷ words) h = absurd (omega (arith, h))
+all_up_to {A} At Each list find (suc n) (word ∷ words) h = elim (find (word ∷ words)) [
+  | inr none ↦ inr (none_first none)
+  | inl x ↦ elim (all_up_to At Each list find n x.1 (omega (arith, h, list.shorter (word ∷ words) x.1 x.0 x.2))) [
+    | inl xs ↦ inl (x.0 ∷ xs.0, list.more (word ∷ words) x.1 x.0 xs.0 x.2 xs.1)
+    | inr none ↦ inr (none_after x.0 x.1 x.2 none)
+  ]
+]
+  where
+    none_first : ((x : A) (rest : List (List ℕ)) → ¬ At (word ∷ words) x rest) → (xs : List A) → ¬ Each (word ∷ words) xs
+    none_first none [] d = let e : word ∷ words ≡ [] = list.form (word ∷ words) [] d in cc e
+    none_first none (x ∷ xs) d = let f : ListForm At Each (word ∷ words) (x ∷ xs) = list.form (word ∷ words) (x ∷ xs) d in none x f.0 f.1
+
+    none_after : (x : A) (rest : List (List ℕ)) → At (word ∷ words) x rest → ((xs : List A) → ¬ Each rest xs) → (xs : List A) → ¬ Each (word ∷ words) xs
+    none_after x rest at none [] d = let e : word ∷ words ≡ [] = list.form (word ∷ words) [] d in cc e
+    none_after x rest at none (y ∷ ys) d =
+        let f : ListForm At Each (word ∷ words) (y ∷ ys) = list.form (word ∷ words) (y ∷ ys) d in
+        none ys (subst (λ ws. Each ws ys) (list.one (word ∷ words) y x f.0 rest f.1 at).1 f.2)
+
+-- all words are such things, or none are
+pub all_of : {A : Type 0} (At : Beginning A) (Each : List (List ℕ) → List A → Type 0) → IsListOf At Each → ((words : List (List ℕ)) → Found (At words)) → (words : List (List ℕ)) → Means (Each words)
+all_of At Each list find words = all_up_to At Each list find (length words) words (le_refl _)

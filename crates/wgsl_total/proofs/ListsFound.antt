@@ -15,8 +15,8 @@ use Rattle.wgsl_requests.proofs.Forms.{Form, form, one_layer}
 use Rattle.wgsl_requests.proofs.Meanings.{named_text}
 use Rattle.wgsl_requests.proofs.Members.{no_member_align, no_member_size, no_struct_count, one_member, struct_made, struct_members}
 use Rattle.wgsl_requests.proofs.Nested.{scalar_read}
-use Rattle.wgsl_requests.proofs.OneType.{MoreAt, TypesForm, members_form, one_type, types_form}
-use Rattle.wgsl_total.proofs.Found.{Found, Means, a_word, by_bool, by_option, from_bool, from_option, same_as}
+use Rattle.wgsl_requests.proofs.OneType.{MoreAt, members_form, one_type, types_form}
+use Rattle.wgsl_total.proofs.Found.{Found, IsListOf, ListForm, Means, a_word, all_of, by_bool, by_option, from_bool, from_option, same_as}
 use Rattle.wgsl_total.proofs.TypesFound.{a_layer, a_leaf, equal, layer_shorter, type_shorter}
 use Rattle.wgsl_total.proofs.WordMeanings.{a_long, an_attribute}
 
@@ -124,26 +124,18 @@ a_type words = types_up_to (length words) words (le_refl _)
 
 -- All words
 
-lists_up_to : (n : ℕ) (words : List (List ℕ)) → length words ≤ n → Means (TypesAt words)
-lists_up_to n [] h = inl ([], no_types_at)
-lists_up_to zero (word ∷ words) h = absurd (omega (arith, h))
-lists_up_to (suc n) (word ∷ words) h = elim (a_type (word ∷ words)) [
-  | inr none ↦ inr (none_first none)
-  | inl t ↦ elim (lists_up_to n t.1 (omega (arith, h, type_shorter t.2))) [
-    | inl ts ↦ inl (t.0 ∷ ts.0, type_at t.2 ts.1)
-    | inr none ↦ inr (none_after t.0 t.1 t.2 none)
-  ]
-]
-  where
-    none_first : ((t : WgslType) (rest : List (List ℕ)) → ¬ TypeAt (word ∷ words) t rest) → (ts : List WgslType) → ¬ TypesAt (word ∷ words) ts
-    none_first none [] d = let e : word ∷ words ≡ [] = types_form d in cc e
-    none_first none (t ∷ ts) d = let f : TypesForm (word ∷ words) (t ∷ ts) = types_form d in none t f.0 f.1
+types_listed : (words : List (List ℕ)) (ts : List WgslType) → TypesAt words ts → ListForm TypeAt TypesAt words ts
+types_listed words [] d = types_form d
+types_listed words (t ∷ ts) d = types_form d
 
-    none_after : (t : WgslType) (rest : List (List ℕ)) → TypeAt (word ∷ words) t rest → ((ts : List WgslType) → ¬ TypesAt rest ts) → (ts : List WgslType) → ¬ TypesAt (word ∷ words) ts
-    none_after t rest at none [] d = let e : word ∷ words ≡ [] = types_form d in cc e
-    none_after t rest at none (u ∷ us) d =
-        let f : TypesForm (word ∷ words) (u ∷ us) = types_form d in
-        none us (subst (λ ws. TypesAt ws us) (one_type f.1 t rest at).1 f.2)
+a_list : IsListOf TypeAt TypesAt
+a_list = record {
+  none = no_types_at;
+  more = λ words rest t ts d ds. type_at d ds;
+  form = types_listed;
+  one = λ words t u rest more d e. one_type d u more e;
+  shorter = λ words rest t d. type_shorter d;
+}
 
 pub some_types : (words : List (List ℕ)) → Means (TypesAt words)
-some_types words = lists_up_to (length words) words (le_refl _)
+some_types = all_of TypeAt TypesAt a_list a_type
