@@ -11,7 +11,7 @@ use Rattle.wgsl_rules.specs.codes.Reading.{◌>>=◌}
 use Rattle.wgsl_asked.specs.Answers.{Answers, WgslAnswer, candidate_is, call_is}
 use Rattle.wgsl_asked.specs.Requests.{candidate, call}
 use Rattle.wgsl_coded.specs.Least.{IsLeastAnswer}
-use Rattle.wgsl_coded.specs.Replies.{IsBinaryReply, IsCallReply, IsLeastReplyTo, IsReplyTo, ReplyWords}
+use Rattle.wgsl_coded.specs.Replies.{IsLeastReplyTo, IsReplyTo, ReplyWords}
 use Rattle.wgsl_coded.specs.Requests.{binary_expression, binary_request, call_request, call_signature}
 use Rattle.wgsl_coded.specs.declared.fault.Fault.{Fault}
 
@@ -33,7 +33,7 @@ least_candidate (candidate_is {o} {t} {u} r h) = is_chosen o t u r h
 least_call : {c : Signature} {a : WgslAnswer} → Answers (call c) a → IsLeastAnswer (call c) a
 least_call (call_is {c} r h) = call_is_least c r h
 
-pub binary_reply : (ws : List ℕ) (r : Result ReplyWords Fault) → IsBinaryReply ws r → IsLeastReplyTo (binary_request ws) r
+pub binary_reply : (ws : List ℕ) (r : Result ReplyWords Fault) → IsReplyTo (binary_request ws) r → IsLeastReplyTo (binary_request ws) r
 binary_reply ws r h = at (binary_expression ws) r h
   where
     at : (e : Option (BinaryOperator × WgslType × WgslType)) (r : Result ReplyWords Fault) → IsReplyTo (e >>= λ e. Some (candidate e.0 e.1 e.2)) r →
@@ -42,7 +42,7 @@ binary_reply ws r h = at (binary_expression ws) r h
     at None (Ok reply) h = absurd h
     at e (Err fault) h = h
 
-pub call_reply : (ws : List ℕ) (r : Result ReplyWords Fault) → IsCallReply ws r → IsLeastReplyTo (call_request ws) r
+pub call_reply : (ws : List ℕ) (r : Result ReplyWords Fault) → IsReplyTo (call_request ws) r → IsLeastReplyTo (call_request ws) r
 call_reply ws r h = at (call_signature ws) r h
   where
     at : (c : Option Signature) (r : Result ReplyWords Fault) → IsReplyTo (c >>= λ c. Some (call c)) r → IsLeastReplyTo (c >>= λ c. Some (call c)) r

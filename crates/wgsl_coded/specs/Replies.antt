@@ -114,19 +114,18 @@ IsCommonReply ws = IsReplyTo (common_request ws)
 abbrev pub IsUnaryReply : List ℕ → Result ReplyWords Fault → Type 0
 IsUnaryReply ws = IsReplyTo (unary_request ws)
 
--- The request is a binary operator and two types. The answer is the candidate that is chosen; for value types it is the
--- least one, by the law `binary_reply_is_least`.
+-- The request is a binary operator and two types. The answer is the candidate that is chosen, for value types the least one.
 abbrev pub IsBinaryReply : List ℕ → Result ReplyWords Fault → Type 0
-IsBinaryReply ws = IsReplyTo (binary_request ws)
+IsBinaryReply ws = IsLeastReplyTo (binary_request ws)
 
 -- The request is the signature of a constructor's call. The answer is the type that it makes.
 abbrev pub IsConstructorReply : List ℕ → Result ReplyWords Fault → Type 0
 IsConstructorReply ws = IsReplyTo (constructor_request ws)
 
--- The request is the signature of a built-in function's call. The answer is the type of the call; for value types it is
--- that of the least candidate, by the law `call_reply_is_least`.
+-- The request is the signature of a built-in function's call. The answer is the type of the call, for value types that of the
+-- least candidate.
 abbrev pub IsCallReply : List ℕ → Result ReplyWords Fault → Type 0
-IsCallReply ws = IsReplyTo (call_request ws)
+IsCallReply ws = IsLeastReplyTo (call_request ws)
 
 -- The request is a call of WGSL's own overloads. The answer is what it resolves to.
 abbrev pub IsResolveReply : List ℕ → Result ReplyWords Fault → Type 0

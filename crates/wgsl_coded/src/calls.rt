@@ -64,6 +64,7 @@ pub fn unary(alloc: Global, request: &[u32]) -> Result<Reply, Fault>
 /// The type of a binary expression with those that its operands convert to, or its refusal. The request is the operator
 /// and the types of the operands.
 #[inline(always)]
+#[tactic(auto, using(crate::proofs::Least::binary_reply))]
 pub fn binary(alloc: Global, request: &[u32]) -> Result<Reply, Fault>
     ensures { IsBinaryReply request.now (seen reply_words result) }
 {
@@ -121,6 +122,7 @@ pub fn constructor(alloc: Global, request: &[u32]) -> Result<Reply, Fault>
 
 /// The type of the call of a built-in function, no words if it returns no value, or its refusal. The request is the
 /// signature of the call.
+#[tactic(auto, using(crate::proofs::Least::call_reply))]
 pub fn call(alloc: Global, request: &[u32]) -> Result<Reply, Fault>
     ensures { IsCallReply request.now (seen reply_words result) }
 {

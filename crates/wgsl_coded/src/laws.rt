@@ -9,7 +9,7 @@ ghost use Rattle.wgsl_rules.specs.codes.DecodingRefusals.{refusal_at};
 ghost use Rattle.wgsl_rules.specs.codes.DecodingSignatures.{signature_at, types_at};
 ghost use Rattle.wgsl_rules.specs.codes.Refusals.{refusal_code, RefusalHasCode};
 ghost use Rattle.wgsl_rules.specs.codes.Signatures.{list_code, ListHasCode, signature_code, SignatureHasCode};
-ghost use Rattle.wgsl_coded.specs.Replies.{IsBinaryReply, IsCallReply, IsLeastReplyTo, ReplyWords};
+ghost use Rattle.wgsl_coded.specs.Replies.{IsLeastReplyTo, IsReplyTo, ReplyWords};
 ghost use Rattle.wgsl_coded.specs.Requests.{binary_request, call_request};
 ghost use Rattle.wgsl_coded.specs.declared.fault.Fault.{Fault};
 
@@ -82,13 +82,13 @@ pub fn refusal_prefix_code()
 /// The reply to a binary expression of value types is the least candidate, and a refusal exactly if no candidate takes the
 /// operands.
 pub fn binary_reply_is_least()
-    ensures { (words : List ℕ) (reply : Result ReplyWords Fault) → IsBinaryReply words reply
-        → IsLeastReplyTo (binary_request words) reply }
+    ensures { (words : List ℕ) (reply : Result ReplyWords Fault)
+        → IsReplyTo (binary_request words) reply → IsLeastReplyTo (binary_request words) reply }
 {}
 
 /// The reply to a call of a function with candidates, on value types and without a template, is the result of the least
 /// candidate, and a refusal exactly if no candidate takes the arguments, but for the calls that the table refuses.
 pub fn call_reply_is_least()
-    ensures { (words : List ℕ) (reply : Result ReplyWords Fault) → IsCallReply words reply
-        → IsLeastReplyTo (call_request words) reply }
+    ensures { (words : List ℕ) (reply : Result ReplyWords Fault)
+        → IsReplyTo (call_request words) reply → IsLeastReplyTo (call_request words) reply }
 {}

@@ -60,7 +60,7 @@ module _ (rules : RuleSet) where
       none_gathered = none;
     }
 
-    -- memory was refused in the block, and the answers before are written
+    -- out of memory in the block, and the answers before are written
     pub block_stops : (block : List ℕ) → StopsAfter rules Memory (bytes ++ block) (at.text ++ string_bytes mid.answers) → Appends before now (string_bytes mid.answers)
         → (more : List ℕ) → HasStopped rules ((bytes ++ block) ++ more) start now Memory
     block_stops block stops written = λ more. record {
@@ -100,7 +100,7 @@ module _ (rules : RuleSet) where
         subst (λ t. PrintsUntil rules Memory bytes (at.text ++ t)) (sym same)
         (subst (λ b. PrintsUntil rules Memory b (at.text ++ string_bytes old.answers)) (append-nil bytes) (taken_so_far rules bytes at.text old at.taken []))
 
-    -- memory was refused in the last line
+    -- out of memory in the last line
     pub last_stops : string_bytes mid.answers ≡ string_bytes old.answers → Appends before now (string_bytes mid.answers) → HasStopped rules bytes start now Memory
     last_stops same written = record {
       text = at.text ++ string_bytes mid.answers;

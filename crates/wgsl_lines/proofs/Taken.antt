@@ -168,7 +168,7 @@ module _ (rules : RuleSet) where
         subst (λ b. HasTaken rules b before mid) whole
         (taken_more (bytes ++ part.part) before rest old mid part.taken all e.kept e.number e.answers e.all_readable)
 
-    -- memory is refused in the rest of the block
+    -- out of memory in the rest of the block
     pub part_stops : (new : Session) → string_bytes new.answers ≡ string_bytes old.answers → StopsAfter rules Memory (bytes ++ block) (before ++ string_bytes new.answers)
     part_stops new same =
         subst (λ b. StopsAfter rules Memory b (before ++ string_bytes new.answers)) whole

@@ -56,9 +56,9 @@ pub record PrintsUpTo (rules : RuleSet) (input : List ℕ) (others : List (List 
   pub readable : Bool
   pub prints : PrintsLines rules first text readable
 
--- What a run has printed when it stops. If a read failed or memory was refused, it is the text of the
--- first lines, whole, and another line follows them. If a write failed, it is a beginning of the text
--- of the first lines, or of all, which isn't empty.
+-- What a run has printed when it stops. If a read failed or it was out of memory, it is the text of
+-- the first lines, whole, and another line follows them. If a write failed, it is a beginning of the
+-- text of the first lines, or of all, which isn't empty.
 abbrev pub PrintsUntil : RuleSet → RunError → List ℕ → List ℕ → Type 0
 PrintsUntil rules Read input text = (others : List (List ℕ)) × PrintsUpTo rules input others text × (others ≢ [])
 PrintsUntil rules Memory input text = (others : List (List ℕ)) × PrintsUpTo rules input others text × (others ≢ [])

@@ -171,7 +171,7 @@ impl Session {
     fn take(&mut self, rules: RuleSet, block: &[u8]) -> Result<(), AllocError>
         ensures taken { (bytes before : List ℕ) → HasTaken rules bytes before self.old
             → OnOk result (HasTaken rules (bytes ++ block.now) before self.new) }
-        // Also if memory is refused.
+        // Also where it runs out of memory.
         ensures so_far { (bytes before : List ℕ) → HasTaken rules bytes before self.old
             → StopsAfter rules RunError.Memory (bytes ++ block.now)
             (before ++ string_bytes self.new.answers) }

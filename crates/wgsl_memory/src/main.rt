@@ -1,6 +1,6 @@
-// The program: it makes each public call that is handed an allocator twice, on the same arguments, and prints what it
-// answers. If one request for memory is refused, the call that made it reports out of memory. The same call, made the
-// other time, answers as without fault, and so do all others.
+// The program: it makes each public call that takes an allocator twice, on the same arguments, and prints what it answers.
+// If one allocation fails, the call that made it reports out of memory. The same call, made the other time, answers as
+// without fault, and so do all others.
 #![tactic(auto)]
 
 mod arguments;

@@ -13,7 +13,7 @@ use crate::resolve::{must_be_concrete, settle};
 use crate::written::parameter_count;
 use wgsl_syntax::overload::Overload;
 
-/// The index of the first operand so that no overload takes the operands up to it as its first ones; None if there is none.
+/// The index of the first operand that no overload takes behind the operands before it; None if there is no such operand.
 #[tactic(auto, using(crate::proofs::FirstParameters::none_refused_seen))]
 pub fn refused_at(overloads: &[Overload], operands: &[Operand]) -> Option<usize>
     ensures { IsRefusedAt overloads.now (operands_view operands.now) result }

@@ -58,6 +58,8 @@ impl fmt::Display for AddressSpace {
 
     ghost output = { λ x. Some (space_text x) };
 
+    ghost styled_output = { λ x _. Some (space_text x) };
+
     fn fmt<W: Write>(&self, f: &mut fmt::Formatter<W>) -> fmt::Result {
         f.write_str(match self {
             AddressSpace::Function => "function",
@@ -139,6 +141,8 @@ impl fmt::Display for AccessMode {
     ghost use Rattle.std.specs.Prelude.{Some};
 
     ghost output = { λ x. Some (access_text x) };
+
+    ghost styled_output = { λ x _. Some (access_text x) };
 
     fn fmt<W: Write>(&self, f: &mut fmt::Formatter<W>) -> fmt::Result {
         f.write_str(match self {

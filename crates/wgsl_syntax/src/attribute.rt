@@ -37,6 +37,8 @@ impl fmt::Display for BuiltinValue {
 
     ghost output = { λ x. Some (builtin_text x) };
 
+    ghost styled_output = { λ x _. Some (builtin_text x) };
+
     fn fmt<W: Write>(&self, f: &mut fmt::Formatter<W>) -> fmt::Result {
         f.write_str(match self {
             BuiltinValue::VertexIndex => "vertex_index",
@@ -113,6 +115,8 @@ impl fmt::Display for DiagnosticSeverity {
 
     ghost output = { λ x. Some (severity_text x) };
 
+    ghost styled_output = { λ x _. Some (severity_text x) };
+
     fn fmt<W: Write>(&self, f: &mut fmt::Formatter<W>) -> fmt::Result {
         f.write_str(match self {
             DiagnosticSeverity::Error => "error",
@@ -158,6 +162,8 @@ impl fmt::Display for InterpolationType {
 
     ghost output = { λ x. Some (interpolation_text x) };
 
+    ghost styled_output = { λ x _. Some (interpolation_text x) };
+
     fn fmt<W: Write>(&self, f: &mut fmt::Formatter<W>) -> fmt::Result {
         f.write_str(match self {
             InterpolationType::Perspective => "perspective",
@@ -202,6 +208,8 @@ impl fmt::Display for InterpolationSampling {
     ghost use Rattle.std.specs.Prelude.{Some};
 
     ghost output = { λ x. Some (sampling_text x) };
+
+    ghost styled_output = { λ x _. Some (sampling_text x) };
 
     fn fmt<W: Write>(&self, f: &mut fmt::Formatter<W>) -> fmt::Result {
         f.write_str(match self {
@@ -249,6 +257,8 @@ impl fmt::Display for ConservativeDepth {
     ghost use Rattle.std.specs.Prelude.{Some};
 
     ghost output = { λ x. Some (depth_text x) };
+
+    ghost styled_output = { λ x _. Some (depth_text x) };
 
     fn fmt<W: Write>(&self, f: &mut fmt::Formatter<W>) -> fmt::Result {
         f.write_str(match self {
@@ -302,6 +312,8 @@ impl fmt::Display for AccelerationStructureFlags {
     ghost use Rattle.std.specs.Prelude.{Some};
 
     ghost output = { λ x. Some (flag_text x) };
+
+    ghost styled_output = { λ x _. Some (flag_text x) };
 
     fn fmt<W: Write>(&self, f: &mut fmt::Formatter<W>) -> fmt::Result {
         f.write_str(match self {

@@ -41,6 +41,8 @@ impl fmt::Display for UnaryOperator {
 
     ghost output = { λ x. Some (unary_text x) };
 
+    ghost styled_output = { λ x _. Some (unary_text x) };
+
     fn fmt<W: Write>(&self, f: &mut fmt::Formatter<W>) -> fmt::Result {
         f.write_str(match self {
             UnaryOperator::LogicalNegation => "!",
@@ -134,6 +136,8 @@ impl fmt::Display for BinaryOperator {
 
     ghost output = { λ x. Some (binary_text x) };
 
+    ghost styled_output = { λ x _. Some (binary_text x) };
+
     fn fmt<W: Write>(&self, f: &mut fmt::Formatter<W>) -> fmt::Result {
         f.write_str(match self {
             BinaryOperator::ShortCircuitOr => "||",
@@ -215,6 +219,8 @@ impl fmt::Display for AssignmentOperator {
     ghost use Rattle.wgsl_syntax.specs.Operator.{assignment_text};
 
     ghost output = { λ x. Some (assignment_text x) };
+
+    ghost styled_output = { λ x _. Some (assignment_text x) };
 
     fn fmt<W: Write>(&self, f: &mut fmt::Formatter<W>) -> fmt::Result {
         f.write_str(match self {

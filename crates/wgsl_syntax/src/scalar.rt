@@ -29,6 +29,8 @@ impl fmt::Display for Scalar {
 
     ghost output = { λ x. Some (scalar_text x) };
 
+    ghost styled_output = { λ x _. Some (scalar_text x) };
+
     fn fmt<W: Write>(&self, f: &mut fmt::Formatter<W>) -> fmt::Result {
         f.write_str(match self {
             Scalar::Bool => "bool",

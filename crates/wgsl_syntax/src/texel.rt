@@ -212,6 +212,8 @@ impl fmt::Display for TexelFormat {
 
     ghost output = { λ x. Some (texel_text x) };
 
+    ghost styled_output = { λ x _. Some (texel_text x) };
+
     fn fmt<W: Write>(&self, f: &mut fmt::Formatter<W>) -> fmt::Result {
         f.write_str(match self {
             TexelFormat::Rgba8Unorm => "rgba8unorm",

@@ -38,6 +38,8 @@ impl fmt::Display for SampledType {
 
     ghost output = { λ x. Some (sampled_text x) };
 
+    ghost styled_output = { λ x _. Some (sampled_text x) };
+
     fn fmt<W: Write>(&self, f: &mut fmt::Formatter<W>) -> fmt::Result {
         f.write_str(match self {
             SampledType::I32 => "i32",
@@ -91,6 +93,8 @@ impl fmt::Display for SamplerType {
     ghost use Rattle.std.specs.Prelude.{Some};
 
     ghost output = { λ x. Some (sampler_text x) };
+
+    ghost styled_output = { λ x _. Some (sampler_text x) };
 
     fn fmt<W: Write>(&self, f: &mut fmt::Formatter<W>) -> fmt::Result {
         f.write_str(match self {

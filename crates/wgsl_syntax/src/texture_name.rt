@@ -152,6 +152,8 @@ impl fmt::Display for TextureName {
 
     ghost output = { λ x. Some (texture_name_text x) };
 
+    ghost styled_output = { λ x _. Some (texture_name_text x) };
+
     fn fmt<W: Write>(&self, f: &mut fmt::Formatter<W>) -> fmt::Result {
         f.write_str(match self {
             TextureName::Sampled1D => "texture_1d",

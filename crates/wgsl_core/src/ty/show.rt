@@ -4,11 +4,16 @@ use std::fmt;
 use std::fmt::Write;
 
 impl fmt::Display for Type {
-    ghost use Rattle.std.specs.Prelude.{Some};
+    ghost use Rattle.std.specs.Prelude.{Some, option_map};
+    ghost use Rattle.wgsl_syntax.specs.Scalar.{scalar_text};
     ghost use Rattle.wgsl_rules.specs.types.Spelling.{spelling};
+    ghost use Rattle.wgsl_core.specs.Forms.{scalar_of};
     ghost use Rattle.wgsl_core.specs.View.{view};
 
     ghost output = { λ t. Some (spelling (view t)) };
+
+    // Of a scalar: the same text, whatever the width.
+    ghost styled_output = { λ t _. option_map scalar_text (scalar_of (view t)) };
 
     fn fmt<W: Write>(&self, f: &mut fmt::Formatter<W>) -> fmt::Result {
         match self {
