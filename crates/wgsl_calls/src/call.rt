@@ -21,7 +21,6 @@ ghost use Rattle.wgsl_rules.specs.Laws.{OneChoice};
 
 mod find;
 mod fit;
-mod hint;
 mod rows;
 pub(crate) mod shape;
 mod source;

@@ -1,4 +1,5 @@
 pub mod SortedNames
+pub mod FoundNames
 pub mod UnlistedNames
 pub mod NamedRows
 pub mod Fractions

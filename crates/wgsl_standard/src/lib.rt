@@ -10,7 +10,6 @@ pub mod explanation;
 pub mod fitting;
 pub mod functions;
 pub mod gathering;
-mod hint;
 pub mod instance;
 pub mod letter;
 pub mod memory;

@@ -4,13 +4,13 @@ ghost use Rattle.wgsl_rules.specs.calls.Names.{IsRising};
 ghost use Rattle.wgsl_rules.specs.standard.Names.{function_table, template_function_table, names_of, overloads_named};
 ghost use Rattle.wgsl_rules.specs.standard.ConstructorNames.{constructor_table, template_constructor_table};
 ghost use Rattle.wgsl_rules.specs.standard.Tables.{IsUnambiguous};
+ghost use Rattle.wgsl_syntax.specs.Hash.{FindsAll};
 ghost use Rattle.wgsl_standard.specs.internal.Sets.{function_row, constructor_row, template_row};
 
 use crate::constructors::{ConstructorSet, constructor_overloads};
 use crate::functions::{FunctionSet, function_overloads};
-use crate::hint::hint;
 use crate::templates::{BITCAST, TemplateSet, template_overloads};
-use std::cmp::Ordering;
+use wgsl_syntax::hash::Places;
 use wgsl_syntax::overload::Overload;
 
 /// The overloads of a built-in function, if the name is one.
@@ -19,43 +19,20 @@ pub fn function_named(name: &str) -> Option<&'static [Overload]>
     ensures row { option_map (λ o. o.now) result ≡ overloads_named name.now function_table }
     ensures unambiguous { IfSome result (λ o. IsUnambiguous o.now) }
 {
-    let functions = functions();
-    match hinted_function(name, functions) {
-        Some(overloads) => Some(overloads),
-        None => find_function(name, functions),
-    }
+    find_function(name, functions())
 }
 
-/// The overloads at the index that is hinted, if the name stands there.
-fn hinted_function(name: &str, functions: &[(&str, FunctionSet)]) -> Option<&'static [Overload]>
-    requires { IsRising (names_of (map function_row functions.now)) }
-    ensures { IfSome result (λ o. Some o.now ≡ overloads_named name.now (map function_row functions.now)) }
+/// The overloads at the index that the hash gives: no other name has it.
+fn find_function(name: &str, functions: &[(&str, FunctionSet)]) -> Option<&'static [Overload]>
+    requires { map function_row functions.now ≡ function_table }
+    ensures { option_map (λ o. o.now) result ≡ overloads_named name.now function_table }
 {
-    let index = hint(name);
+    let index = places().index_of(name);
     if index < functions.len() && functions[index].0 == name {
         Some(function_overloads(functions[index].1))
     } else {
         None
     }
-}
-
-/// Binary search among the names.
-#[inline(never)]
-fn find_function(name: &str, functions: &[(&str, FunctionSet)]) -> Option<&'static [Overload]>
-    requires { IsRising (names_of (map function_row functions.now)) }
-    ensures { option_map (λ o. o.now) result ≡ overloads_named name.now (map function_row functions.now) }
-{
-    let mut low = 0;
-    let mut high = functions.len();
-    while low < high {
-        let middle = low + (high - low) / 2;
-        match name.cmp(functions[middle].0) {
-            Ordering::Equal => return Some(function_overloads(functions[middle].1)),
-            Ordering::Less => high = middle,
-            Ordering::Greater => low = middle + 1,
-        }
-    }
-    None
 }
 
 /// The overloads of a constructor without a template, if the name is one.
@@ -132,21 +109,28 @@ pub fn functions() -> &'static [(&'static str, FunctionSet)]
 fn function_list() -> &'static [(&'static str, FunctionSet)]
     ensures { map function_row result.now ≡ function_table }
 {
-    &FUNCTIONS
+    FUNCTIONS
+}
+
+/// Where the name of each stands among them.
+fn places() -> &'static Places
+    ensures { FindsAll result.now (names_of function_table) }
+{
+    &PLACES
 }
 
 /// The constructors without a template, sorted by the bytes of their names.
 pub fn constructors() -> &'static [(&'static str, ConstructorSet)]
     ensures { map constructor_row result.now ≡ constructor_table }
 {
-    &CONSTRUCTORS
+    CONSTRUCTORS
 }
 
 /// The constructors with a template, sorted by the bytes of their names.
 pub fn templates() -> &'static [(&'static str, TemplateSet)]
     ensures { map template_row result.now ≡ template_constructor_table }
 {
-    &TEMPLATES
+    TEMPLATES
 }
 
 /// The names of each table are sorted by their bytes, and distinct.
@@ -156,7 +140,7 @@ pub fn names_sorted()
     ensures templates { IsRising (names_of template_constructor_table) }
 {}
 
-static FUNCTIONS: [(&str, FunctionSet); 145] = [
+static FUNCTIONS: &[(&str, FunctionSet)] = &[
     ("abs", FunctionSet::NumberFunction),
     ("acos", FunctionSet::FloatFunction),
     ("acosh", FunctionSet::FloatFunction),
@@ -310,7 +294,7 @@ static FUNCTIONS: [(&str, FunctionSet); 145] = [
     ("workgroupUniformLoad", FunctionSet::UniformLoad),
 ];
 
-static CONSTRUCTORS: [(&str, ConstructorSet); 20] = [
+static CONSTRUCTORS: &[(&str, ConstructorSet)] = &[
     ("bool", ConstructorSet::BoolConversion),
     ("f16", ConstructorSet::F16Conversion),
     ("f32", ConstructorSet::F32Conversion),
@@ -333,7 +317,7 @@ static CONSTRUCTORS: [(&str, ConstructorSet); 20] = [
     ("vec4", ConstructorSet::Vec4Constructor),
 ];
 
-static TEMPLATES: [(&str, TemplateSet); 12] = [
+static TEMPLATES: &[(&str, TemplateSet)] = &[
     ("mat2x2", TemplateSet::Mat2x2Of),
     ("mat2x3", TemplateSet::Mat2x3Of),
     ("mat2x4", TemplateSet::Mat2x4Of),
@@ -347,3 +331,23 @@ static TEMPLATES: [(&str, TemplateSet); 12] = [
     ("vec3", TemplateSet::Vec3Of),
     ("vec4", TemplateSet::Vec4Of),
 ];
+
+static PLACES: Places = Places {
+    seeds: [
+        9, 2, 3, 9, 2, 5, 1, 5, 1, 7, 2, 1, 3, 1, 6, 1, 1, 6, 11, 1, 8, 8, 1, 6, 23, 3, 16, 1, 27,
+        3, 19, 4,
+    ],
+    indices: [
+        106, 23, 0, 81, 76, 27, 0, 0, 0, 0, 87, 127, 0, 99, 37, 0, 0, 2, 0, 0, 64, 0, 95, 105, 0,
+        0, 0, 115, 0, 123, 56, 40, 0, 0, 111, 0, 132, 58, 0, 0, 39, 30, 0, 0, 70, 0, 0, 14, 0, 120,
+        0, 109, 117, 0, 13, 0, 0, 0, 0, 121, 0, 0, 0, 49, 0, 0, 72, 98, 0, 66, 4, 0, 42, 139, 3, 7,
+        140, 0, 92, 0, 51, 0, 0, 104, 22, 116, 0, 130, 74, 73, 68, 47, 136, 113, 86, 0, 36, 0, 107,
+        141, 0, 75, 52, 122, 8, 128, 118, 59, 0, 0, 0, 0, 0, 0, 10, 0, 0, 9, 43, 12, 77, 0, 0, 131,
+        0, 41, 44, 11, 0, 33, 38, 19, 0, 0, 0, 24, 0, 88, 101, 0, 84, 135, 108, 48, 28, 0, 0, 0,
+        29, 60, 0, 0, 0, 69, 62, 67, 143, 26, 125, 0, 0, 0, 5, 133, 0, 119, 0, 103, 0, 0, 0, 93, 0,
+        142, 0, 20, 91, 0, 85, 21, 0, 18, 0, 0, 53, 0, 0, 0, 0, 144, 96, 65, 79, 31, 25, 100, 34,
+        0, 15, 54, 126, 0, 0, 35, 0, 82, 94, 32, 0, 102, 0, 89, 16, 0, 50, 63, 0, 45, 0, 0, 55, 0,
+        80, 71, 61, 97, 83, 138, 0, 0, 1, 0, 124, 134, 0, 0, 0, 0, 90, 17, 46, 0, 114, 137, 0, 129,
+        6, 0, 0, 110, 57, 0, 0, 78, 0, 112,
+    ],
+};

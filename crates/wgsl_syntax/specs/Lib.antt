@@ -2,6 +2,7 @@ pub mod Address
 pub mod Around
 pub mod Attribute
 pub mod Enumerant
+pub mod Hash
 pub mod Names
 pub mod Operator
 pub mod ResultStruct

@@ -7,6 +7,7 @@ pub mod attribute;
 pub mod call;
 pub mod code;
 pub mod enumerant;
+pub mod hash;
 pub mod index;
 pub mod layer;
 pub mod names;

@@ -3,6 +3,7 @@ ghost use Rattle.std.specs.Prelude.{◌≡◌, map, length};
 ghost use Rattle.wgsl_rules.specs.calls.Names.{call_names};
 ghost use Rattle.wgsl_rules.specs.calls.Table.{call_table, rows_named};
 ghost use Rattle.wgsl_calls.specs.internal.Rows.{rows_view};
+ghost use Rattle.wgsl_syntax.specs.Hash.{FindsAll};
 
 use crate::call::rows::Rows::{Either, Only};
 use crate::call::rows::{
@@ -34,6 +35,7 @@ use wgsl_syntax::call::TextureKind::{
     AnyTexture, Arrayed, Depth, DepthOrMultisampledDepth, Multisampled, Sampled,
     Sampled2dOrExternal, SampledOrDepth, Storage,
 };
+use wgsl_syntax::hash::Places;
 use wgsl_syntax::result_struct::ResultFunction::{Frexp, Modf};
 use wgsl_syntax::scalar::Scalar::{Bool, F32, I32, U32};
 
@@ -42,12 +44,19 @@ pub fn built_ins() -> &'static [(&'static str, Rows)]
     ensures names { map (λ b. (b.0).now) result.now ≡ call_names }
     ensures rows { map (λ b. rows_view b.1) result.now
         ≡ map (λ n. rows_named n call_table) call_names }
-    ensures many { length result.now ≡ 155 }
+    ensures many { length result.now ≡ length call_names }
 {
-    &BUILT_INS
+    BUILT_INS
 }
 
-static BUILT_INS: [(&str, Rows); 155] = [
+/// Where each name stands among them.
+pub fn places() -> &'static Places
+    ensures { FindsAll result.now call_names }
+{
+    &PLACES
+}
+
+static BUILT_INS: &[(&str, Rows)] = &[
     (
         "abs",
         Only(Takes(One(ScalarOrVectorOf(Number)), Of(Argument))),
@@ -352,3 +361,23 @@ static BUILT_INS: [(&str, Rows); 155] = [
         Only(Takes(One(PointerInWorkgroup), Of(Inner))),
     ),
 ];
+
+static PLACES: Places = Places {
+    seeds: [
+        9, 4, 4, 9, 2, 5, 1, 5, 3, 7, 2, 2, 3, 8, 12, 1, 6, 7, 6, 8, 8, 1, 19, 1, 6, 7, 19, 1, 29,
+        15, 19, 4,
+    ],
+    indices: [
+        0, 24, 0, 0, 79, 0, 82, 10, 89, 100, 97, 137, 80, 0, 32, 56, 0, 2, 0, 0, 0, 0, 140, 115, 0,
+        151, 0, 125, 0, 133, 59, 41, 0, 0, 0, 0, 27, 0, 0, 0, 0, 0, 0, 131, 73, 0, 85, 14, 86, 0,
+        0, 119, 0, 134, 149, 0, 0, 88, 132, 0, 0, 81, 107, 50, 0, 40, 75, 84, 0, 69, 4, 0, 43, 0,
+        3, 7, 19, 0, 0, 0, 52, 0, 0, 114, 23, 126, 0, 0, 120, 0, 71, 0, 0, 123, 0, 0, 37, 101, 117,
+        0, 0, 78, 53, 0, 8, 0, 128, 0, 0, 13, 0, 0, 76, 0, 0, 0, 0, 112, 44, 12, 22, 0, 33, 0, 0,
+        42, 150, 11, 28, 34, 39, 87, 62, 66, 108, 121, 1, 98, 111, 0, 94, 145, 0, 49, 29, 136, 103,
+        0, 30, 63, 138, 36, 0, 72, 65, 70, 153, 0, 135, 102, 116, 90, 5, 143, 0, 129, 0, 113, 46,
+        106, 0, 130, 0, 152, 0, 20, 35, 83, 95, 21, 142, 0, 0, 48, 54, 146, 0, 58, 0, 154, 0, 68,
+        9, 109, 26, 110, 0, 0, 15, 77, 105, 25, 0, 0, 38, 92, 104, 6, 0, 31, 0, 99, 16, 0, 51, 18,
+        0, 17, 0, 0, 61, 57, 141, 74, 64, 55, 93, 148, 0, 124, 127, 0, 0, 144, 0, 0, 0, 0, 96, 67,
+        0, 0, 0, 147, 0, 139, 0, 91, 0, 0, 60, 118, 0, 45, 47, 122,
+    ],
+};

@@ -1,38 +1,22 @@
-use Rattle.std.proofs.Common.{Some, map, ap, arith, ◌∙◌, sym}
+use Rattle.std.proofs.Common.{Some, ap, arith, sym, ◌∙◌, true≢false}
+use Rattle.std.proofs.lemmas.Slice.Eq.{bytes_eq-Decides}
 use Rattle.wgsl_standard.specs.internal.Sets.{function_row}
-use Rattle.wgsl_rules.specs.standard.Names.{names_of}
-use Rattle.wgsl_standard.proofs.Search.{below_step, above_step, none_between, seen, listed_seen, as_many}
+use Rattle.wgsl_rules.specs.standard.Names.{function_table}
+use Rattle.wgsl_standard.proofs.Search.{found, not_found}
 use Rattle.wgsl_standard.proofs.names.find_function.Goals as goal
+use Rattle.wgsl_standard.proofs.names.find_function.Goals.{else-index-functions-via-then-index-functions+else-eq, else-index-functions-via-else-index-functions}
 
-pub returns-in-Equal : goal.returns-in-Equal
-returns-in-Equal c =
+pub returns-then-eq : goal.returns-then-eq
+returns-then-eq c =
     ap Some c.function_overloads.ensures
-    ∙ sym (listed_seen function_row c.args.functions.now c.requires _ _ (omega arith) c.args.name.now _ c.cmp.ensures c.in-Equal.is)
+    ∙ sym (found function_row c.args.functions.now function_table c.requires c.places.result.now c.places.ensures c.args.name.now
+    c.index_of-index.result c.index_of-index.ensures _ (omega (arith, c.if-index-functions.true)) ((bytes_eq-Decides _ _).0 (sym c.eq.ensures ∙ c.if-eq.true)))
 
-pub loop-low-preserved-in-Less : goal.loop-low-preserved-in-Less
-loop-low-preserved-in-Less c =
-    let inv = c.loop-low.invariant in
-    record {
-      in_order = omega arith;
-      in_range = omega arith;
-      below = inv.below;
-      above = above_step (names_of (map function_row c.args.functions.now)) c.requires c.args.name.now _
-          (seen function_row c.args.functions.now _ _ (omega arith) c.args.name.now _ c.cmp.ensures ∙ c.in-Less.is);
-    }
-
-pub loop-low-preserved : goal.loop-low-preserved
-loop-low-preserved c =
-    let inv = c.loop-low.invariant in
-    record {
-      in_order = omega arith;
-      in_range = omega arith;
-      below = below_step (names_of (map function_row c.args.functions.now)) c.requires c.args.name.now c.loop-low.low _ inv.below
-          (omega (arith, as_many function_row c.args.functions.now))
-          (seen function_row c.args.functions.now _ _ (omega arith) c.args.name.now _ c.cmp.ensures ∙ c.in-Greater.is);
-      above = inv.above;
-    }
-
-pub returns : goal.returns
-returns c =
-    let inv = c.loop-low.invariant in
-    sym (none_between c.args.name.now (map function_row c.args.functions.now) c.loop-low.low c.loop-low.high (omega arith) inv.below inv.above)
+pub returns-else-index-functions : goal.returns-else-index-functions
+returns-else-index-functions c =
+    sym (not_found function_row c.args.functions.now function_table c.requires c.places.result.now c.places.ensures c.args.name.now
+    c.index_of-index.result c.index_of-index.ensures _
+    (λ b at. elim c.else-index-functions.branch [
+      | else-index-functions-via-then-index-functions+else-eq w ↦ true≢false (sym ((bytes_eq-Decides _ _).1 at) ∙ (sym w.eq.ensures ∙ w.if-eq.false))
+      | else-index-functions-via-else-index-functions w ↦ omega (arith, w.if-index-functions.false, b)
+    ]))
