@@ -22,7 +22,7 @@ pub fn function_named(name: &str) -> Option<&'static [Overload]>
     find_function(name, functions())
 }
 
-/// The overloads at the index that the hash gives: no other name has it.
+/// The overloads of a name. Its hash gives one index, and the name that stands there decides.
 fn find_function(name: &str, functions: &[(&str, FunctionSet)]) -> Option<&'static [Overload]>
     requires { map function_row functions.now ≡ function_table }
     ensures { option_map (λ o. o.now) result ≡ overloads_named name.now function_table }
