@@ -1,12 +1,14 @@
 -- The measure of each kind of type, from those of the types inside; the layout of a struct, member by member.
-use Rattle.std.proofs.Common.{◌≡◌, ℕ, ◌<◌, ◌≤◌, suc, max, List, [], ◌∷◌, length, drop, drop-cons, add-one, ◌+◌, get_or, Option, Some, None, Result, Ok, Err, IsSome, ◌++◌, ◌^◌, refl, sym, ap, subst, ◌∙◌, rules, string_bytes}
+use Rattle.std.proofs.Common.{◌≡◌, ◌↔◌, ℕ, ◌<◌, ◌≤◌, suc, max, List, [], ◌∷◌, length, drop, drop-cons, add-one, ◌+◌, get_or, Option, Some, None, Result, Ok, Err, IsSome, ◌++◌, ◌^◌, refl, sym, ap, subst, ◌∙◌, rules, string_bytes}
 use Rattle.std.specs.Result.{OkIff, result_ok}
 use Rattle.std.specs.declared.num.TryFromIntError.{TryFromIntError}
 use Rattle.std.specs.Borrow.{Bor}
 use Rattle.std.specs.Int.{next_multiple_of}
 use Rattle.std.proofs.lemmas.List.{drop_all, map_push}
 use Rattle.std.proofs.lemmas.Option.{same_Some}
-use Rattle.wgsl_rules.specs.types.Types.{WgslType, struct, Members, no_members, member, array, vec, mat}
+use Rattle.wgsl_syntax.specs.declared.scalar.Scalar.{Scalar}
+use Rattle.wgsl_syntax.specs.declared.scalar.Scalar.TheVariants as scalars
+use Rattle.wgsl_rules.specs.types.Types.{WgslType, scalar, struct, Members, no_members, member, array, vec, mat}
 use Rattle.wgsl_rules.specs.layout.Layout.{IsTimes, IsStride, IsArraySize, IsVectorAlign, IsGiven, HasSize, HasAlignment, HasLeastSize, IsExactly, IsStructLayout}
 use Rattle.wgsl_rules.proofs.layout.Steps.{times, stride, array_size, vector_align, lacks_size, least_is_size}
 use Rattle.wgsl_rules.proofs.layout.StructSizes.{SizeSoFar, size_starts, size_stops, size_goes_on, size_ends, struct_size, struct_lacks}
@@ -25,6 +27,32 @@ use Rattle.wgsl_core.specs.declared.ty.form.Form.TheVariants as forms
 use Rattle.wgsl_core.specs.declared.ty.Type.{«Type», the_lemmas}
 use Rattle.wgsl_core.specs.declared.ty.StructType.{StructType, out-StructType}
 use Rattle.wgsl_core.specs.declared.ty.StructMemberType.{StructMemberType}
+
+abbrev pub scalar_size : Scalar → Option ℕ
+scalar_size scalars.AbstractInt = None
+scalar_size scalars.AbstractFloat = None
+scalar_size scalars.F16 = Some 2
+scalar_size scalars.I64 = Some 8
+scalar_size scalars.U64 = Some 8
+scalar_size scalars.F64 = Some 8
+scalar_size s = Some 4
+
+pub scalar_measure : (s : Scalar) (k : ℕ) (m : Measure) → scalar_size s ≡ Some k → m ≡ record { size = Some k; align = Some k } → IsMeasure (scalar s) m
+scalar_measure s k m e is =
+    let h : IsExactly (Some k) (HasSize (scalar s)) = sized s k e in
+    subst (λ (m : Measure). IsMeasure (scalar s) m) (sym is) (record { size = h; lacks = lacks_size (scalar s) tt (Some k) h; align = h })
+  where
+    exact : (k j n : ℕ) → Some j ≡ Some k → (Some k ≡ Some n) ↔ (n ≡ j)
+    exact k j n e = (λ f. let p : j ≡ n = cc (e ∙ f) in sym p, λ f. sym e ∙ ap Some (sym f))
+
+    sized : (s : Scalar) (k : ℕ) → scalar_size s ≡ Some k → IsExactly (Some k) (HasSize (scalar s))
+    sized scalars.AbstractInt k e n = absurd (cc e)
+    sized scalars.AbstractFloat k e n = absurd (cc e)
+    sized scalars.F16 k e n = exact k 2 n e
+    sized scalars.I64 k e n = exact k 8 n e
+    sized scalars.U64 k e n = exact k 8 n e
+    sized scalars.F64 k e n = exact k 8 n e
+    sized s k e n = exact k 4 n e
 
 pub vector_measure : (n k : ℕ) (t : WgslType) (component : Measure) (size align : Option ℕ) → k ≡ n → IsMeasure t component
     → IsExactly size (IsTimes k (IsValue component.size)) → IsExactly align (IsVectorAlign n t (IsValue component.size)) → IsMeasure (vec n t) (record { size = size; align = align })

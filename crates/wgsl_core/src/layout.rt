@@ -1,9 +1,10 @@
 // Sizes, alignments and offsets in memory.
 ghost use Rattle.std.specs.Prelude.{◌≡◌, ◌↔◌, IfOk, IfSome};
-ghost use Rattle.wgsl_rules.specs.types.Types.{struct, array, vec, mat};
+ghost use Rattle.wgsl_rules.specs.types.Types.{scalar, struct, array, vec, mat};
 ghost use Rattle.wgsl_rules.specs.layout.Layout.{IsAtomicSize, IsTimes, IsArraySize, IsAlignOfThree, IsVectorAlign, IsGiven, HasSize, HasAlignment, HasLeastSize, IsStructAlign, HaveAlignments, IsExactly, HasNoSize, LacksSize, AreOffsets};
 ghost use Rattle.wgsl_rules.specs.Headline.{IsLeastPlacedSize};
 ghost use Rattle.wgsl_core.specs.View.{view, struct_view, member_view};
+ghost use Rattle.wgsl_core.specs.Forms.{scalar_of};
 ghost use Rattle.wgsl_core.specs.Layout.{IsLayoutOf, offsets_of};
 ghost use Rattle.wgsl_core.specs.Placing.{IsValue};
 ghost use Rattle.wgsl_core.specs.internal.Layout.{IsMeasure, HasSomeSize, ArePlaced};
@@ -14,6 +15,7 @@ use crate::layout::placing::{Placing, rounded_up};
 use crate::ty::form::Form;
 use crate::ty::{StructMemberType, StructType, Type};
 use std::alloc::{AllocError, Global};
+use wgsl_syntax::scalar::Scalar;
 
 /// The layout of a struct (WGSL, "Structure Member Layout"), in bytes.
 #[derive(Debug, PartialEq, Drop)]
@@ -82,22 +84,32 @@ impl Type {
         self.measure().align
     }
 
+    /// It is inlined, so that a scalar is measured without a call.
     #[cycle(measure)]
+    #[inline(always)]
+    #[tactic(auto, using(crate::proofs::Scalars::scalar_is))]
     fn measure(&self) -> Measure
         ensures { IsMeasure (view self.now) result }
     {
+        match self.scalar() {
+            Some(scalar) => measure_of_scalar(scalar),
+            None => self.measure_of_others(),
+        }
+    }
+
+    #[cycle(measure)]
+    #[inline(never)]
+    fn measure_of_others(&self) -> Measure
+        requires { scalar_of (view self.now) ≡ None }
+        ensures { IsMeasure (view self.now) result }
+    {
         match self {
-            Type::Bool | Type::I32 | Type::U32 | Type::F32 => measure_of_size(4),
-            Type::F16 => measure_of_size(2),
-            Type::I64 | Type::U64 | Type::F64 => measure_of_size(8),
             Type::Vec(n, ty) => vector_measure(*n, ty),
             Type::Mat(c, r, ty) => matrix_measure(*c, *r, ty),
             Type::Array(ty, count) => array_measure(ty, *count),
             Type::Atomic(ty) => measure_of_size(atomic_size(ty)),
             Type::Struct(s) => s.measure(),
-            Type::AbstractInt
-            | Type::AbstractFloat
-            | Type::Ptr(_, _, _)
+            Type::Ptr(_, _, _)
             | Type::Ref(_, _, _)
             | Type::Texture(_)
             | Type::Sampler(_)
@@ -107,7 +119,32 @@ impl Type {
                 size: None,
                 align: None,
             },
+            Type::Bool
+            | Type::AbstractInt
+            | Type::AbstractFloat
+            | Type::I32
+            | Type::U32
+            | Type::F32
+            | Type::F16
+            | Type::I64
+            | Type::U64
+            | Type::F64 => unreachable!(),
         }
+    }
+}
+
+#[inline(always)]
+fn measure_of_scalar(of: Scalar) -> Measure
+    ensures { IsMeasure (scalar of) result }
+{
+    match of {
+        Scalar::Bool | Scalar::I32 | Scalar::U32 | Scalar::F32 => measure_of_size(4),
+        Scalar::F16 => measure_of_size(2),
+        Scalar::I64 | Scalar::U64 | Scalar::F64 => measure_of_size(8),
+        Scalar::AbstractInt | Scalar::AbstractFloat => Measure {
+            size: None,
+            align: None,
+        },
     }
 }
 
