@@ -1,24 +1,26 @@
 -- Conversion of the types of code.
-use Rattle.std.proofs.Common.{◌≡◌, ◌≢◌, ◌↔◌, ℕ, is_some, Bool, List, Option, Some, None, IsTrue, IfSome, refl, sym, ap, ◌∙◌, subst}
+use Rattle.std.proofs.Common.{◌≡◌, ◌≢◌, ◌↔◌, ◌<◌, ℕ, arith, is_some, Bool, List, Option, Some, None, IsTrue, IfSome, refl, sym, ap, ◌∙◌, subst}
 use Rattle.wgsl_syntax.specs.declared.address.AddressSpace.{AddressSpace}
 use Rattle.wgsl_syntax.specs.declared.address.AccessMode.{AccessMode}
 use Rattle.wgsl_syntax.specs.declared.result_struct.ResultFunction.{ResultFunction}
 use Rattle.wgsl_syntax.specs.declared.result_struct.ResultShape.{ResultShape}
 use Rattle.wgsl_syntax.specs.declared.result_struct.ResultPrecision.{ResultPrecision}
 use Rattle.wgsl_syntax.specs.declared.result_struct.ResultStruct.{ResultStruct}
-use Rattle.wgsl_rules.specs.types.Types.{Layer, WgslType, struct, within, reference, Members}
+use Rattle.wgsl_rules.specs.types.Types.{WgslType, struct, within, reference, Members}
 use Rattle.wgsl_rules.specs.types.ResultStructs.{result_struct}
 use Rattle.wgsl_rules.specs.conversion.Conversion.{Converts, ConvertsIn, ConvertsTo, Load, load}
 use Rattle.wgsl_rules.specs.internal.Nodes.{Node, at_scalar, at_result, type_at}
 use Rattle.wgsl_rules.proofs.conversion.Walks.{type_at_once, HaveEqualLayers, converts_nodes, load_bare}
 use Rattle.wgsl_rules.proofs.conversion.Order.{load_readable}
 use Rattle.wgsl_syntax.specs.Address.{MayRead}
-use Rattle.wgsl_rules.proofs.conversion.Equations.{converts_same, same_rank, load_converts, load_rank, converts_within, converts_from_within}
+use Rattle.wgsl_rules.proofs.conversion.Equations.{converts_same, same_rank, load_converts, load_rank, converts_within}
 use Rattle.wgsl_rules.proofs.conversion.Counts.{converts_in_same, converts_in_load, converts_in_within}
 use Rattle.wgsl_core.specs.View.{struct_view}
 use Rattle.std.specs.Borrow.{Bor}
 use Rattle.wgsl_syntax.specs.declared.scalar.Scalar.{Scalar}
 use Rattle.wgsl_core.specs.Forms.{form_view, layer_of}
+use Rattle.wgsl_core.specs.internal.Forms.{layers, HaveElements}
+use Rattle.wgsl_core.specs.declared.ty.Type.{«Type»}
 use Rattle.wgsl_core.specs.declared.ty.form.Form.{Form}
 use Rattle.wgsl_core.specs.declared.ty.form.Form.TheVariants as forms
 use Rattle.wgsl_core.specs.ResultStruct.{struct_type, result_type}
@@ -76,18 +78,24 @@ loaded_steps t u l = (converts_in_load t u 0 0 l).1 (refl, refl)
 pub no_rank : (t u : WgslType) → ((w : ℕ) → ¬ Converts t u w) → IsRank None t u
 no_rank t u n w = (λ k. absurd (cc k), λ k. absurd (n w k))
 
-unlayered : (t u : WgslType) → layer_of t ≡ None → ¬ HaveEqualLayers t u
-unlayered (within l t) u e h = absurd (cc e)
-unlayered t u e h = h
+abbrev HaveNoElements : WgslType → WgslType → Type 0
+HaveNoElements t u = (e f : WgslType) → ¬ HaveElements t u e f
 
-pub no_walk : (t u : WgslType) → layer_of t ≡ None → t ≢ u → ¬ Load t u →
+pub no_elements : (t u : WgslType) → layer_of t ≡ None → HaveNoElements t u
+no_elements t u e x y h = let z : layer_of t ≡ Some (h.0, x) = ap layer_of h.1 in absurd (cc (sym e ∙ z))
+
+unlayered : (t u : WgslType) → HaveNoElements t u → ¬ HaveEqualLayers t u
+unlayered (within l t) (within k u) n h = n t u (l, refl, λ i. within (sym h i) u)
+unlayered t u n h = h
+
+pub no_walk : (t u : WgslType) → HaveNoElements t u → t ≢ u → ¬ Load t u →
     ((p q : Node) → t ≡ type_at p → u ≡ type_at q → ⊥) → IsRank None t u
 no_walk t u e d l n = no_rank t u (λ w k. let m = converts_nodes t u w (unlayered t u e) d l k in n m.0 m.1 m.2 m.3)
 
 pub walked_rank : (t u : WgslType) (p q : Node) (o : Option ℕ) → t ≡ type_at p → u ≡ type_at q → IsRank o (type_at p) (type_at q) → IsRank o t u
 walked_rank t u p q o e f h = subst (λ t. IsRank o t u) (sym e) (subst (λ u. IsRank o (type_at p) u) (sym f) h)
 
-abbrev Steps : Option ℕ → WgslType → WgslType → ℕ → Type 0
+abbrev pub Steps : Option ℕ → WgslType → WgslType → ℕ → Type 0
 Steps o t u n = IfSome o (λ w. ConvertsIn t u w n)
 
 pub walked_steps : (t u : WgslType) (p q : Node) (o : Option ℕ) (n : ℕ) → t ≡ type_at p → u ≡ type_at q →
@@ -96,37 +104,19 @@ walked_steps t u p q o n e f h = subst (λ t. Steps o t u n) (sym e) (subst (λ 
 
 -- Layers
 
-layered_at : (t : WgslType) (l : Layer) (e : WgslType) → layer_of t ≡ Some (l, e) → t ≡ within l e
-layered_at (within k u) l e h =
-    let p : ◌≡◌ {A = Layer × WgslType} (k, u) (l, e) = cc h in
-    λ i. within (p i).0 (p i).1
-layered_at t l e h = absurd (cc h)
+pub elements_rank : (t u e f : WgslType) (o : Option ℕ) → HaveElements t u e f → IsRank o e f → IsRank o t u
+elements_rank t u e f o k h =
+    subst (λ t. IsRank o t u) (sym k.1) (subst (λ u. IsRank o (within k.0 e) u) (sym k.2)
+    (λ w. (λ m. (converts_within k.0 k.0 e f w).1 (refl, (h w).0 m), λ m. (h w).1 ((converts_within k.0 k.0 e f w).0 m).1)))
 
-pub same_layer_rank : (t u : WgslType) (l k : Layer) (e f : WgslType) (o : Option ℕ) → layer_of t ≡ Some (l, e) → layer_of u ≡ Some (k, f) → l ≡ k →
-    IsRank o e f → IsRank o t u
-same_layer_rank t u l k e f o p q s h =
-    subst (λ t. IsRank o t u) (sym (layered_at t l e p)) (subst (λ u. IsRank o (within l e) u) (sym (layered_at u k f q))
-    (λ w. (λ m. (converts_within l k e f w).1 (sym s, (h w).0 m), λ m. (h w).1 ((converts_within l k e f w).0 m).1)))
+pub elements_steps : (t u e f : WgslType) (o : Option ℕ) (n : ℕ) → HaveElements t u e f → Steps o e f n → Steps o t u n
+elements_steps t u e f None n k h = h
+elements_steps t u e f (Some w) n k h =
+    subst (λ t. ConvertsIn t u w n) (sym k.1) (subst (λ u. ConvertsIn (within k.0 e) u w n) (sym k.2)
+    ((converts_in_within k.0 k.0 e f w n).1 (refl, h)))
 
-pub same_layer_steps : (t u : WgslType) (l k : Layer) (e f : WgslType) (o : Option ℕ) (n : ℕ) → layer_of t ≡ Some (l, e) → layer_of u ≡ Some (k, f) → l ≡ k →
-    Steps o e f n → Steps o t u n
-same_layer_steps t u l k e f None n p q s h = h
-same_layer_steps t u l k e f (Some w) n p q s h =
-    subst (λ t. ConvertsIn t u w n) (sym (layered_at t l e p)) (subst (λ u. ConvertsIn (within l e) u w n) (sym (layered_at u k f q))
-    ((converts_in_within l k e f w n).1 (sym s, h)))
-
-pub other_layer_rank : (t u : WgslType) (l k : Layer) (e f : WgslType) → layer_of t ≡ Some (l, e) → layer_of u ≡ Some (k, f) → (l ≡ k → ⊥) → IsRank None t u
-other_layer_rank t u l k e f p q d =
-    subst (λ t. IsRank None t u) (sym (layered_at t l e p)) (subst (λ u. IsRank None (within l e) u) (sym (layered_at u k f q))
-    (no_rank (within l e) (within k f) (λ w m. d (sym ((converts_within l k e f w).0 m).0))))
-
-pub no_layer_rank : (t u : WgslType) (l : Layer) (e : WgslType) → layer_of t ≡ Some (l, e) → layer_of u ≡ None → IsRank None t u
-no_layer_rank t u l e p q =
-    subst (λ t. IsRank None t u) (sym (layered_at t l e p))
-    (no_rank (within l e) u (λ w m.
-    let k = converts_from_within l e u w m in
-    let z : layer_of u ≡ Some (l, k.0) = ap layer_of k.1 in
-    absurd (cc (sym q ∙ z))))
+pub elements_fewer : (t u e f : WgslType) → HaveElements t u e f → layers e < layers t
+elements_fewer t u e f h = subst (λ t. layers e < layers t) (sym h.1) (omega arith)
 
 -- Loads
 
@@ -135,8 +125,16 @@ load_reference r s t m a u e may h =
     subst (λ a. IsTrue r ↔ Load a u) (sym e)
     (λ k. subst (λ u. Load (reference s t m) u) (h.0 k) (load s t m may), λ l. h.1 (load_readable l).1)
 
-pub no_load : (t u : WgslType) → layer_of t ≡ None → ((s : AddressSpace) (e : WgslType) (m : AccessMode) → t ≡ reference s e m → ⊥) → ¬ Load t u
+no_load : (t u : WgslType) → HaveNoElements t u → ((s : AddressSpace) (e : WgslType) (m : AccessMode) → t ≡ reference s e m → ⊥) → ¬ Load t u
 no_load t u e n l = let k = load_bare (unlayered t u e) l in n k.0 u k.1 k.2
+
+pub no_reference_loads : {f : Form} (t u : WgslType) → HaveNoElements t u → t ≡ form_view f
+    → ((s : AddressSpace) (e : Bor «Type») (m : AccessMode) → f ≡ forms.Reference s e m → ⊥) → ¬ Load t u
+no_reference_loads {f} t u e p n = no_load t u e (λ s e m q. apart f n s e m (sym p ∙ q))
+  where
+    apart : (f : Form) → ((s : AddressSpace) (e : Bor «Type») (m : AccessMode) → f ≡ forms.Reference s e m → ⊥) → (s : AddressSpace) (e : WgslType) (m : AccessMode) → form_view f ≡ reference s e m → ⊥
+    apart (forms.Reference s e m) n t u v k = n s e m refl
+    apart f n s e m k = absurd (cc k)
 
 pub ranked : (o : Option ℕ) (t u : WgslType) → IsRank o t u → IsTrue (is_some o) ↔ ConvertsTo t u
 ranked None t u h = (λ k. absurd (cc k), λ k. absurd (cc ((h k.0).1 k.1)))

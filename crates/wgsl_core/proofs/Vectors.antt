@@ -9,7 +9,7 @@ use Rattle.wgsl_rules.proofs.conversion.Order.{along_above, above_to_within, loa
 use Rattle.wgsl_rules.proofs.conversion.Equations.{converts_within}
 use Rattle.wgsl_core.specs.Forms.{layer_of}
 use Rattle.wgsl_core.specs.declared.ty.Type.{«Type»}
-use Rattle.wgsl_core.proofs.Ranks.{no_load}
+use Rattle.wgsl_core.proofs.Ranks.{no_elements, no_reference_loads}
 use Rattle.std.specs.Borrow.{Bor}
 use Rattle.wgsl_core.specs.Forms.{form_view}
 use Rattle.wgsl_core.specs.declared.ty.form.Form.{Form}
@@ -58,8 +58,5 @@ unreadable s t m a n u b e i may =
 
 pub loads_nothing : {f : Form} (t : WgslType) (n : ℕ) (u : WgslType) → layer_of t ≡ None → t ≡ form_view f → ((s : AddressSpace) (e : Bor «Type») (m : AccessMode) → f ≡ forms.Reference s e m → ⊥) →
     IsTrue false ↔ ConvertsTo t (vec n u)
-loads_nothing {f} t n u e p no_ref = (λ h. absurd (cc h), λ k. absurd (no_load t (vec n u) e (λ s e m q. apart f no_ref s e m (sym p ∙ q)) (no_way t u n k.0 e k.1)))
-  where
-    apart : (f : Form) → ((s : AddressSpace) (e : Bor «Type») (m : AccessMode) → f ≡ forms.Reference s e m → ⊥) → (s : AddressSpace) (e : WgslType) (m : AccessMode) → form_view f ≡ reference s e m → ⊥
-    apart (forms.Reference s e m) n t u v k = n s e m refl
-    apart f n s e m k = absurd (cc k)
+loads_nothing t n u e p no_ref =
+    (λ h. absurd (cc h), λ k. absurd (no_reference_loads t (vec n u) (no_elements t (vec n u) e) p no_ref (no_way t u n k.0 e k.1)))

@@ -1,13 +1,14 @@
 // Conversion of types.
 ghost use Rattle.std.specs.Prelude.{◌≡◌, ◌≤◌, ◌↔◌, ℕ, IsTrue, IfSome, IfNone, Some, None, option_map};
 ghost use Rattle.wgsl_syntax.specs.declared.result_struct.ResultStruct.{ResultStruct as ResultName};
-ghost use Rattle.wgsl_rules.specs.types.Types.{scalar, vec};
+ghost use Rattle.wgsl_rules.specs.types.Types.{WgslType, scalar, vec};
 ghost use Rattle.wgsl_rules.specs.conversion.Conversion.{Converts, ConvertsIn, ConvertsTo, Load};
 ghost use Rattle.wgsl_rules.specs.conversion.Common.{IsCommon};
 ghost use Rattle.wgsl_rules.specs.Laws.{CommonSymmetric};
 ghost use Rattle.wgsl_rules.specs.internal.Nodes.{Node as RuleNode, type_at, parent_of, rank_from_root};
 ghost use Rattle.wgsl_core.specs.View.{view};
 ghost use Rattle.wgsl_core.specs.Forms.{layer_of};
+ghost use Rattle.wgsl_core.specs.internal.Forms.{HaveElements};
 ghost use Rattle.wgsl_core.specs.internal.Nodes.{node_view};
 
 mod concrete;
@@ -53,7 +54,26 @@ fn scalars(a: &Type, b: &Type) -> Option<(Scalar, Scalar)>
 pub fn scalar_rank(source: Scalar, target: Scalar) -> Option<u32>
     ensures { (w : ℕ) → (result ≡ Some w) ↔ Converts (scalar source) (scalar target) w }
 {
-    walk(Node::Scalar(source), Node::Scalar(target)).0
+    if converts(source, target) {
+        Some(rank_from_root(Node::Scalar(target)) - rank_from_root(Node::Scalar(source)))
+    } else {
+        None
+    }
+}
+
+/// Whether a scalar converts to another.
+#[inline(always)]
+fn converts(source: Scalar, target: Scalar) -> bool
+    ensures { IsTrue result ↔ ConvertsTo (scalar source) (scalar target) }
+{
+    match source {
+        Scalar::AbstractInt => !matches!(target, Scalar::Bool | Scalar::F64),
+        Scalar::AbstractFloat => matches!(
+            target,
+            Scalar::AbstractFloat | Scalar::F32 | Scalar::F16
+        ),
+        _ => is_same(Node::Scalar(source), Node::Scalar(target)),
+    }
 }
 
 /// The common type of two types (WGSL, "Overload Resolution"): `b` if `a` converts to it, else `a` if `b` converts
@@ -101,26 +121,46 @@ pub fn rank_steps(a: &Type, b: &Type) -> (Option<u32>, u32)
     ensures few { result.1 ≤ 2 }
     ensures steps { IfSome result.0 (λ w. ConvertsIn (view a.now) (view b.now) w result.1) }
 {
-    if let Some((source, target)) = scalars(a, b) {
-        return walk(Node::Scalar(source), Node::Scalar(target));
+    let mut from = a;
+    let mut to = b;
+    while let Some((element, target)) = elements(from, to) {
+        from = element;
+        to = target;
     }
-    match a.layer() {
-        Some((source, element)) => match b.layer() {
-            Some((target, target_element)) => {
-                if source.is(target) {
-                    rank_steps(element, target_element)
-                } else {
-                    (None, 0)
-                }
-            }
-            None => (None, 0),
-        },
-        None => rank_below_layers(a, b),
+    match scalars(from, to) {
+        Some((source, target)) => walk(Node::Scalar(source), Node::Scalar(target)),
+        None => rank_below_layers(from, to),
     }
 }
 
+/// The elements of both types, if both have the same layer.
+#[inline(always)]
+fn elements<'a>(a: &'a Type, b: &'a Type) -> Option<(&'a Type, &'a Type)>
+    ensures some { IfSome result (λ p.
+        HaveElements (view a.now) (view b.now) (view p.0.now) (view p.1.now)) }
+    ensures none { IfNone result ((e f : WgslType)
+        → ¬ HaveElements (view a.now) (view b.now) e f) }
+{
+    match a.form() {
+        Form::Array(n, t) => match b.form() {
+            Form::Array(m, u) if n == m => Some((t, u)),
+            _ => None,
+        },
+        Form::Vector(n, t) => match b.form() {
+            Form::Vector(m, u) if n == m => Some((t, u)),
+            _ => None,
+        },
+        Form::Matrix(c, r, t) => match b.form() {
+            Form::Matrix(d, s, u) if c == d && r == s => Some((t, u)),
+            _ => None,
+        },
+        _ => None,
+    }
+}
+
+#[inline(never)]
 fn rank_below_layers(a: &Type, b: &Type) -> (Option<u32>, u32)
-    requires { layer_of (view a.now) ≡ None }
+    requires { (e f : WgslType) → ¬ HaveElements (view a.now) (view b.now) e f }
     ensures rank { (w : ℕ) → (result.0 ≡ Some w) ↔ Converts (view a.now) (view b.now) w }
     ensures few { result.1 ≤ 2 }
     ensures steps { IfSome result.0 (λ w. ConvertsIn (view a.now) (view b.now) w result.1) }
@@ -139,7 +179,7 @@ fn rank_below_layers(a: &Type, b: &Type) -> (Option<u32>, u32)
 
 #[tactic(auto, using(crate::specs::Equality::type_eq_decides))]
 fn loads(a: &Type, b: &Type) -> bool
-    requires { layer_of (view a.now) ≡ None }
+    requires { (e f : WgslType) → ¬ HaveElements (view a.now) (view b.now) e f }
     ensures { IsTrue result ↔ Load (view a.now) (view b.now) }
 {
     match a.form() {
