@@ -44,14 +44,11 @@ def variants(path, name):
 def counts():
     """Each number that a document says: the document, the words around the number, and what it counts."""
     signatures = len(re.findall(r"^[^#(\n]+\(", read("tests", "overloads", "wgsl.txt"), re.MULTILINE))
-    texts = re.findall(r'codes "([\w ]+)"', read("crates", "wgsl_rules", "specs", "calls", "Names.antt"))
-    names = len(" ".join(texts).split())
     errors = variants("crates/wgsl_core/src/error.rt", "Error")
     return (
         ("README.md", r"the (\d+) signatures", signatures),
         ("CONTRIBUTING.md", r"the (\d+) signatures", signatures),
         ("docs/USING.md", r"the (\d+) named errors", errors),
-        ("docs/MAP.md", r"the number of names, (\d+)", names),
     )
 
 
