@@ -7,48 +7,40 @@ use crate::ty::{Type, MAX_DEPTH};
 use alloc::alloc::{handle_alloc_error, Layout};
 use alloc::vec;
 
-/// Most answers have fewer words.
-const ROOM: usize = 32;
-
-/// What a call says of a request that it can read.
-enum Reply<'a, Out> {
-    Answer(&'a [Out]),
-    Refusal(&'a [Out]),
-}
-
 /// Asks a call that is answered, or has no answer.
 #[inline]
-pub(crate) fn option<T>(
-    call: Call<u32, u32>,
-    request: &Words,
+pub(crate) fn option<T, const ROOM: usize>(
+    call: Call<u32, u32, ROOM>,
+    request: impl Fn(&mut Words<'_>),
     answer: impl FnOnce(&mut Reader<'_>) -> Option<T>,
 ) -> Option<T> {
-    let found = ask(call, request.as_slice(), &mut [0; ROOM], |reply| match reply {
-        Reply::Answer(words) => Some(read(words, answer)),
-        Reply::Refusal(_) => None,
-    });
-    found.unwrap_or_else(|| too_deep())
+    ask_written(call, request, |status, words| match status {
+        Status::Answered => Some(read(words, answer)),
+        Status::Refused => None,
+        _ => too_deep(),
+    })
 }
 
 /// Asks a call that is answered, or refused with an error.
 #[inline]
-pub(crate) fn result<T>(
-    call: Call<u32, u32>,
-    request: &Words,
+pub(crate) fn result<T, const ROOM: usize>(
+    call: Call<u32, u32, ROOM>,
+    request: impl Fn(&mut Words<'_>),
     answer: impl FnOnce(&mut Reader<'_>) -> Option<T>,
 ) -> Result<T, Error> {
-    let found = ask(call, request.as_slice(), &mut [0; ROOM], |reply| match reply {
-        Reply::Answer(words) => Ok(read(words, answer)),
-        Reply::Refusal(words) => Err(read(words, Reader::error)),
-    });
-    found.unwrap_or_else(|| too_deep())
+    ask_written(call, request, |status, words| match status {
+        Status::Answered => Ok(read(words, answer)),
+        Status::Refused => Err(read(words, Reader::error)),
+        _ => too_deep(),
+    })
 }
 
 /// The type that a text spells; None if it spells none.
 pub(crate) fn spelled(text: &str) -> Option<Type> {
-    ask(Call::READ_TYPE, text.as_bytes(), &mut [0; ROOM], |reply| match reply {
-        Reply::Answer(words) => read(words, Reader::ty),
-        Reply::Refusal(_) => other_library(),
+    ask(Call::READ_TYPE, text.as_bytes(), &mut [0; 32], |status, words| match status {
+        Status::Answered => Some(read(words, Reader::ty)),
+        Status::Unreadable => None,
+        _ => other_library(),
     })
 }
 
@@ -59,40 +51,73 @@ pub(crate) fn text<T>(
     room: &mut [u8],
     form: impl FnOnce(&str) -> Option<T>,
 ) -> Option<T> {
-    ask(call, request, room, |reply| match reply {
-        Reply::Answer(bytes) => {
-            core::str::from_utf8(bytes).ok().and_then(form).unwrap_or_else(|| other_library())
+    ask(call, request, room, |status, bytes| match status {
+        Status::Answered => {
+            let found = core::str::from_utf8(bytes).ok().and_then(form);
+            Some(found.unwrap_or_else(|| other_library()))
         }
-        Reply::Refusal(_) => other_library(),
+        Status::Unreadable => None,
+        _ => other_library(),
     })
 }
 
-/// Asks once, and again with more room if the reply needs it. None if the request is unreadable.
+/// Asks with what is written as the request: on the stack, if it isn't long.
 #[inline]
-fn ask<In: Copy, Out: Copy + Default, T>(
-    call: Call<In, Out>,
-    request: &[In],
-    room: &mut [Out],
-    form: impl FnOnce(Reply<'_, Out>) -> T,
-) -> Option<T> {
-    match call.ask(request, room) {
-        Status::NoRoom(len) => {
-            let mut room = vec![Out::default(); len];
-            let status = call.ask(request, &mut room);
-            reply(status, &room).map(form)
-        }
-        status => reply(status, room).map(form),
+fn ask_written<T, const ROOM: usize>(
+    call: Call<u32, u32, ROOM>,
+    request: impl Fn(&mut Words<'_>),
+    form: impl FnOnce(Status, &[u32]) -> T,
+) -> T {
+    let mut short = [0; ROOM];
+    let mut words = Words::new(&mut short);
+    request(&mut words);
+    let len = words.len();
+    match short.get(..len) {
+        Some(words) => ask(call, words, &mut [0; ROOM], form),
+        None => ask_longer(call, request, len, form),
     }
 }
 
+#[cold]
+#[inline(never)]
+fn ask_longer<T, const ROOM: usize>(
+    call: Call<u32, u32, ROOM>,
+    request: impl Fn(&mut Words<'_>),
+    len: usize,
+    form: impl FnOnce(Status, &[u32]) -> T,
+) -> T {
+    let mut words = vec![0; len];
+    request(&mut Words::new(&mut words));
+    ask(call, &words, &mut [0; ROOM], form)
+}
+
+/// Asks once, and again with more room if the reply needs it.
 #[inline]
-fn reply<Out>(status: Status, room: &[Out]) -> Option<Reply<'_, Out>> {
+fn ask<In: Copy, Out: Copy + Default, T, const ROOM: usize>(
+    call: Call<In, Out, ROOM>,
+    request: &[In],
+    room: &mut [Out],
+    form: impl FnOnce(Status, &[Out]) -> T,
+) -> T {
+    match call.ask(request, room) {
+        (status @ (Status::Answered | Status::Refused), len) => form(status, &room[..len]),
+        (status, len) => no_answer(call, request, status, len, form),
+    }
+}
+
+#[cold]
+#[inline(never)]
+fn no_answer<In: Copy, Out: Copy + Default, T, const ROOM: usize>(
+    call: Call<In, Out, ROOM>,
+    request: &[In],
+    status: Status,
+    len: usize,
+    form: impl FnOnce(Status, &[Out]) -> T,
+) -> T {
     match status {
-        Status::Answered(len) => Some(Reply::Answer(&room[..len])),
-        Status::Refused(len) => Some(Reply::Refusal(&room[..len])),
-        Status::Unreadable => None,
+        Status::NoRoom => ask(call, request, &mut vec![Out::default(); len], form),
         Status::OutOfMemory => handle_alloc_error(Layout::new::<Type>()),
-        Status::NoRoom(_) => unreachable!("the same request has the same answer"),
+        _ => form(status, &[]),
     }
 }
 

@@ -4,7 +4,7 @@
 mod operators;
 
 use crate::ask;
-use crate::code::Words;
+use crate::code::{Reader, Words};
 use crate::error::Error;
 use crate::ffi::Call;
 use crate::syntax::{BinaryOperator, UnaryOperator};
@@ -35,10 +35,11 @@ pub struct Candidate {
 /// assert_eq!(refused.to_string(), "cannot use unary operator `~` on type `f32`");
 /// ```
 pub fn type_unary_op(operator: UnaryOperator, operand: &Type) -> Result<Type, Error> {
-    let mut request = Words::new();
-    request.operator(operator as u8);
-    request.ty(operand);
-    ask::result(Call::UNARY, &request, |words| words.ty())
+    let request = |words: &mut Words<'_>| {
+        words.operator(operator as u8);
+        words.ty(operand);
+    };
+    ask::result(Call::UNARY, request, |words| words.ty())
 }
 
 /// The type of a binary expression, or [`Error::Binary`] with the operator and both operands.
@@ -54,7 +55,13 @@ pub fn type_unary_op(operator: UnaryOperator, operand: &Type) -> Result<Type, Er
 /// # Ok::<(), wgsl_types_proved::Error>(())
 /// ```
 pub fn type_binary_op(operator: BinaryOperator, lhs: &Type, rhs: &Type) -> Result<Type, Error> {
-    binary_candidate(operator, lhs, rhs).map(|candidate| candidate.result)
+    ask_binary(operator, lhs, rhs, |words| {
+        let mut result = words.clone();
+        for _ in 0..3 {
+            words.skip_ty()?;
+        }
+        result.ty()
+    })
 }
 
 /// The candidate chosen for two operands, or [`Error::Binary`] with the operator and both operands.
@@ -73,16 +80,27 @@ pub fn binary_candidate(
     lhs: &Type,
     rhs: &Type,
 ) -> Result<Candidate, Error> {
-    let mut request = Words::new();
-    request.operator(operator as u8);
-    request.ty(lhs);
-    request.ty(rhs);
-    ask::result(Call::BINARY, &request, |words| {
+    ask_binary(operator, lhs, rhs, |words| {
         let result = words.ty()?;
         let lhs = words.ty()?;
         let rhs = words.ty()?;
         Some(Candidate { lhs, rhs, result })
     })
+}
+
+#[inline]
+fn ask_binary<T>(
+    operator: BinaryOperator,
+    lhs: &Type,
+    rhs: &Type,
+    answer: impl FnOnce(&mut Reader<'_>) -> Option<T>,
+) -> Result<T, Error> {
+    let request = |words: &mut Words<'_>| {
+        words.operator(operator as u8);
+        words.ty(lhs);
+        words.ty(rhs);
+    };
+    ask::result(Call::BINARY, request, answer)
 }
 
 /// Whether the name is a constructor's: `array`, a concrete scalar, or a vector or a matrix without its component type.
@@ -116,9 +134,8 @@ pub fn is_ctor(name: &str) -> bool {
 /// # Ok::<(), wgsl_types_proved::Error>(())
 /// ```
 pub fn type_ctor(name: &str, tplt: Option<&[TpltParam]>, args: &[Type]) -> Result<Type, Error> {
-    let mut request = Words::new();
-    request.signature(name, tplt, args);
-    ask::result(Call::CONSTRUCTOR, &request, |words| words.ty())
+    let request = |words: &mut Words<'_>| words.signature(name, tplt, args);
+    ask::result(Call::CONSTRUCTOR, request, |words| words.ty())
 }
 
 /// Checks the arguments of a struct's constructor: none, or one per member, which converts to its type.
@@ -188,9 +205,8 @@ pub fn type_builtin_fn(
     tplt: Option<&[TpltParam]>,
     args: &[Type],
 ) -> Result<Option<Type>, Error> {
-    let mut request = Words::new();
-    request.signature(name, tplt, args);
-    ask::result(Call::FUNCTION, &request, |words| match words.is_at_end() {
+    let request = |words: &mut Words<'_>| words.signature(name, tplt, args);
+    ask::result(Call::FUNCTION, request, |words| match words.is_at_end() {
         true => Some(None),
         false => words.ty().map(Some),
     })

@@ -16,10 +16,11 @@ use alloc::vec::Vec;
 /// assert_eq!(conversion_rank(&Type::I32, &Type::U32), None);
 /// ```
 pub fn conversion_rank(a: &Type, b: &Type) -> Option<u32> {
-    let mut request = Words::new();
-    request.ty(a);
-    request.ty(b);
-    ask::option(Call::RANK, &request, |words| words.word())
+    let request = |words: &mut Words<'_>| {
+        words.ty(a);
+        words.ty(b);
+    };
+    ask::option(Call::RANK, request, |words| words.word())
 }
 
 /// The common type of two types (WGSL, "Overload Resolution"): the one to which the other converts; `b` if both do.
@@ -46,9 +47,8 @@ pub fn convert_ty<'a>(a: &'a Type, b: &'a Type) -> Option<&'a Type> {
 /// ```
 pub fn convert_all_ty<'a>(types: impl IntoIterator<Item = &'a Type>) -> Option<&'a Type> {
     let types: Vec<&Type> = types.into_iter().collect();
-    let mut request = Words::new();
-    request.types(types.iter().copied());
-    let common = ask::option(Call::COMMON, &request, |words| words.ty())?;
+    let request = |words: &mut Words<'_>| words.types(types.iter().copied());
+    let common = ask::option(Call::COMMON, request, |words| words.ty())?;
     types.into_iter().rev().find(|ty| **ty == common)
 }
 

@@ -30,32 +30,35 @@ extern "C" {
     fn wgsl_version() -> *const c_char;
 }
 
-/// One of the calls, all of which have one form.
+/// One of the calls, all of which have one form. Most requests, and most answers, have at most `ROOM` words.
 #[derive(Clone, Copy)]
-pub(crate) struct Call<In, Out>(
+pub(crate) struct Call<In, Out, const ROOM: usize = 32>(
     unsafe extern "C" fn(*const In, usize, *mut Out, usize, *mut usize) -> u8,
 );
 
-/// What the library says of a request. The numbers are of words, or of bytes.
+/// What the library says of a request.
 #[derive(Clone, Copy, Debug, PartialEq, Eq)]
 pub(crate) enum Status {
-    /// The room begins with that many words of an answer.
-    Answered(usize),
-    /// The rules refuse it, and the room begins with that many words of the refusal.
-    Refused(usize),
+    /// The room begins with an answer.
+    Answered,
+    /// The rules refuse it, and the room begins with the refusal.
+    Refused,
     /// The words are no request of that call.
     Unreadable,
     /// Memory ran out.
     OutOfMemory,
-    /// The answer, or the refusal, has that many words, for which there is no room.
-    NoRoom(usize),
+    /// There is no room for the answer, or for the refusal.
+    NoRoom,
+}
+
+impl Call<u32, u32, 12> {
+    pub(crate) const RANK: Self = Call(wgsl_rank);
+    pub(crate) const UNARY: Self = Call(wgsl_unary);
+    pub(crate) const BINARY: Self = Call(wgsl_binary);
 }
 
 impl Call<u32, u32> {
-    pub(crate) const RANK: Self = Call(wgsl_rank);
     pub(crate) const COMMON: Self = Call(wgsl_common);
-    pub(crate) const UNARY: Self = Call(wgsl_unary);
-    pub(crate) const BINARY: Self = Call(wgsl_binary);
     pub(crate) const CONSTRUCTOR: Self = Call(wgsl_constructor);
     pub(crate) const FUNCTION: Self = Call(wgsl_call);
     pub(crate) const SIZE: Self = Call(wgsl_size);
@@ -74,10 +77,10 @@ impl Call<u8, u8> {
     pub(crate) const SOURCE_LAYOUT: Self = Call(wgsl_source_layout);
 }
 
-impl<In, Out> Call<In, Out> {
-    /// Asks once, with this room for the answer.
+impl<In, Out, const ROOM: usize> Call<In, Out, ROOM> {
+    /// Asks once, with this room for the answer, or for the refusal. The number of its words, or bytes, is returned too.
     #[inline]
-    pub(crate) fn ask(self, request: &[In], room: &mut [Out]) -> Status {
+    pub(crate) fn ask(self, request: &[In], room: &mut [Out]) -> (Status, usize) {
         check_version();
         let mut len = 0;
         // SAFETY: each pointer is that of a live slice with this length, or of `len`; the mutable ones overlap nothing,
@@ -86,13 +89,20 @@ impl<In, Out> Call<In, Out> {
             (self.0)(request.as_ptr(), request.len(), room.as_mut_ptr(), room.len(), &mut len)
         };
         match status {
-            0 => Status::Answered(len),
-            1 => Status::Refused(len),
-            2 => Status::Unreadable,
-            3 => Status::OutOfMemory,
-            4 => Status::NoRoom(len),
-            status => unreachable!("bindings/c/wgsl.h has no status {status}"),
+            0 => (Status::Answered, len),
+            1 => (Status::Refused, len),
+            _ => (no_reply(status), len),
         }
+    }
+}
+
+#[cold]
+fn no_reply(status: u8) -> Status {
+    match status {
+        2 => Status::Unreadable,
+        3 => Status::OutOfMemory,
+        4 => Status::NoRoom,
+        _ => unreachable!("bindings/c/wgsl.h has no status {status}"),
     }
 }
 

@@ -111,9 +111,7 @@ impl StructType {
     /// assert_eq!((layout.members[1].offset, layout.members[1].size, layout.size), (16, 12, 32));
     /// ```
     pub fn layout(&self) -> Option<StructLayout> {
-        let mut request = Words::new();
-        request.structure(self);
-        ask::option(Call::LAYOUT, &request, layout)
+        ask::option(Call::LAYOUT, |words| words.structure(self), layout)
     }
 
     /// The offset of each member in bytes: no placement has a smaller one. None if [`layout`](StructType::layout) is None.
@@ -132,11 +130,9 @@ impl StructType {
 }
 
 /// The size and the alignment of the type that is written.
-fn measure(write: impl FnOnce(&mut Words)) -> (Option<u32>, Option<u32>) {
-    let mut request = Words::new();
-    write(&mut request);
+fn measure(request: impl Fn(&mut Words<'_>)) -> (Option<u32>, Option<u32>) {
     let measure =
-        ask::option(Call::SIZE, &request, |words| Some((words.attribute()?, words.attribute()?)));
+        ask::option(Call::SIZE, request, |words| Some((words.attribute()?, words.attribute()?)));
     measure.unwrap_or_default()
 }
 

@@ -17,6 +17,7 @@ use alloc::string::String;
 use alloc::vec::Vec;
 
 /// Takes codes from the front of words.
+#[derive(Clone)]
 pub(crate) struct Reader<'a> {
     words: &'a [u32],
 }
@@ -87,22 +88,36 @@ impl<'a> Reader<'a> {
     }
 
     /// The type. Scalars and vectors of scalars, which most are, have no further call.
-    #[inline]
+    #[inline(always)]
     pub(crate) fn ty(&mut self) -> Option<Type> {
-        match self.head()? {
-            [tag::SCALAR, scalar, 0, 0] => Scalar::at(scalar).map(Type::from),
-            [tag::VEC, components, 0, 0] => match self.head()? {
-                [tag::SCALAR, scalar, 0, 0] => {
-                    Some(Type::vector(components, Type::from(Scalar::at(scalar)?)))
-                }
-                head => Some(Type::vector(components, self.ty_from(head)?)),
-            },
-            head => self.ty_from(head),
+        let (&head, rest) = self.words.split_first()?;
+        if let Some(scalar) = scalar(head) {
+            self.words = rest;
+            return Some(Type::from(scalar));
         }
+        if let ([tag::VEC, components, 0, 0], Some((&of, rest))) =
+            (head.to_le_bytes(), rest.split_first())
+        {
+            if let Some(scalar) = scalar(of) {
+                self.words = rest;
+                return Some(Type::vector(components, Type::from(scalar)));
+            }
+        }
+        let (ty, rest) = self.clone().layered()?;
+        self.words = rest;
+        Some(ty)
     }
 
     fn boxed(&mut self) -> Option<Box<Type>> {
         self.ty().map(Box::new)
+    }
+
+    /// The type, and the words behind it.
+    #[inline(never)]
+    fn layered(mut self) -> Option<(Type, &'a [u32])> {
+        let head = self.head()?;
+        let ty = self.ty_from(head)?;
+        Some((ty, self.words))
     }
 
     /// The type whose first word has these bytes.
@@ -223,14 +238,20 @@ impl<'a> Reader<'a> {
     }
 
     /// Goes behind a type, which is made only if it has more than layers.
-    fn skip_ty(&mut self) -> Option<()> {
+    #[inline]
+    pub(crate) fn skip_ty(&mut self) -> Option<()> {
         loop {
-            match self.head()? {
-                [tag::VEC | tag::MAT | tag::ATOMIC | tag::PTR | tag::REF | tag::RUNTIME_ARRAY, ..] =>
-                    {}
-                [tag::SCALAR | tag::TEXTURE | tag::SAMPLER, ..] => return Some(()),
-                head => return self.ty_from(head).map(drop),
+            let from = self.clone();
+            let head = self.word()?;
+            if scalar(head).is_some() {
+                return Some(());
             }
+            let [tag::VEC | tag::MAT | tag::ATOMIC | tag::PTR | tag::REF | tag::RUNTIME_ARRAY, ..] =
+                head.to_le_bytes()
+            else {
+                (_, self.words) = from.layered()?;
+                return Some(());
+            };
         }
     }
 
@@ -240,6 +261,12 @@ impl<'a> Reader<'a> {
         let args = self.list(Reader::ty)?;
         Some(CallSignature { name, tplt, args })
     }
+}
+
+/// The scalar with that word: its index above the tag, which is 0.
+#[inline]
+fn scalar(word: u32) -> Option<Scalar> {
+    Scalar::at(word.rotate_right(8).try_into().ok()?)
 }
 
 fn flags(byte: u8) -> Option<Option<AccelerationStructureFlags>> {

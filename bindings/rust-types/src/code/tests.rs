@@ -21,9 +21,12 @@ fn code(ty: &Type) -> Vec<u32> {
 }
 
 fn written(write: impl FnOnce(&mut Words)) -> Vec<u32> {
-    let mut words = Words::new();
+    let mut room = vec![0; 1000];
+    let mut words = Words::new(&mut room);
     write(&mut words);
-    words.as_slice().to_vec()
+    let len = words.len();
+    room.truncate(len);
+    room
 }
 
 /// What all of the words say.

@@ -7,7 +7,7 @@ use crate::syntax::{AccelerationStructureFlags, Enumerant};
 use crate::tplt::TpltParam;
 use crate::ty::{StructType, TextureType, Type};
 
-impl Words {
+impl Words<'_> {
     fn head(&mut self, tag: u8, a: u8, b: u8, c: u8) {
         self.push(u32::from_le_bytes([tag, a, b, c]));
     }
@@ -38,21 +38,21 @@ impl Words {
     }
 
     /// The type. Scalars and vectors of scalars, which most are, have no further call.
-    #[inline]
-    pub(crate) fn ty(&mut self, ty: &Type) {
-        if let Some(scalar) = ty.scalar() {
-            return self.head(tag::SCALAR, scalar as u8, 0, 0);
-        }
+    #[inline(always)]
+    pub(crate) fn ty(&mut self, mut ty: &Type) {
         if let Type::Vec(components, of) = ty {
-            if let Some(scalar) = of.scalar() {
-                self.head(tag::VEC, *components, 0, 0);
-                return self.head(tag::SCALAR, scalar as u8, 0, 0);
-            }
+            self.head(tag::VEC, *components, 0, 0);
+            ty = of;
         }
-        self.layered(ty);
+        match ty.scalar() {
+            Some(scalar) => self.head(tag::SCALAR, scalar as u8, 0, 0),
+            None => self.len = Words { room: self.room, len: self.len }.layered(ty),
+        }
     }
 
-    fn layered(&mut self, ty: &Type) {
+    /// The type, and how many words there are then.
+    #[inline(never)]
+    fn layered(mut self, ty: &Type) -> usize {
         match ty {
             Type::Struct(of) => self.structure(of),
             Type::Array(ty, None) => self.around(tag::RUNTIME_ARRAY, 0, 0, ty),
@@ -72,6 +72,7 @@ impl Words {
             }
             _ => unreachable!("all others are scalars"),
         }
+        self.len
     }
 
     fn around(&mut self, tag: u8, a: u8, b: u8, ty: &Type) {

@@ -92,8 +92,7 @@ impl fmt::Display for Overload {
 /// assert_eq!(overloads("mixed"), []);
 /// ```
 pub fn overloads(name: &str) -> Vec<Overload> {
-    let mut request = Words::new();
-    request.name(name);
-    let texts = ask::option(Call::OVERLOADS, &request, |words| words.list(Reader::name));
+    let request = |words: &mut Words<'_>| words.name(name);
+    let texts = ask::option(Call::OVERLOADS, request, |words| words.list(Reader::name));
     texts.unwrap_or_default().into_iter().map(|text| Overload { text }).collect()
 }

@@ -68,9 +68,8 @@ impl NoOverload {
 /// assert_eq!(lines[0], "distance(T, T) -> T, T: float: takes 2 arguments, not 1");
 /// ```
 pub fn explain(callee: &Callee, template: Option<&Type>, operands: &[Operand]) -> Vec<String> {
-    let mut request = Words::new();
-    request.call(callee.called(), template, operands.iter());
-    ask::option(Call::WHY, &request, |words| words.list(Reader::name)).unwrap_or_default()
+    let request = |words: &mut Words<'_>| words.call(callee.called(), template, operands.iter());
+    ask::option(Call::WHY, request, |words| words.list(Reader::name)).unwrap_or_default()
 }
 
 impl fmt::Display for NoOverload {

@@ -168,8 +168,7 @@ where
     Operands: IntoIterator<Item = &'a Operand, IntoIter: ExactSizeIterator + Clone>,
 {
     let operands = operands.into_iter();
-    let mut request = Words::new();
-    request.call(called, template, operands.clone());
-    let found = ask::option(Call::RESOLVE, &request, answer);
+    let request = |words: &mut Words<'_>| words.call(called, template, operands.clone());
+    let found = ask::option(Call::RESOLVE, request, answer);
     found.ok_or_else(|| NoOverload::new(called, template, operands))
 }

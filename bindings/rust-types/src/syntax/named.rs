@@ -9,9 +9,7 @@ pub(crate) trait Named: Copy + 'static {
     fn name(self) -> &'static str;
 
     /// The value with that index, in declared order.
-    fn at(index: u8) -> Option<Self> {
-        Self::ALL.get(usize::from(index)).copied()
-    }
+    fn at(index: u8) -> Option<Self>;
 
     /// The value with that name.
     fn named(name: &str) -> Option<Self> {
@@ -30,6 +28,14 @@ macro_rules! named {
 
         impl $crate::syntax::named::Named for $Name {
             const ALL: &'static [$Name] = &[$($Name::$Variant,)*];
+
+            #[inline]
+            fn at(index: u8) -> Option<$Name> {
+                $(if index == $Name::$Variant as u8 {
+                    return Some($Name::$Variant);
+                })*
+                None
+            }
 
             fn name(self) -> &'static str {
                 match self {
