@@ -63,7 +63,8 @@ impl<'a> Reader<'a> {
     pub(crate) fn name(&mut self) -> Option<String> {
         let len = self.count()?;
         let (words, rest) = self.words.split_at_checked(len.div_ceil(4))?;
-        let mut text: Vec<u8> = words.iter().copied().flat_map(u32::to_le_bytes).collect();
+        let mut text = Vec::with_capacity(4 * words.len());
+        words.iter().for_each(|word| text.extend_from_slice(&word.to_le_bytes()));
         if text[len..].iter().any(|&byte| byte != 0) {
             return None;
         }

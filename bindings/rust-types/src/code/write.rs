@@ -28,8 +28,11 @@ impl Words<'_> {
     /// The number of bytes, and the bytes, four in a word.
     pub(crate) fn name(&mut self, name: &str) {
         self.number(name.len() as u64);
-        for bytes in name.as_bytes().chunks(4) {
-            self.push(bytes.iter().rev().fold(0, |word, &byte| word << 8 | u32::from(byte)));
+        let words = name.as_bytes().chunks_exact(4);
+        let rest = words.remainder();
+        words.for_each(|word| self.head(word[0], word[1], word[2], word[3]));
+        if !rest.is_empty() {
+            self.push(rest.iter().rev().fold(0, |word, &byte| word << 8 | u32::from(byte)));
         }
     }
 
