@@ -33,7 +33,7 @@ pub fn conversion_rank(a: &Type, b: &Type) -> Option<u32> {
 /// assert_eq!(convert_ty(&Type::F32, &Type::I32), None);
 /// ```
 pub fn convert_ty<'a>(a: &'a Type, b: &'a Type) -> Option<&'a Type> {
-    convert_all_ty([a, b])
+    common(&[a, b])
 }
 
 /// The common type of the iterator's types, from left to right (WGSL, "Overload Resolution"). None if there is none, as
@@ -46,10 +46,13 @@ pub fn convert_ty<'a>(a: &'a Type, b: &'a Type) -> Option<&'a Type> {
 /// assert_eq!(convert_all_ty(&[Type::AbstractInt, Type::F16, Type::AbstractFloat]), Some(&Type::F16));
 /// ```
 pub fn convert_all_ty<'a>(types: impl IntoIterator<Item = &'a Type>) -> Option<&'a Type> {
-    let types: Vec<&Type> = types.into_iter().collect();
+    common(&types.into_iter().collect::<Vec<_>>())
+}
+
+fn common<'a>(types: &[&'a Type]) -> Option<&'a Type> {
     let request = |words: &mut Words<'_>| words.types(types.iter().copied());
     let common = ask::option(Call::COMMON, request, |words| words.ty())?;
-    types.into_iter().rev().find(|ty| **ty == common)
+    types.iter().rev().copied().find(|ty| **ty == common)
 }
 
 impl Type {

@@ -43,8 +43,8 @@ impl<'a> Reader<'a> {
     }
 
     pub(super) fn number(&mut self) -> Option<u64> {
-        let low = self.word()?;
-        let high = self.word()?;
+        let (&[low, high], rest) = self.words.split_first_chunk()?;
+        self.words = rest;
         Some(u64::from(high) << 32 | u64::from(low))
     }
 
