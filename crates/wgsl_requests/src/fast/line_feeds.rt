@@ -5,7 +5,7 @@ ghost use Rattle.wgsl_requests.specs.internal.Lanes.{AllFrom};
 
 use std::simd::Simd;
 
-/// Whether each byte is greater than a line feed, as far as 16 or 8 can be compared at a time.
+/// Whether each byte is known to be greater than a line feed: 16 or 8 are compared at a time.
 pub fn are_great(bytes: &[u8]) -> bool
     ensures { IsTrue result → All (λ byte. 10 < byte) bytes.now }
 {
