@@ -19,6 +19,7 @@ use wgsl_standard::explanation::{Note, explain};
 use wgsl_standard::resolved::ResolvedCall;
 
 /// The type that a template is; None if it is something else.
+#[inline(always)]
 fn template_type(template: Option<&[TpltParam]>) -> Option<Option<&Type>>
     ensures { option_map (option_map (λ t. view t.now)) result
         ≡ template_type (option_map (λ ps. map parameter_view ps.now) template.entry) }
@@ -31,6 +32,7 @@ fn template_type(template: Option<&[TpltParam]>) -> Option<Option<&Type>>
 }
 
 /// The type of a call, if it has a value.
+#[inline(always)]
 pub(crate) fn type_of(alloc: Global, call: &Call<'_>) -> Result<Option<Option<Type>>, AllocError>
     ensures { IfOk result (λ r. IsTypeOf (call_view call.now) (option_map (option_map view) r)) }
 {
@@ -54,6 +56,7 @@ pub(crate) fn resolution_of(
 }
 
 /// What was made, or None if no overload takes the operands.
+#[inline(always)]
 fn if_resolved<T: Drop>(made: Result<T, Unresolved>) -> Result<Option<T>, AllocError>
     ensures { IfOk result (λ found. MatchOption found (made ≡ Err NoOverload) (λ x. made ≡ Ok x)) }
 {
