@@ -13,17 +13,18 @@ use Rattle.wgsl_core.specs.View.{view}
 use Rattle.wgsl_core.specs.Answer.{AnswersBy}
 use Rattle.wgsl_core.specs.declared.ty.Type.{«Type»}
 use Rattle.wgsl_core.specs.declared.ty.Type.TheVariants as v
+use Rattle.wgsl_core.specs.declared.error.Error.{Error}
 use Rattle.wgsl_core.specs.declared.error.Fail.{Fail}
 use Rattle.wgsl_core.specs.declared.error.Fail.TheVariants as fails
 use Rattle.wgsl_core.proofs.Views.{view-Ptr, view-Ref}
 
-answers : (P : Result WgslType Refusal → Type 0) (x : Result WgslType Refusal) (r : Result «Type» Fail) → AnswersBy (λ a. a ≡ x) r → P x → AnswersBy P r
+answers : (P : Result WgslType Refusal → Type 0) (x : Result WgslType Refusal) (r : Result «Type» (Fail Error)) → AnswersBy (λ a. a ≡ x) r → P x → AnswersBy P r
 answers P x (Ok t) e p = subst P (sym e) p
 answers P x (Err (fails.Error f)) e p = subst P (sym e) p
 answers P x (Err (fails.Memory m)) e p = tt
 
 -- the operand's own type if b holds, else the refusal
-pub own_or_refused : (P : Result WgslType Refusal → Type 0) {t : WgslType} {e : Refusal} (b : Bool) (r : Result «Type» Fail) →
+pub own_or_refused : (P : Result WgslType Refusal → Type 0) {t : WgslType} {e : Refusal} (b : Bool) (r : Result «Type» (Fail Error)) →
     (IsTrue b → AnswersBy (λ a. a ≡ Ok t) r) → (IsFalse b → AnswersBy (λ a. a ≡ Err e) r) → (IsTrue b → P (Ok t)) → (¬ IsTrue b → P (Err e)) → AnswersBy P r
 own_or_refused P {t} {e} true r own refused p q = answers P (Ok t) r (own refl) (p refl)
 own_or_refused P {t} {e} false r own refused p q = answers P (Err e) r (refused refl) (q (λ h. cc h))
@@ -44,6 +45,6 @@ pointed_back : {a b : WgslType} → IsUnaryRow AddressOf a b → (t : WgslType) 
 pointed_back (address_row s u m n) t = (one_reference s u m t, λ f. subst (λ r. IsUnaryRow Indirection (pointer s u m) r) (sym f) (indirection_row s u m))
 
 -- the pointer of a reference refers back to it
-pub gives_back : (a : WgslType) (r : Result «Type» Fail) → AnswersBy (IsUnaryAnswer AddressOf a) r → IfOk r (λ p. (t : WgslType) → IsUnaryRow Indirection (view p) t ↔ (t ≡ a))
+pub gives_back : (a : WgslType) (r : Result «Type» (Fail Error)) → AnswersBy (IsUnaryAnswer AddressOf a) r → IfOk r (λ p. (t : WgslType) → IsUnaryRow Indirection (view p) t ↔ (t ≡ a))
 gives_back a (Ok p) h = pointed_back h
 gives_back a (Err e) h = tt

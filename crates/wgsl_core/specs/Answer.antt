@@ -49,35 +49,35 @@ refusal (errors.TemplateArgs s) = template_args s.now
 refusal (errors.ParamCount s e n) = param_count (string_bytes s) e n
 refusal (errors.ParamType e t) = param_type (view e) (view t)
 
-abbrev pub fail_text : Fail → List ℕ
+abbrev pub fail_text : Fail Error → List ℕ
 fail_text (fails.Error e) = message (refusal e)
 fail_text (fails.Memory e) = codes "out of memory"
 
 -- P holds of the value as `seen` shows it, or of the refusal. Out of memory satisfies any P.
-abbrev pub AnswersAs : {A B : Type 0} → (A → B) → (Result B Refusal → Type 0) → Result A Fail → Type 0
+abbrev pub AnswersAs : {A B : Type 0} → (A → B) → (Result B Refusal → Type 0) → Result A (Fail Error) → Type 0
 AnswersAs seen P (Ok a) = P (Ok (seen a))
 AnswersAs seen P (Err (fails.Error e)) = P (Err (refusal e))
 AnswersAs seen P (Err (fails.Memory e)) = Unit {0}
 
 -- the same for types
-abbrev pub AnswersBy : (Result WgslType Refusal → Type 0) → Result «Type» Fail → Type 0
+abbrev pub AnswersBy : (Result WgslType Refusal → Type 0) → Result «Type» (Fail Error) → Type 0
 AnswersBy P r = AnswersAs view P r
 
 -- The value or the refusal is that of the answer. Out of memory stands for any answer.
-abbrev pub Gives : {A : Type 0} → Result A Refusal → Result A Fail → Type 0
+abbrev pub Gives : {A : Type 0} → Result A Refusal → Result A (Fail Error) → Type 0
 Gives answer (Ok a) = answer ≡ Ok a
 Gives answer (Err (fails.Error e)) = answer ≡ Err (refusal e)
 Gives answer (Err (fails.Memory e)) = Unit {0}
 
 -- the call isn't out of memory
-abbrev pub IsAnswered : {A : Type 0} → Result A Fail → Type 0
+abbrev pub IsAnswered : {A E : Type 0} → Result A (Fail E) → Type 0
 IsAnswered (Ok a) = Unit {0}
 IsAnswered (Err (fails.Error e)) = Unit {0}
 IsAnswered (Err (fails.Memory e)) = ⊥
 
 -- The type of a binary expression: by the operator's row, and for value types by overload resolution. Operators on
 -- scalars are never out of memory.
-pub record IsTypeOfBinary (o : BinaryOperator) (a b : WgslType) (result : Result «Type» Fail) : Type 0 where
+pub record IsTypeOfBinary (o : BinaryOperator) (a b : WgslType) (result : Result «Type» (Fail Error)) : Type 0 where
   pub row : AnswersBy (IsOperatorAnswer o a b) result
   pub least : AnswersBy (IsChosenResult o a b) result
   pub never_out_of_memory_on_scalars : IsScalar a → IsScalar b → IsAnswered result

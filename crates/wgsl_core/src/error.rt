@@ -5,7 +5,7 @@ mod eq;
 use crate::literal::LiteralInstance;
 use crate::signature::CallSignature;
 use crate::ty::Type;
-use std::alloc::AllocError;
+use std::alloc::{AllocError, AllocFailed};
 use std::fmt;
 use std::fmt::Write;
 use wgsl_syntax::operator::{BinaryOperator, UnaryOperator};
@@ -71,31 +71,42 @@ pub enum Error {
     ParamType(Type, Type),
 }
 
-/// A refusal, or out of memory.
+/// Why a call has no answer: an error, or out of memory.
 #[derive(Debug, Drop)]
-pub enum Fail {
-    Error(Error),
+pub enum Fail<E> {
+    Error(E),
     Memory(AllocError),
 }
 
-impl From<AllocError> for Fail {
+impl<E> From<AllocError> for Fail<E> {
     ghost use Rattle.std.specs.Prelude.{◌≡◌};
     ghost use Rattle.wgsl_core.specs.declared.error.Fail.TheVariants.{Memory};
 
     ghost from_gives = { λ e f. f ≡ Memory e };
 
-    fn from(e: AllocError) -> Fail {
+    fn from(e: AllocError) -> Fail<E> {
         Fail::Memory(e)
     }
 }
 
-impl From<Error> for Fail {
+impl<E, T: Drop> From<AllocFailed<T>> for Fail<E> {
+    ghost use Rattle.std.specs.Prelude.{◌≡◌, alloc_error};
+    ghost use Rattle.wgsl_core.specs.declared.error.Fail.TheVariants.{Memory};
+
+    ghost from_gives = { λ _ f. f ≡ Memory alloc_error };
+
+    fn from(_e: AllocFailed<T>) -> Fail<E> {
+        Fail::Memory(AllocError)
+    }
+}
+
+impl From<Error> for Fail<Error> {
     ghost use Rattle.std.specs.Prelude.{◌≡◌};
     ghost use Rattle.wgsl_core.specs.declared.error.Fail.TheVariants.{Error};
 
     ghost from_gives = { λ e f. f ≡ Error e };
 
-    fn from(e: Error) -> Fail {
+    fn from(e: Error) -> Fail<Error> {
         Fail::Error(e)
     }
 }
@@ -179,7 +190,7 @@ impl fmt::Display for Error {
     }
 }
 
-impl fmt::Display for Fail {
+impl fmt::Display for Fail<Error> {
     ghost use Rattle.std.specs.Prelude.{Some};
     ghost use Rattle.wgsl_core.specs.Answer.{fail_text};
 

@@ -38,7 +38,7 @@ pub struct Candidate {
 
 impl Type {
     /// The type of `!self` (WGSL, "Logical Expressions"): `self` if it is `bool` or a vector, else `Unary` with it.
-    pub fn op_not(&self, alloc: Global) -> Result<Type, Fail>
+    pub fn op_not(&self, alloc: Global) -> Result<Type, Fail<Error>>
         ensures row { AnswersBy (IsUnaryAnswer LogicalNegation (view self.now)) result }
         ensures never_out_of_memory_on_scalars { IsScalar (view self.now) → IsAnswered result }
     {
@@ -46,21 +46,21 @@ impl Type {
     }
 
     /// The type of `self || rhs` (WGSL, "Logical Expressions"), or `Binary` with both operands.
-    pub fn op_or(&self, alloc: Global, rhs: &Type) -> Result<Type, Fail>
+    pub fn op_or(&self, alloc: Global, rhs: &Type) -> Result<Type, Fail<Error>>
         ensures { IsTypeOfBinary ShortCircuitOr (view self.now) (view rhs.now) result }
     {
         type_binary_op(alloc, BinaryOperator::ShortCircuitOr, self, rhs)
     }
 
     /// The type of `self && rhs` (WGSL, "Logical Expressions"), or `Binary` with both operands.
-    pub fn op_and(&self, alloc: Global, rhs: &Type) -> Result<Type, Fail>
+    pub fn op_and(&self, alloc: Global, rhs: &Type) -> Result<Type, Fail<Error>>
         ensures { IsTypeOfBinary ShortCircuitAnd (view self.now) (view rhs.now) result }
     {
         type_binary_op(alloc, BinaryOperator::ShortCircuitAnd, self, rhs)
     }
 
     /// The type of `-self` (WGSL, "Arithmetic Expressions"): `self` if it is a scalar, else `Unary` with it.
-    pub fn op_neg(&self, alloc: Global) -> Result<Type, Fail>
+    pub fn op_neg(&self, alloc: Global) -> Result<Type, Fail<Error>>
         ensures row { AnswersBy (IsUnaryAnswer Negation (view self.now)) result }
         ensures never_out_of_memory_on_scalars { IsScalar (view self.now) → IsAnswered result }
     {
@@ -68,77 +68,77 @@ impl Type {
     }
 
     /// The type of `self + rhs` (WGSL, "Arithmetic Expressions"), or `Binary` with both operands.
-    pub fn op_add(&self, alloc: Global, rhs: &Type) -> Result<Type, Fail>
+    pub fn op_add(&self, alloc: Global, rhs: &Type) -> Result<Type, Fail<Error>>
         ensures { IsTypeOfBinary Addition (view self.now) (view rhs.now) result }
     {
         type_binary_op(alloc, BinaryOperator::Addition, self, rhs)
     }
 
     /// The type of `self - rhs` (WGSL, "Arithmetic Expressions"), or `Binary` with both operands.
-    pub fn op_sub(&self, alloc: Global, rhs: &Type) -> Result<Type, Fail>
+    pub fn op_sub(&self, alloc: Global, rhs: &Type) -> Result<Type, Fail<Error>>
         ensures { IsTypeOfBinary Subtraction (view self.now) (view rhs.now) result }
     {
         type_binary_op(alloc, BinaryOperator::Subtraction, self, rhs)
     }
 
     /// The type of `self * rhs` (WGSL, "Arithmetic Expressions"), or `Binary` with both operands.
-    pub fn op_mul(&self, alloc: Global, rhs: &Type) -> Result<Type, Fail>
+    pub fn op_mul(&self, alloc: Global, rhs: &Type) -> Result<Type, Fail<Error>>
         ensures { IsTypeOfBinary Multiplication (view self.now) (view rhs.now) result }
     {
         type_binary_op(alloc, BinaryOperator::Multiplication, self, rhs)
     }
 
     /// The type of `self / rhs` (WGSL, "Arithmetic Expressions"), or `Binary` with both operands.
-    pub fn op_div(&self, alloc: Global, rhs: &Type) -> Result<Type, Fail>
+    pub fn op_div(&self, alloc: Global, rhs: &Type) -> Result<Type, Fail<Error>>
         ensures { IsTypeOfBinary Division (view self.now) (view rhs.now) result }
     {
         type_binary_op(alloc, BinaryOperator::Division, self, rhs)
     }
 
     /// The type of `self % rhs` (WGSL, "Arithmetic Expressions"), or `Binary` with both operands.
-    pub fn op_rem(&self, alloc: Global, rhs: &Type) -> Result<Type, Fail>
+    pub fn op_rem(&self, alloc: Global, rhs: &Type) -> Result<Type, Fail<Error>>
         ensures { IsTypeOfBinary Remainder (view self.now) (view rhs.now) result }
     {
         type_binary_op(alloc, BinaryOperator::Remainder, self, rhs)
     }
 
     /// The type of `self == rhs` (WGSL, "Comparison Expressions"), or `Binary` with both operands.
-    pub fn op_eq(&self, alloc: Global, rhs: &Type) -> Result<Type, Fail>
+    pub fn op_eq(&self, alloc: Global, rhs: &Type) -> Result<Type, Fail<Error>>
         ensures { IsTypeOfBinary Equality (view self.now) (view rhs.now) result }
     {
         type_binary_op(alloc, BinaryOperator::Equality, self, rhs)
     }
 
     /// The type of `self != rhs` (WGSL, "Comparison Expressions"), or `Binary` with both operands.
-    pub fn op_ne(&self, alloc: Global, rhs: &Type) -> Result<Type, Fail>
+    pub fn op_ne(&self, alloc: Global, rhs: &Type) -> Result<Type, Fail<Error>>
         ensures { IsTypeOfBinary Inequality (view self.now) (view rhs.now) result }
     {
         type_binary_op(alloc, BinaryOperator::Inequality, self, rhs)
     }
 
     /// The type of `self < rhs` (WGSL, "Comparison Expressions"), or `Binary` with both operands.
-    pub fn op_lt(&self, alloc: Global, rhs: &Type) -> Result<Type, Fail>
+    pub fn op_lt(&self, alloc: Global, rhs: &Type) -> Result<Type, Fail<Error>>
         ensures { IsTypeOfBinary LessThan (view self.now) (view rhs.now) result }
     {
         type_binary_op(alloc, BinaryOperator::LessThan, self, rhs)
     }
 
     /// The type of `self <= rhs` (WGSL, "Comparison Expressions"), or `Binary` with both operands.
-    pub fn op_le(&self, alloc: Global, rhs: &Type) -> Result<Type, Fail>
+    pub fn op_le(&self, alloc: Global, rhs: &Type) -> Result<Type, Fail<Error>>
         ensures { IsTypeOfBinary LessThanEqual (view self.now) (view rhs.now) result }
     {
         type_binary_op(alloc, BinaryOperator::LessThanEqual, self, rhs)
     }
 
     /// The type of `self > rhs` (WGSL, "Comparison Expressions"), or `Binary` with both operands.
-    pub fn op_gt(&self, alloc: Global, rhs: &Type) -> Result<Type, Fail>
+    pub fn op_gt(&self, alloc: Global, rhs: &Type) -> Result<Type, Fail<Error>>
         ensures { IsTypeOfBinary GreaterThan (view self.now) (view rhs.now) result }
     {
         type_binary_op(alloc, BinaryOperator::GreaterThan, self, rhs)
     }
 
     /// The type of `self >= rhs` (WGSL, "Comparison Expressions"), or `Binary` with both operands.
-    pub fn op_ge(&self, alloc: Global, rhs: &Type) -> Result<Type, Fail>
+    pub fn op_ge(&self, alloc: Global, rhs: &Type) -> Result<Type, Fail<Error>>
         ensures { IsTypeOfBinary GreaterThanEqual (view self.now) (view rhs.now) result }
     {
         type_binary_op(alloc, BinaryOperator::GreaterThanEqual, self, rhs)
@@ -146,7 +146,7 @@ impl Type {
 
     /// The type of `~self` (WGSL, "Bit Expressions"): `self` if it is an integer or a vector of integers, else `Unary`
     /// with it.
-    pub fn op_bitnot(&self, alloc: Global) -> Result<Type, Fail>
+    pub fn op_bitnot(&self, alloc: Global) -> Result<Type, Fail<Error>>
         ensures row { AnswersBy (IsUnaryAnswer BitwiseComplement (view self.now)) result }
         ensures never_out_of_memory_on_scalars { IsScalar (view self.now) → IsAnswered result }
     {
@@ -154,35 +154,35 @@ impl Type {
     }
 
     /// The type of `self | rhs` (WGSL, "Bit Expressions"), or `Binary` with both operands.
-    pub fn op_bitor(&self, alloc: Global, rhs: &Type) -> Result<Type, Fail>
+    pub fn op_bitor(&self, alloc: Global, rhs: &Type) -> Result<Type, Fail<Error>>
         ensures { IsTypeOfBinary BitwiseOr (view self.now) (view rhs.now) result }
     {
         type_binary_op(alloc, BinaryOperator::BitwiseOr, self, rhs)
     }
 
     /// The type of `self & rhs` (WGSL, "Bit Expressions"), or `Binary` with both operands.
-    pub fn op_bitand(&self, alloc: Global, rhs: &Type) -> Result<Type, Fail>
+    pub fn op_bitand(&self, alloc: Global, rhs: &Type) -> Result<Type, Fail<Error>>
         ensures { IsTypeOfBinary BitwiseAnd (view self.now) (view rhs.now) result }
     {
         type_binary_op(alloc, BinaryOperator::BitwiseAnd, self, rhs)
     }
 
     /// The type of `self ^ rhs` (WGSL, "Bit Expressions"), or `Binary` with both operands.
-    pub fn op_bitxor(&self, alloc: Global, rhs: &Type) -> Result<Type, Fail>
+    pub fn op_bitxor(&self, alloc: Global, rhs: &Type) -> Result<Type, Fail<Error>>
         ensures { IsTypeOfBinary BitwiseXor (view self.now) (view rhs.now) result }
     {
         type_binary_op(alloc, BinaryOperator::BitwiseXor, self, rhs)
     }
 
     /// The type of `self << rhs` (WGSL, "Bit Expressions"), or `Binary` with both operands.
-    pub fn op_shl(&self, alloc: Global, rhs: &Type) -> Result<Type, Fail>
+    pub fn op_shl(&self, alloc: Global, rhs: &Type) -> Result<Type, Fail<Error>>
         ensures { IsTypeOfBinary ShiftLeft (view self.now) (view rhs.now) result }
     {
         type_binary_op(alloc, BinaryOperator::ShiftLeft, self, rhs)
     }
 
     /// The type of `self >> rhs` (WGSL, "Bit Expressions"), or `Binary` with both operands.
-    pub fn op_shr(&self, alloc: Global, rhs: &Type) -> Result<Type, Fail>
+    pub fn op_shr(&self, alloc: Global, rhs: &Type) -> Result<Type, Fail<Error>>
         ensures { IsTypeOfBinary ShiftRight (view self.now) (view rhs.now) result }
     {
         type_binary_op(alloc, BinaryOperator::ShiftRight, self, rhs)
@@ -190,7 +190,7 @@ impl Type {
 
     /// The type of `&self` (WGSL, "Address-Of Expression"): the pointer for a reference. `PtrHandle` for a reference in
     /// the handle space, `Unary` with the type for any other type.
-    pub fn op_ref(&self, alloc: Global) -> Result<Type, Fail>
+    pub fn op_ref(&self, alloc: Global) -> Result<Type, Fail<Error>>
         ensures row { AnswersBy (IsUnaryAnswer AddressOf (view self.now)) result }
         ensures deref_gives_back { IfOk result (λ p. (t : WgslType)
             → IsUnaryRow Indirection (view p) t ↔ (t ≡ view self.now)) }
@@ -202,7 +202,7 @@ impl Type {
     }
 
     /// The type of `*self` (WGSL, "Indirection Expression"): the reference for a pointer, else `Unary` with the type.
-    pub fn op_deref(&self, alloc: Global) -> Result<Type, Fail>
+    pub fn op_deref(&self, alloc: Global) -> Result<Type, Fail<Error>>
         ensures row { AnswersBy (IsUnaryAnswer Indirection (view self.now)) result }
         ensures never_out_of_memory_on_scalars { IsScalar (view self.now) → IsAnswered result }
     {
@@ -218,7 +218,7 @@ pub fn binary_candidate(
     operator: BinaryOperator,
     lhs: &Type,
     rhs: &Type,
-) -> Result<Candidate, Fail>
+) -> Result<Candidate, Fail<Error>>
     ensures row { AnswersAs candidate_view
         (IsCandidateAnswer operator (view lhs.now) (view rhs.now)) result }
     ensures least { AnswersAs candidate_view
@@ -252,7 +252,7 @@ pub fn type_binary_op(
     operator: BinaryOperator,
     lhs: &Type,
     rhs: &Type,
-) -> Result<Type, Fail>
+) -> Result<Type, Fail<Error>>
     ensures answer { IsTypeOfBinary operator (view lhs.now) (view rhs.now) result }
     ensures one_choice { IsValueType (view lhs.now) → IsValueType (view rhs.now)
         → OneChoice (of_operator operator) (view lhs.now ∷ view rhs.now ∷ []) }
@@ -280,7 +280,11 @@ fn refuse_binary(
 
 /// The type of a unary expression (WGSL, "Expressions"). `PtrHandle` for `&` of a reference in the handle space,
 /// `Unary` with the operator and the operand for any other operand that the operator doesn't take.
-pub fn type_unary_op(alloc: Global, operator: UnaryOperator, operand: &Type) -> Result<Type, Fail>
+pub fn type_unary_op(
+    alloc: Global,
+    operator: UnaryOperator,
+    operand: &Type,
+) -> Result<Type, Fail<Error>>
     ensures row { AnswersBy (IsUnaryAnswer operator (view operand.now)) result }
     ensures never_out_of_memory_on_scalars { IsScalar (view operand.now) → IsAnswered result }
     ensures never_out_of_memory_on_handles { operator ≡ AddressOf
@@ -296,7 +300,7 @@ pub fn type_unary_op(alloc: Global, operator: UnaryOperator, operand: &Type) -> 
 }
 
 /// `!`: the operand's own type if it is `bool` or a vector.
-fn logical_negation(alloc: Global, operand: &Type) -> Result<Type, Fail>
+fn logical_negation(alloc: Global, operand: &Type) -> Result<Type, Fail<Error>>
     ensures row { AnswersBy (IsUnaryAnswer LogicalNegation (view operand.now)) result }
     ensures never_out_of_memory { IsLeaf (view operand.now) → IsAnswered result }
 {
@@ -309,7 +313,7 @@ fn logical_negation(alloc: Global, operand: &Type) -> Result<Type, Fail>
 }
 
 /// `-`: the operand's own type if it is a scalar.
-fn negation(alloc: Global, operand: &Type) -> Result<Type, Fail>
+fn negation(alloc: Global, operand: &Type) -> Result<Type, Fail<Error>>
     ensures row { AnswersBy (IsUnaryAnswer Negation (view operand.now)) result }
     ensures never_out_of_memory { IsLeaf (view operand.now) → IsAnswered result }
 {
@@ -317,7 +321,7 @@ fn negation(alloc: Global, operand: &Type) -> Result<Type, Fail>
 }
 
 /// `~`: the operand's own type if it is an integer or a vector of integers.
-fn complement(alloc: Global, operand: &Type) -> Result<Type, Fail>
+fn complement(alloc: Global, operand: &Type) -> Result<Type, Fail<Error>>
     ensures row { AnswersBy (IsUnaryAnswer BitwiseComplement (view operand.now)) result }
     ensures never_out_of_memory { IsLeaf (view operand.now) → IsAnswered result }
 {
@@ -330,7 +334,7 @@ fn complement(alloc: Global, operand: &Type) -> Result<Type, Fail>
 }
 
 /// `&`: the pointer for a reference that isn't in the handle space.
-fn address_of(alloc: Global, operand: &Type) -> Result<Type, Fail>
+fn address_of(alloc: Global, operand: &Type) -> Result<Type, Fail<Error>>
     ensures row { AnswersBy (IsUnaryAnswer AddressOf (view operand.now)) result }
     ensures never_out_of_memory { IsLeaf (view operand.now) → IsAnswered result }
     ensures never_out_of_memory_on_handles { IsInHandleSpace (view operand.now)
@@ -346,7 +350,7 @@ fn address_of(alloc: Global, operand: &Type) -> Result<Type, Fail>
 }
 
 /// `*`: the reference for a pointer.
-fn indirection(alloc: Global, operand: &Type) -> Result<Type, Fail>
+fn indirection(alloc: Global, operand: &Type) -> Result<Type, Fail<Error>>
     ensures row { AnswersBy (IsUnaryAnswer Indirection (view operand.now)) result }
     ensures never_out_of_memory { IsLeaf (view operand.now) → IsAnswered result }
 {
@@ -363,7 +367,12 @@ fn is_bool_or_vector(ty: &Type) -> bool
 }
 
 /// The type itself if `holds`, else the refusal of the operator.
-fn own_if(alloc: Global, operator: UnaryOperator, ty: &Type, holds: bool) -> Result<Type, Fail>
+fn own_if(
+    alloc: Global,
+    operator: UnaryOperator,
+    ty: &Type,
+    holds: bool,
+) -> Result<Type, Fail<Error>>
     ensures own { IsTrue holds → AnswersBy (λ r. r ≡ Ok (view ty.now)) result }
     ensures refused { IsFalse holds
         → AnswersBy (λ r. r ≡ Err (unary operator (view ty.now))) result }

@@ -167,7 +167,7 @@ impl From<SampledType> for Type {
 }
 
 /// The sampled type that the type names (WGSL, "Sampled Texture Types"), or the error `SampledType` with the type.
-pub fn try_from_type(alloc: Global, ty: &Type) -> Result<SampledType, Fail>
+pub fn try_from_type(alloc: Global, ty: &Type) -> Result<SampledType, Fail<Error>>
     ensures row { Gives (ok_or (sampled_of (view ty.now)) (sampled_type (view ty.now))) result }
     ensures never_out_of_memory { IsLeaf (view ty.now) → IsAnswered result }
 {
