@@ -6,17 +6,17 @@ use std::alloc::Global;
 use wgsl_requests::read::{read_last_type, read_pair, read_types};
 use wgsl_requests::template::read_template;
 use wgsl_requests::wanted::{Misfit, Wanted};
-use wgsl_requests::words::{Unread, Words, medium};
+use wgsl_requests::words::{Words, medium};
 use wgsl_types::builtin::{type_binary_op, type_builtin_fn, type_ctor, type_unary_op};
 use wgsl_types::conv::{conversion_rank, convert_all_ty};
-use wgsl_types::error::Fail;
+use wgsl_types::error::{Error, Fail};
 use wgsl_types::syntax::{BinaryOperator, UnaryOperator};
 use wgsl_types::ty::Type;
 
 /// Makes the call of a request as often as the number before it says, and counts the calls that give a value.
-pub fn repeat(alloc: Global, request: &str) -> Result<u64, Unread> {
+pub fn repeat(alloc: Global, request: &str) -> Result<u64, Fail<Misfit>> {
     let Some(mut words) = Words::of(request.as_bytes()) else {
-        return Err(Unread::Word(Misfit::LeftOver));
+        return Err(Fail::Error(Misfit::LeftOver));
     };
     let times = medium(words.next(Wanted::Elements)?, Wanted::Elements)?;
     match words.next(Wanted::Command)? {
@@ -29,18 +29,18 @@ pub fn repeat(alloc: Global, request: &str) -> Result<u64, Unread> {
         "call" => calls(alloc, times, &mut words),
         "choice" => choices(alloc, times, &mut words),
         "standard" => standard_calls(alloc, times, &mut words),
-        _ => Err(Unread::Word(Misfit::Wrong(Wanted::Command))),
+        _ => Err(Fail::Error(Misfit::Wrong(Wanted::Command))),
     }
 }
 
 /// 1 if the call gave a value, else 0.
-fn count<T: Drop>(answer: Result<T, Fail>) -> u64 {
+fn count<T: Drop>(answer: Result<T, Fail<Error>>) -> u64 {
     let given = u64::from(answer.is_ok());
     drop(answer);
     given
 }
 
-fn ranks(alloc: Global, times: u32, words: &mut Words) -> Result<u64, Unread> {
+fn ranks(alloc: Global, times: u32, words: &mut Words) -> Result<u64, Fail<Misfit>> {
     let types = read_pair(alloc, words)?;
     let mut given: u64 = 0;
     for _ in 0..times {
@@ -55,7 +55,7 @@ fn ranks(alloc: Global, times: u32, words: &mut Words) -> Result<u64, Unread> {
     Ok(given)
 }
 
-fn common_types(alloc: Global, times: u32, words: &mut Words) -> Result<u64, Unread> {
+fn common_types(alloc: Global, times: u32, words: &mut Words) -> Result<u64, Fail<Misfit>> {
     let types = read_types(alloc, words)?;
     let mut given: u64 = 0;
     for _ in 0..times {
@@ -66,10 +66,10 @@ fn common_types(alloc: Global, times: u32, words: &mut Words) -> Result<u64, Unr
     Ok(given)
 }
 
-fn unaries(alloc: Global, times: u32, words: &mut Words) -> Result<u64, Unread> {
+fn unaries(alloc: Global, times: u32, words: &mut Words) -> Result<u64, Fail<Misfit>> {
     let operator = match words.next(Wanted::UnaryOperator)? {
         "-" => UnaryOperator::Negation,
-        _ => return Err(Unread::Word(Misfit::Wrong(Wanted::UnaryOperator))),
+        _ => return Err(Fail::Error(Misfit::Wrong(Wanted::UnaryOperator))),
     };
     let operand = read_last_type(alloc, words)?;
     let mut given: u64 = 0;
@@ -81,12 +81,12 @@ fn unaries(alloc: Global, times: u32, words: &mut Words) -> Result<u64, Unread> 
     Ok(given)
 }
 
-fn binaries(alloc: Global, times: u32, words: &mut Words) -> Result<u64, Unread> {
+fn binaries(alloc: Global, times: u32, words: &mut Words) -> Result<u64, Fail<Misfit>> {
     let operator = match words.next(Wanted::BinaryOperator)? {
         "+" => BinaryOperator::Addition,
         "*" => BinaryOperator::Multiplication,
         "<<" => BinaryOperator::ShiftLeft,
-        _ => return Err(Unread::Word(Misfit::Wrong(Wanted::BinaryOperator))),
+        _ => return Err(Fail::Error(Misfit::Wrong(Wanted::BinaryOperator))),
     };
     let types = read_pair(alloc, words)?;
     let mut given: u64 = 0;
@@ -98,7 +98,7 @@ fn binaries(alloc: Global, times: u32, words: &mut Words) -> Result<u64, Unread>
     Ok(given)
 }
 
-fn sizes(alloc: Global, times: u32, words: &mut Words) -> Result<u64, Unread> {
+fn sizes(alloc: Global, times: u32, words: &mut Words) -> Result<u64, Fail<Misfit>> {
     let other = Type::F32;
     let ty = read_last_type(alloc, words)?;
     let mut given: u64 = 0;
@@ -111,7 +111,7 @@ fn sizes(alloc: Global, times: u32, words: &mut Words) -> Result<u64, Unread> {
     Ok(given)
 }
 
-fn constructors(alloc: Global, times: u32, words: &mut Words) -> Result<u64, Unread> {
+fn constructors(alloc: Global, times: u32, words: &mut Words) -> Result<u64, Fail<Misfit>> {
     let name = words.next(Wanted::Name)?;
     let template = read_template(alloc, words)?;
     let types = read_types(alloc, words)?;
@@ -125,7 +125,7 @@ fn constructors(alloc: Global, times: u32, words: &mut Words) -> Result<u64, Unr
     Ok(given)
 }
 
-fn calls(alloc: Global, times: u32, words: &mut Words) -> Result<u64, Unread> {
+fn calls(alloc: Global, times: u32, words: &mut Words) -> Result<u64, Fail<Misfit>> {
     let name = words.next(Wanted::Name)?;
     let template = read_template(alloc, words)?;
     let types = read_types(alloc, words)?;

@@ -3,15 +3,16 @@ ghost use Rattle.wgsl_rules.specs.standard.Tables.{IsUnambiguous};
 
 use std::alloc::{AllocError, Global};
 use wgsl_requests::read::read_types;
-use wgsl_requests::wanted::Wanted;
-use wgsl_requests::words::{Unread, Words};
+use wgsl_requests::wanted::{Misfit, Wanted};
+use wgsl_requests::words::Words;
 use wgsl_standard::resolve::resolve;
+use wgsl_types::error::Fail;
 use wgsl_types::standard::{Callee, Operand, Overload, overloads, type_builtin_fn};
 use wgsl_types::syntax::BinaryOperator;
 use wgsl_types::ty::Type;
 
 /// Makes the choice alone for an operator or a function, and counts the choices that find an overload.
-pub fn choices(alloc: Global, times: u32, words: &mut Words) -> Result<u64, Unread> {
+pub fn choices(alloc: Global, times: u32, words: &mut Words) -> Result<u64, Fail<Misfit>> {
     let name = words.next(Wanted::Name)?;
     let types = read_types(alloc, words)?;
     let operands = operands_of(alloc, &types)?;
@@ -40,7 +41,7 @@ fn count(times: u32, overloads: &[Overload], operands: &[Operand<'_>]) -> u64
 }
 
 /// Makes the call of a function, and counts the calls that have a result.
-pub fn standard_calls(alloc: Global, times: u32, words: &mut Words) -> Result<u64, Unread> {
+pub fn standard_calls(alloc: Global, times: u32, words: &mut Words) -> Result<u64, Fail<Misfit>> {
     let name = words.next(Wanted::Name)?;
     let types = read_types(alloc, words)?;
     let operands = operands_of(alloc, &types)?;

@@ -6,10 +6,10 @@ use std::io;
 use std::io::Write;
 use wgsl_types::builtin::{type_binary_op, type_builtin_fn};
 use wgsl_types::syntax::BinaryOperator;
-use wgsl_types::{Fail, Type};
+use wgsl_types::{Error, Fail, Type};
 
 /// The type as WGSL spells it, or the message of the error. Only out of memory is an error of ours.
-fn hover(alloc: Global, answer: Result<Type, Fail>) -> Result<String, AllocError> {
+fn hover(alloc: Global, answer: Result<Type, Fail<Error>>) -> Result<String, AllocError> {
     match answer {
         Ok(ty) => ty.to_string(alloc),
         Err(Fail::Error(e)) => e.to_string(alloc),

@@ -4,8 +4,8 @@
 use std::alloc::Global;
 use std::io::Write;
 use std::{fmt, io};
-use wgsl_types::Type;
-use wgsl_types::standard::{Callee, Operand, Unresolved, explain, signatures, type_builtin_fn};
+use wgsl_types::standard::{Callee, NoOverload, Operand, explain, signatures, type_builtin_fn};
+use wgsl_types::{Fail, Type};
 
 /// One line per signature, or per note.
 fn show_all<W: Write, T: fmt::Display>(output: &mut W, lines: &[T]) -> io::Result<()> {
@@ -20,11 +20,11 @@ fn show_call<W: Write>(alloc: Global, output: &mut W, args: &[Operand<'_>]) -> i
     match type_builtin_fn(alloc, "mix", None, args) {
         Ok(Some(ty)) => writeln!(output, "  {ty}"),
         Ok(None) => writeln!(output, "  no value"),
-        Err(Unresolved::NoOverload) => {
+        Err(Fail::Error(NoOverload)) => {
             let notes = explain(alloc, Callee::Function("mix"), None, args)?;
             show_all(output, &notes)
         }
-        Err(Unresolved::OutOfMemory(e)) => Err(io::Error::from(e)),
+        Err(Fail::Memory(e)) => Err(io::Error::from(e)),
     }
 }
 

@@ -1,6 +1,6 @@
 -- A request that is spelled in text and in numbers gets one answer: each reply spells what the rules define once.
 use Rattle.std.proofs.Common.{◌≡◌, ◌≢◌, ◌⊎◌, ◌∙◌, ℕ, List, [], ◌∷◌, ap, arith, false, inl, inr, true, Option, Some, None, Result, Ok, Err, refl, sym, subst}
-use Rattle.std.specs.Prelude.{IsSomeAnd, MatchOption, option_map}
+use Rattle.std.specs.Prelude.{IsSomeAnd, MatchOption, alloc_error, option_map}
 use Rattle.wgsl_syntax.specs.declared.overload.Overload.{Overload}
 use Rattle.wgsl_syntax.specs.declared.operator.BinaryOperator.{BinaryOperator}
 use Rattle.wgsl_rules.specs.types.Types.{WgslType, Members}
@@ -25,8 +25,9 @@ use Rattle.wgsl_requests.specs.declared.rules.RuleSet.{RuleSet}
 use Rattle.wgsl_requests.proofs.OneAnswer.{one_answer as text_once, result_is}
 use Rattle.wgsl_requests.proofs.OneRequest.{one_request}
 use Rattle.wgsl_requests.proofs.Requested.{no_words_no_request}
-use Rattle.wgsl_coded.specs.declared.fault.Fault.{Fault}
-use Rattle.wgsl_coded.specs.declared.fault.Fault.TheVariants.{Memory, NoType}
+use Rattle.wgsl_core.specs.declared.error.Fail.{Fail}
+use Rattle.wgsl_coded.specs.declared.unreadable.Unreadable.{Unreadable}
+use Rattle.wgsl_core.specs.declared.error.Fail.TheVariants.{Error, Memory}
 use Rattle.wgsl_coded.specs.Replies.{IsAnswered, ReplyWords, answer_words}
 use Rattle.wgsl_agreement.specs.Agreement.{IsTextReply, IsNumbersReply, IsOneAnswer, IsAgreement, IsIfReceived, AreOne, counterpart}
 
@@ -136,11 +137,11 @@ asked : {A : Type 0} (Is : A → Type 0) {read : Option A} {a : A} → read ≡ 
 asked Is e h = subst (λ x. IsSomeAnd x Is) e h
 
 -- numbers that spell a request are answered, unless out of memory
-numbers_answer : (name : List ℕ) (request : WgslRequest) (words : List ℕ) (in_numbers : Result ReplyWords Fault) → IsNumbersReply name request words in_numbers → in_numbers ≢ Err Memory
+numbers_answer : (name : List ℕ) (request : WgslRequest) (words : List ℕ) (in_numbers : Result ReplyWords (Fail Unreadable)) → IsNumbersReply name request words in_numbers → in_numbers ≢ Err (Memory alloc_error)
     → (reply : ReplyWords) × (in_numbers ≡ Ok reply)
 numbers_answer name request words (Ok reply) n m = (reply, refl)
-numbers_answer name request words (Err Memory) n m = absurd (m refl)
-numbers_answer name request words (Err NoType) n m = absurd (cc (sym n.0 ∙ n.1))
+numbers_answer name request words (Err (Memory e)) n m = absurd (m refl)
+numbers_answer name request words (Err (Error e)) n m = absurd (cc (sym n.0 ∙ n.1))
 
 one_answer : (rules : RuleSet) (name : List ℕ) (request : WgslRequest) (bytes words text : List ℕ) (reply : ReplyWords) → IsRequest rules (words_of bytes) request → IsReply rules (words_of bytes) text
     → IsNumbersReply name request words (Ok reply) → IsOneAnswer name request text reply
@@ -148,7 +149,7 @@ one_answer rules name request bytes words text reply q r n =
     let same = one_request rules (words_of bytes) r.0 request r.1 q in
     both_reply name request text reply (subst (λ request. IsAnswer request text) same r.2) (asked (λ request. IsAnswered request reply) n.0 n.1)
 
-pub agreement : (rules : RuleSet) (request : WgslRequest) (name bytes words : List ℕ) (in_text : ReplyText) (in_numbers : Result ReplyWords Fault) → IsTextReply rules bytes request in_text
+pub agreement : (rules : RuleSet) (request : WgslRequest) (name bytes words : List ℕ) (in_text : ReplyText) (in_numbers : Result ReplyWords (Fail Unreadable)) → IsTextReply rules bytes request in_text
     → IsNumbersReply name request words in_numbers → IsAgreement name bytes request in_text in_numbers
 agreement rules request name bytes words in_text in_numbers d n =
     let f = text_form d.1 in

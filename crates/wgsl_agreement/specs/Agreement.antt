@@ -1,5 +1,5 @@
 -- One answer to a request in text and in numbers.
-use Rattle.std.specs.Prelude.{◌≡◌, ◌≢◌, ℕ, List, Option, Some, None, Result, Ok, Err, All, option_map}
+use Rattle.std.specs.Prelude.{◌≡◌, ◌≢◌, ℕ, List, Option, Some, None, Result, Ok, Err, All, alloc_error, option_map}
 use Rattle.wgsl_rules.specs.types.Types.{WgslType}
 use Rattle.wgsl_rules.specs.Headline.{Receives}
 use Rattle.wgsl_rules.specs.conversion.Conversion.{IsValueType}
@@ -10,8 +10,9 @@ use Rattle.wgsl_requests.specs.Replies.{IsLineOfText, IsReplyTo as IsReplyToText
 use Rattle.wgsl_requests.specs.Texts.{answer_text, candidate_result}
 use Rattle.wgsl_requests.specs.Words.{words_of}
 use Rattle.wgsl_requests.specs.declared.rules.RuleSet.{RuleSet}
-use Rattle.wgsl_coded.specs.declared.fault.Fault.{Fault}
-use Rattle.wgsl_coded.specs.declared.fault.Fault.TheVariants.{Memory}
+use Rattle.wgsl_core.specs.declared.error.Fail.{Fail}
+use Rattle.wgsl_coded.specs.declared.unreadable.Unreadable.{Unreadable}
+use Rattle.wgsl_core.specs.declared.error.Fail.TheVariants.{Memory}
 use Rattle.wgsl_coded.specs.Replies.{IsReplyTo, ReplyWords, answer_words}
 use Rattle.wgsl_coded.specs.StandardCalls.{resolve_request, why_request, overloads_request}
 use Rattle.wgsl_coded.specs.Requests.{rank_request, common_request, unary_request, binary_request, constructor_request, call_request, size_request, layout_request}
@@ -50,7 +51,7 @@ abbrev pub IsTextReply : RuleSet → List ℕ → WgslRequest → ReplyText → 
 IsTextReply rules bytes request in_text = IsRequest rules (words_of bytes) request × IsReplyToText rules bytes in_text
 
 -- the numbers spell its counterpart, and this is the reply to them
-abbrev pub IsNumbersReply : List ℕ → WgslRequest → List ℕ → Result ReplyWords Fault → Type 0
+abbrev pub IsNumbersReply : List ℕ → WgslRequest → List ℕ → Result ReplyWords (Fail Unreadable) → Type 0
 IsNumbersReply name request ws in_numbers =
     (numbers_ask request ws ≡ Some (counterpart name request)) × IsReplyTo (numbers_ask request ws) in_numbers
 
@@ -80,8 +81,8 @@ pub record IsOneAnswer (name : List ℕ) (request : WgslRequest) (text : List �
   pub in_numbers : reply ≡ answer_words counted
 
 -- Both replies to a request. A line of text is answered, numbers are answered unless out of memory, and two answers are one.
-pub record IsAgreement (name bytes : List ℕ) (request : WgslRequest) (in_text : ReplyText) (in_numbers : Result ReplyWords Fault) : Type 0 where
+pub record IsAgreement (name bytes : List ℕ) (request : WgslRequest) (in_text : ReplyText) (in_numbers : Result ReplyWords (Fail Unreadable)) : Type 0 where
   pub text_is_answered : IsLineOfText bytes → (text : List ℕ) × (in_text ≡ answer text)
-  pub numbers_are_answered : in_numbers ≢ Err Memory → (reply : ReplyWords) × (in_numbers ≡ Ok reply)
+  pub numbers_are_answered : in_numbers ≢ Err (Memory alloc_error) → (reply : ReplyWords) × (in_numbers ≡ Ok reply)
   pub one_answer : (text : List ℕ) (reply : ReplyWords) → in_text ≡ answer text → in_numbers ≡ Ok reply →
       IsOneAnswer name request text reply

@@ -7,6 +7,7 @@ use Rattle.wgsl_rules.specs.errors.Refusals.{Refusal}
 use Rattle.wgsl_rules.specs.layout.Layout.{AreOffsets, HasNoSize}
 use Rattle.wgsl_core.specs.Answer.{AnswersAs, IsAnswered}
 use Rattle.wgsl_core.specs.Layout.{IsLayoutOf as IsLayoutOfMembers}
+use Rattle.wgsl_core.specs.declared.error.Error.{Error}
 use Rattle.wgsl_core.specs.declared.error.Fail.{Fail}
 use Rattle.wgsl_core.specs.declared.error.Fail.TheVariants as fails
 use Rattle.wgsl_core.specs.declared.layout.StructLayout.{StructLayout}
@@ -19,7 +20,7 @@ use Rattle.wgsl_core.specs.internal.Resolution.{resolution_view}
 use Rattle.wgsl_asked.specs.declared.answers.Operands.{Operands}
 use Rattle.wgsl_asked.specs.Views.{candidate_view, layout_view, outcome}
 
-pub settles : {A B : Type 0} (answered : Result B Refusal → WgslAnswer) (shown : A → B) (P : Result B Refusal → Type 0) (request : WgslRequest) {made : Result A Fail} (r : Result A Fail) →
+pub settles : {A B : Type 0} (answered : Result B Refusal → WgslAnswer) (shown : A → B) (P : Result B Refusal → Type 0) (request : WgslRequest) {made : Result A (Fail Error)} (r : Result A (Fail Error)) →
     (made ≡ r) × IsAnswered r → AnswersAs shown P made → ((x : Result B Refusal) → P x → Answers request (answered x)) → Answers request (outcome answered shown r)
 settles answered shown P request (Ok a) e h so = so _ (subst (AnswersAs shown P) e.0 h)
 settles answered shown P request (Err (fails.Error x)) e h so = so _ (subst (AnswersAs shown P) e.0 h)

@@ -8,6 +8,7 @@ use Rattle.wgsl_core.specs.Answer.{refusal}
 use Rattle.wgsl_core.specs.Instances.{call_view}
 use Rattle.wgsl_core.specs.Layout.{layouts_of, offsets_of}
 use Rattle.wgsl_core.specs.View.{struct_view, view}
+use Rattle.wgsl_core.specs.declared.error.Error.{Error}
 use Rattle.wgsl_core.specs.declared.error.Fail.{Fail}
 use Rattle.wgsl_core.specs.declared.error.Fail.TheVariants as fails
 use Rattle.wgsl_core.specs.declared.layout.StructLayout.{StructLayout}
@@ -46,7 +47,7 @@ request_view (requests.Overloads name) = overloads_of name.now
 request_view (requests.Explanation c) = explanation_of (standard_view c.now)
 
 -- a value as `shown` shows it, or the refusal
-abbrev pub outcome : {A B : Type 0} → (Result B Refusal → WgslAnswer) → (A → B) → Result A Fail →
+abbrev pub outcome : {A B : Type 0} → (Result B Refusal → WgslAnswer) → (A → B) → Result A (Fail Error) →
     WgslAnswer
 outcome answered shown (Ok x) = answered (Ok (shown x))
 outcome answered shown (Err (fails.Error e)) = answered (Err (refusal e))

@@ -1,6 +1,6 @@
 // What is answered.
 use crate::requests::Call;
-use wgsl_core::error::Fail;
+use wgsl_core::error::{Error, Fail};
 use wgsl_core::layout::StructLayout;
 use wgsl_core::operators::resolve::ResolvedType;
 use wgsl_core::ty::{StructType, Type};
@@ -16,9 +16,9 @@ pub enum Answer<'r> {
     Size(Option<u32>, Option<u32>),
     Common(Option<&'r Type>),
     /// The type of an expression, or why it has none; out of memory is no answer.
-    Type(Result<Type, Fail>),
+    Type(Result<Type, Fail<Error>>),
     /// What a call returns, which may be no value, or why it is refused; out of memory is no answer.
-    Value(Result<Option<Type>, Fail>),
+    Value(Result<Option<Type>, Fail<Error>>),
     /// The type of a binary expression, or the operands that the operator doesn't take.
     Binary(Result<ResolvedType<'r>, Operands<'r>>),
     Offsets(Option<Vec<u32>>),

@@ -16,7 +16,7 @@ use wgsl_calls::call::type_builtin_fn;
 use wgsl_calls::constructor::type_ctor;
 use wgsl_core::conversion::conversion_rank;
 use wgsl_core::conversion::lists::common_of;
-use wgsl_core::error::Fail;
+use wgsl_core::error::{Error, Fail};
 use wgsl_core::operators::resolve::{ResolvedType, resolve_operator};
 use wgsl_core::operators::type_unary_op;
 use wgsl_core::ty::Type;
@@ -73,7 +73,7 @@ fn resolved_type<'r>(
 
 /// The same, unless it is out of memory.
 #[inline(always)]
-fn settled<T: Drop>(made: Result<T, Fail>) -> Result<Result<T, Fail>, AllocError>
+fn settled<T: Drop>(made: Result<T, Fail<Error>>) -> Result<Result<T, Fail<Error>>, AllocError>
     ensures { IfOk result (λ same. (made ≡ same) × IsAnswered same) }
 {
     match out_of_memory(&made) {
@@ -86,7 +86,7 @@ fn settled<T: Drop>(made: Result<T, Fail>) -> Result<Result<T, Fail>, AllocError
 }
 
 #[inline(always)]
-fn out_of_memory<T>(made: &Result<T, Fail>) -> Option<AllocError>
+fn out_of_memory<T>(made: &Result<T, Fail<Error>>) -> Option<AllocError>
     ensures { result ≡ None → IsAnswered made.now }
 {
     match made {

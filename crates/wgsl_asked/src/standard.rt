@@ -2,18 +2,20 @@
 ghost use Rattle.std.specs.Prelude.{◌≡◌, Err, IfOk, MatchOption, Ok, map, option_map};
 ghost use Rattle.wgsl_core.specs.Instances.{parameter_view};
 ghost use Rattle.wgsl_core.specs.View.{view};
+ghost use Rattle.wgsl_core.specs.declared.error.Fail.TheVariants.{Error};
+ghost use Rattle.wgsl_standard.specs.Answered.{no_overload};
 ghost use Rattle.wgsl_standard.specs.Resolved.{resolved_view};
 ghost use Rattle.wgsl_standard.specs.Texts.{note_text};
-ghost use Rattle.wgsl_standard.specs.declared.answer.Unresolved.TheVariants.{NoOverload};
 ghost use Rattle.wgsl_asked.specs.Calls.{template_type};
 ghost use Rattle.wgsl_asked.specs.Standard.{IsExplanationOf, IsResolutionOf, IsTypeOf};
 ghost use Rattle.wgsl_asked.specs.StandardViews.{call_view};
 
 use crate::requests::Call;
 use std::alloc::{AllocError, Global};
+use wgsl_core::error::Fail;
 use wgsl_core::signature::TpltParam;
 use wgsl_core::ty::Type;
-use wgsl_standard::answer::Unresolved;
+use wgsl_standard::answer::NoOverload;
 use wgsl_standard::call::{resolve_callee, type_of_call};
 use wgsl_standard::explanation::{Note, explain};
 use wgsl_standard::resolved::ResolvedCall;
@@ -57,13 +59,13 @@ pub(crate) fn resolution_of(
 
 /// What was made, or None if no overload takes the operands.
 #[inline(always)]
-fn if_resolved<T: Drop>(made: Result<T, Unresolved>) -> Result<Option<T>, AllocError>
-    ensures { IfOk result (λ found. MatchOption found (made ≡ Err NoOverload) (λ x. made ≡ Ok x)) }
+fn if_resolved<T: Drop>(made: Result<T, Fail<NoOverload>>) -> Result<Option<T>, AllocError>
+    ensures { IfOk result (λ found. MatchOption found (made ≡ Err (Error no_overload)) (λ x. made ≡ Ok x)) }
 {
     match made {
         Ok(value) => Ok(Some(value)),
-        Err(Unresolved::NoOverload) => Ok(None),
-        Err(Unresolved::OutOfMemory(error)) => Err(error),
+        Err(Fail::Error(NoOverload)) => Ok(None),
+        Err(Fail::Memory(error)) => Err(error),
     }
 }
 

@@ -4,24 +4,29 @@ ghost use Rattle.wgsl_coded.specs.Seen.{reply_words, resolved_words, seen};
 ghost use Rattle.wgsl_c.specs.Words.{IsHandedReply, IsHandedText, IsRoomKept};
 
 use crate::hand_over::{ANSWERED, OUT_OF_MEMORY, RULED_OUT, UNREADABLE, hand_over_items};
-use wgsl_coded::{Fault, Reply, Resolved};
+use wgsl_coded::{Reply, Resolved, Unreadable};
+use wgsl_core::error::Fail;
 
 /// Returns the words of a reply.
 #[inline(always)]
-pub fn hand_over_reply(reply: &Result<Reply, Fault>, room: &mut [u32], len: &mut usize) -> u8
+pub fn hand_over_reply(
+    reply: &Result<Reply, Fail<Unreadable>>,
+    room: &mut [u32],
+    len: &mut usize,
+) -> u8
     ensures reply { IsHandedReply (seen reply_words reply.now) room.old room.new len.new result }
     ensures room { IsRoomKept room.old room.new len.new result }
 {
     match reply {
         Ok(reply) => hand_over_words(reply, room, len),
-        Err(fault) => hand_over_fault(*fault, len),
+        Err(fail) => hand_over_fail(fail, len),
     }
 }
 
 /// Returns the words of what a call resolves to.
 #[inline(always)]
 pub fn hand_over_resolved(
-    resolved: &Result<Resolved, Fault>,
+    resolved: &Result<Resolved, Fail<Unreadable>>,
     room: &mut [u32],
     len: &mut usize,
 ) -> u8
@@ -31,7 +36,7 @@ pub fn hand_over_resolved(
     match resolved {
         Ok(Resolved::Short(words)) => hand_over_items(ANSWERED, words.as_slice(), room, len),
         Ok(Resolved::Other(reply)) => hand_over_words(reply, room, len),
-        Err(fault) => hand_over_fault(*fault, len),
+        Err(fail) => hand_over_fail(fail, len),
     }
 }
 
@@ -49,24 +54,28 @@ fn hand_over_words(reply: &Reply, room: &mut [u32], len: &mut usize) -> u8
 }
 
 /// Returns a text.
-pub fn hand_over_text(text: &Result<String, Fault>, room: &mut [u8], len: &mut usize) -> u8
+pub fn hand_over_text(
+    text: &Result<String, Fail<Unreadable>>,
+    room: &mut [u8],
+    len: &mut usize,
+) -> u8
     ensures text { IsHandedText text.now room.old room.new len.new result }
     ensures room { IsRoomKept room.old room.new len.new result }
 {
     match text {
         Ok(text) => hand_over_items(ANSWERED, text.as_bytes(), room, len),
-        Err(fault) => hand_over_fault(*fault, len),
+        Err(fail) => hand_over_fail(fail, len),
     }
 }
 
-fn hand_over_fault(fault: Fault, len: &mut usize) -> u8
-    ensures reply { (room : List ℕ) → IsHandedReply (Err fault) room room len.new result }
-    ensures text { (room : List ℕ) → IsHandedText (Err fault) room room len.new result }
+fn hand_over_fail(fail: &Fail<Unreadable>, len: &mut usize) -> u8
+    ensures reply { (room : List ℕ) → IsHandedReply (Err fail.now) room room len.new result }
+    ensures text { (room : List ℕ) → IsHandedText (Err fail.now) room room len.new result }
     ensures room { (room : List ℕ) → IsRoomKept room room len.new result }
 {
     *len = 0;
-    match fault {
-        Fault::NoType => UNREADABLE,
-        Fault::Memory => OUT_OF_MEMORY,
+    match fail {
+        Fail::Error(_) => UNREADABLE,
+        Fail::Memory(_) => OUT_OF_MEMORY,
     }
 }

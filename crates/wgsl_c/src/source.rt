@@ -4,7 +4,8 @@ ghost use Rattle.std.specs.declared.alloc.AllocError.{AllocError};
 ghost use Rattle.wgsl_requests.specs.declared.request.Reply.{Reply};
 ghost use Rattle.wgsl_coded.specs.Replies.{ReplyWords};
 ghost use Rattle.wgsl_coded.specs.Seen.{reply_words, seen};
-ghost use Rattle.wgsl_coded.specs.declared.fault.Fault.{Fault};
+ghost use Rattle.wgsl_coded.specs.declared.unreadable.Unreadable.{Unreadable};
+ghost use Rattle.wgsl_core.specs.declared.error.Fail.{Fail};
 ghost use Rattle.wgsl_c.specs.HandOver.{IsHandedOver, IsStatus};
 ghost use Rattle.wgsl_c.specs.Source.{IsText, IsTypeReply, IsWhyNot};
 ghost use Rattle.wgsl_c.specs.Words.{IsHandedReply, IsRoomKept};
@@ -13,7 +14,8 @@ use crate::hand_over::hand_over;
 use crate::hand_over_words::hand_over_reply;
 use std::alloc::{AllocError, Global};
 use std::str::from_utf8;
-use wgsl_coded::{Fault, write};
+use wgsl_coded::{Unreadable, write};
+use wgsl_core::error::Fail;
 use wgsl_report::report::{Format, Report, Request, report_on};
 use wgsl_report::spelled::explain_type;
 use wgsl_requests::request::Reply;
@@ -68,18 +70,18 @@ pub extern "C" fn wgsl_read_type(
     room: &mut [u32],
     len: &mut usize,
 ) -> u8
-    ensures reply { (reply : Result ReplyWords Fault) × IsTypeReply source.now reply
+    ensures reply { (reply : Result ReplyWords (Fail Unreadable)) × IsTypeReply source.now reply
         × IsHandedReply reply room.old room.new len.new result }
     ensures room { IsRoomKept room.old room.new len.new result }
 {
     hand_over_reply(&type_code(alloc, source), room, len)
 }
 
-fn type_code(alloc: Global, source: &[u8]) -> Result<wgsl_coded::Reply, Fault>
+fn type_code(alloc: Global, source: &[u8]) -> Result<wgsl_coded::Reply, Fail<Unreadable>>
     ensures { IsTypeReply source.now (seen reply_words result) }
 {
     let Ok(text) = from_utf8(source) else {
-        return Err(Fault::NoType);
+        return Err(Fail::Error(Unreadable));
     };
     match read_type(alloc, text) {
         Ok(ty) => {
@@ -89,8 +91,8 @@ fn type_code(alloc: Global, source: &[u8]) -> Result<wgsl_coded::Reply, Fault>
             written?;
             Ok(wgsl_coded::Reply::Answer(words))
         }
-        Err(Stop::Memory) => Err(Fault::Memory),
-        Err(_) => Err(Fault::NoType),
+        Err(Stop::Memory) => Err(Fail::Memory(AllocError)),
+        Err(_) => Err(Fail::Error(Unreadable)),
     }
 }
 

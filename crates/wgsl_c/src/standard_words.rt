@@ -9,7 +9,8 @@ ghost use Rattle.std.specs.Global.{Global};
 ghost use Rattle.wgsl_coded.specs.Reads.{Reads};
 ghost use Rattle.wgsl_coded.specs.Replies.{IsOverloadsReply, IsResolveReply, IsWhyReply, ReplyWords};
 ghost use Rattle.wgsl_coded.specs.Texts.{message_in, spelling_in};
-ghost use Rattle.wgsl_coded.specs.declared.fault.Fault.{Fault};
+ghost use Rattle.wgsl_coded.specs.declared.unreadable.Unreadable.{Unreadable};
+ghost use Rattle.wgsl_core.specs.declared.error.Fail.{Fail};
 ghost use Rattle.wgsl_c.specs.Words.{IsHandedReply, IsHandedText, IsRoomKept};
 
 use crate::hand_over_words::{hand_over_reply, hand_over_resolved, hand_over_text};
@@ -24,7 +25,7 @@ pub extern "C" fn wgsl_standard_resolve(
     room: &mut [u32],
     len: &mut usize,
 ) -> u8
-    ensures reply { (reply : Result ReplyWords Fault) × IsResolveReply request.now reply
+    ensures reply { (reply : Result ReplyWords (Fail Unreadable)) × IsResolveReply request.now reply
         × IsHandedReply reply room.old room.new len.new result }
     ensures room { IsRoomKept room.old room.new len.new result }
 {
@@ -39,7 +40,7 @@ pub extern "C" fn wgsl_standard_overloads(
     room: &mut [u32],
     len: &mut usize,
 ) -> u8
-    ensures reply { (reply : Result ReplyWords Fault) × IsOverloadsReply request.now reply
+    ensures reply { (reply : Result ReplyWords (Fail Unreadable)) × IsOverloadsReply request.now reply
         × IsHandedReply reply room.old room.new len.new result }
     ensures room { IsRoomKept room.old room.new len.new result }
 {
@@ -54,7 +55,7 @@ pub extern "C" fn wgsl_standard_why(
     room: &mut [u32],
     len: &mut usize,
 ) -> u8
-    ensures reply { (reply : Result ReplyWords Fault) × IsWhyReply request.now reply
+    ensures reply { (reply : Result ReplyWords (Fail Unreadable)) × IsWhyReply request.now reply
         × IsHandedReply reply room.old room.new len.new result }
     ensures room { IsRoomKept room.old room.new len.new result }
 {
@@ -69,7 +70,7 @@ pub extern "C" fn wgsl_spell(
     room: &mut [u8],
     text_len: &mut usize,
 ) -> u8
-    ensures text { (text : Result (String Global) Fault) × Reads string_bytes text (spelling_in codes.now)
+    ensures text { (text : Result (String Global) (Fail Unreadable)) × Reads string_bytes text (spelling_in codes.now)
         × IsHandedText text room.old room.new text_len.new result }
     ensures room { IsRoomKept room.old room.new text_len.new result }
 {
@@ -84,7 +85,7 @@ pub extern "C" fn wgsl_message(
     room: &mut [u8],
     text_len: &mut usize,
 ) -> u8
-    ensures text { (text : Result (String Global) Fault) × Reads string_bytes text (message_in codes.now)
+    ensures text { (text : Result (String Global) (Fail Unreadable)) × Reads string_bytes text (message_in codes.now)
         × IsHandedText text room.old room.new text_len.new result }
     ensures room { IsRoomKept room.old room.new text_len.new result }
 {

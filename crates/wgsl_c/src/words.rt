@@ -5,7 +5,8 @@
 // are no such request, 3 if memory runs out, and 4 if the room has fewer words than the answer or the refusal.
 ghost use Rattle.std.specs.Prelude.{Result};
 ghost use Rattle.wgsl_coded.specs.Replies.{IsBinaryReply, IsCallReply, IsCommonReply, IsConstructorReply, IsLayoutReply, IsRankReply, IsSizeReply, IsUnaryReply, ReplyWords};
-ghost use Rattle.wgsl_coded.specs.declared.fault.Fault.{Fault};
+ghost use Rattle.wgsl_coded.specs.declared.unreadable.Unreadable.{Unreadable};
+ghost use Rattle.wgsl_core.specs.declared.error.Fail.{Fail};
 ghost use Rattle.wgsl_c.specs.Words.{IsHandedReply, IsRoomKept};
 
 use crate::hand_over_words::hand_over_reply;
@@ -15,7 +16,7 @@ use wgsl_coded::{binary, call, common, constructor, layout, rank, size, unary};
 /// The rank of the conversion from one type to another.
 #[unsafe(no_mangle)]
 pub extern "C" fn wgsl_rank(alloc: Global, request: &[u32], room: &mut [u32], len: &mut usize) -> u8
-    ensures reply { (reply : Result ReplyWords Fault) × IsRankReply request.now reply
+    ensures reply { (reply : Result ReplyWords (Fail Unreadable)) × IsRankReply request.now reply
         × IsHandedReply reply room.old room.new len.new result }
     ensures room { IsRoomKept room.old room.new len.new result }
 {
@@ -30,7 +31,7 @@ pub extern "C" fn wgsl_common(
     room: &mut [u32],
     len: &mut usize,
 ) -> u8
-    ensures reply { (reply : Result ReplyWords Fault) × IsCommonReply request.now reply
+    ensures reply { (reply : Result ReplyWords (Fail Unreadable)) × IsCommonReply request.now reply
         × IsHandedReply reply room.old room.new len.new result }
     ensures room { IsRoomKept room.old room.new len.new result }
 {
@@ -45,7 +46,7 @@ pub extern "C" fn wgsl_unary(
     room: &mut [u32],
     len: &mut usize,
 ) -> u8
-    ensures reply { (reply : Result ReplyWords Fault) × IsUnaryReply request.now reply
+    ensures reply { (reply : Result ReplyWords (Fail Unreadable)) × IsUnaryReply request.now reply
         × IsHandedReply reply room.old room.new len.new result }
     ensures room { IsRoomKept room.old room.new len.new result }
 {
@@ -60,7 +61,7 @@ pub extern "C" fn wgsl_binary(
     room: &mut [u32],
     len: &mut usize,
 ) -> u8
-    ensures reply { (reply : Result ReplyWords Fault) × IsBinaryReply request.now reply
+    ensures reply { (reply : Result ReplyWords (Fail Unreadable)) × IsBinaryReply request.now reply
         × IsHandedReply reply room.old room.new len.new result }
     ensures room { IsRoomKept room.old room.new len.new result }
 {
@@ -75,7 +76,7 @@ pub extern "C" fn wgsl_constructor(
     room: &mut [u32],
     len: &mut usize,
 ) -> u8
-    ensures reply { (reply : Result ReplyWords Fault) × IsConstructorReply request.now reply
+    ensures reply { (reply : Result ReplyWords (Fail Unreadable)) × IsConstructorReply request.now reply
         × IsHandedReply reply room.old room.new len.new result }
     ensures room { IsRoomKept room.old room.new len.new result }
 {
@@ -85,7 +86,7 @@ pub extern "C" fn wgsl_constructor(
 /// The type of the call of a built-in function.
 #[unsafe(no_mangle)]
 pub extern "C" fn wgsl_call(alloc: Global, request: &[u32], room: &mut [u32], len: &mut usize) -> u8
-    ensures reply { (reply : Result ReplyWords Fault) × IsCallReply request.now reply
+    ensures reply { (reply : Result ReplyWords (Fail Unreadable)) × IsCallReply request.now reply
         × IsHandedReply reply room.old room.new len.new result }
     ensures room { IsRoomKept room.old room.new len.new result }
 {
@@ -95,7 +96,7 @@ pub extern "C" fn wgsl_call(alloc: Global, request: &[u32], room: &mut [u32], le
 /// The size and the alignment of a type.
 #[unsafe(no_mangle)]
 pub extern "C" fn wgsl_size(alloc: Global, request: &[u32], room: &mut [u32], len: &mut usize) -> u8
-    ensures reply { (reply : Result ReplyWords Fault) × IsSizeReply request.now reply
+    ensures reply { (reply : Result ReplyWords (Fail Unreadable)) × IsSizeReply request.now reply
         × IsHandedReply reply room.old room.new len.new result }
     ensures room { IsRoomKept room.old room.new len.new result }
 {
@@ -110,7 +111,7 @@ pub extern "C" fn wgsl_layout(
     room: &mut [u32],
     len: &mut usize,
 ) -> u8
-    ensures reply { (reply : Result ReplyWords Fault) × IsLayoutReply request.now reply
+    ensures reply { (reply : Result ReplyWords (Fail Unreadable)) × IsLayoutReply request.now reply
         × IsHandedReply reply room.old room.new len.new result }
     ensures room { IsRoomKept room.old room.new len.new result }
 {

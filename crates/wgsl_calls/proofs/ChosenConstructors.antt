@@ -12,6 +12,7 @@ use Rattle.wgsl_rules.specs.constructors.Constructors.{Constructor, makes_array,
 use Rattle.wgsl_core.specs.View.{view}
 use Rattle.wgsl_core.specs.Answer.{AnswersBy}
 use Rattle.wgsl_core.specs.declared.ty.Type.{«Type»}
+use Rattle.wgsl_core.specs.declared.error.Error.{Error}
 use Rattle.wgsl_core.specs.declared.error.Fail.{Fail}
 use Rattle.wgsl_calls.specs.Constructors.{IsVectorCandidate, IsMatrixCandidate, IsCandidateOf, IsLeastMade, IsLeastConstructorAnswer}
 use Rattle.wgsl_calls.proofs.AnswersAs.{answers}
@@ -58,5 +59,5 @@ unfolding IsConstructorAnswer IsLeastConstructorAnswer
 constructor_is_least call r h vs = built_least (constructor_of call.name) call r vs h
 
 -- the same of the result in memory
-pub least_returned : (call : Signature) (r : Result «Type» Fail) → AnswersBy (IsConstructorAnswer call) r → AnswersBy (IsLeastConstructorAnswer call) r
+pub least_returned : (call : Signature) (r : Result «Type» (Fail Error)) → AnswersBy (IsConstructorAnswer call) r → AnswersBy (IsLeastConstructorAnswer call) r
 least_returned call r h = answers view (IsConstructorAnswer call) (IsLeastConstructorAnswer call) r (constructor_is_least call) h

@@ -24,18 +24,19 @@ use Rattle.wgsl_core.specs.declared.ty.form.Form.{Form}
 use Rattle.wgsl_core.specs.declared.ty.form.Form.TheVariants as forms
 use Rattle.wgsl_core.specs.Answer.{AnswersAs}
 use Rattle.wgsl_core.specs.declared.ty.Type.{«Type»}
+use Rattle.wgsl_core.specs.declared.error.Error.{Error}
 use Rattle.wgsl_core.specs.declared.error.Fail.{Fail}
 use Rattle.wgsl_core.specs.declared.error.Fail.TheVariants as fails
 use Rattle.wgsl_calls.specs.internal.Constructors.{AllConverted}
 
 -- arrays: the elements are checked
-pub of_elements : (args : List «Type») (n : Option ℕ) (k : ℕ) (t e : WgslType) → 1 ≤ length args → n ≡ Some k → e ≡ t → (r : Result (Unit {0}) Fail) →
+pub of_elements : (args : List «Type») (n : Option ℕ) (k : ℕ) (t e : WgslType) → 1 ≤ length args → n ≡ Some k → e ≡ t → (r : Result (Unit {0}) (Fail Error)) →
     AnswersAs (λ u. u) (AllConverted e (map view args)) r → AnswersAs (λ u. array n t) (IsTypedArray (map view args) (array n t)) r
 of_elements [] n k t e le p q r h = absurd (omega arith)
 of_elements (a ∷ args) n k t e le p q r h =
     subst (λ m. AnswersAs (λ u. array m t) (IsTypedArray (map view (a ∷ args)) (array m t)) r) (sym p) (at r (subst (λ u. AnswersAs (λ x. x) (AllConverted u (map view (a ∷ args))) r) q h))
   where
-    at : (r : Result (Unit {0}) Fail) → AnswersAs (λ u. u) (AllConverted t (map view (a ∷ args))) r →
+    at : (r : Result (Unit {0}) (Fail Error)) → AnswersAs (λ u. u) (AllConverted t (map view (a ∷ args))) r →
         AnswersAs (λ u. array (Some k) t) (IsTypedArray (map view (a ∷ args)) (array (Some k) t)) r
     at (Ok u) h = inl (h, refl)
     at (Err (fails.Error x)) h = inr (h.0, h.1, ap Err h.2)

@@ -13,31 +13,32 @@ use Rattle.wgsl_rules.proofs.calls.ChosenCalls.{call_is_least}
 use Rattle.wgsl_core.specs.View.{view}
 use Rattle.wgsl_core.specs.Answer.{refusal, AnswersAs, IsAnswered}
 use Rattle.wgsl_core.specs.declared.ty.Type.{«Type»}
+use Rattle.wgsl_core.specs.declared.error.Error.{Error}
 use Rattle.wgsl_core.specs.declared.error.Fail.{Fail}
 use Rattle.wgsl_core.specs.declared.error.Fail.TheVariants as fails
 use Rattle.wgsl_calls.specs.internal.Answers.{Chooses, MayBeOutOfMemory, IsMet, Answered}
 use Rattle.wgsl_calls.proofs.OutOfMemory.{by_answer, by_other}
 
-pub by_name : (c : Signature) (rows : List Row) (p : Option (List Parameter)) (r : Result (Option «Type») Fail) → rows ≡ rows_named c.name call_table → Answered (IsAnswerOf rows c) p r →
+pub by_name : (c : Signature) (rows : List Row) (p : Option (List Parameter)) (r : Result (Option «Type») (Fail Error)) → rows ≡ rows_named c.name call_table → Answered (IsAnswerOf rows c) p r →
     Answered (IsCallAnswer c) p r
 unfolding IsCallAnswer
 by_name c rows p r e k = by_other (IsAnswerOf rows c) (IsCallAnswer c) p r (λ a h. subst (λ rows. IsAnswerOf rows c a) e h) k
 
 -- the answer by the rows of a name
-pub by_chosen : (c : Signature) (rows : List Row) (o : ReturnType) (p : Option (List Parameter)) (r : Result (Option «Type») Fail) → rows ≡ rows_named c.name call_table →
+pub by_chosen : (c : Signature) (rows : List Row) (o : ReturnType) (p : Option (List Parameter)) (r : Result (Option «Type») (Fail Error)) → rows ≡ rows_named c.name call_table →
     Chooses rows c (Some o) → Answered (IsReturnType o c) p r → Answered (IsCallAnswer c) p r
 by_chosen c rows o p r e h k = by_name c rows p r e (by_other (IsReturnType o c) (IsAnswerOf rows c) p r h k)
 
-pub by_none : (c : Signature) (rows : List Row) (p : Option (List Parameter)) (r : Result (Option «Type») Fail) → rows ≡ rows_named c.name call_table →
+pub by_none : (c : Signature) (rows : List Row) (p : Option (List Parameter)) (r : Result (Option «Type») (Fail Error)) → rows ≡ rows_named c.name call_table →
     Chooses rows c None → IsMet (Err (signature c)) r → Answered (IsCallAnswer c) p r
 by_none c rows p r e h k = by_name c rows p r e (by_answer (IsAnswerOf rows c) p (Err (signature c)) r h k)
 
-pub row_answered : (c : Signature) (r : Result (Option «Type») Fail) → Answered (IsCallAnswer c) c.template r → AnswersAs (option_map view) (IsCallAnswer c) r
+pub row_answered : (c : Signature) (r : Result (Option «Type») (Fail Error)) → Answered (IsCallAnswer c) c.template r → AnswersAs (option_map view) (IsCallAnswer c) r
 row_answered c (Ok t) k = k
 row_answered c (Err (fails.Error e)) k = k
 row_answered c (Err (fails.Memory m)) k = tt
 
-pub least_answered : (c : Signature) (r : Result (Option «Type») Fail) → Answered (IsCallAnswer c) c.template r → AnswersAs (option_map view) (IsLeastCallAnswer c) r
+pub least_answered : (c : Signature) (r : Result (Option «Type») (Fail Error)) → Answered (IsCallAnswer c) c.template r → AnswersAs (option_map view) (IsLeastCallAnswer c) r
 least_answered c (Ok t) k = call_is_least c (Ok (option_map view t)) k
 least_answered c (Err (fails.Error e)) k = call_is_least c (Err (refusal e)) k
 least_answered c (Err (fails.Memory m)) k = tt
@@ -47,7 +48,7 @@ never_wanted (Err e) k f = f
 never_wanted (Ok None) k f = k
 never_wanted (Ok (Some t)) k f = k f
 
-pub leaf_answered : (c : Signature) (r : Result (Option «Type») Fail) → Answered (IsCallAnswer c) c.template r → IsLeafCall c → IsAnswered r
+pub leaf_answered : (c : Signature) (r : Result (Option «Type») (Fail Error)) → Answered (IsCallAnswer c) c.template r → IsLeafCall c → IsAnswered r
 unfolding IsLeafCall
 leaf_answered c (Ok t) k f = tt
 leaf_answered c (Err (fails.Error e)) k f = tt

@@ -14,6 +14,7 @@ use Rattle.wgsl_syntax.specs.declared.call.Row.{Row}
 use Rattle.wgsl_syntax.specs.declared.call.ReturnType.{ReturnType}
 use Rattle.wgsl_rules.specs.calls.Rows.{Fits, return_type_of, IsFromTemplate}
 use Rattle.wgsl_core.specs.declared.ty.Type.{«Type»}
+use Rattle.wgsl_core.specs.declared.error.Error.{Error}
 use Rattle.wgsl_core.specs.declared.error.Fail.{Fail}
 use Rattle.wgsl_core.specs.declared.error.Fail.TheVariants as fails
 use Rattle.wgsl_calls.specs.internal.Answers.{Chooses, IsMet, Answered}
@@ -22,12 +23,12 @@ abbrev Answer : Type 0
 Answer = Result (Option WgslType) Refusal
 
 -- a result that meets an answer of P satisfies P
-pub by_answer : (P : Answer → Type 0) (p : Option (List Parameter)) (a : Answer) (r : Result (Option «Type») Fail) → P a → IsMet a r → Answered P p r
+pub by_answer : (P : Answer → Type 0) (p : Option (List Parameter)) (a : Answer) (r : Result (Option «Type») (Fail Error)) → P a → IsMet a r → Answered P p r
 by_answer P p a (Ok t) k e = subst P e k
 by_answer P p a (Err (fails.Error x)) k e = subst P e k
 by_answer P p a (Err (fails.Memory m)) k e = λ n. (a, k, e)
 
-pub by_other : (P Q : Answer → Type 0) (p : Option (List Parameter)) (r : Result (Option «Type») Fail) → ((a : Answer) → P a → Q a) → Answered P p r → Answered Q p r
+pub by_other : (P Q : Answer → Type 0) (p : Option (List Parameter)) (r : Result (Option «Type») (Fail Error)) → ((a : Answer) → P a → Q a) → Answered P p r → Answered Q p r
 by_other P Q p (Ok t) f k = f _ k
 by_other P Q p (Err (fails.Error x)) f k = f _ k
 by_other P Q p (Err (fails.Memory m)) f k = λ n. let j = k n in (j.0, f j.0 j.1, j.2)
@@ -44,7 +45,7 @@ pub no_row : (c : Signature) → Chooses [] c None
 no_row c = refl
 
 -- `bitcast` without a template is refused
-pub no_template : (c : Signature) (p : Option (List Parameter)) (r : Result (Option «Type») Fail) → p ≡ None → IsMet (Err (signature c)) r → Answered (IsFromTemplate c p) p r
+pub no_template : (c : Signature) (p : Option (List Parameter)) (r : Result (Option «Type») (Fail Error)) → p ≡ None → IsMet (Err (signature c)) r → Answered (IsFromTemplate c p) p r
 no_template c p r e k = subst (λ p. Answered (IsFromTemplate c p) p r) (sym e) (by_answer (IsFromTemplate c None) None (Err (signature c)) r refl k)
 
 matrix_before : (b : Bool) (l : Layer) (t u : WgslType) → IsLeaf (cond b (within l t) (within l u)) → ⊥

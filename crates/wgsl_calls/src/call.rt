@@ -54,7 +54,7 @@ pub fn type_builtin_fn(
     name: &str,
     template: Option<&[TpltParam]>,
     args: &[Type],
-) -> Result<Option<Type>, Fail>
+) -> Result<Option<Type>, Fail<Error>>
     ensures row { AnswersAs (option_map view)
         (IsCallAnswer (call_view name.now template.entry args.now)) result }
     ensures least { AnswersAs (option_map view)
@@ -75,7 +75,7 @@ pub fn type_builtin_fn(
 }
 
 /// The answer of a call: of the first row of its name that takes it, or the refusal if none does.
-fn answer(alloc: Global, call: &Call<'_>) -> Result<Option<Type>, Fail>
+fn answer(alloc: Global, call: &Call<'_>) -> Result<Option<Type>, Fail<Error>>
     ensures { Answered (IsCallAnswer (signature_of call.now)) (template_of call.now) result }
 {
     match chosen(call) {
@@ -131,7 +131,7 @@ fn return_type(row: &Row) -> ReturnType
 }
 
 #[inline(never)]
-fn refuse(alloc: Global, call: &Call<'_>) -> Result<Option<Type>, Fail>
+fn refuse(alloc: Global, call: &Call<'_>) -> Result<Option<Type>, Fail<Error>>
     ensures { IsMet (Err (signature (signature_of call.now))) result }
 {
     let refused = CallSignature::of_call(alloc, call.name, call.template, call.args)?;
@@ -142,7 +142,7 @@ fn by_return_type(
     alloc: Global,
     return_type: ReturnType,
     call: &Call<'_>,
-) -> Result<Option<Type>, Fail>
+) -> Result<Option<Type>, Fail<Error>>
     ensures { Answered (IsReturnType return_type (signature_of call.now))
         (template_of call.now) result }
 {
@@ -178,7 +178,7 @@ fn given(
     alloc: Global,
     found: Option<ResolvedType<'_>>,
     call: &Call<'_>,
-) -> Result<Option<Type>, Fail>
+) -> Result<Option<Type>, Fail<Error>>
     ensures { IsMet (given_for (signature_of call.now)
         (option_map resolved_view found.entry)) result }
 {
@@ -192,7 +192,7 @@ fn concrete(
     alloc: Global,
     found: Option<Element<'_>>,
     call: &Call<'_>,
-) -> Result<Option<Type>, Fail>
+) -> Result<Option<Type>, Fail<Error>>
     ensures { IsMet (given_for (signature_of call.now)
         (option_map concretized (option_map element_view found.entry))) result }
 {
@@ -228,7 +228,11 @@ fn split_result(function: ResultFunction, ty: Option<&Type>) -> Option<ResultStr
 
 /// The type that `frexp` or `modf` returns.
 #[tactic(auto, using(crate::proofs::OutOfMemory::no_leaf_result))]
-fn split(alloc: Global, of: Option<ResultStruct>, call: &Call<'_>) -> Result<Option<Type>, Fail>
+fn split(
+    alloc: Global,
+    of: Option<ResultStruct>,
+    call: &Call<'_>,
+) -> Result<Option<Type>, Fail<Error>>
     ensures { IsMet (given_for (signature_of call.now) (option_map result_type of)) result }
 {
     match of {
@@ -239,7 +243,7 @@ fn split(alloc: Global, of: Option<ResultStruct>, call: &Call<'_>) -> Result<Opt
 
 /// The type that an atomic exchange returns.
 #[tactic(auto, using(crate::proofs::OutOfMemory::no_leaf_exchange))]
-fn exchanged(alloc: Global, ty: Option<&Type>, call: &Call<'_>) -> Result<Option<Type>, Fail>
+fn exchanged(alloc: Global, ty: Option<&Type>, call: &Call<'_>) -> Result<Option<Type>, Fail<Error>>
     ensures { IsMet (given_for (signature_of call.now)
         (option_map exchange_struct (option_map (λ t. view t.now) ty.entry))) result }
 {
@@ -250,20 +254,20 @@ fn exchanged(alloc: Global, ty: Option<&Type>, call: &Call<'_>) -> Result<Option
 }
 
 #[tactic(auto, using(crate::proofs::OutOfMemory::no_leaf_intersection))]
-fn intersection(alloc: Global) -> Result<Option<Type>, Fail>
+fn intersection(alloc: Global) -> Result<Option<Type>, Fail<Error>>
     ensures { IsMet (Ok (Some ray_intersection_struct)) result }
 {
     Ok(Some(ray_intersection(alloc)?))
 }
 
-fn positions(alloc: Global) -> Result<Option<Type>, Fail>
+fn positions(alloc: Global) -> Result<Option<Type>, Fail<Error>>
     ensures { IsMet (Ok (Some hit_positions_type)) result }
 {
     Ok(Some(hit_positions(alloc)?))
 }
 
 /// The type that `bitcast` returns: that of its template.
-fn by_template(alloc: Global, call: &Call<'_>) -> Result<Option<Type>, Fail>
+fn by_template(alloc: Global, call: &Call<'_>) -> Result<Option<Type>, Fail<Error>>
     ensures { Answered (IsFromTemplate (signature_of call.now) (template_of call.now))
         (template_of call.now) result }
 {
@@ -273,7 +277,7 @@ fn by_template(alloc: Global, call: &Call<'_>) -> Result<Option<Type>, Fail>
     }
 }
 
-fn bitcast(alloc: Global, parameters: &[TpltParam]) -> Result<Type, Fail>
+fn bitcast(alloc: Global, parameters: &[TpltParam]) -> Result<Type, Fail<Error>>
     ensures { AnswersBy (IsBitcastTemplate (map parameter_view parameters.now)) result }
 {
     let template = BitcastTemplate::parse(alloc, parameters)?;

@@ -93,7 +93,7 @@ pub fn type_ctor(
     name: &str,
     tplt: Option<&[TpltParam]>,
     args: &[Type],
-) -> Result<Type, Fail>
+) -> Result<Type, Fail<Error>>
     ensures row { AnswersBy (IsConstructorAnswer (call_view name.now tplt.entry args.now)) result }
     ensures least { AnswersBy
         (IsLeastConstructorAnswer (call_view name.now tplt.entry args.now)) result }

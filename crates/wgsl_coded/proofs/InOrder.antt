@@ -4,8 +4,9 @@ use Rattle.std.proofs.lemmas.List.{append-nil}
 use Rattle.wgsl_rules.specs.codes.Reading.{◌>>=◌}
 use Rattle.wgsl_rules.specs.codes.DecodingSignatures.{parts_in_order}
 use Rattle.wgsl_coded.specs.Reads.{Fails}
-use Rattle.wgsl_coded.specs.declared.fault.Fault.{Fault}
-use Rattle.wgsl_coded.specs.declared.fault.Fault.TheVariants.{Memory, NoType}
+use Rattle.wgsl_core.specs.declared.error.Fail.{Fail}
+use Rattle.wgsl_coded.specs.declared.unreadable.Unreadable.{Unreadable}
+use Rattle.wgsl_core.specs.declared.error.Fail.TheVariants as fails
 
 -- what is read, with parts before it
 abbrev pub with_parts : {A : Type 0} → List A → Option (List A × List ℕ) → Option (List A × List ℕ)
@@ -31,9 +32,9 @@ module _ {A : Type 0} (part : List ℕ → Option (A × List ℕ)) (front : List
       ∙ ap (λ (read : Option (A × List ℕ)). with_parts front (read >>= λ x. parts_in_order part (n - (k + 1)) x.1 >>= λ xs. Some (x.0 ∷ xs.0, xs.1))) (sym e)
       ∙ next_part h
 
-  pub stops : (fault : Fault) → k < n → Fails fault (part rest) → Fails fault whole
-  stops Memory h e = tt
-  stops NoType h e = sym (next_part h) ∙ rw e refl
+  pub stops : (fail : Fail Unreadable) → k < n → Fails fail (part rest) → Fails fail whole
+  stops (fails.Memory m) h e = tt
+  stops (fails.Error u) h e = sym (next_part h) ∙ rw e refl
 
   pub ends : n ≤ k → whole ≡ Some (front, rest)
   ends h =

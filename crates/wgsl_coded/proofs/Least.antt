@@ -13,7 +13,8 @@ use Rattle.wgsl_asked.specs.Requests.{candidate, call}
 use Rattle.wgsl_coded.specs.Least.{IsLeastAnswer}
 use Rattle.wgsl_coded.specs.Replies.{IsLeastReplyTo, IsReplyTo, ReplyWords}
 use Rattle.wgsl_coded.specs.Requests.{binary_expression, binary_request, call_request, call_signature}
-use Rattle.wgsl_coded.specs.declared.fault.Fault.{Fault}
+use Rattle.wgsl_core.specs.declared.error.Fail.{Fail}
+use Rattle.wgsl_coded.specs.declared.unreadable.Unreadable.{Unreadable}
 
 is_least : (o : BinaryOperator) (t u : WgslType) (c : BinaryCandidate) → IsCandidateAnswer o t u (Ok c) → IsChosenCandidate o t u (Ok c)
 unfolding IsChosenCandidate
@@ -33,19 +34,19 @@ least_candidate (candidate_is {o} {t} {u} r h) = is_chosen o t u r h
 least_call : {c : Signature} {a : WgslAnswer} → Answers (call c) a → IsLeastAnswer (call c) a
 least_call (call_is {c} r h) = call_is_least c r h
 
-pub binary_reply : (ws : List ℕ) (r : Result ReplyWords Fault) → IsReplyTo (binary_request ws) r → IsLeastReplyTo (binary_request ws) r
+pub binary_reply : (ws : List ℕ) (r : Result ReplyWords (Fail Unreadable)) → IsReplyTo (binary_request ws) r → IsLeastReplyTo (binary_request ws) r
 binary_reply ws r h = at (binary_expression ws) r h
   where
-    at : (e : Option (BinaryOperator × WgslType × WgslType)) (r : Result ReplyWords Fault) → IsReplyTo (e >>= λ e. Some (candidate e.0 e.1 e.2)) r →
+    at : (e : Option (BinaryOperator × WgslType × WgslType)) (r : Result ReplyWords (Fail Unreadable)) → IsReplyTo (e >>= λ e. Some (candidate e.0 e.1 e.2)) r →
         IsLeastReplyTo (e >>= λ e. Some (candidate e.0 e.1 e.2)) r
     at (Some e) (Ok reply) h = (h.0, h.1, least_candidate h.1, h.2)
     at None (Ok reply) h = absurd h
-    at e (Err fault) h = h
+    at e (Err fail) h = h
 
-pub call_reply : (ws : List ℕ) (r : Result ReplyWords Fault) → IsReplyTo (call_request ws) r → IsLeastReplyTo (call_request ws) r
+pub call_reply : (ws : List ℕ) (r : Result ReplyWords (Fail Unreadable)) → IsReplyTo (call_request ws) r → IsLeastReplyTo (call_request ws) r
 call_reply ws r h = at (call_signature ws) r h
   where
-    at : (c : Option Signature) (r : Result ReplyWords Fault) → IsReplyTo (c >>= λ c. Some (call c)) r → IsLeastReplyTo (c >>= λ c. Some (call c)) r
+    at : (c : Option Signature) (r : Result ReplyWords (Fail Unreadable)) → IsReplyTo (c >>= λ c. Some (call c)) r → IsLeastReplyTo (c >>= λ c. Some (call c)) r
     at (Some c) (Ok reply) h = (h.0, h.1, least_call h.1, h.2)
     at None (Ok reply) h = absurd h
-    at c (Err fault) h = h
+    at c (Err fail) h = h

@@ -9,8 +9,9 @@ use Rattle.wgsl_rules.specs.types.Types.{WgslType, scalar, vec, Members, no_memb
 use Rattle.wgsl_rules.specs.codes.Reading.{◌>>=◌, attribute_at, name_at}
 use Rattle.wgsl_rules.specs.codes.Decoding.{head_at, decode, decoded, members_at, parts_at}
 use Rattle.wgsl_core.specs.View.{Member, members_of}
-use Rattle.wgsl_coded.specs.declared.fault.Fault.{Fault}
-use Rattle.wgsl_coded.specs.declared.fault.Fault.TheVariants.{Memory, NoType}
+use Rattle.wgsl_core.specs.declared.error.Fail.{Fail}
+use Rattle.wgsl_coded.specs.declared.unreadable.Unreadable.{Unreadable}
+use Rattle.wgsl_core.specs.declared.error.Fail.TheVariants as fails
 use Rattle.wgsl_coded.specs.Reads.{Fails}
 use Rattle.wgsl_coded.specs.Levels.{level_at}
 use Rattle.wgsl_coded.specs.Members.{member_at}
@@ -141,9 +142,9 @@ module _ (inner : List ℕ → Option (WgslType × List ℕ)) (front : List Memb
       ∙ ap (λ (read : Option (Member × List ℕ)). with_front front (read >>= λ m. with_front (m.0 ∷ []) (members_at inner (n - (k + 1)) m.1))) (sym e)
       ∙ next_member h
 
-  pub stops : (fault : Fault) → k < n → Fails fault (member_at inner rest) → Fails fault whole
-  stops Memory h e = tt
-  stops NoType h e = sym (next_member h) ∙ rw e refl
+  pub stops : (fail : Fail Unreadable) → k < n → Fails fail (member_at inner rest) → Fails fail whole
+  stops (fails.Memory m) h e = tt
+  stops (fails.Error u) h e = sym (next_member h) ∙ rw e refl
 
   pub ends : n ≤ k → whole ≡ Some (members_of front, rest)
   ends h =

@@ -22,8 +22,9 @@ use Rattle.wgsl_coded.specs.declared.fast.short.ShortWords.{ShortWords}
 use Rattle.wgsl_coded.specs.declared.resolved.Resolved.{Resolved}
 use Rattle.wgsl_coded.specs.declared.resolved.Resolved.TheVariants.{Other, Short}
 use Rattle.wgsl_coded.specs.Seen.{HasWords, reply_words, resolved_words, seen}
-use Rattle.wgsl_coded.specs.declared.fault.Fault.{Fault}
-use Rattle.wgsl_coded.specs.declared.fault.Fault.TheVariants.{Memory, NoType}
+use Rattle.wgsl_core.specs.declared.error.Fail.{Fail}
+use Rattle.wgsl_coded.specs.declared.unreadable.Unreadable.{Unreadable}
+use Rattle.wgsl_core.specs.declared.error.Fail.TheVariants as fails
 use Rattle.wgsl_coded.specs.declared.reply.Reply.{Reply}
 
 -- operands as they are written, and loaded
@@ -40,11 +41,11 @@ resolved_reply callee xs r reply h w =
     (a_resolution_of (plain_call callee (map written_view xs)) r, resolution_of_is r is, w)
 
 -- the same if the call has overloads
-pub plain_reply : (callee : WgslCallee) (xs : List Operand) (os : List Overload) (reply : Result Resolved Fault) → Some os ≡ overloads_listed callee false →
+pub plain_reply : (callee : WgslCallee) (xs : List Operand) (os : List Overload) (reply : Result Resolved (Fail Unreadable)) → Some os ≡ overloads_listed callee false →
     IsResolvedReply os (operands_view xs) reply → IsReplyTo (Some (resolution_of (plain_call callee (map written_view xs)))) (seen resolved_words reply)
 plain_reply callee xs os (Ok reply) e h = resolved_reply callee xs h.0 reply (subst (λ o. IsNamedResolution o (operands_view xs) h.0) e h.1) h.2
-plain_reply callee xs os (Err Memory) e h = tt
-plain_reply callee xs os (Err NoType) e h = absurd h
+plain_reply callee xs os (Err (fails.Memory m)) e h = tt
+plain_reply callee xs os (Err (fails.Error u)) e h = absurd h
 
 -- the same if it has none
 pub no_reply : (callee : WgslCallee) (xs : List Operand) (reply : Resolved) → None ≡ overloads_listed callee false → resolved_words reply ≡ refused [] →
@@ -52,16 +53,16 @@ pub no_reply : (callee : WgslCallee) (xs : List Operand) (reply : Resolved) → 
 no_reply callee xs reply e w = resolved_reply callee xs None reply (subst (λ o. IsNamedResolution o (operands_view xs) None) e refl) w
 
 -- the reply has the words of a resolution
-pub resolved_so : (os : List Overload) (xs : List WgslOperand) (r : Option WgslResolution) (reply : Result Reply Fault) (resolved : Result Resolved Fault) → IsResolution os xs r →
+pub resolved_so : (os : List Overload) (xs : List WgslOperand) (r : Option WgslResolution) (reply : Result Reply (Fail Unreadable)) (resolved : Result Resolved (Fail Unreadable)) → IsResolution os xs r →
     HasWords (words_or_none resolution_words r) reply → seen resolved_words resolved ≡ seen reply_words reply → IsResolvedReply os xs resolved
 resolved_so os xs r (Ok reply) (Ok resolved) h w e =
     let same : resolved_words resolved ≡ reply_words reply = cc e in
     (r, h, same ∙ w)
-resolved_so os xs r (Ok reply) (Err fault) h w e = absurd (cc e)
-resolved_so os xs r (Err Memory) (Ok resolved) h w e = absurd (cc e)
-resolved_so os xs r (Err Memory) (Err Memory) h w e = tt
-resolved_so os xs r (Err Memory) (Err NoType) h w e = absurd (cc e)
-resolved_so os xs r (Err NoType) resolved h w e = absurd w
+resolved_so os xs r (Ok reply) (Err fail) h w e = absurd (cc e)
+resolved_so os xs r (Err (fails.Memory m)) (Ok resolved) h w e = absurd (cc e)
+resolved_so os xs r (Err (fails.Memory m)) (Err (fails.Memory n)) h w e = tt
+resolved_so os xs r (Err (fails.Memory m)) (Err (fails.Error u)) h w e = absurd (cc e)
+resolved_so os xs r (Err (fails.Error u)) resolved h w e = absurd w
 
 -- the reply has the short words of a choice
 pub chosen_words : (os : List Overload) (xs : List WgslOperand) (p : ℕ × Instance) (o : Overload) (w : ShortWords 12) → IsChosen os xs (Some p) → slice_get os p.0 ≡ Some o →

@@ -12,8 +12,9 @@ use Rattle.wgsl_coded.specs.Replies.{resolution_words, words_or_none}
 use Rattle.wgsl_coded.specs.Requests.{whole}
 use Rattle.wgsl_coded.specs.Seen.{resolved_words}
 use Rattle.wgsl_coded.specs.StandardCalls.{operand_at, standard_call_at}
-use Rattle.wgsl_coded.specs.declared.fault.Fault.{Fault}
-use Rattle.wgsl_coded.specs.declared.fault.Fault.TheVariants.{Memory, NoType}
+use Rattle.wgsl_core.specs.declared.error.Fail.{Fail}
+use Rattle.wgsl_coded.specs.declared.unreadable.Unreadable.{Unreadable}
+use Rattle.wgsl_core.specs.declared.error.Fail.TheVariants as fails
 use Rattle.wgsl_coded.specs.declared.resolved.Resolved.{Resolved}
 use Rattle.wgsl_coded.specs.declared.fast.callees.ShortCallee.{ShortCallee}
 use Rattle.wgsl_coded.specs.declared.fast.callees.ShortCallee.TheVariants as callees
@@ -41,8 +42,8 @@ abbrev pub resolution_in : Option WgslCall → Option WgslRequest
 resolution_in call = call >>= λ c. Some (resolution_of c)
 
 -- the reply has the words of what these overloads resolve to, unless memory runs out
-abbrev pub IsResolvedReply : List Overload → List Operand → Result Resolved Fault → Type 0
+abbrev pub IsResolvedReply : List Overload → List Operand → Result Resolved (Fail Unreadable) → Type 0
 IsResolvedReply os xs (Ok reply) = (r : Option WgslResolution) × IsResolution os xs r
     × (resolved_words reply ≡ words_or_none resolution_words r)
-IsResolvedReply os xs (Err Memory) = Unit {0}
-IsResolvedReply os xs (Err NoType) = ⊥
+IsResolvedReply os xs (Err (fails.Memory e)) = Unit {0}
+IsResolvedReply os xs (Err (fails.Error e)) = ⊥

@@ -11,7 +11,8 @@ use Rattle.wgsl_rules.specs.layout.Placement.{MemberLayout}
 use Rattle.wgsl_asked.specs.Answers.{Answers, WgslAnswer, WgslLayout, a_number, a_size, a_common_type, a_type, a_value, a_candidate, some_offsets, a_layout, a_type_of, a_resolution_of, some_lines, out_of_memory}
 use Rattle.wgsl_asked.specs.Calls.{WgslResolution}
 use Rattle.wgsl_asked.specs.Requests.{WgslRequest}
-use Rattle.wgsl_coded.specs.declared.fault.Fault.{Fault}
+use Rattle.wgsl_core.specs.declared.error.Fail.{Fail}
+use Rattle.wgsl_coded.specs.declared.unreadable.Unreadable.{Unreadable}
 use Rattle.wgsl_coded.specs.Least.{IsLeastAnswer}
 use Rattle.wgsl_coded.specs.Reads.{Fails}
 use Rattle.wgsl_coded.specs.StandardCalls.{resolve_request, why_request, overloads_request}
@@ -79,62 +80,62 @@ answer_words out_of_memory = refused []
 abbrev pub IsAnswered : WgslRequest → ReplyWords → Type 0
 IsAnswered request reply = (a : WgslAnswer) × Answers request a × (reply ≡ answer_words a)
 
--- The reply is one to what was asked; if nothing was asked, there is a fault instead.
-abbrev pub IsReplyTo : Option WgslRequest → Result ReplyWords Fault → Type 0
+-- The reply is one to what was asked; if nothing was asked, there is an error instead.
+abbrev pub IsReplyTo : Option WgslRequest → Result ReplyWords (Fail Unreadable) → Type 0
 IsReplyTo asked (Ok reply) = IsSomeAnd asked (λ request. IsAnswered request reply)
-IsReplyTo asked (Err fault) = Fails fault asked
+IsReplyTo asked (Err fail) = Fails fail asked
 
 -- the words of an answer to the request, which for value types is that of the least candidate
 abbrev pub IsLeastAnswered : WgslRequest → ReplyWords → Type 0
 IsLeastAnswered request reply =
     (a : WgslAnswer) × Answers request a × IsLeastAnswer request a × (reply ≡ answer_words a)
 
--- The reply is such a one to what was asked; if nothing was asked, there is a fault instead.
-abbrev pub IsLeastReplyTo : Option WgslRequest → Result ReplyWords Fault → Type 0
+-- The reply is such a one to what was asked; if nothing was asked, there is an error instead.
+abbrev pub IsLeastReplyTo : Option WgslRequest → Result ReplyWords (Fail Unreadable) → Type 0
 IsLeastReplyTo asked (Ok reply) = IsSomeAnd asked (λ request. IsLeastAnswered request reply)
-IsLeastReplyTo asked (Err fault) = Fails fault asked
+IsLeastReplyTo asked (Err fail) = Fails fail asked
 
 -- The request is two types. The answer is the rank of their conversion.
-abbrev pub IsRankReply : List ℕ → Result ReplyWords Fault → Type 0
+abbrev pub IsRankReply : List ℕ → Result ReplyWords (Fail Unreadable) → Type 0
 IsRankReply ws = IsReplyTo (rank_request ws)
 
 -- The request is a type. The answer is its size and its alignment.
-abbrev pub IsSizeReply : List ℕ → Result ReplyWords Fault → Type 0
+abbrev pub IsSizeReply : List ℕ → Result ReplyWords (Fail Unreadable) → Type 0
 IsSizeReply ws = IsReplyTo (size_request ws)
 
 -- The request is a struct. The answer is its layout.
-abbrev pub IsLayoutReply : List ℕ → Result ReplyWords Fault → Type 0
+abbrev pub IsLayoutReply : List ℕ → Result ReplyWords (Fail Unreadable) → Type 0
 IsLayoutReply ws = IsReplyTo (layout_request ws)
 
 -- The request is a list of types. The answer is their common type, from left to right.
-abbrev pub IsCommonReply : List ℕ → Result ReplyWords Fault → Type 0
+abbrev pub IsCommonReply : List ℕ → Result ReplyWords (Fail Unreadable) → Type 0
 IsCommonReply ws = IsReplyTo (common_request ws)
 
 -- The request is a unary operator and a type. The answer is the type of the expression.
-abbrev pub IsUnaryReply : List ℕ → Result ReplyWords Fault → Type 0
+abbrev pub IsUnaryReply : List ℕ → Result ReplyWords (Fail Unreadable) → Type 0
 IsUnaryReply ws = IsReplyTo (unary_request ws)
 
 -- The request is a binary operator and two types. The answer is the candidate that is chosen, for value types the least one.
-abbrev pub IsBinaryReply : List ℕ → Result ReplyWords Fault → Type 0
+abbrev pub IsBinaryReply : List ℕ → Result ReplyWords (Fail Unreadable) → Type 0
 IsBinaryReply ws = IsLeastReplyTo (binary_request ws)
 
 -- The request is the signature of a constructor's call. The answer is the type that it makes.
-abbrev pub IsConstructorReply : List ℕ → Result ReplyWords Fault → Type 0
+abbrev pub IsConstructorReply : List ℕ → Result ReplyWords (Fail Unreadable) → Type 0
 IsConstructorReply ws = IsReplyTo (constructor_request ws)
 
 -- The request is the signature of a built-in function's call. The answer is the type of the call, for value types that of the
 -- least candidate.
-abbrev pub IsCallReply : List ℕ → Result ReplyWords Fault → Type 0
+abbrev pub IsCallReply : List ℕ → Result ReplyWords (Fail Unreadable) → Type 0
 IsCallReply ws = IsLeastReplyTo (call_request ws)
 
 -- The request is a call of WGSL's own overloads. The answer is what it resolves to.
-abbrev pub IsResolveReply : List ℕ → Result ReplyWords Fault → Type 0
+abbrev pub IsResolveReply : List ℕ → Result ReplyWords (Fail Unreadable) → Type 0
 IsResolveReply ws = IsReplyTo (resolve_request ws)
 
 -- The request is such a call. The answer is a text for each overload that doesn't take the operands.
-abbrev pub IsWhyReply : List ℕ → Result ReplyWords Fault → Type 0
+abbrev pub IsWhyReply : List ℕ → Result ReplyWords (Fail Unreadable) → Type 0
 IsWhyReply ws = IsReplyTo (why_request ws)
 
 -- The request is a name. The answer is a text for each of its overloads.
-abbrev pub IsOverloadsReply : List ℕ → Result ReplyWords Fault → Type 0
+abbrev pub IsOverloadsReply : List ℕ → Result ReplyWords (Fail Unreadable) → Type 0
 IsOverloadsReply ws = IsReplyTo (overloads_request ws)

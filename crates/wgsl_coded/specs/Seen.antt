@@ -1,13 +1,13 @@
 -- How the replies of the code are seen.
 use Rattle.std.specs.Prelude.{◌≡◌, ◌≢◌, [], ◌∷◌, Result, Ok, Err}
-use Rattle.wgsl_coded.specs.declared.fault.Fault.{Fault}
-use Rattle.wgsl_coded.specs.declared.fault.Fault.TheVariants.{Memory, NoType}
+use Rattle.wgsl_coded.specs.declared.unreadable.Unreadable.{Unreadable}
 use Rattle.wgsl_coded.specs.declared.reply.Reply.{Reply}
 use Rattle.wgsl_coded.specs.declared.reply.Reply.TheVariants.{Answer, Word, Short, Refusal}
 use Rattle.wgsl_coded.specs.declared.resolved.Resolved.{Resolved}
 use Rattle.wgsl_coded.specs.declared.resolved.Resolved.TheVariants as resolved
 use Rattle.wgsl_rules.specs.codes.Refusals.{refusal_code}
 use Rattle.wgsl_core.specs.Answer.{refusal}
+use Rattle.wgsl_core.specs.declared.error.Error.{Error}
 use Rattle.wgsl_core.specs.declared.error.Fail.{Fail}
 use Rattle.wgsl_core.specs.declared.error.Fail.TheVariants as fails
 use Rattle.wgsl_asked.specs.Answers.{WgslAnswer, out_of_memory}
@@ -15,9 +15,9 @@ use Rattle.wgsl_coded.specs.Replies.{ReplyWords, answer_words, answered, refused
 use Rattle.wgsl_coded.specs.Short.{short_items}
 
 -- what a call returned, its value seen as words
-abbrev pub seen : {X : Type 0} → (X → ReplyWords) → Result X Fault → Result ReplyWords Fault
+abbrev pub seen : {X : Type 0} → (X → ReplyWords) → Result X (Fail Unreadable) → Result ReplyWords (Fail Unreadable)
 seen words (Ok x) = Ok (words x)
-seen words (Err fault) = Err fault
+seen words (Err fail) = Err fail
 
 -- the words of a reply
 abbrev pub reply_words : Reply → ReplyWords
@@ -32,18 +32,18 @@ resolved_words (resolved.Short words) = answered (short_items words)
 resolved_words (resolved.Other reply) = reply_words reply
 
 -- the reply has these words, unless memory runs out
-abbrev pub HasWords : ReplyWords → Result Reply Fault → Type 0
+abbrev pub HasWords : ReplyWords → Result Reply (Fail Unreadable) → Type 0
 HasWords words (Ok reply) = reply_words reply ≡ words
-HasWords words (Err Memory) = Unit {0}
-HasWords words (Err NoType) = ⊥
+HasWords words (Err (fails.Memory e)) = Unit {0}
+HasWords words (Err (fails.Error e)) = ⊥
 
 -- the reply has the words of the answer, unless memory runs out
-abbrev pub Writes : WgslAnswer → Result Reply Fault → Type 0
+abbrev pub Writes : WgslAnswer → Result Reply (Fail Unreadable) → Type 0
 Writes a (Ok reply) = (a ≢ out_of_memory) × (reply_words reply ≡ answer_words a)
-Writes a (Err Memory) = Unit {0}
-Writes a (Err NoType) = ⊥
+Writes a (Err (fails.Memory e)) = Unit {0}
+Writes a (Err (fails.Error e)) = ⊥
 
 -- the reply has the code of the refusal, unless memory runs out
-abbrev pub HasRefused : Fail → Result Reply Fault → Type 0
+abbrev pub HasRefused : Fail Error → Result Reply (Fail Unreadable) → Type 0
 HasRefused (fails.Error e) r = HasWords (refused (refusal_code (refusal e))) r
-HasRefused (fails.Memory e) r = r ≡ Err Memory
+HasRefused (fails.Memory e) r = r ≡ Err (fails.Memory e)

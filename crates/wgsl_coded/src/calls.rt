@@ -12,13 +12,14 @@ use crate::coded::read_whole;
 use crate::fast::placing::layout_while_reading;
 use crate::fast::plain::{read_plain_head, reply_to_one, reply_to_three, reply_to_two};
 use crate::fast::scalars::rank_of_scalars;
-use crate::fault::Fault;
 use crate::reply::{Reply, reply_to};
 use crate::requests::{
     read_all_types, read_binary, read_call, read_two, read_two_scalars, read_unary,
 };
+use crate::unreadable::Unreadable;
 use std::alloc::Global;
 use wgsl_asked::requests::{Callee, Request};
+use wgsl_core::error::Fail;
 use wgsl_core::signature::TpltParam;
 use wgsl_core::ty::Type;
 use wgsl_core::ty::form::Form;
@@ -26,7 +27,7 @@ use wgsl_core::ty::form::Form;
 /// The rank of the conversion from one type to another, refused without words if there is none. The request is the two
 /// types.
 #[inline(always)]
-pub fn rank(alloc: Global, request: &[u32]) -> Result<Reply, Fault>
+pub fn rank(alloc: Global, request: &[u32]) -> Result<Reply, Fail<Unreadable>>
     ensures { IsRankReply request.now (seen reply_words result) }
 {
     match read_two_scalars(request) {
@@ -36,7 +37,7 @@ pub fn rank(alloc: Global, request: &[u32]) -> Result<Reply, Fault>
 }
 
 #[inline(never)]
-fn rank_of_types(alloc: Global, request: &[u32]) -> Result<Reply, Fault>
+fn rank_of_types(alloc: Global, request: &[u32]) -> Result<Reply, Fail<Unreadable>>
     ensures { IsRankReply request.now (seen reply_words result) }
 {
     let (source, target) = read_two(alloc, request)?;
@@ -44,7 +45,7 @@ fn rank_of_types(alloc: Global, request: &[u32]) -> Result<Reply, Fault>
 }
 
 /// The code of the common type of a list of types, refused without words if there is none. The request is the list.
-pub fn common(alloc: Global, request: &[u32]) -> Result<Reply, Fault>
+pub fn common(alloc: Global, request: &[u32]) -> Result<Reply, Fail<Unreadable>>
     ensures { IsCommonReply request.now (seen reply_words result) }
 {
     let types = read_all_types(alloc, request)?;
@@ -54,7 +55,7 @@ pub fn common(alloc: Global, request: &[u32]) -> Result<Reply, Fault>
 }
 
 /// The type of a unary expression, or its refusal. The request is the operator and the type of the operand.
-pub fn unary(alloc: Global, request: &[u32]) -> Result<Reply, Fault>
+pub fn unary(alloc: Global, request: &[u32]) -> Result<Reply, Fail<Unreadable>>
     ensures { IsUnaryReply request.now (seen reply_words result) }
 {
     let (operator, operand) = read_unary(alloc, request)?;
@@ -65,7 +66,7 @@ pub fn unary(alloc: Global, request: &[u32]) -> Result<Reply, Fault>
 /// and the types of the operands.
 #[inline(always)]
 #[tactic(auto, using(crate::proofs::Least::binary_reply))]
-pub fn binary(alloc: Global, request: &[u32]) -> Result<Reply, Fault>
+pub fn binary(alloc: Global, request: &[u32]) -> Result<Reply, Fail<Unreadable>>
     ensures { IsBinaryReply request.now (seen reply_words result) }
 {
     let (operator, left, right) = read_binary(alloc, request)?;
@@ -73,7 +74,7 @@ pub fn binary(alloc: Global, request: &[u32]) -> Result<Reply, Fault>
 }
 
 /// The size and the alignment of a type. The request is the type.
-pub fn size(alloc: Global, request: &[u32]) -> Result<Reply, Fault>
+pub fn size(alloc: Global, request: &[u32]) -> Result<Reply, Fail<Unreadable>>
     ensures { IsSizeReply request.now (seen reply_words result) }
 {
     let ty = read_whole(alloc, request)?;
@@ -81,7 +82,7 @@ pub fn size(alloc: Global, request: &[u32]) -> Result<Reply, Fault>
 }
 
 /// The layout of a struct, refused without words if it has none. The request is the struct.
-pub fn layout(alloc: Global, request: &[u32]) -> Result<Reply, Fault>
+pub fn layout(alloc: Global, request: &[u32]) -> Result<Reply, Fail<Unreadable>>
     ensures { IsLayoutReply request.now (seen reply_words result) }
 {
     match layout_while_reading(alloc, request)? {
@@ -90,19 +91,19 @@ pub fn layout(alloc: Global, request: &[u32]) -> Result<Reply, Fault>
     }
 }
 
-fn layout_of_type(alloc: Global, request: &[u32]) -> Result<Reply, Fault>
+fn layout_of_type(alloc: Global, request: &[u32]) -> Result<Reply, Fail<Unreadable>>
     ensures { IsLayoutReply request.now (seen reply_words result) }
 {
     let ty = read_whole(alloc, request)?;
     layout_of(alloc, &ty)
 }
 
-fn layout_of(alloc: Global, ty: &Type) -> Result<Reply, Fault>
+fn layout_of(alloc: Global, ty: &Type) -> Result<Reply, Fail<Unreadable>>
     ensures { IsReplyTo (layout_in (view ty.now)) (seen reply_words result) }
 {
     match ty.form() {
         Form::Struct(structure) => reply_to(alloc, Request::Layout(structure)),
-        _ => Err(Fault::NoType),
+        _ => Err(Fail::Error(Unreadable)),
     }
 }
 
@@ -114,7 +115,7 @@ pub(crate) enum Kind {
 }
 
 /// The type that a constructor makes, or its refusal. The request is the signature of the call.
-pub fn constructor(alloc: Global, request: &[u32]) -> Result<Reply, Fault>
+pub fn constructor(alloc: Global, request: &[u32]) -> Result<Reply, Fail<Unreadable>>
     ensures { IsConstructorReply request.now (seen reply_words result) }
 {
     reply_to_call(alloc, Kind::Constructor, request)
@@ -123,7 +124,7 @@ pub fn constructor(alloc: Global, request: &[u32]) -> Result<Reply, Fault>
 /// The type of the call of a built-in function, no words if it returns no value, or its refusal. The request is the
 /// signature of the call.
 #[tactic(auto, using(crate::proofs::Least::call_reply))]
-pub fn call(alloc: Global, request: &[u32]) -> Result<Reply, Fault>
+pub fn call(alloc: Global, request: &[u32]) -> Result<Reply, Fail<Unreadable>>
     ensures { IsCallReply request.now (seen reply_words result) }
 {
     reply_to_call(alloc, Kind::Function, request)
@@ -131,7 +132,7 @@ pub fn call(alloc: Global, request: &[u32]) -> Result<Reply, Fault>
 
 /// The reply to a call. If it is plain, nothing is allocated for its name and for the list of its arguments.
 #[inline(always)]
-fn reply_to_call(alloc: Global, kind: Kind, request: &[u32]) -> Result<Reply, Fault>
+fn reply_to_call(alloc: Global, kind: Kind, request: &[u32]) -> Result<Reply, Fail<Unreadable>>
     ensures { IsReplyTo (asked_of kind (call_signature request.now)) (seen reply_words result) }
 {
     let Some((name, count, words)) = read_plain_head(request) else {
@@ -147,7 +148,7 @@ fn reply_to_call(alloc: Global, kind: Kind, request: &[u32]) -> Result<Reply, Fa
 
 /// The reply to a call, with a template or without one, and any number of arguments.
 #[inline(never)]
-fn reply_to_any(alloc: Global, kind: Kind, request: &[u32]) -> Result<Reply, Fault>
+fn reply_to_any(alloc: Global, kind: Kind, request: &[u32]) -> Result<Reply, Fail<Unreadable>>
     ensures { IsReplyTo (asked_of kind (call_signature request.now)) (seen reply_words result) }
 {
     let call = read_call(alloc, request)?;
@@ -165,7 +166,7 @@ fn reply_to_callee<'r>(
     name: &'r str,
     template: Option<&'r [TpltParam]>,
     arguments: &'r [Type],
-) -> Result<Reply, Fault>
+) -> Result<Reply, Fail<Unreadable>>
     ensures { IsReplyTo (asked_of kind (Some (call_view name.now template.entry arguments.now)))
         (seen reply_words result) }
 {

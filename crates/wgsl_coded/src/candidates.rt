@@ -11,12 +11,13 @@ ghost use Rattle.wgsl_coded.specs.Seen.{HasWords, reply_words, seen};
 ghost use Rattle.wgsl_coded.specs.Short.{short_items};
 
 use crate::fast::short::ShortWords;
-use crate::fault::Fault;
 use crate::refusals::write_operands;
 use crate::reply::{Reply, new_words};
+use crate::unreadable::Unreadable;
 use crate::writing::write;
 use std::alloc::{AllocError, Global};
 use wgsl_asked::answers::Operands;
+use wgsl_core::error::Fail;
 use wgsl_core::operators::resolve::{Element, Extent, Resolution, ResolvedType, resolve_operator};
 use wgsl_core::ty::Type;
 use wgsl_syntax::around::Around;
@@ -31,7 +32,7 @@ pub(crate) fn reply_to_operands(
     operator: BinaryOperator,
     lhs: &Type,
     rhs: &Type,
-) -> Result<Reply, Fault>
+) -> Result<Reply, Fail<Unreadable>>
     ensures { IsReplyTo (Some (candidate operator (view lhs.now) (view rhs.now)))
         (seen reply_words result) }
 {
@@ -43,7 +44,7 @@ pub(crate) fn reply_to_operands(
 
 /// The codes of a candidate's types.
 #[inline(always)]
-fn reply_with_candidate(alloc: Global, found: &Resolution<'_>) -> Result<Reply, Fault>
+fn reply_with_candidate(alloc: Global, found: &Resolution<'_>) -> Result<Reply, Fail<Unreadable>>
     ensures { HasWords (answered (candidate_words (resolution_view found.now))) result }
 {
     let mut words = ShortWords::new();
@@ -106,7 +107,10 @@ fn words_of_resolution(alloc: Global, found: &Resolution<'_>) -> Result<Vec<u32>
 }
 
 /// The code of a type that isn't built yet.
-pub(crate) fn reply_with_resolved(alloc: Global, ty: ResolvedType<'_>) -> Result<Reply, Fault>
+pub(crate) fn reply_with_resolved(
+    alloc: Global,
+    ty: ResolvedType<'_>,
+) -> Result<Reply, Fail<Unreadable>>
     ensures { HasWords (answered (code (resolved_view ty.entry))) result }
 {
     let mut words = new_words(alloc)?;
@@ -123,7 +127,10 @@ fn write_built(alloc: Global, out: &mut Vec<u32>, ty: ResolvedType<'_>) -> Resul
 }
 
 /// The code of the refusal of operands.
-pub(crate) fn refuse_operands(alloc: Global, operands: Operands<'_>) -> Result<Reply, Fault>
+pub(crate) fn refuse_operands(
+    alloc: Global,
+    operands: Operands<'_>,
+) -> Result<Reply, Fail<Unreadable>>
     ensures { HasWords (refused (refusal_code (operands_refusal operands.entry))) result }
 {
     let Operands { operator, lhs, rhs } = operands;

@@ -6,9 +6,10 @@ ghost use Rattle.wgsl_rules.specs.codes.Decoding.{decoded};
 ghost use Rattle.wgsl_core.specs.View.{view};
 ghost use Rattle.wgsl_coded.specs.Reads.{Reads};
 
-use crate::fault::Fault;
 use crate::reading::read_type;
+use crate::unreadable::Unreadable;
 use std::alloc::{AllocError, Global};
+use wgsl_core::error::Fail;
 use wgsl_core::ty::Type;
 
 /// The greatest depth of a type that is read.
@@ -16,13 +17,13 @@ pub(crate) const DEPTH: u8 = 255;
 
 #[inline(always)]
 #[tactic(auto, unfolding(wgsl_rules::specs::codes::Decoding::decoded))]
-pub(crate) fn read_whole(alloc: Global, words: &[u32]) -> Result<Type, Fault>
+pub(crate) fn read_whole(alloc: Global, words: &[u32]) -> Result<Type, Fail<Unreadable>>
     ensures { Reads view result (decoded words.now) }
 {
     let (ty, rest) = read_type(alloc, words, DEPTH)?;
     if !rest.is_empty() {
         drop(ty);
-        return Err(Fault::NoType);
+        return Err(Fail::Error(Unreadable));
     }
     Ok(ty)
 }
@@ -32,8 +33,8 @@ fn read_all(alloc: Global, words: &[u32]) -> Result<Option<Type>, AllocError>
 {
     match read_whole(alloc, words) {
         Ok(ty) => Ok(Some(ty)),
-        Err(Fault::NoType) => Ok(None),
-        Err(Fault::Memory) => Err(AllocError),
+        Err(Fail::Error(Unreadable)) => Ok(None),
+        Err(Fail::Memory(error)) => Err(error),
     }
 }
 

@@ -12,15 +12,15 @@ ghost use Rattle.wgsl_coded.specs.ReadRefusals.{read_view, refusal_of_kind, with
 ghost use Rattle.wgsl_coded.specs.Reads.{Reads};
 
 use crate::coded::DEPTH;
-use crate::fault::Fault;
 use crate::literals::read_literal;
 use crate::names::read_name;
 use crate::numbers::read_number;
 use crate::reading::read_type;
 use crate::requests::{read_binary_operator, read_unary_operator};
 use crate::signatures::read_signature;
+use crate::unreadable::Unreadable;
 use std::alloc::{AllocError, Global};
-use wgsl_core::error::Error;
+use wgsl_core::error::{Error, Fail};
 use wgsl_core::literal::LiteralInstance;
 use wgsl_core::ty::Type;
 
@@ -34,7 +34,7 @@ pub(crate) enum ReadRefusal {
 }
 
 /// What is read in front of words: a refusal, and the words after it.
-type InFront<'a> = Result<(ReadRefusal, &'a [u32]), Fault>;
+type InFront<'a> = Result<(ReadRefusal, &'a [u32]), Fail<Unreadable>>;
 
 fn refusal_with_text(kind: u32, text: String) -> ReadRefusal
     ensures { read_view result ≡ with_text kind (string_bytes text) }
@@ -117,7 +117,7 @@ fn read_overflow(alloc: Global, words: &[u32]) -> InFront<'_>
         (two conv_overflow literal_at (decode 255) words.now) }
 {
     let Some((literal, rest)) = read_literal(words) else {
-        return Err(Fault::NoType);
+        return Err(Fail::Error(Unreadable));
     };
     let (ty, rest) = read_type(alloc, rest, DEPTH)?;
     Ok((ReadRefusal::Whole(Error::ConvOverflow(literal, ty)), rest))
@@ -137,7 +137,7 @@ fn read_bounds(alloc: Global, words: &[u32]) -> InFront<'_>
         (three out_of_bounds number_at (decode 255) number_at words.now) }
 {
     let Some((index, rest)) = read_number(words) else {
-        return Err(Fault::NoType);
+        return Err(Fail::Error(Unreadable));
     };
     let (ty, rest) = read_type(alloc, rest, DEPTH)?;
     match read_number(rest) {
@@ -149,7 +149,7 @@ fn read_bounds(alloc: Global, words: &[u32]) -> InFront<'_>
         }
         None => {
             drop(ty);
-            Err(Fault::NoType)
+            Err(Fail::Error(Unreadable))
         }
     }
 }
@@ -159,7 +159,7 @@ fn read_operand(alloc: Global, words: &[u32]) -> InFront<'_>
         (two unary unary_operator_at (decode 255) words.now) }
 {
     let Some((operator, rest)) = read_unary_operator(words) else {
-        return Err(Fault::NoType);
+        return Err(Fail::Error(Unreadable));
     };
     let (ty, rest) = read_type(alloc, rest, DEPTH)?;
     Ok((ReadRefusal::Whole(Error::Unary(operator, ty)), rest))
@@ -170,7 +170,7 @@ fn read_operands(alloc: Global, words: &[u32]) -> InFront<'_>
         (three binary binary_operator_at (decode 255) (decode 255) words.now) }
 {
     let Some((operator, rest)) = read_binary_operator(words) else {
-        return Err(Fault::NoType);
+        return Err(Fail::Error(Unreadable));
     };
     let (a, rest) = read_type(alloc, rest, DEPTH)?;
     let (b, rest) = read_type(alloc, rest, DEPTH)?;
@@ -199,7 +199,7 @@ fn read_left_shift(words: &[u32]) -> InFront<'_>
         Some((bits, literal, rest)) => {
             Ok((ReadRefusal::Whole(Error::ShlOverflow(bits, literal)), rest))
         }
-        None => Err(Fault::NoType),
+        None => Err(Fail::Error(Unreadable)),
     }
 }
 
@@ -211,7 +211,7 @@ fn read_right_shift(words: &[u32]) -> InFront<'_>
         Some((bits, literal, rest)) => {
             Ok((ReadRefusal::Whole(Error::ShrOverflow(bits, literal)), rest))
         }
-        None => Err(Fault::NoType),
+        None => Err(Fail::Error(Unreadable)),
     }
 }
 
@@ -229,10 +229,10 @@ fn read_counts(alloc: Global, words: &[u32]) -> InFront<'_>
 {
     let (name, rest) = read_name(alloc, words)?;
     let Some((expected, rest)) = read_number(rest) else {
-        return Err(Fault::NoType);
+        return Err(Fail::Error(Unreadable));
     };
     let Some((count, rest)) = read_number(rest) else {
-        return Err(Fault::NoType);
+        return Err(Fail::Error(Unreadable));
     };
     Ok((
         ReadRefusal::Whole(Error::ParamCount(name, expected, count)),
@@ -279,7 +279,7 @@ fn read_of_kind(alloc: Global, kind: u32, words: &[u32]) -> InFront<'_>
         30 => read_with_text(alloc, kind, words),
         31 => read_counts(alloc, words),
         32 => read_with_types(alloc, kind, words),
-        _ => Err(Fault::NoType),
+        _ => Err(Fail::Error(Unreadable)),
     }
 }
 
@@ -288,7 +288,7 @@ pub(crate) fn read_refusal(alloc: Global, words: &[u32]) -> InFront<'_>
     ensures { Reads (λ r. (read_view r.0, r.1.now)) result (refusal_at (decode 255) words.now) }
 {
     let [kind, rest @ ..] = words else {
-        return Err(Fault::NoType);
+        return Err(Fail::Error(Unreadable));
     };
     read_of_kind(alloc, *kind, rest)
 }

@@ -11,7 +11,8 @@ ghost use Rattle.wgsl_rules.specs.codes.Refusals.{refusal_code, RefusalHasCode};
 ghost use Rattle.wgsl_rules.specs.codes.Signatures.{list_code, ListHasCode, signature_code, SignatureHasCode};
 ghost use Rattle.wgsl_coded.specs.Replies.{IsLeastReplyTo, IsReplyTo, ReplyWords};
 ghost use Rattle.wgsl_coded.specs.Requests.{binary_request, call_request};
-ghost use Rattle.wgsl_coded.specs.declared.fault.Fault.{Fault};
+ghost use Rattle.wgsl_core.specs.declared.error.Fail.{Fail};
+ghost use Rattle.wgsl_coded.specs.declared.unreadable.Unreadable.{Unreadable};
 
 /// A type is read back from its code, whatever follows it.
 pub fn read_back()
@@ -82,13 +83,13 @@ pub fn refusal_prefix_code()
 /// The reply to a binary expression of value types is the least candidate, and a refusal exactly if no candidate takes the
 /// operands.
 pub fn binary_reply_is_least()
-    ensures { (words : List ℕ) (reply : Result ReplyWords Fault)
+    ensures { (words : List ℕ) (reply : Result ReplyWords (Fail Unreadable))
         → IsReplyTo (binary_request words) reply → IsLeastReplyTo (binary_request words) reply }
 {}
 
 /// The reply to a call of a function with candidates, on value types and without a template, is the result of the least
 /// candidate, and a refusal exactly if no candidate takes the arguments, but for the calls that the table refuses.
 pub fn call_reply_is_least()
-    ensures { (words : List ℕ) (reply : Result ReplyWords Fault)
+    ensures { (words : List ℕ) (reply : Result ReplyWords (Fail Unreadable))
         → IsReplyTo (call_request words) reply → IsLeastReplyTo (call_request words) reply }
 {}

@@ -5,14 +5,18 @@ ghost use Rattle.wgsl_asked.specs.Views.{layout_view};
 ghost use Rattle.wgsl_coded.specs.Replies.{answered, layout_words, member_words};
 ghost use Rattle.wgsl_coded.specs.Seen.{HasWords};
 
-use crate::fault::Fault;
 use crate::numbers::write_number;
 use crate::reply::Reply;
+use crate::unreadable::Unreadable;
 use std::alloc::{AllocError, Global};
+use wgsl_core::error::Fail;
 use wgsl_core::layout::{PlacedMember, StructLayout};
 
 /// The words of a struct's layout.
-pub(crate) fn reply_with_layout(alloc: Global, layout: StructLayout) -> Result<Reply, Fault>
+pub(crate) fn reply_with_layout(
+    alloc: Global,
+    layout: StructLayout,
+) -> Result<Reply, Fail<Unreadable>>
     ensures { HasWords (answered (layout_words (layout_view layout))) result }
 {
     let words = words_of_layout(alloc, &layout);

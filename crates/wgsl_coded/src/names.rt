@@ -7,9 +7,10 @@ ghost use Rattle.wgsl_rules.specs.codes.Reading.{name_at, text_at, text_of, word
 ghost use Rattle.wgsl_coded.specs.Names.{IsAsciiText, IsNamed};
 ghost use Rattle.wgsl_coded.specs.Reads.{Reads};
 
-use crate::fault::Fault;
 use crate::numbers::{read_number, word_of, write_number};
+use crate::unreadable::Unreadable;
 use std::alloc::{AllocError, Global};
+use wgsl_core::error::Fail;
 
 /// The number of words that hold that many bytes.
 fn words_for(len: usize) -> usize
@@ -56,27 +57,27 @@ fn unpack(alloc: Global, words: &[u32]) -> Result<Vec<u8>, AllocError>
 }
 
 /// The text of `len` bytes in the words that hold them.
-fn read_packed(alloc: Global, len: usize, words: &[u32]) -> Result<String, Fault>
+fn read_packed(alloc: Global, len: usize, words: &[u32]) -> Result<String, Fail<Unreadable>>
     ensures { Reads string_bytes result (text_of len words.now) }
 {
     let mut text = unpack(alloc, words)?;
     text.truncate(len);
     if !is_packed(&text, words) {
-        return Err(Fault::NoType);
+        return Err(Fail::Error(Unreadable));
     }
     match String::from_utf8(text) {
         Ok(text) => Ok(text),
-        Err(_) => Err(Fault::NoType),
+        Err(_) => Err(Fail::Error(Unreadable)),
     }
 }
 
 /// A text of `len` bytes, and the words after it.
-fn read_text(alloc: Global, len: usize, words: &[u32]) -> Result<(String, &[u32]), Fault>
+fn read_text(alloc: Global, len: usize, words: &[u32]) -> Result<(String, &[u32]), Fail<Unreadable>>
     ensures { Reads (λ t. (string_bytes t.0, t.1.now)) result (text_at len words.now) }
 {
     let count = words_for(len);
     if words.len() < count {
-        return Err(Fault::NoType);
+        return Err(Fail::Error(Unreadable));
     }
     let (front, rest) = words.split_at(count);
     Ok((read_packed(alloc, len, front)?, rest))
@@ -84,12 +85,12 @@ fn read_text(alloc: Global, len: usize, words: &[u32]) -> Result<(String, &[u32]
 
 /// A name, and the words after it.
 #[tactic(auto, unfolding(wgsl_rules::specs::codes::Reading::name_at))]
-pub(crate) fn read_name(alloc: Global, words: &[u32]) -> Result<(String, &[u32]), Fault>
+pub(crate) fn read_name(alloc: Global, words: &[u32]) -> Result<(String, &[u32]), Fail<Unreadable>>
     ensures { Reads (λ n. (string_bytes n.0, n.1.now)) result (name_at words.now) }
 {
     match read_number(words) {
         Some((len, rest)) => read_text(alloc, len, rest),
-        None => Err(Fault::NoType),
+        None => Err(Fail::Error(Unreadable)),
     }
 }
 

@@ -9,13 +9,14 @@ ghost use Rattle.wgsl_coded.specs.StandardCalls.{callee_at, operand_at, operand_
 ghost use Rattle.wgsl_coded.specs.Overloaded.{read_call_view, read_callee_view, read_operand_view};
 
 use crate::coded::DEPTH;
-use crate::fault::Fault;
 use crate::names::read_name;
 use crate::parts::{ReadPart, read_list};
 use crate::reading::read_type;
 use crate::requests::{if_ended, read_binary_operator, read_unary_operator};
 use crate::signatures::read_template;
+use crate::unreadable::Unreadable;
 use std::alloc::{AllocError, Global};
+use wgsl_core::error::Fail;
 use wgsl_core::signature::TpltParam;
 use wgsl_core::ty::Type;
 use wgsl_standard::callee::Callee;
@@ -43,7 +44,11 @@ impl ReadOperand {
 
 /// An operand with the type that the words begin with, and the words after it.
 #[inline(always)]
-fn read_typed(alloc: Global, said: bool, words: &[u32]) -> Result<(ReadOperand, &[u32]), Fault>
+fn read_typed(
+    alloc: Global,
+    said: bool,
+    words: &[u32],
+) -> Result<(ReadOperand, &[u32]), Fail<Unreadable>>
     ensures { Reads (λ x. (read_operand_view x.0, x.1.now)) result (operand_of said words.now) }
 {
     let (ty, rest) = read_type(alloc, words, DEPTH)?;
@@ -60,13 +65,16 @@ fn is_abstract(ty: &Type) -> bool
 
 /// An operand, and the words after it.
 #[inline(always)]
-pub(crate) fn read_operand(alloc: Global, words: &[u32]) -> Result<(ReadOperand, &[u32]), Fault>
+pub(crate) fn read_operand(
+    alloc: Global,
+    words: &[u32],
+) -> Result<(ReadOperand, &[u32]), Fail<Unreadable>>
     ensures { Reads (λ x. (read_operand_view x.0, x.1.now)) result (operand_at words.now) }
 {
     match words {
         [0, rest @ ..] => read_typed(alloc, false, rest),
         [1, rest @ ..] => read_typed(alloc, true, rest),
-        _ => Err(Fault::NoType),
+        _ => Err(Fail::Error(Unreadable)),
     }
 }
 
@@ -81,7 +89,7 @@ impl ReadPart for ReadOperand {
 
     ghost part_at = { operand_at };
 
-    fn read_part(alloc: Global, words: &[u32]) -> Result<(ReadOperand, &[u32]), Fault> {
+    fn read_part(alloc: Global, words: &[u32]) -> Result<(ReadOperand, &[u32]), Fail<Unreadable>> {
         read_operand(alloc, words)
     }
 }
@@ -123,17 +131,17 @@ impl ReadCallee {
 }
 
 /// What is called, and the words after it.
-fn read_callee(alloc: Global, words: &[u32]) -> Result<(ReadCallee, &[u32]), Fault>
+fn read_callee(alloc: Global, words: &[u32]) -> Result<(ReadCallee, &[u32]), Fail<Unreadable>>
     ensures { Reads (λ c. (read_callee_view c.0, c.1.now)) result (callee_at words.now) }
 {
     match words {
         [0, rest @ ..] => match read_unary_operator(rest) {
             Some((operator, rest)) => Ok((ReadCallee::Unary(operator), rest)),
-            None => Err(Fault::NoType),
+            None => Err(Fail::Error(Unreadable)),
         },
         [1, rest @ ..] => match read_binary_operator(rest) {
             Some((operator, rest)) => Ok((ReadCallee::Binary(operator), rest)),
-            None => Err(Fault::NoType),
+            None => Err(Fail::Error(Unreadable)),
         },
         [2, rest @ ..] => {
             let (name, rest) = read_name(alloc, rest)?;
@@ -143,7 +151,7 @@ fn read_callee(alloc: Global, words: &[u32]) -> Result<(ReadCallee, &[u32]), Fau
             let (name, rest) = read_name(alloc, rest)?;
             Ok((ReadCallee::Constructor(name), rest))
         }
-        _ => Err(Fault::NoType),
+        _ => Err(Fail::Error(Unreadable)),
     }
 }
 
@@ -156,7 +164,7 @@ pub(crate) struct ReadCall {
 }
 
 /// A call, and the words after it.
-fn read_call_in_front(alloc: Global, words: &[u32]) -> Result<(ReadCall, &[u32]), Fault>
+fn read_call_in_front(alloc: Global, words: &[u32]) -> Result<(ReadCall, &[u32]), Fail<Unreadable>>
     ensures { Reads (λ c. (read_call_view c.0, c.1.now)) result (standard_call_at words.now) }
 {
     let (callee, rest) = read_callee(alloc, words)?;
@@ -173,7 +181,7 @@ fn read_call_in_front(alloc: Global, words: &[u32]) -> Result<(ReadCall, &[u32])
 }
 
 /// A call.
-pub(crate) fn read_standard_call(alloc: Global, words: &[u32]) -> Result<ReadCall, Fault>
+pub(crate) fn read_standard_call(alloc: Global, words: &[u32]) -> Result<ReadCall, Fail<Unreadable>>
     ensures { Reads read_call_view result (standard_call words.now) }
 {
     if_ended(read_call_in_front(alloc, words)?)

@@ -5,9 +5,10 @@ ghost use Rattle.wgsl_rules.specs.codes.DecodingSignatures.{list_at, parts_in_or
 ghost use Rattle.wgsl_rules.specs.codes.Signatures.{list_code};
 ghost use Rattle.wgsl_coded.specs.Reads.{Reads};
 
-use crate::fault::Fault;
 use crate::numbers::{read_number, write_number};
+use crate::unreadable::Unreadable;
 use std::alloc::{AllocError, Global};
+use wgsl_core::error::Fail;
 
 /// What a list consists of, as it is read.
 pub(crate) trait ReadPart: Sized + Drop {
@@ -18,7 +19,7 @@ pub(crate) trait ReadPart: Sized + Drop {
     ghost part_at: { List ℕ → Option (Shown × List ℕ) };
 
     /// The part that the words begin with, and the words after it.
-    fn read_part(alloc: Global, words: &[u32]) -> Result<(Self, &[u32]), Fault>
+    fn read_part(alloc: Global, words: &[u32]) -> Result<(Self, &[u32]), Fail<Unreadable>>
         ensures { Reads (λ p. (shown p.0, p.1.now)) result (part_at words.now) };
 }
 
@@ -41,7 +42,7 @@ fn read_in_order<T: ReadPart>(
     alloc: Global,
     count: usize,
     words: &[u32],
-) -> Result<(Vec<T>, &[u32]), Fault>
+) -> Result<(Vec<T>, &[u32]), Fail<Unreadable>>
     ensures { Reads (λ ps. (map T.shown ps.0.items, ps.1.now)) result
         (parts_in_order T.part_at count words.now) }
 {
@@ -53,7 +54,7 @@ fn read_in_order<T: ReadPart>(
                 parts.push(part)?;
                 rest = after;
             }
-            Err(fault) => return Err(fault),
+            Err(fail) => return Err(fail),
         }
     }
     Ok((parts, rest))
@@ -63,13 +64,13 @@ fn read_in_order<T: ReadPart>(
 pub(crate) fn read_list<T: ReadPart>(
     alloc: Global,
     words: &[u32],
-) -> Result<(Vec<T>, &[u32]), Fault>
+) -> Result<(Vec<T>, &[u32]), Fail<Unreadable>>
     ensures { Reads (λ ps. (map T.shown ps.0.items, ps.1.now)) result
         (list_at T.part_at words.now) }
 {
     match read_number(words) {
         Some((count, rest)) => read_in_order(alloc, count, rest),
-        None => Err(Fault::NoType),
+        None => Err(Fail::Error(Unreadable)),
     }
 }
 

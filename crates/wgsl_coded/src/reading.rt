@@ -11,11 +11,12 @@ ghost use Rattle.wgsl_coded.specs.Levels.{level_at};
 ghost use Rattle.wgsl_coded.specs.Members.{member_at};
 ghost use Rattle.wgsl_coded.specs.Reads.{Reads};
 
-use crate::fault::Fault;
 use crate::heads::{read_head, read_scalar, read_vector_head};
 use crate::names::read_name;
 use crate::numbers::{read_attribute, read_number};
+use crate::unreadable::Unreadable;
 use std::alloc::Global;
+use wgsl_core::error::Fail;
 use wgsl_core::ty::{StructMemberType, StructType, Type};
 use wgsl_syntax::around::Around;
 use wgsl_syntax::code::{Head, LeafType};
@@ -36,14 +37,18 @@ fn type_of_leaf(leaf: LeafType) -> Type
 /// The type that the words begin with, and the words after it.
 #[cycle(read)]
 #[inline(always)]
-pub(crate) fn read_type(alloc: Global, words: &[u32], depth: u8) -> Result<(Type, &[u32]), Fault>
+pub(crate) fn read_type(
+    alloc: Global,
+    words: &[u32],
+    depth: u8,
+) -> Result<(Type, &[u32]), Fail<Unreadable>>
     ensures { Reads (λ t. (view t.0, t.1.now)) result (decode depth words.now) }
 {
     let [first, rest @ ..] = words else {
-        return Err(Fault::NoType);
+        return Err(Fail::Error(Unreadable));
     };
     if depth == 0 {
-        return Err(Fault::NoType);
+        return Err(Fail::Error(Unreadable));
     }
     match read_scalar(*first) {
         Some(scalar) => Ok((Type::from(scalar), rest)),
@@ -54,7 +59,12 @@ pub(crate) fn read_type(alloc: Global, words: &[u32], depth: u8) -> Result<(Type
 /// The type with that first word, whose parts the words begin with.
 #[cycle(read)]
 #[inline(never)]
-fn read_level(alloc: Global, first: u32, words: &[u32], depth: u8) -> Result<(Type, &[u32]), Fault>
+fn read_level(
+    alloc: Global,
+    first: u32,
+    words: &[u32],
+    depth: u8,
+) -> Result<(Type, &[u32]), Fail<Unreadable>>
     ensures { Reads (λ t. (view t.0, t.1.now)) result
         (level_at depth first words.now) }
 {
@@ -67,7 +77,7 @@ fn read_level(alloc: Global, first: u32, words: &[u32], depth: u8) -> Result<(Ty
     }
     match read_head(first) {
         Some(head) => read_parts(alloc, head, words, depth),
-        None => Err(Fault::NoType),
+        None => Err(Fail::Error(Unreadable)),
     }
 }
 
@@ -86,7 +96,12 @@ fn read_vector(first: u32, words: &[u32]) -> Option<(u8, Scalar)>
 
 /// The type with that head, whose parts the words begin with.
 #[cycle(read)]
-fn read_parts(alloc: Global, head: Head, words: &[u32], depth: u8) -> Result<(Type, &[u32]), Fault>
+fn read_parts(
+    alloc: Global,
+    head: Head,
+    words: &[u32],
+    depth: u8,
+) -> Result<(Type, &[u32]), Fail<Unreadable>>
     ensures { Reads (λ t. (view t.0, t.1.now)) result (parts_at (decode depth) head words.now) }
 {
     match head {
@@ -97,7 +112,7 @@ fn read_parts(alloc: Global, head: Head, words: &[u32], depth: u8) -> Result<(Ty
         }
         Head::Counted(counted) => {
             let Some((count, rest)) = read_number(words) else {
-                return Err(Fault::NoType);
+                return Err(Fail::Error(Unreadable));
             };
             let (inner, rest) = read_boxed(alloc, rest, depth)?;
             Ok((Type::around(counted.with_count(count), inner), rest))
@@ -111,7 +126,11 @@ fn read_parts(alloc: Global, head: Head, words: &[u32], depth: u8) -> Result<(Ty
 
 #[cycle(read)]
 #[inline(never)]
-fn read_boxed(alloc: Global, words: &[u32], depth: u8) -> Result<(Box<Type>, &[u32]), Fault>
+fn read_boxed(
+    alloc: Global,
+    words: &[u32],
+    depth: u8,
+) -> Result<(Box<Type>, &[u32]), Fail<Unreadable>>
     ensures { Reads (λ t. (view t.0.value, t.1.now)) result (decode depth words.now) }
 {
     let (ty, rest) = read_type(alloc, words, depth)?;
@@ -120,13 +139,17 @@ fn read_boxed(alloc: Global, words: &[u32], depth: u8) -> Result<(Box<Type>, &[u
 
 #[cycle(read)]
 #[inline(never)]
-fn read_struct(alloc: Global, words: &[u32], depth: u8) -> Result<(StructType, &[u32]), Fault>
+fn read_struct(
+    alloc: Global,
+    words: &[u32],
+    depth: u8,
+) -> Result<(StructType, &[u32]), Fail<Unreadable>>
     ensures { Reads (λ s. (struct_type (struct_view s.0), s.1.now)) result
         (parts_at (decode depth) head.Struct words.now) }
 {
     let (name, rest) = read_name(alloc, words)?;
     let Some((count, rest)) = read_number(rest) else {
-        return Err(Fault::NoType);
+        return Err(Fail::Error(Unreadable));
     };
     let (members, rest) = read_members(alloc, count, rest, depth)?;
     Ok((StructType { name, members }, rest))
@@ -139,7 +162,7 @@ fn read_members(
     count: usize,
     words: &[u32],
     depth: u8,
-) -> Result<(Vec<StructMemberType>, &[u32]), Fault>
+) -> Result<(Vec<StructMemberType>, &[u32]), Fail<Unreadable>>
     ensures { Reads (λ ms. (members_view ms.0.items, ms.1.now)) result
         (members_at (decode depth) count words.now) }
 {
@@ -151,22 +174,26 @@ fn read_members(
                 members.push(member)?;
                 rest = after;
             }
-            Err(fault) => return Err(fault),
+            Err(fail) => return Err(fail),
         }
     }
     Ok((members, rest))
 }
 
 #[cycle(read)]
-fn read_member(alloc: Global, words: &[u32], depth: u8) -> Result<(StructMemberType, &[u32]), Fault>
+fn read_member(
+    alloc: Global,
+    words: &[u32],
+    depth: u8,
+) -> Result<(StructMemberType, &[u32]), Fail<Unreadable>>
     ensures { Reads (λ m. (member_view m.0, m.1.now)) result (member_at (decode depth) words.now) }
 {
     let (name, rest) = read_name(alloc, words)?;
     let Some((size, rest)) = read_attribute(rest) else {
-        return Err(Fault::NoType);
+        return Err(Fail::Error(Unreadable));
     };
     let Some((align, rest)) = read_attribute(rest) else {
-        return Err(Fault::NoType);
+        return Err(Fail::Error(Unreadable));
     };
     let (ty, rest) = read_type(alloc, rest, depth)?;
     Ok((

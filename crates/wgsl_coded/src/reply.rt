@@ -13,11 +13,11 @@ ghost use Rattle.wgsl_coded.specs.Seen.{HasRefused, HasWords, Writes, reply_word
 
 use crate::candidates::{refuse_operands, reply_with_resolved};
 use crate::fast::short::ShortWords;
-use crate::fault::Fault;
 use crate::layouts::reply_with_layout;
 use crate::parts::{WritePart, write_list};
 use crate::refusals::write_error;
 use crate::resolved::words_of_resolved;
+use crate::unreadable::Unreadable;
 use crate::writing::write;
 use std::alloc::{AllocError, Global};
 use wgsl_asked::answers::Answer;
@@ -42,7 +42,7 @@ pub enum Reply {
 
 /// The reply to the request.
 #[inline(always)]
-pub(crate) fn reply_to(alloc: Global, request: Request<'_>) -> Result<Reply, Fault>
+pub(crate) fn reply_to(alloc: Global, request: Request<'_>) -> Result<Reply, Fail<Unreadable>>
     ensures { IsReplyTo (Some (request_view request.entry)) (seen reply_words result) }
 {
     let answer = answer(alloc, request)?;
@@ -50,7 +50,7 @@ pub(crate) fn reply_to(alloc: Global, request: Request<'_>) -> Result<Reply, Fau
 }
 
 #[inline(always)]
-fn write_answer(alloc: Global, answer: Answer<'_>) -> Result<Reply, Fault>
+fn write_answer(alloc: Global, answer: Answer<'_>) -> Result<Reply, Fail<Unreadable>>
     ensures { Writes (answer_view answer.entry) result }
 {
     match answer {
@@ -77,7 +77,10 @@ fn write_answer(alloc: Global, answer: Answer<'_>) -> Result<Reply, Fault>
 }
 
 /// The code of a type that was made, or of the refusal.
-pub(crate) fn reply_with_type(alloc: Global, made: Result<Type, Fail>) -> Result<Reply, Fault>
+pub(crate) fn reply_with_type(
+    alloc: Global,
+    made: Result<Type, Fail<Error>>,
+) -> Result<Reply, Fail<Unreadable>>
     ensures { Writes (outcome a_type view made) result }
 {
     match made {
@@ -89,8 +92,8 @@ pub(crate) fn reply_with_type(alloc: Global, made: Result<Type, Fail>) -> Result
 /// The code of a type that a call returns, no words if it returns no value, or the code of the refusal.
 pub(crate) fn reply_with_value(
     alloc: Global,
-    returned: Result<Option<Type>, Fail>,
-) -> Result<Reply, Fault>
+    returned: Result<Option<Type>, Fail<Error>>,
+) -> Result<Reply, Fail<Unreadable>>
     ensures { Writes (outcome a_value (option_map view) returned) result }
 {
     match returned {
@@ -101,7 +104,7 @@ pub(crate) fn reply_with_value(
 
 /// The code of a type that a call returns, or no words.
 #[inline(always)]
-fn reply_with_returned(alloc: Global, returned: Option<Type>) -> Result<Reply, Fault>
+fn reply_with_returned(alloc: Global, returned: Option<Type>) -> Result<Reply, Fail<Unreadable>>
     ensures { HasWords (answered (value_words (option_map view returned))) result }
 {
     match returned {
@@ -111,7 +114,10 @@ fn reply_with_returned(alloc: Global, returned: Option<Type>) -> Result<Reply, F
 }
 
 /// The words of what a call resolves to.
-pub(crate) fn reply_with_resolution(alloc: Global, resolved: ResolvedCall) -> Result<Reply, Fault>
+pub(crate) fn reply_with_resolution(
+    alloc: Global,
+    resolved: ResolvedCall,
+) -> Result<Reply, Fail<Unreadable>>
     ensures { HasWords (answered (resolution_words (resolved_view resolved))) result }
 {
     let words = words_of_resolved(alloc, &resolved);
@@ -120,7 +126,10 @@ pub(crate) fn reply_with_resolution(alloc: Global, resolved: ResolvedCall) -> Re
 }
 
 /// The words of a list.
-fn reply_with_list<T: WritePart + Drop>(alloc: Global, parts: Vec<T>) -> Result<Reply, Fault>
+fn reply_with_list<T: WritePart + Drop>(
+    alloc: Global,
+    parts: Vec<T>,
+) -> Result<Reply, Fail<Unreadable>>
     ensures { HasWords (answered (list_code T.part_code (map T.written parts.items))) result }
 {
     let words = words_of_list(alloc, &parts);
@@ -138,7 +147,7 @@ fn words_of_list<T: WritePart>(alloc: Global, parts: &[T]) -> Result<Vec<u32>, A
 }
 
 /// The code of a refusal.
-fn refuse(alloc: Global, fail: Fail) -> Result<Reply, Fault>
+fn refuse(alloc: Global, fail: Fail<Error>) -> Result<Reply, Fail<Unreadable>>
     ensures { HasRefused fail result }
 {
     match fail {
@@ -147,7 +156,7 @@ fn refuse(alloc: Global, fail: Fail) -> Result<Reply, Fault>
             drop(error);
             Ok(Reply::Refusal(words?))
         }
-        Fail::Memory(_) => Err(Fault::Memory),
+        Fail::Memory(error) => Err(Fail::Memory(error)),
     }
 }
 
@@ -168,7 +177,7 @@ fn words_of_type(alloc: Global, ty: &Type) -> Result<Vec<u32>, AllocError>
 }
 
 #[inline(always)]
-fn reply_with_code(alloc: Global, ty: &Type) -> Result<Reply, Fault>
+fn reply_with_code(alloc: Global, ty: &Type) -> Result<Reply, Fail<Unreadable>>
     ensures { HasWords (answered (code (view ty.now))) result }
 {
     match ShortWords::of_type(ty) {

@@ -5,17 +5,18 @@ ghost use Rattle.wgsl_rules.specs.types.Types.{scalar};
 ghost use Rattle.wgsl_rules.specs.codes.DecodingLiterals.{binary_operator_at, unary_operator_at};
 ghost use Rattle.wgsl_core.specs.Instances.{signature_view};
 ghost use Rattle.wgsl_core.specs.View.{view};
-ghost use Rattle.wgsl_coded.specs.Reads.{Reads};
-ghost use Rattle.wgsl_coded.specs.declared.fault.Fault.TheVariants.{NoType};
+ghost use Rattle.wgsl_core.specs.declared.error.Fail.TheVariants.{Error};
+ghost use Rattle.wgsl_coded.specs.Reads.{Reads, unreadable};
 ghost use Rattle.wgsl_coded.specs.Requests.{all_types, binary_expression, call_signature, two_types, unary_expression};
 
 use crate::coded::{DEPTH, read_whole};
-use crate::fault::Fault;
 use crate::heads::read_scalar;
 use crate::parts::read_list;
 use crate::reading::read_type;
 use crate::signatures::read_signature;
+use crate::unreadable::Unreadable;
 use std::alloc::Global;
+use wgsl_core::error::Fail;
 use wgsl_core::signature::CallSignature;
 use wgsl_core::ty::Type;
 use wgsl_syntax::operator::{BinaryOperator, UnaryOperator};
@@ -34,7 +35,7 @@ pub(crate) fn read_two_scalars(words: &[u32]) -> Option<(Scalar, Scalar)>
 
 /// One type, and then another.
 #[inline(always)]
-pub(crate) fn read_two(alloc: Global, words: &[u32]) -> Result<(Type, Type), Fault>
+pub(crate) fn read_two(alloc: Global, words: &[u32]) -> Result<(Type, Type), Fail<Unreadable>>
     ensures { Reads (λ types. (view types.0, view types.1)) result (two_types words.now) }
 {
     let (first, rest) = read_type(alloc, words, DEPTH)?;
@@ -44,28 +45,28 @@ pub(crate) fn read_two(alloc: Global, words: &[u32]) -> Result<(Type, Type), Fau
 
 /// What is read, if no words are left.
 #[inline(always)]
-pub(crate) fn if_ended<T: Drop>(read: (T, &[u32])) -> Result<T, Fault>
+pub(crate) fn if_ended<T: Drop>(read: (T, &[u32])) -> Result<T, Fail<Unreadable>>
     ensures { MatchResult result
         (λ x. (read.entry.0 ≡ x) × (nat_eq (length (read.entry.1).now) 0 ≡ true))
-        (λ fault. (fault ≡ NoType) × (nat_eq (length (read.entry.1).now) 0 ≡ false)) }
+        (λ fail. (fail ≡ Error unreadable) × (nat_eq (length (read.entry.1).now) 0 ≡ false)) }
 {
     let (value, rest) = read;
     if !rest.is_empty() {
         drop(value);
-        return Err(Fault::NoType);
+        return Err(Fail::Error(Unreadable));
     }
     Ok(value)
 }
 
 /// A list of types.
-pub(crate) fn read_all_types(alloc: Global, words: &[u32]) -> Result<Vec<Type>, Fault>
+pub(crate) fn read_all_types(alloc: Global, words: &[u32]) -> Result<Vec<Type>, Fail<Unreadable>>
     ensures { Reads (λ types. map view types.items) result (all_types words.now) }
 {
     if_ended(read_list(alloc, words)?)
 }
 
 /// The signature of a call.
-pub(crate) fn read_call(alloc: Global, words: &[u32]) -> Result<CallSignature, Fault>
+pub(crate) fn read_call(alloc: Global, words: &[u32]) -> Result<CallSignature, Fail<Unreadable>>
     ensures { Reads signature_view result (call_signature words.now) }
 {
     if_ended(read_signature(alloc, words)?)
@@ -101,11 +102,14 @@ fn binary_operator_by(word: u32) -> Option<BinaryOperator>
 }
 
 /// A unary operator, and then a type.
-pub(crate) fn read_unary(alloc: Global, words: &[u32]) -> Result<(UnaryOperator, Type), Fault>
+pub(crate) fn read_unary(
+    alloc: Global,
+    words: &[u32],
+) -> Result<(UnaryOperator, Type), Fail<Unreadable>>
     ensures { Reads (λ e. (e.0, view e.1)) result (unary_expression words.now) }
 {
     let Some((operator, rest)) = read_unary_operator(words) else {
-        return Err(Fault::NoType);
+        return Err(Fail::Error(Unreadable));
     };
     let operand = read_whole(alloc, rest)?;
     Ok((operator, operand))
@@ -116,11 +120,11 @@ pub(crate) fn read_unary(alloc: Global, words: &[u32]) -> Result<(UnaryOperator,
 pub(crate) fn read_binary(
     alloc: Global,
     words: &[u32],
-) -> Result<(BinaryOperator, Type, Type), Fault>
+) -> Result<(BinaryOperator, Type, Type), Fail<Unreadable>>
     ensures { Reads (λ e. (e.0, view e.1, view e.2)) result (binary_expression words.now) }
 {
     let Some((operator, rest)) = read_binary_operator(words) else {
-        return Err(Fault::NoType);
+        return Err(Fail::Error(Unreadable));
     };
     let (left, right) = read_two(alloc, rest)?;
     Ok((operator, left, right))

@@ -9,13 +9,14 @@ ghost use Rattle.wgsl_core.specs.Instances.{parameter_view, signature_view};
 ghost use Rattle.wgsl_coded.specs.Reads.{Reads};
 
 use crate::coded::DEPTH;
-use crate::fault::Fault;
 use crate::literals::{read_enumerant, read_literal, write_enumerant, write_literal};
 use crate::names::{read_name, write_name};
 use crate::parts::{ReadPart, WritePart, read_list, write_list};
 use crate::reading::read_type;
+use crate::unreadable::Unreadable;
 use crate::writing::write;
 use std::alloc::{AllocError, Global};
+use wgsl_core::error::Fail;
 use wgsl_core::literal::Instance;
 use wgsl_core::signature::{CallSignature, TpltParam};
 use wgsl_core::ty::Type;
@@ -32,7 +33,7 @@ impl ReadPart for Type {
     ghost part_at = { decode 255 };
 
     #[inline(always)]
-    fn read_part(alloc: Global, words: &[u32]) -> Result<(Type, &[u32]), Fault> {
+    fn read_part(alloc: Global, words: &[u32]) -> Result<(Type, &[u32]), Fail<Unreadable>> {
         read_type(alloc, words, DEPTH)
     }
 }
@@ -55,12 +56,12 @@ impl WritePart for Type {
 }
 
 /// A template parameter.
-fn read_parameter(alloc: Global, words: &[u32]) -> Result<(TpltParam, &[u32]), Fault>
+fn read_parameter(alloc: Global, words: &[u32]) -> Result<(TpltParam, &[u32]), Fail<Unreadable>>
     ensures { Reads (λ p. (parameter_view p.0, p.1.now)) result
         (parameter_at (decode 255) words.now) }
 {
     let [word, ..] = words else {
-        return Err(Fault::NoType);
+        return Err(Fail::Error(Unreadable));
     };
     let tag = *word % 256;
     if tag < 16 {
@@ -70,12 +71,12 @@ fn read_parameter(alloc: Global, words: &[u32]) -> Result<(TpltParam, &[u32]), F
     if tag < 24 {
         return match read_literal(words) {
             Some((literal, rest)) => Ok((TpltParam::Instance(Instance::Literal(literal)), rest)),
-            None => Err(Fault::NoType),
+            None => Err(Fail::Error(Unreadable)),
         };
     }
     match read_enumerant(words) {
         Some((enumerant, rest)) => Ok((TpltParam::Enumerant(enumerant), rest)),
-        None => Err(Fault::NoType),
+        None => Err(Fail::Error(Unreadable)),
     }
 }
 
@@ -91,7 +92,7 @@ impl ReadPart for TpltParam {
 
     ghost part_at = { parameter_at (decode 255) };
 
-    fn read_part(alloc: Global, words: &[u32]) -> Result<(TpltParam, &[u32]), Fault> {
+    fn read_part(alloc: Global, words: &[u32]) -> Result<(TpltParam, &[u32]), Fail<Unreadable>> {
         read_parameter(alloc, words)
     }
 }
@@ -100,7 +101,7 @@ impl ReadPart for TpltParam {
 pub(crate) fn read_template(
     alloc: Global,
     words: &[u32],
-) -> Result<(Option<Vec<TpltParam>>, &[u32]), Fault>
+) -> Result<(Option<Vec<TpltParam>>, &[u32]), Fail<Unreadable>>
     ensures { Reads (λ t. (option_map (λ ps. map parameter_view ps.items) t.0, t.1.now)) result
         (template_at (decode 255) words.now) }
 {
@@ -110,12 +111,15 @@ pub(crate) fn read_template(
             let (parameters, rest) = read_list(alloc, rest)?;
             Ok((Some(parameters), rest))
         }
-        _ => Err(Fault::NoType),
+        _ => Err(Fail::Error(Unreadable)),
     }
 }
 
 /// The signature of a call.
-pub(crate) fn read_signature(alloc: Global, words: &[u32]) -> Result<(CallSignature, &[u32]), Fault>
+pub(crate) fn read_signature(
+    alloc: Global,
+    words: &[u32],
+) -> Result<(CallSignature, &[u32]), Fail<Unreadable>>
     ensures { Reads (λ c. (signature_view c.0, c.1.now)) result
         (signature_at (decode 255) words.now) }
 {

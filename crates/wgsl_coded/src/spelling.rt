@@ -9,12 +9,13 @@ ghost use Rattle.wgsl_coded.specs.Texts.{message_in, spelling_in};
 
 use crate::coded::read_whole;
 use crate::errors::{ReadRefusal, message_of, read_refusal};
-use crate::fault::Fault;
 use crate::requests::if_ended;
+use crate::unreadable::Unreadable;
 use std::alloc::Global;
+use wgsl_core::error::Fail;
 
 /// The spelling of the type whose code the words are.
-pub fn spell(alloc: Global, words: &[u32]) -> Result<String, Fault>
+pub fn spell(alloc: Global, words: &[u32]) -> Result<String, Fail<Unreadable>>
     ensures { Reads string_bytes result (spelling_in words.now) }
 {
     let ty = read_whole(alloc, words)?;
@@ -24,7 +25,7 @@ pub fn spell(alloc: Global, words: &[u32]) -> Result<String, Fault>
 }
 
 /// The message of the refusal whose code the words are.
-pub fn message(alloc: Global, words: &[u32]) -> Result<String, Fault>
+pub fn message(alloc: Global, words: &[u32]) -> Result<String, Fail<Unreadable>>
     ensures { Reads string_bytes result (message_in words.now) }
 {
     let refusal = read_whole_refusal(alloc, words)?;
@@ -33,7 +34,7 @@ pub fn message(alloc: Global, words: &[u32]) -> Result<String, Fault>
     Ok(text?)
 }
 
-fn read_whole_refusal(alloc: Global, words: &[u32]) -> Result<ReadRefusal, Fault>
+fn read_whole_refusal(alloc: Global, words: &[u32]) -> Result<ReadRefusal, Fail<Unreadable>>
     ensures { Reads read_view result (whole (refusal_at (decode 255) words.now)) }
 {
     if_ended(read_refusal(alloc, words)?)

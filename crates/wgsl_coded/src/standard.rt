@@ -10,19 +10,20 @@ ghost use Rattle.wgsl_coded.specs.Seen.{reply_words, resolved_words, seen};
 
 use crate::fast::callees::read_plain_call;
 use crate::fast::resolved::{resolve_one, resolve_three, resolve_two};
-use crate::fault::Fault;
 use crate::names::read_name;
 use crate::overloaded::{ReadCall, borrowed_operands, read_standard_call};
 use crate::reply::{Reply, reply_to};
 use crate::requests::if_ended;
 use crate::resolved::Resolved;
+use crate::unreadable::Unreadable;
 use std::alloc::Global;
 use wgsl_asked::requests::{Call, Request};
+use wgsl_core::error::Fail;
 
 /// The overload that a call has, the types of its parameters and its result; refused without words if none takes the
 /// operands. The request is the call. If it is plain, nothing is allocated for its name and for the list of its operands.
 #[inline(always)]
-pub fn resolve(alloc: Global, request: &[u32]) -> Result<Resolved, Fault>
+pub fn resolve(alloc: Global, request: &[u32]) -> Result<Resolved, Fail<Unreadable>>
     ensures { IsResolveReply request.now (seen resolved_words result) }
 {
     let Some((callee, count, words)) = read_plain_call(request) else {
@@ -38,7 +39,7 @@ pub fn resolve(alloc: Global, request: &[u32]) -> Result<Resolved, Fault>
 
 /// The reply to a call, with a template or without one, and any number of operands.
 #[inline(never)]
-fn resolve_any(alloc: Global, request: &[u32]) -> Result<Resolved, Fault>
+fn resolve_any(alloc: Global, request: &[u32]) -> Result<Resolved, Fail<Unreadable>>
     ensures { IsResolveReply request.now (seen resolved_words result) }
 {
     let call = read_standard_call(alloc, request)?;
@@ -47,7 +48,7 @@ fn resolve_any(alloc: Global, request: &[u32]) -> Result<Resolved, Fault>
     Ok(Resolved::Other(reply?))
 }
 
-fn resolution(alloc: Global, call: &ReadCall) -> Result<Reply, Fault>
+fn resolution(alloc: Global, call: &ReadCall) -> Result<Reply, Fail<Unreadable>>
     ensures { IsReplyTo (Some (resolution_of (read_call_view call.now))) (seen reply_words result) }
 {
     let operands = borrowed_operands(alloc, &call.operands)?;
@@ -60,7 +61,7 @@ fn resolution(alloc: Global, call: &ReadCall) -> Result<Reply, Fault>
 }
 
 /// A text for each overload of a call that doesn't take its operands. The request is the call.
-pub fn why(alloc: Global, request: &[u32]) -> Result<Reply, Fault>
+pub fn why(alloc: Global, request: &[u32]) -> Result<Reply, Fail<Unreadable>>
     ensures { IsWhyReply request.now (seen reply_words result) }
 {
     let call = read_standard_call(alloc, request)?;
@@ -69,7 +70,7 @@ pub fn why(alloc: Global, request: &[u32]) -> Result<Reply, Fault>
     reply
 }
 
-fn explanation(alloc: Global, call: &ReadCall) -> Result<Reply, Fault>
+fn explanation(alloc: Global, call: &ReadCall) -> Result<Reply, Fail<Unreadable>>
     ensures { IsReplyTo (Some (explanation_of (read_call_view call.now))) (seen reply_words result) }
 {
     let operands = borrowed_operands(alloc, &call.operands)?;
@@ -82,7 +83,7 @@ fn explanation(alloc: Global, call: &ReadCall) -> Result<Reply, Fault>
 }
 
 /// A text for each overload of a name, which may be an operator. The request is the name.
-pub fn overloads(alloc: Global, request: &[u32]) -> Result<Reply, Fault>
+pub fn overloads(alloc: Global, request: &[u32]) -> Result<Reply, Fail<Unreadable>>
     ensures { IsOverloadsReply request.now (seen reply_words result) }
 {
     let name = read_whole_name(alloc, request)?;
@@ -91,7 +92,7 @@ pub fn overloads(alloc: Global, request: &[u32]) -> Result<Reply, Fault>
     reply
 }
 
-fn read_whole_name(alloc: Global, words: &[u32]) -> Result<String, Fault>
+fn read_whole_name(alloc: Global, words: &[u32]) -> Result<String, Fail<Unreadable>>
     ensures { Reads string_bytes result (whole (name_at words.now)) }
 {
     if_ended(read_name(alloc, words)?)

@@ -4,13 +4,13 @@ use crate::lines::Lines;
 use std::alloc::AllocError;
 use std::io;
 use std::io::Write;
-use wgsl_types::Type;
 use wgsl_types::standard::{
-    Callee, Operand, ResolvedCall, Unresolved, explain, resolve_binary_op, resolve_builtin_fn,
+    Callee, NoOverload, Operand, ResolvedCall, explain, resolve_binary_op, resolve_builtin_fn,
     resolve_ctor, resolve_unary_op, signatures, type_binary_op, type_builtin_fn, type_ctor,
     type_unary_op,
 };
 use wgsl_types::syntax::{BinaryOperator, UnaryOperator};
+use wgsl_types::{Fail, Type};
 
 pub fn print_standard<W: Write>(lines: &mut Lines<W>, arguments: &Arguments) -> io::Result<()> {
     let [integers, unsigned] = &arguments.types.vectors;
@@ -100,16 +100,18 @@ fn print_overloads<W: Write>(lines: &mut Lines<W>, variable: Operand<'_>) -> io:
 }
 
 /// The type of a call; None if it has no overload, or no value.
-fn or_none(answer: Result<Option<Type>, Unresolved>) -> Result<Option<Type>, AllocError> {
+fn or_none(answer: Result<Option<Type>, Fail<NoOverload>>) -> Result<Option<Type>, AllocError> {
     match answer {
         Ok(ty) => Ok(ty),
-        Err(Unresolved::NoOverload) => Ok(None),
-        Err(Unresolved::OutOfMemory(e)) => Err(e),
+        Err(Fail::Error(NoOverload)) => Ok(None),
+        Err(Fail::Memory(e)) => Err(e),
     }
 }
 
 /// The types to which operands convert, if there is an overload.
-fn types_of(answer: Result<ResolvedCall, Unresolved>) -> Result<Option<Vec<Type>>, AllocError> {
+fn types_of(
+    answer: Result<ResolvedCall, Fail<NoOverload>>,
+) -> Result<Option<Vec<Type>>, AllocError> {
     match answer {
         Ok(call) => {
             let ResolvedCall {
@@ -120,7 +122,7 @@ fn types_of(answer: Result<ResolvedCall, Unresolved>) -> Result<Option<Vec<Type>
             drop(result);
             Ok(Some(parameters))
         }
-        Err(Unresolved::NoOverload) => Ok(None),
-        Err(Unresolved::OutOfMemory(e)) => Err(e),
+        Err(Fail::Error(NoOverload)) => Ok(None),
+        Err(Fail::Memory(e)) => Err(e),
     }
 }

@@ -9,7 +9,7 @@ use wgsl_types::tplt::{
     ArrayTemplate, AtomicTemplate, BindingArrayTemplate, BitcastTemplate, MatTemplate, PtrTemplate,
     TextureTemplate, TpltParam, VecTemplate,
 };
-use wgsl_types::{Fail, Type};
+use wgsl_types::{Error, Fail, Type};
 
 pub fn print_templates<W: Write>(lines: &mut Lines<W>, templates: &Templates) -> io::Result<()> {
     print_arrays(lines, &templates.array)?;
@@ -59,49 +59,49 @@ fn print_pointers<W: Write>(lines: &mut Lines<W>, templates: &Templates) -> io::
     )
 }
 
-fn array_type(alloc: Global, tplt: &[TpltParam]) -> Result<Type, Fail> {
+fn array_type(alloc: Global, tplt: &[TpltParam]) -> Result<Type, Fail<Error>> {
     let template = ArrayTemplate::parse(alloc, tplt)?;
     let ty = template.ty(alloc);
     drop(template);
     Ok(ty?)
 }
 
-fn array_inner(alloc: Global, tplt: &[TpltParam]) -> Result<Type, Fail> {
+fn array_inner(alloc: Global, tplt: &[TpltParam]) -> Result<Type, Fail<Error>> {
     let template = ArrayTemplate::parse(alloc, tplt)?;
     let ty = template.inner_ty(alloc);
     drop(template);
     Ok(ty?)
 }
 
-fn binding_array_type(alloc: Global, tplt: &[TpltParam]) -> Result<Type, Fail> {
+fn binding_array_type(alloc: Global, tplt: &[TpltParam]) -> Result<Type, Fail<Error>> {
     let template = BindingArrayTemplate::parse(alloc, tplt)?;
     let ty = template.ty(alloc);
     drop(template);
     Ok(ty?)
 }
 
-fn binding_array_inner(alloc: Global, tplt: &[TpltParam]) -> Result<Type, Fail> {
+fn binding_array_inner(alloc: Global, tplt: &[TpltParam]) -> Result<Type, Fail<Error>> {
     let template = BindingArrayTemplate::parse(alloc, tplt)?;
     let ty = template.inner_ty(alloc);
     drop(template);
     Ok(ty?)
 }
 
-fn vector_type(alloc: Global, tplt: &[TpltParam]) -> Result<Type, Fail> {
+fn vector_type(alloc: Global, tplt: &[TpltParam]) -> Result<Type, Fail<Error>> {
     let template = VecTemplate::parse(alloc, tplt)?;
     let ty = template.ty(alloc, 3);
     drop(template);
     Ok(ty?)
 }
 
-fn matrix_type(alloc: Global, tplt: &[TpltParam]) -> Result<Type, Fail> {
+fn matrix_type(alloc: Global, tplt: &[TpltParam]) -> Result<Type, Fail<Error>> {
     let template = MatTemplate::parse(alloc, tplt)?;
     let ty = template.ty(alloc, 2, 3);
     drop(template);
     Ok(ty?)
 }
 
-fn atomic_type(alloc: Global, tplt: &[TpltParam]) -> Result<Type, Fail> {
+fn atomic_type(alloc: Global, tplt: &[TpltParam]) -> Result<Type, Fail<Error>> {
     let template = AtomicTemplate::parse(alloc, tplt)?;
     let ty = template.ty(alloc);
     drop(template);
@@ -109,28 +109,28 @@ fn atomic_type(alloc: Global, tplt: &[TpltParam]) -> Result<Type, Fail> {
 }
 
 /// The type inside the atomic of this template.
-pub fn atomic_inner(alloc: Global, tplt: &[TpltParam]) -> Result<Type, Fail> {
+pub fn atomic_inner(alloc: Global, tplt: &[TpltParam]) -> Result<Type, Fail<Error>> {
     let template = AtomicTemplate::parse(alloc, tplt)?;
     let ty = template.inner_ty(alloc);
     drop(template);
     Ok(ty?)
 }
 
-fn pointer_access(alloc: Global, tplt: &[TpltParam]) -> Result<AccessMode, Fail> {
+fn pointer_access(alloc: Global, tplt: &[TpltParam]) -> Result<AccessMode, Fail<Error>> {
     let template = PtrTemplate::parse(alloc, tplt)?;
     let access = template.access;
     drop(template);
     Ok(access)
 }
 
-fn pointer_type(alloc: Global, tplt: &[TpltParam]) -> Result<Type, Fail> {
+fn pointer_type(alloc: Global, tplt: &[TpltParam]) -> Result<Type, Fail<Error>> {
     let template = PtrTemplate::parse(alloc, tplt)?;
     let ty = template.ty(alloc);
     drop(template);
     Ok(ty?)
 }
 
-fn bitcast_inner(alloc: Global, tplt: &[TpltParam]) -> Result<Type, Fail> {
+fn bitcast_inner(alloc: Global, tplt: &[TpltParam]) -> Result<Type, Fail<Error>> {
     let template = BitcastTemplate::parse(alloc, tplt)?;
     let ty = template.inner_ty(alloc);
     drop(template);
@@ -138,7 +138,7 @@ fn bitcast_inner(alloc: Global, tplt: &[TpltParam]) -> Result<Type, Fail> {
 }
 
 /// The type of the channels of the `texture_2d` of this template.
-pub fn texture_channel(alloc: Global, tplt: &[TpltParam]) -> Result<SampledType, Fail> {
+pub fn texture_channel(alloc: Global, tplt: &[TpltParam]) -> Result<SampledType, Fail<Error>> {
     let template = TextureTemplate::parse(alloc, "texture_2d", tplt)?;
     Ok(template.ty().channel_type())
 }

@@ -10,7 +10,8 @@ use Rattle.wgsl_syntax.specs.declared.address.AddressSpace.{AddressSpace}
 use Rattle.wgsl_rules.specs.types.Types.{WgslType}
 use Rattle.wgsl_syntax.specs.declared.around.Around.{Around}
 use Rattle.wgsl_syntax.specs.declared.around.Around.TheVariants as arounds
-use Rattle.wgsl_requests.specs.declared.words.Unread.{Unread}
+use Rattle.wgsl_core.specs.declared.error.Fail.{Fail}
+use Rattle.wgsl_requests.specs.declared.wanted.Misfit.{Misfit}
 use Rattle.wgsl_rules.specs.types.Around.{around}
 use Rattle.wgsl_requests.specs.Grammar.{LayerAt, array_at, atomic_at, binding_array_at, mat_at, ptr_at, ref_at, vec_at}
 use Rattle.wgsl_requests.specs.Numbers.{IsCount, IsSmall}
@@ -21,7 +22,7 @@ use Rattle.wgsl_requests.proofs.Meanings.{Made}
 use Rattle.wgsl_requests.proofs.Forms.{LayerForm, MemoryAt, layer_form}
 
 -- the words behind the first word of a layer are no part of one
-pub layer_fails : {X : Type 0} (At : Beginning X) (make : X → Around) (key word : List ℕ) (words after : List (List ℕ)) (r : Result (Option Around) Unread) (e : Unread)
+pub layer_fails : {X : Type 0} (At : Beginning X) (make : X → Around) (key word : List ℕ) (words after : List (List ℕ)) (r : Result (Option Around) (Fail Misfit)) (e : Fail Misfit)
     → ((layer : Around) (rest : List (List ℕ)) → LayerForm (key ∷ words) layer rest → Made At make words layer rest) → is_layer_word key ≡ true
     → word ≡ key → IsErrAnd r (λ y. y ≡ e) → Refuses (NoneAt At words) e → ReadsLayer word words after r
 layer_fails At make key word words after r e shape known is same none =
@@ -31,7 +32,7 @@ layer_fails At make key word words after r e shape known is same none =
     subst (λ r. ReadsLayer word words after r) (sym p.1) (subst (λ e. Refuses ((is_layer_word word ≡ true) × NoneAt LayerAt (word ∷ words)) e) (sym p.2) n)
 
 -- the second of two words is no such word
-pub second_fails : {X Y : Type 0} (Is : List ℕ → X → Type 0) (Are : List ℕ → Y → Type 0) (words mid : List (List ℕ)) (x : X) (e : Unread) → OneWord Is words x mid
+pub second_fails : {X Y : Type 0} (Is : List ℕ → X → Type 0) (Are : List ℕ → Y → Type 0) (words mid : List (List ℕ)) (x : X) (e : Fail Misfit) → OneWord Is words x mid
     → Refuses (NoneAt (OneWord Are) mid) e → Refuses (NoneAt (Then (OneWord Is) (OneWord Are)) words) e
 second_fails Is Are words mid x e first none =
     refuses (NoneAt (OneWord Are) mid) (NoneAt (Then (OneWord Is) (OneWord Are)) words)
@@ -39,7 +40,7 @@ second_fails Is Are words mid x e first none =
     let after : p.0 ≡ mid = sym (cc same) in none y.1 rest (subst (λ ws. OneWord Are ws y.1 rest) after p.2)) e none
 
 -- the first of two words is no such word
-pub first_fails : {X Y : Type 0} (Is : List ℕ → X → Type 0) (Are : List ℕ → Y → Type 0) (words : List (List ℕ)) (e : Unread)
+pub first_fails : {X Y : Type 0} (Is : List ℕ → X → Type 0) (Are : List ℕ → Y → Type 0) (words : List (List ℕ)) (e : Fail Misfit)
     → Refuses (NoneAt (OneWord Is) words) e → Refuses (NoneAt (Then (OneWord Is) (OneWord Are)) words) e
 first_fails Is Are words e none =
     refuses (NoneAt (OneWord Is) words) (NoneAt (Then (OneWord Is) (OneWord Are)) words) (λ none y rest p. none y.0 p.0 p.1) e none

@@ -12,7 +12,8 @@ use Rattle.wgsl_syntax.specs.declared.texture.TextureType.{TextureType}
 use Rattle.wgsl_syntax.specs.declared.texture.TextureType.TheVariants.{External}
 use Rattle.wgsl_rules.specs.types.Types.{WgslType, scalar, struct}
 use Rattle.wgsl_syntax.specs.declared.around.Around.{Around}
-use Rattle.wgsl_requests.specs.declared.words.Unread.{Unread}
+use Rattle.wgsl_core.specs.declared.error.Fail.{Fail}
+use Rattle.wgsl_requests.specs.declared.wanted.Misfit.{Misfit}
 use Rattle.wgsl_rules.specs.types.Around.{around}
 use Rattle.wgsl_requests.specs.Grammar.{LayerAt, LeafAt, TypeAt, acceleration_structure_at, array_at, atomic_at, binding_array_at, layer_at, leaf_at, mat_at, ptr_at, ray_query_at, ref_at, sampler_at, scalar_at, struct_at, texture_at, vec_at}
 use Rattle.wgsl_requests.specs.Reading.{Beginning, NoneAt, Reads}
@@ -69,7 +70,7 @@ module _ (word : List ℕ) (words : List (List ℕ)) where
       subst (λ w. TypeAt (w ∷ words) t rest) (sym is)
       (subst (λ t. TypeAt (codes "struct" ∷ words) t rest) (sym s.type_is) (subst (λ ws. TypeAt (codes "struct" ∷ ws) (struct s.name s.members) rest) (sym s.words_are) (struct_at s.is_count s.members_at)))
 
-  pub struct_read : {A : Type 0} (view : A → WgslType) (after : List (List ℕ)) (r : Result A Unread) → word ≡ codes "struct" → Reads StructAt view words after r → Reads TypeAt view (word ∷ words) after r
+  pub struct_read : {A : Type 0} (view : A → WgslType) (after : List (List ℕ)) (r : Result A (Fail Misfit)) → word ≡ codes "struct" → Reads StructAt view words after r → Reads TypeAt view (word ∷ words) after r
   struct_read view after r is h =
       answers_by (λ x. StructAt words (view x) after) (λ x. TypeAt (word ∷ words) (view x) after) (NoneAt StructAt words) (NoneAt TypeAt (word ∷ words))
       (λ x d. struct_type (view x) after is d) (λ none t rest d. none t rest (form (subst (λ w. TypeAt (w ∷ words) t rest) is d))) r h
@@ -79,7 +80,7 @@ module _ (word : List ℕ) (words : List (List ℕ)) where
   other_type_by true t rest f = subst (λ t. TypeAt (word ∷ words) t rest) (sym f.3.2) (layer_at f.2 f.3.1)
   other_type_by false t rest f = leaf_at f
 
-  pub other_read : {A : Type 0} (view : A → WgslType) (after : List (List ℕ)) (r : Result A Unread) → ((s : Scalar) → word ≡ scalar_text s → ⊥) → word ≢ codes "struct"
+  pub other_read : {A : Type 0} (view : A → WgslType) (after : List (List ℕ)) (r : Result A (Fail Misfit)) → ((s : Scalar) → word ≡ scalar_text s → ⊥) → word ≢ codes "struct"
       → Reads OtherAt view (word ∷ words) after r → Reads TypeAt view (word ∷ words) after r
   other_read view after r no_scalar no_struct h =
       answers_by (λ x. OtherAt (word ∷ words) (view x) after) (λ x. TypeAt (word ∷ words) (view x) after) (NoneAt OtherAt (word ∷ words)) (NoneAt TypeAt (word ∷ words))
@@ -87,7 +88,7 @@ module _ (word : List ℕ) (words : List (List ℕ)) where
       (λ none t rest d. none t rest (past _ _ _ (not_eq word _ no_struct) (past_option _ _ _ (named_none scalar_text scalars word no_scalar) (form d)))) r h
 
 -- a layer, and what is inside, are read
-pub inside_read : {A : Type 0} (view : A → WgslType) (word : List ℕ) (words mid after : List (List ℕ)) (layer : Around) (r : Result A Unread) → LayerAt (word ∷ words) layer mid
+pub inside_read : {A : Type 0} (view : A → WgslType) (word : List ℕ) (words mid after : List (List ℕ)) (layer : Around) (r : Result A (Fail Misfit)) → LayerAt (word ∷ words) layer mid
     → Reads (InsideAt layer) view mid after r → Reads OtherAt view (word ∷ words) after r
 inside_read view word words mid after layer r d h =
     answers_by (λ x. InsideAt layer mid (view x) after) (λ x. OtherAt (word ∷ words) (view x) after) (NoneAt (InsideAt layer) mid) (NoneAt OtherAt (word ∷ words))
@@ -98,7 +99,7 @@ inside_read view word words mid after layer r d h =
     none t rest (f.3.0, subst (λ ws. TypeAt ws f.3.0 rest) (sym a.1) f.3.1, f.3.2 ∙ ap (λ l. around l f.3.0) (sym a.0))) r h
 
 -- from the words after the first to all
-pub read_on : {A B : Type 0} (At : Beginning B) (view : A → B) (words : List (List ℕ)) (word : List ℕ) (mid after : List (List ℕ)) (r : Result A Unread) → words ≡ word ∷ mid
+pub read_on : {A B : Type 0} (At : Beginning B) (view : A → B) (words : List (List ℕ)) (word : List ℕ) (mid after : List (List ℕ)) (r : Result A (Fail Misfit)) → words ≡ word ∷ mid
     → Reads At view (word ∷ mid) after r → Reads At view words after r
 read_on At view words word mid after r e h = subst (λ ws. Reads At view ws after r) (sym e) h
 

@@ -16,8 +16,9 @@ use Rattle.wgsl_requests.specs.Answers.{IsAnswer, IsReply}
 use Rattle.wgsl_requests.specs.declared.command.Callee.{Callee}
 use Rattle.wgsl_requests.specs.declared.rules.RuleSet.{RuleSet}
 use Rattle.wgsl_requests.specs.declared.rules.RuleSet.TheVariants.{Ported, Standard}
-use Rattle.wgsl_requests.specs.declared.words.Unread.{Unread}
-use Rattle.wgsl_requests.specs.declared.words.Unread.TheVariants.{Word, Memory}
+use Rattle.wgsl_core.specs.declared.error.Fail.{Fail}
+use Rattle.wgsl_requests.specs.declared.wanted.Misfit.{Misfit}
+use Rattle.wgsl_core.specs.declared.error.Fail.TheVariants.{Error, Memory}
 use Rattle.wgsl_requests.proofs.Requested.{IsShared, no_offsets, no_layout, other_struct}
 use Rattle.wgsl_requests.specs.internal.Replied.{callee_view, Replies, WritesOfStruct}
 use Rattle.wgsl_requests.specs.internal.Written.{Adds}
@@ -46,14 +47,14 @@ binary_spelled words after word o types t u e f d pair =
     subst (λ ws. IsRequest Ported (codes "binary" ∷ ws) (binary o t u)) (sym (e ∙ ap (λ w. w ∷ after) f)) (binary_words o (subst (TypesAt after) pair d))
 
 -- what is written of a struct
-pub offsets_replied : (words : List (List ℕ)) (t : WgslType) (old new : List ℕ) (r : Result (Unit {0}) Unread) → TypeAt words t [] → WritesOfStruct offsets t old new r → Replies Ported (codes "offsets" ∷ words) old new r
+pub offsets_replied : (words : List (List ℕ)) (t : WgslType) (old new : List ℕ) (r : Result (Unit {0}) (Fail Misfit)) → TypeAt words t [] → WritesOfStruct offsets t old new r → Replies Ported (codes "offsets" ∷ words) old new r
 offsets_replied words t old new (Ok x) d w = replied old new (offsets_words (subst (λ t. TypeAt words t []) w.2 d)) w.3
-offsets_replied words t old new (Err (Word misfit)) d none = no_offsets words (other_struct words t d none)
+offsets_replied words t old new (Err (Error misfit)) d none = no_offsets words (other_struct words t d none)
 offsets_replied words t old new (Err (Memory e)) d none = tt
 
-pub layout_replied : (words : List (List ℕ)) (t : WgslType) (old new : List ℕ) (r : Result (Unit {0}) Unread) → TypeAt words t [] → WritesOfStruct layout t old new r → Replies Ported (codes "layout" ∷ words) old new r
+pub layout_replied : (words : List (List ℕ)) (t : WgslType) (old new : List ℕ) (r : Result (Unit {0}) (Fail Misfit)) → TypeAt words t [] → WritesOfStruct layout t old new r → Replies Ported (codes "layout" ∷ words) old new r
 layout_replied words t old new (Ok x) d w = replied old new (layout_words (subst (λ t. TypeAt words t []) w.2 d)) w.3
-layout_replied words t old new (Err (Word misfit)) d none = no_layout words (other_struct words t d none)
+layout_replied words t old new (Err (Error misfit)) d none = no_layout words (other_struct words t d none)
 layout_replied words t old new (Err (Memory e)) d none = tt
 
 -- two options of the same values, as a function shows these
@@ -71,7 +72,7 @@ call_seen callee r args e f =
     λ i. record { name = callee.name.now; template = template i; arguments = arguments i }
 
 -- what is written of a command that both sets of rules read alike
-pub shared : (key : List ℕ) (words : List (List ℕ)) (old new : List ℕ) (r : Result (Unit {0}) Unread) → IsShared key → Replies Ported (key ∷ words) old new r → Replies Standard (key ∷ words) old new r
+pub shared : (key : List ℕ) (words : List (List ℕ)) (old new : List ℕ) (r : Result (Unit {0}) (Fail Misfit)) → IsShared key → Replies Ported (key ∷ words) old new r → Replies Standard (key ∷ words) old new r
 shared key words old new (Ok x) same w = (w.0, (w.1.0, same.forth words w.1.0 w.1.1, w.1.2), w.2)
-shared key words old new (Err (Word misfit)) same none = λ request d. none request (same.back words request d)
+shared key words old new (Err (Error misfit)) same none = λ request d. none request (same.back words request d)
 shared key words old new (Err (Memory e)) same none = tt

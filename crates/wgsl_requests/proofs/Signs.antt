@@ -6,7 +6,8 @@ use Rattle.std.specs.Char.{digit_value}
 use Rattle.std.specs.Str.Parse.{IsNumeral, digits_value, signed_digits_value, without_leading_sign}
 use mir.Syntax.{w64}
 use Rattle.std.proofs.lemmas.Grind.{common_steps}
-use Rattle.wgsl_requests.specs.declared.words.Unread.{Unread}
+use Rattle.wgsl_core.specs.declared.error.Fail.{Fail}
+use Rattle.wgsl_requests.specs.declared.wanted.Misfit.{Misfit}
 use Rattle.wgsl_requests.specs.Numbers.{IsI64, IsSigned, with_minus, without_minus}
 use Rattle.wgsl_requests.specs.Reading.{Answers, ReadsWord}
 use Rattle.wgsl_requests.proofs.Readers.{answers_by}
@@ -54,7 +55,7 @@ from_signed (without_minus {digits = b ∷ bs} {n} f) =
     (subst (IsNumeral 10) (sym g.0) f.0, g.1 ∙ ap pos f.1)
 
 -- `r` is the number that the word is, from what was parsed
-pub signed_read : (E : Type 0) (More Rest : Result ℤ E → Type 0) (word : List ℕ) (r : Result ℤ Unread) → slice_index word 0 ≢ 43
+pub signed_read : (E : Type 0) (More Rest : Result ℤ E → Type 0) (word : List ℕ) (r : Result ℤ (Fail Misfit)) → slice_index word 0 ≢ 43
     → Answers (λ x. OkIff {T = ℤ} {E = E} (Ok x) (IsNumeral 10 (without_leading_sign word) × FitsSigned w64 (signed_digits_value 10 word)) (signed_digits_value 10 word) × More (Ok x) × Rest (Ok x))
     ((e : E) × (OkIff {T = ℤ} {E = E} (Err e) (IsNumeral 10 (without_leading_sign word) × FitsSigned w64 (signed_digits_value 10 word)) (signed_digits_value 10 word) × More (Err e) × Rest (Err e))) r
     → ReadsWord IsI64 word r

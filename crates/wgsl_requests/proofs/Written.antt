@@ -19,7 +19,7 @@ pushed (Ok x) new old text e = e
 pushed (Err e) new old text p = tt
 
 -- the message of a refusal, as a part of what is written of an answer
-pub refused : {T E : Type 0} (shown : Fail → List ℕ) (r : Result T E) (new old : List ℕ) (fail : Fail) → ((e : Error) → shown (fails.Error e) ≡ message (refusal e)) →
+pub refused : {T E : Type 0} (shown : Fail Error → List ℕ) (r : Result T E) (new old : List ℕ) (fail : Fail Error) → ((e : Error) → shown (fails.Error e) ≡ message (refusal e)) →
     OnOk r (IsRefusal (λ m. new ≡ old ++ message m) fail) → OnOk r (new ≡ old ++ shown fail)
 refused shown (Ok x) new old (fails.Error e) same h = h ∙ ap (λ text. old ++ text) (sym (same e))
 refused shown (Ok x) new old (fails.Memory e) same h = absurd h

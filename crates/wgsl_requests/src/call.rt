@@ -16,9 +16,10 @@ use crate::command::{binary_operator, unary_operator};
 use crate::read::{read_type, read_type_at};
 use crate::template::read_template;
 use crate::wanted::{Misfit, Wanted};
-use crate::words::{Unread, Words};
+use crate::words::Words;
 use std::alloc::Global;
 use wgsl_standard::callee::Callee;
+use wgsl_types::error::Fail;
 use wgsl_types::syntax::{BinaryOperator, UnaryOperator};
 use wgsl_types::tplt::TpltParam;
 use wgsl_types::ty::Type;
@@ -49,7 +50,7 @@ pub(crate) fn read_call<'t>(
     alloc: Global,
     command: &str,
     words: &mut Words<'t>,
-) -> Result<WrittenCall<'t>, Unread>
+) -> Result<WrittenCall<'t>, Fail<Misfit>>
     ensures { Answers (λ call. IsCall (command.now ∷ left words.old) (call_view call))
         ((call : WgslCall) → ¬ IsCall (command.now ∷ left words.old) call) result }
 {
@@ -59,7 +60,11 @@ pub(crate) fn read_call<'t>(
 }
 
 /// What is called, and its template: the command and what comes after it.
-fn read_head<'t>(alloc: Global, command: &str, words: &mut Words<'t>) -> Result<Head<'t>, Unread>
+fn read_head<'t>(
+    alloc: Global,
+    command: &str,
+    words: &mut Words<'t>,
+) -> Result<Head<'t>, Fail<Misfit>>
     ensures { Reads HeadAt head_view (command.now ∷ left words.old) (left words.new) result }
 {
     match command {
@@ -79,7 +84,7 @@ fn read_head<'t>(alloc: Global, command: &str, words: &mut Words<'t>) -> Result<
                 template,
             })
         }
-        _ => Err(Unread::Word(Misfit::Wrong(Wanted::Command))),
+        _ => Err(Fail::Error(Misfit::Wrong(Wanted::Command))),
     }
 }
 
@@ -93,13 +98,13 @@ fn head_of(callee: Callee<'_>) -> Head<'_>
     }
 }
 
-fn read_unary_operator(words: &mut Words) -> Result<UnaryOperator, Unread>
+fn read_unary_operator(words: &mut Words) -> Result<UnaryOperator, Fail<Misfit>>
     ensures { Reads (OneWord (IsText unary_text)) (λ o. o) (left words.old) (left words.new) result }
 {
     unary_operator(words.next(Wanted::UnaryOperator)?)
 }
 
-fn read_binary_operator(words: &mut Words) -> Result<BinaryOperator, Unread>
+fn read_binary_operator(words: &mut Words) -> Result<BinaryOperator, Fail<Misfit>>
     ensures { Reads (OneWord (IsText binary_text)) (λ o. o) (left words.old) (left words.new) result }
 {
     binary_operator(words.next(Wanted::BinaryOperator)?)
@@ -109,7 +114,7 @@ fn read_binary_operator(words: &mut Words) -> Result<BinaryOperator, Unread>
 fn read_named<'t>(
     alloc: Global,
     words: &mut Words<'t>,
-) -> Result<(&'t str, Option<Vec<TpltParam>>), Unread>
+) -> Result<(&'t str, Option<Vec<TpltParam>>), Fail<Misfit>>
     ensures { Reads NamedAt (λ named. (named.0.now, option_map (λ ps. map parameter_view ps.items) named.1))
         (left words.old) (left words.new) result }
 {
@@ -134,14 +139,14 @@ fn read_operands(
     alloc: Global,
     arity: Option<usize>,
     words: &mut Words,
-) -> Result<Vec<WrittenOperand>, Unread>
+) -> Result<Vec<WrittenOperand>, Fail<Misfit>>
     ensures { Answers (λ v. AreOperands arity (left words.old) (map operand_view v.items))
         ((xs : List Operand) → ¬ AreOperands arity (left words.old) xs) result }
 {
     let mut operands = Vec::with_capacity(alloc, 4)?;
     while let Ok(word) = words.next(Wanted::Type) {
         if is_full(operands.len(), arity) {
-            return Err(Unread::Word(Misfit::Surplus));
+            return Err(Fail::Error(Misfit::Surplus));
         }
         operands.push(read_operand(alloc, word, words)?)?;
     }
@@ -149,7 +154,7 @@ fn read_operands(
         Ok(operands)
     } else {
         drop(operands);
-        Err(Unread::Word(Misfit::Missing(Wanted::Type)))
+        Err(Fail::Error(Misfit::Missing(Wanted::Type)))
     }
 }
 
@@ -174,7 +179,11 @@ fn has_arity(count: usize, arity: Option<usize>) -> bool
 }
 
 /// The operand that begins with this word: `const` and a type, or a type.
-fn read_operand(alloc: Global, word: &str, words: &mut Words) -> Result<WrittenOperand, Unread>
+fn read_operand(
+    alloc: Global,
+    word: &str,
+    words: &mut Words,
+) -> Result<WrittenOperand, Fail<Misfit>>
     ensures goes_on { GoesOn words.old words.new }
     ensures read { Reads OperandAt operand_view (word.now ∷ left words.old) (left words.new) result }
 {

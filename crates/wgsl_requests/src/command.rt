@@ -17,11 +17,12 @@ use crate::rules::RuleSet;
 use crate::standard::answer_standard;
 use crate::template::read_template;
 use crate::wanted::{Misfit, Misread, Wanted};
-use crate::words::{Unread, Words, parsed};
+use crate::words::{Words, parsed};
 use crate::write::write;
 use std::alloc::{AllocError, Global};
 use wgsl_asked::ask::answer;
 use wgsl_asked::requests::{Callee as AskedCallee, Request};
+use wgsl_types::error::Fail;
 use wgsl_types::syntax::{BinaryOperator, UnaryOperator};
 use wgsl_types::tplt::TpltParam;
 use wgsl_types::ty::Type;
@@ -40,11 +41,11 @@ pub fn write_answer(
 {
     match answer_by(alloc, rules, command, words, text) {
         Ok(()) => Ok(None),
-        Err(Unread::Word(misfit)) => Ok(Some(Misread {
+        Err(Fail::Error(misfit)) => Ok(Some(Misread {
             misfit,
             taken: words.taken(),
         })),
-        Err(Unread::Memory(e)) => Err(e),
+        Err(Fail::Memory(e)) => Err(e),
     }
 }
 
@@ -55,7 +56,7 @@ fn answer_by(
     command: &str,
     words: &mut Words,
     text: &mut String,
-) -> Result<(), Unread>
+) -> Result<(), Fail<Misfit>>
     ensures { Replies rules (command.now ∷ left words.old)
         (string_bytes text.old) (string_bytes text.new) result }
 {
@@ -70,7 +71,7 @@ fn answer_command(
     command: &str,
     words: &mut Words,
     text: &mut String,
-) -> Result<(), Unread>
+) -> Result<(), Fail<Misfit>>
     ensures { Replies RuleSet.Ported (command.now ∷ left words.old)
         (string_bytes text.old) (string_bytes text.new) result }
 {
@@ -84,7 +85,7 @@ fn answer_command(
         "layout" => layout(alloc, words, text),
         "ctor" => ctor(alloc, words, text),
         "call" => call(alloc, words, text),
-        _ => Err(Unread::Word(Misfit::Wrong(Wanted::Command))),
+        _ => Err(Fail::Error(Misfit::Wrong(Wanted::Command))),
     }
 }
 
@@ -103,7 +104,7 @@ pub(crate) fn write_answer_to(
 }
 
 /// `rank T U`: the rank of the conversion.
-pub(crate) fn rank(alloc: Global, words: &mut Words, text: &mut String) -> Result<(), Unread>
+pub(crate) fn rank(alloc: Global, words: &mut Words, text: &mut String) -> Result<(), Fail<Misfit>>
     ensures { Replies RuleSet.Ported (codes "rank" ∷ left words.old)
         (string_bytes text.old) (string_bytes text.new) result }
 {
@@ -114,7 +115,11 @@ pub(crate) fn rank(alloc: Global, words: &mut Words, text: &mut String) -> Resul
 }
 
 /// `common T..`: the common type of all.
-pub(crate) fn common(alloc: Global, words: &mut Words, text: &mut String) -> Result<(), Unread>
+pub(crate) fn common(
+    alloc: Global,
+    words: &mut Words,
+    text: &mut String,
+) -> Result<(), Fail<Misfit>>
     ensures { Replies RuleSet.Ported (codes "common" ∷ left words.old)
         (string_bytes text.old) (string_bytes text.new) result }
 {
@@ -125,7 +130,7 @@ pub(crate) fn common(alloc: Global, words: &mut Words, text: &mut String) -> Res
 }
 
 /// `unary OP T`: the type of the expression, or why it has none.
-fn unary(alloc: Global, words: &mut Words, text: &mut String) -> Result<(), Unread>
+fn unary(alloc: Global, words: &mut Words, text: &mut String) -> Result<(), Fail<Misfit>>
     ensures { Replies RuleSet.Ported (codes "unary" ∷ left words.old)
         (string_bytes text.old) (string_bytes text.new) result }
 {
@@ -136,14 +141,14 @@ fn unary(alloc: Global, words: &mut Words, text: &mut String) -> Result<(), Unre
     Ok(written?)
 }
 
-pub(crate) fn unary_operator(word: &str) -> Result<UnaryOperator, Unread>
+pub(crate) fn unary_operator(word: &str) -> Result<UnaryOperator, Fail<Misfit>>
     ensures { ReadsWord (λ word operator. word ≡ unary_text operator) word.now result }
 {
     parsed(word, Wanted::UnaryOperator)
 }
 
 /// `binary OP T U`: the type of the expression, or why it has none.
-fn binary(alloc: Global, words: &mut Words, text: &mut String) -> Result<(), Unread>
+fn binary(alloc: Global, words: &mut Words, text: &mut String) -> Result<(), Fail<Misfit>>
     ensures { Replies RuleSet.Ported (codes "binary" ∷ left words.old)
         (string_bytes text.old) (string_bytes text.new) result }
 {
@@ -154,14 +159,14 @@ fn binary(alloc: Global, words: &mut Words, text: &mut String) -> Result<(), Unr
     Ok(written?)
 }
 
-pub(crate) fn binary_operator(word: &str) -> Result<BinaryOperator, Unread>
+pub(crate) fn binary_operator(word: &str) -> Result<BinaryOperator, Fail<Misfit>>
     ensures { ReadsWord (λ word operator. word ≡ binary_text operator) word.now result }
 {
     parsed(word, Wanted::BinaryOperator)
 }
 
 /// `size T`: the size and the alignment.
-pub(crate) fn size(alloc: Global, words: &mut Words, text: &mut String) -> Result<(), Unread>
+pub(crate) fn size(alloc: Global, words: &mut Words, text: &mut String) -> Result<(), Fail<Misfit>>
     ensures { Replies RuleSet.Ported (codes "size" ∷ left words.old)
         (string_bytes text.old) (string_bytes text.new) result }
 {
@@ -172,7 +177,11 @@ pub(crate) fn size(alloc: Global, words: &mut Words, text: &mut String) -> Resul
 }
 
 /// `offsets T` for a struct T: the offset of each member.
-pub(crate) fn offsets(alloc: Global, words: &mut Words, text: &mut String) -> Result<(), Unread>
+pub(crate) fn offsets(
+    alloc: Global,
+    words: &mut Words,
+    text: &mut String,
+) -> Result<(), Fail<Misfit>>
     ensures { Replies RuleSet.Ported (codes "offsets" ∷ left words.old)
         (string_bytes text.old) (string_bytes text.new) result }
 {
@@ -182,18 +191,22 @@ pub(crate) fn offsets(alloc: Global, words: &mut Words, text: &mut String) -> Re
     written
 }
 
-fn write_offsets_of(alloc: Global, ty: &Type, text: &mut String) -> Result<(), Unread>
+fn write_offsets_of(alloc: Global, ty: &Type, text: &mut String) -> Result<(), Fail<Misfit>>
     ensures { WritesOfStruct offsets_request (view ty.now)
         (string_bytes text.old) (string_bytes text.new) result }
 {
     let Type::Struct(structure) = ty else {
-        return Err(Unread::Word(Misfit::NoStruct));
+        return Err(Fail::Error(Misfit::NoStruct));
     };
     Ok(write_answer_to(alloc, Request::Offsets(structure), text)?)
 }
 
 /// `layout T` for a struct T: a report of its members and of the whole.
-pub(crate) fn layout(alloc: Global, words: &mut Words, text: &mut String) -> Result<(), Unread>
+pub(crate) fn layout(
+    alloc: Global,
+    words: &mut Words,
+    text: &mut String,
+) -> Result<(), Fail<Misfit>>
     ensures { Replies RuleSet.Ported (codes "layout" ∷ left words.old)
         (string_bytes text.old) (string_bytes text.new) result }
 {
@@ -203,12 +216,12 @@ pub(crate) fn layout(alloc: Global, words: &mut Words, text: &mut String) -> Res
     written
 }
 
-fn write_layout_of(alloc: Global, ty: &Type, text: &mut String) -> Result<(), Unread>
+fn write_layout_of(alloc: Global, ty: &Type, text: &mut String) -> Result<(), Fail<Misfit>>
     ensures { WritesOfStruct layout_request (view ty.now)
         (string_bytes text.old) (string_bytes text.new) result }
 {
     let Type::Struct(structure) = ty else {
-        return Err(Unread::Word(Misfit::NoStruct));
+        return Err(Fail::Error(Misfit::NoStruct));
     };
     Ok(write_answer_to(alloc, Request::Layout(structure), text)?)
 }
@@ -235,7 +248,7 @@ impl Callee<'_> {
 }
 
 #[inline(always)]
-fn read_callee<'t>(alloc: Global, words: &mut Words<'t>) -> Result<Callee<'t>, Unread>
+fn read_callee<'t>(alloc: Global, words: &mut Words<'t>) -> Result<Callee<'t>, Fail<Misfit>>
     ensures { Answers (λ callee. IsCallee (left words.old) (callee_view callee))
         ((call : Signature) → ¬ IsCallee (left words.old) call) result }
 {
@@ -250,7 +263,7 @@ fn read_callee<'t>(alloc: Global, words: &mut Words<'t>) -> Result<Callee<'t>, U
 }
 
 /// `ctor NAME P T..`: the type that the constructor makes, or why it makes none.
-fn ctor(alloc: Global, words: &mut Words, text: &mut String) -> Result<(), Unread>
+fn ctor(alloc: Global, words: &mut Words, text: &mut String) -> Result<(), Fail<Misfit>>
     ensures { Replies RuleSet.Ported (codes "ctor" ∷ left words.old)
         (string_bytes text.old) (string_bytes text.new) result }
 {
@@ -261,7 +274,7 @@ fn ctor(alloc: Global, words: &mut Words, text: &mut String) -> Result<(), Unrea
 }
 
 /// `call NAME P T..`: the type of the call, or why it has none; `no value` if it gives none.
-fn call(alloc: Global, words: &mut Words, text: &mut String) -> Result<(), Unread>
+fn call(alloc: Global, words: &mut Words, text: &mut String) -> Result<(), Fail<Misfit>>
     ensures { Replies RuleSet.Ported (codes "call" ∷ left words.old)
         (string_bytes text.old) (string_bytes text.new) result }
 {

@@ -12,8 +12,9 @@ ghost use Rattle.wgsl_requests.specs.internal.Taken.{GoesOn, left};
 
 use crate::outer::access;
 use crate::wanted::{Misfit, Wanted};
-use crate::words::{Unread, Words, parsed};
+use crate::words::{Words, parsed};
 use std::str::FromStr;
+use wgsl_types::error::Fail;
 use wgsl_types::syntax::{AccelerationStructureFlags, AccessMode, SampledType, TexelFormat};
 use wgsl_types::ty::{
     SamplerType, TextureName, TextureParameterKind, TextureParameters, TextureType, Type,
@@ -21,7 +22,7 @@ use wgsl_types::ty::{
 
 /// A leaf type that is no scalar: a type of rays, a sampler or a texture.
 #[inline(never)]
-pub fn read_leaf(word: &str, words: &mut Words) -> Result<Type, Unread>
+pub fn read_leaf(word: &str, words: &mut Words) -> Result<Type, Fail<Misfit>>
     ensures goes_on { GoesOn words.old words.new }
     ensures read { Reads LeafAt view (word.now ∷ left words.old) (left words.new) result }
 {
@@ -35,14 +36,14 @@ pub fn read_leaf(word: &str, words: &mut Words) -> Result<Type, Unread>
     }
 }
 
-fn read_flag(words: &mut Words) -> Result<Option<AccelerationStructureFlags>, Unread>
+fn read_flag(words: &mut Words) -> Result<Option<AccelerationStructureFlags>, Fail<Misfit>>
     ensures goes_on { GoesOn words.old words.new }
     ensures read { Reads (OneWord IsFlag) (λ flag. flag) (left words.old) (left words.new) result }
 {
     flag(words.next(Wanted::Flag)?)
 }
 
-fn flag(word: &str) -> Result<Option<AccelerationStructureFlags>, Unread>
+fn flag(word: &str) -> Result<Option<AccelerationStructureFlags>, Fail<Misfit>>
     ensures { ReadsWord IsFlag word.now result }
 {
     match word {
@@ -52,7 +53,7 @@ fn flag(word: &str) -> Result<Option<AccelerationStructureFlags>, Unread>
 }
 
 /// A texture: its name, and its sampled type, or its texel format and access mode.
-fn read_texture(name: &str, words: &mut Words) -> Result<TextureType, Unread>
+fn read_texture(name: &str, words: &mut Words) -> Result<TextureType, Fail<Misfit>>
     ensures goes_on { GoesOn words.old words.new }
     ensures read { Reads TextureAt (λ texture. texture)
         (name.now ∷ left words.old) (left words.new) result }
@@ -61,11 +62,11 @@ fn read_texture(name: &str, words: &mut Words) -> Result<TextureType, Unread>
     let parameters = read_parameters(name.parameter_kind(), words)?;
     match name.with(parameters) {
         Some(texture) => Ok(texture),
-        None => Err(Unread::Word(Misfit::Wrong(Wanted::Type))),
+        None => Err(Fail::Error(Misfit::Wrong(Wanted::Type))),
     }
 }
 
-fn texture_name(word: &str) -> Result<TextureName, Unread>
+fn texture_name(word: &str) -> Result<TextureName, Fail<Misfit>>
     ensures { ReadsWord (IsText texture_name_text) word.now result }
 {
     parsed(word, Wanted::Type)
@@ -75,7 +76,7 @@ fn texture_name(word: &str) -> Result<TextureName, Unread>
 fn read_parameters(
     kind: TextureParameterKind,
     words: &mut Words,
-) -> Result<TextureParameters, Unread>
+) -> Result<TextureParameters, Fail<Misfit>>
     ensures goes_on { GoesOn words.old words.new }
     ensures read { Reads (ParametersAt kind) (λ parameters. parameters)
         (left words.old) (left words.new) result }
@@ -90,7 +91,7 @@ fn read_parameters(
     }
 }
 
-fn read_sampled(words: &mut Words) -> Result<SampledType, Unread>
+fn read_sampled(words: &mut Words) -> Result<SampledType, Fail<Misfit>>
     ensures goes_on { GoesOn words.old words.new }
     ensures read { Reads (OneWord (IsText sampled_text)) (λ sampled. sampled)
         (left words.old) (left words.new) result }
@@ -98,14 +99,14 @@ fn read_sampled(words: &mut Words) -> Result<SampledType, Unread>
     sampled(words.next(Wanted::SampledType)?)
 }
 
-fn sampled(word: &str) -> Result<SampledType, Unread>
+fn sampled(word: &str) -> Result<SampledType, Fail<Misfit>>
     ensures { ReadsWord (IsText sampled_text) word.now result }
 {
     parsed(word, Wanted::SampledType)
 }
 
 /// A texel format and an access mode.
-fn read_texels(words: &mut Words) -> Result<(TexelFormat, AccessMode), Unread>
+fn read_texels(words: &mut Words) -> Result<(TexelFormat, AccessMode), Fail<Misfit>>
     ensures goes_on { GoesOn words.old words.new }
     ensures read { Reads (Then (OneWord (IsText texel_text)) (OneWord (IsText access_text)))
         (λ texels. texels) (left words.old) (left words.new) result }
@@ -115,7 +116,7 @@ fn read_texels(words: &mut Words) -> Result<(TexelFormat, AccessMode), Unread>
     Ok((format, access))
 }
 
-fn texel_format(word: &str) -> Result<TexelFormat, Unread>
+fn texel_format(word: &str) -> Result<TexelFormat, Fail<Misfit>>
     ensures { ReadsWord (IsText texel_text) word.now result }
 {
     parsed(word, Wanted::TexelFormat)

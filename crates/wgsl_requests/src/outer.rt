@@ -6,9 +6,10 @@ ghost use Rattle.wgsl_requests.specs.Reading.{IsText, OneWord, Reads, ReadsWord,
 ghost use Rattle.wgsl_requests.specs.internal.Layers.{ReadsLayer, wrapped};
 ghost use Rattle.wgsl_requests.specs.internal.Taken.{GoesOn, left};
 
-use crate::wanted::Wanted;
-use crate::words::{Unread, Words, parsed};
+use crate::wanted::{Misfit, Wanted};
+use crate::words::{Words, parsed};
 use std::alloc::{AllocError, Global};
+use wgsl_types::error::Fail;
 use wgsl_types::syntax::{AccessMode, AddressSpace, Around};
 use wgsl_types::ty::Type;
 
@@ -28,7 +29,7 @@ pub fn wrap(alloc: Global, layers: &[Around], innermost: Type) -> Result<Type, A
 
 /// The layer that begins with this word; `None` if none does. It is not inlined, so that words are compared as numbers.
 #[inline(never)]
-pub fn read_outer(word: &str, words: &mut Words) -> Result<Option<Around>, Unread>
+pub fn read_outer(word: &str, words: &mut Words) -> Result<Option<Around>, Fail<Misfit>>
     ensures goes_on { GoesOn words.old words.new }
     ensures read { ReadsLayer word.now (left words.old) (left words.new) result }
 {
@@ -58,7 +59,7 @@ pub fn read_outer(word: &str, words: &mut Words) -> Result<Option<Around>, Unrea
 }
 
 /// An address space, which may be `handle`, and an access mode.
-fn read_memory(words: &mut Words) -> Result<(AddressSpace, AccessMode), Unread>
+fn read_memory(words: &mut Words) -> Result<(AddressSpace, AccessMode), Fail<Misfit>>
     ensures goes_on { GoesOn words.old words.new }
     ensures read { Reads (Then (OneWord (IsText space_text)) (OneWord (IsText access_text)))
         (λ memory. memory) (left words.old) (left words.new) result }
@@ -68,7 +69,7 @@ fn read_memory(words: &mut Words) -> Result<(AddressSpace, AccessMode), Unread>
     Ok((space, access))
 }
 
-fn space(word: &str) -> Result<AddressSpace, Unread>
+fn space(word: &str) -> Result<AddressSpace, Fail<Misfit>>
     ensures { ReadsWord (IsText space_text) word.now result }
 {
     match word {
@@ -78,7 +79,7 @@ fn space(word: &str) -> Result<AddressSpace, Unread>
 }
 
 /// An access mode.
-pub fn access(word: &str) -> Result<AccessMode, Unread>
+pub fn access(word: &str) -> Result<AccessMode, Fail<Misfit>>
     ensures { ReadsWord (IsText access_text) word.now result }
 {
     parsed(word, Wanted::AccessMode)

@@ -13,9 +13,10 @@ ghost use Rattle.wgsl_requests.specs.internal.Taken.{GoesOn, left};
 use crate::leaf::read_leaf;
 use crate::outer::{read_outer, wrap};
 use crate::wanted::{Misfit, Wanted};
-use crate::words::{Unread, Words};
+use crate::words::Words;
 use std::alloc::Global;
 use std::str::FromStr;
+use wgsl_types::error::Fail;
 use wgsl_types::syntax::{Around, Scalar};
 use wgsl_types::ty::{StructMemberType, StructType, Type};
 
@@ -24,7 +25,7 @@ use wgsl_types::ty::{StructMemberType, StructType, Type};
 /// Layers are read in a loop, and what a struct and a layer need is not inlined, so that deep types take little stack.
 #[cycle(reading)]
 #[inline(always)]
-pub fn read_type(alloc: Global, words: &mut Words) -> Result<Type, Unread>
+pub fn read_type(alloc: Global, words: &mut Words) -> Result<Type, Fail<Misfit>>
     ensures goes_on { GoesOn words.old words.new }
     ensures one { OnOk result (words.old.taken < words.new.taken) }
     ensures read { Reads TypeAt view (left words.old) (left words.new) result }
@@ -36,7 +37,7 @@ pub fn read_type(alloc: Global, words: &mut Words) -> Result<Type, Unread>
 /// The type that begins with this word.
 #[cycle(reading)]
 #[inline(always)]
-pub fn read_type_at(alloc: Global, word: &str, words: &mut Words) -> Result<Type, Unread>
+pub fn read_type_at(alloc: Global, word: &str, words: &mut Words) -> Result<Type, Fail<Misfit>>
     ensures goes_on { GoesOn words.old words.new }
     ensures read { Reads TypeAt view (word.now ∷ left words.old) (left words.new) result }
 {
@@ -64,7 +65,7 @@ fn read_scalar(word: &str) -> Option<Type>
 /// The type that begins with this word, which is neither a scalar nor a struct.
 #[cycle(reading)]
 #[inline(never)]
-fn read_other(alloc: Global, word: &str, words: &mut Words) -> Result<Type, Unread>
+fn read_other(alloc: Global, word: &str, words: &mut Words) -> Result<Type, Fail<Misfit>>
     ensures goes_on { GoesOn words.old words.new }
     ensures read { Reads OtherAt view (word.now ∷ left words.old) (left words.new) result }
 {
@@ -77,7 +78,7 @@ fn read_other(alloc: Global, word: &str, words: &mut Words) -> Result<Type, Unre
 /// The type with this layer around what the next words stand for.
 #[cycle(reading)]
 #[inline(never)]
-fn read_inside(alloc: Global, outer: Around, words: &mut Words) -> Result<Type, Unread>
+fn read_inside(alloc: Global, outer: Around, words: &mut Words) -> Result<Type, Fail<Misfit>>
     ensures goes_on { GoesOn words.old words.new }
     ensures read { Reads (InsideAt outer) view (left words.old) (left words.new) result }
 {
@@ -101,7 +102,7 @@ fn read_layers(
     outermost: Around,
     first: &str,
     words: &mut Words,
-) -> Result<Type, Unread>
+) -> Result<Type, Fail<Misfit>>
     ensures goes_on { GoesOn words.old words.new }
     ensures read { Reads (InsideAt outermost) view
         (first.now ∷ left words.old) (left words.new) result }
@@ -120,7 +121,7 @@ fn read_layers(
 
 /// The layer that begins with this word; `None` if none does, or if there are 4 already.
 #[inline(always)]
-fn read_next(count: usize, word: &str, words: &mut Words) -> Result<Option<Around>, Unread>
+fn read_next(count: usize, word: &str, words: &mut Words) -> Result<Option<Around>, Fail<Misfit>>
     ensures goes_on { GoesOn words.old words.new }
     ensures room { IfOk result (λ layer. OnSome layer (count < 4)) }
     ensures read { ReadsNext word.now (left words.old) (left words.new) result }
@@ -134,7 +135,7 @@ fn read_next(count: usize, word: &str, words: &mut Words) -> Result<Option<Aroun
 
 /// The types that all words that are left stand for.
 #[inline(always)]
-pub fn read_types(alloc: Global, words: &mut Words) -> Result<Vec<Type>, Unread>
+pub fn read_types(alloc: Global, words: &mut Words) -> Result<Vec<Type>, Fail<Misfit>>
     ensures { Answers (λ types. TypesAt (left words.old) (map view types.items))
         ((ts : List WgslType) → TypesAt (left words.old) ts → ⊥) result }
 {
@@ -147,7 +148,7 @@ pub fn read_types(alloc: Global, words: &mut Words) -> Result<Vec<Type>, Unread>
 
 /// The two types that the words that are left stand for.
 #[inline(always)]
-pub fn read_pair(alloc: Global, words: &mut Words) -> Result<[Type; 2], Unread>
+pub fn read_pair(alloc: Global, words: &mut Words) -> Result<[Type; 2], Fail<Misfit>>
     ensures { Answers (λ types. TypesAt (left words.old) (map view types))
         ((t u : WgslType) → TypesAt (left words.old) (t ∷ u ∷ []) → ⊥) result }
 {
@@ -157,7 +158,7 @@ pub fn read_pair(alloc: Global, words: &mut Words) -> Result<[Type; 2], Unread>
 
 /// The type that the words that are left stand for.
 #[inline(always)]
-pub fn read_last_type(alloc: Global, words: &mut Words) -> Result<Type, Unread>
+pub fn read_last_type(alloc: Global, words: &mut Words) -> Result<Type, Fail<Misfit>>
     ensures { Answers (λ ty. TypeAt (left words.old) (view ty) [])
         ((t : WgslType) → TypeAt (left words.old) t [] → ⊥) result }
 {
@@ -166,14 +167,14 @@ pub fn read_last_type(alloc: Global, words: &mut Words) -> Result<Type, Unread>
         Ok(ty)
     } else {
         drop(ty);
-        Err(Unread::Word(Misfit::LeftOver))
+        Err(Fail::Error(Misfit::LeftOver))
     }
 }
 
 /// A struct: its name, the number of its members, and the members.
 #[cycle(reading)]
 #[inline(never)]
-fn read_struct(alloc: Global, words: &mut Words) -> Result<Type, Unread>
+fn read_struct(alloc: Global, words: &mut Words) -> Result<Type, Fail<Misfit>>
     ensures goes_on { GoesOn words.old words.new }
     ensures read { Reads StructAt view (left words.old) (left words.new) result }
 {
@@ -188,7 +189,7 @@ fn read_struct(alloc: Global, words: &mut Words) -> Result<Type, Unread>
 
 /// A member: its name, its attributes size and align, and its type.
 #[cycle(reading)]
-fn read_member(alloc: Global, words: &mut Words) -> Result<StructMemberType, Unread>
+fn read_member(alloc: Global, words: &mut Words) -> Result<StructMemberType, Fail<Misfit>>
     ensures goes_on { GoesOn words.old words.new }
     ensures read { Reads MemberAt member_view (left words.old) (left words.new) result }
 {

@@ -11,10 +11,11 @@ use crate::call::{WrittenCall, WrittenOperand, read_call};
 use crate::command::{common, layout, offsets, rank, size, write_answer_to};
 use crate::rules::RuleSet;
 use crate::wanted::{Misfit, Wanted};
-use crate::words::{Unread, Words};
+use crate::words::Words;
 use std::alloc::{AllocError, Global};
 use wgsl_asked::requests::{Call, Request};
 use wgsl_standard::operand::Operand;
+use wgsl_types::error::Fail;
 
 /// What is asked of a call.
 #[derive(Clone, Copy)]
@@ -30,7 +31,7 @@ pub(crate) fn answer_standard(
     command: &str,
     words: &mut Words,
     text: &mut String,
-) -> Result<(), Unread>
+) -> Result<(), Fail<Misfit>>
     ensures { Replies RuleSet.Standard (command.now ∷ left words.old)
         (string_bytes text.old) (string_bytes text.new) result }
 {
@@ -48,13 +49,13 @@ pub(crate) fn answer_standard(
 }
 
 /// `overloads NAME`: a line for each overload.
-fn overloads(alloc: Global, words: &mut Words, text: &mut String) -> Result<(), Unread>
+fn overloads(alloc: Global, words: &mut Words, text: &mut String) -> Result<(), Fail<Misfit>>
     ensures { Replies RuleSet.Standard (codes "overloads" ∷ left words.old)
         (string_bytes text.old) (string_bytes text.new) result }
 {
     let name = words.next(Wanted::Name)?;
     if !words.is_empty() {
-        return Err(Unread::Word(Misfit::LeftOver));
+        return Err(Fail::Error(Misfit::LeftOver));
     }
     Ok(write_answer_to(alloc, Request::Overloads(name), text)?)
 }
@@ -65,7 +66,7 @@ fn answer_next_call(
     question: Question,
     words: &mut Words,
     text: &mut String,
-) -> Result<(), Unread>
+) -> Result<(), Fail<Misfit>>
     ensures { WritesOfCall (asked question) (left words.old)
         (string_bytes text.old) (string_bytes text.new) result }
 {
@@ -80,7 +81,7 @@ fn answer_call(
     command: &str,
     words: &mut Words,
     text: &mut String,
-) -> Result<(), Unread>
+) -> Result<(), Fail<Misfit>>
     ensures { WritesOfCall (asked question) (command.now ∷ left words.old)
         (string_bytes text.old) (string_bytes text.new) result }
 {

@@ -9,26 +9,30 @@ ghost use Rattle.wgsl_requests.specs.internal.Taken.{GoesOn, left};
 
 use crate::read::read_type;
 use crate::wanted::{Misfit, Wanted};
-use crate::words::{Unread, Words, begins_with_plus, medium, number, parsed};
+use crate::words::{Words, begins_with_plus, medium, number, parsed};
 use std::alloc::Global;
+use wgsl_types::error::Fail;
 use wgsl_types::inst::{Instance, LiteralInstance};
 use wgsl_types::syntax::Enumerant;
 use wgsl_types::tplt::TpltParam;
 
 /// The template of a call: `-` for none, or `<`, parameters and `>`.
-pub fn read_template(alloc: Global, words: &mut Words) -> Result<Option<Vec<TpltParam>>, Unread>
+pub fn read_template(
+    alloc: Global,
+    words: &mut Words,
+) -> Result<Option<Vec<TpltParam>>, Fail<Misfit>>
     ensures { Reads TemplateAt (option_map (λ ps. map parameter_view ps.items))
         (left words.old) (left words.new) result }
 {
     match words.next(Wanted::Template)? {
         "-" => Ok(None),
         "<" => Ok(Some(read_parameters(alloc, words)?)),
-        _ => Err(Unread::Word(Misfit::Wrong(Wanted::Template))),
+        _ => Err(Fail::Error(Misfit::Wrong(Wanted::Template))),
     }
 }
 
 /// Parameters up to `>`.
-fn read_parameters(alloc: Global, words: &mut Words) -> Result<Vec<TpltParam>, Unread>
+fn read_parameters(alloc: Global, words: &mut Words) -> Result<Vec<TpltParam>, Fail<Misfit>>
     ensures { Reads ParametersAt (λ ps. map parameter_view ps.items)
         (left words.old) (left words.new) result }
 {
@@ -39,11 +43,11 @@ fn read_parameters(alloc: Global, words: &mut Words) -> Result<Vec<TpltParam>, U
         }
         parameters.push(read_parameter(alloc, word, words)?)?;
     }
-    Err(Unread::Word(Misfit::Missing(Wanted::Parameter)))
+    Err(Fail::Error(Misfit::Missing(Wanted::Parameter)))
 }
 
 /// A parameter: `t` and a type, `n` and a literal, or `e` and an enumerant.
-fn read_parameter(alloc: Global, kind: &str, words: &mut Words) -> Result<TpltParam, Unread>
+fn read_parameter(alloc: Global, kind: &str, words: &mut Words) -> Result<TpltParam, Fail<Misfit>>
     ensures goes_on { GoesOn words.old words.new }
     ensures read { Reads ParameterAt parameter_view
         (kind.now ∷ left words.old) (left words.new) result }
@@ -52,18 +56,18 @@ fn read_parameter(alloc: Global, kind: &str, words: &mut Words) -> Result<TpltPa
         "t" => Ok(TpltParam::Ty(read_type(alloc, words)?)),
         "n" => Ok(TpltParam::Instance(Instance::Literal(read_literal(words)?))),
         "e" => Ok(TpltParam::Enumerant(read_enumerant(words)?)),
-        _ => Err(Unread::Word(Misfit::Wrong(Wanted::Parameter))),
+        _ => Err(Fail::Error(Misfit::Wrong(Wanted::Parameter))),
     }
 }
 
-fn read_literal(words: &mut Words) -> Result<LiteralInstance, Unread>
+fn read_literal(words: &mut Words) -> Result<LiteralInstance, Fail<Misfit>>
     ensures goes_on { GoesOn words.old words.new }
     ensures read { Reads (OneWord IsLiteral) literal_view (left words.old) (left words.new) result }
 {
     literal(words.next(Wanted::Literal)?)
 }
 
-fn read_enumerant(words: &mut Words) -> Result<Enumerant, Unread>
+fn read_enumerant(words: &mut Words) -> Result<Enumerant, Fail<Misfit>>
     ensures goes_on { GoesOn words.old words.new }
     ensures read { Reads (OneWord IsEnumerant) (λ enumerant. enumerant)
         (left words.old) (left words.new) result }
@@ -71,14 +75,14 @@ fn read_enumerant(words: &mut Words) -> Result<Enumerant, Unread>
     enumerant(words.next(Wanted::Enumerant)?)
 }
 
-fn enumerant(word: &str) -> Result<Enumerant, Unread>
+fn enumerant(word: &str) -> Result<Enumerant, Fail<Misfit>>
     ensures { ReadsWord IsEnumerant word.now result }
 {
     parsed(word, Wanted::Enumerant)
 }
 
 /// A literal: `true`, `false`, or a number, with the suffix of its kind if it isn't abstract.
-fn literal(word: &str) -> Result<LiteralInstance, Unread>
+fn literal(word: &str) -> Result<LiteralInstance, Fail<Misfit>>
     ensures { Answers (λ l. IsLiteral word.now (literal_view l))
         ((l : Literal) → IsLiteral word.now l → ⊥) result }
 {
@@ -90,7 +94,7 @@ fn literal(word: &str) -> Result<LiteralInstance, Unread>
 }
 
 /// A number, with the suffix of its kind if it isn't abstract.
-fn number_literal(word: &str) -> Result<LiteralInstance, Unread>
+fn number_literal(word: &str) -> Result<LiteralInstance, Fail<Misfit>>
     ensures { Answers (λ l. IsLiteral word.now (literal_view l))
         ((l : Literal) → word.now ≢ codes "true" → word.now ≢ codes "false"
         → IsLiteral word.now l → ⊥) result }
@@ -109,21 +113,21 @@ fn number_literal(word: &str) -> Result<LiteralInstance, Unread>
 }
 
 /// A signed number of at most 64 bits.
-fn signed(word: &str) -> Result<i64, Unread>
+fn signed(word: &str) -> Result<i64, Fail<Misfit>>
     ensures { ReadsWord IsI64 word.now result }
 {
     if begins_with_plus(word) {
-        return Err(Unread::Word(Misfit::Wrong(Wanted::Literal)));
+        return Err(Fail::Error(Misfit::Wrong(Wanted::Literal)));
     }
     parsed(word, Wanted::Literal)
 }
 
 /// A signed number of at most 32 bits.
-fn signed_short(word: &str) -> Result<i32, Unread>
+fn signed_short(word: &str) -> Result<i32, Fail<Misfit>>
     ensures { ReadsWord IsI32 word.now result }
 {
     match i32::try_from(signed(word)?) {
         Ok(short) => Ok(short),
-        Err(_) => Err(Unread::Word(Misfit::Wrong(Wanted::Literal))),
+        Err(_) => Err(Fail::Error(Misfit::Wrong(Wanted::Literal))),
     }
 }

@@ -9,38 +9,8 @@ ghost use Rattle.wgsl_requests.specs.internal.Marks.{IsMarked, marks_of};
 use crate::fast::marks::{first_marked, is_marked, marks};
 use crate::split::{first_word, is_blank};
 use crate::wanted::{Misfit, Wanted};
-use std::alloc::{AllocError, AllocFailed};
 use std::str::FromStr;
-
-/// Why words were not read.
-#[derive(Drop)]
-pub enum Unread {
-    /// A word is missing, left over or not one that may stand there.
-    Word(Misfit),
-    Memory(AllocError),
-}
-
-impl From<AllocError> for Unread {
-    ghost use Rattle.std.specs.Prelude.{◌≡◌};
-    ghost use Rattle.wgsl_requests.specs.declared.words.Unread.TheVariants.{Memory};
-
-    ghost from_gives = { λ e unread. unread ≡ Memory e };
-
-    fn from(e: AllocError) -> Unread {
-        Unread::Memory(e)
-    }
-}
-
-impl<T: Drop> From<AllocFailed<T>> for Unread {
-    ghost use Rattle.std.specs.Prelude.{◌≡◌, alloc_error};
-    ghost use Rattle.wgsl_requests.specs.declared.words.Unread.TheVariants.{Memory};
-
-    ghost from_gives = { λ e unread. unread ≡ Memory alloc_error };
-
-    fn from(_e: AllocFailed<T>) -> Unread {
-        Unread::Memory(AllocError)
-    }
-}
+use wgsl_types::error::Fail;
 
 /// The text of a request, and how many of its bytes were taken.
 #[derive(Drop)]
@@ -95,7 +65,7 @@ impl<'t> Words<'t> {
     }
 
     /// The next word. If none is left, what is wanted is said to be missing.
-    pub fn next(&mut self, wanted: Wanted) -> Result<&'t str, Unread>
+    pub fn next(&mut self, wanted: Wanted) -> Result<&'t str, Fail<Misfit>>
         ensures goes_on { GoesOn self.old self.new }
         ensures one { OnOk result (self.old.taken < self.new.taken) }
         ensures word { MatchResult result
@@ -107,7 +77,7 @@ impl<'t> Words<'t> {
                 self.taken += len;
                 Ok(word)
             }
-            None => Err(Unread::Word(Misfit::Missing(wanted))),
+            None => Err(Fail::Error(Misfit::Missing(wanted))),
         }
     }
 
@@ -128,7 +98,7 @@ impl<'t> Words<'t> {
     }
 
     /// A number of members.
-    pub fn next_number(&mut self) -> Result<u64, Unread>
+    pub fn next_number(&mut self) -> Result<u64, Fail<Misfit>>
         ensures goes_on { GoesOn self.old self.new }
         ensures read { Reads (OneWord IsLong) (λ n. n) (left self.old) (left self.new) result }
     {
@@ -137,7 +107,7 @@ impl<'t> Words<'t> {
 
     /// A number of components, columns or rows.
     #[inline(always)]
-    pub fn next_small(&mut self, wanted: Wanted) -> Result<u8, Unread>
+    pub fn next_small(&mut self, wanted: Wanted) -> Result<u8, Fail<Misfit>>
         ensures goes_on { GoesOn self.old self.new }
         ensures read { Reads (OneWord IsSmall) (λ n. n) (left self.old) (left self.new) result }
     {
@@ -146,7 +116,7 @@ impl<'t> Words<'t> {
 
     /// A number of elements, or `*` if the array is runtime-sized.
     #[inline(always)]
-    pub fn next_count(&mut self) -> Result<Option<usize>, Unread>
+    pub fn next_count(&mut self) -> Result<Option<usize>, Fail<Misfit>>
         ensures goes_on { GoesOn self.old self.new }
         ensures read { Reads (OneWord IsCount) (λ n. n) (left self.old) (left self.new) result }
     {
@@ -154,7 +124,7 @@ impl<'t> Words<'t> {
     }
 
     /// An attribute of a member in bytes, or `-` if it has none.
-    pub fn next_attribute(&mut self, wanted: Wanted) -> Result<Option<u32>, Unread>
+    pub fn next_attribute(&mut self, wanted: Wanted) -> Result<Option<u32>, Fail<Misfit>>
         ensures goes_on { GoesOn self.old self.new }
         ensures read { Reads (OneWord IsAttribute) (λ n. n) (left self.old) (left self.new) result }
     {
@@ -163,11 +133,11 @@ impl<'t> Words<'t> {
 }
 
 /// A number: decimal digits, with leading zeros or without.
-pub fn number(word: &str, wanted: Wanted) -> Result<u64, Unread>
+pub fn number(word: &str, wanted: Wanted) -> Result<u64, Fail<Misfit>>
     ensures { ReadsWord IsLong word.now result }
 {
     if begins_with_plus(word) {
-        return Err(Unread::Word(Misfit::Wrong(wanted)));
+        return Err(Fail::Error(Misfit::Wrong(wanted)));
     }
     parsed(word, wanted)
 }
@@ -180,26 +150,26 @@ pub fn begins_with_plus(word: &str) -> bool
     !bytes.is_empty() && bytes[0] == b'+'
 }
 
-fn small(word: &str, wanted: Wanted) -> Result<u8, Unread>
+fn small(word: &str, wanted: Wanted) -> Result<u8, Fail<Misfit>>
     ensures { ReadsWord IsSmall word.now result }
 {
     match u8::try_from(number(word, wanted)?) {
         Ok(small) => Ok(small),
-        Err(_) => Err(Unread::Word(Misfit::Wrong(wanted))),
+        Err(_) => Err(Fail::Error(Misfit::Wrong(wanted))),
     }
 }
 
 /// A number of at most 32 bits.
-pub fn medium(word: &str, wanted: Wanted) -> Result<u32, Unread>
+pub fn medium(word: &str, wanted: Wanted) -> Result<u32, Fail<Misfit>>
     ensures { ReadsWord IsMedium word.now result }
 {
     match u32::try_from(number(word, wanted)?) {
         Ok(medium) => Ok(medium),
-        Err(_) => Err(Unread::Word(Misfit::Wrong(wanted))),
+        Err(_) => Err(Fail::Error(Misfit::Wrong(wanted))),
     }
 }
 
-fn count(word: &str) -> Result<Option<usize>, Unread>
+fn count(word: &str) -> Result<Option<usize>, Fail<Misfit>>
     ensures { ReadsWord IsCount word.now result }
 {
     if word == "*" {
@@ -207,11 +177,11 @@ fn count(word: &str) -> Result<Option<usize>, Unread>
     }
     match usize::try_from(number(word, Wanted::Elements)?) {
         Ok(count) => Ok(Some(count)),
-        Err(_) => Err(Unread::Word(Misfit::Wrong(Wanted::Elements))),
+        Err(_) => Err(Fail::Error(Misfit::Wrong(Wanted::Elements))),
     }
 }
 
-fn attribute(word: &str, wanted: Wanted) -> Result<Option<u32>, Unread>
+fn attribute(word: &str, wanted: Wanted) -> Result<Option<u32>, Fail<Misfit>>
     ensures { ReadsWord IsAttribute word.now result }
 {
     if word == "-" {
@@ -221,7 +191,7 @@ fn attribute(word: &str, wanted: Wanted) -> Result<Option<u32>, Unread>
 }
 
 /// What a name is read as.
-pub fn parsed<T: FromStr>(word: &str, wanted: Wanted) -> Result<T, Unread>
+pub fn parsed<T: FromStr>(word: &str, wanted: Wanted) -> Result<T, Fail<Misfit>>
 where
     T::Err: Drop,
     ensures { Answers (λ x. T.from_str_gives word.now (Ok x))
@@ -229,6 +199,6 @@ where
 {
     match T::from_str(word) {
         Ok(value) => Ok(value),
-        Err(_) => Err(Unread::Word(Misfit::Wrong(wanted))),
+        Err(_) => Err(Fail::Error(Misfit::Wrong(wanted))),
     }
 }

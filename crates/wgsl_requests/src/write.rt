@@ -16,7 +16,7 @@ use crate::report::write_layout;
 use std::alloc::AllocError;
 use wgsl_asked::answers::{Answer, Operands};
 use wgsl_core::operators::resolve::{Element, Extent, ResolvedType};
-use wgsl_types::error::Fail;
+use wgsl_types::error::{Error, Fail};
 use wgsl_types::ty::Type;
 
 /// Writes an answer at the end of the text.
@@ -104,7 +104,10 @@ fn write_operands(text: &mut String, operands: Operands<'_>) -> Result<(), Alloc
 }
 
 /// Writes a type, or the message of a refusal.
-fn write_type_or_refusal(text: &mut String, made: Result<Type, Fail>) -> Result<(), AllocError>
+fn write_type_or_refusal(
+    text: &mut String,
+    made: Result<Type, Fail<Error>>,
+) -> Result<(), AllocError>
     ensures { OnOk result (string_bytes text.new
         ≡ string_bytes text.old ++ answer_text (outcome a_type view made)) }
 {
@@ -119,7 +122,7 @@ fn write_type_or_refusal(text: &mut String, made: Result<Type, Fail>) -> Result<
 /// Writes the type that a call gives, `no value`, or the message of a refusal.
 fn write_value_or_refusal(
     text: &mut String,
-    returned: Result<Option<Type>, Fail>,
+    returned: Result<Option<Type>, Fail<Error>>,
 ) -> Result<(), AllocError>
     ensures { OnOk result (string_bytes text.new
         ≡ string_bytes text.old ++ answer_text (outcome a_value (option_map view) returned)) }
@@ -150,7 +153,7 @@ fn write_type(text: &mut String, ty: &Type) -> Result<(), AllocError>
 }
 
 /// Writes the message of a refusal.
-fn write_message(text: &mut String, refused: &Fail) -> Result<(), AllocError>
+fn write_message(text: &mut String, refused: &Fail<Error>) -> Result<(), AllocError>
     ensures { OnOk result (IsRefusal
         (λ e. string_bytes text.new ≡ string_bytes text.old ++ message e) refused.now) }
 {

@@ -19,29 +19,15 @@ use crate::operand::Operand;
 use crate::operators::{binary_overloads, unary_overloads};
 use crate::resolve::resolve;
 use std::alloc::{AllocError, Global};
+use wgsl_core::error::Fail;
 use wgsl_core::ty::Type;
 use wgsl_core::ty::form::Form;
 use wgsl_syntax::operator::{BinaryOperator, UnaryOperator};
 use wgsl_syntax::overload::{Instance, Overload};
 
-/// Why a call has no type.
-#[derive(Debug, Drop)]
-pub enum Unresolved {
-    /// No candidate takes the operands, or nothing has the name.
-    NoOverload,
-    OutOfMemory(AllocError),
-}
-
-impl From<AllocError> for Unresolved {
-    ghost use Rattle.std.specs.Prelude.{◌≡◌};
-    ghost use Rattle.wgsl_standard.specs.declared.answer.Unresolved.TheVariants.{OutOfMemory};
-
-    ghost from_gives = { λ e f. f ≡ OutOfMemory e };
-
-    fn from(e: AllocError) -> Unresolved {
-        Unresolved::OutOfMemory(e)
-    }
-}
+/// No candidate takes the operands, or nothing has the name.
+#[derive(Clone, Copy, Debug)]
+pub struct NoOverload;
 
 /// The type of a binary expression (WGSL, "Logical Expressions" to "Bit Expressions").
 pub fn type_binary_op(
@@ -49,7 +35,7 @@ pub fn type_binary_op(
     operator: BinaryOperator,
     lhs: Operand<'_>,
     rhs: Operand<'_>,
-) -> Result<Option<Type>, Unresolved>
+) -> Result<Option<Type>, Fail<NoOverload>>
     ensures { AnswersType (IsStandardAnswer (binary_there operator)
         (operand_view lhs.entry ∷ operand_view rhs.entry ∷ [])) result }
 {
@@ -61,7 +47,7 @@ pub fn type_unary_op(
     alloc: Global,
     operator: UnaryOperator,
     operand: Operand<'_>,
-) -> Result<Option<Type>, Unresolved>
+) -> Result<Option<Type>, Fail<NoOverload>>
     ensures { AnswersType (IsStandardAnswer (unary_there operator) (operand_view operand.entry ∷ [])) result }
 {
     result_type(alloc, unary_overloads(operator), &[operand])
@@ -73,7 +59,7 @@ pub fn type_builtin_fn(
     name: &str,
     template: Option<&Type>,
     arguments: &[Operand<'_>],
-) -> Result<Option<Type>, Unresolved>
+) -> Result<Option<Type>, Fail<NoOverload>>
     ensures { AnswersType (IsCallAnswer (overloads_named name.now function_table) (overloads_named name.now template_function_table)
         (option_map (λ t. view t.now) template.entry) (operands_view arguments.now)) result }
 {
@@ -92,7 +78,7 @@ pub fn type_ctor(
     name: &str,
     template: Option<&Type>,
     arguments: &[Operand<'_>],
-) -> Result<Option<Type>, Unresolved>
+) -> Result<Option<Type>, Fail<NoOverload>>
     ensures { AnswersType (IsCallAnswer (overloads_named name.now constructor_table) (overloads_named name.now template_constructor_table)
         (option_map (λ t. view t.now) template.entry) (operands_view arguments.now)) result }
 {
@@ -110,13 +96,13 @@ pub(crate) fn named_type(
     alloc: Global,
     overloads: Option<&[Overload]>,
     operands: &[Operand<'_>],
-) -> Result<Option<Type>, Unresolved>
+) -> Result<Option<Type>, Fail<NoOverload>>
     requires { IfSome overloads (λ o. IsUnambiguous o.now) }
     ensures { AnswersType (IsNamedAnswer (option_map (λ o. o.now) overloads.entry) (operands_view operands.now)) result }
 {
     match overloads {
         Some(overloads) => result_type(alloc, overloads, operands),
-        None => Err(Unresolved::NoOverload),
+        None => Err(Fail::Error(NoOverload)),
     }
 }
 
@@ -127,12 +113,12 @@ pub(crate) fn templated_type(
     overloads: Option<&[Overload]>,
     template: &Type,
     operands: &[Operand<'_>],
-) -> Result<Option<Type>, Unresolved>
+) -> Result<Option<Type>, Fail<NoOverload>>
     requires { IfSome overloads (λ o. IsUnambiguous o.now) }
     ensures { AnswersType (IsTemplateAnswer (option_map (λ o. o.now) overloads.entry) (view template.now) (operands_view operands.now)) result }
 {
     if !is_template(template) {
-        return Err(Unresolved::NoOverload);
+        return Err(Fail::Error(NoOverload));
     }
     let all = operands_with(alloc, template, operands)?;
     named_type(alloc, overloads, &all)
@@ -174,13 +160,13 @@ pub fn result_type(
     alloc: Global,
     overloads: &[Overload],
     operands: &[Operand<'_>],
-) -> Result<Option<Type>, Unresolved>
+) -> Result<Option<Type>, Fail<NoOverload>>
     requires { IsUnambiguous overloads.now }
     ensures { AnswersType (IsStandardAnswer overloads.now (operands_view operands.now)) result }
 {
     match chosen(overloads, operands) {
         Some((overload, instance)) => Ok(result_for(alloc, &instance, overload, operands)?),
-        None => Err(Unresolved::NoOverload),
+        None => Err(Fail::Error(NoOverload)),
     }
 }
 

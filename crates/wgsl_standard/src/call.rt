@@ -7,11 +7,12 @@ ghost use Rattle.wgsl_standard.specs.Callees.{overloads_of};
 ghost use Rattle.wgsl_standard.specs.Operands.{operands_view};
 ghost use Rattle.wgsl_standard.specs.Resolved.{IsCallResolution, resolved_view};
 
-use crate::answer::{Unresolved, named_type, templated_type};
+use crate::answer::{NoOverload, named_type, templated_type};
 use crate::callee::{Callee, overloads};
 use crate::operand::Operand;
 use crate::resolved::{ResolvedCall, named_call, templated_call};
 use std::alloc::Global;
+use wgsl_core::error::Fail;
 use wgsl_core::ty::Type;
 
 /// The type of a call, or None if it has no value. Operators take no template.
@@ -21,7 +22,7 @@ pub fn type_of_call(
     callee: Callee<'_>,
     template: Option<&Type>,
     operands: &[Operand<'_>],
-) -> Result<Option<Type>, Unresolved>
+) -> Result<Option<Type>, Fail<NoOverload>>
     ensures { AnswersType (IsCallAnswer (overloads_of callee.entry false) (overloads_of callee.entry true)
         (option_map (λ t. view t.now) template.entry) (operands_view operands.now)) result }
 {
@@ -37,7 +38,7 @@ pub fn resolve_callee(
     callee: Callee<'_>,
     template: Option<&Type>,
     operands: &[Operand<'_>],
-) -> Result<ResolvedCall, Unresolved>
+) -> Result<ResolvedCall, Fail<NoOverload>>
     ensures { Answers resolved_view (IsCallResolution (overloads_of callee.entry false) (overloads_of callee.entry true)
         (option_map (λ t. view t.now) template.entry) (operands_view operands.now)) result }
 {

@@ -12,7 +12,7 @@ ghost use Rattle.wgsl_standard.specs.Answered.{Answers};
 ghost use Rattle.wgsl_standard.specs.Operands.{operand_view, operands_view};
 ghost use Rattle.wgsl_standard.specs.Resolved.{resolved_view, IsNamedResolution, IsTemplateResolution, IsCallResolution};
 
-use crate::answer::{Unresolved, is_template, operands_with};
+use crate::answer::{NoOverload, is_template, operands_with};
 use crate::instance::{parameter_for, result_for};
 use crate::names::{
     constructor_named, function_named, template_constructor_named, template_function_named,
@@ -22,6 +22,7 @@ use crate::operators::{binary_overloads, unary_overloads};
 use crate::overload::parameters_of;
 use crate::resolve::resolve;
 use std::alloc::{AllocError, Global};
+use wgsl_core::error::Fail;
 use wgsl_core::ty::Type;
 use wgsl_syntax::operator::{BinaryOperator, UnaryOperator};
 use wgsl_syntax::overload::{Instance, Overload, Parameters, Pattern};
@@ -42,7 +43,7 @@ pub fn resolve_binary_op(
     operator: BinaryOperator,
     lhs: Operand<'_>,
     rhs: Operand<'_>,
-) -> Result<ResolvedCall, Unresolved>
+) -> Result<ResolvedCall, Fail<NoOverload>>
     ensures { Answers resolved_view (IsResolution (binary_there operator)
         (operand_view lhs.entry ∷ operand_view rhs.entry ∷ [])) result }
 {
@@ -54,7 +55,7 @@ pub fn resolve_unary_op(
     alloc: Global,
     operator: UnaryOperator,
     operand: Operand<'_>,
-) -> Result<ResolvedCall, Unresolved>
+) -> Result<ResolvedCall, Fail<NoOverload>>
     ensures { Answers resolved_view (IsResolution (unary_there operator) (operand_view operand.entry ∷ [])) result }
 {
     resolve_call(alloc, unary_overloads(operator), &[operand])
@@ -66,7 +67,7 @@ pub fn resolve_builtin_fn(
     name: &str,
     template: Option<&Type>,
     arguments: &[Operand<'_>],
-) -> Result<ResolvedCall, Unresolved>
+) -> Result<ResolvedCall, Fail<NoOverload>>
     ensures { Answers resolved_view (IsCallResolution (overloads_named name.now function_table)
         (overloads_named name.now template_function_table) (option_map (λ t. view t.now) template.entry) (operands_view arguments.now)) result }
 {
@@ -84,7 +85,7 @@ pub fn resolve_ctor(
     name: &str,
     template: Option<&Type>,
     arguments: &[Operand<'_>],
-) -> Result<ResolvedCall, Unresolved>
+) -> Result<ResolvedCall, Fail<NoOverload>>
     ensures { Answers resolved_view (IsCallResolution (overloads_named name.now constructor_table)
         (overloads_named name.now template_constructor_table) (option_map (λ t. view t.now) template.entry) (operands_view arguments.now)) result }
 {
@@ -100,13 +101,13 @@ pub(crate) fn named_call(
     alloc: Global,
     overloads: Option<&[Overload]>,
     operands: &[Operand<'_>],
-) -> Result<ResolvedCall, Unresolved>
+) -> Result<ResolvedCall, Fail<NoOverload>>
     requires { IfSome overloads (λ o. IsUnambiguous o.now) }
     ensures { Answers resolved_view (IsNamedResolution (option_map (λ o. o.now) overloads.entry) (operands_view operands.now)) result }
 {
     match overloads {
         Some(overloads) => resolve_call(alloc, overloads, operands),
-        None => Err(Unresolved::NoOverload),
+        None => Err(Fail::Error(NoOverload)),
     }
 }
 
@@ -115,12 +116,12 @@ pub(crate) fn templated_call(
     overloads: Option<&[Overload]>,
     template: &Type,
     operands: &[Operand<'_>],
-) -> Result<ResolvedCall, Unresolved>
+) -> Result<ResolvedCall, Fail<NoOverload>>
     requires { IfSome overloads (λ o. IsUnambiguous o.now) }
     ensures { Answers resolved_view (IsTemplateResolution (option_map (λ o. o.now) overloads.entry) (view template.now) (operands_view operands.now)) result }
 {
     if !is_template(template) {
-        return Err(Unresolved::NoOverload);
+        return Err(Fail::Error(NoOverload));
     }
     let all = operands_with(alloc, template, operands)?;
     named_call(alloc, overloads, &all)
@@ -131,7 +132,7 @@ pub fn resolve_call(
     alloc: Global,
     overloads: &[Overload],
     operands: &[Operand<'_>],
-) -> Result<ResolvedCall, Unresolved>
+) -> Result<ResolvedCall, Fail<NoOverload>>
     requires { IsUnambiguous overloads.now }
     ensures { Answers resolved_view (IsResolution overloads.now (operands_view operands.now)) result }
 {
@@ -141,7 +142,7 @@ pub fn resolve_call(
             let call = resolved(alloc, choice.index, overload, &choice.instance, operands)?;
             Ok(call)
         }
-        None => Err(Unresolved::NoOverload),
+        None => Err(Fail::Error(NoOverload)),
     }
 }
 

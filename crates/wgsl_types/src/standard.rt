@@ -2,7 +2,7 @@
 //! return by WGSL's overload resolution, what they resolve to, which overloads there are, and why none takes the operands
 //! (WGSL, "Overload Resolution"). Constructors of arrays and structs, `&`, `*` and ray queries have no overloads.
 pub use wgsl_standard::answer::{
-    Unresolved, type_binary_op, type_builtin_fn, type_ctor, type_unary_op,
+    NoOverload, type_binary_op, type_builtin_fn, type_ctor, type_unary_op,
 };
 pub use wgsl_standard::callee::{Callee, overloads};
 pub use wgsl_standard::explanation::{Note, explain};

@@ -12,6 +12,7 @@ use Rattle.wgsl_core.specs.View.{view}
 use Rattle.wgsl_core.specs.Instances.{call_view}
 use Rattle.wgsl_core.specs.Answer.{refusal}
 use Rattle.wgsl_core.specs.declared.ty.Type.{«Type»}
+use Rattle.wgsl_core.specs.declared.error.Error.{Error}
 use Rattle.wgsl_core.specs.declared.error.Fail.{Fail}
 use Rattle.wgsl_core.specs.declared.error.Fail.TheVariants as fails
 use Rattle.wgsl_calls.specs.declared.call.fit.Call.{Call}
@@ -29,13 +30,13 @@ MayBeOutOfMemory (Ok None) = ⊥
 MayBeOutOfMemory (Ok (Some t)) = ¬ IsLeaf t
 
 -- The result is the answer.
-abbrev pub IsMet : Result (Option WgslType) Refusal → Result (Option «Type») Fail → Type 0
+abbrev pub IsMet : Result (Option WgslType) Refusal → Result (Option «Type») (Fail Error) → Type 0
 IsMet a (Ok t) = a ≡ Ok (option_map view t)
 IsMet a (Err (fails.Error e)) = a ≡ Err (refusal e)
 IsMet a (Err (fails.Memory m)) = MayBeOutOfMemory a
 
 -- The result satisfies P. Without a template, out of memory stands for an answer of P that it may stand for.
-abbrev pub Answered : (Result (Option WgslType) Refusal → Type 0) → Option (List Parameter) → Result (Option «Type») Fail → Type 0
+abbrev pub Answered : (Result (Option WgslType) Refusal → Type 0) → Option (List Parameter) → Result (Option «Type») (Fail Error) → Type 0
 Answered P p (Ok t) = P (Ok (option_map view t))
 Answered P p (Err (fails.Error e)) = P (Err (refusal e))
 Answered P p (Err (fails.Memory m)) = p ≡ None → (a : Result (Option WgslType) Refusal) × P a × MayBeOutOfMemory a

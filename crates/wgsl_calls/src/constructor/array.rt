@@ -18,7 +18,11 @@ use wgsl_core::signature::TpltParam;
 use wgsl_core::ty::Type;
 use wgsl_core::ty::clone::boxed_copy;
 
-pub fn array_type(alloc: Global, tplt: Option<&[TpltParam]>, args: &[Type]) -> Result<Type, Fail>
+pub fn array_type(
+    alloc: Global,
+    tplt: Option<&[TpltParam]>,
+    args: &[Type],
+) -> Result<Type, Fail<Error>>
     ensures { AnswersBy (IsArrayCall (option_map (λ ps. map parameter_view ps.now) tplt.entry)
         (map view args.now)) result }
 {
@@ -28,7 +32,7 @@ pub fn array_type(alloc: Global, tplt: Option<&[TpltParam]>, args: &[Type]) -> R
     }
 }
 
-fn typed_array(alloc: Global, tplt: &[TpltParam], args: &[Type]) -> Result<Type, Fail>
+fn typed_array(alloc: Global, tplt: &[TpltParam], args: &[Type]) -> Result<Type, Fail<Error>>
     ensures { AnswersBy (Then (array_template (map parameter_view tplt.now))
         (IsTypedArray (map view args.now))) result }
 {
@@ -38,14 +42,14 @@ fn typed_array(alloc: Global, tplt: &[TpltParam], args: &[Type]) -> Result<Type,
     made
 }
 
-fn array_of(alloc: Global, template: &ArrayTemplate, args: &[Type]) -> Result<Type, Fail>
+fn array_of(alloc: Global, template: &ArrayTemplate, args: &[Type]) -> Result<Type, Fail<Error>>
     ensures { AnswersBy (IsTypedArray (map view args.now) (array_view template.now)) result }
 {
     check_elements(alloc, template, args)?;
     Ok(template.ty(alloc)?)
 }
 
-fn check_elements(alloc: Global, template: &ArrayTemplate, args: &[Type]) -> Result<(), Fail>
+fn check_elements(alloc: Global, template: &ArrayTemplate, args: &[Type]) -> Result<(), Fail<Error>>
     ensures { AnswersAs (λ u. array_view template.now)
         (IsTypedArray (map view args.now) (array_view template.now)) result }
 {
@@ -61,7 +65,7 @@ fn check_elements(alloc: Global, template: &ArrayTemplate, args: &[Type]) -> Res
     }
 }
 
-fn check_conversions(alloc: Global, args: &[Type], ty: &Type) -> Result<(), Fail>
+fn check_conversions(alloc: Global, args: &[Type], ty: &Type) -> Result<(), Fail<Error>>
     ensures { AnswersAs (λ u. u) (AllConverted (view ty.now) (map view args.now)) result }
 {
     match first_stuck(args, ty) {
@@ -70,7 +74,7 @@ fn check_conversions(alloc: Global, args: &[Type], ty: &Type) -> Result<(), Fail
     }
 }
 
-fn untyped_array(alloc: Global, args: &[Type]) -> Result<Type, Fail>
+fn untyped_array(alloc: Global, args: &[Type]) -> Result<Type, Fail<Error>>
     ensures { AnswersBy (IsArrayCall None (map view args.now)) result }
 {
     match common_of(args) {

@@ -27,7 +27,7 @@ pub fn matrix_type(
     name: &str,
     tplt: Option<&[TpltParam]>,
     args: &[Type],
-) -> Result<Type, Fail>
+) -> Result<Type, Fail<Error>>
     ensures { AnswersBy (IsMatrixCall name.now c r
         (option_map (λ ps. map parameter_view ps.now) tplt.entry) (map view args.now)) result }
 {
@@ -49,7 +49,7 @@ fn typed_matrix(
     name: &str,
     args: &[Type],
     ty: &Type,
-) -> Result<Type, Fail>
+) -> Result<Type, Fail<Error>>
     ensures { AnswersBy (IsTypedMatrix name.now c r (map view args.now) (view ty.now)) result }
 {
     match args {
@@ -69,7 +69,7 @@ fn typed_matrix_of_one(
     name: &str,
     arg: &Type,
     ty: &Type,
-) -> Result<Type, Fail>
+) -> Result<Type, Fail<Error>>
     ensures { AnswersBy (IsTypedMatrixOfOne name.now c r (view arg.now) (view ty.now)) result }
 {
     match arg.form() {
@@ -92,7 +92,7 @@ fn typed_matrix_of_common(
     number: usize,
     ty: &Type,
     common: &Type,
-) -> Result<Type, Fail>
+) -> Result<Type, Fail<Error>>
     ensures { AnswersBy (IsTypedMatrixOf name.now c r number (view ty.now) (view common.now))
         result }
 {
@@ -115,7 +115,13 @@ fn converts_inside(from: &Type, to: &Type) -> bool
     }
 }
 
-fn untyped_matrix(alloc: Global, c: u8, r: u8, name: &str, args: &[Type]) -> Result<Type, Fail>
+fn untyped_matrix(
+    alloc: Global,
+    c: u8,
+    r: u8,
+    name: &str,
+    args: &[Type],
+) -> Result<Type, Fail<Error>>
     ensures { AnswersBy (IsUntypedMatrix name.now c r (map view args.now)) result }
 {
     match args {
@@ -128,7 +134,13 @@ fn untyped_matrix(alloc: Global, c: u8, r: u8, name: &str, args: &[Type]) -> Res
     }
 }
 
-fn untyped_matrix_of_one(alloc: Global, c: u8, r: u8, name: &str, arg: &Type) -> Result<Type, Fail>
+fn untyped_matrix_of_one(
+    alloc: Global,
+    c: u8,
+    r: u8,
+    name: &str,
+    arg: &Type,
+) -> Result<Type, Fail<Error>>
     ensures { AnswersBy (IsUntypedMatrixOfOne name.now c r (view arg.now)) result }
 {
     match arg.form() {
@@ -154,7 +166,7 @@ fn untyped_matrix_of_common(
     name: &str,
     number: usize,
     common: &Type,
-) -> Result<Type, Fail>
+) -> Result<Type, Fail<Error>>
     ensures { AnswersBy (IsUntypedMatrixOf name.now c r number (view common.now)) result }
 {
     let inner = common.inner();
@@ -176,7 +188,7 @@ fn matrix_out_of(
     number: usize,
     ty: &Type,
     part: &Type,
-) -> Result<Type, Fail>
+) -> Result<Type, Fail<Error>>
     ensures { AnswersBy (IsMatrixOf name.now c r number (view ty.now) (view part.now)) result }
 {
     let wanted = match part.form() {

@@ -21,7 +21,7 @@ pub fn scalar_type(
     name: &str,
     tplt: Option<&[TpltParam]>,
     args: &[Type],
-) -> Result<Type, Fail>
+) -> Result<Type, Fail<Error>>
     ensures { AnswersBy (λ r. r
         ≡ scalar_call of (option_map (λ ps. map parameter_view ps.now) tplt.entry)
         (map view args.now) (signature (call_view name.now tplt.entry args.now))) result }

@@ -14,7 +14,11 @@ use wgsl_core::ty::{StructMemberType, StructType, Type};
 /// Checks the arguments of a struct's constructor (WGSL, "Structures"): none, or one per member, which converts to its
 /// type. Else `ParamCount` has the struct's name, the number of members and the number of arguments; `ParamType` has
 /// the type of the first member to which its argument doesn't convert, and that argument.
-pub fn typecheck_struct_ctor(alloc: Global, s: &StructType, args: &[Type]) -> Result<(), Fail>
+pub fn typecheck_struct_ctor(
+    alloc: Global,
+    s: &StructType,
+    args: &[Type],
+) -> Result<(), Fail<Error>>
     ensures row { AnswersAs (λ u. u)
         (IsStructCall (struct_view s.now).name (struct_view s.now).members (map view args.now))
         result }
@@ -27,7 +31,7 @@ pub fn typecheck_struct_ctor(alloc: Global, s: &StructType, args: &[Type]) -> Re
     }
 }
 
-fn check_members(alloc: Global, s: &StructType, args: &[Type]) -> Result<(), Fail>
+fn check_members(alloc: Global, s: &StructType, args: &[Type]) -> Result<(), Fail<Error>>
     ensures row { AnswersAs (λ u. u)
         (IsFilled (struct_view s.now).name (struct_view s.now).members (map view args.now)) result }
     ensures never_out_of_memory { IsFilled (struct_view s.now).name (struct_view s.now).members

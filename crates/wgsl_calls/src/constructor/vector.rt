@@ -29,7 +29,7 @@ pub fn vector_type(
     name: &str,
     tplt: Option<&[TpltParam]>,
     args: &[Type],
-) -> Result<Type, Fail>
+) -> Result<Type, Fail<Error>>
     ensures { AnswersBy (IsVectorCall name.now n
         (option_map (λ ps. map parameter_view ps.now) tplt.entry) (map view args.now)) result }
 {
@@ -44,7 +44,13 @@ pub fn vector_type(
     }
 }
 
-fn typed_vector(alloc: Global, n: u8, name: &str, args: &[Type], ty: &Type) -> Result<Type, Fail>
+fn typed_vector(
+    alloc: Global,
+    n: u8,
+    name: &str,
+    args: &[Type],
+    ty: &Type,
+) -> Result<Type, Fail<Error>>
     ensures { AnswersBy (IsTypedVector name.now n (map view args.now) (view ty.now)) result }
 {
     match args {
@@ -62,7 +68,7 @@ fn typed_vector(alloc: Global, n: u8, name: &str, args: &[Type], ty: &Type) -> R
     }
 }
 
-fn typed_vector_of_one(alloc: Global, n: u8, arg: &Type, ty: &Type) -> Result<Type, Fail>
+fn typed_vector_of_one(alloc: Global, n: u8, arg: &Type, ty: &Type) -> Result<Type, Fail<Error>>
     ensures { AnswersBy (IsTypedVectorOfOne n (view arg.now) (view ty.now)) result }
 {
     match arg.form() {
@@ -84,7 +90,7 @@ fn typed_vector_of_one(alloc: Global, n: u8, arg: &Type, ty: &Type) -> Result<Ty
     }
 }
 
-fn untyped_vector(alloc: Global, n: u8, name: &str, args: &[Type]) -> Result<Type, Fail>
+fn untyped_vector(alloc: Global, n: u8, name: &str, args: &[Type]) -> Result<Type, Fail<Error>>
     ensures { AnswersBy (IsUntypedVector name.now n (map view args.now)) result }
 {
     match args {
@@ -105,7 +111,7 @@ fn untyped_vector(alloc: Global, n: u8, name: &str, args: &[Type]) -> Result<Typ
     }
 }
 
-fn untyped_vector_of_one(alloc: Global, n: u8, arg: &Type) -> Result<Type, Fail>
+fn untyped_vector_of_one(alloc: Global, n: u8, arg: &Type) -> Result<Type, Fail<Error>>
     ensures { AnswersBy (IsUntypedVectorOfOne n (view arg.now)) result }
 {
     match arg.form() {

@@ -32,7 +32,7 @@ impl ArrayTemplate {
     }
 
     /// Reads a type, or a type and a literal; else `TemplateArgs`. `Builtin` if the literal isn't an integer above 0.
-    pub fn parse(alloc: Global, tplt: &[TpltParam]) -> Result<ArrayTemplate, Fail>
+    pub fn parse(alloc: Global, tplt: &[TpltParam]) -> Result<ArrayTemplate, Fail<Error>>
         ensures { AnswersAs array_view (λ r. r
             ≡ array_template (map parameter_view tplt.now)) result }
     {
@@ -76,7 +76,7 @@ pub struct BindingArrayTemplate {
 
 impl BindingArrayTemplate {
     /// Reads a type, or a type and a literal; else `TemplateArgs`. `Builtin` if the literal isn't an integer above 0.
-    pub fn parse(alloc: Global, tplt: &[TpltParam]) -> Result<BindingArrayTemplate, Fail>
+    pub fn parse(alloc: Global, tplt: &[TpltParam]) -> Result<BindingArrayTemplate, Fail<Error>>
         ensures { AnswersAs binding_array_view (λ r. r
             ≡ binding_array_template (map parameter_view tplt.now)) result }
     {
@@ -117,7 +117,7 @@ fn element_and_count(
     name: &'static str,
     message: &'static str,
     tplt: &[TpltParam],
-) -> Result<(Type, Option<usize>), Fail>
+) -> Result<(Type, Option<usize>), Fail<Error>>
     ensures { AnswersAs (λ p. (view p.0, p.1)) (λ r. r
         ≡ element_and_count_of name.now message.now (map parameter_view tplt.now)) result }
 {

@@ -22,7 +22,7 @@ pub struct AtomicTemplate {
 
 impl AtomicTemplate {
     /// Reads one type, else `TemplateArgs`. `Builtin` if it is neither `f32` nor a concrete integer.
-    pub fn parse(alloc: Global, tplt: &[TpltParam]) -> Result<AtomicTemplate, Fail>
+    pub fn parse(alloc: Global, tplt: &[TpltParam]) -> Result<AtomicTemplate, Fail<Error>>
         ensures { AnswersAs atomic_view (IsAtomicTemplate (map parameter_view tplt.now)) result }
     {
         match tplt {

@@ -23,7 +23,7 @@ pub struct BitcastTemplate {
 
 impl BitcastTemplate {
     /// Reads one type, else `TemplateArgs`. `Builtin` if it is neither a number nor a vector of numbers.
-    pub fn parse(alloc: Global, tplt: &[TpltParam]) -> Result<BitcastTemplate, Fail>
+    pub fn parse(alloc: Global, tplt: &[TpltParam]) -> Result<BitcastTemplate, Fail<Error>>
         ensures { AnswersAs bitcast_view (IsBitcastTemplate (map parameter_view tplt.now)) result }
     {
         match tplt {

@@ -22,7 +22,7 @@ pub struct MatTemplate {
 
 impl MatTemplate {
     /// Reads one type, else `TemplateArgs`. `Builtin` if it isn't a float.
-    pub fn parse(alloc: Global, tplt: &[TpltParam]) -> Result<MatTemplate, Fail>
+    pub fn parse(alloc: Global, tplt: &[TpltParam]) -> Result<MatTemplate, Fail<Error>>
         ensures { AnswersAs mat_view (IsMatTemplate (map parameter_view tplt.now)) result }
     {
         match tplt {

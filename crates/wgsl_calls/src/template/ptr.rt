@@ -28,7 +28,7 @@ impl PtrTemplate {
     /// Reads an address space, a type and at most one more parameter, else `TemplateArgs`; a third parameter that isn't
     /// an access mode is ignored. `Builtin` if the type isn't storable, or the uniform space has an access mode other
     /// than `read`; `PtrHandle` for the handle space; `Todo` for push constants.
-    pub fn parse(alloc: Global, tplt: &[TpltParam]) -> Result<PtrTemplate, Fail>
+    pub fn parse(alloc: Global, tplt: &[TpltParam]) -> Result<PtrTemplate, Fail<Error>>
         ensures { AnswersAs ptr_view (IsPtrTemplate (map parameter_view tplt.now)) result }
     {
         match tplt {
@@ -58,7 +58,7 @@ fn pointer_to(
     space: AddressSpace,
     ty: &Type,
     access: Option<AccessMode>,
-) -> Result<PtrTemplate, Fail>
+) -> Result<PtrTemplate, Fail<Error>>
     ensures { AnswersAs ptr_view
         (IsPointerOf (Some (record { space = space; ty = view ty.now; access = access }))) result }
 {
@@ -86,7 +86,7 @@ fn access_in(
     alloc: Global,
     space: AddressSpace,
     access: Option<AccessMode>,
-) -> Result<AccessMode, Fail>
+) -> Result<AccessMode, Fail<Error>>
     ensures { Gives (pointer_access space access) result }
 {
     match space {

@@ -29,7 +29,11 @@ impl TextureTemplate {
     /// Reads the parameters of the texture with this name. Sampled and multisampled textures take `i32`, `u32` or
     /// `f32`; `SampledType` for another type, `Builtin` for anything else. Storage textures take a texel format and an
     /// access mode; `Builtin` for anything else, and for any other name.
-    pub fn parse(alloc: Global, name: &str, tplt: &[TpltParam]) -> Result<TextureTemplate, Fail>
+    pub fn parse(
+        alloc: Global,
+        name: &str,
+        tplt: &[TpltParam],
+    ) -> Result<TextureTemplate, Fail<Error>>
         ensures { AnswersAs texture_view (λ r. r
             ≡ texture_template name.now (map parameter_view tplt.now)) result }
     {
@@ -46,7 +50,7 @@ impl TextureTemplate {
     }
 }
 
-fn texture(alloc: Global, name: &str, tplt: &[TpltParam]) -> Result<TextureType, Fail>
+fn texture(alloc: Global, name: &str, tplt: &[TpltParam]) -> Result<TextureType, Fail<Error>>
     ensures { Gives (texture_template name.now (map parameter_view tplt.now)) result }
 {
     let Some(name) = texture_named(name) else {
@@ -64,7 +68,7 @@ fn texture_parameters(
     alloc: Global,
     name: TextureName,
     tplt: &[TpltParam],
-) -> Result<TextureParameters, Fail>
+) -> Result<TextureParameters, Fail<Error>>
     ensures { Gives (texture_parameters (parameter_kind name) (map parameter_view tplt.now)) result }
 {
     match name.parameter_kind() {
@@ -85,7 +89,7 @@ fn not_templated() -> Error
     Error::Builtin("not a templated texture type")
 }
 
-fn sampled_type(alloc: Global, tplt: &[TpltParam]) -> Result<SampledType, Fail>
+fn sampled_type(alloc: Global, tplt: &[TpltParam]) -> Result<SampledType, Fail<Error>>
     ensures { Gives (sampled_parameter (map parameter_view tplt.now)) result }
 {
     match tplt {
@@ -99,7 +103,7 @@ fn sampled_type(alloc: Global, tplt: &[TpltParam]) -> Result<SampledType, Fail>
     }
 }
 
-fn storage(tplt: &[TpltParam]) -> Result<(TexelFormat, AccessMode), Fail>
+fn storage(tplt: &[TpltParam]) -> Result<(TexelFormat, AccessMode), Fail<Error>>
     ensures { Gives (storage_parameters (map parameter_view tplt.now)) result }
 {
     if let [format, access] = tplt {

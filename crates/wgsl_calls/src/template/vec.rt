@@ -22,7 +22,7 @@ pub struct VecTemplate {
 
 impl VecTemplate {
     /// Reads one type, else `TemplateArgs`. `Builtin` if it isn't a concrete scalar.
-    pub fn parse(alloc: Global, tplt: &[TpltParam]) -> Result<VecTemplate, Fail>
+    pub fn parse(alloc: Global, tplt: &[TpltParam]) -> Result<VecTemplate, Fail<Error>>
         ensures { AnswersAs vec_view (IsVecTemplate (map parameter_view tplt.now)) result }
     {
         match tplt {

@@ -212,9 +212,9 @@ fn refusals_with_names_and_types_print_their_messages(rt: HostRuntime) -> Result
     )
 }
 
-const OUT_OF_MEMORY: error::Fail = error::Fail::Memory(AllocError);
+const OUT_OF_MEMORY: error::Fail<Error> = error::Fail::Memory(AllocError);
 
-const REFUSED: error::Fail = error::Fail::Error(Error::NotRead);
+const REFUSED: error::Fail<Error> = error::Fail::Error(Error::NotRead);
 
 #[test]
 fn failures_print_out_of_memory_or_their_refusal(rt: HostRuntime) -> Result<(), Fail> {

@@ -13,10 +13,10 @@ use wgsl_requests::read::{read_type, read_types};
 use wgsl_requests::rules::RuleSet;
 use wgsl_requests::template::read_template;
 use wgsl_requests::wanted::Misfit;
-use wgsl_requests::words::{Unread, Words};
-use wgsl_types::CallSignature;
+use wgsl_requests::words::Words;
 use wgsl_types::tplt::TpltParam;
 use wgsl_types::ty::{Ty, Type};
+use wgsl_types::{CallSignature, error};
 
 /// More bytes than a test reads or writes.
 pub const WHOLE: usize = 1 << 20;
@@ -129,13 +129,13 @@ pub fn one_type(alloc: Global, text: &str) -> Result<Type, Fail> {
 }
 
 /// A type that no word is left after.
-fn read_whole(alloc: Global, words: &mut Words) -> Result<Type, Unread> {
+fn read_whole(alloc: Global, words: &mut Words) -> Result<Type, error::Fail<Misfit>> {
     let read = read_type(alloc, words);
     if words.is_empty() {
         return read;
     }
     drop(read);
-    Err(Unread::Word(Misfit::LeftOver))
+    Err(error::Fail::Error(Misfit::LeftOver))
 }
 
 /// The template parameters that the words stand for, from `<` to `>`.
@@ -150,10 +150,10 @@ pub fn template(alloc: Global, text: &str) -> Result<Vec<TpltParam>, Fail> {
     }
 }
 
-fn failure(unread: Unread) -> Fail {
+fn failure(unread: error::Fail<Misfit>) -> Fail {
     match unread {
-        Unread::Word(_) => "no such word".into(),
-        Unread::Memory(e) => e.into(),
+        error::Fail::Error(_) => "no such word".into(),
+        error::Fail::Memory(e) => e.into(),
     }
 }
 

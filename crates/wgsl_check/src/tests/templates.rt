@@ -24,7 +24,7 @@ fn array_parts(alloc: Global, array: &ArrayTemplate) -> Result<String, AllocErro
     format!(in alloc; "{ty} {element} {count:?}")
 }
 
-fn array(alloc: Global, tplt: &[TpltParam]) -> Result<String, error::Fail> {
+fn array(alloc: Global, tplt: &[TpltParam]) -> Result<String, error::Fail<Error>> {
     let array = ArrayTemplate::parse(alloc, tplt)?;
     let text = array_parts(alloc, &array);
     drop(array);
@@ -39,7 +39,7 @@ fn binding_array_parts(alloc: Global, array: &BindingArrayTemplate) -> Result<St
     format!(in alloc; "{ty} {element} {count:?}")
 }
 
-fn binding_array(alloc: Global, tplt: &[TpltParam]) -> Result<String, error::Fail> {
+fn binding_array(alloc: Global, tplt: &[TpltParam]) -> Result<String, error::Fail<Error>> {
     let array = BindingArrayTemplate::parse(alloc, tplt)?;
     let text = binding_array_parts(alloc, &array);
     drop(array);
@@ -53,7 +53,7 @@ fn vector_parts(alloc: Global, vector: &VecTemplate) -> Result<String, AllocErro
     format!(in alloc; "{ty} {component}")
 }
 
-fn vector(alloc: Global, tplt: &[TpltParam]) -> Result<String, error::Fail> {
+fn vector(alloc: Global, tplt: &[TpltParam]) -> Result<String, error::Fail<Error>> {
     let vector = VecTemplate::parse(alloc, tplt)?;
     let text = vector_parts(alloc, &vector);
     drop(vector);
@@ -67,7 +67,7 @@ fn matrix_parts(alloc: Global, matrix: &MatTemplate) -> Result<String, AllocErro
     format!(in alloc; "{ty} {component}")
 }
 
-fn matrix(alloc: Global, tplt: &[TpltParam]) -> Result<String, error::Fail> {
+fn matrix(alloc: Global, tplt: &[TpltParam]) -> Result<String, error::Fail<Error>> {
     let matrix = MatTemplate::parse(alloc, tplt)?;
     let text = matrix_parts(alloc, &matrix);
     drop(matrix);
@@ -81,7 +81,7 @@ fn bitcast_parts(alloc: Global, bitcast: &BitcastTemplate) -> Result<String, All
     format!(in alloc; "{ty} {component}")
 }
 
-fn bitcast(alloc: Global, tplt: &[TpltParam]) -> Result<String, error::Fail> {
+fn bitcast(alloc: Global, tplt: &[TpltParam]) -> Result<String, error::Fail<Error>> {
     let bitcast = BitcastTemplate::parse(alloc, tplt)?;
     let text = bitcast_parts(alloc, &bitcast);
     drop(bitcast);
@@ -95,14 +95,14 @@ fn atomic_parts(alloc: Global, atomic: &AtomicTemplate) -> Result<String, AllocE
     format!(in alloc; "{ty} {inner}")
 }
 
-fn atomic(alloc: Global, tplt: &[TpltParam]) -> Result<String, error::Fail> {
+fn atomic(alloc: Global, tplt: &[TpltParam]) -> Result<String, error::Fail<Error>> {
     let atomic = AtomicTemplate::parse(alloc, tplt)?;
     let text = atomic_parts(alloc, &atomic);
     drop(atomic);
     Ok(text?)
 }
 
-fn pointer(alloc: Global, tplt: &[TpltParam]) -> Result<String, error::Fail> {
+fn pointer(alloc: Global, tplt: &[TpltParam]) -> Result<String, error::Fail<Error>> {
     let pointer = PtrTemplate::parse(alloc, tplt)?;
     let ty = pointer.ty(alloc);
     drop(pointer);
@@ -110,7 +110,7 @@ fn pointer(alloc: Global, tplt: &[TpltParam]) -> Result<String, error::Fail> {
 }
 
 /// The address space, the type and the access mode that a template of a pointer shows.
-fn pointer_parts(alloc: Global, tplt: &[TpltParam]) -> Result<String, error::Fail> {
+fn pointer_parts(alloc: Global, tplt: &[TpltParam]) -> Result<String, error::Fail<Error>> {
     let pointer = PtrTemplate::parse(alloc, tplt)?;
     let (space, ty, access) = (pointer.space, &pointer.ty, pointer.access);
     let text = format!(in alloc; "{space} {ty} {access}");
@@ -118,13 +118,13 @@ fn pointer_parts(alloc: Global, tplt: &[TpltParam]) -> Result<String, error::Fai
     Ok(text?)
 }
 
-fn texture(alloc: Global, name: &str, tplt: &[TpltParam]) -> Result<String, error::Fail> {
+fn texture(alloc: Global, name: &str, tplt: &[TpltParam]) -> Result<String, error::Fail<Error>> {
     let texture = TextureTemplate::parse(alloc, name, tplt)?;
     Ok(spelled(alloc, Type::Texture(texture.ty()))?)
 }
 
 /// What the template of this name makes and has inside; any other name is one of a texture.
-fn made(alloc: Global, name: &str, tplt: &[TpltParam]) -> Result<String, error::Fail> {
+fn made(alloc: Global, name: &str, tplt: &[TpltParam]) -> Result<String, error::Fail<Error>> {
     match name {
         "array" => array(alloc, tplt),
         "binding_array" => binding_array(alloc, tplt),

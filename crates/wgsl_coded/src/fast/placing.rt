@@ -4,12 +4,13 @@ ghost use Rattle.wgsl_coded.specs.Layouts.{AreLaidOut, IsSizedMember, IsStructHe
 ghost use Rattle.wgsl_coded.specs.Replies.{IsLayoutReply, answered};
 
 use crate::coded::DEPTH;
-use crate::fault::Fault;
 use crate::heads::word_of_head;
 use crate::names::after_ascii_name;
 use crate::numbers::{read_attribute, read_number, write_number};
 use crate::reading::read_type;
+use crate::unreadable::Unreadable;
 use std::alloc::{AllocError, Global};
+use wgsl_core::error::Fail;
 use wgsl_core::layout::placing::Placing;
 use wgsl_syntax::code::Head;
 
@@ -106,8 +107,8 @@ fn read_sized_member(alloc: Global, words: &[u32]) -> Result<Option<(Extent, &[u
     };
     let (ty, rest) = match read_type(alloc, rest, DEPTH - 1) {
         Ok(read) => read,
-        Err(Fault::NoType) => return Ok(None),
-        Err(Fault::Memory) => return Err(AllocError),
+        Err(Fail::Error(Unreadable)) => return Ok(None),
+        Err(Fail::Memory(error)) => return Err(error),
     };
     match (size.or(ty.size_of()), align.or(ty.align_of())) {
         (Some(size), Some(align)) => Ok(Some((Extent { size, align }, rest))),

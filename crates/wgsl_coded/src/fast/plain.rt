@@ -9,14 +9,15 @@ ghost use Rattle.wgsl_coded.specs.Seen.{reply_words, seen};
 use crate::calls::Kind;
 use crate::coded::{DEPTH, read_whole};
 use crate::fast::short_name::{ShortName, read_short_name};
-use crate::fault::Fault;
 use crate::numbers::read_number;
 use crate::reading::read_type;
 use crate::reply::{Reply, reply_with_type, reply_with_value};
 use crate::requests::read_two;
+use crate::unreadable::Unreadable;
 use std::alloc::Global;
 use wgsl_calls::call::type_builtin_fn;
 use wgsl_calls::constructor::type_ctor;
+use wgsl_core::error::Fail;
 use wgsl_core::ty::Type;
 
 /// The name of a call if it is short and there is no template, the number of the arguments, and the words from the first
@@ -42,7 +43,7 @@ pub(crate) fn reply_to_one(
     kind: Kind,
     name: &str,
     words: &[u32],
-) -> Result<Reply, Fault>
+) -> Result<Reply, Fail<Unreadable>>
     ensures { IsReplyTo (asked_of kind (option_map (call_of name.now) (arguments_at 1 words.now)))
         (seen reply_words result) }
 {
@@ -59,7 +60,7 @@ pub(crate) fn reply_to_two(
     kind: Kind,
     name: &str,
     words: &[u32],
-) -> Result<Reply, Fault>
+) -> Result<Reply, Fail<Unreadable>>
     ensures { IsReplyTo (asked_of kind (option_map (call_of name.now) (arguments_at 2 words.now)))
         (seen reply_words result) }
 {
@@ -77,7 +78,7 @@ pub(crate) fn reply_to_three(
     kind: Kind,
     name: &str,
     words: &[u32],
-) -> Result<Reply, Fault>
+) -> Result<Reply, Fail<Unreadable>>
     ensures { IsReplyTo (asked_of kind (option_map (call_of name.now) (arguments_at 3 words.now)))
         (seen reply_words result) }
 {
@@ -91,7 +92,12 @@ pub(crate) fn reply_to_three(
 
 /// The reply to a call without a template.
 #[inline(always)]
-fn reply_to_plain(alloc: Global, kind: Kind, name: &str, arguments: &[Type]) -> Result<Reply, Fault>
+fn reply_to_plain(
+    alloc: Global,
+    kind: Kind,
+    name: &str,
+    arguments: &[Type],
+) -> Result<Reply, Fail<Unreadable>>
     ensures { IsReplyTo (Some (request_of kind (call_of name.now (map view arguments.now))))
         (seen reply_words result) }
 {

@@ -20,14 +20,15 @@ ghost use Rattle.wgsl_coded.specs.Short.{short_items};
 
 use crate::candidates::push_resolved;
 use crate::fast::short::ShortWords;
-use crate::fault::Fault;
 use crate::overloaded::read_operand;
 use crate::reply::{Reply, reply_with_resolution};
 use crate::requests::if_ended;
 use crate::resolved::Resolved;
+use crate::unreadable::Unreadable;
 use std::alloc::Global;
+use wgsl_core::error::Fail;
 use wgsl_core::operators::resolve::{Element, Extent, ResolvedType};
-use wgsl_standard::answer::Unresolved;
+use wgsl_standard::answer::NoOverload;
 use wgsl_standard::callee::{Callee, overloads};
 use wgsl_standard::instance::value_in;
 use wgsl_standard::operand::Operand;
@@ -44,7 +45,7 @@ pub(crate) fn resolve_one(
     alloc: Global,
     callee: Callee<'_>,
     words: &[u32],
-) -> Result<Resolved, Fault>
+) -> Result<Resolved, Fail<Unreadable>>
     ensures { IsReplyTo (resolution_in
         (option_map (plain_call (callee_view callee.entry)) (operands_at 1 words.now)))
         (seen resolved_words result) }
@@ -59,7 +60,7 @@ pub(crate) fn resolve_two(
     alloc: Global,
     callee: Callee<'_>,
     words: &[u32],
-) -> Result<Resolved, Fault>
+) -> Result<Resolved, Fail<Unreadable>>
     ensures { IsReplyTo (resolution_in
         (option_map (plain_call (callee_view callee.entry)) (operands_at 2 words.now)))
         (seen resolved_words result) }
@@ -75,7 +76,7 @@ pub(crate) fn resolve_three(
     alloc: Global,
     callee: Callee<'_>,
     words: &[u32],
-) -> Result<Resolved, Fault>
+) -> Result<Resolved, Fail<Unreadable>>
     ensures { IsReplyTo (resolution_in
         (option_map (plain_call (callee_view callee.entry)) (operands_at 3 words.now)))
         (seen resolved_words result) }
@@ -93,7 +94,7 @@ fn reply_to_plain_call(
     alloc: Global,
     callee: Callee<'_>,
     operands: &[Operand<'_>],
-) -> Result<Resolved, Fault>
+) -> Result<Resolved, Fail<Unreadable>>
     ensures { IsReplyTo (Some (resolution_of
         (plain_call (callee_view callee.entry) (map written_view operands.now))))
         (seen resolved_words result) }
@@ -109,7 +110,7 @@ fn reply_by_overloads(
     alloc: Global,
     listed: &[Overload],
     operands: &[Operand<'_>],
-) -> Result<Resolved, Fault>
+) -> Result<Resolved, Fail<Unreadable>>
     requires { IsUnambiguous listed.now }
     ensures { IsResolvedReply listed.now (operands_view operands.now) result }
 {
@@ -129,20 +130,20 @@ fn long_reply(
     alloc: Global,
     listed: &[Overload],
     operands: &[Operand<'_>],
-) -> Result<Resolved, Fault>
+) -> Result<Resolved, Fail<Unreadable>>
     requires { IsUnambiguous listed.now }
     ensures { IsResolvedReply listed.now (operands_view operands.now) result }
 {
     match resolve_call(alloc, listed, operands) {
         Ok(resolved) => resolved_by(reply_with_resolution(alloc, resolved)),
-        Err(Unresolved::NoOverload) => Ok(Resolved::Other(Reply::Refusal(Vec::new(alloc)))),
-        Err(Unresolved::OutOfMemory(_)) => Err(Fault::Memory),
+        Err(Fail::Error(NoOverload)) => Ok(Resolved::Other(Reply::Refusal(Vec::new(alloc)))),
+        Err(Fail::Memory(error)) => Err(Fail::Memory(error)),
     }
 }
 
 /// The same reply, as one to what a call resolves to.
 #[inline(always)]
-fn resolved_by(reply: Result<Reply, Fault>) -> Result<Resolved, Fault>
+fn resolved_by(reply: Result<Reply, Fail<Unreadable>>) -> Result<Resolved, Fail<Unreadable>>
     ensures { seen resolved_words result ≡ seen reply_words reply }
 {
     Ok(Resolved::Other(reply?))

@@ -18,7 +18,8 @@ use Rattle.wgsl_requests.specs.declared.call.WrittenCall.{WrittenCall}
 use Rattle.wgsl_requests.specs.declared.call.WrittenOperand.{WrittenOperand}
 use Rattle.wgsl_requests.specs.declared.standard.Question.{Question}
 use Rattle.wgsl_requests.specs.declared.standard.Question.TheVariants as questions
-use Rattle.wgsl_requests.specs.declared.words.Unread.{Unread}
+use Rattle.wgsl_core.specs.declared.error.Fail.{Fail}
+use Rattle.wgsl_requests.specs.declared.wanted.Misfit.{Misfit}
 use Rattle.wgsl_requests.specs.internal.Written.{Adds}
 
 abbrev pub operand_view : WrittenOperand → Operand
@@ -48,8 +49,8 @@ asked questions.Type = type_of
 asked questions.Resolution = resolution_of
 asked questions.Explanation = explanation_of
 
--- The answer to what is asked of the call that the words spell is written. The error is `Word` only if they spell none.
-abbrev pub WritesOfCall : (WgslCall → Request) → List (List ℕ) → List ℕ → List ℕ → Result (Unit {0}) Unread → Type 0
+-- The answer to what is asked of the call that the words spell is written. The error is a misfit only if they spell none.
+abbrev pub WritesOfCall : (WgslCall → Request) → List (List ℕ) → List ℕ → List ℕ → Result (Unit {0}) (Fail Misfit) → Type 0
 WritesOfCall ask words old new r =
     Answers (λ done. (c : WgslCall) × IsCall words c × Adds (IsAnswer (ask c)) old new) ((c : WgslCall) → ¬ IsCall words c) r
 

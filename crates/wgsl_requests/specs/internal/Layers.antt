@@ -5,7 +5,8 @@ use Rattle.std.specs.List.{list_any}
 use Rattle.std.specs.Str.{bytes_eq}
 use Rattle.wgsl_rules.specs.types.Types.{WgslType}
 use Rattle.wgsl_syntax.specs.declared.around.Around.{Around}
-use Rattle.wgsl_requests.specs.declared.words.Unread.{Unread}
+use Rattle.wgsl_core.specs.declared.error.Fail.{Fail}
+use Rattle.wgsl_requests.specs.declared.wanted.Misfit.{Misfit}
 use Rattle.wgsl_requests.specs.Reading.{NoneAt, Refuses}
 use Rattle.wgsl_rules.specs.types.Around.{around}
 use Rattle.wgsl_requests.specs.Grammar.{LayerAt, LeafAt, TypeAt}
@@ -21,7 +22,7 @@ is_layer_word word = list_any (bytes_eq word) layer_words
 
 -- Where the word and the words before stand, a layer is read, or none since the word is that of no
 -- layer.
-abbrev pub ReadsLayer : List ℕ → List (List ℕ) → List (List ℕ) → Result (Option Around) Unread →
+abbrev pub ReadsLayer : List ℕ → List (List ℕ) → List (List ℕ) → Result (Option Around) (Fail Misfit) →
     Type 0
 ReadsLayer word before after (Ok (Some layer)) = LayerAt (word ∷ before) layer after
 ReadsLayer word before after (Ok None) = (is_layer_word word ≡ false) × (after ≡ before)
@@ -29,7 +30,7 @@ ReadsLayer word before after (Err e) = Refuses ((is_layer_word word ≡ true)
     × NoneAt LayerAt (word ∷ before)) e
 
 -- The same, or none since there is room for no more.
-abbrev pub ReadsNext : List ℕ → List (List ℕ) → List (List ℕ) → Result (Option Around) Unread →
+abbrev pub ReadsNext : List ℕ → List (List ℕ) → List (List ℕ) → Result (Option Around) (Fail Misfit) →
     Type 0
 ReadsNext word before after (Ok (Some layer)) = LayerAt (word ∷ before) layer after
 ReadsNext word before after (Ok None) = after ≡ before

@@ -9,17 +9,18 @@ use Rattle.wgsl_requests.specs.Reading.{Answers}
 use Rattle.wgsl_requests.specs.Requests.{NoRequest, Request}
 use Rattle.wgsl_requests.specs.declared.command.Callee.{Callee}
 use Rattle.wgsl_requests.specs.declared.rules.RuleSet.{RuleSet}
-use Rattle.wgsl_requests.specs.declared.words.Unread.{Unread}
+use Rattle.wgsl_core.specs.declared.error.Fail.{Fail}
+use Rattle.wgsl_requests.specs.declared.wanted.Misfit.{Misfit}
 use Rattle.wgsl_requests.specs.internal.Written.{Adds}
 
--- The answer to the request that the words spell is written. The error is `Word` only if they
+-- The answer to the request that the words spell is written. The error is a misfit only if they
 -- spell none.
-abbrev pub Replies : RuleSet → List (List ℕ) → List ℕ → List ℕ → Result (Unit {0}) Unread → Type 0
+abbrev pub Replies : RuleSet → List (List ℕ) → List ℕ → List ℕ → Result (Unit {0}) (Fail Misfit) → Type 0
 Replies rules words old new r = Answers (λ done. Adds (IsReply rules words) old new) (NoRequest rules words) r
 
--- The answer to what is asked of the struct is written. The error is `Word` only if the type is no struct.
+-- The answer to what is asked of the struct is written. The error is a misfit only if the type is no struct.
 abbrev pub WritesOfStruct : (List ℕ → Members → Request) → WgslType → List ℕ → List ℕ →
-    Result (Unit {0}) Unread → Type 0
+    Result (Unit {0}) (Fail Misfit) → Type 0
 WritesOfStruct ask t old new r =
     Answers (λ done. (name : List ℕ) × (ms : Members) × (t ≡ struct name ms)
     × Adds (IsAnswer (ask name ms)) old new)

@@ -3,8 +3,9 @@ use Rattle.std.specs.Prelude.{◌≡◌, ◌++◌, ℕ, List, [], ◌∷◌}
 use Rattle.wgsl_rules.specs.errors.Refusals.{Refusal}
 use Rattle.wgsl_core.specs.Answer.{refusal}
 use Rattle.wgsl_core.specs.View.{member_view}
+use Rattle.wgsl_core.specs.declared.error.Error.{Error}
 use Rattle.wgsl_core.specs.declared.error.Fail.{Fail}
-use Rattle.wgsl_core.specs.declared.error.Fail.TheVariants.{Error, Memory}
+use Rattle.wgsl_core.specs.declared.error.Fail.TheVariants as fails
 use Rattle.wgsl_core.specs.declared.layout.PlacedMember.{PlacedMember}
 use Rattle.wgsl_core.specs.declared.ty.StructMemberType.{StructMemberType}
 use Rattle.wgsl_requests.specs.Layouts.{member_line}
@@ -14,9 +15,9 @@ abbrev pub Adds : (List ℕ → Type 0) → List ℕ → List ℕ → Type 0
 Adds P old new = (text : List ℕ) × P text × (new ≡ old ++ text)
 
 -- P holds of the refusal; out of memory is none
-abbrev pub IsRefusal : (Refusal → Type 0) → Fail → Type 0
-IsRefusal P (Error e) = P (refusal e)
-IsRefusal P (Memory e) = ⊥
+abbrev pub IsRefusal : (Refusal → Type 0) → Fail Error → Type 0
+IsRefusal P (fails.Error e) = P (refusal e)
+IsRefusal P (fails.Memory e) = ⊥
 
 -- the line of a member with its layout
 abbrev pub placed_line : StructMemberType → PlacedMember → List ℕ

@@ -1,12 +1,12 @@
 // What the program writes of an answer, as a text of its own.
 use std::alloc::{AllocError, Global};
-use wgsl_types::error::Fail;
+use wgsl_types::error::{Error, Fail};
 use wgsl_types::ty::Type;
 
 /// The type that a call gives, `no value`, or the message of a refusal.
 pub fn value_or_refusal(
     alloc: Global,
-    answer: Result<Option<Type>, Fail>,
+    answer: Result<Option<Type>, Fail<Error>>,
 ) -> Result<String, AllocError> {
     match answer {
         Ok(value) => {
@@ -26,7 +26,7 @@ fn value_text(alloc: Global, value: &Option<Type>) -> Result<String, AllocError>
 }
 
 /// The message of a refusal.
-pub fn message(alloc: Global, refused: Fail) -> Result<String, AllocError> {
+pub fn message(alloc: Global, refused: Fail<Error>) -> Result<String, AllocError> {
     match refused {
         Fail::Error(error) => {
             let text = error.to_string(alloc);

@@ -6,7 +6,7 @@ use Rattle.wgsl_coded.proofs.parts.read_in_order.Goals as goal
 pub returns-in-Err : goal.returns-in-Err
 returns-in-Err g c =
     stops g.T.ReadPart.part_at (map g.T.ReadPart.shown c.loop.parts.items) c.loop.counter c.args.count c.loop.rest.now _ c.loop.invariant
-    c.in-Err.fault (omega arith) c.in-Err.ensures
+    c.in-Err.fail (omega arith) c.in-Err.ensures
 
 pub loop-preserved : goal.loop-preserved
 loop-preserved g c =

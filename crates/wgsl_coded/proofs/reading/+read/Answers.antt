@@ -29,7 +29,7 @@ read_level-returns-in-Some t c =
 pub read_members-returns-in-Err : goal.read_members-returns-in-Err
 read_members-returns-in-Err t c =
     stops (decode c.args.depth) (map member_view c.loop.members.items) c.loop.counter c.args.count c.loop.rest.now _ c.loop.invariant
-    c.in-Err.fault (omega arith) c.in-Err.ensures
+    c.in-Err.fail (omega arith) c.in-Err.ensures
 
 pub read_members-loop-preserved : goal.read_members-loop-preserved
 read_members-loop-preserved t c =
