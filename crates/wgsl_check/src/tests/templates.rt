@@ -9,7 +9,7 @@ use super::support::{expect_reply, spelled, template};
 use std::alloc::{AllocError, Global};
 use std::process::Abort;
 use std::test::Fail;
-use wgsl_types::error;
+use wgsl_types::error::{self, Error};
 use wgsl_types::tplt::{
     ArrayTemplate, AtomicTemplate, BindingArrayTemplate, BitcastTemplate, MatTemplate, PtrTemplate,
     TextureTemplate, TpltParam, VecTemplate,
