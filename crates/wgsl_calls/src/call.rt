@@ -1,6 +1,6 @@
 // The types of calls of built-in functions (WGSL, "Built-in Functions").
-ghost use Rattle.std.specs.Prelude.{◌≡◌, [], ◌∷◌, Some, None, Ok, Err, option_map, map, IfOk, IsOk, All};
-ghost use Rattle.wgsl_rules.specs.types.Kinds.{IsLeaf};
+ghost use Rattle.std.specs.Prelude.{◌≡◌, [], ◌∷◌, Option, Some, None, Ok, Err, option_map, map, All};
+ghost use Rattle.wgsl_rules.specs.types.Types.{WgslType};
 ghost use Rattle.wgsl_rules.specs.conversion.Concrete.{concretized};
 ghost use Rattle.wgsl_rules.specs.errors.Refusals.{signature};
 ghost use Rattle.wgsl_rules.specs.calls.ResultTypes.{exchange_struct, ray_intersection_struct, hit_positions_type};
@@ -14,7 +14,7 @@ ghost use Rattle.wgsl_core.specs.internal.Resolution.{element_view, resolved_vie
 ghost use Rattle.wgsl_core.specs.ResultStruct.{result_type};
 ghost use Rattle.wgsl_core.specs.Answer.{AnswersBy, AnswersAs, IsAnswered};
 ghost use Rattle.wgsl_calls.specs.internal.Rows.{rows_view};
-ghost use Rattle.wgsl_calls.specs.internal.Answers.{signature_of, template_of, Chooses, IsMet, Answered};
+ghost use Rattle.wgsl_calls.specs.internal.Answers.{signature_of, template_of, Chooses, IsBuilt, IsMet, Answered};
 ghost use Rattle.wgsl_rules.specs.conversion.Conversion.{IsValueType};
 ghost use Rattle.wgsl_rules.specs.operators.Candidates.{Name};
 ghost use Rattle.wgsl_rules.specs.Laws.{OneChoice};
@@ -146,25 +146,33 @@ fn by_return_type(
     ensures { Answered (IsReturnType return_type (signature_of call.now))
         (template_of call.now) result }
 {
+    let args = call.args;
     match return_type {
-        ReturnType::Of(of) => given(alloc, bare(type_of_source(of, call.args)), call),
-        ReturnType::Concrete(of) => concrete(alloc, type_of_source(of, call.args), call),
-        ReturnType::AsLong(of) => given(
-            alloc,
-            as_long(argument(call.args, 0), type_of_source(of, call.args)),
-            call,
-        ),
-        ReturnType::InVector(n, of) => given(
-            alloc,
-            in_vector(n, type_of_source(of, call.args)),
-            call,
-        ),
-        ReturnType::Transposed => given(alloc, transposed(argument(call.args, 0)), call),
-        ReturnType::TextureSize => given(alloc, texture_size(argument(call.args, 0)), call),
-        ReturnType::ResultOf(function) => {
-            split(alloc, split_result(function, argument(call.args, 0)), call)
+        ReturnType::Of(of) => given(alloc, built(alloc, bare(type_of_source(of, args))), call),
+        ReturnType::Concrete(of) => given(alloc, concrete(alloc, type_of_source(of, args)), call),
+        ReturnType::AsLong(of) => {
+            let found = as_long(argument(args, 0), type_of_source(of, args));
+            given(alloc, built(alloc, found), call)
         }
-        ReturnType::ExchangeResult => exchanged(alloc, inner(inner(argument(call.args, 0))), call),
+        ReturnType::InVector(n, of) => {
+            let found = in_vector(n, type_of_source(of, args));
+            given(alloc, built(alloc, found), call)
+        }
+        ReturnType::Transposed => given(alloc, built(alloc, transposed(argument(args, 0))), call),
+        ReturnType::TextureSize => {
+            given(alloc, built(alloc, texture_size(argument(args, 0))), call)
+        }
+        ReturnType::ResultOf(function) => {
+            let found = split_result(function, argument(args, 0));
+            given(alloc, split(alloc, found), call)
+        }
+        ReturnType::ExchangeResult => {
+            given(
+                alloc,
+                exchanged(alloc, inner(inner(argument(args, 0)))),
+                call,
+            )
+        }
         ReturnType::RayIntersection => intersection(alloc),
         ReturnType::HitPositions => positions(alloc),
         ReturnType::NoValue => Ok(None),
@@ -172,45 +180,38 @@ fn by_return_type(
     }
 }
 
-/// The type found, or the refusal if there is none.
+/// The type that was built, or the refusal if none was found.
 #[inline(always)]
 fn given(
     alloc: Global,
-    found: Option<ResolvedType<'_>>,
+    built: Option<Result<Type, AllocError>>,
     call: &Call<'_>,
 ) -> Result<Option<Type>, Fail<Error>>
-    ensures { IsMet (given_for (signature_of call.now)
-        (option_map resolved_view found.entry)) result }
+    ensures { (t : Option WgslType) → IsBuilt t built
+        → IsMet (given_for (signature_of call.now) t) result }
 {
-    match found {
-        Some(found) => Ok(Some(found.build(alloc)?)),
+    match built {
+        Some(built) => Ok(Some(built?)),
         None => refuse(alloc, call),
     }
 }
 
-fn concrete(
-    alloc: Global,
-    found: Option<Element<'_>>,
-    call: &Call<'_>,
-) -> Result<Option<Type>, Fail<Error>>
-    ensures { IsMet (given_for (signature_of call.now)
-        (option_map concretized (option_map element_view found.entry))) result }
+#[inline(always)]
+fn built(alloc: Global, found: Option<ResolvedType<'_>>) -> Option<Result<Type, AllocError>>
+    ensures { IsBuilt (option_map resolved_view found.entry) result }
 {
-    match found {
-        Some(found) => Ok(Some(concrete_element(alloc, found)?)),
-        None => refuse(alloc, call),
-    }
+    Some(found?.build(alloc))
 }
 
+#[inline(always)]
 #[tactic(auto, using(crate::proofs::OutOfMemory::leaf_before))]
-fn concrete_element(alloc: Global, element: Element<'_>) -> Result<Type, AllocError>
-    ensures same { IfOk result (λ t. view t ≡ concretized (element_view element.entry)) }
-    ensures never_out_of_memory { IsLeaf (concretized (element_view element.entry)) → IsOk result }
+fn concrete(alloc: Global, found: Option<Element<'_>>) -> Option<Result<Type, AllocError>>
+    ensures { IsBuilt (option_map concretized (option_map element_view found.entry)) result }
 {
-    match element {
+    Some(match found? {
         Element::Scalar(scalar) => Type::from(scalar).concretize(alloc),
         Element::Type(ty) => ty.concretize(alloc),
-    }
+    })
 }
 
 /// The struct that `frexp` or `modf` returns for a type that it takes.
@@ -227,30 +228,21 @@ fn split_result(function: ResultFunction, ty: Option<&Type>) -> Option<ResultStr
 }
 
 /// The type that `frexp` or `modf` returns.
+#[inline(always)]
 #[tactic(auto, using(crate::proofs::OutOfMemory::no_leaf_result))]
-fn split(
-    alloc: Global,
-    of: Option<ResultStruct>,
-    call: &Call<'_>,
-) -> Result<Option<Type>, Fail<Error>>
-    ensures { IsMet (given_for (signature_of call.now) (option_map result_type of)) result }
+fn split(alloc: Global, of: Option<ResultStruct>) -> Option<Result<Type, AllocError>>
+    ensures { IsBuilt (option_map result_type of) result }
 {
-    match of {
-        Some(of) => Ok(Some(result_struct(alloc, of)?)),
-        None => refuse(alloc, call),
-    }
+    Some(result_struct(alloc, of?))
 }
 
 /// The type that an atomic exchange returns.
+#[inline(always)]
 #[tactic(auto, using(crate::proofs::OutOfMemory::no_leaf_exchange))]
-fn exchanged(alloc: Global, ty: Option<&Type>, call: &Call<'_>) -> Result<Option<Type>, Fail<Error>>
-    ensures { IsMet (given_for (signature_of call.now)
-        (option_map exchange_struct (option_map (λ t. view t.now) ty.entry))) result }
+fn exchanged(alloc: Global, ty: Option<&Type>) -> Option<Result<Type, AllocError>>
+    ensures { IsBuilt (option_map exchange_struct (option_map (λ t. view t.now) ty.entry)) result }
 {
-    match ty {
-        Some(ty) => Ok(Some(exchange_result(alloc, ty)?)),
-        None => refuse(alloc, call),
-    }
+    Some(exchange_result(alloc, ty?))
 }
 
 #[tactic(auto, using(crate::proofs::OutOfMemory::no_leaf_intersection))]

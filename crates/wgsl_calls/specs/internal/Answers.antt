@@ -1,5 +1,6 @@
 -- How the rules see the answer of a call, and when the call may be out of memory.
 use Rattle.std.specs.Prelude.{◌≡◌, List, Option, Some, None, Result, Ok, Err, option_map}
+use Rattle.std.specs.declared.alloc.AllocError.{AllocError}
 use Rattle.wgsl_rules.specs.types.Types.{WgslType}
 use Rattle.wgsl_rules.specs.types.Kinds.{IsLeaf}
 use Rattle.wgsl_rules.specs.types.Signatures.{Parameter, Signature}
@@ -28,6 +29,13 @@ abbrev pub MayBeOutOfMemory : Result (Option WgslType) Refusal → Type 0
 MayBeOutOfMemory (Err e) = Unit {0}
 MayBeOutOfMemory (Ok None) = ⊥
 MayBeOutOfMemory (Ok (Some t)) = ¬ IsLeaf t
+
+-- What was built is the type, if there is one. Out of memory stands for any but leaf types.
+abbrev pub IsBuilt : Option WgslType → Option (Result «Type» AllocError) → Type 0
+IsBuilt None None = Unit {0}
+IsBuilt (Some t) (Some (Ok u)) = t ≡ view u
+IsBuilt (Some t) (Some (Err e)) = ¬ IsLeaf t
+IsBuilt t built = ⊥
 
 -- The result is the answer.
 abbrev pub IsMet : Result (Option WgslType) Refusal → Result (Option «Type») (Fail Error) → Type 0
