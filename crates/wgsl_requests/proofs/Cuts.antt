@@ -1,16 +1,18 @@
--- Where a text may be cut: after the separators in front, and after the first word. So a request is UTF-8 exactly if each of its words is.
+-- The first word of a text, and where the text may be cut: after the separators in front, and after that word. So a request is UTF-8
+-- exactly if each of its words is.
 use Prim.Native.Nat.{zero, suc}
-use Rattle.std.proofs.Common.{◌≡◌, ◌↔◌, ℕ, ◌+◌, ◌<◌, ◌≤◌, Bool, true, false, not, List, [], ◌∷◌, length, take, drop, refl, ap, sym, subst, ◌∙◌, arith, IsUtf8, All, get_or}
+use Rattle.std.proofs.Common.{◌≡◌, ◌↔◌, ℕ, ◌+◌, ◌-◌, ◌<◌, ◌≤◌, Bool, true, false, not, List, [], ◌∷◌, Some, None, length, take, drop, refl, ap, sym, subst, ◌∙◌, arith, IsUtf8, All, get_or}
+use Rattle.std.specs.Borrow.{Bor}
 use Rattle.std.specs.List.{prefix_len, take_while}
 use Rattle.std.specs.Str.{IsCharBoundary, IsAscii}
-use Rattle.std.proofs.lemmas.List.{length-drop, take-append-drop}
+use Rattle.std.proofs.lemmas.List.{drop-drop, length-drop, take-append-drop}
 use Rattle.std.proofs.lemmas.List.Elements.{All-nil, All-head, All-tail, All-cons}
 use Rattle.std.proofs.lemmas.List.Folds.{length-prefix_len}
 use Rattle.std.proofs.lemmas.List.Sums.{prefix_len-le-length, prefix_len_passes, prefix_len_stops}
-use Rattle.std.proofs.lemmas.Str.{IsCharBoundary-start, IsCharBoundary-after_ascii, IsCharBoundary-before_ascii, IsUtf8-nil, IsUtf8-append, IsUtf8-from_ascii, IsUtf8-take, IsUtf8-drop}
+use Rattle.std.proofs.lemmas.Str.{IsCharBoundary-start, IsCharBoundary-after_ascii, IsCharBoundary-before_ascii, IsCharBoundary-from_rest, IsUtf8-nil, IsUtf8-append, IsUtf8-from_ascii, IsUtf8-take, IsUtf8-drop}
 use Rattle.std.proofs.lemmas.Grind.{common_steps}
-use Rattle.wgsl_requests.specs.Words.{is_separator, words_of}
-use Rattle.wgsl_requests.proofs.FirstWord.{word_len, words-cut, words-word}
+use Rattle.wgsl_requests.specs.Words.{IsFirstWord, is_separator, words_of}
+use Rattle.wgsl_requests.proofs.FirstWord.{word_len, words-cut, words-word, words_of-first}
 
 separator_ascii : (b : ℕ) → is_separator b ≡ true → b < 128
 separator_ascii b e = grind (arith, common_steps, e)
@@ -49,6 +51,33 @@ word_has_bytes text rest gap zero e is f more =
     let stops : is_separator (get_or text gap 0) ≡ false = rw at (prefix_len_stops is_separator text 0 inside) in
     absurd (cc (sym front ∙ (ap is_separator here ∙ stops)))
 word_has_bytes text rest gap (suc n) e is f more = omega arith
+
+-- the separators in front of a text, what is left after them, and the bytes of the word that it begins with
+pub record IsParted (text rest : List ℕ) (gap len : ℕ) : Type 0 where
+  pub gap_is : gap ≡ length (take_while is_separator text)
+  pub rest_is : rest ≡ drop gap text
+  pub len_is : len ≡ length (take_while (λ byte. not (is_separator byte)) rest)
+  pub some : 0 < length rest
+
+-- that word is the first
+pub first_word_is : (text rest : List ℕ) (word : Bor (List ℕ)) (gap len : ℕ) → IsParted text rest gap len → word.now ≡ take len rest → IsFirstWord text (Some (word, gap + len))
+first_word_is text rest word gap len at is =
+    let q : ℕ → Bool = λ byte. not (is_separator byte) in
+    let gap_within : gap ≤ length text = omega (arith, at.gap_is ∙ length-prefix_len is_separator text, prefix_len-le-length is_separator text) in
+    let len_within : len ≤ length rest = omega (arith, at.len_is ∙ length-prefix_len q rest, prefix_len-le-length q rest) in
+    let left : length rest ≡ length text - gap = ap length at.rest_is ∙ length-drop gap text in
+    let some : 0 < len = word_has_bytes text rest gap len at.gap_is at.rest_is at.len_is at.some in
+    let first : words_of text ≡ take len rest ∷ words_of (drop len rest) = words_of-first text rest gap len at.gap_is at.rest_is at.len_is at.some in
+    let after : drop len rest ≡ drop (gap + len) text = ap (drop len) at.rest_is ∙ drop-drop len gap text in
+    record {
+      words = rw is (first ∙ ap (λ ds. take len rest ∷ words_of ds) after);
+      boundary = IsCharBoundary-from_rest text gap len gap_within (subst (λ ds. IsCharBoundary ds len) at.rest_is (word_boundary rest len at.len_is));
+      some = omega (arith, some);
+      within = omega (arith, gap_within, len_within, left);
+    }
+
+pub no_first_word : (text : List ℕ) → words_of text ≡ [] → IsFirstWord text None
+no_first_word text none = record { words = none; boundary = tt; some = tt; within = tt }
 
 ascii_one : (b : ℕ) → b < 128 → IsAscii (b ∷ [])
 ascii_one b e zero = e

@@ -16,6 +16,7 @@ use Rattle.std.proofs.lemmas.Simd.{bit_mask_l, get_or-chunk, leading_from_mask_l
 use lib.Count.{count_trailing_zeros}
 use Rattle.wgsl_requests.specs.Words.{is_separator, words_of}
 use Rattle.wgsl_requests.specs.internal.Marks.{is_word_byte, marks_of}
+use Rattle.wgsl_requests.proofs.Cuts.{IsParted}
 use Rattle.wgsl_requests.proofs.FirstWord.{words-cut, words-word, words_of-blank}
 
 both_get : {X : Type 0} (p q : X → Bool) (xs : List X) (i : ℕ) → get_or (map (λ x. p x && q x) xs) i false ≡ (get_or (map p xs) i false && get_or (map q xs) i false)
@@ -156,11 +157,6 @@ gap_inside bytes marks is short some = inside (nat_le (length bytes) gap) refl
     inside false e = leb-false (length bytes) gap e
 
 -- the first word, as the marks tell it
-pub record IsParted (text rest : List ℕ) (gap len : ℕ) : Type 0 where
-  pub gap_is : gap ≡ length (take_while is_separator text)
-  pub len_is : len ≡ length (take_while is_word_byte rest)
-  pub some : 0 < length rest
-
 pub parted : (text rest : List ℕ) (marks len : ℕ) → marks ≡ marks_of text → length text < 64 → 0 < marks → rest ≡ drop (count_trailing_zeros 64 marks) text
     → len ≡ trailing_ones w64 (marks / 2 ^ count_trailing_zeros 64 marks) → IsParted text rest (count_trailing_zeros 64 marks) len
 parted text rest marks len is short some left ones =
@@ -170,6 +166,7 @@ parted text rest marks len is short some left ones =
     let marked : marks / 2 ^ gap ≡ marks_of rest = marks_left text marks gap is ∙ ap marks_of (sym left) in
     record {
       gap_is = gap_is text marks is (omega (arith, short)) some;
+      rest_is = left;
       len_is = ones ∙ word_len_is rest (marks / 2 ^ gap) marked (omega (arith, long, short));
       some = omega (arith, long, inside);
     }

@@ -1,20 +1,14 @@
 // The first word of a text.
-ghost use Rattle.std.specs.Prelude.{◌≡◌, ◌<◌, ◌≤◌, ◌∷◌, ◌↔◌, [], IfSome, IsTrue, MatchOption, drop, length, not};
+ghost use Rattle.std.specs.Prelude.{◌≡◌, ◌↔◌, [], IsTrue, length, not};
 ghost use Rattle.std.specs.List.{take_while};
-ghost use Rattle.std.specs.Str.{IsCharBoundary};
-ghost use Rattle.wgsl_requests.specs.Words.{has_line_feed, is_line_feed, is_separator, words_of};
+ghost use Rattle.wgsl_requests.specs.Words.{IsFirstWord, has_line_feed, is_line_feed, is_separator, words_of};
 
 use crate::fast::line_feeds::are_great;
 
 /// The first word of a text, and the index after it.
 #[inline(always)]
 pub fn first_word(text: &str) -> Option<(&str, usize)>
-    ensures words { MatchOption result
-        (words_of text.now ≡ [])
-        (λ found. words_of text.now ≡ found.0.now ∷ words_of (drop found.1 text.now)) }
-    ensures boundary { IfSome result (λ found. IsCharBoundary text.now found.1) }
-    ensures some { IfSome result (λ found. 0 < found.1) }
-    ensures within { IfSome result (λ found. found.1 ≤ length text.now) }
+    ensures { IsFirstWord text.now result }
 {
     let gap = gap_len(text.as_bytes());
     let rest = &text[gap..];

@@ -1,9 +1,9 @@
 // The words of a command, taken one after another.
-ghost use Rattle.std.specs.Prelude.{◌≡◌, ◌<◌, ◌≤◌, ◌∷◌, ◌↔◌, [], All, Err, IfSome, IsTrue, IsUtf8, MatchOption, MatchResult, Ok, OnOk, OnSome, drop, length, slice_index};
+ghost use Rattle.std.specs.Prelude.{◌≡◌, ◌<◌, ◌≤◌, ◌∷◌, ◌↔◌, [], All, Err, IsTrue, IsUtf8, MatchOption, MatchResult, Ok, OnOk, OnSome, drop, length, slice_index};
 ghost use Rattle.std.specs.Str.{IsCharBoundary};
 ghost use Rattle.wgsl_requests.specs.Numbers.{IsAttribute, IsCount, IsLong, IsMedium, IsSmall};
 ghost use Rattle.wgsl_requests.specs.Reading.{Answers, OneWord, Reads, ReadsWord};
-ghost use Rattle.wgsl_requests.specs.Words.{words_of};
+ghost use Rattle.wgsl_requests.specs.Words.{IsFirstWord, words_of};
 ghost use Rattle.wgsl_requests.specs.internal.Marks.{IsMarked, marks_of};
 
 use crate::fast::marks::{first_marked, is_marked, marks};
@@ -50,11 +50,7 @@ impl<'t> Words<'t> {
     /// The first of the words that are left, and how many of the bytes that are left end with it.
     #[inline(always)]
     fn first_left(&self) -> Option<(&'t str, usize)>
-        ensures words { let rest = drop self.now.taken self.now.text.now in MatchOption result
-            (left self.now ≡ [])
-            (λ found. left self.now ≡ found.0.now ∷ words_of (drop found.1 rest)) }
-        ensures found { let rest = drop self.now.taken self.now.text.now in IfSome result
-            (λ found. IsCharBoundary rest found.1 × (0 < found.1) × (found.1 ≤ length rest)) }
+        ensures { IsFirstWord (drop self.now.taken self.now.text.now) result }
     {
         let rest = &self.text[self.taken..];
         if is_marked(self.text) {

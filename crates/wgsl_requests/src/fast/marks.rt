@@ -1,9 +1,8 @@
 // Texts whose bytes are marked, so that a word is found without a look at its bytes: `ctor vec4` of a vector and two scalars
 // takes 2704 instructions of 2990, a rank of scalars 719 of 815.
-ghost use Rattle.std.specs.Prelude.{◌≡◌, ◌+◌, ◌<◌, ◌≤◌, ◌∷◌, ◌↔◌, [], IfSome, IsTrue, MatchOption, drop, length};
+ghost use Rattle.std.specs.Prelude.{◌≡◌, ◌+◌, ◌<◌, ◌≤◌, ◌↔◌, IsTrue, length};
 ghost use Rattle.std.specs.Simd.Lanes.{chunk};
-ghost use Rattle.std.specs.Str.{IsCharBoundary};
-ghost use Rattle.wgsl_requests.specs.Words.{words_of};
+ghost use Rattle.wgsl_requests.specs.Words.{IsFirstWord};
 ghost use Rattle.wgsl_requests.specs.internal.Marks.{IsMarked, marks_of};
 
 use std::simd::Simd;
@@ -21,12 +20,7 @@ pub fn is_marked(text: &str) -> bool
 pub fn first_marked(text: &str, marks: u64) -> Option<(&str, usize)>
     requires short { length text.now < 64 }
     requires marked { marks ≡ marks_of text.now }
-    ensures words { MatchOption result
-        (words_of text.now ≡ [])
-        (λ found. words_of text.now ≡ found.0.now ∷ words_of (drop found.1 text.now)) }
-    ensures boundary { IfSome result (λ found. IsCharBoundary text.now found.1) }
-    ensures some { IfSome result (λ found. 0 < found.1) }
-    ensures within { IfSome result (λ found. found.1 ≤ length text.now) }
+    ensures { IsFirstWord text.now result }
 {
     if marks == 0 {
         return None;
