@@ -6,6 +6,8 @@ use Rattle.wgsl_syntax.specs.declared.operator.BinaryOperator.{BinaryOperator}
 use Rattle.wgsl_rules.specs.types.Types.{WgslType, Members}
 use Rattle.wgsl_rules.specs.conversion.Common.{IsLeftCommon}
 use Rattle.wgsl_rules.specs.conversion.Lists.{IsCommonOfList}
+use Rattle.wgsl_rules.specs.errors.Refusals.{Refusal}
+use Rattle.wgsl_rules.specs.operators.Answers.{BinaryCandidate, IsCandidateAnswer, IsOperatorAnswer}
 use Rattle.wgsl_rules.proofs.conversion.Commons.{left_common_once}
 use Rattle.wgsl_rules.specs.standard.Answers.{IsCallAnswer, IsNamedAnswer, IsResolution, IsStandardAnswer, template_operand}
 use Rattle.wgsl_rules.specs.standard.Choice.{Operand}
@@ -22,7 +24,7 @@ use Rattle.wgsl_requests.specs.Requests.{IsRequest, NoRequest}
 use Rattle.wgsl_requests.specs.Texts.{answer_text, candidate_result}
 use Rattle.wgsl_requests.specs.Words.{words_of}
 use Rattle.wgsl_requests.specs.declared.rules.RuleSet.{RuleSet}
-use Rattle.wgsl_requests.proofs.OneAnswer.{one_answer as text_once, result_is}
+use Rattle.wgsl_requests.proofs.OneAnswer.{one_answer as text_once}
 use Rattle.wgsl_requests.proofs.OneRequest.{one_request}
 use Rattle.wgsl_requests.proofs.Requested.{no_words_no_request}
 use Rattle.wgsl_core.specs.declared.error.Fail.{Fail}
@@ -74,6 +76,11 @@ common_reply : {ts : List WgslType} {name text : List ℕ} {reply : ReplyWords} 
     IsOneAnswer name (common ts) text reply
 common_reply (common_is {ts} c f) (left_common_is d g) e k =
     record { found = a_common_type c; counted = a_common_type d; answers = common_is c f; answers_counterpart = left_common_is d g; one = if_received ts c d f g; in_text = e; in_numbers = k }
+
+-- the result of a candidate is that of the operator
+result_is : (o : BinaryOperator) (t u : WgslType) (r : Result BinaryCandidate Refusal) → IsCandidateAnswer o t u r → IsOperatorAnswer o t u (candidate_result r)
+result_is o t u (Ok c) h = (c.lhs, c.rhs, h)
+result_is o t u (Err e) h = h
 
 binary_reply : {o : BinaryOperator} {t u : WgslType} {name text : List ℕ} {reply : ReplyWords} {b : WgslAnswer} → IsAnswer (binary o t u) text → Answers (candidate o t u) b → reply ≡ answer_words b →
     IsOneAnswer name (binary o t u) text reply

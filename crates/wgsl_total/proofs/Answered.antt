@@ -1,28 +1,18 @@
--- Every request has exactly one answer.
-use Rattle.std.proofs.Common.{◌≡◌, ℕ, List, Option, Some, None, refl, sym, ap, ◌∙◌, inl, inr}
+-- Every request has an answer.
+use Rattle.std.proofs.Common.{ℕ, List, Some, None, refl, inl, inr}
 use Rattle.wgsl_rules.specs.types.Types.{WgslType, Members}
-use Rattle.wgsl_rules.specs.conversion.Conversion.{Converts}
-use Rattle.wgsl_rules.specs.layout.Layout.{HasSize, HasAlignment, IsExactly}
-use Rattle.wgsl_rules.proofs.conversion.Commons.{left_common_once, some_left_common}
+use Rattle.wgsl_rules.proofs.conversion.Commons.{some_left_common}
 use Rattle.wgsl_rules.proofs.conversion.Lists.{common_of_list}
-use Rattle.wgsl_rules.proofs.calls.OneAnswer.{call_answer_once}
-use Rattle.wgsl_rules.proofs.constructors.OneAnswer.{constructor_answer_once}
-use Rattle.wgsl_rules.proofs.layout.OneLayout.{layout_once, offsets_once}
-use Rattle.wgsl_rules.proofs.layout.StructSizes.{never_both}
-use Rattle.wgsl_rules.proofs.operators.OneAnswer.{operator_answer_once, unary_answer_once}
-use Rattle.wgsl_asked.specs.Answers.{Answers, WgslAnswer, WgslLayout, IsReceivedCommon, AreOffsetsOf, IsLayoutOf, a_number, a_size, a_common_type, a_type, a_value, a_candidate, some_offsets, a_layout, a_type_of, a_resolution_of, some_lines, rank_is, common_is, left_common_is, unary_is, binary_is, candidate_is, size_is, offsets_are, layout_is, ctor_is, call_is, type_of_is, resolution_of_is, explanation_of_is, overloads_of_are}
+use Rattle.wgsl_asked.specs.Answers.{Answers, WgslAnswer, WgslLayout, a_number, a_size, a_common_type, a_type, a_value, a_candidate, some_offsets, a_layout, a_type_of, a_resolution_of, some_lines, rank_is, common_is, left_common_is, unary_is, binary_is, candidate_is, size_is, offsets_are, layout_is, ctor_is, call_is, type_of_is, resolution_of_is, explanation_of_is, overloads_of_are}
 use Rattle.wgsl_asked.specs.Requests.{WgslRequest, rank, common, left_common, unary, binary, candidate, size, offsets, layout, ctor, call, type_of, resolution_of, explanation_of, overloads_of}
 use Rattle.wgsl_asked.specs.Overloads.{lines_named}
 use Rattle.wgsl_total.proofs.Calls.{a_call}
 use Rattle.wgsl_total.proofs.Constructors.{a_constructor}
 use Rattle.wgsl_total.proofs.Conversions.{a_rank, a_received}
-use Rattle.wgsl_total.proofs.OneCandidate.{candidate_answer_once}
 use Rattle.wgsl_total.proofs.Operators.{a_binary, a_candidate as some_candidate, a_unary}
 use Rattle.wgsl_total.proofs.Sizes.{exact_alignment, exact_size}
-use Rattle.wgsl_total.proofs.Standard.{a_resolution_of as some_resolution, a_type_of as some_type, an_explanation_of, explanation_of_once, resolution_of_once, type_of_once}
+use Rattle.wgsl_total.proofs.Standard.{a_resolution_of as some_resolution, a_type_of as some_type, an_explanation_of}
 use Rattle.wgsl_total.proofs.Structs.{layout_or_cause, offsets_or_cause}
-
--- There is an answer
 
 abbrev pub Answered : WgslRequest → Type 0
 Answered request = (a : WgslAnswer) × Answers request a
@@ -62,50 +52,3 @@ some_answer (type_of c) = let r = some_type c in (a_type_of c r.0, type_of_is r.
 some_answer (resolution_of c) = let r = some_resolution c in (a_resolution_of c r.0, resolution_of_is r.0 r.1)
 some_answer (explanation_of c) = let r = an_explanation_of c in (some_lines r.0, explanation_of_is r.0 r.1)
 some_answer (overloads_of name) = (some_lines (lines_named name), overloads_of_are (lines_named name) refl)
-
--- There is no other
-
-one_number : (P : ℕ → Type 0) (v w : Option ℕ) → IsExactly v P → IsExactly w P → v ≡ w
-one_number P (Some n) w f g = sym ((g n).1 ((f n).0 refl))
-one_number P None None f g = refl
-one_number P None (Some n) f g = (f n).1 ((g n).0 refl)
-
-one_received : (ts : List WgslType) (c d : Option WgslType) → IsReceivedCommon ts c → IsReceivedCommon ts d → c ≡ d
-one_received ts (Some t) (Some u) f g = left_common_once ts (Some t) (Some u) f.0 g.0
-one_received ts (Some t) None f g = absurd (g t f.0 f.1)
-one_received ts None (Some u) f g = absurd (f u g.0 g.1)
-one_received ts None None f g = refl
-
-one_offsets : (ms : Members) (o p : Option (List ℕ)) → AreOffsetsOf ms o → AreOffsetsOf ms p → o ≡ p
-one_offsets ms (Some xs) (Some ys) f g = ap Some (offsets_once ms xs ys f g)
-one_offsets ms (Some xs) None f g = absurd (never_both ms f.total f.sized g)
-one_offsets ms None (Some ys) f g = absurd (never_both ms g.total g.sized f)
-one_offsets ms None None f g = refl
-
-one_layout : (ms : Members) (k l : Option WgslLayout) → IsLayoutOf ms k → IsLayoutOf ms l → k ≡ l
-one_layout ms (Some k) (Some l) f g =
-    let same = layout_once ms k.layouts l.layouts k.offsets l.offsets k.size l.size k.align l.align f g in
-    λ i. Some (record { layouts = same.members i; offsets = same.offsets i; size = same.size i; align = same.align i })
-one_layout ms (Some k) None f g = absurd (never_both ms k.size f.sized g)
-one_layout ms None (Some l) f g = absurd (never_both ms l.size g.sized f)
-one_layout ms None None f g = refl
-
-same_answer : {request : WgslRequest} {a b : WgslAnswer} → Answers request a → Answers request b → a ≡ b
-same_answer (rank_is {t} {u} v f) (rank_is w g) = ap a_number (one_number (Converts t u) v w f g)
-same_answer (common_is {ts} c f) (common_is d g) = ap a_common_type (one_received ts c d f g)
-same_answer (left_common_is {ts} c f) (left_common_is d g) = ap a_common_type (left_common_once ts c d f.left g.left)
-same_answer (unary_is {o} {t} r f) (unary_is s g) = ap a_type (unary_answer_once o t r s f g)
-same_answer (binary_is {o} {t} {u} r f) (binary_is s g) = ap a_type (operator_answer_once o t u r s f g)
-same_answer (candidate_is {o} {t} {u} r f) (candidate_is s g) = ap a_candidate (candidate_answer_once o t u r s f g)
-same_answer (size_is {t} s a f g) (size_is r b h k) = λ i. a_size (one_number (HasSize t) s r f h i) (one_number (HasAlignment t) a b g k i)
-same_answer (offsets_are {ms} o f) (offsets_are p g) = ap some_offsets (one_offsets ms o p f g)
-same_answer (layout_is {name} {ms} k f) (layout_is l g) = ap (a_layout name ms) (one_layout ms k l f g)
-same_answer (ctor_is {c} r f) (ctor_is s g) = ap a_type (constructor_answer_once c r s f g)
-same_answer (call_is {c} r f) (call_is s g) = ap a_value (call_answer_once c r s f g)
-same_answer (type_of_is {c} r f) (type_of_is s g) = ap (a_type_of c) (type_of_once c r s f g)
-same_answer (resolution_of_is {c} r f) (resolution_of_is s g) = ap (a_resolution_of c) (resolution_of_once c r s f g)
-same_answer (explanation_of_is {c} r f) (explanation_of_is s g) = ap some_lines (explanation_of_once c r s f g)
-same_answer (overloads_of_are r f) (overloads_of_are s g) = ap some_lines (f ∙ sym g)
-
-pub answer_once : (request : WgslRequest) (a b : WgslAnswer) → Answers request a → Answers request b → a ≡ b
-answer_once request a b h k = same_answer h k

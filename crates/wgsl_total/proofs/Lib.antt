@@ -3,7 +3,6 @@ pub mod Conversions
 pub mod Sizes
 pub mod Structs
 pub mod Operators
-pub mod OneCandidate
 pub mod Constructors
 pub mod Shapes
 pub mod Calls

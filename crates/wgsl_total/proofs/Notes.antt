@@ -1,7 +1,6 @@
 -- Why overloads don't take the operands of a call.
-use Rattle.std.proofs.Common.{◌≡◌, ℕ, ◌+◌, ◌<◌, zero, suc, List, [], ◌∷◌, Option, Some, None, length, take, refl, sym, ap, ◌∙◌, subst, ◌⊎◌, inl, inr, arith}
+use Rattle.std.proofs.Common.{◌≡◌, ℕ, ◌+◌, ◌<◌, zero, suc, List, [], ◌∷◌, Option, Some, None, length, take, refl, sym, ◌∙◌, subst, ◌⊎◌, inl, inr, arith}
 use Rattle.std.specs.Prelude.{Bool, true, false}
-use Rattle.std.proofs.lemmas.Bool.{cases_lt}
 use native.Mathlib.Decide.{ℕ_discrete}
 use Rattle.wgsl_syntax.specs.declared.overload.Overload.{Overload}
 use Rattle.wgsl_rules.specs.standard.Choice.{Operand}
@@ -56,38 +55,3 @@ some_notes (o ∷ os) xs = let m = a_mismatch o xs in let ns = some_notes os xs 
     one_more : (m : Option Mismatch) → IsMismatch o xs m → (ns : List (Overload × Mismatch)) → AreNotes xs os ns → (ns : List (Overload × Mismatch)) × AreNotes xs (o ∷ os) ns
     one_more None h ns d = (ns, taken h d)
     one_more (Some m) h ns d = ((o, m) ∷ ns, refused h d)
-
--- There are no other notes
-
-refusal_once : (os : List Overload) (xs : List Operand) (r s : Option ℕ) → IsRefusedAt os xs r → IsRefusedAt os xs s → r ≡ s
-refusal_once os xs None None h k = refl
-refusal_once os xs None (Some n) h k = absurd (k.1 (h n k.0))
-refusal_once os xs (Some n) None h k = absurd (h.1 (k n h.0))
-refusal_once os xs (Some n) (Some m) h k = elim (ℕ_discrete n m) [
-  | yes e ↦ ap Some e
-  | no other ↦ elim (cases_lt n m) [ inl below ↦ absurd (h.1 (k.2 n below)) | inr above ↦ absurd (k.1 (h.2 m (omega (arith, above, other)))) ]
-]
-
-mismatch_once : (o : Overload) (xs : List Operand) (r s : Option Mismatch) → IsMismatch o xs r → IsMismatch o xs s → r ≡ s
-mismatch_once o xs None None h k = refl
-mismatch_once o xs None (Some (Count n)) h k = absurd (k.1 (sym k.0 ∙ h.0))
-mismatch_once o xs None (Some (Argument n)) h k = let e : None ≡ Some n = refusal_once (o ∷ []) xs None (Some n) h.1 k.1 in absurd (cc e)
-mismatch_once o xs (Some (Count n)) None h k = absurd (h.1 (sym h.0 ∙ k.0))
-mismatch_once o xs (Some (Count n)) (Some (Count m)) h k = ap (λ n. Some (Count n)) (sym h.0 ∙ k.0)
-mismatch_once o xs (Some (Count n)) (Some (Argument m)) h k = absurd (h.1 (sym h.0 ∙ k.0))
-mismatch_once o xs (Some (Argument n)) None h k = let e : Some n ≡ None = refusal_once (o ∷ []) xs (Some n) None h.1 k.1 in absurd (cc e)
-mismatch_once o xs (Some (Argument n)) (Some (Count m)) h k = absurd (k.1 (sym k.0 ∙ h.0))
-mismatch_once o xs (Some (Argument n)) (Some (Argument m)) h k =
-    let e : Some n ≡ Some m = refusal_once (o ∷ []) xs (Some n) (Some m) h.1 k.1 in
-    let same : n ≡ m = cc e in
-    ap (λ n. Some (Argument n)) same
-
-pub notes_once : {xs : List Operand} {os : List Overload} {ns ms : List (Overload × Mismatch)} → AreNotes xs os ns → AreNotes xs os ms → ns ≡ ms
-notes_once no_overloads no_overloads = refl
-notes_once (taken h d) (taken k e) = notes_once d e
-notes_once {xs} (taken {o} h d) (refused {m = m} k e) = let f : None ≡ Some m = mismatch_once o xs None (Some m) h k in absurd (cc f)
-notes_once {xs} (refused {o} {m = m} h d) (taken k e) = let f : Some m ≡ None = mismatch_once o xs (Some m) None h k in absurd (cc f)
-notes_once {xs} (refused {o} {m = m} {ns = ns} h d) (refused {m = n} k e) =
-    let f : Some m ≡ Some n = mismatch_once o xs (Some m) (Some n) h k in
-    let same : m ≡ n = cc f in
-    ap (λ m. (o, m) ∷ ns) same ∙ ap (λ ns. (o, n) ∷ ns) (notes_once d e)

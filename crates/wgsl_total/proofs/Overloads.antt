@@ -1,5 +1,5 @@
 -- What a call returns and resolves to by WGSL's own overloads.
-use Rattle.std.proofs.Common.{◌≡◌, ℕ, List, [], ◌∷◌, Option, Some, None, refl, sym, ◌∙◌}
+use Rattle.std.proofs.Common.{ℕ, List, [], ◌∷◌, Option, Some, None, refl}
 use Rattle.std.specs.Prelude.{Bool, true, false, IsTrue, bytes_eq, if◌then◌else◌}
 use Rattle.wgsl_syntax.specs.declared.overload.Instance.{Instance}
 use Rattle.wgsl_syntax.specs.declared.overload.Overload.{Overload}
@@ -14,7 +14,6 @@ use Rattle.wgsl_standard.specs.Callees.{WgslCallee, a_unary, a_binary, a_functio
 use Rattle.wgsl_standard.specs.Resolved.{IsCallResolution, IsNamedResolution}
 use Rattle.wgsl_standard.specs.internal.Ambiguity.{is_unambiguous, rows_unambiguous}
 use Rattle.wgsl_standard.proofs.Choices.{found}
-use Rattle.wgsl_standard.proofs.OneChoice.{chosen_once}
 use Rattle.wgsl_standard.proofs.OperatorTables.{binary_unambiguous, unary_unambiguous}
 use Rattle.wgsl_standard.proofs.StandardAnswers.{answer_none, answer_some}
 use Rattle.wgsl_standard.proofs.Unambiguous.{both, unambiguous_is}
@@ -85,42 +84,4 @@ call_resolution c (Some t) xs = elim (dec_true (is_template t)) [
   | yes h ↦ let r = named_resolution (overloads_listed c true) (listed_unambiguous c true) (template_operand t ∷ xs) in
       (r.0, record { named = λ k. r.1; refused = λ n. absurd (n h) })
   | no n ↦ (None, record { named = λ k. absurd (n k); refused = λ n. refl })
-]
-
--- There is no other
-
-result_once : (os : List Overload) (xs : List Operand) (r s : Option (Option WgslType)) → IsStandardAnswer os xs r → IsStandardAnswer os xs s → r ≡ s
-result_once os xs (Some t) s h k = sym ((k.least t).1 ((h.least t).0 refl))
-result_once os xs None s h k = sym (k.none.1 (h.none.0 refl))
-
-resolution_once : (os : List Overload) (xs : List Operand) (r s : Option Resolution) → IsResolution os xs r → IsResolution os xs s → r ≡ s
-resolution_once os xs None None h k = refl
-resolution_once os xs None (Some d) h k = absurd (h d.0 d.1 d.2 k.ranks k.candidate k.takes)
-resolution_once os xs (Some c) None h k = absurd (k c.0 c.1 c.2 h.ranks h.candidate h.takes)
-resolution_once os xs (Some c) (Some d) h k =
-    let e = chosen_once os xs c.0 d.0 c.1 d.1 c.2 d.2 h k in
-    λ i. Some (e.0 i, e.1 i, e.2 i)
-
-named_result_once : (os : Option (List Overload)) (xs : List Operand) (r s : Option (Option WgslType)) → IsNamedAnswer os xs r → IsNamedAnswer os xs s → r ≡ s
-named_result_once None xs r s h k = h ∙ sym k
-named_result_once (Some os) xs r s h k = result_once os xs r s h k
-
-named_resolution_once : (os : Option (List Overload)) (xs : List Operand) (r s : Option Resolution) → IsNamedResolution os xs r → IsNamedResolution os xs s → r ≡ s
-named_resolution_once None xs r s h k = h ∙ sym k
-named_resolution_once (Some os) xs r s h k = resolution_once os xs r s h k
-
-pub call_result_once : (c : WgslCallee) (template : Option WgslType) (xs : List Operand) (r s : Option (Option WgslType))
-    → IsCallAnswer (overloads_listed c false) (overloads_listed c true) template xs r → IsCallAnswer (overloads_listed c false) (overloads_listed c true) template xs s → r ≡ s
-call_result_once c None xs r s h k = named_result_once (overloads_listed c false) xs r s h k
-call_result_once c (Some t) xs r s h k = elim (dec_true (is_template t)) [
-  | yes d ↦ named_result_once (overloads_listed c true) (template_operand t ∷ xs) r s (h.named d) (k.named d)
-  | no n ↦ h.refused n ∙ sym (k.refused n)
-]
-
-pub call_resolution_once : (c : WgslCallee) (template : Option WgslType) (xs : List Operand) (r s : Option Resolution)
-    → IsCallResolution (overloads_listed c false) (overloads_listed c true) template xs r → IsCallResolution (overloads_listed c false) (overloads_listed c true) template xs s → r ≡ s
-call_resolution_once c None xs r s h k = named_resolution_once (overloads_listed c false) xs r s h k
-call_resolution_once c (Some t) xs r s h k = elim (dec_true (is_template t)) [
-  | yes d ↦ named_resolution_once (overloads_listed c true) (template_operand t ∷ xs) r s (h.named d) (k.named d)
-  | no n ↦ h.refused n ∙ sym (k.refused n)
 ]

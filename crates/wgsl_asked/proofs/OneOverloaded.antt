@@ -1,7 +1,7 @@
 -- WGSL's own overloads have at most one answer.
-use Rattle.std.proofs.Common.{rules, ◌≡◌, ◌≢◌, ◌⊎◌, inl, inr, ◌+◌, ◌<◌, ◌∙◌, ℕ, zero, suc, Bool, true, false, List, [], ◌∷◌, Option, Some, None, length, take, map, refl, sym, ap, subst, arith}
+use Rattle.std.proofs.Common.{rules, ◌≡◌, ◌⊎◌, inl, inr, ◌<◌, ◌∙◌, ℕ, zero, suc, Bool, true, false, List, [], ◌∷◌, Option, Some, None, map, refl, sym, ap, arith}
 use Rattle.std.specs.Bool.{MatchBool}
-use Rattle.std.specs.Prelude.{IsTrue}
+use Rattle.std.specs.Prelude.{IsTrue, MatchOption}
 use Rattle.wgsl_syntax.specs.declared.overload.Overload.{Overload}
 use Rattle.wgsl_rules.specs.types.Types.{WgslType}
 use Rattle.wgsl_rules.specs.standard.Answers.{is_template, template_operand, IsCallAnswer, IsNamedAnswer, IsResolution, IsStandardAnswer, IsTemplateAnswer}
@@ -17,7 +17,6 @@ use Rattle.wgsl_standard.specs.declared.refusal.Mismatch.TheVariants.{Count, Arg
 use Rattle.wgsl_standard.proofs.OneChoice.{chosen_once}
 use Rattle.wgsl_asked.specs.Calls.{WgslCall, WgslResolution, loaded, template_type}
 use Rattle.wgsl_asked.specs.Standard.{AreNotesWith, IsExplanationOf, IsResolutionOf, IsTypeOf}
-use Rattle.wgsl_requests.proofs.Meanings.{both_bool, both_option}
 
 -- what P and Q say of two answers, by whether P's question is asked
 by_test : {A : Type 0} (is : Bool) (r s : Option A) → (IsTrue is → r ≡ s) → ((¬ IsTrue is) → r ≡ s) → r ≡ s
@@ -39,10 +38,17 @@ call_once : (plain templated : Option (List Overload)) (t : Option WgslType) (xs
 call_once plain templated None xs r s f g = named_once plain xs r s f g
 call_once plain templated (Some t) xs r s f g = template_once templated t xs r s f g
 
+-- at most one, if for each template there is at most one
+with_template : {A : Type 0} (none : A) (P : Option WgslType → A → Type 0) → ((t : Option WgslType) (r s : A) → P t r → P t s → r ≡ s) → (o : Option (Option WgslType)) (r s : A)
+    → MatchOption o (r ≡ none) (λ t. P t r) → MatchOption o (s ≡ none) (λ t. P t s) → r ≡ s
+with_template none P once None r s f g = f ∙ sym g
+with_template none P once (Some t) r s f g = once t r s f g
+
 pub type_once : (c : WgslCall) (r s : Option (Option WgslType)) → IsTypeOf c r → IsTypeOf c s → r ≡ s
-type_once c r s f g =
-    both_option (template_type c.template) (r ≡ None) (s ≡ None) _ _ (r ≡ s) (λ a b. a ∙ sym b)
-    (λ t a b. call_once (overloads_listed c.callee false) (overloads_listed c.callee true) t (loaded c.operands) r s a b) f g
+type_once c =
+    let plain = overloads_listed c.callee false in
+    let templated = overloads_listed c.callee true in
+    with_template None (λ t r. IsCallAnswer plain templated t (loaded c.operands) r) (λ t. call_once plain templated t (loaded c.operands)) (template_type c.template)
 
 chosen_both : (os : List Overload) (xs : List Operand) (r s : Option WgslResolution) → IsResolution os xs r → IsResolution os xs s → r ≡ s
 chosen_both os xs (Some c) (Some d) f g =
@@ -65,9 +71,10 @@ call_resolution_once plain templated None xs r s f g = named_resolution_once pla
 call_resolution_once plain templated (Some t) xs r s f g = template_resolution_once templated t xs r s f g
 
 pub resolution_once : (c : WgslCall) (r s : Option WgslResolution) → IsResolutionOf c r → IsResolutionOf c s → r ≡ s
-resolution_once c r s f g =
-    both_option (template_type c.template) (r ≡ None) (s ≡ None) _ _ (r ≡ s) (λ a b. a ∙ sym b)
-    (λ t a b. call_resolution_once (overloads_listed c.callee false) (overloads_listed c.callee true) t (loaded c.operands) r s a b) f g
+resolution_once c =
+    let plain = overloads_listed c.callee false in
+    let templated = overloads_listed c.callee true in
+    with_template None (λ t r. IsCallResolution plain templated t (loaded c.operands) r) (λ t. call_resolution_once plain templated t (loaded c.operands)) (template_type c.template)
 
 -- notes
 
@@ -113,9 +120,14 @@ notes_once {xs} (refused {o} {os} {m} {ns} a d) (refused {m = k} {ns = ms} b e) 
 
 notes_with_once : (callee : WgslCallee) (t : Option WgslType) (xs : List Operand) (ns ms : List (Overload × Mismatch)) → AreNotesWith callee t xs ns → AreNotesWith callee t xs ms → ns ≡ ms
 notes_with_once callee None xs ns ms f g = notes_once f g
-notes_with_once callee (Some t) xs ns ms f g = both_bool (is_template t) _ _ (ns ≡ []) (ms ≡ []) (ns ≡ ms) (λ a b. notes_once a b) (λ a b. a ∙ sym b) f g
+notes_with_once callee (Some t) xs ns ms f g = if_template (is_template t) f g
+  where
+    if_template : (b : Bool) → MatchBool b (AreNotes (template_operand t ∷ xs) (or_none (overloads_listed callee true)) ns) (ns ≡ [])
+        → MatchBool b (AreNotes (template_operand t ∷ xs) (or_none (overloads_listed callee true)) ms) (ms ≡ []) → ns ≡ ms
+    if_template true f g = notes_once f g
+    if_template false f g = f ∙ sym g
 
 pub explanation_once : (c : WgslCall) (lines others : List (List ℕ)) → IsExplanationOf c lines → IsExplanationOf c others → lines ≡ others
-explanation_once c lines others f g =
-    both_option (template_type c.template) (lines ≡ []) (others ≡ []) _ _ (lines ≡ others) (λ a b. a ∙ sym b)
-    (λ t a b. a.2 ∙ (ap (map (note_listed c.callee t (types_of c.operands))) (notes_with_once c.callee t (loaded c.operands) a.0 b.0 a.1 b.1) ∙ sym b.2)) f g
+explanation_once c =
+    with_template {A = List (List ℕ)} [] (λ t lines. (ns : List (Overload × Mismatch)) × AreNotesWith c.callee t (loaded c.operands) ns × (lines ≡ map (note_listed c.callee t (types_of c.operands)) ns))
+    (λ t lines others f g. f.2 ∙ (ap (map (note_listed c.callee t (types_of c.operands))) (notes_with_once c.callee t (loaded c.operands) f.0 g.0 f.1 g.1) ∙ sym g.2)) (template_type c.template)
