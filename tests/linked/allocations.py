@@ -127,6 +127,16 @@ def resolved(library, count):
     return asked, told
 
 
+# Leaf types, which are read without memory.
+
+def leaves(count):
+    """Ranks and sizes of them."""
+    rng = Random(7)
+    pairs = [encode(rng.leaf()) + encode(rng.leaf()) for _ in range(count)]
+    sizes = [encode(rng.leaf()) for _ in range(count)]
+    return [(in_hexadecimal("rank", pair), 0) for pair in pairs] + [(in_hexadecimal("size", code), 0) for code in sizes]
+
+
 # Types and their spellings.
 
 SHORT = [Scalar(name) for name in SCALARS] + [Vector(count, Scalar(name)) for count in (2, 3, 4) for name in SCALARS]
@@ -158,6 +168,6 @@ def questions(library, count):
     nothing = [(in_hexadecimal("standard_overloads", encode_name("nothing")), 2)]
     modules = [(f"source_layout {module}", number) for module, number in MODULES]
     return {
-        "texts": texts + requests + explained() + modules, "numbers": numbers + calls + nothing, "codes": spelled(),
+        "texts": texts + requests + explained() + modules, "numbers": numbers + leaves(count // 3) + calls + nothing, "codes": spelled(),
         "types": taken_in(),
     }

@@ -1,6 +1,7 @@
 /* Refuses each request for memory of each call in turn, and then all from it on. Linked with malloc, realloc and free
- * wrapped. The call says so, writes nothing and keeps nothing, and the same call then answers as before. Prints how many
- * requests for memory each call makes, one number per line. */
+ * wrapped. The call says so, writes nothing and keeps nothing, and the same call then answers as before. A call that makes no
+ * such request answers the same where every one would be refused. Prints how many requests for memory each call makes, one
+ * number per line. */
 #include "requests.h"
 #include "wrapped.h"
 
@@ -20,6 +21,16 @@ static void refuse(size_t k, long one, long from, int status, size_t wanted_len)
         wrong(k, "another answer after refused memory");
 }
 
+/* The call with every request for memory refused, of which it makes none. */
+static void refuse_all(size_t k, int status, size_t wanted_len) {
+    size_t len = 77;
+    asked = 0, refused_from = 1;
+    int found = ask(k, room, LONG_ANSWER, &len);
+    refused_from = -1;
+    if (asked || found != status || len != wanted_len || memcmp(room, wanted, len * sizeof(Unit)))
+        wrong(k, "another answer without memory");
+}
+
 int main(void) {
     read_requests();
     for (size_t k = 0; k < count; k++) {
@@ -33,6 +44,7 @@ int main(void) {
             refuse(k, n, -1, status, len);
             refuse(k, -1, n, status, len);
         }
+        if (!needed) refuse_all(k, status, len);
         printf("%ld\n", needed);
     }
     return 0;

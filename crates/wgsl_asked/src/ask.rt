@@ -1,9 +1,10 @@
 // Where the rules meet requests.
-ghost use Rattle.std.specs.Prelude.{◌≡◌, IfOk, None};
+ghost use Rattle.std.specs.Prelude.{◌≡◌, IfOk, IsOk, None};
 ghost use Rattle.wgsl_asked.specs.Answers.{Answers};
 ghost use Rattle.wgsl_rules.specs.operators.Answers.{IsOperatorAnswer};
 ghost use Rattle.wgsl_core.specs.Answer.{IsAnswered};
 ghost use Rattle.wgsl_core.specs.View.{view};
+ghost use Rattle.wgsl_asked.specs.Memory.{AsksForNoMemory};
 ghost use Rattle.wgsl_asked.specs.Views.{answer_view, binary_view, request_view};
 
 use crate::answers::{Answer, Operands};
@@ -25,7 +26,8 @@ use wgsl_syntax::operator::BinaryOperator;
 /// The answer to the request.
 #[inline(always)]
 pub fn answer<'r>(alloc: Global, request: Request<'r>) -> Result<Answer<'r>, AllocError>
-    ensures { IfOk result (λ a. Answers (request_view request.entry) (answer_view a)) }
+    ensures answers { IfOk result (λ a. Answers (request_view request.entry) (answer_view a)) }
+    ensures never_out_of_memory { AsksForNoMemory (request_view request.entry) → IsOk result }
 {
     match request {
         Request::Rank(source, target) => Ok(Answer::Number(conversion_rank(source, target))),
@@ -74,7 +76,8 @@ fn resolved_type<'r>(
 /// The same, unless it is out of memory.
 #[inline(always)]
 fn settled<T: Drop>(made: Result<T, Fail<Error>>) -> Result<Result<T, Fail<Error>>, AllocError>
-    ensures { IfOk result (λ same. (made ≡ same) × IsAnswered same) }
+    ensures same { IfOk result (λ same. (made ≡ same) × IsAnswered same) }
+    ensures never_out_of_memory { IsAnswered made → IsOk result }
 {
     match out_of_memory(&made) {
         Some(error) => {
@@ -87,7 +90,8 @@ fn settled<T: Drop>(made: Result<T, Fail<Error>>) -> Result<Result<T, Fail<Error
 
 #[inline(always)]
 fn out_of_memory<T>(made: &Result<T, Fail<Error>>) -> Option<AllocError>
-    ensures { result ≡ None → IsAnswered made.now }
+    ensures answered { result ≡ None → IsAnswered made.now }
+    ensures only { IsAnswered made.now → result ≡ None }
 {
     match made {
         Ok(_) | Err(Fail::Error(_)) => None,

@@ -1,5 +1,6 @@
 // How a reply in words is returned to C.
-ghost use Rattle.std.specs.Prelude.{Err, List, Ok, ℕ};
+ghost use Rattle.std.specs.Prelude.{◌≢◌, Err, List, Ok, ℕ};
+ghost use Rattle.wgsl_core.specs.Answer.{IsAnswered};
 ghost use Rattle.wgsl_coded.specs.Seen.{reply_words, resolved_words, seen};
 ghost use Rattle.wgsl_c.specs.Words.{IsHandedReply, IsHandedText, IsRoomKept};
 
@@ -16,6 +17,7 @@ pub fn hand_over_reply(
 ) -> u8
     ensures reply { IsHandedReply (seen reply_words reply.now) room.old room.new len.new result }
     ensures room { IsRoomKept room.old room.new len.new result }
+    ensures never_out_of_memory { IsAnswered reply.now → result ≢ 3 }
 {
     match reply {
         Ok(reply) => hand_over_words(reply, room, len),

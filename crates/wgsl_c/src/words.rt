@@ -3,8 +3,10 @@
 // Each sets `len`: on the statuses 0, 1 and 4 to the number of words of the answer or of the refusal, and else to 0. It
 // writes those words on 0 and 1 alone. The status is 0 for an answer, 1 for a refusal by WGSL's rules, 2 for words that
 // are no such request, 3 if memory runs out, and 4 if the room has fewer words than the answer or the refusal.
-ghost use Rattle.std.specs.Prelude.{Result};
+ghost use Rattle.std.specs.Prelude.{◌≢◌, IsSomeAnd, Result};
+ghost use Rattle.wgsl_coded.specs.Memory.{NeedsNoMemory};
 ghost use Rattle.wgsl_coded.specs.Replies.{IsBinaryReply, IsCallReply, IsCommonReply, IsConstructorReply, IsLayoutReply, IsRankReply, IsSizeReply, IsUnaryReply, ReplyWords};
+ghost use Rattle.wgsl_coded.specs.Requests.{binary_request, call_request, constructor_request, rank_request, size_request, unary_request};
 ghost use Rattle.wgsl_coded.specs.declared.unreadable.Unreadable.{Unreadable};
 ghost use Rattle.wgsl_core.specs.declared.error.Fail.{Fail};
 ghost use Rattle.wgsl_c.specs.Words.{IsHandedReply, IsRoomKept};
@@ -19,6 +21,7 @@ pub extern "C" fn wgsl_rank(alloc: Global, request: &[u32], room: &mut [u32], le
     ensures reply { (reply : Result ReplyWords (Fail Unreadable)) × IsRankReply request.now reply
         × IsHandedReply reply room.old room.new len.new result }
     ensures room { IsRoomKept room.old room.new len.new result }
+    ensures never_out_of_memory { IsSomeAnd (rank_request request.now) NeedsNoMemory → result ≢ 3 }
 {
     hand_over_reply(&rank(alloc, request), room, len)
 }
@@ -49,6 +52,7 @@ pub extern "C" fn wgsl_unary(
     ensures reply { (reply : Result ReplyWords (Fail Unreadable)) × IsUnaryReply request.now reply
         × IsHandedReply reply room.old room.new len.new result }
     ensures room { IsRoomKept room.old room.new len.new result }
+    ensures never_out_of_memory { IsSomeAnd (unary_request request.now) NeedsNoMemory → result ≢ 3 }
 {
     hand_over_reply(&unary(alloc, request), room, len)
 }
@@ -64,6 +68,7 @@ pub extern "C" fn wgsl_binary(
     ensures reply { (reply : Result ReplyWords (Fail Unreadable)) × IsBinaryReply request.now reply
         × IsHandedReply reply room.old room.new len.new result }
     ensures room { IsRoomKept room.old room.new len.new result }
+    ensures never_out_of_memory { IsSomeAnd (binary_request request.now) NeedsNoMemory → result ≢ 3 }
 {
     hand_over_reply(&binary(alloc, request), room, len)
 }
@@ -79,6 +84,7 @@ pub extern "C" fn wgsl_constructor(
     ensures reply { (reply : Result ReplyWords (Fail Unreadable)) × IsConstructorReply request.now reply
         × IsHandedReply reply room.old room.new len.new result }
     ensures room { IsRoomKept room.old room.new len.new result }
+    ensures never_out_of_memory { IsSomeAnd (constructor_request request.now) NeedsNoMemory → result ≢ 3 }
 {
     hand_over_reply(&constructor(alloc, request), room, len)
 }
@@ -89,6 +95,7 @@ pub extern "C" fn wgsl_call(alloc: Global, request: &[u32], room: &mut [u32], le
     ensures reply { (reply : Result ReplyWords (Fail Unreadable)) × IsCallReply request.now reply
         × IsHandedReply reply room.old room.new len.new result }
     ensures room { IsRoomKept room.old room.new len.new result }
+    ensures never_out_of_memory { IsSomeAnd (call_request request.now) NeedsNoMemory → result ≢ 3 }
 {
     hand_over_reply(&call(alloc, request), room, len)
 }
@@ -99,6 +106,7 @@ pub extern "C" fn wgsl_size(alloc: Global, request: &[u32], room: &mut [u32], le
     ensures reply { (reply : Result ReplyWords (Fail Unreadable)) × IsSizeReply request.now reply
         × IsHandedReply reply room.old room.new len.new result }
     ensures room { IsRoomKept room.old room.new len.new result }
+    ensures never_out_of_memory { IsSomeAnd (size_request request.now) NeedsNoMemory → result ≢ 3 }
 {
     hand_over_reply(&size(alloc, request), room, len)
 }

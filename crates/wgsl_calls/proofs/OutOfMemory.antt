@@ -1,5 +1,6 @@
 -- When out of memory may stand for an answer.
 use Rattle.std.proofs.Common.{◌≡◌, List, [], ◌∷◌, Option, Some, None, Result, Ok, Err, inl, inr, refl, sym, subst, Bool, true, false, cond}
+use Rattle.wgsl_syntax.specs.declared.scalar.Scalar.{Scalar}
 use Rattle.wgsl_syntax.specs.declared.scalar.Scalar.TheVariants.{F32}
 use Rattle.wgsl_rules.specs.types.Types.{Layer, array_of, vec_of, mat_of, WgslType, scalar, within}
 use Rattle.wgsl_rules.specs.types.Kinds.{IsLeaf}
@@ -13,10 +14,12 @@ use Rattle.wgsl_rules.specs.errors.Refusals.{Refusal, signature}
 use Rattle.wgsl_syntax.specs.declared.call.Row.{Row}
 use Rattle.wgsl_syntax.specs.declared.call.ReturnType.{ReturnType}
 use Rattle.wgsl_rules.specs.calls.Rows.{Fits, return_type_of, IsFromTemplate}
+use Rattle.wgsl_rules.specs.constructors.Constructors.{IsBuilt, IsConstructorAnswer, constructor_of, makes_scalar, scalar_call}
 use Rattle.wgsl_core.specs.declared.ty.Type.{«Type»}
 use Rattle.wgsl_core.specs.declared.error.Error.{Error}
 use Rattle.wgsl_core.specs.declared.error.Fail.{Fail}
 use Rattle.wgsl_core.specs.declared.error.Fail.TheVariants as fails
+use Rattle.wgsl_calls.specs.Constructors.{IsScalarMade}
 use Rattle.wgsl_calls.specs.internal.Answers.{Chooses, IsMet, Answered}
 
 abbrev Answer : Type 0
@@ -72,3 +75,9 @@ no_leaf_exchange t h = h
 pub no_leaf_intersection : IsLeaf ray_intersection_struct → ⊥
 unfolding ray_intersection_struct
 no_leaf_intersection h = h
+
+-- a scalar's constructor takes the call
+pub scalar_made : (s : Scalar) (c : Signature) → Some (makes_scalar s) ≡ constructor_of c.name → IsScalarMade c →
+    (t : WgslType) × (Ok t ≡ scalar_call s c.template c.arguments (signature c))
+unfolding IsConstructorAnswer
+scalar_made s c e h = (h.2, subst (λ k. IsBuilt k c (Ok h.2)) (sym e) h.3)

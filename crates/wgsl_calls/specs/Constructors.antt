@@ -12,7 +12,7 @@ use Rattle.wgsl_rules.specs.operators.Choice.{HasRanks, Takes, IsNowhereMore, Is
 use Rattle.wgsl_rules.specs.templates.Templates.{array_template, IsVecTemplate, IsMatTemplate}
 use Rattle.wgsl_rules.specs.constructors.Vectors.{all_components}
 use Rattle.wgsl_rules.specs.constructors.Matrices.{component_of}
-use Rattle.wgsl_rules.specs.constructors.Constructors.{Constructor, makes_array, makes_scalar, makes_vector, makes_matrix, constructor_of}
+use Rattle.wgsl_rules.specs.constructors.Constructors.{Constructor, makes_array, makes_scalar, makes_vector, makes_matrix, constructor_of, IsConstructorAnswer}
 
 -- Scalars take no template, and convert any scalar.
 pub data IsScalarCandidate (s : Scalar) : Option (List Parameter) → List WgslType → WgslType → Type 0 where
@@ -112,6 +112,11 @@ pub record IsLeastAmong (Candidate : List WgslType → WgslType → Type 0) (ts 
 pub record IsLeastMade (Candidate : List WgslType → WgslType → Type 0) (ts : List WgslType) (r : Result WgslType Refusal) : Type 0 where
   pub made : (t : WgslType) → (r ≡ Ok t) ↔ ((us : List WgslType) × IsLeastAmong Candidate ts us t)
   pub refused : IsErr r ↔ ((us : List WgslType) (t : WgslType) → Candidate us t → ¬ Takes us ts)
+
+-- The constructor of a scalar takes the call.
+-- i32(f32)
+abbrev pub IsScalarMade : Signature → Type 0
+IsScalarMade call = (s : Scalar) × (constructor_of call.name ≡ Some (makes_scalar s)) × (t : WgslType) × IsConstructorAnswer call (Ok t)
 
 -- What a constructor returns for value types.
 unfoldable pub IsLeastConstructorAnswer : Signature → Result WgslType Refusal → Type 0

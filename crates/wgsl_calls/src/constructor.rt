@@ -8,8 +8,8 @@ ghost use Rattle.wgsl_rules.specs.constructors.Vectors.{components};
 ghost use Rattle.wgsl_rules.specs.constructors.Constructors.{constructor_of, IsConstructorAnswer};
 ghost use Rattle.wgsl_core.specs.View.{view};
 ghost use Rattle.wgsl_core.specs.Instances.{call_view};
-ghost use Rattle.wgsl_core.specs.Answer.{AnswersBy, refusal};
-ghost use Rattle.wgsl_calls.specs.Constructors.{IsLeastConstructorAnswer};
+ghost use Rattle.wgsl_core.specs.Answer.{AnswersBy, IsAnswered, refusal};
+ghost use Rattle.wgsl_calls.specs.Constructors.{IsLeastConstructorAnswer, IsScalarMade};
 ghost use Rattle.wgsl_calls.specs.internal.Constructors.{constructor_view, IsStuckAt};
 
 mod array;
@@ -98,6 +98,8 @@ pub fn type_ctor(
     ensures least { AnswersBy
         (IsLeastConstructorAnswer (call_view name.now tplt.entry args.now)) result }
     ensures of_a_constructor { IfOk result (λ t. IsSome (constructor_of name.now)) }
+    ensures never_out_of_memory { IsScalarMade (call_view name.now tplt.entry args.now)
+        → IsAnswered result }
 {
     match constructor_named(name) {
         Some(Constructor::Array) => array_type(alloc, tplt, args),

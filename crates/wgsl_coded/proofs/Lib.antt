@@ -3,11 +3,15 @@ pub mod Least
 pub mod FirstWords
 pub mod Texts
 pub mod Levels
+pub mod Memory
 pub mod Written
 pub mod Decoded
 pub mod Placed
 pub mod Ascii
 pub mod ShortText
+pub mod ShortNames
+pub mod PlainHeads
+pub mod PlainMemory
 pub mod LaidOut
 pub mod InOrder
 pub mod InSequence

@@ -5,6 +5,7 @@ pub mod Names
 pub mod Requests
 pub mod Least
 pub mod Replies
+pub mod Memory
 pub mod Short
 pub mod Seen
 pub mod Within

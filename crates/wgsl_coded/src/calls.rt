@@ -1,11 +1,13 @@
 // The calls over words.
-ghost use Rattle.std.specs.Prelude.{Some};
+ghost use Rattle.std.specs.Prelude.{IsSomeAnd, Some};
 ghost use Rattle.wgsl_core.specs.Instances.{call_view};
 ghost use Rattle.wgsl_core.specs.View.{view};
+ghost use Rattle.wgsl_core.specs.Answer.{IsAnswered};
 ghost use Rattle.wgsl_coded.specs.Callees.{asked_of};
 ghost use Rattle.wgsl_coded.specs.Replies.{IsBinaryReply, IsCallReply, IsCommonReply, IsConstructorReply, IsLayoutReply, IsRankReply, IsReplyTo, IsSizeReply, IsUnaryReply};
-ghost use Rattle.wgsl_coded.specs.Requests.{call_signature, layout_in};
+ghost use Rattle.wgsl_coded.specs.Requests.{binary_request, call_request, call_signature, constructor_request, layout_in, rank_request, size_request, unary_request};
 ghost use Rattle.wgsl_coded.specs.Seen.{reply_words, seen};
+ghost use Rattle.wgsl_coded.specs.Memory.{NeedsNoMemory};
 
 use crate::candidates::reply_to_operands;
 use crate::coded::read_whole;
@@ -28,7 +30,8 @@ use wgsl_core::ty::form::Form;
 /// types.
 #[inline(always)]
 pub fn rank(alloc: Global, request: &[u32]) -> Result<Reply, Fail<Unreadable>>
-    ensures { IsRankReply request.now (seen reply_words result) }
+    ensures reply { IsRankReply request.now (seen reply_words result) }
+    ensures never_out_of_memory { IsSomeAnd (rank_request request.now) NeedsNoMemory → IsAnswered result }
 {
     match read_two_scalars(request) {
         Some((source, target)) => rank_of_scalars(alloc, source, target),
@@ -38,7 +41,8 @@ pub fn rank(alloc: Global, request: &[u32]) -> Result<Reply, Fail<Unreadable>>
 
 #[inline(never)]
 fn rank_of_types(alloc: Global, request: &[u32]) -> Result<Reply, Fail<Unreadable>>
-    ensures { IsRankReply request.now (seen reply_words result) }
+    ensures reply { IsRankReply request.now (seen reply_words result) }
+    ensures never_out_of_memory { IsSomeAnd (rank_request request.now) NeedsNoMemory → IsAnswered result }
 {
     let (source, target) = read_two(alloc, request)?;
     reply_to(alloc, Request::Rank(&source, &target))
@@ -56,7 +60,8 @@ pub fn common(alloc: Global, request: &[u32]) -> Result<Reply, Fail<Unreadable>>
 
 /// The type of a unary expression, or its refusal. The request is the operator and the type of the operand.
 pub fn unary(alloc: Global, request: &[u32]) -> Result<Reply, Fail<Unreadable>>
-    ensures { IsUnaryReply request.now (seen reply_words result) }
+    ensures reply { IsUnaryReply request.now (seen reply_words result) }
+    ensures never_out_of_memory { IsSomeAnd (unary_request request.now) NeedsNoMemory → IsAnswered result }
 {
     let (operator, operand) = read_unary(alloc, request)?;
     reply_to(alloc, Request::Unary(operator, &operand))
@@ -67,7 +72,8 @@ pub fn unary(alloc: Global, request: &[u32]) -> Result<Reply, Fail<Unreadable>>
 #[inline(always)]
 #[tactic(auto, using(crate::proofs::Least::binary_reply))]
 pub fn binary(alloc: Global, request: &[u32]) -> Result<Reply, Fail<Unreadable>>
-    ensures { IsBinaryReply request.now (seen reply_words result) }
+    ensures reply { IsBinaryReply request.now (seen reply_words result) }
+    ensures never_out_of_memory { IsSomeAnd (binary_request request.now) NeedsNoMemory → IsAnswered result }
 {
     let (operator, left, right) = read_binary(alloc, request)?;
     reply_to_operands(alloc, operator, &left, &right)
@@ -75,7 +81,8 @@ pub fn binary(alloc: Global, request: &[u32]) -> Result<Reply, Fail<Unreadable>>
 
 /// The size and the alignment of a type. The request is the type.
 pub fn size(alloc: Global, request: &[u32]) -> Result<Reply, Fail<Unreadable>>
-    ensures { IsSizeReply request.now (seen reply_words result) }
+    ensures reply { IsSizeReply request.now (seen reply_words result) }
+    ensures never_out_of_memory { IsSomeAnd (size_request request.now) NeedsNoMemory → IsAnswered result }
 {
     let ty = read_whole(alloc, request)?;
     reply_to(alloc, Request::Size(&ty))
@@ -116,7 +123,9 @@ pub(crate) enum Kind {
 
 /// The type that a constructor makes, or its refusal. The request is the signature of the call.
 pub fn constructor(alloc: Global, request: &[u32]) -> Result<Reply, Fail<Unreadable>>
-    ensures { IsConstructorReply request.now (seen reply_words result) }
+    ensures reply { IsConstructorReply request.now (seen reply_words result) }
+    ensures never_out_of_memory { IsSomeAnd (constructor_request request.now) NeedsNoMemory
+        → IsAnswered result }
 {
     reply_to_call(alloc, Kind::Constructor, request)
 }
@@ -125,7 +134,9 @@ pub fn constructor(alloc: Global, request: &[u32]) -> Result<Reply, Fail<Unreada
 /// signature of the call.
 #[tactic(auto, using(crate::proofs::Least::call_reply))]
 pub fn call(alloc: Global, request: &[u32]) -> Result<Reply, Fail<Unreadable>>
-    ensures { IsCallReply request.now (seen reply_words result) }
+    ensures reply { IsCallReply request.now (seen reply_words result) }
+    ensures never_out_of_memory { IsSomeAnd (call_request request.now) NeedsNoMemory
+        → IsAnswered result }
 {
     reply_to_call(alloc, Kind::Function, request)
 }
@@ -133,7 +144,10 @@ pub fn call(alloc: Global, request: &[u32]) -> Result<Reply, Fail<Unreadable>>
 /// The reply to a call. If it is plain, nothing is allocated for its name and for the list of its arguments.
 #[inline(always)]
 fn reply_to_call(alloc: Global, kind: Kind, request: &[u32]) -> Result<Reply, Fail<Unreadable>>
-    ensures { IsReplyTo (asked_of kind (call_signature request.now)) (seen reply_words result) }
+    ensures reply { IsReplyTo (asked_of kind (call_signature request.now))
+        (seen reply_words result) }
+    ensures never_out_of_memory { IsSomeAnd (asked_of kind (call_signature request.now))
+        NeedsNoMemory → IsAnswered result }
 {
     let Some((name, count, words)) = read_plain_head(request) else {
         return reply_to_any(alloc, kind, request);

@@ -1,14 +1,17 @@
 // The words of candidates, or of the operands that an operator refuses.
-ghost use Rattle.std.specs.Prelude.{◌≡◌, ◌++◌, IfOk, IsTrue, OnOk, Some};
+ghost use Rattle.std.specs.Prelude.{◌≡◌, ◌<◌, ◌++◌, IfOk, IsTrue, OnOk, Some, suc};
 ghost use Rattle.wgsl_rules.specs.codes.Codes.{code};
 ghost use Rattle.wgsl_rules.specs.codes.Refusals.{refusal_code};
+ghost use Rattle.wgsl_rules.specs.types.Kinds.{IsScalar};
 ghost use Rattle.wgsl_core.specs.View.{view};
 ghost use Rattle.wgsl_core.specs.internal.Resolution.{element_view, resolution_view, resolved_view};
+ghost use Rattle.wgsl_core.specs.Answer.{IsAnswered};
 ghost use Rattle.wgsl_asked.specs.Requests.{candidate};
 ghost use Rattle.wgsl_asked.specs.Views.{operands_refusal};
 ghost use Rattle.wgsl_coded.specs.Replies.{IsReplyTo, answered, candidate_words, refused};
 ghost use Rattle.wgsl_coded.specs.Seen.{HasWords, reply_words, seen};
 ghost use Rattle.wgsl_coded.specs.Short.{short_items};
+ghost use Rattle.wgsl_coded.specs.Memory.{AreScalars, NeedsNoMemory};
 
 use crate::fast::short::ShortWords;
 use crate::refusals::write_operands;
@@ -33,8 +36,10 @@ pub(crate) fn reply_to_operands(
     lhs: &Type,
     rhs: &Type,
 ) -> Result<Reply, Fail<Unreadable>>
-    ensures { IsReplyTo (Some (candidate operator (view lhs.now) (view rhs.now)))
+    ensures reply { IsReplyTo (Some (candidate operator (view lhs.now) (view rhs.now)))
         (seen reply_words result) }
+    ensures never_out_of_memory { NeedsNoMemory (candidate operator (view lhs.now) (view rhs.now))
+        → IsAnswered result }
 {
     match &resolve_operator(operator, lhs, rhs) {
         Some(found) => reply_with_candidate(alloc, found),
@@ -45,7 +50,8 @@ pub(crate) fn reply_to_operands(
 /// The codes of a candidate's types.
 #[inline(always)]
 fn reply_with_candidate(alloc: Global, found: &Resolution<'_>) -> Result<Reply, Fail<Unreadable>>
-    ensures { HasWords (answered (candidate_words (resolution_view found.now))) result }
+    ensures words { HasWords (answered (candidate_words (resolution_view found.now))) result }
+    ensures never_out_of_memory { AreScalars (resolution_view found.now) → IsAnswered result }
 {
     let mut words = ShortWords::new();
     if push_candidate(&mut words, found) {
@@ -58,8 +64,9 @@ fn reply_with_candidate(alloc: Global, found: &Resolution<'_>) -> Result<Reply, 
 /// Adds the codes of a candidate's types; false if they aren't short.
 #[inline(always)]
 fn push_candidate(out: &mut ShortWords<6>, found: &Resolution<'_>) -> bool
-    ensures { IsTrue result
+    ensures items { IsTrue result
         → short_items out.new ≡ short_items out.old ++ candidate_words (resolution_view found.now) }
+    ensures room { AreScalars (resolution_view found.now) → out.old.len ≡ 0 → IsTrue result }
 {
     push_resolved(out, found.result)
         && push_resolved(out, found.lhs)
@@ -69,8 +76,10 @@ fn push_candidate(out: &mut ShortWords<6>, found: &Resolution<'_>) -> bool
 /// Adds the code of a type that isn't built yet; false if it isn't short.
 #[inline(always)]
 pub(crate) fn push_resolved<const N: usize>(out: &mut ShortWords<N>, ty: ResolvedType<'_>) -> bool
-    ensures { IsTrue result
+    ensures items { IsTrue result
         → short_items out.new ≡ short_items out.old ++ code (resolved_view ty.entry) }
+    ensures room { IsScalar (resolved_view ty.entry) → out.old.len < N
+        → IsTrue result × (out.new.len ≡ suc out.old.len) }
 {
     match ty.extent {
         Extent::Single => push_element(out, ty.element),
@@ -85,8 +94,10 @@ pub(crate) fn push_resolved<const N: usize>(out: &mut ShortWords<N>, ty: Resolve
 
 #[inline(always)]
 fn push_element<const N: usize>(out: &mut ShortWords<N>, element: Element<'_>) -> bool
-    ensures { IsTrue result
+    ensures items { IsTrue result
         → short_items out.new ≡ short_items out.old ++ code (element_view element.entry) }
+    ensures room { IsScalar (element_view element.entry) → out.old.len < N
+        → IsTrue result × (out.new.len ≡ suc out.old.len) }
 {
     match element {
         Element::Scalar(scalar) => out.push_scalar(scalar),
@@ -111,8 +122,13 @@ pub(crate) fn reply_with_resolved(
     alloc: Global,
     ty: ResolvedType<'_>,
 ) -> Result<Reply, Fail<Unreadable>>
-    ensures { HasWords (answered (code (resolved_view ty.entry))) result }
+    ensures words { HasWords (answered (code (resolved_view ty.entry))) result }
+    ensures never_out_of_memory { IsScalar (resolved_view ty.entry) → IsAnswered result }
 {
+    let mut short = ShortWords::new();
+    if push_resolved(&mut short, ty) {
+        return Ok(Reply::Short(short));
+    }
     let mut words = new_words(alloc)?;
     write_built(alloc, &mut words, ty)?;
     Ok(Reply::Answer(words))

@@ -1,9 +1,11 @@
 // Types from their codes.
-ghost use Rattle.std.specs.Prelude.{◌≡◌, IfOk, IfSome, Some, option_map};
+ghost use Rattle.std.specs.Prelude.{◌≡◌, IfOk, IfSome, IsSomeAnd, Some, option_map};
 ghost use Rattle.wgsl_rules.specs.types.Types.{WgslType};
 ghost use Rattle.wgsl_rules.specs.codes.Codes.{code, HasCode};
 ghost use Rattle.wgsl_rules.specs.codes.Decoding.{decoded};
+ghost use Rattle.wgsl_rules.specs.types.Kinds.{IsLeaf};
 ghost use Rattle.wgsl_core.specs.View.{view};
+ghost use Rattle.wgsl_core.specs.Answer.{IsAnswered};
 ghost use Rattle.wgsl_coded.specs.Reads.{Reads};
 
 use crate::reading::read_type;
@@ -18,7 +20,8 @@ pub(crate) const DEPTH: u8 = 255;
 #[inline(always)]
 #[tactic(auto, unfolding(wgsl_rules::specs::codes::Decoding::decoded))]
 pub(crate) fn read_whole(alloc: Global, words: &[u32]) -> Result<Type, Fail<Unreadable>>
-    ensures { Reads view result (decoded words.now) }
+    ensures reads { Reads view result (decoded words.now) }
+    ensures never_out_of_memory { IsSomeAnd (decoded words.now) IsLeaf → IsAnswered result }
 {
     let (ty, rest) = read_type(alloc, words, DEPTH)?;
     if !rest.is_empty() {

@@ -9,9 +9,9 @@ ghost use Rattle.wgsl_rules.specs.codes.DecodingRefusals.{refusal_at};
 ghost use Rattle.wgsl_rules.specs.codes.DecodingSignatures.{signature_at, types_at};
 ghost use Rattle.wgsl_rules.specs.codes.Refusals.{refusal_code, RefusalHasCode};
 ghost use Rattle.wgsl_rules.specs.codes.Signatures.{list_code, ListHasCode, signature_code, SignatureHasCode};
+ghost use Rattle.wgsl_core.specs.declared.error.Fail.{Fail};
 ghost use Rattle.wgsl_coded.specs.Replies.{IsLeastReplyTo, IsReplyTo, ReplyWords};
 ghost use Rattle.wgsl_coded.specs.Requests.{binary_request, call_request};
-ghost use Rattle.wgsl_core.specs.declared.error.Fail.{Fail};
 ghost use Rattle.wgsl_coded.specs.declared.unreadable.Unreadable.{Unreadable};
 
 /// A type is read back from its code, whatever follows it.

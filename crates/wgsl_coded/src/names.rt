@@ -1,5 +1,5 @@
 // Names.
-ghost use Rattle.std.specs.Prelude.{◌≡◌, ◌∷◌, ◌++◌, [], IfOk, IfSome, IsTrue, OnOk, length, string_bytes};
+ghost use Rattle.std.specs.Prelude.{◌≡◌, ◌<◌, ◌≤◌, ◌∷◌, ◌++◌, [], IfOk, IfSome, IsTrue, OnOk, length, string_bytes};
 ghost use Rattle.std.specs.List.{flat_map};
 ghost use Rattle.std.specs.Str.{bytes_eq};
 ghost use Rattle.wgsl_rules.specs.codes.Words.{bytes, name_code, packed};
@@ -96,7 +96,8 @@ pub(crate) fn read_name(alloc: Global, words: &[u32]) -> Result<(String, &[u32])
 
 /// Whether the first bytes of the word are ASCII, that many, and the others 0.
 pub(crate) fn is_ascii(count: usize, word: u32) -> bool
-    ensures { IsTrue result → IsAsciiText count (word ∷ []) [] }
+    ensures ascii { IsTrue result → IsAsciiText count (word ∷ []) [] }
+    ensures only { 0 < count → count ≤ 4 → IsAsciiText count (word ∷ []) [] → IsTrue result }
 {
     let [a, b, c, d] = word.to_le_bytes();
     if a.max(b).max(c).max(d) >= 128 {

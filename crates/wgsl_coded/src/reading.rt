@@ -7,9 +7,11 @@ ghost use Rattle.wgsl_rules.specs.codes.Decoding.{decode, head_at, leaf_type, me
 ghost use Rattle.wgsl_core.specs.View.{view, member_view, struct_view};
 ghost use Rattle.wgsl_core.specs.ResultStruct.{struct_type};
 ghost use Rattle.wgsl_core.specs.internal.View.{members_view};
+ghost use Rattle.wgsl_core.specs.Answer.{IsAnswered};
 ghost use Rattle.wgsl_coded.specs.Levels.{level_at};
 ghost use Rattle.wgsl_coded.specs.Members.{member_at};
 ghost use Rattle.wgsl_coded.specs.Reads.{Reads};
+ghost use Rattle.wgsl_coded.specs.Memory.{ReadsLeaf};
 
 use crate::heads::{read_head, read_scalar, read_vector_head};
 use crate::names::read_name;
@@ -42,7 +44,8 @@ pub(crate) fn read_type(
     words: &[u32],
     depth: u8,
 ) -> Result<(Type, &[u32]), Fail<Unreadable>>
-    ensures { Reads (λ t. (view t.0, t.1.now)) result (decode depth words.now) }
+    ensures reads { Reads (λ t. (view t.0, t.1.now)) result (decode depth words.now) }
+    ensures never_out_of_memory { ReadsLeaf (decode depth words.now) → IsAnswered result }
 {
     let [first, rest @ ..] = words else {
         return Err(Fail::Error(Unreadable));
@@ -65,8 +68,9 @@ fn read_level(
     words: &[u32],
     depth: u8,
 ) -> Result<(Type, &[u32]), Fail<Unreadable>>
-    ensures { Reads (λ t. (view t.0, t.1.now)) result
+    ensures reads { Reads (λ t. (view t.0, t.1.now)) result
         (level_at depth first words.now) }
+    ensures never_out_of_memory { ReadsLeaf (level_at depth first words.now) → IsAnswered result }
 {
     if depth > 0 {
         if let Some((components, of)) = read_vector(first, words) {
@@ -102,7 +106,10 @@ fn read_parts(
     words: &[u32],
     depth: u8,
 ) -> Result<(Type, &[u32]), Fail<Unreadable>>
-    ensures { Reads (λ t. (view t.0, t.1.now)) result (parts_at (decode depth) head words.now) }
+    ensures reads { Reads (λ t. (view t.0, t.1.now)) result
+        (parts_at (decode depth) head words.now) }
+    ensures never_out_of_memory { ReadsLeaf (parts_at (decode depth) head words.now)
+        → IsAnswered result }
 {
     match head {
         Head::Leaf(leaf) => Ok((type_of_leaf(leaf), words)),

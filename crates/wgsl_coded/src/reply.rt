@@ -1,15 +1,18 @@
 // What the calls over words reply.
-ghost use Rattle.std.specs.Prelude.{◌≡◌, [], IfOk, Some, map, option_map};
+ghost use Rattle.std.specs.Prelude.{◌≡◌, [], IfOk, Ok, Some, map, option_map};
 ghost use Rattle.wgsl_rules.specs.codes.Codes.{code};
 ghost use Rattle.wgsl_rules.specs.codes.Refusals.{refusal_code};
 ghost use Rattle.wgsl_rules.specs.codes.Signatures.{list_code};
-ghost use Rattle.wgsl_core.specs.Answer.{refusal};
+ghost use Rattle.wgsl_rules.specs.types.Kinds.{IsScalar};
+ghost use Rattle.wgsl_core.specs.Answer.{IsAnswered, refusal};
 ghost use Rattle.wgsl_core.specs.View.{view};
-ghost use Rattle.wgsl_asked.specs.Answers.{a_type, a_value};
-ghost use Rattle.wgsl_asked.specs.Views.{answer_view, outcome, request_view};
 ghost use Rattle.wgsl_standard.specs.Resolved.{resolved_view};
+ghost use Rattle.wgsl_asked.specs.Answers.{Answers, WgslAnswer, a_type, a_value};
+ghost use Rattle.wgsl_asked.specs.Memory.{AsksForNoMemory};
+ghost use Rattle.wgsl_asked.specs.Views.{answer_view, outcome, request_view};
 ghost use Rattle.wgsl_coded.specs.Replies.{IsReplyTo, answered, resolution_words, value_words};
 ghost use Rattle.wgsl_coded.specs.Seen.{HasRefused, HasWords, Writes, reply_words, seen};
+ghost use Rattle.wgsl_coded.specs.Memory.{IsShortAnswer};
 
 use crate::candidates::{refuse_operands, reply_with_resolved};
 use crate::fast::short::ShortWords;
@@ -43,7 +46,10 @@ pub enum Reply {
 /// The reply to the request.
 #[inline(always)]
 pub(crate) fn reply_to(alloc: Global, request: Request<'_>) -> Result<Reply, Fail<Unreadable>>
-    ensures { IsReplyTo (Some (request_view request.entry)) (seen reply_words result) }
+    ensures reply { IsReplyTo (Some (request_view request.entry)) (seen reply_words result) }
+    ensures never_out_of_memory { AsksForNoMemory (request_view request.entry)
+        → ((a : WgslAnswer) → Answers (request_view request.entry) a → IsShortAnswer a)
+        → IsAnswered result }
 {
     let answer = answer(alloc, request)?;
     write_answer(alloc, answer)
@@ -51,7 +57,8 @@ pub(crate) fn reply_to(alloc: Global, request: Request<'_>) -> Result<Reply, Fai
 
 #[inline(always)]
 fn write_answer(alloc: Global, answer: Answer<'_>) -> Result<Reply, Fail<Unreadable>>
-    ensures { Writes (answer_view answer.entry) result }
+    ensures writes { Writes (answer_view answer.entry) result }
+    ensures never_out_of_memory { IsShortAnswer (answer_view answer.entry) → IsAnswered result }
 {
     match answer {
         Answer::Number(Some(number)) => Ok(Reply::Word(number)),
@@ -81,7 +88,8 @@ pub(crate) fn reply_with_type(
     alloc: Global,
     made: Result<Type, Fail<Error>>,
 ) -> Result<Reply, Fail<Unreadable>>
-    ensures { Writes (outcome a_type view made) result }
+    ensures writes { Writes (outcome a_type view made) result }
+    ensures never_out_of_memory { IsShortAnswer (outcome a_type view made) → IsAnswered result }
 {
     match made {
         Ok(ty) => reply_with_code(alloc, &ty),
@@ -94,7 +102,9 @@ pub(crate) fn reply_with_value(
     alloc: Global,
     returned: Result<Option<Type>, Fail<Error>>,
 ) -> Result<Reply, Fail<Unreadable>>
-    ensures { Writes (outcome a_value (option_map view) returned) result }
+    ensures writes { Writes (outcome a_value (option_map view) returned) result }
+    ensures never_out_of_memory { IsShortAnswer (outcome a_value (option_map view) returned)
+        → IsAnswered result }
 {
     match returned {
         Ok(returned) => reply_with_returned(alloc, returned),
@@ -105,7 +115,9 @@ pub(crate) fn reply_with_value(
 /// The code of a type that a call returns, or no words.
 #[inline(always)]
 fn reply_with_returned(alloc: Global, returned: Option<Type>) -> Result<Reply, Fail<Unreadable>>
-    ensures { HasWords (answered (value_words (option_map view returned))) result }
+    ensures words { HasWords (answered (value_words (option_map view returned))) result }
+    ensures never_out_of_memory { IsShortAnswer (a_value (Ok (option_map view returned)))
+        → IsAnswered result }
 {
     match returned {
         Some(ty) => reply_with_code(alloc, &ty),
@@ -178,7 +190,8 @@ fn words_of_type(alloc: Global, ty: &Type) -> Result<Vec<u32>, AllocError>
 
 #[inline(always)]
 fn reply_with_code(alloc: Global, ty: &Type) -> Result<Reply, Fail<Unreadable>>
-    ensures { HasWords (answered (code (view ty.now))) result }
+    ensures words { HasWords (answered (code (view ty.now))) result }
+    ensures never_out_of_memory { IsScalar (view ty.now) → IsAnswered result }
 {
     match ShortWords::of_type(ty) {
         Some(words) => Ok(Reply::Short(words)),

@@ -1,11 +1,13 @@
 // What requests ask is read.
-ghost use Rattle.std.specs.Prelude.{◌≡◌, IfSome, MatchResult, Some, false, length, map, nat_eq, option_map, slice_get, true};
+ghost use Rattle.std.specs.Prelude.{◌≡◌, IfSome, IsSomeAnd, MatchResult, Some, false, length, map, nat_eq, option_map, slice_get, true};
 ghost use Rattle.wgsl_syntax.specs.Operator.{binary_operators};
 ghost use Rattle.wgsl_rules.specs.types.Types.{scalar};
 ghost use Rattle.wgsl_rules.specs.codes.DecodingLiterals.{binary_operator_at, unary_operator_at};
+ghost use Rattle.wgsl_rules.specs.types.Kinds.{IsLeaf};
 ghost use Rattle.wgsl_core.specs.Instances.{signature_view};
 ghost use Rattle.wgsl_core.specs.View.{view};
 ghost use Rattle.wgsl_core.specs.declared.error.Fail.TheVariants.{Error};
+ghost use Rattle.wgsl_core.specs.Answer.{IsAnswered};
 ghost use Rattle.wgsl_coded.specs.Reads.{Reads, unreadable};
 ghost use Rattle.wgsl_coded.specs.Requests.{all_types, binary_expression, call_signature, two_types, unary_expression};
 
@@ -36,7 +38,9 @@ pub(crate) fn read_two_scalars(words: &[u32]) -> Option<(Scalar, Scalar)>
 /// One type, and then another.
 #[inline(always)]
 pub(crate) fn read_two(alloc: Global, words: &[u32]) -> Result<(Type, Type), Fail<Unreadable>>
-    ensures { Reads (λ types. (view types.0, view types.1)) result (two_types words.now) }
+    ensures reads { Reads (λ types. (view types.0, view types.1)) result (two_types words.now) }
+    ensures never_out_of_memory { IsSomeAnd (two_types words.now)
+        (λ ts. IsLeaf ts.0 × IsLeaf ts.1) → IsAnswered result }
 {
     let (first, rest) = read_type(alloc, words, DEPTH)?;
     let second = read_whole(alloc, rest)?;
@@ -106,7 +110,9 @@ pub(crate) fn read_unary(
     alloc: Global,
     words: &[u32],
 ) -> Result<(UnaryOperator, Type), Fail<Unreadable>>
-    ensures { Reads (λ e. (e.0, view e.1)) result (unary_expression words.now) }
+    ensures reads { Reads (λ e. (e.0, view e.1)) result (unary_expression words.now) }
+    ensures never_out_of_memory { IsSomeAnd (unary_expression words.now) (λ e. IsLeaf e.1)
+        → IsAnswered result }
 {
     let Some((operator, rest)) = read_unary_operator(words) else {
         return Err(Fail::Error(Unreadable));
@@ -121,7 +127,9 @@ pub(crate) fn read_binary(
     alloc: Global,
     words: &[u32],
 ) -> Result<(BinaryOperator, Type, Type), Fail<Unreadable>>
-    ensures { Reads (λ e. (e.0, view e.1, view e.2)) result (binary_expression words.now) }
+    ensures reads { Reads (λ e. (e.0, view e.1, view e.2)) result (binary_expression words.now) }
+    ensures never_out_of_memory { IsSomeAnd (binary_expression words.now)
+        (λ e. IsLeaf e.1 × IsLeaf e.2) → IsAnswered result }
 {
     let Some((operator, rest)) = read_binary_operator(words) else {
         return Err(Fail::Error(Unreadable));

@@ -1,12 +1,12 @@
 // Constructors of scalars.
 ghost use Rattle.std.specs.Prelude.{◌≡◌, Err, None, Ok, map, option_map, if◌then◌else◌};
 ghost use Rattle.wgsl_syntax.specs.declared.scalar.Scalar.{Scalar};
-ghost use Rattle.wgsl_rules.specs.types.Types.{scalar};
+ghost use Rattle.wgsl_rules.specs.types.Types.{WgslType, scalar};
 ghost use Rattle.wgsl_rules.specs.errors.Refusals.{Refusal, signature};
 ghost use Rattle.wgsl_rules.specs.constructors.Constructors.{scalar_call};
 ghost use Rattle.wgsl_core.specs.View.{view};
 ghost use Rattle.wgsl_core.specs.Instances.{parameter_view, call_view};
-ghost use Rattle.wgsl_core.specs.Answer.{AnswersBy};
+ghost use Rattle.wgsl_core.specs.Answer.{AnswersBy, IsAnswered};
 
 use crate::constructor::refuse_call;
 use std::alloc::Global;
@@ -22,9 +22,13 @@ pub fn scalar_type(
     tplt: Option<&[TpltParam]>,
     args: &[Type],
 ) -> Result<Type, Fail<Error>>
-    ensures { AnswersBy (λ r. r
+    ensures row { AnswersBy (λ r. r
         ≡ scalar_call of (option_map (λ ps. map parameter_view ps.now) tplt.entry)
         (map view args.now) (signature (call_view name.now tplt.entry args.now))) result }
+    ensures never_out_of_memory { (t : WgslType) → Ok t
+        ≡ scalar_call of (option_map (λ ps. map parameter_view ps.now) tplt.entry)
+        (map view args.now) (signature (call_view name.now tplt.entry args.now))
+        → IsAnswered result }
 {
     if tplt.is_none() && are_none_or_scalar(args) {
         Ok(Type::from(of))

@@ -1,10 +1,14 @@
 // Calls of a short name with one argument to three and without a template: nothing is allocated for the name and for the
 // list of the arguments, and no request is asked. With short names, `clamp` of three scalars takes 1163 instructions of 1795.
-ghost use Rattle.std.specs.Prelude.{IfSome, Some, map, option_map, take};
+ghost use Rattle.std.specs.Prelude.{◌≡◌, IfSome, IsSomeAnd, Some, length, map, option_map, take};
+ghost use Rattle.wgsl_rules.specs.types.Signatures.{Signature};
 ghost use Rattle.wgsl_core.specs.View.{view};
+ghost use Rattle.wgsl_core.specs.Answer.{IsAnswered};
 ghost use Rattle.wgsl_coded.specs.Callees.{IsPlainHead, arguments_at, asked_of, call_of, request_of};
 ghost use Rattle.wgsl_coded.specs.Replies.{IsReplyTo};
 ghost use Rattle.wgsl_coded.specs.Seen.{reply_words, seen};
+ghost use Rattle.wgsl_coded.specs.Memory.{IsShortCall, NeedsNoMemory};
+ghost use Rattle.wgsl_coded.specs.Requests.{call_signature};
 
 use crate::calls::Kind;
 use crate::coded::{DEPTH, read_whole};
@@ -23,7 +27,9 @@ use wgsl_core::ty::Type;
 /// The name of a call if it is short and there is no template, the number of the arguments, and the words from the first
 /// argument on.
 pub(crate) fn read_plain_head(words: &[u32]) -> Option<(ShortName, usize, &[u32])>
-    ensures { IfSome result (λ h. IsPlainHead words.now (take h.0.len h.0.bytes) h.1 h.2.now) }
+    ensures head { IfSome result (λ h. IsPlainHead words.now (take h.0.len h.0.bytes) h.1 h.2.now) }
+    ensures only { (c : Signature) → call_signature words.now ≡ Some c → IsShortCall c
+        → IsSomeAnd result (λ h. h.1 ≡ length c.arguments) }
 {
     let (name, rest) = read_short_name(words)?;
     let [0, rest @ ..] = rest else {
@@ -44,8 +50,12 @@ pub(crate) fn reply_to_one(
     name: &str,
     words: &[u32],
 ) -> Result<Reply, Fail<Unreadable>>
-    ensures { IsReplyTo (asked_of kind (option_map (call_of name.now) (arguments_at 1 words.now)))
+    ensures reply { IsReplyTo
+        (asked_of kind (option_map (call_of name.now) (arguments_at 1 words.now)))
         (seen reply_words result) }
+    ensures never_out_of_memory { IsSomeAnd
+        (asked_of kind (option_map (call_of name.now) (arguments_at 1 words.now))) NeedsNoMemory
+        → IsAnswered result }
 {
     let args = [read_whole(alloc, words)?];
     let reply = reply_to_plain(alloc, kind, name, &args);
@@ -61,8 +71,12 @@ pub(crate) fn reply_to_two(
     name: &str,
     words: &[u32],
 ) -> Result<Reply, Fail<Unreadable>>
-    ensures { IsReplyTo (asked_of kind (option_map (call_of name.now) (arguments_at 2 words.now)))
+    ensures reply { IsReplyTo
+        (asked_of kind (option_map (call_of name.now) (arguments_at 2 words.now)))
         (seen reply_words result) }
+    ensures never_out_of_memory { IsSomeAnd
+        (asked_of kind (option_map (call_of name.now) (arguments_at 2 words.now))) NeedsNoMemory
+        → IsAnswered result }
 {
     let (first, second) = read_two(alloc, words)?;
     let args = [first, second];
@@ -79,8 +93,12 @@ pub(crate) fn reply_to_three(
     name: &str,
     words: &[u32],
 ) -> Result<Reply, Fail<Unreadable>>
-    ensures { IsReplyTo (asked_of kind (option_map (call_of name.now) (arguments_at 3 words.now)))
+    ensures reply { IsReplyTo
+        (asked_of kind (option_map (call_of name.now) (arguments_at 3 words.now)))
         (seen reply_words result) }
+    ensures never_out_of_memory { IsSomeAnd
+        (asked_of kind (option_map (call_of name.now) (arguments_at 3 words.now))) NeedsNoMemory
+        → IsAnswered result }
 {
     let (first, rest) = read_type(alloc, words, DEPTH)?;
     let (second, third) = read_two(alloc, rest)?;
@@ -98,8 +116,10 @@ fn reply_to_plain(
     name: &str,
     arguments: &[Type],
 ) -> Result<Reply, Fail<Unreadable>>
-    ensures { IsReplyTo (Some (request_of kind (call_of name.now (map view arguments.now))))
+    ensures reply { IsReplyTo (Some (request_of kind (call_of name.now (map view arguments.now))))
         (seen reply_words result) }
+    ensures never_out_of_memory { NeedsNoMemory
+        (request_of kind (call_of name.now (map view arguments.now))) → IsAnswered result }
 {
     match kind {
         Kind::Constructor => reply_with_type(alloc, type_ctor(alloc, name, None, arguments)),

@@ -1,14 +1,14 @@
 // Calls by WGSL's own overloads with a short name, one operand to three and no template: nothing is allocated for the name, for
 // the operands, and for the words of a short reply, and no request is asked. `+` of two scalars takes 1479 instructions of 3084.
 ghost use Rattle.std.specs.Prelude.{◌≡◌, ◌++◌, List, IfSome, IsTrue, Some, map, option_map};
-ghost use Rattle.wgsl_core.specs.internal.Resolution.{around, extent_view};
+ghost use Rattle.wgsl_syntax.specs.declared.scalar.Scalar.{Scalar};
 ghost use Rattle.wgsl_rules.specs.codes.Codes.{code};
 ghost use Rattle.wgsl_rules.specs.standard.Choice.{parameter_for as parameter_there, parameters_for, result_for as result_there};
 ghost use Rattle.wgsl_rules.specs.codes.Signatures.{list_code};
 ghost use Rattle.wgsl_rules.specs.standard.Overloads.{component_in as component_there, dimensions_in as dimensions_there, in_order, patterns_of, result_in, type_in, type_with};
 ghost use Rattle.wgsl_rules.specs.types.Types.{WgslType, scalar};
-ghost use Rattle.wgsl_syntax.specs.declared.scalar.Scalar.{Scalar};
 ghost use Rattle.wgsl_rules.specs.standard.Tables.{IsUnambiguous};
+ghost use Rattle.wgsl_core.specs.internal.Resolution.{around, extent_view};
 ghost use Rattle.wgsl_standard.specs.Callees.{callee_view};
 ghost use Rattle.wgsl_standard.specs.Operands.{operands_view};
 ghost use Rattle.wgsl_asked.specs.Requests.{resolution_of};

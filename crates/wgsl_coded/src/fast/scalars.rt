@@ -1,6 +1,7 @@
 // The rank of two scalars, without a request: 143 instructions of 253.
 ghost use Rattle.std.specs.Prelude.{Some};
 ghost use Rattle.wgsl_rules.specs.types.Types.{scalar};
+ghost use Rattle.wgsl_core.specs.Answer.{IsAnswered};
 ghost use Rattle.wgsl_asked.specs.Requests.{rank};
 ghost use Rattle.wgsl_coded.specs.Replies.{IsReplyTo};
 ghost use Rattle.wgsl_coded.specs.Seen.{reply_words, seen};
@@ -19,7 +20,9 @@ pub(crate) fn rank_of_scalars(
     source: Scalar,
     target: Scalar,
 ) -> Result<Reply, Fail<Unreadable>>
-    ensures { IsReplyTo (Some (rank (scalar source) (scalar target))) (seen reply_words result) }
+    ensures reply { IsReplyTo (Some (rank (scalar source) (scalar target)))
+        (seen reply_words result) }
+    ensures never_out_of_memory { IsAnswered result }
 {
     match scalar_rank(source, target) {
         Some(rank) => Ok(Reply::Word(rank)),

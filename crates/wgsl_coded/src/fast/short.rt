@@ -1,9 +1,10 @@
 // Words of short replies, which do not allocate: a candidate takes 805 instructions of 1784, `clamp` 1163 of 1350.
-ghost use Rattle.std.specs.Prelude.{◌≡◌, ◌++◌, ◌∷◌, [], IfSome, IsTrue};
+ghost use Rattle.std.specs.Prelude.{◌≡◌, ◌<◌, ◌++◌, ◌∷◌, [], IfSome, IsSome, IsTrue, suc};
 ghost use Rattle.wgsl_rules.specs.types.Types.{scalar};
 ghost use Rattle.wgsl_rules.specs.codes.Codes.{code};
 ghost use Rattle.wgsl_rules.specs.codes.Heads.{head_word};
 ghost use Rattle.wgsl_rules.specs.codes.Words.{attribute, number};
+ghost use Rattle.wgsl_rules.specs.types.Kinds.{IsScalar};
 ghost use Rattle.wgsl_core.specs.View.{view};
 
 use crate::heads::word_of_head;
@@ -42,7 +43,8 @@ impl<const N: usize> ShortWords<N> {
 
     #[inline(always)]
     pub(crate) fn new() -> ShortWords<N>
-        ensures { short_items result ≡ [] }
+        ensures items { short_items result ≡ [] }
+        ensures len { result.len ≡ 0 }
     {
         ShortWords {
             words: [0; N],
@@ -61,7 +63,8 @@ impl<const N: usize> ShortWords<N> {
     /// Adds a word; false if there is no room for it.
     #[inline(always)]
     pub(crate) fn push_word(&mut self, word: u32) -> bool
-        ensures { IsTrue result → short_items self.new ≡ short_items self.old ++ (word ∷ []) }
+        ensures items { IsTrue result → short_items self.new ≡ short_items self.old ++ (word ∷ []) }
+        ensures room { self.old.len < N → IsTrue result × (self.new.len ≡ suc self.old.len) }
     {
         let len = self.len;
         if len >= N {
@@ -84,8 +87,9 @@ impl<const N: usize> ShortWords<N> {
     /// Adds the first word of a type; false if there is no room for it.
     #[inline(always)]
     pub(crate) fn push_head(&mut self, head: Head) -> bool
-        ensures { IsTrue result
+        ensures items { IsTrue result
             → short_items self.new ≡ short_items self.old ++ (head_word head ∷ []) }
+        ensures room { self.old.len < N → IsTrue result × (self.new.len ≡ suc self.old.len) }
     {
         self.push_word(word_of_head(head))
     }
@@ -94,8 +98,9 @@ impl<const N: usize> ShortWords<N> {
     #[inline(always)]
     #[tactic(auto, using(wgsl_rules::proofs::codes::Spelled::leaf_code))]
     pub(crate) fn push_scalar(&mut self, of: Scalar) -> bool
-        ensures { IsTrue result
+        ensures items { IsTrue result
             → short_items self.new ≡ short_items self.old ++ code (scalar of) }
+        ensures room { self.old.len < N → IsTrue result × (self.new.len ≡ suc self.old.len) }
     {
         self.push_head(Head::Leaf(LeafType::Scalar(of)))
     }
@@ -103,8 +108,10 @@ impl<const N: usize> ShortWords<N> {
     /// Adds the code of a scalar or of a vector of scalars; false if the type is another one, or there is no room for it.
     #[inline(always)]
     pub(crate) fn push_type(&mut self, ty: &Type) -> bool
-        ensures { IsTrue result
+        ensures items { IsTrue result
             → short_items self.new ≡ short_items self.old ++ code (view ty.now) }
+        ensures room { IsScalar (view ty.now) → self.old.len < N
+            → IsTrue result × (self.new.len ≡ suc self.old.len) }
     {
         match ty {
             Type::Vec(components, of) => match of.scalar() {
@@ -123,7 +130,8 @@ impl<const N: usize> ShortWords<N> {
     /// The code of a scalar or of a vector of scalars.
     #[inline(always)]
     pub(crate) fn of_type(ty: &Type) -> Option<ShortWords<N>>
-        ensures { IfSome result (λ words. short_items words ≡ code (view ty.now)) }
+        ensures items { IfSome result (λ words. short_items words ≡ code (view ty.now)) }
+        ensures room { IsScalar (view ty.now) → 0 < N → IsSome result }
     {
         let mut words = ShortWords::new();
         if words.push_type(ty) {

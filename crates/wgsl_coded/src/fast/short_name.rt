@@ -1,6 +1,7 @@
 // Short names, kept in an array: for plain calls, with which their gain is counted.
-ghost use Rattle.std.specs.Prelude.{◌≡◌, ◌≤◌, IfSome, IsAscii, Some, take};
+ghost use Rattle.std.specs.Prelude.{◌≡◌, ◌≤◌, IfSome, IsAscii, IsSome, Some, take};
 ghost use Rattle.wgsl_rules.specs.codes.Reading.{name_at};
+ghost use Rattle.wgsl_coded.specs.Names.{BeginsWithShortName};
 
 use crate::names::is_ascii;
 use crate::numbers::read_number;
@@ -28,7 +29,9 @@ impl ShortName {
 
 /// A name and the words after it, if it is short and in ASCII.
 pub(crate) fn read_short_name(words: &[u32]) -> Option<(ShortName, &[u32])>
-    ensures { IfSome result (λ n. name_at words.now ≡ Some (take n.0.len n.0.bytes, n.1.now)) }
+    ensures name { IfSome result (λ n. name_at words.now
+        ≡ Some (take n.0.len n.0.bytes, n.1.now)) }
+    ensures only { BeginsWithShortName words.now → IsSome result }
 {
     let (len, rest) = read_number(words)?;
     if len > 32 {

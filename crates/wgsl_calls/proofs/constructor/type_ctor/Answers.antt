@@ -8,6 +8,7 @@ use Rattle.wgsl_core.specs.Instances.{parameter_view, call_view}
 use Rattle.wgsl_calls.specs.internal.Constructors.{constructor_view}
 use Rattle.wgsl_calls.proofs.AnswersAs.{answers}
 use Rattle.wgsl_calls.proofs.Constructed.{built}
+use Rattle.wgsl_calls.proofs.OutOfMemory.{scalar_made}
 use Rattle.wgsl_calls.proofs.ChosenConstructors.{constructor_is_least, least_returned}
 use Rattle.wgsl_calls.proofs.constructor.type_ctor.Goals as goal
 
@@ -21,7 +22,7 @@ pub returns-in-Some-Scalar-clause-row : goal.returns-in-Some-Scalar-clause-row
 returns-in-Some-Scalar-clause-row c =
     let call = call_view c.args.name.now c.args.tplt c.args.args.now in
     answers view (λ r. r ≡ scalar_call c.in-Some-Scalar.scalar (option_map (λ ps. map parameter_view ps.now) c.args.tplt) (map view c.args.args.now) (signature (call_view c.args.name.now c.args.tplt c.args.args.now))) (IsConstructorAnswer call) c.scalar_type.result
-    (built (Some (makes_scalar c.in-Some-Scalar.scalar)) call (sym (ap (λ k. Some (constructor_view k)) c.in-Some-Scalar.field-0-is) ∙ c.in-Some-Scalar.ensures)) c.scalar_type.ensures
+    (built (Some (makes_scalar c.in-Some-Scalar.scalar)) call (sym (ap (λ k. Some (constructor_view k)) c.in-Some-Scalar.field-0-is) ∙ c.in-Some-Scalar.ensures)) c.scalar_type.ensures.row
 
 pub returns-in-Some-Vec-clause-row : goal.returns-in-Some-Vec-clause-row
 returns-in-Some-Vec-clause-row c =
@@ -58,3 +59,9 @@ returns-in-Some-Mat-clause-least c =
 pub returns-in_ok-refuse_call-in-None-clause-least : goal.returns-in_ok-refuse_call-in-None-clause-least
 returns-in_ok-refuse_call-in-None-clause-least c =
     constructor_is_least (call_view c.args.name.now c.args.tplt c.args.args.now) _ (returns-in_ok-refuse_call-in-None-clause-row c)
+
+pub returns-in-Some-Scalar-clause-never_out_of_memory : goal.returns-in-Some-Scalar-clause-never_out_of_memory
+returns-in-Some-Scalar-clause-never_out_of_memory c h =
+    let made = scalar_made c.in-Some-Scalar.scalar (call_view c.args.name.now c.args.tplt c.args.args.now)
+    (sym (ap (λ k. Some (constructor_view k)) c.in-Some-Scalar.field-0-is) ∙ c.in-Some-Scalar.ensures) h in
+    c.scalar_type.ensures.never_out_of_memory made.0 made.1

@@ -1,12 +1,34 @@
-use Rattle.std.proofs.Common.{arith}
-use Rattle.std.proofs.lemmas.Bool.{eqb-true}
+use Rattle.std.proofs.Common.{◌∙◌, arith, sym}
+use Rattle.std.proofs.lemmas.Bool.{eq-eqb, eqb-true}
 use Rattle.wgsl_coded.proofs.Ascii.{four_bytes}
+use Rattle.wgsl_coded.proofs.ShortNames.{ascii_word}
 use Rattle.wgsl_coded.proofs.names.is_ascii.Goals as goal
 
-pub returns-in_default : goal.returns-in_default
-returns-in_default c four =
+pub returns-in_default-clause-ascii : goal.returns-in_default-clause-ascii
+returns-in_default-clause-ascii c four =
     let bs = c.to_le_bytes.result in
     rw (eqb-true c.args.count 4 four)
     (four_bytes c.args.word bs (omega (arith, c.ranges.word.fits)) c.to_le_bytes.ensures
     (omega (arith, c.if-max-ge128.false, c.max.ensures, c.max-2.ensures, c.max-3.ensures)) (omega (arith, c.if-max-ge128.false, c.max.ensures, c.max-2.ensures, c.max-3.ensures))
     (omega (arith, c.if-max-ge128.false, c.max-2.ensures, c.max-3.ensures)) (omega (arith, c.if-max-ge128.false, c.max-3.ensures)))
+
+pub returns-then-max-ge128-clause-only : goal.returns-then-max-ge128-clause-only
+returns-then-max-ge128-clause-only c some few text =
+    let all = ascii_word c.args.count c.args.word c.to_le_bytes.result some few c.to_le_bytes.ensures text in
+    let never : ⊥ = omega (arith, all.a, all.b, all.c, all.d, c.if-max-ge128.true, c.max.ensures, c.max-2.ensures, c.max-3.ensures) in
+    absurd never
+
+pub returns-in-1-clause-only : goal.returns-in-1-clause-only
+returns-in-1-clause-only c some few text =
+    let all = ascii_word c.args.count c.args.word c.to_le_bytes.result some few c.to_le_bytes.ensures text in
+    eq-eqb c.args.word c.word_of.result (all.one c.in-1.is ∙ sym c.word_of.ensures)
+
+pub returns-in-2-clause-only : goal.returns-in-2-clause-only
+returns-in-2-clause-only c some few text =
+    let all = ascii_word c.args.count c.args.word c.to_le_bytes.result some few c.to_le_bytes.ensures text in
+    eq-eqb c.args.word c.word_of-in-2.result (all.two c.in-2.is ∙ sym c.word_of-in-2.ensures)
+
+pub returns-in-3-clause-only : goal.returns-in-3-clause-only
+returns-in-3-clause-only c some few text =
+    let all = ascii_word c.args.count c.args.word c.to_le_bytes.result some few c.to_le_bytes.ensures text in
+    eq-eqb c.args.word c.word_of-in-3.result (all.three c.in-3.is ∙ sym c.word_of-in-3.ensures)

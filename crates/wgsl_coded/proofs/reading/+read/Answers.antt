@@ -1,26 +1,31 @@
-use Rattle.std.proofs.Common.{◌≡◌, ◌∙◌, ◌++◌, ◌-◌, Some, drop, length, sym, take, [], ◌∷◌, ap, arith, map, refl, rules}
+use Rattle.std.proofs.Common.{◌≡◌, ◌∙◌, ◌++◌, ◌-◌, Some, drop, length, sym, take, [], ◌∷◌, ap, arith, map, refl, rules, subst}
 use Rattle.std.proofs.lemmas.List.{map-append}
 use Rattle.wgsl_rules.specs.types.Types.{scalar}
 use Rattle.wgsl_rules.specs.codes.Decoding.{decode}
 use Rattle.wgsl_core.specs.View.{member_view, view}
+use Rattle.wgsl_coded.specs.Memory.{ReadsLeaf}
 use Rattle.wgsl_coded.proofs.Levels.{no_words, no_level, level_of, scalar_of, vector_of, goes_on, stops, ends}
 use Rattle.wgsl_coded.proofs.reading.+read.Goals as goal
 
-pub read_type-returns-in_default : goal.read_type-returns-in_default
-read_type-returns-in_default t c = no_words c.args.depth c.args.words.now c.in_default.len_below
+pub read_type-returns-in_default-clause-reads : goal.read_type-returns-in_default-clause-reads
+read_type-returns-in_default-clause-reads t c = no_words c.args.depth c.args.words.now c.in_default.len_below
 
-pub read_type-returns-then-depth-eq0 : goal.read_type-returns-then-depth-eq0
-read_type-returns-then-depth-eq0 t c = no_level c.args.depth c.args.words.now c.if-depth-eq0.true
+pub read_type-returns-then-depth-eq0-clause-reads : goal.read_type-returns-then-depth-eq0-clause-reads
+read_type-returns-then-depth-eq0-clause-reads t c = no_level c.args.depth c.args.words.now c.if-depth-eq0.true
 
-pub read_type-returns-in-Some : goal.read_type-returns-in-Some
-read_type-returns-in-Some t c =
+pub read_type-returns-in-Some-clause-reads : goal.read_type-returns-in-Some-clause-reads
+read_type-returns-in-Some-clause-reads t c =
     scalar_of c.args.depth c.args.words.now c.in-Some.scalar (omega arith) (omega arith) c.in-Some.ensures ∙ rw c.from.ensures refl
 
-pub read_type-returns-in-None : goal.read_type-returns-in-None
-read_type-returns-in-None t c = rw (level_of c.args.depth c.args.words.now (omega arith) (omega arith)) c.read_level.ensures
+pub read_type-returns-in-None-clause-reads : goal.read_type-returns-in-None-clause-reads
+read_type-returns-in-None-clause-reads t c = rw (level_of c.args.depth c.args.words.now (omega arith) (omega arith)) c.read_level.ensures.reads
 
-pub read_level-returns-in-Some : goal.read_level-returns-in-Some
-read_level-returns-in-Some t c =
+pub read_type-returns-in-None-clause-never_out_of_memory : goal.read_type-returns-in-None-clause-never_out_of_memory
+read_type-returns-in-None-clause-never_out_of_memory t c leaf =
+    c.read_level.ensures.never_out_of_memory (subst ReadsLeaf (level_of c.args.depth c.args.words.now (omega arith) (omega arith)) leaf)
+
+pub read_level-returns-in-Some-clause-reads : goal.read_level-returns-in-Some-clause-reads
+read_level-returns-in-Some-clause-reads t c =
     let inside : view c.in_ok-of.of.value ≡ scalar c.in-Some.of = search rules in
     vector_of c.args.depth c.args.first c.args.words.now c.in-Some.components c.in-Some.of (view c.in_ok-of.of.value) (omega arith)
     c.in-Some.ensures.some c.in-Some.ensures.inside.0 c.in-Some.ensures.inside.1 inside

@@ -4,5 +4,5 @@ use Rattle.wgsl_rules.proofs.codes.Spelled.{leaf_code}
 use Rattle.wgsl_coded.specs.Short.{short_items}
 use Rattle.wgsl_coded.proofs.fast.short.ShortWords.push_scalar.Goals as goal
 
-pub returns : goal.returns
-returns g c pushed = c.push_head.ensures pushed ∙ ap (λ ws. short_items c.args.self.now ++ ws) (sym (leaf_code (leaf.Scalar c.args.of)))
+pub returns-clause-items : goal.returns-clause-items
+returns-clause-items g c pushed = c.push_head.ensures.items pushed ∙ ap (λ ws. short_items c.args.self.now ++ ws) (sym (leaf_code (leaf.Scalar c.args.of)))
