@@ -83,7 +83,11 @@ uint8_t wgsl_standard_explain(const uint8_t *request, size_t request_len, uint8_
  *
  * wgsl_common folds the list from left to right. In text `common` answers with that type if each type of the list converts
  * to it, and else with `none`. They differ for a reference beside two types that are no references: for `ref function read
- * AbstractInt`, `AbstractInt` and `i32` the call answers with `i32`, and the text is `none`. */
+ * AbstractInt`, `AbstractInt` and `i32` the call answers with `i32`, and the text is `none`.
+ *
+ * These never return WGSL_OUT_OF_MEMORY: the rank and the size of types that have no type inside and no name; an operator on
+ * scalars that it takes; a call of a name in ASCII of at most 32 bytes, without a template, of one to three such types, if it
+ * returns a scalar or no value; the constructor of a scalar that takes such a call. */
 uint8_t wgsl_rank(const uint32_t *request, size_t request_len, uint32_t *room, size_t room_len, size_t *len);
 uint8_t wgsl_common(const uint32_t *request, size_t request_len, uint32_t *room, size_t room_len, size_t *len);
 uint8_t wgsl_unary(const uint32_t *request, size_t request_len, uint32_t *room, size_t room_len, size_t *len);
