@@ -27,6 +27,9 @@ ascii_two a b h k = ascii_more a (b ∷ []) h (ascii_one b k)
 ascii_three : (a b c : ℕ) → a < 128 → b < 128 → c < 128 → IsAscii (a ∷ b ∷ c ∷ [])
 ascii_three a b c h k l = ascii_more a (b ∷ c ∷ []) h (ascii_two b c k l)
 
+pub ascii_four : (a b c d : ℕ) → a < 128 → b < 128 → c < 128 → d < 128 → IsAscii (a ∷ b ∷ c ∷ d ∷ [])
+ascii_four a b c d h k l m = ascii_more a (b ∷ c ∷ d ∷ []) h (ascii_three b c d k l m)
+
 pub four_bytes : (w : ℕ) (bs : List ℕ) → w < 2 ^ 32 → bs ≡ to_le_bytes w32 w → get_or bs 0 0 < 128 → get_or bs 1 0 < 128 → get_or bs 2 0 < 128 → get_or bs 3 0 < 128 →
     IsAsciiText 4 (w ∷ []) []
 unfolding word
@@ -34,7 +37,7 @@ four_bytes w bs fits e h k l m =
     let text : List ℕ = get_or bs 0 0 ∷ get_or bs 1 0 ∷ get_or bs 2 0 ∷ get_or bs 3 0 ∷ [] in
     record {
       text = text;
-      ascii = ascii_more (get_or bs 0 0) (get_or bs 1 0 ∷ get_or bs 2 0 ∷ get_or bs 3 0 ∷ []) h (ascii_three (get_or bs 1 0) (get_or bs 2 0) (get_or bs 3 0) k l m);
+      ascii = ascii_four (get_or bs 0 0) (get_or bs 1 0) (get_or bs 2 0) (get_or bs 3 0) h k l m;
       long = refl;
       spelled = ap (λ v. v ∷ []) (rw e (sym (from_le_bytes-to_le_bytes_4 w fits)));
     }
@@ -56,13 +59,16 @@ next_word n w ws rest h first more = joined first.text first.ascii first.long fi
     joined (a ∷ b ∷ c ∷ []) ascii long e = absurd (omega (arith, long))
     joined (a ∷ b ∷ c ∷ d ∷ f ∷ text) ascii long e = absurd (omega (arith, long))
 
+-- the words after the first, as a slice has them
+pub behind : (w : ℕ) (ws : List ℕ) → take (length (w ∷ ws) - 1) (drop 1 (w ∷ ws)) ≡ ws
+behind w ws =
+    let len : length (w ∷ ws) - 1 ≡ length ws = omega arith in
+    ap (λ k. take k ws) len ∙ take-length ws
+
 -- the first word of words and the others, as a slice has them
 pub next_in : (n : ℕ) (ws end : List ℕ) → 4 ≤ n → 0 < length ws → IsAsciiText 4 (get_or ws 0 0 ∷ []) [] → IsAsciiText (n - 4) (take (length ws - 1) (drop 1 ws)) end → IsAsciiText n ws end
 next_in n [] end h some first more = absurd (omega (arith, some))
-next_in n (w ∷ ws) end h some first more =
-    let len : length (w ∷ ws) - 1 ≡ length ws = omega arith in
-    let rest : take (length (w ∷ ws) - 1) (drop 1 (w ∷ ws)) ≡ ws = ap (λ k. take k ws) len ∙ take-length ws in
-    next_word n w ws end h first (subst (λ vs. IsAsciiText (n - 4) vs end) rest more)
+next_in n (w ∷ ws) end h some first more = next_word n w ws end h first (subst (λ vs. IsAsciiText (n - 4) vs end) (behind w ws) more)
 
 -- a text in ASCII after its length is read as a name
 pub ascii_name_at : (n : ℕ) (ws inside rest : List ℕ) → AreWords ws → number_at ws ≡ Some (n, inside) → (h : IsAsciiText n inside rest) → name_at ws ≡ Some (h.text, rest)

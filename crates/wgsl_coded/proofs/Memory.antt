@@ -1,109 +1,25 @@
 -- Where nothing is allocated.
-use Rattle.std.proofs.Common.{◌≡◌, ℕ, Bool, true, false, List, Option, Some, None, Result, Ok, Err, inl, inr, sym, subst, length}
-use Rattle.std.specs.Prelude.{IsErrAnd, IsSomeAnd, if◌then◌else◌, nat_eq}
-use Rattle.wgsl_syntax.specs.declared.around.Around.{Around}
-use Rattle.wgsl_syntax.specs.declared.around.Around.TheVariants as arounds
-use Rattle.wgsl_syntax.specs.declared.code.Head.{Head}
-use Rattle.wgsl_syntax.specs.declared.code.Head.TheVariants as heads
+use Rattle.std.proofs.Common.{◌≡◌, Option, Some, None, Result, Ok, Err, inl, inr, sym, subst}
+use Rattle.std.specs.Prelude.{IsErrAnd, IsSomeAnd}
 use Rattle.wgsl_syntax.specs.declared.operator.BinaryOperator.{BinaryOperator}
 use Rattle.wgsl_syntax.specs.declared.operator.UnaryOperator.{UnaryOperator}
-use Rattle.wgsl_syntax.specs.Around.{with_count}
-use Rattle.wgsl_rules.specs.types.Types.{WgslType, scalar, struct, Members}
-use Rattle.wgsl_rules.specs.types.Around.{around}
+use Rattle.wgsl_rules.specs.types.Types.{WgslType, scalar}
 use Rattle.wgsl_rules.specs.types.Kinds.{IsLeaf, IsScalar}
 use Rattle.wgsl_rules.specs.conversion.Common.{IsCommon}
 use Rattle.wgsl_rules.specs.operators.Answers.{BinaryCandidate, IsUnaryAnswer}
 use Rattle.wgsl_rules.specs.operators.Rows.{IsRow, scalar_row, vector_row, scalar_vector_row, vector_scalar_row, matrix_row, scalar_matrix_row, matrix_scalar_row, vector_matrix_row, matrix_vector_row, matrix_matrix_row, comparison_row, comparison_vector_row, logical_row, bools_row, bit_row, shift_row, shift_vector_row}
 use Rattle.wgsl_rules.specs.operators.UnaryRows.{IsUnaryRow, not_row, not_vector_row, negation_row, complement_row, address_row, indirection_row}
-use Rattle.wgsl_rules.specs.codes.Reading.{◌>>=◌, name_at, number_at}
-use Rattle.wgsl_rules.specs.codes.Decoding.{decode, decoded, members_at, parts_at}
+use Rattle.wgsl_rules.specs.codes.Reading.{◌>>=◌}
 use Rattle.wgsl_core.specs.Answer.{IsAnswered}
 use Rattle.wgsl_core.specs.declared.error.Fail.{Fail}
 use Rattle.wgsl_core.specs.declared.error.Fail.TheVariants as fails
 use Rattle.wgsl_asked.specs.Answers.{Answers, WgslAnswer, rank_is, size_is, unary_is}
 use Rattle.wgsl_asked.specs.Requests.{WgslRequest, rank, size, unary}
-use Rattle.wgsl_coded.specs.Memory.{AreScalars, IsShortAnswer, ReadsLeaf}
-use Rattle.wgsl_coded.specs.Requests.{two_types}
-
--- what stands around another type makes no leaf type
-no_leaf_around : (x : Around) (t : WgslType) → IsLeaf (around x t) → ⊥
-no_leaf_around (arounds.Array n) t h = h
-no_leaf_around (arounds.Vec n) t h = h
-no_leaf_around (arounds.Mat c r) t h = h
-no_leaf_around (arounds.BindingArray n) t h = h
-no_leaf_around arounds.Atomic t h = h
-no_leaf_around (arounds.Ptr s m) t h = h
-no_leaf_around (arounds.Ref s m) t h = h
-
--- the head of a leaf type
-abbrev pub IsLeafHead : Head → Type 0
-IsLeafHead (heads.Leaf l) = Unit {0}
-IsLeafHead h = ⊥
-
-no_leaf_read : (x : Around) (read : Option (WgslType × List ℕ)) → ReadsLeaf (read >>= λ t. Some (around x t.0, t.1)) → ⊥
-no_leaf_read x None h = h
-no_leaf_read x (Some t) h = no_leaf_around x t.0 h
-
-no_leaf_counted : (x : ℕ → Around) (inner : List ℕ → Option (WgslType × List ℕ)) (n : Option (ℕ × List ℕ)) →
-    ReadsLeaf (n >>= λ n. inner n.1 >>= λ t. Some (around (x n.0) t.0, t.1)) → ⊥
-no_leaf_counted x inner None h = h
-no_leaf_counted x inner (Some n) h = no_leaf_read (x n.0) (inner n.1) h
-
-no_leaf_members : (name : List ℕ) (ms : Option (Members × List ℕ)) → ReadsLeaf (ms >>= λ ms. Some (struct name ms.0, ms.1)) → ⊥
-no_leaf_members name None h = h
-no_leaf_members name (Some ms) h = h
-
-no_leaf_struct : (inner : List ℕ → Option (WgslType × List ℕ)) (name : List ℕ) (n : Option (ℕ × List ℕ)) →
-    ReadsLeaf (n >>= λ n. members_at inner n.0 n.1 >>= λ ms. Some (struct name ms.0, ms.1)) → ⊥
-no_leaf_struct inner name None h = h
-no_leaf_struct inner name (Some n) h = no_leaf_members name (members_at inner n.0 n.1) h
-
-no_leaf_named : (inner : List ℕ → Option (WgslType × List ℕ)) (name : Option (List ℕ × List ℕ)) →
-    ReadsLeaf (name >>= λ name. number_at name.1 >>= λ n. members_at inner n.0 n.1 >>= λ ms. Some (struct name.0 ms.0, ms.1)) → ⊥
-no_leaf_named inner None h = h
-no_leaf_named inner (Some name) h = no_leaf_struct inner name.0 (number_at name.1) h
-
--- only the head of a leaf type begins one
-pub leaf_head : (inner : List ℕ → Option (WgslType × List ℕ)) (head : Head) (ws : List ℕ) → ReadsLeaf (parts_at inner head ws) → IsLeafHead head
-leaf_head inner (heads.Leaf l) ws h = tt
-leaf_head inner (heads.Around x) ws h = no_leaf_read x (inner ws) h
-leaf_head inner (heads.Counted x) ws h = no_leaf_counted (with_count x) inner (number_at ws) h
-leaf_head inner heads.Struct ws h = no_leaf_named inner (name_at ws) h
-
--- the only type is a leaf type
-pub first_leaf : (ws : List ℕ) → IsSomeAnd (decoded ws) IsLeaf → ReadsLeaf (decode 255 ws)
-unfolding decoded
-first_leaf ws h = at (decode 255 ws) h
-  where
-    at : (read : Option (WgslType × List ℕ)) → IsSomeAnd (read >>= λ t. if nat_eq (length t.1) 0 then Some t.0 else None) IsLeaf → ReadsLeaf read
-    at None h = h
-    at (Some t) h = ended (nat_eq (length t.1) 0) t.0 h
-      where
-        ended : (b : Bool) (t : WgslType) → IsSomeAnd (if b then Some t else None) IsLeaf → IsLeaf t
-        ended true t h = h
-        ended false t h = absurd h
+use Rattle.wgsl_coded.specs.Memory.{AreScalars, IsShortAnswer}
 
 -- both types are leaf types
 abbrev pub BothLeaves : WgslType × WgslType → Type 0
 BothLeaves ts = IsLeaf ts.0 × IsLeaf ts.1
-
-pub leaf_before : (ws : List ℕ) → IsSomeAnd (two_types ws) BothLeaves → ReadsLeaf (decode 255 ws)
-leaf_before ws h = at (decode 255 ws) h
-  where
-    of : (t : WgslType) (second : Option WgslType) → IsSomeAnd (second >>= λ u. Some (t, u)) BothLeaves → IsLeaf t
-    of t None h = absurd h
-    of t (Some u) h = h.0
-
-    at : (read : Option (WgslType × List ℕ)) → IsSomeAnd (read >>= λ t. decoded t.1 >>= λ u. Some (t.0, u)) BothLeaves → ReadsLeaf read
-    at None h = h
-    at (Some t) h = of t.0 (decoded t.1) h
-
-pub leaf_after : (ws rest : List ℕ) (t : WgslType) → decode 255 ws ≡ Some (t, rest) → IsSomeAnd (two_types ws) BothLeaves → IsSomeAnd (decoded rest) IsLeaf
-leaf_after ws rest t e h = of (decoded rest) (subst (λ (read : Option (WgslType × List ℕ)). IsSomeAnd (read >>= λ t. decoded t.1 >>= λ u. Some (t.0, u)) BothLeaves) e h)
-  where
-    of : (second : Option WgslType) → IsSomeAnd (second >>= λ u. Some (t, u)) BothLeaves → IsSomeAnd second IsLeaf
-    of None h = h
-    of (Some u) h = h.1
 
 -- what holds of what is made of a value holds of the value
 pub of_made : {A : Type 0} (made : A → WgslRequest) (P : WgslRequest → Type 0) (o : Option A) → IsSomeAnd (o >>= λ x. Some (made x)) P → IsSomeAnd o (λ x. P (made x))

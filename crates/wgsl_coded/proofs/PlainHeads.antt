@@ -10,7 +10,7 @@ use Rattle.wgsl_rules.proofs.codes.Numbers.{bind_some, same_read}
 use Rattle.wgsl_coded.specs.Memory.{IsShortCall}
 use Rattle.wgsl_coded.specs.Names.{BeginsWithShortName}
 use Rattle.wgsl_coded.specs.Requests.{call_signature}
-use Rattle.wgsl_coded.proofs.ShortNames.{behind}
+use Rattle.wgsl_coded.proofs.Ascii.{behind}
 
 -- a signature, read part by part
 abbrev with_arguments : List ℕ → Option (List Parameter) → List WgslType × List ℕ → Option (Signature × List ℕ)
@@ -41,16 +41,20 @@ in_order (suc n) ws ts e =
     let same : (first.0.0 ∷ others.0.0, others.0.1) ≡ ts = cc others.2 in
     subst (λ (ts : List WgslType × List ℕ). length ts.0 ≡ suc n) same (omega (arith, in_order n first.0.1 others.0 others.1))
 
--- the words of a call without a template: its name, 0, the number of its arguments, and these
-pub record ArePlain (ws : List ℕ) (c : Signature) : Type 0 where
-  pub rest : List ℕ
-  pub named : name_at ws ≡ Some (c.name, rest)
+-- what follows the name of a call without a template: 0, and then the number of its arguments
+pub record IsAfterName (c : Signature) (rest : List ℕ) : Type 0 where
   pub after : List ℕ
   pub plain : rest ≡ 0 ∷ after
   pub count : ℕ
   pub words : List ℕ
   pub counted : number_at after ≡ Some (count, words)
   pub long : length c.arguments ≡ count
+
+-- the words of such a call: its name, and then these
+pub record ArePlain (ws : List ℕ) (c : Signature) : Type 0 where
+  pub rest : List ℕ
+  pub named : name_at ws ≡ Some (c.name, rest)
+  pub next : IsAfterName c rest
 
 pub plain_words : (ws : List ℕ) (c : Signature) → call_signature ws ≡ Some c → c.template ≡ None → ArePlain ws c
 plain_words ws c e plain =
@@ -67,12 +71,14 @@ plain_words ws c e plain =
     record {
       rest = name.0.1;
       named = name.1 ∙ ap (λ n. Some (n, name.0.1)) (ap (λ (c : Signature). c.name) is);
-      after = template.0.1;
-      plain = no_template name.0.1 template.0.1 (template.1 ∙ ap (λ t. Some (t, template.0.1)) none);
-      count = number.0.0;
-      words = number.0.1;
-      counted = number.1;
-      long = ap (λ (c : Signature). length c.arguments) (sym is) ∙ in_order number.0.0 number.0.1 arguments.0 number.2;
+      next = record {
+        after = template.0.1;
+        plain = no_template name.0.1 template.0.1 (template.1 ∙ ap (λ t. Some (t, template.0.1)) none);
+        count = number.0.0;
+        words = number.0.1;
+        counted = number.1;
+        long = ap (λ (c : Signature). length c.arguments) (sym is) ∙ in_order number.0.0 number.0.1 arguments.0 number.2;
+      };
     }
 
 pub short_name_first : (ws : List ℕ) (c : Signature) → call_signature ws ≡ Some c → IsShortCall c → BeginsWithShortName ws
@@ -80,21 +86,12 @@ short_name_first ws c e short =
     let words = plain_words ws c e short.plain in
     record { name = c.name; rest = words.rest; named = words.named; ascii = short.ascii; short = short.short }
 
--- what follows the name of a short call: 0, and then the number of its arguments
-pub record IsAfterName (c : Signature) (rest : List ℕ) : Type 0 where
-  pub after : List ℕ
-  pub plain : rest ≡ 0 ∷ after
-  pub count : ℕ
-  pub words : List ℕ
-  pub counted : number_at after ≡ Some (count, words)
-  pub long : length c.arguments ≡ count
-
 pub after_name : (ws name rest : List ℕ) (c : Signature) → call_signature ws ≡ Some c → IsShortCall c → name_at ws ≡ Some (name, rest) → IsAfterName c rest
 after_name ws name rest c e short named =
     let words = plain_words ws c e short.plain in
-    let both : Some (name, rest) ≡ Some (c.name, words.rest) = sym named ∙ words.named in
-    let same : rest ≡ words.rest = ap (λ (read : List ℕ × List ℕ). read.1) (same_read (name, rest) (c.name, words.rest) both) in
-    record { after = words.after; plain = same ∙ words.plain; count = words.count; words = words.words; counted = words.counted; long = words.long }
+    let both : Some (c.name, words.rest) ≡ Some (name, rest) = sym words.named ∙ named in
+    let same : words.rest ≡ rest = ap (λ (read : List ℕ × List ℕ). read.1) (same_read (c.name, words.rest) (name, rest) both) in
+    subst (IsAfterName c) same words.next
 
 -- the number that is read is that of the arguments
 pub counted_so : (c : Signature) (rest : List ℕ) (count : ℕ) (words : List ℕ) → IsAfterName c rest → Some (count, words) ≡ number_at (take (length rest - 1) (drop 1 rest)) →

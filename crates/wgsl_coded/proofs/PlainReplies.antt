@@ -20,7 +20,7 @@ use Rattle.wgsl_coded.specs.Replies.{IsReplyTo, answered, refused, resolution_wo
 use Rattle.wgsl_coded.specs.Short.{short_items}
 use Rattle.wgsl_coded.specs.declared.fast.short.ShortWords.{ShortWords}
 use Rattle.wgsl_coded.specs.declared.resolved.Resolved.{Resolved}
-use Rattle.wgsl_coded.specs.declared.resolved.Resolved.TheVariants.{Other, Short}
+use Rattle.wgsl_coded.specs.declared.resolved.Resolved.TheVariants.{Short}
 use Rattle.wgsl_coded.specs.Seen.{HasWords, reply_words, resolved_words, seen}
 use Rattle.wgsl_core.specs.declared.error.Fail.{Fail}
 use Rattle.wgsl_coded.specs.declared.unreadable.Unreadable.{Unreadable}

@@ -1,14 +1,14 @@
 -- A short name in ASCII is read to its end.
-use Rattle.std.proofs.Common.{◌≡◌, ℕ, zero, suc, ◌+◌, ◌-◌, ◌<◌, ◌≤◌, min, List, [], ◌∷◌, ◌++◌, Some, refl, sym, ap, subst, ◌∙◌, arith, length, get_or, take, drop, drop-drop, length-drop, get_or-drop}
+use Rattle.std.proofs.Common.{◌≡◌, ℕ, ◌+◌, ◌-◌, ◌<◌, ◌≤◌, min, List, [], ◌∷◌, ◌++◌, Some, refl, sym, ap, subst, ◌∙◌, arith, length, get_or, take, drop, drop-drop, length-drop, get_or-drop}
 use Rattle.std.specs.Prelude.{IsAscii}
 use Rattle.std.specs.Int.{w32, to_le_bytes}
-use Rattle.std.proofs.Math.Seq.{take-length}
 use Rattle.wgsl_rules.specs.codes.Words.{bytes, name_code, packed, word}
 use Rattle.wgsl_rules.specs.codes.Reading.{name_at, number_at}
 use Rattle.wgsl_rules.proofs.codes.HeadsAgain.{bytes_of_word}
 use Rattle.wgsl_rules.proofs.codes.Names.{name_is}
 use Rattle.wgsl_rules.proofs.codes.Numbers.{AreWords, number_again, same_read}
 use Rattle.wgsl_coded.specs.Names.{BeginsWithShortName, IsAsciiText}
+use Rattle.wgsl_coded.proofs.Ascii.{ascii_four, behind}
 
 -- the length of a name comes first, and then its bytes
 pub length_first : (ws : List ℕ) (s : List ℕ × List ℕ) → AreWords ws → name_at ws ≡ Some s → number_at ws ≡ Some (length s.0, packed s.0 ++ s.1)
@@ -59,13 +59,6 @@ ascii_word n w bs h k e t = at t.text t.ascii t.long t.spelled
         (λ i. absurd (omega (arith, i, long))) (λ i. absurd (omega (arith, i, long))) (λ i. absurd (omega (arith, i, long)))
     at (a ∷ b ∷ c ∷ d ∷ f ∷ text) ascii long spelled = absurd (omega (arith, k, long))
 
-four : (a b c d : ℕ) (text : List ℕ) → IsAscii (a ∷ b ∷ c ∷ d ∷ text) → IsAscii (a ∷ b ∷ c ∷ d ∷ [])
-four a b c d text h zero = h 0
-four a b c d text h (suc zero) = h 1
-four a b c d text h (suc (suc zero)) = h 2
-four a b c d text h (suc (suc (suc zero))) = h 3
-four a b c d text h (suc (suc (suc (suc i)))) = omega arith
-
 -- the first word of a text
 first_word : (n : ℕ) (text rest : List ℕ) → IsAscii text → 0 < length text → n ≡ min (length text) 4 → IsAsciiText n (get_or (packed text ++ rest) 0 0 ∷ []) []
 first_word n [] rest ascii h e = absurd (omega (arith, h))
@@ -73,13 +66,7 @@ first_word n (a ∷ []) rest ascii h e = record { text = a ∷ []; ascii = ascii
 first_word n (a ∷ b ∷ []) rest ascii h e = record { text = a ∷ b ∷ []; ascii = ascii; long = omega (arith, e); spelled = refl }
 first_word n (a ∷ b ∷ c ∷ []) rest ascii h e = record { text = a ∷ b ∷ c ∷ []; ascii = ascii; long = omega (arith, e); spelled = refl }
 first_word n (a ∷ b ∷ c ∷ d ∷ text) rest ascii h e =
-    record { text = a ∷ b ∷ c ∷ d ∷ []; ascii = four a b c d text ascii; long = omega (arith, e); spelled = refl }
-
--- the words after the first, as a slice has them
-pub behind : (w : ℕ) (ws : List ℕ) → take (length (w ∷ ws) - 1) (drop 1 (w ∷ ws)) ≡ ws
-behind w ws =
-    let len : length (w ∷ ws) - 1 ≡ length ws = omega arith in
-    ap (λ k. take k ws) len ∙ take-length ws
+    record { text = a ∷ b ∷ c ∷ d ∷ []; ascii = ascii_four a b c d (ascii 0) (ascii 1) (ascii 2) (ascii 3); long = omega (arith, e); spelled = refl }
 
 words_behind : (text rest : List ℕ) → 0 < length text → take (length (packed text ++ rest) - 1) (drop 1 (packed text ++ rest)) ≡ packed (drop 4 text) ++ rest
 words_behind [] rest h = absurd (omega (arith, h))
@@ -95,7 +82,7 @@ some_words (a ∷ b ∷ []) rest h = omega arith
 some_words (a ∷ b ∷ c ∷ []) rest h = omega arith
 some_words (a ∷ b ∷ c ∷ d ∷ text) rest h = omega arith
 
--- what is left of a short name after so many of its bytes, and then the rest
+-- the rest of a short name from that byte on, and then what follows the name
 abbrev pub IsLeftOf : (ws : List ℕ) → ℕ → List ℕ → BeginsWithShortName ws → Type 0
 IsLeftOf ws at rest h = rest ≡ packed (drop at h.name) ++ h.rest
 

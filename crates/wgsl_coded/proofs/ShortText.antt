@@ -4,13 +4,13 @@ use Rattle.std.specs.Prelude.{IsAscii}
 use Rattle.std.specs.Int.{w32, to_le_bytes}
 use Rattle.std.proofs.lemmas.List.{append-nil, length-set, length-take-le, take-append-drop, take-append-le}
 use Rattle.std.proofs.lemmas.Grind.{take-set_at}
-use Rattle.std.proofs.Math.Seq.{take-append-add, take-length}
+use Rattle.std.proofs.Math.Seq.{take-append-add}
 use Rattle.wgsl_rules.specs.codes.Words.{bytes, packed, word}
 use Rattle.wgsl_rules.specs.codes.Reading.{name_at, number_at}
 use Rattle.wgsl_rules.proofs.codes.HeadsAgain.{bytes_of_word}
 use Rattle.wgsl_rules.proofs.codes.Numbers.{AreWords}
 use Rattle.wgsl_coded.specs.Names.{IsAsciiText}
-use Rattle.wgsl_coded.proofs.Ascii.{ascii_name_at}
+use Rattle.wgsl_coded.proofs.Ascii.{ascii_name_at, behind}
 
 -- the first `n` of four bytes
 abbrev first : ℕ → List ℕ → List ℕ
@@ -80,9 +80,7 @@ word_text n w bs h k e t =
 -- what follows the first word of a slice
 word_and_rest : (ws : List ℕ) → 0 < length ws → ws ≡ get_or ws 0 0 ∷ take (length ws - 1) (drop 1 ws)
 word_and_rest [] h = absurd (omega (arith, h))
-word_and_rest (w ∷ ws) h =
-    let len : length (w ∷ ws) - 1 ≡ length ws = omega arith in
-    ap (λ vs. w ∷ vs) (sym (ap (λ k. take k ws) len ∙ take-length ws))
+word_and_rest (w ∷ ws) h = ap (λ vs. w ∷ vs) (sym (behind w ws))
 
 -- one more word is copied
 pub one_copied : (len at : ℕ) (ws rest kept bs : List ℕ) → at < len → len ≤ 32 → AreCopied len at ws rest kept → 0 < length rest →
