@@ -1,4 +1,6 @@
 -- When out of memory may stand for an answer.
+use Rattle.std.specs.Prelude.{IsErrAnd}
+use Rattle.std.specs.declared.alloc.AllocError.{AllocError}
 use Rattle.std.proofs.Common.{◌≡◌, List, [], ◌∷◌, Option, Some, None, Result, Ok, Err, inl, inr, refl, sym, subst, Bool, true, false, cond}
 use Rattle.wgsl_syntax.specs.declared.scalar.Scalar.{Scalar}
 use Rattle.wgsl_syntax.specs.declared.scalar.Scalar.TheVariants.{F32}
@@ -13,14 +15,14 @@ use Rattle.wgsl_rules.specs.types.Signatures.{Parameter, Signature}
 use Rattle.wgsl_rules.specs.errors.Refusals.{Refusal, signature}
 use Rattle.wgsl_syntax.specs.declared.call.Row.{Row}
 use Rattle.wgsl_syntax.specs.declared.call.ReturnType.{ReturnType}
-use Rattle.wgsl_rules.specs.calls.Rows.{Fits, return_type_of, IsFromTemplate}
+use Rattle.wgsl_rules.specs.calls.Rows.{Fits, return_type_of, IsFromTemplate, given}
 use Rattle.wgsl_rules.specs.constructors.Constructors.{IsBuilt, IsConstructorAnswer, constructor_of, makes_scalar, scalar_call}
 use Rattle.wgsl_core.specs.declared.ty.Type.{«Type»}
 use Rattle.wgsl_core.specs.declared.error.Error.{Error}
 use Rattle.wgsl_core.specs.declared.error.Fail.{Fail}
 use Rattle.wgsl_core.specs.declared.error.Fail.TheVariants as fails
 use Rattle.wgsl_calls.specs.Constructors.{IsScalarMade}
-use Rattle.wgsl_calls.specs.internal.Answers.{Chooses, IsMet, Answered}
+use Rattle.wgsl_calls.specs.internal.Answers.{Answered, Chooses, IsBuilt as IsBuiltType, IsMet, MayBeOutOfMemory}
 
 abbrev Answer : Type 0
 Answer = Result (Option WgslType) Refusal
@@ -30,6 +32,20 @@ pub by_answer : (P : Answer → Type 0) (p : Option (List Parameter)) (a : Answe
 by_answer P p a (Ok t) k e = subst P e k
 by_answer P p a (Err (fails.Error x)) k e = subst P e k
 by_answer P p a (Err (fails.Memory m)) k e = λ n. (a, k, e)
+
+-- out of memory stands for an answer of P that it may stand for
+pub by_memory : (P : Answer → Type 0) (p : Option (List Parameter)) (e : AllocError) (r : Result (Option «Type») (Fail Error)) → (a : Answer) × P a × MayBeOutOfMemory a → IsErrAnd r (λ f. f ≡ fails.Memory e) → Answered P p r
+by_memory P p e (Ok x) found h = absurd h
+by_memory P p e (Err f) found h = subst (λ (f : Fail Error). Answered P p (Err f)) (sym h) (λ n. found)
+
+-- what wasn't built, since memory ran out, is no leaf type
+pub unbuilt : (P : Answer → Type 0) (c : Signature) (t : Option WgslType) (built : Option (Result «Type» AllocError)) (x : Result «Type» AllocError) (e : AllocError) →
+    IsBuiltType t built → built ≡ Some x → x ≡ Err e → P (given c t) → (a : Answer) × P a × MayBeOutOfMemory a
+unbuilt P c None None x e h is was k = absurd (cc is)
+unbuilt P c None (Some y) x e h is was k = absurd h
+unbuilt P c (Some t) None x e h is was k = absurd h
+unbuilt P c (Some t) (Some (Ok u)) x e h is was k = absurd (cc (is, was))
+unbuilt P c (Some t) (Some (Err f)) x e h is was k = (Ok (Some t), k, h)
 
 pub by_other : (P Q : Answer → Type 0) (p : Option (List Parameter)) (r : Result (Option «Type») (Fail Error)) → ((a : Answer) → P a → Q a) → Answered P p r → Answered Q p r
 by_other P Q p (Ok t) f k = f _ k

@@ -1,10 +1,9 @@
 // The types of calls of built-in functions (WGSL, "Built-in Functions").
-ghost use Rattle.std.specs.Prelude.{◌≡◌, [], ◌∷◌, Option, Some, None, Ok, Err, option_map, map, All};
-ghost use Rattle.wgsl_rules.specs.types.Types.{WgslType};
+ghost use Rattle.std.specs.Prelude.{◌≡◌, Err, option_map, map, All};
 ghost use Rattle.wgsl_rules.specs.conversion.Concrete.{concretized};
 ghost use Rattle.wgsl_rules.specs.errors.Refusals.{signature};
-ghost use Rattle.wgsl_rules.specs.calls.ResultTypes.{exchange_struct, ray_intersection_struct, hit_positions_type};
-ghost use Rattle.wgsl_rules.specs.calls.Rows.{IsResultFor, IsFromTemplate, IsReturnType, return_type_of as return_type_of_row, given as given_for};
+ghost use Rattle.wgsl_rules.specs.calls.ResultTypes.{exchange_struct};
+ghost use Rattle.wgsl_rules.specs.calls.Rows.{IsResultFor, IsFromTemplate, IsReturnType, return_type_of as return_type_of_row};
 ghost use Rattle.wgsl_rules.specs.templates.Templates.{IsBitcastTemplate};
 ghost use Rattle.wgsl_rules.specs.calls.Table.{call_table, rows_named};
 ghost use Rattle.wgsl_rules.specs.calls.Answers.{IsCallAnswer, IsLeastCallAnswer, IsLeafCall};
@@ -147,49 +146,22 @@ fn by_return_type(
         (template_of call.now) result }
 {
     let args = call.args;
-    match return_type {
-        ReturnType::Of(of) => given(alloc, built(alloc, bare(type_of_source(of, args))), call),
-        ReturnType::Concrete(of) => given(alloc, concrete(alloc, type_of_source(of, args)), call),
+    let built = match return_type {
+        ReturnType::Of(of) => built(alloc, bare(type_of_source(of, args))),
+        ReturnType::Concrete(of) => concrete(alloc, type_of_source(of, args)),
         ReturnType::AsLong(of) => {
-            let found = as_long(argument(args, 0), type_of_source(of, args));
-            given(alloc, built(alloc, found), call)
+            built(alloc, as_long(argument(args, 0), type_of_source(of, args)))
         }
-        ReturnType::InVector(n, of) => {
-            let found = in_vector(n, type_of_source(of, args));
-            given(alloc, built(alloc, found), call)
-        }
-        ReturnType::Transposed => given(alloc, built(alloc, transposed(argument(args, 0))), call),
-        ReturnType::TextureSize => {
-            given(alloc, built(alloc, texture_size(argument(args, 0))), call)
-        }
-        ReturnType::ResultOf(function) => {
-            let found = split_result(function, argument(args, 0));
-            given(alloc, split(alloc, found), call)
-        }
-        ReturnType::ExchangeResult => {
-            given(
-                alloc,
-                exchanged(alloc, inner(inner(argument(args, 0)))),
-                call,
-            )
-        }
-        ReturnType::RayIntersection => intersection(alloc),
-        ReturnType::HitPositions => positions(alloc),
-        ReturnType::NoValue => Ok(None),
-        ReturnType::ByTemplate => by_template(alloc, call),
-    }
-}
-
-/// The type that was built, or the refusal if none was found.
-#[inline(always)]
-fn given(
-    alloc: Global,
-    built: Option<Result<Type, AllocError>>,
-    call: &Call<'_>,
-) -> Result<Option<Type>, Fail<Error>>
-    ensures { (t : Option WgslType) → IsBuilt t built
-        → IsMet (given_for (signature_of call.now) t) result }
-{
+        ReturnType::InVector(n, of) => built(alloc, in_vector(n, type_of_source(of, args))),
+        ReturnType::Transposed => built(alloc, transposed(argument(args, 0))),
+        ReturnType::TextureSize => built(alloc, texture_size(argument(args, 0))),
+        ReturnType::ResultOf(function) => split(alloc, split_result(function, argument(args, 0))),
+        ReturnType::ExchangeResult => exchanged(alloc, inner(inner(argument(args, 0)))),
+        ReturnType::RayIntersection => Some(ray_intersection(alloc)),
+        ReturnType::HitPositions => Some(hit_positions(alloc)),
+        ReturnType::NoValue => return Ok(None),
+        ReturnType::ByTemplate => return by_template(alloc, call),
+    };
     match built {
         Some(built) => Ok(Some(built?)),
         None => refuse(alloc, call),
@@ -243,19 +215,6 @@ fn exchanged(alloc: Global, ty: Option<&Type>) -> Option<Result<Type, AllocError
     ensures { IsBuilt (option_map exchange_struct (option_map (λ t. view t.now) ty.entry)) result }
 {
     Some(exchange_result(alloc, ty?))
-}
-
-#[tactic(auto, using(crate::proofs::OutOfMemory::no_leaf_intersection))]
-fn intersection(alloc: Global) -> Result<Option<Type>, Fail<Error>>
-    ensures { IsMet (Ok (Some ray_intersection_struct)) result }
-{
-    Ok(Some(ray_intersection(alloc)?))
-}
-
-fn positions(alloc: Global) -> Result<Option<Type>, Fail<Error>>
-    ensures { IsMet (Ok (Some hit_positions_type)) result }
-{
-    Ok(Some(hit_positions(alloc)?))
 }
 
 /// The type that `bitcast` returns: that of its template.
