@@ -5,14 +5,15 @@ that `common` reads and the words of a refusal; a name, a list of one argument t
 none. In text each list takes one, and so does an answer that is one word or has at most 8 bytes. Other answers of at most 16
 bytes take two.
 
-By WGSL's own overloads the words of what a call in numbers resolves to take none. Why there is none takes three if each
-overload takes the operands, and one more for a name. In text a call builds the type of its result, and takes three. The text
-of a vector grows once for each 8 bytes behind the first. To read a type from its spelling takes three, and two more for a
-vector; it is spelled again, to compare the two."""
+By WGSL's own overloads nothing is allocated for scalars and vectors of scalars, be they operands or results, nor for the words
+of what a call in numbers resolves to. Why there is none takes three if each overload takes the operands, one more for a name,
+and one for each vector. In text a call takes one, and that of a name one more for the list of its operands. The text of a
+vector grows once for each 8 bytes behind the first. To read a type from its spelling takes three, and two more for a vector; it
+is spelled again, to compare the two."""
 from number_calls import CALLS
 from random_types import Random, words
 from wgsl import standard
-from wgsl.codes import BINARY, UNARY, Reader, encode, encode_list, encode_name, encode_signature
+from wgsl.codes import BINARY, UNARY, encode, encode_list, encode_name, encode_signature
 from wgsl.values import SCALARS, Scalar, Vector
 
 CONSTRUCTORS = "bool i32 u32 f32 f16 vec2 vec3 vec4".split()
@@ -114,16 +115,14 @@ def resolved(library, count):
     rng, asked, told = Random(6), [], []
     while min(len(asked), len(told)) < count:
         kind, name, operands, request = short_call(rng)
-        given, read = standard.encode_call(kind, name, operands), vectors(operand.type for operand in operands)
+        given, has_name = standard.encode_call(kind, name, operands), kind in ("call", "constructor")
         if library.ask("standard_why", given) == (0, [0, 0]):
-            asked.append((in_hexadecimal("standard_why", given), 3 + read + (kind in ("call", "constructor"))))
-        status, reply = library.ask("standard_resolve", given)
-        if status == 1:
-            asked.append((in_hexadecimal("standard_resolve", given), read))
-            continue
-        found, text = Reader(reply).all(standard.read_resolution), library.text("standard_answer", request)
-        asked.append((in_hexadecimal("standard_resolve", given), read))
-        told.append((f"standard_answer {request}", 3 + read + isinstance(found.result, Vector) + growth(text)))
+            read = vectors(operand.type for operand in operands)
+            asked.append((in_hexadecimal("standard_why", given), 3 + read + has_name))
+        asked.append((in_hexadecimal("standard_resolve", given), 0))
+        if library.ask("standard_resolve", given)[0] == 0:
+            text = library.text("standard_answer", request)
+            told.append((f"standard_answer {request}", 1 + has_name + growth(text)))
     return asked, told
 
 

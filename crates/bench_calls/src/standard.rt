@@ -68,10 +68,7 @@ fn callee(name: &str) -> Callee<'_> {
 fn operands_of(alloc: Global, types: &[Type]) -> Result<Vec<Operand<'_>>, AllocError> {
     let mut operands = Vec::with_capacity(alloc, types.len())?;
     for ty in types {
-        operands.push(Operand {
-            ty,
-            is_constant: false,
-        })?;
+        operands.push(Operand::of(ty, false))?;
     }
     Ok(operands)
 }

@@ -31,14 +31,8 @@ fn show_call<W: Write>(alloc: Global, output: &mut W, args: &[Operand<'_>]) -> i
 /// Two calls with a variable `v` of this type.
 fn show_calls<W: Write>(alloc: Global, output: &mut W, ty: &Type) -> io::Result<()> {
     let literal = Type::AbstractInt;
-    let v = Operand {
-        ty,
-        is_constant: false,
-    };
-    let one = Operand {
-        ty: &literal,
-        is_constant: true,
-    };
+    let v = Operand::of(ty, false);
+    let one = Operand::of(&literal, true);
     writeln!(output, "mix(v, v, 1)")?;
     show_call(alloc, output, &[v, v, one])?;
     writeln!(output, "mix(v, 1, 1)")?;

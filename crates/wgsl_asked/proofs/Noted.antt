@@ -13,7 +13,7 @@ use Rattle.wgsl_core.specs.View.{view}
 use Rattle.wgsl_core.specs.declared.ty.Type.{«Type»}
 use Rattle.wgsl_standard.specs.Callees.{callee_view}
 use Rattle.wgsl_standard.specs.Explained.{IsExplained, IsExplainedWith, note_view}
-use Rattle.wgsl_standard.specs.Operands.{operands_view}
+use Rattle.wgsl_standard.specs.Operands.{given_type, operands_view}
 use Rattle.wgsl_standard.specs.Texts.{note_listed, note_text, types_given}
 use Rattle.wgsl_standard.specs.declared.callee.Callee.{Callee}
 use Rattle.wgsl_standard.specs.declared.explanation.Note.{Note}
@@ -34,7 +34,7 @@ notes_with callee (Some t) xs ns h = by_template (is_template t) h
 
 same_types : (xs : List Operand) → types_given xs ≡ types_of (map written_view xs)
 same_types [] = refl
-same_types (x ∷ xs) = ap (λ ts. view x.ty.now ∷ ts) (same_types xs)
+same_types (x ∷ xs) = ap (λ ts. given_type x.ty ∷ ts) (same_types xs)
 
 -- the lines on a call with this template
 abbrev Explained : Callee → List Operand → List (List ℕ) → Option WgslType → Type 0

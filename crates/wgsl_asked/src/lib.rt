@@ -6,4 +6,4 @@ pub mod ask;
 pub mod common;
 mod overloads;
 pub mod requests;
-mod standard;
+pub mod standard;

@@ -5,6 +5,7 @@ ghost use Rattle.wgsl_core.specs.View.{view};
 ghost use Rattle.wgsl_core.specs.declared.error.Fail.TheVariants.{Error};
 ghost use Rattle.wgsl_standard.specs.Answered.{no_overload};
 ghost use Rattle.wgsl_standard.specs.Resolved.{resolved_view};
+ghost use Rattle.wgsl_standard.specs.Results.{result_view};
 ghost use Rattle.wgsl_standard.specs.Texts.{note_text};
 ghost use Rattle.wgsl_asked.specs.Calls.{template_type};
 ghost use Rattle.wgsl_asked.specs.Standard.{IsExplanationOf, IsResolutionOf, IsTypeOf};
@@ -18,6 +19,7 @@ use wgsl_core::ty::Type;
 use wgsl_standard::answer::NoOverload;
 use wgsl_standard::call::{resolve_callee, type_of_call};
 use wgsl_standard::explanation::{Note, explain};
+use wgsl_standard::instance::ResultType;
 use wgsl_standard::resolved::ResolvedCall;
 
 /// The type that a template is; None if it is something else.
@@ -35,8 +37,8 @@ fn template_type(template: Option<&[TpltParam]>) -> Option<Option<&Type>>
 
 /// The type of a call, if it has a value.
 #[inline(always)]
-pub(crate) fn type_of(alloc: Global, call: &Call<'_>) -> Result<Option<Option<Type>>, AllocError>
-    ensures { IfOk result (λ r. IsTypeOf (call_view call.now) (option_map (option_map view) r)) }
+pub fn type_of(alloc: Global, call: &Call<'_>) -> Result<Option<Option<ResultType>>, AllocError>
+    ensures { IfOk result (λ r. IsTypeOf (call_view call.now) (option_map (option_map result_view) r)) }
 {
     let Some(template) = template_type(call.template) else {
         return Ok(None);

@@ -1,11 +1,11 @@
 // How a reply in words is returned to C.
 ghost use Rattle.std.specs.Prelude.{◌≢◌, Err, List, Ok, ℕ};
 ghost use Rattle.wgsl_core.specs.Answer.{IsAnswered};
-ghost use Rattle.wgsl_coded.specs.Seen.{reply_words, resolved_words, seen};
+ghost use Rattle.wgsl_coded.specs.Seen.{reply_words, resolved_words, seen, short_words};
 ghost use Rattle.wgsl_c.specs.Words.{IsHandedReply, IsHandedText, IsRoomKept};
 
 use crate::hand_over::{ANSWERED, OUT_OF_MEMORY, RULED_OUT, UNREADABLE, hand_over_items};
-use wgsl_coded::{Reply, Resolved, Unreadable};
+use wgsl_coded::{Reply, ShortWords, Unreadable};
 use wgsl_core::error::Fail;
 
 /// Returns the words of a reply.
@@ -25,19 +25,33 @@ pub fn hand_over_reply(
     }
 }
 
-/// Returns the words of what a call resolves to.
+/// Returns the short words of what a call resolves to, or the refusal without words.
+#[inline(always)]
+pub fn hand_over_short(found: bool, short: &ShortWords<12>, room: &mut [u32], len: &mut usize) -> u8
+    ensures reply { IsHandedReply (Ok (short_words found short.now)) room.old room.new len.new result }
+    ensures room { IsRoomKept room.old room.new len.new result }
+{
+    if found {
+        hand_over_items(ANSWERED, short.as_slice(), room, len)
+    } else {
+        hand_over_items(RULED_OUT, &[], room, len)
+    }
+}
+
+/// Returns the words of what a call resolves to: those in `short` if there is no reply.
 #[inline(always)]
 pub fn hand_over_resolved(
-    resolved: &Result<Resolved, Fail<Unreadable>>,
+    resolved: &Result<Option<Reply>, Fail<Unreadable>>,
+    short: &ShortWords<12>,
     room: &mut [u32],
     len: &mut usize,
 ) -> u8
-    ensures reply { IsHandedReply (seen resolved_words resolved.now) room.old room.new len.new result }
+    ensures reply { IsHandedReply (seen (resolved_words short.now) resolved.now) room.old room.new len.new result }
     ensures room { IsRoomKept room.old room.new len.new result }
 {
     match resolved {
-        Ok(Resolved::Short(words)) => hand_over_items(ANSWERED, words.as_slice(), room, len),
-        Ok(Resolved::Other(reply)) => hand_over_words(reply, room, len),
+        Ok(None) => hand_over_items(ANSWERED, short.as_slice(), room, len),
+        Ok(Some(reply)) => hand_over_words(reply, room, len),
         Err(fail) => hand_over_fail(fail, len),
     }
 }

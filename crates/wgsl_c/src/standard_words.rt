@@ -13,9 +13,11 @@ ghost use Rattle.wgsl_coded.specs.declared.unreadable.Unreadable.{Unreadable};
 ghost use Rattle.wgsl_core.specs.declared.error.Fail.{Fail};
 ghost use Rattle.wgsl_c.specs.Words.{IsHandedReply, IsHandedText, IsRoomKept};
 
-use crate::hand_over_words::{hand_over_reply, hand_over_resolved, hand_over_text};
+use crate::hand_over_words::{
+    hand_over_reply, hand_over_resolved, hand_over_short, hand_over_text,
+};
 use std::alloc::Global;
-use wgsl_coded::{message, overloads, resolve, spell, why};
+use wgsl_coded::{ShortWords, message, overloads, resolve, resolve_values, spell, why};
 
 /// What a call of an operator, of a built-in function or of a constructor resolves to.
 #[unsafe(no_mangle)]
@@ -29,7 +31,22 @@ pub extern "C" fn wgsl_standard_resolve(
         × IsHandedReply reply room.old room.new len.new result }
     ensures room { IsRoomKept room.old room.new len.new result }
 {
-    hand_over_resolved(&resolve(alloc, request), room, len)
+    let mut short = ShortWords::new();
+    match resolve_values(request, &mut short) {
+        Some(found) => hand_over_short(found, &short, room, len),
+        None => resolve_types(alloc, request, room, len),
+    }
+}
+
+/// The same, with operands of any type.
+#[inline(never)]
+fn resolve_types(alloc: Global, request: &[u32], room: &mut [u32], len: &mut usize) -> u8
+    ensures reply { (reply : Result ReplyWords (Fail Unreadable)) × IsResolveReply request.now reply
+        × IsHandedReply reply room.old room.new len.new result }
+    ensures room { IsRoomKept room.old room.new len.new result }
+{
+    let mut short = ShortWords::new();
+    hand_over_resolved(&resolve(alloc, request, &mut short), &short, room, len)
 }
 
 /// The overloads of a name.

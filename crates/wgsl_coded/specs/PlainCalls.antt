@@ -1,5 +1,5 @@
 -- Calls of WGSL's own overloads without a template, their operands read one by one.
-use Rattle.std.specs.Prelude.{◌≡◌, ℕ, List, Option, Some, None, Result, Ok, Err, take}
+use Rattle.std.specs.Prelude.{◌≡◌, ℕ, List, Option, Some, None, take}
 use Rattle.wgsl_syntax.specs.declared.overload.Overload.{Overload}
 use Rattle.wgsl_rules.specs.standard.Answers.{IsResolution}
 use Rattle.wgsl_rules.specs.standard.Choice.{Operand}
@@ -8,14 +8,9 @@ use Rattle.wgsl_rules.specs.codes.DecodingSignatures.{parts_in_order}
 use Rattle.wgsl_standard.specs.Callees.{WgslCallee, a_unary, a_binary, a_function, a_constructor}
 use Rattle.wgsl_asked.specs.Calls.{WgslCall, WgslResolution}
 use Rattle.wgsl_asked.specs.Requests.{WgslRequest, resolution_of}
-use Rattle.wgsl_coded.specs.Replies.{resolution_words, words_or_none}
+use Rattle.wgsl_coded.specs.Replies.{ReplyWords, resolution_words, words_or_none}
 use Rattle.wgsl_coded.specs.Requests.{whole}
-use Rattle.wgsl_coded.specs.Seen.{resolved_words}
 use Rattle.wgsl_coded.specs.StandardCalls.{operand_at, standard_call_at}
-use Rattle.wgsl_core.specs.declared.error.Fail.{Fail}
-use Rattle.wgsl_coded.specs.declared.unreadable.Unreadable.{Unreadable}
-use Rattle.wgsl_core.specs.declared.error.Fail.TheVariants as fails
-use Rattle.wgsl_coded.specs.declared.resolved.Resolved.{Resolved}
 use Rattle.wgsl_coded.specs.declared.fast.callees.ShortCallee.{ShortCallee}
 use Rattle.wgsl_coded.specs.declared.fast.callees.ShortCallee.TheVariants as callees
 
@@ -41,9 +36,7 @@ IsPlainCall ws callee count rest = standard_call_at ws
 abbrev pub resolution_in : Option WgslCall → Option WgslRequest
 resolution_in call = call >>= λ c. Some (resolution_of c)
 
--- the reply has the words of what these overloads resolve to, unless memory runs out
-abbrev pub IsResolvedReply : List Overload → List Operand → Result Resolved (Fail Unreadable) → Type 0
-IsResolvedReply os xs (Ok reply) = (r : Option WgslResolution) × IsResolution os xs r
-    × (resolved_words reply ≡ words_or_none resolution_words r)
-IsResolvedReply os xs (Err (fails.Memory e)) = Unit {0}
-IsResolvedReply os xs (Err (fails.Error e)) = ⊥
+-- the words of what these overloads resolve to
+abbrev pub IsResolvedWords : List Overload → List Operand → ReplyWords → Type 0
+IsResolvedWords os xs words = (r : Option WgslResolution) × IsResolution os xs r
+    × (words ≡ words_or_none resolution_words r)

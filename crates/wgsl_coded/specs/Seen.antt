@@ -1,10 +1,9 @@
 -- How the replies of the code are seen.
-use Rattle.std.specs.Prelude.{◌≡◌, ◌≢◌, [], ◌∷◌, Result, Ok, Err}
+use Rattle.std.specs.Prelude.{◌≡◌, ◌≢◌, [], ◌∷◌, Bool, true, false, Option, Some, None, Result, Ok, Err}
 use Rattle.wgsl_coded.specs.declared.unreadable.Unreadable.{Unreadable}
 use Rattle.wgsl_coded.specs.declared.reply.Reply.{Reply}
 use Rattle.wgsl_coded.specs.declared.reply.Reply.TheVariants.{Answer, Word, Short, Refusal}
-use Rattle.wgsl_coded.specs.declared.resolved.Resolved.{Resolved}
-use Rattle.wgsl_coded.specs.declared.resolved.Resolved.TheVariants as resolved
+use Rattle.wgsl_coded.specs.declared.fast.short.ShortWords.{ShortWords}
 use Rattle.wgsl_rules.specs.codes.Refusals.{refusal_code}
 use Rattle.wgsl_core.specs.Answer.{refusal}
 use Rattle.wgsl_core.specs.declared.error.Error.{Error}
@@ -26,10 +25,15 @@ reply_words (Word word) = answered (word ∷ [])
 reply_words (Short words) = answered (short_items words)
 reply_words (Refusal words) = refused words.items
 
--- the words of what a call resolves to
-abbrev pub resolved_words : Resolved → ReplyWords
-resolved_words (resolved.Short words) = answered (short_items words)
-resolved_words (resolved.Other reply) = reply_words reply
+-- the words of what a call resolves to: those that are short if there is no reply
+abbrev pub resolved_words : ShortWords 12 → Option Reply → ReplyWords
+resolved_words short None = answered (short_items short)
+resolved_words short (Some reply) = reply_words reply
+
+-- the same of a call that resolves with short words, or doesn't
+abbrev pub short_words : Bool → ShortWords 12 → ReplyWords
+short_words true short = answered (short_items short)
+short_words false short = refused []
 
 -- the reply has these words, unless memory runs out
 abbrev pub HasWords : ReplyWords → Result Reply (Fail Unreadable) → Type 0

@@ -6,3 +6,4 @@ pub(crate) mod resolved;
 pub(crate) mod scalars;
 pub(crate) mod short;
 pub(crate) mod short_name;
+pub(crate) mod values;

@@ -35,10 +35,7 @@ impl ReadOperand {
     pub(crate) fn borrowed(&self) -> Operand<'_>
         ensures { written_view result ≡ read_operand_view self.now }
     {
-        Operand {
-            ty: &self.ty,
-            is_constant: self.is_constant,
-        }
+        Operand::of(&self.ty, self.is_constant)
     }
 }
 

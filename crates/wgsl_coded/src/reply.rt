@@ -7,6 +7,7 @@ ghost use Rattle.wgsl_rules.specs.types.Kinds.{IsScalar};
 ghost use Rattle.wgsl_core.specs.Answer.{IsAnswered, refusal};
 ghost use Rattle.wgsl_core.specs.View.{view};
 ghost use Rattle.wgsl_standard.specs.Resolved.{resolved_view};
+ghost use Rattle.wgsl_standard.specs.Results.{result_view};
 ghost use Rattle.wgsl_asked.specs.Answers.{Answers, WgslAnswer, a_type, a_value};
 ghost use Rattle.wgsl_asked.specs.Memory.{AsksForNoMemory};
 ghost use Rattle.wgsl_asked.specs.Views.{answer_view, outcome, request_view};
@@ -28,6 +29,7 @@ use wgsl_asked::ask::answer;
 use wgsl_asked::requests::Request;
 use wgsl_core::error::{Error, Fail};
 use wgsl_core::ty::Type;
+use wgsl_standard::instance::{ResultType, built};
 use wgsl_standard::resolved::ResolvedCall;
 
 /// The words of a reply.
@@ -70,7 +72,7 @@ fn write_answer(alloc: Global, answer: Answer<'_>) -> Result<Reply, Fail<Unreada
         Answer::Binary(Err(operands)) => refuse_operands(alloc, operands),
         Answer::Offsets(Some(offsets)) => Ok(Reply::Answer(offsets)),
         Answer::Layout(_, Some(layout)) => reply_with_layout(alloc, layout),
-        Answer::TypeOf(_, Some(returned)) => reply_with_returned(alloc, returned),
+        Answer::TypeOf(_, Some(found)) => reply_with_result(alloc, found),
         Answer::Resolution(_, Some(resolved)) => reply_with_resolution(alloc, resolved),
         Answer::Overloads(signatures) => reply_with_list(alloc, signatures),
         Answer::Notes(notes) => reply_with_list(alloc, notes),
@@ -123,6 +125,13 @@ fn reply_with_returned(alloc: Global, returned: Option<Type>) -> Result<Reply, F
         Some(ty) => reply_with_code(alloc, &ty),
         None => Ok(Reply::Short(ShortWords::new())),
     }
+}
+
+/// The code of the result of a call, or no words.
+fn reply_with_result(alloc: Global, found: Option<ResultType>) -> Result<Reply, Fail<Unreadable>>
+    ensures { HasWords (answered (value_words (option_map result_view found))) result }
+{
+    reply_with_returned(alloc, built(alloc, found)?)
 }
 
 /// The words of what a call resolves to.

@@ -4,24 +4,15 @@ ghost use Rattle.wgsl_core.specs.View.{view};
 ghost use Rattle.wgsl_standard.specs.Resolved.{resolved_view};
 ghost use Rattle.wgsl_coded.specs.Replies.{optional_code, resolution_words};
 
-use crate::fast::short::ShortWords;
 use crate::names::write_name;
 use crate::parts::{WritePart, write_list};
-use crate::reply::{Reply, new_words};
+use crate::reply::new_words;
 use crate::writing::write;
 use std::alloc::{AllocError, Global};
 use wgsl_core::ty::Type;
 use wgsl_standard::explanation::Note;
 use wgsl_standard::resolved::ResolvedCall;
 use wgsl_standard::signature::Signature;
-
-/// The words of what a call resolves to, or of the refusal.
-#[derive(Drop)]
-pub enum Resolved {
-    /// The answer, if it is short.
-    Short(ShortWords<12>),
-    Other(Reply),
-}
 
 /// The words of what a call resolves to.
 #[tactic(auto, using(std::proofs::lemmas::List::append_assoc))]

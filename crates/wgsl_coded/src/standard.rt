@@ -10,42 +10,47 @@ ghost use Rattle.wgsl_coded.specs.Seen.{reply_words, resolved_words, seen};
 
 use crate::fast::callees::read_plain_call;
 use crate::fast::resolved::{resolve_one, resolve_three, resolve_two};
+use crate::fast::short::ShortWords;
 use crate::names::read_name;
 use crate::overloaded::{ReadCall, borrowed_operands, read_standard_call};
 use crate::reply::{Reply, reply_to};
 use crate::requests::if_ended;
-use crate::resolved::Resolved;
 use crate::unreadable::Unreadable;
 use std::alloc::Global;
 use wgsl_asked::requests::{Call, Request};
 use wgsl_core::error::Fail;
 
 /// The overload that a call has, the types of its parameters and its result; refused without words if none takes the
-/// operands. The request is the call. If it is plain, nothing is allocated for its name and for the list of its operands.
+/// operands. The request is the call. A short answer is put in `short`, and then nothing is returned. If the call is plain,
+/// nothing is allocated for its name and for the list of its operands.
 #[inline(always)]
-pub fn resolve(alloc: Global, request: &[u32]) -> Result<Resolved, Fail<Unreadable>>
-    ensures { IsResolveReply request.now (seen resolved_words result) }
+pub fn resolve(
+    alloc: Global,
+    request: &[u32],
+    short: &mut ShortWords<12>,
+) -> Result<Option<Reply>, Fail<Unreadable>>
+    ensures { IsResolveReply request.now (seen (resolved_words short.new) result) }
 {
     let Some((callee, count, words)) = read_plain_call(request) else {
-        return resolve_any(alloc, request);
+        return Ok(Some(resolve_any(alloc, request)?));
     };
     match count {
-        1 => resolve_one(alloc, callee.borrowed(), words),
-        2 => resolve_two(alloc, callee.borrowed(), words),
-        3 => resolve_three(alloc, callee.borrowed(), words),
-        _ => resolve_any(alloc, request),
+        1 => resolve_one(alloc, callee.borrowed(), words, short),
+        2 => resolve_two(alloc, callee.borrowed(), words, short),
+        3 => resolve_three(alloc, callee.borrowed(), words, short),
+        _ => Ok(Some(resolve_any(alloc, request)?)),
     }
 }
 
 /// The reply to a call, with a template or without one, and any number of operands.
 #[inline(never)]
-fn resolve_any(alloc: Global, request: &[u32]) -> Result<Resolved, Fail<Unreadable>>
-    ensures { IsResolveReply request.now (seen resolved_words result) }
+fn resolve_any(alloc: Global, request: &[u32]) -> Result<Reply, Fail<Unreadable>>
+    ensures { IsResolveReply request.now (seen reply_words result) }
 {
     let call = read_standard_call(alloc, request)?;
     let reply = resolution(alloc, &call);
     drop(call);
-    Ok(Resolved::Other(reply?))
+    reply
 }
 
 fn resolution(alloc: Global, call: &ReadCall) -> Result<Reply, Fail<Unreadable>>

@@ -14,15 +14,9 @@ use wgsl_types::{Fail, Type};
 
 pub fn print_standard<W: Write>(lines: &mut Lines<W>, arguments: &Arguments) -> io::Result<()> {
     let [integers, unsigned] = &arguments.types.vectors;
-    let constant = Operand {
-        ty: integers,
-        is_constant: true,
-    };
-    let variable = Operand {
-        ty: unsigned,
-        is_constant: false,
-    };
-    print_types(lines, constant, variable)?;
+    let constant = Operand::of(integers, true);
+    let variable = Operand::of(unsigned, false);
+    print_types(lines, constant, variable, unsigned)?;
     print_resolved(lines, constant, variable)?;
     print_overloads(lines, variable)
 }
@@ -31,6 +25,7 @@ fn print_types<W: Write>(
     lines: &mut Lines<W>,
     constant: Operand<'_>,
     variable: Operand<'_>,
+    template: &Type,
 ) -> io::Result<()> {
     let alloc = lines.alloc;
     let both = [constant, variable];
@@ -48,7 +43,7 @@ fn print_types<W: Write>(
     )?;
     lines.option(
         "standard::type_builtin_fn bitcast",
-        or_none(type_builtin_fn(alloc, "bitcast", Some(variable.ty), &[constant])),
+        or_none(type_builtin_fn(alloc, "bitcast", Some(template), &[constant])),
     )?;
     lines.option(
         "standard::type_ctor",

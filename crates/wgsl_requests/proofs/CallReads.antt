@@ -1,7 +1,6 @@
 -- What is read of calls, and that no two stand at the front of the same words.
 use Rattle.std.proofs.Common.{◌≡◌, ◌≢◌, ◌++◌, ℕ, Bool, true, false, List, [], ◌∷◌, Option, Some, None, codes, length, refl, sym, ap, subst, ◌∙◌, arith}
 use Rattle.std.specs.Bool.{MatchBool}
-use Rattle.std.specs.Prelude.{MatchOption}
 use Rattle.std.specs.Str.{bytes_eq}
 use Rattle.std.proofs.lemmas.List.{append-nil}
 use Rattle.std.proofs.lemmas.Slice.Eq.{bytes_eq-Decides}
@@ -19,11 +18,11 @@ use Rattle.wgsl_standard.specs.Callees.{WgslCallee, a_binary, a_constructor, a_f
 use Rattle.wgsl_asked.specs.Calls.{WgslCall}
 use Rattle.wgsl_requests.specs.Calls.{HasArity, HeadAt, IsCall, OperandAt, OperandsAt, arity_of, binary_at, call_at, constant_at, ctor_at, no_operands_at, operand_at, plain_at, unary_at}
 use Rattle.wgsl_requests.specs.Grammar.{TypeAt}
-use Rattle.wgsl_requests.specs.Reading.{IsText, NoneAt, OneWord, Then}
+use Rattle.wgsl_requests.specs.Reading.{IsText, NoneAt, OneWord}
 use Rattle.wgsl_requests.specs.Templates.{TemplateAt}
-use Rattle.wgsl_requests.specs.internal.Asked.{AreOperands, NamedAt, plain_there}
+use Rattle.wgsl_requests.specs.internal.Asked.{AreOperands, NamedAt, called, plain_there}
 use Rattle.wgsl_requests.proofs.Forms.{form, leaf_form}
-use Rattle.wgsl_requests.proofs.Meanings.{Made, OneMeaning, OneThing, both_bool, into_past, not_eq, one_made, one_then, one_word, past, text_one}
+use Rattle.wgsl_requests.proofs.Meanings.{Made, OneMeaning, OneThing, both_bool, not_eq, one_made, one_then, one_word, past, text_one}
 use Rattle.wgsl_requests.proofs.OneType.{one_type}
 use Rattle.wgsl_requests.proofs.TemplateReads.{one_template}
 
@@ -217,6 +216,34 @@ one_operands (operand_at {words} {rest} {x} {xs} d ds) (y ∷ ys) e =
     let b = one_operands ds ys (subst (λ ws. OperandsAt ws ys) (sym a.1) f.2) in
     ap (λ x. x ∷ xs) a.0 ∙ ap (λ xs. y ∷ xs) b
 
+-- one operand, or two
+
+pub no_operand : (words : List (List ℕ)) → words ≡ [] → NoneAt OperandAt words
+no_operand words none x rest d = no_operand_of_nothing words x rest none d
+
+pub not_last : (words after : List (List ℕ)) (x : Operand) → OperandAt words x after → (after ≡ [] → ⊥) → (y : Operand) → ¬ OperandAt words y []
+not_last words after x d more y e = more (one_operand words x y after [] d e).1
+
+not_alone : (words : List (List ℕ)) → ((x : Operand) → ¬ OperandAt words x []) → (xs : List Operand) → ¬ AreOperands (Some 1) words xs
+not_alone words none [] ds = absurd (cc ds.1)
+not_alone words none (x ∷ []) ds =
+    let f : OperandsForm words (x ∷ []) = operands_form ds.0 in
+    let end : f.0 ≡ [] = operands_form f.2 in none x (subst (λ ws. OperandAt words x ws) end f.1)
+not_alone words none (x ∷ y ∷ xs) ds = let n : length (x ∷ y ∷ xs) ≡ 1 = ds.1 in absurd (omega (arith, n))
+
+pub pair_read : (words mid : List (List ℕ)) (x y : Operand) → OperandAt words x mid → OperandAt mid y [] → AreOperands (Some 2) words (x ∷ y ∷ [])
+pair_read words mid x y d e = (operand_at d (operand_at e no_operands_at), refl)
+
+pub no_second : (words mid : List (List ℕ)) (first : Operand) → OperandAt words first mid → ((x : Operand) → ¬ OperandAt mid x []) → (xs : List Operand) → ¬ AreOperands (Some 2) words xs
+no_second words mid first d none [] ds = absurd (cc ds.1)
+no_second words mid first d none (x ∷ []) ds = let n : length (x ∷ []) ≡ 2 = ds.1 in absurd (omega (arith, n))
+no_second words mid first d none (x ∷ y ∷ []) ds =
+    let f : OperandsForm words (x ∷ y ∷ []) = operands_form ds.0 in
+    let g : OperandsForm f.0 (y ∷ []) = operands_form f.2 in
+    let end : g.0 ≡ [] = operands_form g.2 in
+    none y (subst (λ ws. OperandAt ws y []) (sym (one_operand words first x mid f.0 d f.1).1) (subst (λ ws. OperandAt f.0 y ws) end g.1))
+no_second words mid first d none (x ∷ y ∷ z ∷ xs) ds = let n : length (x ∷ y ∷ z ∷ xs) ≡ 2 = ds.1 in absurd (omega (arith, n))
+
 -- all words are these operands and others, if the words from now on are the others
 pub record Listed (start : List (List ℕ)) (xs : List Operand) (now : List (List ℕ)) : Type 0 where
   pub forth : (ys : List Operand) → OperandsAt now ys → OperandsAt start (xs ++ ys)
@@ -228,10 +255,6 @@ listed_start start xs e = subst (λ xs. Listed start xs start) (sym e) (record {
 append-one : (xs ys : List Operand) (x : Operand) → (xs ++ x ∷ []) ++ ys ≡ xs ++ x ∷ ys
 append-one [] ys x = refl
 append-one (z ∷ xs) ys x = ap (λ zs. z ∷ zs) (append-one xs ys x)
-
-length-more : (xs : List Operand) (y : Operand) (ys : List Operand) → length (xs ++ y ∷ ys) ≡ length xs → ⊥
-length-more [] y ys e = absurd (cc e)
-length-more (x ∷ xs) y ys e = length-more xs y ys (cc e)
 
 module _ (start : List (List ℕ)) (xs : List Operand) (now : List (List ℕ)) (h : Listed start xs now) where
   pub listed_more : (x : Operand) (after : List (List ℕ)) (more : List Operand) → OperandAt now x after → more ≡ xs ++ x ∷ [] → Listed start more after
@@ -250,32 +273,7 @@ module _ (start : List (List ℕ)) (xs : List Operand) (now : List (List ℕ)) (
   pub listed_end : now ≡ [] → OperandsAt start xs
   listed_end e = subst (OperandsAt start) (append-nil xs) (h.forth [] (subst (λ ws. OperandsAt ws []) (sym e) no_operands_at))
 
-  pub listed_none : (word : List ℕ) (words : List (List ℕ)) → now ≡ word ∷ words → NoneAt OperandAt now → (ys : List Operand) → OperandsAt start ys → ⊥
-  listed_none word words e none ys ds = let b = h.back ys ds in step b.0 b.1
-    where
-      step : (others : List Operand) → OperandsAt now others → ⊥
-      step [] nothing = let same : [] ≡ word ∷ words = sym (operands_form nothing) ∙ e in cc same
-      step (z ∷ zs) ds = let f : OperandsForm now (z ∷ zs) = operands_form ds in none z f.0 f.1
-
-  -- words are left though no more operands are taken
-  pub listed_full : (word : List ℕ) (words : List (List ℕ)) (arity : Option ℕ) → now ≡ word ∷ words → arity ≡ Some (length xs) → (ys : List Operand) → ¬ AreOperands arity start ys
-  listed_full word words arity e full ys ds =
-      let b = h.back ys ds.0 in
-      let count : length ys ≡ length xs = subst (λ a. HasArity a ys) full ds.1 in
-      step ys b.0 b.1 b.2 count
-    where
-      step : (ys others : List Operand) → OperandsAt now others → ys ≡ xs ++ others → length ys ≡ length xs → ⊥
-      step ys [] nothing same count = let same : [] ≡ word ∷ words = sym (operands_form nothing) ∙ e in cc same
-      step ys (z ∷ zs) ds same count = length-more xs z zs (ap length (sym same) ∙ count)
-
-  -- no words are left though more operands are taken
-  pub listed_missing : (arity : Option ℕ) → now ≡ [] → ¬ MatchOption arity (Unit {0}) (λ n. length xs ≡ n) → (ys : List Operand) → ¬ AreOperands arity start ys
-  listed_missing arity e other ys ds = other (subst (HasArity arity) (sym (one_operands (listed_end e) ys ds.0)) ds.1)
-
 -- words are at most one call
-
-abbrev called : WgslCallee → Option (List Parameter) → List Operand → WgslCall
-called callee template operands = record { callee = callee; template = template; operands = operands }
 
 pub one_call : (words : List (List ℕ)) (c d : WgslCall) → IsCall words c → IsCall words d → c ≡ d
 one_call words c d f g =
@@ -295,3 +293,53 @@ no_operands_no_call words after callee template arity d same none c f =
     let a = one_head words (callee, template) (c.callee, c.template) after f.0 d f.1 in
     let e : arity ≡ arity_of c.callee = same ∙ ap (λ h. arity_of h.0) a.0 in
     none c.operands (subst (λ ws. OperandsAt ws c.operands) (sym a.1) f.2, subst (λ n. HasArity n c.operands) (sym e) f.3)
+
+-- the calls, by what comes after their command
+
+module _ (words : List (List ℕ)) where
+  pub no_unary_call : NoneAt (OneWord (IsText unary_text)) words → (c : WgslCall) → ¬ IsCall (codes "unary" ∷ words) c
+  no_unary_call none = no_head_no_call (codes "unary" ∷ words) (no_unary (codes "unary") words refl none)
+
+  pub no_binary_call : NoneAt (OneWord (IsText binary_text)) words → (c : WgslCall) → ¬ IsCall (codes "binary" ∷ words) c
+  no_binary_call none = no_head_no_call (codes "binary" ∷ words) (no_binary (codes "binary") words refl none)
+
+  pub no_ctor_call : NoneAt NamedAt words → (c : WgslCall) → ¬ IsCall (codes "ctor" ∷ words) c
+  no_ctor_call none = no_head_no_call (codes "ctor" ∷ words) (no_ctor (codes "ctor") words refl none)
+
+  pub no_function_call : NoneAt NamedAt words → (c : WgslCall) → ¬ IsCall (codes "call" ∷ words) c
+  no_function_call none = no_head_no_call (codes "call" ∷ words) (no_call (codes "call") words refl none)
+
+module _ (words after : List (List ℕ)) (o : UnaryOperator) (d : OneWord (IsText unary_text) words o after) where
+  unary_at_front : HeadAt (codes "unary" ∷ words) (unary_head o) after
+  unary_at_front = unary_read (codes "unary") words (unary_head o) o after refl d refl
+
+  pub unary_call : (x : Operand) → OperandAt after x [] → IsCall (codes "unary" ∷ words) (called (a_unary o) None (x ∷ []))
+  unary_call x e = (after, unary_at_front, operand_at e no_operands_at, refl)
+
+  pub no_unary_operand : ((x : Operand) → ¬ OperandAt after x []) → (c : WgslCall) → ¬ IsCall (codes "unary" ∷ words) c
+  no_unary_operand none = no_operands_no_call (codes "unary" ∷ words) after (a_unary o) None (Some 1) unary_at_front refl (not_alone after none)
+
+module _ (words after : List (List ℕ)) (o : BinaryOperator) (d : OneWord (IsText binary_text) words o after) where
+  binary_at_front : HeadAt (codes "binary" ∷ words) (binary_head o) after
+  binary_at_front = binary_read (codes "binary") words (binary_head o) o after refl d refl
+
+  pub binary_call : (xs : List Operand) → AreOperands (Some 2) after xs → IsCall (codes "binary" ∷ words) (called (a_binary o) None xs)
+  binary_call xs e = (after, binary_at_front, e.0, e.1)
+
+  pub no_binary_operands : ((xs : List Operand) → ¬ AreOperands (Some 2) after xs) → (c : WgslCall) → ¬ IsCall (codes "binary" ∷ words) c
+  no_binary_operands none = no_operands_no_call (codes "binary" ∷ words) after (a_binary o) None (Some 2) binary_at_front refl none
+
+module _ (words after : List (List ℕ)) (name : List ℕ) (p : Option (List Parameter)) (d : NamedAt words (name, p) after) where
+  pub ctor_call : (xs : List Operand) → OperandsAt after xs → IsCall (codes "ctor" ∷ words) (called (a_constructor name) p xs)
+  ctor_call xs e = (after, ctor_read (codes "ctor") words name p after refl d, e, tt)
+
+  pub no_ctor_operands : ((xs : List Operand) → ¬ OperandsAt after xs) → (c : WgslCall) → ¬ IsCall (codes "ctor" ∷ words) c
+  no_ctor_operands none =
+      no_operands_no_call (codes "ctor" ∷ words) after (a_constructor name) p None (ctor_read (codes "ctor") words name p after refl d) refl (λ xs e. none xs e.0)
+
+  pub function_call : (xs : List Operand) → OperandsAt after xs → IsCall (codes "call" ∷ words) (called (a_function name) p xs)
+  function_call xs e = (after, call_read (codes "call") words name p after refl d, e, tt)
+
+  pub no_function_operands : ((xs : List Operand) → ¬ OperandsAt after xs) → (c : WgslCall) → ¬ IsCall (codes "call" ∷ words) c
+  no_function_operands none =
+      no_operands_no_call (codes "call" ∷ words) after (a_function name) p None (call_read (codes "call") words name p after refl d) refl (λ xs e. none xs e.0)

@@ -7,6 +7,7 @@ use Rattle.wgsl_rules.specs.types.Spelling.{spelling}
 use Rattle.wgsl_rules.specs.standard.Choice.{types_of}
 use Rattle.wgsl_core.specs.View.{view}
 use Rattle.wgsl_core.specs.declared.ty.Type.{«Type»}
+use Rattle.wgsl_standard.specs.Operands.{given_type}
 use Rattle.wgsl_standard.specs.declared.operand.Operand.{Operand}
 use Rattle.wgsl_asked.specs.StandardViews.{written_view}
 use Rattle.wgsl_requests.specs.Texts.{lines_text, resolution_text, result_text}
@@ -20,7 +21,7 @@ pub listed_seen : {A B : Type 0} (text : B → List ℕ) (f : A → B) (xs : Lis
 listed_seen text f [] = refl
 listed_seen text f (x ∷ xs) = ap (λ rest. text (f x) ++ rest) (flat_map-map (λ y. codes ", " ++ text y) f xs)
 
-pub operand_types : (xs : List Operand) → listed spelling (types_of (map written_view xs)) ≡ listed (λ x. spelling (view x.ty.now)) xs
+pub operand_types : (xs : List Operand) → listed spelling (types_of (map written_view xs)) ≡ listed (λ x. spelling (given_type x.ty)) xs
 operand_types xs = listed_seen spelling (λ x. x.of_type) (map written_view xs) ∙ listed_seen (λ x. spelling x.of_type) written_view xs
 
 pub lines_seen : {A : Type 0} (text : A → List ℕ) (xs : List A) → lines_text (map text xs) ≡ lined text xs
@@ -45,7 +46,7 @@ refusal_parts : (old head name template takes types close : List ℕ) → (((old
 refusal_parts old head name template takes types close = simp append_assoc
 
 pub refusal_written : (old first named with all name template : List ℕ) (xs : List Operand) → first ≡ old ++ codes "no overload of `" → named ≡ first ++ name → with ≡ named ++ template
-    → all ≡ with ++ (codes "` takes (" ++ (listed (λ x. spelling (view x.ty.now)) xs ++ codes ")"))
+    → all ≡ with ++ (codes "` takes (" ++ (listed (λ x. spelling (given_type x.ty)) xs ++ codes ")"))
     → all ≡ old ++ (codes "no overload of `" ++ name ++ template ++ codes "` takes (" ++ listed spelling (types_of (map written_view xs)) ++ codes ")")
 refusal_written old first named with all name template xs a b c d =
     let types = listed spelling (types_of (map written_view xs)) in

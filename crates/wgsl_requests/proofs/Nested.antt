@@ -20,7 +20,7 @@ use Rattle.wgsl_requests.specs.Reading.{Beginning, NoneAt, Reads}
 use Rattle.wgsl_requests.specs.internal.Layers.{InLayerAt, InsideAt, OtherAt, ReadsLayer, ReadsNext, is_layer_word, wrapped}
 use Rattle.wgsl_requests.specs.internal.Structs.{StructAt}
 use Rattle.wgsl_requests.proofs.Readers.{answers_by}
-use Rattle.wgsl_requests.proofs.Meanings.{here, into_here, named_none, not_eq, past, past_option}
+use Rattle.wgsl_requests.proofs.Meanings.{here, into_here, into_past, named_none, not_eq, past, past_option}
 use Rattle.wgsl_requests.proofs.Forms.{form, layer_both, one_layer}
 use Rattle.wgsl_requests.proofs.LayerReads.{wrapped-last}
 
@@ -98,6 +98,13 @@ inside_read view word words mid after layer r d h =
     let a = one_layer (word ∷ words) layer f.0 mid f.1 d f.2 in
     none t rest (f.3.0, subst (λ ws. TypeAt ws f.3.0 rest) (sym a.1) f.3.1, f.3.2 ∙ ap (λ l. around l f.3.0) (sym a.0))) r h
 
+-- a type that begins with the word of no layer is read
+pub leaf_read : {A : Type 0} (view : A → WgslType) (word : List ℕ) (words mid after : List (List ℕ)) (r : Result A (Fail Misfit)) → (is_layer_word word ≡ false) × (mid ≡ words)
+    → Reads LeafAt view (word ∷ mid) after r → Reads OtherAt view (word ∷ words) after r
+leaf_read view word words mid after r other h =
+    answers_by (λ x. LeafAt (word ∷ words) (view x) after) (λ x. OtherAt (word ∷ words) (view x) after) (NoneAt LeafAt (word ∷ words)) (NoneAt OtherAt (word ∷ words))
+    (λ x d. into_past _ _ _ other.0 d) (λ none t rest d. none t rest (past _ _ _ other.0 d)) r (subst (λ ws. Reads LeafAt view (word ∷ ws) after r) other.1 h)
+
 -- from the words after the first to all
 pub read_on : {A B : Type 0} (At : Beginning B) (view : A → B) (words : List (List ℕ)) (word : List ℕ) (mid after : List (List ℕ)) (r : Result A (Fail Misfit)) → words ≡ word ∷ mid
     → Reads At view (word ∷ mid) after r → Reads At view words after r
@@ -152,6 +159,9 @@ scalar_inside layer words word mid s inner t e is seen made = (inner, subst (λ 
 -- what is found, where something is or nothing
 pub layer_of : (word : List ℕ) (before after : List (List ℕ)) (found : Option Around) (layer : Around) → found ≡ Some layer → ReadsLayer word before after (Ok found) → LayerAt (word ∷ before) layer after
 layer_of word before after found layer e h = subst (λ f. ReadsLayer word before after (Ok f)) e h
+
+pub no_layer_of : (word : List ℕ) (before after : List (List ℕ)) (found : Option Around) → found ≡ None → ReadsLayer word before after (Ok found) → (is_layer_word word ≡ false) × (after ≡ before)
+no_layer_of word before after found e h = subst (λ f. ReadsLayer word before after (Ok f)) e h
 
 pub next_of : (word : List ℕ) (before after : List (List ℕ)) (found : Option Around) (layer : Around) → found ≡ Some layer → ReadsNext word before after (Ok found) → LayerAt (word ∷ before) layer after
 next_of word before after found layer e h = subst (λ f. ReadsNext word before after (Ok f)) e h

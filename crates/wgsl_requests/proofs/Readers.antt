@@ -1,9 +1,9 @@
 -- What a reader answers, from what the readers answer that it calls.
-use Rattle.std.proofs.Common.{◌≡◌, sym, subst}
+use Rattle.std.proofs.Common.{◌≡◌, ℕ, List, sym, subst}
 use Rattle.std.specs.Result.{IsErrAnd}
-use Rattle.std.specs.Prelude.{Result, Ok, Err}
+use Rattle.std.specs.Prelude.{Result, Ok, Err, MatchResult}
 use Rattle.std.proofs.lemmas.Result.{err_from_is_err_and}
-use Rattle.wgsl_requests.specs.Reading.{Answers, Refuses}
+use Rattle.wgsl_requests.specs.Reading.{Answers, Beginning, NoneAt, Reads, Refuses}
 use Rattle.wgsl_core.specs.declared.error.Fail.{Fail}
 use Rattle.wgsl_requests.specs.declared.wanted.Misfit.{Misfit}
 use Rattle.wgsl_core.specs.declared.error.Fail.TheVariants.{Error, Memory}
@@ -30,3 +30,10 @@ fails_by P M r e same m = fails P M M r e (λ m. m) same (refuses_any M e m)
 pub answers_by : {B : Type 0} (P Q : B → Type 0) (N M : Type 0) → ((x : B) → P x → Q x) → (N → M) → (r : Result B (Fail Misfit)) → Answers P N r → Answers Q M r
 answers_by P Q N M f g (Ok x) p = f x p
 answers_by P Q N M f g (Err e) p = refuses N M g e p
+
+-- what was read is shown alike once it is built, or memory was out
+pub built_read : {A B C : Type 0} (At : Beginning C) (view : A → C) (seen : B → C) (words after : List (List ℕ)) (read : Result A (Fail Misfit)) (r : Result B (Fail Misfit)) → Reads At view words after read →
+    MatchResult read (λ x. Answers (λ y. seen y ≡ view x) ⊥ r) (λ e. r ≡ Err e) → Reads At seen words after r
+built_read At view seen words after (Ok x) r d h =
+    answers_by (λ y. seen y ≡ view x) (λ y. At words (seen y) after) ⊥ (NoneAt At words) (λ y same. subst (λ z. At words z after) (sym same) d) (λ none. absurd none) r h
+built_read At view seen words after (Err e) r d h = subst (λ r. Reads At seen words after r) (sym h) d

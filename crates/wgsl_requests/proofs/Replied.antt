@@ -23,12 +23,12 @@ use Rattle.wgsl_requests.proofs.Requested.{IsShared, no_offsets, no_layout, othe
 use Rattle.wgsl_requests.specs.internal.Replied.{callee_view, Replies, WritesOfStruct}
 use Rattle.wgsl_requests.specs.internal.Written.{Adds}
 
--- the types in a list of two
-pub two : (types : List «Type») (x y : «Type») → length types ≡ 2 → map view types ≡ view (get_or types 0 x) ∷ view (get_or types 1 y) ∷ []
-two [] x y n = absurd (cc n)
-two (a ∷ []) x y n = absurd (omega (arith, n))
-two (a ∷ b ∷ []) x y n = refl
-two (a ∷ b ∷ c ∷ types) x y n = absurd (omega (arith, n))
+-- what a list of two shows
+pub two : {A B : Type 0} (seen : A → B) (xs : List A) (x y : A) → length xs ≡ 2 → map seen xs ≡ seen (get_or xs 0 x) ∷ seen (get_or xs 1 y) ∷ []
+two seen [] x y n = absurd (cc n)
+two seen (a ∷ []) x y n = absurd (omega (arith, n))
+two seen (a ∷ b ∷ []) x y n = refl
+two seen (a ∷ b ∷ c ∷ xs) x y n = absurd (omega (arith, n))
 
 -- the answer to a request that words spell
 pub replied : {rules : RuleSet} {words : List (List ℕ)} {request : Request} (old new : List ℕ) → IsRequest rules words request → Adds (IsAnswer request) old new → Adds (IsReply rules words) old new

@@ -1,23 +1,27 @@
 -- The answers to requests of WGSL's own overloads.
-use Rattle.std.proofs.Common.{◌≡◌, ◌∷◌, ℕ, List, Option, Some, None, codes, map, sym, ap, subst}
-use Rattle.std.specs.Prelude.{Result, Ok, Err, option_map, vec_items}
+use Rattle.std.proofs.Common.{◌≡◌, ◌∷◌, ◌++◌, ℕ, List, Option, Vec, Global, codes, map, ap, refl}
+use Rattle.std.specs.Prelude.{OnOk, Result, Ok, Err, option_map, vec_items}
+use Rattle.std.specs.declared.alloc.AllocError.{AllocError}
 use Rattle.std.specs.Borrow.{Bor}
+use Rattle.wgsl_rules.specs.types.Types.{WgslType}
 use Rattle.wgsl_core.specs.Instances.{parameter_view}
 use Rattle.wgsl_core.specs.declared.signature.TpltParam.{TpltParam}
-use Rattle.wgsl_standard.specs.Callees.{callee_view}
-use Rattle.wgsl_standard.specs.declared.operand.Operand.{Operand}
+use Rattle.wgsl_standard.specs.Callees.{WgslCallee}
+use Rattle.wgsl_asked.specs.Answers.{a_type_of, type_of_is}
 use Rattle.wgsl_asked.specs.Calls.{WgslCall}
-use Rattle.wgsl_asked.specs.StandardViews.{written_view, call_view as standard_view}
-use Rattle.wgsl_asked.specs.declared.requests.Call.{Call}
+use Rattle.wgsl_asked.specs.Standard.{IsTypeOf}
+use Rattle.wgsl_requests.specs.Answers.{IsAnswer}
 use Rattle.wgsl_requests.specs.Calls.{IsCall}
-use Rattle.wgsl_requests.specs.Requests.{NoRequest, Request, explanation_of, resolution_of, resolve_words, type_of, type_words, why_words}
-use Rattle.wgsl_requests.specs.declared.call.WrittenCall.{WrittenCall}
+use Rattle.wgsl_requests.specs.Requests.{NoRequest, explanation_of, resolution_of, resolve_words, type_of, type_words, why_words}
+use Rattle.wgsl_requests.specs.declared.operand.WrittenOperand.{WrittenOperand}
 use Rattle.wgsl_requests.specs.declared.rules.RuleSet.TheVariants.{Ported, Standard}
 use Rattle.wgsl_core.specs.declared.error.Fail.{Fail}
 use Rattle.wgsl_requests.specs.declared.wanted.Misfit.{Misfit}
 use Rattle.wgsl_core.specs.declared.error.Fail.TheVariants.{Error, Memory}
-use Rattle.wgsl_requests.specs.internal.Asked.{WritesOfCall, call_view, operand_view}
+use Rattle.wgsl_requests.specs.internal.Asked.{WritesOfCall, called, operand_view}
 use Rattle.wgsl_requests.specs.internal.Replied.{Replies}
+use Rattle.wgsl_requests.specs.internal.Written.{Adds}
+use Rattle.wgsl_requests.specs.Texts.{or_no_overload, value_text}
 use Rattle.wgsl_requests.proofs.Replied.{replied, same_shown}
 use Rattle.wgsl_requests.proofs.Requested.{IsShared, no_resolve, no_why}
 
@@ -26,6 +30,12 @@ pub shared : (key : List ℕ) (words : List (List ℕ)) (old new : List ℕ) (r 
 shared key words old new (Ok x) same w = (w.0, (w.1.0, same.forth words w.1.0 w.1.1, w.1.2), w.2)
 shared key words old new (Err (Error misfit)) same none = λ request d. none request (same.back words request d)
 shared key words old new (Err (Memory e)) same none = tt
+
+-- what is written of the type of a call
+pub type_written : (c : WgslCall) (r : Option (Option WgslType)) (old new : List ℕ) (w : Result (Unit {0}) AllocError) → IsTypeOf c r →
+    OnOk w (new ≡ old ++ or_no_overload value_text c r) → OnOk w (Adds (IsAnswer (type_of c)) old new)
+type_written c r old new (Ok x) h e = (or_no_overload value_text c r, (a_type_of c r, type_of_is r h, refl), e)
+type_written c r old new (Err x) h e = tt
 
 -- what is written of a call
 pub resolve_replied : (words : List (List ℕ)) (old new : List ℕ) (r : Result (Unit {0}) (Fail Misfit)) → WritesOfCall resolution_of words old new r → Replies Standard (codes "resolve" ∷ words) old new r
@@ -44,8 +54,9 @@ type_replied words old new (Err (Error misfit)) no_other none = no_other none
 type_replied words old new (Err (Memory e)) no_other none = tt
 
 -- the call that is asked about is the one that was read
-pub call_seen : (call : WrittenCall) (r : Option (Bor (List TpltParam))) (xs : Bor (List Operand)) → option_map (λ y. y.now) r ≡ option_map vec_items call.head.template → map written_view xs.now ≡ map operand_view call.operands.items →
-    standard_view (record { callee = call.head.callee; template = r; operands = xs }) ≡ call_view call
-call_seen call r xs e f =
-    let template = same_shown (λ (y : Bor (List TpltParam)). y.now) vec_items (λ ps. map parameter_view ps) r call.head.template e in
-    λ i. record { callee = callee_view call.head.callee; template = template i; operands = f i }
+pub named_seen : (callee : WgslCallee) (template : Option (Vec TpltParam Global)) (r : Option (Bor (List TpltParam))) (written xs : List WrittenOperand) → option_map (λ y. y.now) r ≡ option_map vec_items template → xs ≡ written →
+    called callee (option_map (λ ps. map parameter_view ps.now) r) (map operand_view xs) ≡ called callee (option_map (λ ps. map parameter_view ps.items) template) (map operand_view written)
+named_seen callee template r written xs e f =
+    let parameters = same_shown (λ (y : Bor (List TpltParam)). y.now) vec_items (λ ps. map parameter_view ps) r template e in
+    let operands = ap (map operand_view) f in
+    λ i. called callee (parameters i) (operands i)

@@ -1,101 +1,83 @@
-// The calls of WGSL's own overloads that words stand for.
-ghost use Rattle.std.specs.Prelude.{◌≡◌, ◌∷◌, ◌↔◌, IsTrue, List, MatchOption, None, Some, map, option_map};
+// What is answered to a call of WGSL's own overloads.
+ghost use Rattle.std.specs.Prelude.{◌≡◌, ◌∷◌, IfOk, None, OnOk, codes, map, option_map, string_bytes};
 ghost use Rattle.wgsl_syntax.specs.Operator.{binary_text, unary_text};
-ghost use Rattle.wgsl_rules.specs.conversion.Concrete.{is_abstract as abstract_there};
-ghost use Rattle.wgsl_rules.specs.standard.Choice.{Operand};
-ghost use Rattle.wgsl_asked.specs.Calls.{WgslCall};
 ghost use Rattle.wgsl_core.specs.Instances.{parameter_view};
-ghost use Rattle.wgsl_core.specs.View.{view};
 ghost use Rattle.wgsl_standard.specs.Callees.{callee_view};
-ghost use Rattle.wgsl_requests.specs.Calls.{HeadAt, IsCall, OperandAt, arity_of};
-ghost use Rattle.wgsl_requests.specs.Reading.{Answers, IsText, OneWord, Reads};
-ghost use Rattle.wgsl_requests.specs.internal.Asked.{AreOperands, NamedAt, call_view, head_view, operand_view, plain_there};
-ghost use Rattle.wgsl_requests.specs.internal.Taken.{GoesOn, left};
+ghost use Rattle.wgsl_asked.specs.StandardViews.{call_view, written_view};
+ghost use Rattle.wgsl_requests.specs.Answers.{IsAnswer};
+ghost use Rattle.wgsl_requests.specs.Reading.{IsText, OneWord, Reads};
+ghost use Rattle.wgsl_requests.specs.internal.Asked.{NamedAt, WritesOfCall, asked, called, operand_view};
+ghost use Rattle.wgsl_requests.specs.internal.Taken.{left};
+ghost use Rattle.wgsl_requests.specs.internal.Written.{Adds};
 
-use crate::command::{binary_operator, unary_operator};
-use crate::read::{read_type, read_type_at};
+use crate::command::{binary_operator, unary_operator, write_answer_to};
+use crate::operand::{WrittenOperand, read_last_operand, read_operand_pair, read_operands};
+use crate::overloaded::write_type_of;
 use crate::template::read_template;
 use crate::wanted::{Misfit, Wanted};
 use crate::words::Words;
-use std::alloc::Global;
+use std::alloc::{AllocError, Global};
+use wgsl_asked::requests::{Call, Request};
+use wgsl_asked::standard::type_of;
 use wgsl_standard::callee::Callee;
+use wgsl_standard::operand::Operand;
 use wgsl_types::error::Fail;
 use wgsl_types::syntax::{BinaryOperator, UnaryOperator};
 use wgsl_types::tplt::TpltParam;
-use wgsl_types::ty::Type;
 
-/// What is called, and its template.
-#[derive(Drop)]
-pub(crate) struct Head<'t> {
-    pub callee: Callee<'t>,
-    pub template: Option<Vec<TpltParam>>,
+/// What is asked of a call.
+#[derive(Clone, Copy)]
+pub(crate) enum Question {
+    Type,
+    Resolution,
+    Explanation,
 }
 
-/// An operand that owns its type.
-#[derive(Drop)]
-pub(crate) struct WrittenOperand {
-    pub ty: Type,
-    pub is_constant: bool,
-}
-
-/// A call that owns its template and its operands.
-#[derive(Drop)]
-pub(crate) struct WrittenCall<'t> {
-    pub head: Head<'t>,
-    pub operands: Vec<WrittenOperand>,
-}
-
-/// The call that the command and all words after it stand for.
-pub(crate) fn read_call<'t>(
+/// The answer to what is asked of the call.
+#[inline(always)]
+pub(crate) fn answer_call(
     alloc: Global,
+    question: Question,
     command: &str,
-    words: &mut Words<'t>,
-) -> Result<WrittenCall<'t>, Fail<Misfit>>
-    ensures { Answers (λ call. IsCall (command.now ∷ left words.old) (call_view call))
-        ((call : WgslCall) → ¬ IsCall (command.now ∷ left words.old) call) result }
-{
-    let head = read_head(alloc, command, words)?;
-    let operands = read_operands(alloc, arity(head.callee), words)?;
-    Ok(WrittenCall { head, operands })
-}
-
-/// What is called, and its template: the command and what comes after it.
-fn read_head<'t>(
-    alloc: Global,
-    command: &str,
-    words: &mut Words<'t>,
-) -> Result<Head<'t>, Fail<Misfit>>
-    ensures { Reads HeadAt head_view (command.now ∷ left words.old) (left words.new) result }
+    words: &mut Words,
+    text: &mut String,
+) -> Result<(), Fail<Misfit>>
+    ensures { WritesOfCall (asked question) (command.now ∷ left words.old)
+        (string_bytes text.old) (string_bytes text.new) result }
 {
     match command {
-        "unary" => Ok(head_of(Callee::Unary(read_unary_operator(words)?))),
-        "binary" => Ok(head_of(Callee::Binary(read_binary_operator(words)?))),
-        "ctor" => {
-            let (name, template) = read_named(alloc, words)?;
-            Ok(Head {
-                callee: Callee::Constructor(name),
-                template,
-            })
-        }
-        "call" => {
-            let (name, template) = read_named(alloc, words)?;
-            Ok(Head {
-                callee: Callee::Function(name),
-                template,
-            })
-        }
+        "unary" => unary(alloc, question, words, text),
+        "binary" => binary(alloc, question, words, text),
+        "ctor" => ctor(alloc, question, words, text),
+        "call" => call(alloc, question, words, text),
         _ => Err(Fail::Error(Misfit::Wrong(Wanted::Command))),
     }
 }
 
-/// An operator, which has no template.
-fn head_of(callee: Callee<'_>) -> Head<'_>
-    ensures { head_view result ≡ (callee_view callee.entry, None) }
+/// `unary OP X`.
+#[inline(never)]
+fn unary(
+    alloc: Global,
+    question: Question,
+    words: &mut Words,
+    text: &mut String,
+) -> Result<(), Fail<Misfit>>
+    ensures { WritesOfCall (asked question) (codes "unary" ∷ left words.old)
+        (string_bytes text.old) (string_bytes text.new) result }
 {
-    Head {
-        callee,
-        template: None,
-    }
+    let operator = read_unary_operator(words)?;
+    let x = read_last_operand(alloc, words)?;
+    let operands = [x.borrowed()];
+    let written = write_answer_on(
+        alloc,
+        question,
+        Callee::Unary(operator),
+        None,
+        &operands,
+        text,
+    );
+    drop(x);
+    Ok(written?)
 }
 
 fn read_unary_operator(words: &mut Words) -> Result<UnaryOperator, Fail<Misfit>>
@@ -104,10 +86,90 @@ fn read_unary_operator(words: &mut Words) -> Result<UnaryOperator, Fail<Misfit>>
     unary_operator(words.next(Wanted::UnaryOperator)?)
 }
 
+/// `binary OP X Y`.
+#[inline(never)]
+fn binary(
+    alloc: Global,
+    question: Question,
+    words: &mut Words,
+    text: &mut String,
+) -> Result<(), Fail<Misfit>>
+    ensures { WritesOfCall (asked question) (codes "binary" ∷ left words.old)
+        (string_bytes text.old) (string_bytes text.new) result }
+{
+    let operator = read_binary_operator(words)?;
+    let pair = read_operand_pair(alloc, words)?;
+    let operands = [pair[0].borrowed(), pair[1].borrowed()];
+    let written = write_answer_on(
+        alloc,
+        question,
+        Callee::Binary(operator),
+        None,
+        &operands,
+        text,
+    );
+    drop(pair);
+    Ok(written?)
+}
+
 fn read_binary_operator(words: &mut Words) -> Result<BinaryOperator, Fail<Misfit>>
     ensures { Reads (OneWord (IsText binary_text)) (λ o. o) (left words.old) (left words.new) result }
 {
     binary_operator(words.next(Wanted::BinaryOperator)?)
+}
+
+/// `ctor NAME P X..`.
+#[inline(never)]
+fn ctor(
+    alloc: Global,
+    question: Question,
+    words: &mut Words,
+    text: &mut String,
+) -> Result<(), Fail<Misfit>>
+    ensures { WritesOfCall (asked question) (codes "ctor" ∷ left words.old)
+        (string_bytes text.old) (string_bytes text.new) result }
+{
+    let (name, template) = read_named(alloc, words)?;
+    let operands = read_operands(alloc, words)?;
+    let callee = Callee::Constructor(name);
+    let written = write_of_named(
+        alloc,
+        question,
+        callee,
+        template.as_deref(),
+        &operands,
+        text,
+    );
+    drop(operands);
+    drop(template);
+    Ok(written?)
+}
+
+/// `call NAME P X..`.
+#[inline(never)]
+fn call(
+    alloc: Global,
+    question: Question,
+    words: &mut Words,
+    text: &mut String,
+) -> Result<(), Fail<Misfit>>
+    ensures { WritesOfCall (asked question) (codes "call" ∷ left words.old)
+        (string_bytes text.old) (string_bytes text.new) result }
+{
+    let (name, template) = read_named(alloc, words)?;
+    let operands = read_operands(alloc, words)?;
+    let callee = Callee::Function(name);
+    let written = write_of_named(
+        alloc,
+        question,
+        callee,
+        template.as_deref(),
+        &operands,
+        text,
+    );
+    drop(operands);
+    drop(template);
+    Ok(written?)
 }
 
 /// A name and a template.
@@ -123,89 +185,115 @@ fn read_named<'t>(
     Ok((name, template))
 }
 
-/// How many operands an operator takes; None for a name, which takes any number.
-fn arity(callee: Callee<'_>) -> Option<usize>
-    ensures { result ≡ arity_of (callee_view callee.entry) }
-{
-    match callee {
-        Callee::Unary(_) => Some(1),
-        Callee::Binary(_) => Some(2),
-        Callee::Function(_) | Callee::Constructor(_) => None,
-    }
-}
-
-/// The operands that all words that are left stand for, as many as are taken.
-fn read_operands(
+/// Writes the answer to what is asked of the call of a name. Few operands stand in an array, without what they own.
+fn write_of_named(
     alloc: Global,
-    arity: Option<usize>,
-    words: &mut Words,
-) -> Result<Vec<WrittenOperand>, Fail<Misfit>>
-    ensures { Answers (λ v. AreOperands arity (left words.old) (map operand_view v.items))
-        ((xs : List Operand) → ¬ AreOperands arity (left words.old) xs) result }
+    question: Question,
+    callee: Callee<'_>,
+    template: Option<&[TpltParam]>,
+    written: &[WrittenOperand],
+    text: &mut String,
+) -> Result<(), AllocError>
+    ensures { OnOk result (Adds (IsAnswer (asked question (called (callee_view callee.entry)
+        (option_map (λ ps. map parameter_view ps.now) template.entry) (map operand_view written.now))))
+        (string_bytes text.old) (string_bytes text.new)) }
 {
-    let mut operands = Vec::with_capacity(alloc, 4)?;
-    while let Ok(word) = words.next(Wanted::Type) {
-        if is_full(operands.len(), arity) {
-            return Err(Fail::Error(Misfit::Surplus));
+    match written {
+        [x] => write_of(alloc, question, callee, template, &[x.borrowed()], text),
+        [x, y] => {
+            let operands = [x.borrowed(), y.borrowed()];
+            write_of(alloc, question, callee, template, &operands, text)
         }
-        operands.push(read_operand(alloc, word, words)?)?;
-    }
-    if has_arity(operands.len(), arity) {
-        Ok(operands)
-    } else {
-        drop(operands);
-        Err(Fail::Error(Misfit::Missing(Wanted::Type)))
-    }
-}
-
-/// Whether that many operands are taken, and no more.
-fn is_full(count: usize, arity: Option<usize>) -> bool
-    ensures { IsTrue result ↔ (arity ≡ Some count) }
-{
-    match arity {
-        Some(arity) => count == arity,
-        None => false,
+        [x, y, z] => {
+            let operands = [x.borrowed(), y.borrowed(), z.borrowed()];
+            write_of(alloc, question, callee, template, &operands, text)
+        }
+        _ => {
+            let operands = borrowed(alloc, written)?;
+            write_of(alloc, question, callee, template, &operands, text)
+        }
     }
 }
 
-/// Whether that many operands are taken.
-fn has_arity(count: usize, arity: Option<usize>) -> bool
-    ensures { IsTrue result ↔ MatchOption arity (Unit {0}) (λ n. count ≡ n) }
-{
-    match arity {
-        Some(arity) => count == arity,
-        None => true,
-    }
-}
-
-/// The operand that begins with this word: `const` and a type, or a type.
-fn read_operand(
+#[inline(never)]
+fn write_of(
     alloc: Global,
-    word: &str,
-    words: &mut Words,
-) -> Result<WrittenOperand, Fail<Misfit>>
-    ensures goes_on { GoesOn words.old words.new }
-    ensures read { Reads OperandAt operand_view (word.now ∷ left words.old) (left words.new) result }
+    question: Question,
+    callee: Callee<'_>,
+    template: Option<&[TpltParam]>,
+    operands: &[Operand<'_>],
+    text: &mut String,
+) -> Result<(), AllocError>
+    ensures { OnOk result (Adds (IsAnswer (asked question (called (callee_view callee.entry)
+        (option_map (λ ps. map parameter_view ps.now) template.entry) (map written_view operands.now))))
+        (string_bytes text.old) (string_bytes text.new)) }
 {
-    if word == "const" {
-        return Ok(WrittenOperand {
-            ty: read_type(alloc, words)?,
-            is_constant: true,
-        });
+    write_answer_on(alloc, question, callee, template, operands, text)
+}
+
+/// The operands, without what they own.
+#[inline(never)]
+fn borrowed<'c>(
+    alloc: Global,
+    written: &'c [WrittenOperand],
+) -> Result<Vec<Operand<'c>>, AllocError>
+    ensures { IfOk result (λ v. map written_view v.items ≡ map operand_view written.now) }
+{
+    let mut operands = Vec::with_capacity(alloc, written.len())?;
+    for operand in written {
+        operands.push(operand.borrowed())?;
     }
-    Ok(plain_operand(read_type_at(alloc, word, words)?))
+    Ok(operands)
 }
 
-/// An operand that isn't said to be a const-expression.
-fn plain_operand(ty: Type) -> WrittenOperand
-    ensures { operand_view result ≡ plain_there (view ty) }
+/// Writes the answer to what is asked of a call.
+#[inline(always)]
+fn write_answer_on(
+    alloc: Global,
+    question: Question,
+    callee: Callee<'_>,
+    template: Option<&[TpltParam]>,
+    operands: &[Operand<'_>],
+    text: &mut String,
+) -> Result<(), AllocError>
+    ensures { OnOk result (Adds (IsAnswer (asked question (called (callee_view callee.entry)
+        (option_map (λ ps. map parameter_view ps.now) template.entry) (map written_view operands.now))))
+        (string_bytes text.old) (string_bytes text.new)) }
 {
-    let is_constant = is_abstract(&ty);
-    WrittenOperand { ty, is_constant }
+    let call = Call {
+        callee,
+        template,
+        operands,
+    };
+    match question {
+        Question::Type => write_type(alloc, &call, text),
+        Question::Resolution => write_resolution(alloc, &call, text),
+        Question::Explanation => write_explanation(alloc, &call, text),
+    }
 }
 
-fn is_abstract(ty: &Type) -> bool
-    ensures { result ≡ abstract_there (view ty.now) }
+/// Writes the type of a call, without an answer of all forms.
+#[inline(always)]
+fn write_type(alloc: Global, call: &Call<'_>, text: &mut String) -> Result<(), AllocError>
+    ensures { OnOk result (Adds (IsAnswer (asked Question.Type (call_view call.now)))
+        (string_bytes text.old) (string_bytes text.new)) }
 {
-    ty.is_abstract()
+    let found = type_of(alloc, call)?;
+    write_type_of(text, call, found)
+}
+
+#[inline(never)]
+fn write_resolution(alloc: Global, call: &Call<'_>, text: &mut String) -> Result<(), AllocError>
+    ensures { OnOk result (Adds (IsAnswer (asked Question.Resolution (call_view call.now)))
+        (string_bytes text.old) (string_bytes text.new)) }
+{
+    write_answer_to(alloc, Request::Resolution(call), text)
+}
+
+#[inline(never)]
+fn write_explanation(alloc: Global, call: &Call<'_>, text: &mut String) -> Result<(), AllocError>
+    ensures { OnOk result (Adds (IsAnswer (asked Question.Explanation (call_view call.now)))
+        (string_bytes text.old) (string_bytes text.new)) }
+{
+    write_answer_to(alloc, Request::Explanation(call), text)
 }

@@ -7,6 +7,7 @@ mod fast;
 pub mod laws;
 mod leaf;
 mod lists;
+mod operand;
 mod outer;
 mod overloaded;
 pub mod read;

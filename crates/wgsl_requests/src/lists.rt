@@ -2,8 +2,9 @@
 use std::fmt;
 use std::fmt::Write;
 use wgsl_standard::explanation::Note;
-use wgsl_standard::operand::Operand;
+use wgsl_standard::operand::{Operand, OperandType};
 use wgsl_standard::signature::Signature;
+use wgsl_syntax::overload::Dimensions;
 use wgsl_types::tplt::TpltParam;
 use wgsl_types::ty::Type;
 
@@ -39,9 +40,9 @@ impl fmt::Display for OperandTypes<'_> {
     ghost use Rattle.std.specs.Prelude.{Some};
     ghost use Rattle.wgsl_rules.specs.types.Signatures.{listed};
     ghost use Rattle.wgsl_rules.specs.types.Spelling.{spelling};
-    ghost use Rattle.wgsl_core.specs.View.{view};
+    ghost use Rattle.wgsl_standard.specs.Operands.{given_type};
 
-    ghost output = { λ xs. Some (listed (λ x. spelling (view x.ty.now)) (xs.0.now)) };
+    ghost output = { λ xs. Some (listed (λ x. spelling (given_type x.ty)) (xs.0.now)) };
 
     fn fmt<W: Write>(&self, f: &mut fmt::Formatter<W>) -> fmt::Result {
         let Some((first, rest)) = self.0.split_first() else {
@@ -49,7 +50,10 @@ impl fmt::Display for OperandTypes<'_> {
         };
         write!(f, "{}", first.ty)?;
         for operand in rest {
-            write!(f, ", {}", operand.ty)?;
+            match operand.ty {
+                OperandType::Value(Dimensions::Single, scalar) => write!(f, ", {scalar}")?,
+                ty => write!(f, ", {ty}")?,
+            }
         }
         Ok(())
     }

@@ -1,38 +1,54 @@
 // How the answers of WGSL's own overloads are written.
 ghost use Rattle.std.specs.Prelude.{◌≡◌, ◌++◌, OnOk, map, option_map, string_bytes};
 ghost use Rattle.wgsl_rules.specs.types.Signatures.{template_text};
+ghost use Rattle.wgsl_rules.specs.types.Spelling.{spelling};
 ghost use Rattle.wgsl_core.specs.Instances.{parameter_view};
 ghost use Rattle.wgsl_core.specs.View.{view};
 ghost use Rattle.wgsl_standard.specs.Resolved.{resolved_view};
+ghost use Rattle.wgsl_standard.specs.Results.{result_view};
 ghost use Rattle.wgsl_standard.specs.Texts.{callee_text, line_of, note_text};
 ghost use Rattle.wgsl_asked.specs.StandardViews.{call_view};
 ghost use Rattle.wgsl_requests.specs.Texts.{lines_text, no_overload_text, or_no_overload, resolution_text, result_text, value_text};
 
 use crate::lists::{Notes, OperandTypes, Parameters, Signatures, Types};
-use crate::write::write_value;
+use crate::write::{write_resolved, write_type};
 use std::alloc::AllocError;
+use wgsl_asked::answers::unbuilt;
 use wgsl_asked::requests::Call;
 use wgsl_standard::callee::Callee;
 use wgsl_standard::explanation::Note;
+use wgsl_standard::instance::ResultType;
 use wgsl_standard::resolved::ResolvedCall;
 use wgsl_standard::signature::Signature;
 use wgsl_types::tplt::TpltParam;
 use wgsl_types::ty::Type;
 
 /// Writes the type of a call, `no value`, or that no overload takes its operands.
+#[inline(always)]
 pub(crate) fn write_type_of(
     text: &mut String,
     call: &Call<'_>,
-    found: Option<Option<Type>>,
+    found: Option<Option<ResultType>>,
 ) -> Result<(), AllocError>
     ensures { OnOk result (string_bytes text.new ≡ string_bytes text.old
-        ++ or_no_overload value_text (call_view call.now) (option_map (option_map view) found)) }
+        ++ or_no_overload value_text (call_view call.now) (option_map (option_map result_view) found)) }
 {
-    let written = match &found {
-        Some(value) => write_value(text, value),
+    match found {
+        Some(Some(ResultType::Value(dimensions, scalar))) => {
+            write_resolved(text, unbuilt(dimensions, scalar))
+        }
+        Some(Some(ResultType::Built(ty))) => write_built(text, ty),
+        Some(None) => text.push_str("no value"),
         None => write_no_overload(text, call),
-    };
-    drop(found);
+    }
+}
+
+#[inline(never)]
+fn write_built(text: &mut String, ty: Type) -> Result<(), AllocError>
+    ensures { OnOk result (string_bytes text.new ≡ string_bytes text.old ++ spelling (view ty)) }
+{
+    let written = write_type(text, &ty);
+    drop(ty);
     written
 }
 
@@ -77,6 +93,7 @@ fn write_result(text: &mut String, ty: &Option<Type>) -> Result<(), AllocError>
 }
 
 /// Writes that no overload takes the operands of a call.
+#[inline(never)]
 fn write_no_overload(text: &mut String, call: &Call<'_>) -> Result<(), AllocError>
     ensures { OnOk result (string_bytes text.new
         ≡ string_bytes text.old ++ no_overload_text (call_view call.now)) }

@@ -97,7 +97,7 @@ fn read_inside(alloc: Global, outer: Around, words: &mut Words) -> Result<Type, 
 /// The layers stand in an array while they are read; those for which it has no room are read as the type inside.
 #[cycle(reading)]
 #[inline(always)]
-fn read_layers(
+pub(crate) fn read_layers(
     alloc: Global,
     outermost: Around,
     first: &str,
@@ -174,7 +174,7 @@ pub fn read_last_type(alloc: Global, words: &mut Words) -> Result<Type, Fail<Mis
 /// A struct: its name, the number of its members, and the members.
 #[cycle(reading)]
 #[inline(never)]
-fn read_struct(alloc: Global, words: &mut Words) -> Result<Type, Fail<Misfit>>
+pub(crate) fn read_struct(alloc: Global, words: &mut Words) -> Result<Type, Fail<Misfit>>
     ensures goes_on { GoesOn words.old words.new }
     ensures read { Reads StructAt view (left words.old) (left words.new) result }
 {

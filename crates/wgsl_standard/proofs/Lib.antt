@@ -5,7 +5,7 @@ pub mod Letters
 pub mod Boxes
 pub mod Ranks
 pub mod BoundLetters
-pub mod BoundScalars
+pub mod Bound
 pub mod LeastInstances
 pub mod Choices
 pub mod OneChoice

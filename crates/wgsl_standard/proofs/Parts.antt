@@ -1,5 +1,5 @@
 -- Operands of other types convert to no parameter, and the parts of a type are its own.
-use Rattle.std.proofs.Common.{◌≡◌, ℕ, Option, Some, None, refl, ◌∙◌, ap}
+use Rattle.std.proofs.Common.{◌≡◌, ℕ, Option, Some, None, refl, sym, ◌∙◌, ap}
 use Rattle.std.specs.Prelude.{option_map}
 use Rattle.wgsl_syntax.specs.declared.scalar.Scalar.{Scalar}
 use Rattle.wgsl_rules.specs.types.Types.{WgslType, vec_of, mat_of, scalar, within}
@@ -49,6 +49,9 @@ parts_again (scalar r) o s e =
 parts_again (within (vec_of n) t) o s e = in_vector n t (scalar_of t) refl o s e
 parts_again (within (mat_of c d) t) o s e = in_matrix c d t (scalar_of t) refl o s e
 parts_again t o s e = absurd (cc e)
+
+pub parts_given : (t : WgslType) (o : Dimensions) (s : Scalar) → Some (o, s) ≡ parts_of t → type_with o s ≡ t
+parts_given t o s e = sym (parts_again t o s (sym e))
 
 -- a value type that converts to a parameter has parts
 pub parts_taken : (t : WgslType) (p : Dimensions) (g : Scalar) (w : ℕ) → IsValueType t → Converts t (type_with p g) w → (o : Dimensions) × (s : Scalar) × (t ≡ type_with o s)

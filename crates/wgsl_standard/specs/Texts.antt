@@ -6,7 +6,7 @@ use Rattle.wgsl_rules.specs.types.Types.{WgslType, vec}
 use Rattle.wgsl_rules.specs.types.Spelling.{spelling}
 use Rattle.wgsl_rules.specs.standard.Choice.{value_of}
 use Rattle.wgsl_rules.specs.standard.Signatures.{signature_lines, signature_text}
-use Rattle.wgsl_core.specs.View.{view}
+use Rattle.wgsl_standard.specs.Operands.{given_type}
 use Rattle.wgsl_standard.specs.Callees.{WgslCallee, a_binary, a_constructor, a_function, a_unary, callee_view, overloads_listed}
 use Rattle.wgsl_standard.specs.Explained.{or_none}
 use Rattle.wgsl_standard.specs.declared.callee.Callee.{Callee}
@@ -62,12 +62,12 @@ reason_text has_template count None (Argument i) = []
 -- `dot(vecN<T>, vecN<T>) -> T, T: number: argument 2 is f32`
 abbrev pub note_text : Note → List ℕ
 note_text n = line_of n.signature ++ codes ": "
-    ++ reason_text n.signature.has_template n.count (option_map (λ t. view t.now) n.found) n.mismatch
+    ++ reason_text n.signature.has_template n.count (option_map given_type n.found) n.mismatch
 
 -- The notes on a call. Its operands are printed as they are given: a reference is not loaded.
 
 abbrev pub types_given : List CodeOperand → List WgslType
-types_given xs = map (λ x. view x.ty.now) xs
+types_given xs = map (λ x. given_type x.ty) xs
 
 abbrev pub is_vector : WgslType → Bool
 is_vector (vec n t) = true

@@ -7,11 +7,12 @@ ghost use Rattle.wgsl_rules.specs.standard.Answers.{IsStandardAnswer, IsNamedAns
 ghost use Rattle.wgsl_rules.specs.standard.Operators.{binary_overloads as binary_there, unary_overloads as unary_there};
 ghost use Rattle.wgsl_rules.specs.standard.Names.{function_table, template_function_table, overloads_named};
 ghost use Rattle.wgsl_rules.specs.standard.ConstructorNames.{constructor_table, template_constructor_table};
-ghost use Rattle.wgsl_standard.specs.Answered.{AnswersType};
+ghost use Rattle.wgsl_standard.specs.Answered.{Answers, AnswersType};
 ghost use Rattle.wgsl_standard.specs.Operands.{operand_view, operands_view};
+ghost use Rattle.wgsl_standard.specs.Results.{result_view};
 ghost use Rattle.wgsl_standard.specs.Texts.{types_given};
 
-use crate::instance::result_for;
+use crate::instance::{ResultType, built, result_type};
 use crate::names::{
     constructor_named, function_named, template_constructor_named, template_function_named,
 };
@@ -39,7 +40,8 @@ pub fn type_binary_op(
     ensures { AnswersType (IsStandardAnswer (binary_there operator)
         (operand_view lhs.entry ∷ operand_view rhs.entry ∷ [])) result }
 {
-    result_type(alloc, binary_overloads(operator), &[lhs, rhs])
+    let found = type_by(alloc, binary_overloads(operator), &[lhs, rhs])?;
+    Ok(built(alloc, found)?)
 }
 
 /// The type of a unary expression. `&` and `*` have no candidates.
@@ -50,7 +52,8 @@ pub fn type_unary_op(
 ) -> Result<Option<Type>, Fail<NoOverload>>
     ensures { AnswersType (IsStandardAnswer (unary_there operator) (operand_view operand.entry ∷ [])) result }
 {
-    result_type(alloc, unary_overloads(operator), &[operand])
+    let found = type_by(alloc, unary_overloads(operator), &[operand])?;
+    Ok(built(alloc, found)?)
 }
 
 /// The type of a call of a built-in function, or None if it has no value (WGSL, "Built-in Functions").
@@ -63,12 +66,13 @@ pub fn type_builtin_fn(
     ensures { AnswersType (IsCallAnswer (overloads_named name.now function_table) (overloads_named name.now template_function_table)
         (option_map (λ t. view t.now) template.entry) (operands_view arguments.now)) result }
 {
-    match template {
+    let found = match template {
         Some(template) => {
-            templated_type(alloc, template_function_named(name), template, arguments)
+            templated_type(alloc, template_function_named(name), template, arguments)?
         }
-        None => named_type(alloc, function_named(name), arguments),
-    }
+        None => named_type(alloc, function_named(name), arguments)?,
+    };
+    Ok(built(alloc, found)?)
 }
 
 /// The type that a constructor makes (WGSL, "Constructor Built-in Functions"). Those of arrays and structs have no
@@ -82,12 +86,13 @@ pub fn type_ctor(
     ensures { AnswersType (IsCallAnswer (overloads_named name.now constructor_table) (overloads_named name.now template_constructor_table)
         (option_map (λ t. view t.now) template.entry) (operands_view arguments.now)) result }
 {
-    match template {
+    let found = match template {
         Some(template) => {
-            templated_type(alloc, template_constructor_named(name), template, arguments)
+            templated_type(alloc, template_constructor_named(name), template, arguments)?
         }
-        None => named_type(alloc, constructor_named(name), arguments),
-    }
+        None => named_type(alloc, constructor_named(name), arguments)?,
+    };
+    Ok(built(alloc, found)?)
 }
 
 /// The type of a call by the overloads of its name, if it has any.
@@ -96,12 +101,12 @@ pub(crate) fn named_type(
     alloc: Global,
     overloads: Option<&[Overload]>,
     operands: &[Operand<'_>],
-) -> Result<Option<Type>, Fail<NoOverload>>
+) -> Result<Option<ResultType>, Fail<NoOverload>>
     requires { IfSome overloads (λ o. IsUnambiguous o.now) }
-    ensures { AnswersType (IsNamedAnswer (option_map (λ o. o.now) overloads.entry) (operands_view operands.now)) result }
+    ensures { Answers (option_map result_view) (IsNamedAnswer (option_map (λ o. o.now) overloads.entry) (operands_view operands.now)) result }
 {
     match overloads {
-        Some(overloads) => result_type(alloc, overloads, operands),
+        Some(overloads) => type_by(alloc, overloads, operands),
         None => Err(Fail::Error(NoOverload)),
     }
 }
@@ -113,9 +118,9 @@ pub(crate) fn templated_type(
     overloads: Option<&[Overload]>,
     template: &Type,
     operands: &[Operand<'_>],
-) -> Result<Option<Type>, Fail<NoOverload>>
+) -> Result<Option<ResultType>, Fail<NoOverload>>
     requires { IfSome overloads (λ o. IsUnambiguous o.now) }
-    ensures { AnswersType (IsTemplateAnswer (option_map (λ o. o.now) overloads.entry) (view template.now) (operands_view operands.now)) result }
+    ensures { Answers (option_map result_view) (IsTemplateAnswer (option_map (λ o. o.now) overloads.entry) (view template.now) (operands_view operands.now)) result }
 {
     if !is_template(template) {
         return Err(Fail::Error(NoOverload));
@@ -146,26 +151,23 @@ pub(crate) fn operands_with<'a>(
     ensures given { IfOk result (λ v. types_given v.items ≡ view template.now ∷ types_given operands.now) }
 {
     let mut all = Vec::with_capacity(alloc, 1)?;
-    all.push(Operand {
-        ty: template,
-        is_constant: true,
-    })?;
+    all.push(Operand::of(template, true))?;
     all.extend_from_slice(operands)?;
     Ok(all)
 }
 
 /// The type of a call with these overloads.
 #[inline(always)]
-pub fn result_type(
+pub fn type_by(
     alloc: Global,
     overloads: &[Overload],
     operands: &[Operand<'_>],
-) -> Result<Option<Type>, Fail<NoOverload>>
+) -> Result<Option<ResultType>, Fail<NoOverload>>
     requires { IsUnambiguous overloads.now }
-    ensures { AnswersType (IsStandardAnswer overloads.now (operands_view operands.now)) result }
+    ensures { Answers (option_map result_view) (IsStandardAnswer overloads.now (operands_view operands.now)) result }
 {
     match chosen(overloads, operands) {
-        Some((overload, instance)) => Ok(result_for(alloc, &instance, overload, operands)?),
+        Some((overload, instance)) => Ok(result_type(alloc, &instance, overload, operands)?),
         None => Err(Fail::Error(NoOverload)),
     }
 }

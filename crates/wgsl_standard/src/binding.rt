@@ -1,20 +1,15 @@
 // What an operand requires of the letters of an overload.
-ghost use Rattle.std.specs.Prelude.{◌≡◌, Bool, false, Option, option_map, option_and_then};
+ghost use Rattle.std.specs.Prelude.{◌≡◌, option_map};
 ghost use Rattle.std.specs.Option.{is_some, option_or};
-ghost use Rattle.wgsl_syntax.specs.declared.overload.Dimensions.TheVariants.{Single};
-ghost use Rattle.wgsl_syntax.specs.declared.overload.Pattern.TheVariants.{Value};
 ghost use Rattle.wgsl_core.specs.View.{view};
-ghost use Rattle.wgsl_core.specs.Forms.{scalar_of};
 ghost use Rattle.wgsl_standard.specs.Operands.{operand_view};
-ghost use Rattle.wgsl_standard.specs.declared.binding.Binding.{Binding};
-ghost use Rattle.wgsl_standard.specs.internal.Binding.{bind_component as component_bound, same_count as counted, bind_count as count_bound, same_width as width_bound, with_width, bind_letter as letter_bound, bind_if, bind_parts as parts_bound, bind_pattern as pattern_bound, bind as bound};
+ghost use Rattle.wgsl_standard.specs.internal.Binding.{bind_component as component_bound, same_count as counted, bind_count as count_bound, same_width as width_bound, with_width, bind_letter as letter_bound, bind_if, bind_shape as shape_bound, bind_value as value_bound, bind_pattern as pattern_bound, bind as bound};
 
 use crate::letter::{converts, join_to, may_be};
-use crate::operand::{Operand, loaded};
+use crate::operand::{Operand, OperandType, loaded, parts_of};
 use crate::resource::{is_sampler, is_texture, letter_of};
 use wgsl_core::ty::Type;
-use wgsl_core::ty::form::Form;
-use wgsl_syntax::overload::{Component, Count, Pattern, Shape};
+use wgsl_syntax::overload::{Component, Count, Dimensions, Pattern, Shape};
 use wgsl_syntax::scalar::Scalar;
 
 /// What the operands so far require of the letters.
@@ -45,38 +40,36 @@ pub const FREE: Binding = Binding {
 };
 
 /// Whether the operand fits the parameter, and then what it requires beside the binding.
-#[tactic(auto, using(crate::proofs::BoundScalars::scalar_bound))]
+#[tactic(auto, using(crate::proofs::Bound::value_bound))]
 #[inline(always)]
 pub fn bind(concrete: bool, binding: &mut Binding, pattern: &Pattern, operand: &Operand) -> bool
     ensures { bind_if result binding.new ≡ bound concrete binding.old pattern.now (operand_view operand.now) }
 {
-    match pattern {
-        Pattern::Value(shape, component) => match operand.ty.scalar() {
-            Some(scalar) => bind_scalar(concrete, binding, *shape, *component, scalar),
-            None => bind_type(concrete, binding, pattern, loaded(operand.ty)),
-        },
-        _ => bind_type(concrete, binding, pattern, loaded(operand.ty)),
+    match operand.ty {
+        OperandType::Value(dimensions, scalar) => {
+            bind_value(concrete, binding, pattern, dimensions, scalar)
+        }
+        OperandType::Any(ty) => bind_type(concrete, binding, pattern, loaded(ty)),
     }
 }
 
-/// The same of an operand that is a scalar.
+/// The same of an operand that is a scalar, a vector or a matrix.
 #[inline(always)]
-fn bind_scalar(
+fn bind_value(
     concrete: bool,
     binding: &mut Binding,
-    shape: Shape,
-    component: Component,
+    pattern: &Pattern,
+    dimensions: Dimensions,
     scalar: Scalar,
 ) -> bool
-    ensures { bind_if result binding.new ≡ parts_bound concrete binding.old shape component (Single, scalar) }
+    ensures { bind_if result binding.new ≡ value_bound concrete binding.old pattern.now (dimensions, scalar) }
 {
-    match shape {
-        Shape::One => bind_component(concrete, binding, component, scalar),
-        Shape::Vector(_) => false,
-        Shape::Matrix(_, _) => false,
-        Shape::OneOrVector => {
-            bind_width(binding, None) && bind_component(concrete, binding, component, scalar)
+    match pattern {
+        Pattern::Value(shape, component) => {
+            bind_shape(binding, *shape, dimensions)
+                && bind_component(concrete, binding, *component, scalar)
         }
+        _ => false,
     }
 }
 
@@ -85,29 +78,13 @@ fn bind_scalar(
 fn bind_type(concrete: bool, binding: &mut Binding, pattern: &Pattern, ty: &Type) -> bool
     ensures { bind_if result binding.new ≡ pattern_bound concrete binding.old pattern.now (view ty.now) }
 {
-    has_form(pattern, ty) && bind_pattern(concrete, binding, pattern, ty)
-}
-
-/// Whether the type has a form that the parameter has. No other type fits, and most overloads are left by this test.
-fn has_form(pattern: &Pattern, ty: &Type) -> bool
-    ensures { result ≡ false → (c : Bool) → (b : Binding) → pattern_bound c b pattern.now (view ty.now) ≡ None }
-{
     match pattern {
-        Pattern::Value(shape, _) => match ty.form() {
-            Form::Scalar(_) => matches!(shape, Shape::One | Shape::OneOrVector),
-            Form::Vector(_, _) => matches!(shape, Shape::Vector(_) | Shape::OneOrVector),
-            Form::Matrix(_, _, _) => matches!(shape, Shape::Matrix(_, _)),
-            _ => false,
+        Pattern::Value(_, _) => match parts_of(ty) {
+            Some((dimensions, scalar)) => {
+                bind_value(concrete, binding, pattern, dimensions, scalar)
+            }
+            None => false,
         },
-        _ => true,
-    }
-}
-
-fn bind_pattern(concrete: bool, binding: &mut Binding, pattern: &Pattern, ty: &Type) -> bool
-    ensures { bind_if result binding.new ≡ pattern_bound concrete binding.old pattern.now (view ty.now) }
-{
-    match pattern {
-        Pattern::Value(shape, component) => bind_value(concrete, binding, *shape, *component, ty),
         Pattern::Sampler(sampler) => is_sampler(ty, *sampler),
         Pattern::Texture(texture) => is_texture(ty, *texture),
         Pattern::Resource(resource) => bind_letter(concrete, binding, letter_of(*resource, ty)),
@@ -124,6 +101,7 @@ fn bind_letter(concrete: bool, binding: &mut Binding, letter: Option<Option<Scal
     }
 }
 
+#[inline(always)]
 fn bind_component(
     concrete: bool,
     binding: &mut Binding,
@@ -155,50 +133,27 @@ fn put<T: Copy>(value: Option<T>, place: &mut Option<T>) -> bool
     }
 }
 
-fn bind_value(
-    concrete: bool,
-    binding: &mut Binding,
-    shape: Shape,
-    component: Component,
-    ty: &Type,
-) -> bool
-    ensures { bind_if result binding.new ≡ pattern_bound concrete binding.old (Value shape component) (view ty.now) }
+#[inline(always)]
+fn bind_shape(binding: &mut Binding, shape: Shape, dimensions: Dimensions) -> bool
+    ensures { bind_if result binding.new ≡ shape_bound binding.old shape dimensions }
 {
     match shape {
-        Shape::One => bind_element(concrete, binding, component, ty),
-        Shape::Vector(count) => match ty.form() {
-            Form::Vector(n, element) => {
-                bind_count(binding, count, n) && bind_element(concrete, binding, component, element)
+        Shape::One => matches!(dimensions, Dimensions::Single),
+        Shape::Vector(count) => match dimensions {
+            Dimensions::Vector(n) => bind_count(binding, count, n),
+            _ => false,
+        },
+        Shape::Matrix(columns, rows) => match dimensions {
+            Dimensions::Matrix(c, r) => {
+                bind_count(binding, columns, c) && bind_count(binding, rows, r)
             }
             _ => false,
         },
-        Shape::Matrix(columns, rows) => match ty.form() {
-            Form::Matrix(c, r, element) => {
-                bind_count(binding, columns, c)
-                    && bind_count(binding, rows, r)
-                    && bind_element(concrete, binding, component, element)
-            }
-            _ => false,
+        Shape::OneOrVector => match dimensions {
+            Dimensions::Single => bind_width(binding, None),
+            Dimensions::Vector(n) => bind_width(binding, Some(n)),
+            Dimensions::Matrix(_, _) => false,
         },
-        Shape::OneOrVector => match ty.form() {
-            Form::Scalar(scalar) => {
-                bind_width(binding, None) && bind_component(concrete, binding, component, scalar)
-            }
-            Form::Vector(n, element) => {
-                bind_width(binding, Some(n)) && bind_element(concrete, binding, component, element)
-            }
-            _ => false,
-        },
-    }
-}
-
-/// The components, if they are scalars.
-fn bind_element(concrete: bool, binding: &mut Binding, component: Component, element: &Type) -> bool
-    ensures { bind_if result binding.new ≡ option_and_then (component_bound concrete binding.old component) (scalar_of (view element.now)) }
-{
-    match element.scalar() {
-        Some(scalar) => bind_component(concrete, binding, component, scalar),
-        None => false,
     }
 }
 

@@ -20,6 +20,7 @@ pub enum Callee<'a> {
 }
 
 /// The overloads of what is called, without a template or with one. None if no such call is listed.
+#[inline(always)]
 pub fn overloads(callee: Callee<'_>, has_template: bool) -> Option<&'static [Overload]>
     ensures row { option_map (λ o. o.now) result ≡ overloads_of callee.entry has_template }
     ensures unambiguous { IfSome result (λ o. IsUnambiguous o.now) }

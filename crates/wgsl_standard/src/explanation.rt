@@ -2,15 +2,16 @@
 ghost use Rattle.std.specs.Prelude.{◌≡◌, ◌++◌, IfOk, codes, map, option_map};
 ghost use Rattle.std.specs.Fmt.{WritesOnOk};
 ghost use Rattle.wgsl_rules.specs.types.Spelling.{spelling};
+ghost use Rattle.wgsl_rules.specs.standard.Choice.{value_of};
 ghost use Rattle.wgsl_core.specs.View.{view};
-ghost use Rattle.wgsl_standard.specs.Operands.{operands_view};
+ghost use Rattle.wgsl_standard.specs.Operands.{given_type, operands_view};
 ghost use Rattle.wgsl_standard.specs.Callees.{overloads_of};
 ghost use Rattle.wgsl_standard.specs.Explained.{or_none, note_view, AddsNote, AreNotes, IsExplained};
 ghost use Rattle.wgsl_standard.specs.Texts.{begins_with_vector as vector_first, counts_text, is_vector as vector_there, line_with, note_line, note_text, operand_text, reason_text, type_refused, types_given};
 
 use crate::answer::{is_template, operands_with};
 use crate::callee::{Callee, overloads};
-use crate::operand::{Operand, loaded};
+use crate::operand::{Operand, OperandType, loaded};
 use crate::refusal::{Mismatch, refused_by};
 use crate::signature::Signature;
 use std::alloc::{AllocError, Global};
@@ -18,6 +19,7 @@ use std::fmt;
 use std::fmt::Write;
 use wgsl_core::ty::Type;
 use wgsl_core::ty::form::Form;
+use wgsl_syntax::overload::Dimensions;
 
 /// Why an overload doesn't take the operands. It prints as `dot(vecN<T>, vecN<T>) -> T, T: number: argument 2 is f32`.
 #[derive(Clone, Copy)]
@@ -27,7 +29,7 @@ pub struct Note<'a> {
     /// The number of operands, the template among them.
     pub count: usize,
     /// The type of the operand that isn't taken.
-    pub found: Option<&'a Type>,
+    pub found: Option<OperandType<'a>>,
 }
 
 /// A note for each overload that doesn't take the operands, in the order of the overloads. There is none if the name isn't
@@ -120,19 +122,28 @@ fn begins_with_vector(operands: &[Operand<'_>]) -> bool
     ensures { result ≡ vector_first (types_given operands.now) }
 {
     match operands {
-        [operand, ..] => is_vector(loaded(operand.ty)),
+        [operand, ..] => is_vector(operand.ty),
         [] => false,
     }
 }
 
-fn is_vector(ty: &Type) -> bool
+fn is_vector(ty: OperandType<'_>) -> bool
+    ensures { result ≡ vector_there (value_of (given_type ty.entry)) }
+{
+    match ty {
+        OperandType::Value(dimensions, _) => matches!(dimensions, Dimensions::Vector(_)),
+        OperandType::Any(ty) => is_vector_type(loaded(ty)),
+    }
+}
+
+fn is_vector_type(ty: &Type) -> bool
     ensures { result ≡ vector_there (view ty.now) }
 {
     matches!(ty.form(), Form::Vector(_, _))
 }
 
-fn found<'a>(mismatch: Mismatch, operands: &[Operand<'a>]) -> Option<&'a Type>
-    ensures { option_map (λ t. view t.now) result ≡ type_refused mismatch (types_given operands.now) }
+fn found<'a>(mismatch: Mismatch, operands: &[Operand<'a>]) -> Option<OperandType<'a>>
+    ensures { option_map given_type result ≡ type_refused mismatch (types_given operands.now) }
 {
     match mismatch {
         Mismatch::Count(_) => None,
@@ -165,11 +176,11 @@ fn write_reason<W: Write>(
     f: &mut fmt::Formatter<W>,
     has_template: bool,
     count: usize,
-    found: Option<&Type>,
+    found: Option<OperandType<'_>>,
     mismatch: Mismatch,
 ) -> fmt::Result
     ensures { WritesOnOk W.write_str_gives f.old result
-        (reason_text has_template count (option_map (λ t. view t.now) found.entry) mismatch) f.new }
+        (reason_text has_template count (option_map given_type found.entry) mismatch) f.new }
 {
     match mismatch {
         Mismatch::Count(expected) => write_counts(f, has_template, expected, count),
@@ -201,10 +212,10 @@ fn write_argument<W: Write>(
     f: &mut fmt::Formatter<W>,
     has_template: bool,
     index: usize,
-    ty: &Type,
+    ty: OperandType<'_>,
 ) -> fmt::Result
     ensures { WritesOnOk W.write_str_gives f.old result
-        (operand_text has_template index ++ codes " is " ++ spelling (view ty.now)) f.new }
+        (operand_text has_template index ++ codes " is " ++ spelling (given_type ty.entry)) f.new }
 {
     if !has_template {
         let number = index.saturating_add(1);

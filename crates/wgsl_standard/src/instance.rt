@@ -3,12 +3,13 @@ ghost use Rattle.std.specs.Prelude.{◌≡◌, IfOk, Some, option_map};
 ghost use Rattle.wgsl_core.specs.View.{view};
 ghost use Rattle.wgsl_rules.specs.standard.Resources.{precision_of as precision_there};
 ghost use Rattle.wgsl_rules.specs.standard.Overloads.{type_with, type_in as type_there, pointee_of, in_order, count_in as count_there, dimensions_in as dimensions_there, component_in as component_there};
-ghost use Rattle.wgsl_rules.specs.standard.Choice.{parameter_for as parameter_there, parameters_for, result_for as result_there};
-ghost use Rattle.wgsl_standard.specs.Operands.{operand_view, operands_view};
+ghost use Rattle.wgsl_rules.specs.standard.Choice.{value_of, parameter_for as parameter_there, parameters_for, result_for as result_there};
+ghost use Rattle.wgsl_standard.specs.Operands.{given_type, operand_view, operands_view};
 ghost use Rattle.wgsl_standard.specs.internal.Binding.{first_pattern as first_there};
+ghost use Rattle.wgsl_standard.specs.Results.{result_view};
 ghost use Rattle.wgsl_standard.specs.Values.{value_in as value_there, result_value as result_value_there};
 
-use crate::operand::{Operand, loaded};
+use crate::operand::{Operand, OperandType, loaded};
 use crate::overload::{parameters_of, result_of};
 use std::alloc::{AllocError, Global};
 use wgsl_core::ty::Type;
@@ -19,6 +20,14 @@ use wgsl_syntax::overload::{
 use wgsl_syntax::result_struct::{ResultPrecision, ResultStruct};
 use wgsl_syntax::scalar::Scalar;
 
+/// The type of a result.
+#[derive(Drop)]
+pub enum ResultType {
+    /// A scalar, or a vector or a matrix of scalars, which isn't built.
+    Value(Dimensions, Scalar),
+    Built(Type),
+}
+
 /// The result of a call that an overload takes, for what the letters stand for; None if there is no value.
 pub fn result_for(
     alloc: Global,
@@ -28,9 +37,45 @@ pub fn result_for(
 ) -> Result<Option<Type>, AllocError>
     ensures { IfOk result (λ r. option_map view r ≡ result_there instance.now overload.now (operands_view operands.now)) }
 {
+    let found = result_type(alloc, instance, overload, operands)?;
+    built(alloc, found)
+}
+
+/// The same, built only if it isn't a scalar, a vector or a matrix.
+#[inline(always)]
+pub fn result_type(
+    alloc: Global,
+    instance: &Instance,
+    overload: &Overload,
+    operands: &[Operand<'_>],
+) -> Result<Option<ResultType>, AllocError>
+    ensures { IfOk result (λ r. option_map result_view r ≡ result_there instance.now overload.now (operands_view operands.now)) }
+{
     match result_value(instance, overload) {
-        Some(value) => value_result(alloc, value.0, value.1),
-        None => other_result(alloc, instance, overload, operands),
+        Some(value) => Ok(Some(ResultType::Value(value.0, value.1))),
+        None => Ok(as_built(other_result(alloc, instance, overload, operands)?)),
+    }
+}
+
+#[inline(always)]
+fn as_built(ty: Option<Type>) -> Option<ResultType>
+    ensures { option_map result_view result ≡ option_map view ty }
+{
+    match ty {
+        Some(ty) => Some(ResultType::Built(ty)),
+        None => None,
+    }
+}
+
+/// Builds a result.
+#[inline(always)]
+pub fn built(alloc: Global, found: Option<ResultType>) -> Result<Option<Type>, AllocError>
+    ensures { IfOk result (λ t. option_map view t ≡ option_map result_view found) }
+{
+    match found {
+        Some(ResultType::Value(dimensions, scalar)) => value_result(alloc, dimensions, scalar),
+        Some(ResultType::Built(ty)) => Ok(Some(ty)),
+        None => Ok(None),
     }
 }
 
@@ -152,7 +197,17 @@ fn other_parameter(
 {
     match type_in(alloc, instance, pattern)? {
         Some(ty) => Ok(ty),
-        None => loaded(operand.ty).clone(alloc),
+        None => loaded_type(alloc, operand.ty),
+    }
+}
+
+/// The type of an operand, once it is loaded.
+fn loaded_type(alloc: Global, ty: OperandType<'_>) -> Result<Type, AllocError>
+    ensures { IfOk result (λ t. view t ≡ value_of (given_type ty.entry)) }
+{
+    match ty {
+        OperandType::Value(dimensions, scalar) => value_type(alloc, dimensions, scalar),
+        OperandType::Any(ty) => loaded(ty).clone(alloc),
     }
 }
 

@@ -22,6 +22,7 @@ pub struct Choice {
 }
 
 /// The overload of a table that is preferred for operands, if one takes them.
+#[inline(always)]
 #[tactic(auto, using(crate::proofs::Choices::found))]
 pub fn resolve(overloads: &[Overload], operands: &[Operand]) -> Option<Choice>
     requires { IsUnambiguous overloads.now }

@@ -6,10 +6,10 @@ pub use wgsl_standard::answer::{
 };
 pub use wgsl_standard::callee::{Callee, overloads};
 pub use wgsl_standard::explanation::{Note, explain};
-pub use wgsl_standard::operand::Operand;
+pub use wgsl_standard::operand::{Operand, OperandType};
 pub use wgsl_standard::refusal::{Mismatch, refused_by};
 pub use wgsl_standard::resolved::{
     ResolvedCall, resolve_binary_op, resolve_builtin_fn, resolve_ctor, resolve_unary_op,
 };
 pub use wgsl_standard::signature::{Signature, signatures};
-pub use wgsl_syntax::overload::Overload;
+pub use wgsl_syntax::overload::{Dimensions, Overload};

@@ -59,6 +59,37 @@ fn read_short_callee(words: &[u32]) -> Option<(ShortCallee, &[u32])>
     }
 }
 
+/// An operator that is called, the number of the operands, and the words from the first operand on.
+#[inline(always)]
+pub(crate) fn read_operator_call(words: &[u32]) -> Option<(Callee<'_>, usize, &[u32])>
+    ensures { IfSome result (λ h. IsPlainCall words.now (callee_view h.0) h.1 h.2.now) }
+{
+    let (callee, rest) = read_operator(words)?;
+    let [0, rest @ ..] = rest else {
+        return None;
+    };
+    let (count, rest) = read_number(rest)?;
+    Some((callee, count, rest))
+}
+
+/// An operator, and the words after it.
+#[inline(always)]
+fn read_operator(words: &[u32]) -> Option<(Callee<'_>, &[u32])>
+    ensures { IfSome result (λ c. callee_at words.now ≡ Some (callee_view c.0, c.1.now)) }
+{
+    match words {
+        [0, rest @ ..] => {
+            let (operator, rest) = read_unary_operator(rest)?;
+            Some((Callee::Unary(operator), rest))
+        }
+        [1, rest @ ..] => {
+            let (operator, rest) = read_binary_operator(rest)?;
+            Some((Callee::Binary(operator), rest))
+        }
+        _ => None,
+    }
+}
+
 /// What is called, if its name is short and there is no template, the number of the operands, and the words from the first
 /// operand on.
 #[inline(always)]

@@ -42,7 +42,7 @@ impl<const N: usize> ShortWords<N> {
     ghost use Rattle.wgsl_coded.specs.Short.{short_items};
 
     #[inline(always)]
-    pub(crate) fn new() -> ShortWords<N>
+    pub fn new() -> ShortWords<N>
         ensures items { short_items result ≡ [] }
         ensures len { result.len ≡ 0 }
     {
@@ -50,6 +50,14 @@ impl<const N: usize> ShortWords<N> {
             words: [0; N],
             len: 0,
         }
+    }
+
+    /// Takes all words away.
+    #[inline(always)]
+    pub(crate) fn clear(&mut self)
+        ensures { short_items self.new ≡ [] }
+    {
+        self.len = 0;
     }
 
     /// The words.

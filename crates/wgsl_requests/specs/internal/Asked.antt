@@ -1,47 +1,50 @@
 -- How calls that are read from words are seen, and what is asked of them.
-use Rattle.std.specs.Prelude.{◌≡◌, ℕ, List, Option, Result, Ok, Err, map, option_map}
+use Rattle.std.specs.Prelude.{◌≡◌, ℕ, List, Option, Result}
+use Rattle.wgsl_syntax.specs.Scalar.{scalar_text}
+use Rattle.wgsl_syntax.specs.declared.scalar.Scalar.{Scalar}
 use Rattle.wgsl_rules.specs.types.Types.{WgslType}
 use Rattle.wgsl_rules.specs.types.Signatures.{Parameter}
 use Rattle.wgsl_rules.specs.conversion.Concrete.{is_abstract}
 use Rattle.wgsl_rules.specs.standard.Choice.{Operand}
-use Rattle.wgsl_core.specs.Instances.{parameter_view}
+use Rattle.wgsl_rules.specs.standard.Overloads.{type_with}
 use Rattle.wgsl_core.specs.View.{view}
-use Rattle.wgsl_standard.specs.Callees.{WgslCallee, callee_view}
+use Rattle.wgsl_standard.specs.Callees.{WgslCallee}
 use Rattle.wgsl_asked.specs.Calls.{WgslCall}
 use Rattle.wgsl_requests.specs.Answers.{IsAnswer}
 use Rattle.wgsl_requests.specs.Calls.{HasArity, IsCall, OperandsAt}
 use Rattle.wgsl_requests.specs.Reading.{Answers, Beginning, OneWord, Then}
 use Rattle.wgsl_requests.specs.Templates.{TemplateAt}
 use Rattle.wgsl_requests.specs.Requests.{Request, explanation_of, resolution_of, type_of}
-use Rattle.wgsl_requests.specs.declared.call.Head.{Head}
-use Rattle.wgsl_requests.specs.declared.call.WrittenCall.{WrittenCall}
-use Rattle.wgsl_requests.specs.declared.call.WrittenOperand.{WrittenOperand}
-use Rattle.wgsl_requests.specs.declared.standard.Question.{Question}
-use Rattle.wgsl_requests.specs.declared.standard.Question.TheVariants as questions
+use Rattle.wgsl_requests.specs.declared.call.Question.{Question}
+use Rattle.wgsl_requests.specs.declared.call.Question.TheVariants as questions
+use Rattle.wgsl_requests.specs.declared.operand.WrittenOperand.{WrittenOperand}
+use Rattle.wgsl_requests.specs.declared.operand.WrittenType.{WrittenType}
+use Rattle.wgsl_requests.specs.declared.operand.WrittenType.TheVariants.{Value, Built}
 use Rattle.wgsl_core.specs.declared.error.Fail.{Fail}
 use Rattle.wgsl_requests.specs.declared.wanted.Misfit.{Misfit}
 use Rattle.wgsl_requests.specs.internal.Written.{Adds}
 
+abbrev pub type_view : WrittenType → WgslType
+type_view (Value d s) = type_with d s
+type_view (Built t) = view t.value
+
 abbrev pub operand_view : WrittenOperand → Operand
-operand_view x = record { of_type = view x.ty; is_constant = x.is_constant }
+operand_view x = record { of_type = type_view x.ty; is_constant = x.is_constant }
 
 -- an operand of this type that isn't said to be a const-expression
 abbrev pub plain_there : WgslType → Operand
 plain_there t = record { of_type = t; is_constant = is_abstract t }
 
+-- the word is the name of no scalar
+abbrev pub IsNoScalar : List ℕ → Type 0
+IsNoScalar word = (s : Scalar) → word ≡ scalar_text s → ⊥
+
 -- the words begin with a name and a template
 abbrev pub NamedAt : Beginning (List ℕ × Option (List Parameter))
 NamedAt = Then (OneWord (λ word name. word ≡ name)) TemplateAt
 
-abbrev pub head_view : Head → WgslCallee × Option (List Parameter)
-head_view h = (callee_view h.callee, option_map (λ ps. map parameter_view ps.items) h.template)
-
-abbrev pub call_view : WrittenCall → WgslCall
-call_view c = record {
-  callee = callee_view c.head.callee;
-  template = option_map (λ ps. map parameter_view ps.items) c.head.template;
-  operands = map operand_view c.operands.items;
-}
+abbrev pub called : WgslCallee → Option (List Parameter) → List Operand → WgslCall
+called callee template operands = record { callee = callee; template = template; operands = operands }
 
 -- what is asked of a call
 abbrev pub asked : Question → WgslCall → Request

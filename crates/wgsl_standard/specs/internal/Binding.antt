@@ -121,6 +121,11 @@ bind_letter c b (Some (Some s)) = bind_component c b T s
 abbrev pub bind_if : Bool → Binding → Option Binding
 bind_if y b = cond y (Some b) None
 
+-- what a parameter requires of an operand with these dimensions and components
+abbrev pub bind_value : Bool → Binding → Pattern → Dimensions × Scalar → Option Binding
+bind_value c b (patterns.Value s e) d = bind_parts c b s e d
+bind_value c b p d = None
+
 abbrev pub bind_pattern : Bool → Binding → Pattern → WgslType → Option Binding
 bind_pattern c b (patterns.Value s e) t = option_and_then (bind_parts c b s e) (parts_of t)
 bind_pattern c b (patterns.Sampler s) t = bind_if (type_eq t (sampler s)) b

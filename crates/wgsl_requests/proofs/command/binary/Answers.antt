@@ -1,4 +1,5 @@
 use Rattle.std.proofs.Common.{◌≡◌, length, rules}
+use Rattle.wgsl_core.specs.View.{view}
 use Rattle.wgsl_requests.proofs.Readers.{fails, fails_by}
 use Rattle.wgsl_requests.proofs.Requested.{no_binary_word, no_binary_operator, no_binary_operands}
 use Rattle.wgsl_requests.proofs.Replied.{binary_spelled, replied, two}
@@ -22,5 +23,5 @@ returns c =
     let types = c.in_ok-types.types in
     let n : length types ≡ 2 = search rules in
     replied _ _
-    (binary_spelled _ _ _ _ _ _ _ c.in_ok-next.ensures.word c.in_ok-operator.ensures c.in_ok-types.ensures (two types c.index-types-0.result c.index-types-1.result n))
+    (binary_spelled _ _ _ _ _ _ _ c.in_ok-next.ensures.word c.in_ok-operator.ensures c.in_ok-types.ensures (two view types c.index-types-0.result c.index-types-1.result n))
     c.in_ok-written.ensures

@@ -1,4 +1,5 @@
 use Rattle.std.proofs.Common.{◌≡◌, length, rules}
+use Rattle.wgsl_core.specs.View.{view}
 use Rattle.wgsl_requests.proofs.Replied.{replied, rank_spelled, two}
 use Rattle.wgsl_requests.proofs.command.rank.Goals as goal
 
@@ -6,4 +7,4 @@ pub returns : goal.returns
 returns c =
     let types = c.in_ok-types.types in
     let n : length types ≡ 2 = search rules in
-    replied _ _ (rank_spelled _ _ _ _ c.in_ok-types.ensures (two types c.index-types-0.result c.index-types-1.result n)) c.in_ok-written.ensures
+    replied _ _ (rank_spelled _ _ _ _ c.in_ok-types.ensures (two view types c.index-types-0.result c.index-types-1.result n)) c.in_ok-written.ensures
