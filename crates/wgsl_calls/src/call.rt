@@ -1,5 +1,6 @@
 // The types of calls of built-in functions (WGSL, "Built-in Functions").
-ghost use Rattle.std.specs.Prelude.{◌≡◌, Err, option_map, map, All};
+ghost use Rattle.std.specs.Prelude.{◌≡◌, Err, IfSome, None, Ok, Some, option_map, map, All};
+ghost use Rattle.wgsl_rules.specs.types.Types.{scalar};
 ghost use Rattle.wgsl_rules.specs.conversion.Concrete.{concretized};
 ghost use Rattle.wgsl_rules.specs.errors.Refusals.{signature};
 ghost use Rattle.wgsl_rules.specs.calls.ResultTypes.{exchange_struct};
@@ -29,7 +30,7 @@ use crate::call::find::rows_of;
 use crate::call::fit::{Call, fits};
 use crate::call::rows::Rows;
 use crate::call::source::{
-    argument, as_long, bare, in_vector, inner, texture_size, transposed, type_of_source,
+    argument, as_long, as_scalar, bare, in_vector, inner, texture_size, transposed, type_of_source,
 };
 use crate::template::BitcastTemplate;
 pub use find::{find_call, names_match_table, names_sorted};
@@ -42,6 +43,7 @@ use wgsl_core::ty::result_struct::shaped_float;
 use wgsl_core::ty::result_type::{exchange_result, hit_positions, ray_intersection, result_struct};
 use wgsl_syntax::call::{ReturnType, Row};
 use wgsl_syntax::result_struct::{ResultFunction, ResultStruct};
+use wgsl_syntax::scalar::Scalar;
 
 /// The type of a call of a built-in function (WGSL, "Built-in Functions"), by its name, its template if it has
 /// one, and the types of its arguments; None if it returns no value. `Signature` with all three refuses a call that
@@ -71,6 +73,22 @@ pub fn type_builtin_fn(
             args,
         },
     )
+}
+
+/// The scalar that a call without a template returns; None if it returns another type or no value, and if it is refused.
+pub fn scalar_of_builtin_fn<'a>(name: &'a str, args: &'a [Type]) -> Option<Scalar>
+    ensures { IfSome result (λ s. IsCallAnswer (call_view name.now None args.now)
+        (Ok (Some (scalar s)))) }
+{
+    let call = Call {
+        name,
+        template: None,
+        args,
+    };
+    match chosen(&call)? {
+        ReturnType::Of(of) => as_scalar(type_of_source(of, args)?),
+        _ => None,
+    }
 }
 
 /// The answer of a call: of the first row of its name that takes it, or the refusal if none does.

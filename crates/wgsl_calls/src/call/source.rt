@@ -1,7 +1,7 @@
 // The types that a built-in function finds from its arguments, before they are built.
-ghost use Rattle.std.specs.Prelude.{◌≡◌, map, option_map, option_and_then, slice_get};
+ghost use Rattle.std.specs.Prelude.{◌≡◌, IfSome, map, option_map, option_and_then, slice_get};
 ghost use Rattle.wgsl_syntax.specs.TextureKind.{dimensions};
-ghost use Rattle.wgsl_rules.specs.types.Types.{vec};
+ghost use Rattle.wgsl_rules.specs.types.Types.{scalar, vec};
 ghost use Rattle.wgsl_rules.specs.types.Inner.{inner_of};
 ghost use Rattle.wgsl_rules.specs.calls.ResultTypes.{transposed_of, size_type};
 ghost use Rattle.wgsl_rules.specs.calls.Rows.{IsSource, IsCommonOf, texture_in, sampled_in, channel_in, vector_like};
@@ -107,6 +107,17 @@ fn channel<'a>(ty: Option<&'a Type>) -> Option<Element<'a>>
 {
     let texture = texture(ty?)?;
     Some(Element::Scalar(Scalar::from(texture.channel_type())))
+}
+
+/// The scalar that an element is.
+#[inline(always)]
+pub fn as_scalar(element: Element<'_>) -> Option<Scalar>
+    ensures { IfSome result (λ s. element_view element.entry ≡ scalar s) }
+{
+    match element {
+        Element::Scalar(scalar) => Some(scalar),
+        Element::Type(ty) => ty.scalar(),
+    }
 }
 
 /// The element itself.
