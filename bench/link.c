@@ -1,4 +1,4 @@
-/* Prints how many nanoseconds of processor time a call of the library takes, for ten requests in text and seven in numbers,
+/* Prints how many nanoseconds of processor time a call of the library takes, for ten requests in text and nine in numbers,
  * the best of five rounds. With the index of a call in numbers, and how often to make it, it makes that call alone and prints its
  * name. */
 #include "wgsl_codes.h"
@@ -64,6 +64,12 @@ static void ask_rank(void) {
     scalars(WGSL_SCALAR_ABSTRACT_INT, WGSL_SCALAR_F32);
 }
 
+static void ask_sum_of_scalars(void) {
+    call = wgsl_binary;
+    wgsl_word(&words, WGSL_BINARY_ADDITION);
+    scalars(WGSL_SCALAR_ABSTRACT_INT, WGSL_SCALAR_F32);
+}
+
 static void ask_sum(void) {
     call = wgsl_binary;
     wgsl_word(&words, WGSL_BINARY_ADDITION);
@@ -122,18 +128,32 @@ static void resolve_clamp_of_vectors(void) {
     }
 }
 
+static void resolve_sample(void) {
+    call = wgsl_standard_resolve;
+    wgsl_call_of(&words, WGSL_CALLEE_FUNCTION, "textureSample", 3);
+    wgsl_operand(&words, 0);
+    wgsl_sampled_texture(&words, WGSL_TEXTURE_SAMPLED_2D, WGSL_SAMPLED_F32);
+    wgsl_operand(&words, 0);
+    wgsl_sampler(&words, WGSL_SAMPLER_PLAIN);
+    wgsl_operand(&words, 0);
+    wgsl_vec(&words, 2);
+    wgsl_scalar(&words, WGSL_SCALAR_F32);
+}
+
 /* The calls in numbers, and what each asks. */
 static const struct {
     void (*set)(void);
     const char *name;
 } calls[] = {
     {ask_rank, "wgsl_rank: AbstractInt to f32"},
+    {ask_sum_of_scalars, "wgsl_binary: AbstractInt + f32"},
     {ask_sum, "wgsl_binary: AbstractInt + vec3<f32>"},
     {ask_clamp, "wgsl_call: clamp(AbstractInt, f32, AbstractFloat)"},
     {ask_layout, "wgsl_layout: struct S { a: f32, b: vec3<f32>, c: f32 }"},
     {resolve_sum, "wgsl_standard_resolve: AbstractInt + f32"},
     {resolve_clamp, "wgsl_standard_resolve: clamp(AbstractInt, f32, AbstractFloat)"},
     {resolve_clamp_of_vectors, "wgsl_standard_resolve: clamp of three vec3<f32>"},
+    {resolve_sample, "wgsl_standard_resolve: textureSample(texture_2d<f32>, sampler, vec2<f32>)"},
 };
 
 static int make_one(size_t index, long times) {

@@ -9,7 +9,7 @@ mod standard_text;
 mod standard_words;
 mod words;
 
-ghost use Rattle.std.specs.Prelude.{◌≡◌, ◌≢◌, ◌⊎◌, ◌<◌, ◌≤◌, [], All, IsUtf8, Ok, Result, drop, length, take, true};
+ghost use Rattle.std.specs.Prelude.{◌≡◌, ◌≢◌, ◌⊎◌, ◌<◌, ◌≤◌, [], All, IsUtf8, Result, drop, length, take, true};
 ghost use Rattle.std.specs.declared.alloc.AllocError.{AllocError};
 ghost use Rattle.wgsl_requests.specs.Words.{has_line_feed, words_of};
 ghost use Rattle.wgsl_requests.specs.declared.request.Reply.{Reply};

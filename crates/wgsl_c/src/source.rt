@@ -4,6 +4,7 @@ ghost use Rattle.std.specs.declared.alloc.AllocError.{AllocError};
 ghost use Rattle.wgsl_requests.specs.declared.request.Reply.{Reply};
 ghost use Rattle.wgsl_coded.specs.Replies.{ReplyWords};
 ghost use Rattle.wgsl_coded.specs.Seen.{reply_words, seen};
+ghost use Rattle.wgsl_coded.specs.declared.fast.short.ShortWords.{ShortWords};
 ghost use Rattle.wgsl_coded.specs.declared.unreadable.Unreadable.{Unreadable};
 ghost use Rattle.wgsl_core.specs.declared.error.Fail.{Fail};
 ghost use Rattle.wgsl_c.specs.HandOver.{IsHandedOver, IsStatus};
@@ -14,7 +15,7 @@ use crate::hand_over::hand_over;
 use crate::hand_over_words::hand_over_reply;
 use std::alloc::{AllocError, Global};
 use std::str::from_utf8;
-use wgsl_coded::{Unreadable, write};
+use wgsl_coded::{ShortWords, Unreadable, write};
 use wgsl_core::error::Fail;
 use wgsl_report::report::{Format, Report, Request, report_on};
 use wgsl_report::spelled::explain_type;
@@ -74,11 +75,11 @@ pub extern "C" fn wgsl_read_type(
         × IsHandedReply reply room.old room.new len.new result }
     ensures room { IsRoomKept room.old room.new len.new result }
 {
-    hand_over_reply(&type_code(alloc, source), room, len)
+    hand_over_reply(&type_code(alloc, source), &ShortWords::new(), room, len)
 }
 
 fn type_code(alloc: Global, source: &[u8]) -> Result<wgsl_coded::Reply, Fail<Unreadable>>
-    ensures { IsTypeReply source.now (seen reply_words result) }
+    ensures { (short : ShortWords) → IsTypeReply source.now (seen (reply_words short) result) }
 {
     let Ok(text) = from_utf8(source) else {
         return Err(Fail::Error(Unreadable));

@@ -13,11 +13,12 @@ ghost use Rattle.wgsl_coded.specs.declared.unreadable.Unreadable.{Unreadable};
 ghost use Rattle.wgsl_core.specs.declared.error.Fail.{Fail};
 ghost use Rattle.wgsl_c.specs.Words.{IsHandedReply, IsHandedText, IsRoomKept};
 
-use crate::hand_over_words::{
-    hand_over_reply, hand_over_resolved, hand_over_short, hand_over_text,
-};
+use crate::hand_over::{ANSWERED, RULED_OUT, hand_over_items};
+use crate::hand_over_words::{hand_over_reply, hand_over_short, hand_over_text};
 use std::alloc::Global;
-use wgsl_coded::{ShortWords, message, overloads, resolve, resolve_values, spell, why};
+use wgsl_coded::{
+    ShortWords, message, overloads, resolve, resolve_scalars, resolve_values, spell, why,
+};
 
 /// What a call of an operator, of a built-in function or of a constructor resolves to.
 #[unsafe(no_mangle)]
@@ -27,6 +28,20 @@ pub extern "C" fn wgsl_standard_resolve(
     room: &mut [u32],
     len: &mut usize,
 ) -> u8
+    ensures reply { (reply : Result ReplyWords (Fail Unreadable)) × IsResolveReply request.now reply
+        × IsHandedReply reply room.old room.new len.new result }
+    ensures room { IsRoomKept room.old room.new len.new result }
+{
+    match resolve_scalars(request) {
+        Some(Some(words)) => hand_over_items(ANSWERED, &words, room, len),
+        Some(None) => hand_over_items(RULED_OUT, &[], room, len),
+        None => resolve_others(alloc, request, room, len),
+    }
+}
+
+/// The same of any call.
+#[inline(never)]
+fn resolve_others(alloc: Global, request: &[u32], room: &mut [u32], len: &mut usize) -> u8
     ensures reply { (reply : Result ReplyWords (Fail Unreadable)) × IsResolveReply request.now reply
         × IsHandedReply reply room.old room.new len.new result }
     ensures room { IsRoomKept room.old room.new len.new result }
@@ -46,7 +61,7 @@ fn resolve_types(alloc: Global, request: &[u32], room: &mut [u32], len: &mut usi
     ensures room { IsRoomKept room.old room.new len.new result }
 {
     let mut short = ShortWords::new();
-    hand_over_resolved(&resolve(alloc, request, &mut short), &short, room, len)
+    hand_over_reply(&resolve(alloc, request, &mut short), &short, room, len)
 }
 
 /// The overloads of a name.
@@ -61,7 +76,8 @@ pub extern "C" fn wgsl_standard_overloads(
         × IsHandedReply reply room.old room.new len.new result }
     ensures room { IsRoomKept room.old room.new len.new result }
 {
-    hand_over_reply(&overloads(alloc, request), room, len)
+    let mut short = ShortWords::new();
+    hand_over_reply(&overloads(alloc, request, &mut short), &short, room, len)
 }
 
 /// Why overloads don't take the operands of a call.
@@ -76,7 +92,8 @@ pub extern "C" fn wgsl_standard_why(
         × IsHandedReply reply room.old room.new len.new result }
     ensures room { IsRoomKept room.old room.new len.new result }
 {
-    hand_over_reply(&why(alloc, request), room, len)
+    let mut short = ShortWords::new();
+    hand_over_reply(&why(alloc, request, &mut short), &short, room, len)
 }
 
 /// The spelling of a type.

@@ -11,9 +11,13 @@ ghost use Rattle.wgsl_coded.specs.declared.unreadable.Unreadable.{Unreadable};
 ghost use Rattle.wgsl_core.specs.declared.error.Fail.{Fail};
 ghost use Rattle.wgsl_c.specs.Words.{IsHandedReply, IsRoomKept};
 
-use crate::hand_over_words::hand_over_reply;
+use crate::hand_over::{ANSWERED, RULED_OUT, hand_over_items};
+use crate::hand_over_words::{hand_over_reply, hand_over_word};
 use std::alloc::Global;
-use wgsl_coded::{binary, call, common, constructor, layout, rank, size, unary};
+use wgsl_coded::{
+    ShortWords, binary, binary_of_scalars, call, call_of_scalars, common, constructor, layout,
+    rank, rank_of_scalars, size, unary,
+};
 
 /// The rank of the conversion from one type to another.
 #[unsafe(no_mangle)]
@@ -23,7 +27,23 @@ pub extern "C" fn wgsl_rank(alloc: Global, request: &[u32], room: &mut [u32], le
     ensures room { IsRoomKept room.old room.new len.new result }
     ensures never_out_of_memory { IsSomeAnd (rank_request request.now) NeedsNoMemory → result ≢ 3 }
 {
-    hand_over_reply(&rank(alloc, request), room, len)
+    match rank_of_scalars(request) {
+        Some(Some(rank)) => hand_over_word(rank, room, len),
+        Some(None) => hand_over_items(RULED_OUT, &[], room, len),
+        None => rank_of_types(alloc, request, room, len),
+    }
+}
+
+/// The same, of any types.
+#[inline(never)]
+fn rank_of_types(alloc: Global, request: &[u32], room: &mut [u32], len: &mut usize) -> u8
+    ensures reply { (reply : Result ReplyWords (Fail Unreadable)) × IsRankReply request.now reply
+        × IsHandedReply reply room.old room.new len.new result }
+    ensures room { IsRoomKept room.old room.new len.new result }
+    ensures never_out_of_memory { IsSomeAnd (rank_request request.now) NeedsNoMemory → result ≢ 3 }
+{
+    let mut short = ShortWords::new();
+    hand_over_reply(&rank(alloc, request, &mut short), &short, room, len)
 }
 
 /// The common type of a list of types.
@@ -38,7 +58,8 @@ pub extern "C" fn wgsl_common(
         × IsHandedReply reply room.old room.new len.new result }
     ensures room { IsRoomKept room.old room.new len.new result }
 {
-    hand_over_reply(&common(alloc, request), room, len)
+    let mut short = ShortWords::new();
+    hand_over_reply(&common(alloc, request, &mut short), &short, room, len)
 }
 
 /// The type of a unary expression.
@@ -54,7 +75,8 @@ pub extern "C" fn wgsl_unary(
     ensures room { IsRoomKept room.old room.new len.new result }
     ensures never_out_of_memory { IsSomeAnd (unary_request request.now) NeedsNoMemory → result ≢ 3 }
 {
-    hand_over_reply(&unary(alloc, request), room, len)
+    let mut short = ShortWords::new();
+    hand_over_reply(&unary(alloc, request, &mut short), &short, room, len)
 }
 
 /// The type of a binary expression, and those to which its operands convert.
@@ -70,7 +92,22 @@ pub extern "C" fn wgsl_binary(
     ensures room { IsRoomKept room.old room.new len.new result }
     ensures never_out_of_memory { IsSomeAnd (binary_request request.now) NeedsNoMemory → result ≢ 3 }
 {
-    hand_over_reply(&binary(alloc, request), room, len)
+    match binary_of_scalars(request) {
+        Some(words) => hand_over_items(ANSWERED, &words, room, len),
+        None => binary_of_types(alloc, request, room, len),
+    }
+}
+
+/// The same, of any types.
+#[inline(never)]
+fn binary_of_types(alloc: Global, request: &[u32], room: &mut [u32], len: &mut usize) -> u8
+    ensures reply { (reply : Result ReplyWords (Fail Unreadable)) × IsBinaryReply request.now reply
+        × IsHandedReply reply room.old room.new len.new result }
+    ensures room { IsRoomKept room.old room.new len.new result }
+    ensures never_out_of_memory { IsSomeAnd (binary_request request.now) NeedsNoMemory → result ≢ 3 }
+{
+    let mut short = ShortWords::new();
+    hand_over_reply(&binary(alloc, request, &mut short), &short, room, len)
 }
 
 /// The type that a constructor makes.
@@ -86,7 +123,8 @@ pub extern "C" fn wgsl_constructor(
     ensures room { IsRoomKept room.old room.new len.new result }
     ensures never_out_of_memory { IsSomeAnd (constructor_request request.now) NeedsNoMemory → result ≢ 3 }
 {
-    hand_over_reply(&constructor(alloc, request), room, len)
+    let mut short = ShortWords::new();
+    hand_over_reply(&constructor(alloc, request, &mut short), &short, room, len)
 }
 
 /// The type of the call of a built-in function.
@@ -97,7 +135,22 @@ pub extern "C" fn wgsl_call(alloc: Global, request: &[u32], room: &mut [u32], le
     ensures room { IsRoomKept room.old room.new len.new result }
     ensures never_out_of_memory { IsSomeAnd (call_request request.now) NeedsNoMemory → result ≢ 3 }
 {
-    hand_over_reply(&call(alloc, request), room, len)
+    match call_of_scalars(request) {
+        Some(word) => hand_over_word(word, room, len),
+        None => call_of_types(alloc, request, room, len),
+    }
+}
+
+/// The same, of any types.
+#[inline(never)]
+fn call_of_types(alloc: Global, request: &[u32], room: &mut [u32], len: &mut usize) -> u8
+    ensures reply { (reply : Result ReplyWords (Fail Unreadable)) × IsCallReply request.now reply
+        × IsHandedReply reply room.old room.new len.new result }
+    ensures room { IsRoomKept room.old room.new len.new result }
+    ensures never_out_of_memory { IsSomeAnd (call_request request.now) NeedsNoMemory → result ≢ 3 }
+{
+    let mut short = ShortWords::new();
+    hand_over_reply(&call(alloc, request, &mut short), &short, room, len)
 }
 
 /// The size and the alignment of a type.
@@ -108,7 +161,8 @@ pub extern "C" fn wgsl_size(alloc: Global, request: &[u32], room: &mut [u32], le
     ensures room { IsRoomKept room.old room.new len.new result }
     ensures never_out_of_memory { IsSomeAnd (size_request request.now) NeedsNoMemory → result ≢ 3 }
 {
-    hand_over_reply(&size(alloc, request), room, len)
+    let mut short = ShortWords::new();
+    hand_over_reply(&size(alloc, request, &mut short), &short, room, len)
 }
 
 /// The layout of a struct.
@@ -123,5 +177,6 @@ pub extern "C" fn wgsl_layout(
         × IsHandedReply reply room.old room.new len.new result }
     ensures room { IsRoomKept room.old room.new len.new result }
 {
-    hand_over_reply(&layout(alloc, request), room, len)
+    let mut short = ShortWords::new();
+    hand_over_reply(&layout(alloc, request, &mut short), &short, room, len)
 }

@@ -4,11 +4,8 @@ use Rattle.std.specs.Int.{w32, to_le_bytes}
 use Rattle.std.proofs.lemmas.Bool.{ltb-false}
 use Rattle.std.proofs.lemmas.Option.{slice_get_past}
 use Rattle.wgsl_syntax.specs.Texel.{texel_formats}
-use Rattle.wgsl_syntax.specs.Scalar.{scalars}
-use Rattle.wgsl_syntax.specs.declared.scalar.Scalar.{Scalar}
 use Rattle.wgsl_syntax.specs.declared.code.Head.{Head}
-use Rattle.wgsl_syntax.specs.declared.code.Head.TheVariants.{Leaf, Around}
-use Rattle.wgsl_syntax.specs.declared.code.LeafType.TheVariants as leaf
+use Rattle.wgsl_syntax.specs.declared.code.Head.TheVariants.{Around}
 use Rattle.wgsl_syntax.specs.declared.around.Around.TheVariants as arounds
 use Rattle.wgsl_rules.specs.codes.Words.{bytes}
 use Rattle.wgsl_rules.specs.codes.Heads.{head_word}
@@ -45,11 +42,6 @@ none_named w bs e k = rw (head_read w bs e, sym k) refl
 
 pub named_so : (w : ℕ) (bs : List ℕ) (h : Head) → bs ≡ to_le_bytes w32 w → Some h ≡ Named bs → head_word h ≡ w → Some h ≡ head_at w
 named_so w bs h e k same = rw (head_read w bs e, sym k, eq-eqb (head_word h) w same) refl
-
--- a scalar is named by the tag 0 and its index
-pub scalar_named : (w : ℕ) (bs : List ℕ) (s : Scalar) → bs ≡ to_le_bytes w32 w → get_or bs 0 0 ≡ 0 → Some s ≡ slice_get scalars (get_or bs 1 0) →
-    head_word (Leaf (leaf.Scalar s)) ≡ w → head_at w ≡ Some (Leaf (leaf.Scalar s))
-scalar_named w bs s e tag index same = sym (named_so w bs (Leaf (leaf.Scalar s)) e (rw (tag, sym index) refl) same)
 
 -- a vector is named by the tag 3 and the number of its components
 pub vector_named : (w : ℕ) (bs : List ℕ) → bs ≡ to_le_bytes w32 w → get_or bs 0 0 ≡ 3 → head_word (Around (arounds.Vec (get_or bs 1 0))) ≡ w →

@@ -1,5 +1,6 @@
 -- Members are laid out one after another.
-use Rattle.std.proofs.Common.{◌≡◌, ℕ, ◌+◌, ◌-◌, ◌<◌, ◌≤◌, ◌^◌, max, List, [], ◌∷◌, ◌++◌, Option, Some, None, refl, sym, ap, subst, ◌∙◌, arith, length, map, append_assoc, Ok}
+use Rattle.std.proofs.Common.{◌≡◌, ℕ, ◌+◌, ◌-◌, ◌<◌, ◌≤◌, ◌^◌, max, List, [], ◌∷◌, ◌++◌, Option, Some, None, Result, Ok, Err, refl, sym, ap, subst, ◌∙◌, arith, length, map, append_assoc}
+use Rattle.std.specs.Prelude.{IfOk, IfSome}
 use Rattle.std.specs.Int.{next_multiple_of}
 use Rattle.std.specs.Option.{option_or}
 use Rattle.std.proofs.lemmas.List.{append-nil, length-append}
@@ -27,6 +28,7 @@ use Rattle.wgsl_asked.specs.Requests.{layout}
 use Rattle.wgsl_coded.specs.Replies.{IsLayoutReply, answered, layout_words, member_words}
 use Rattle.wgsl_coded.specs.Requests.{layout_request}
 use Rattle.wgsl_coded.proofs.Levels.{goes_on, ends, with_front, no_front}
+use Rattle.wgsl_coded.proofs.Scalars.{if_so}
 
 -- One more member
 
@@ -167,6 +169,10 @@ struct_laid_out ws rest words all count size align head h e =
     let written : all ≡ layout_words found =
     e ∙ rw h.written (append_assoc (number count) (member_words h.layouts h.offsets) (size ∷ align ∷ [])) ∙ ap (λ n. number n ++ (member_words h.layouts h.offsets ++ size ∷ align ∷ [])) (sym h.one_each) in
     rw request (a_layout head.0 h.members (Some found), layout_is (Some found) h.laid_out, ap answered written)
+
+pub if_given_so : {A E : Type 0} (r : Result (Option A) E) (P Q : A → Type 0) → ((x : A) → P x → Q x) → IfOk r (λ o. IfSome o P) → IfOk r (λ o. IfSome o Q)
+if_given_so (Ok o) P Q so h = if_so o P Q so h
+if_given_so (Err e) P Q so h = tt
 
 pub given : (attribute found all : Option ℕ) (n : ℕ) (P : ℕ → Type 0) → all ≡ option_or attribute found → all ≡ Some n → IsExactly found P → IsGiven attribute P n
 given None found all n P e k h = (h n).0 (sym e ∙ k)

@@ -46,10 +46,10 @@ pub vector_of : (d first : ℕ) (ws : List ℕ) (n : ℕ) (s : Scalar) (t : Wgsl
 vector_of d first ws n s t hd e some inside k = rw (e, scalar_of d ws s hd some inside, k) refl
 
 -- a vector of a scalar is two words, of which the second follows the first
-pub vector_at : (ws rest : List ℕ) (n : ℕ) (s : Scalar) → rest ≡ take (length ws - 1) (drop 1 ws) → 0 < length ws → head_at (get_or ws 0 0) ≡ Some (Around (arounds.Vec n)) → 0 < length rest →
-    head_at (get_or rest 0 0) ≡ Some (Leaf (leaf.Scalar s)) → decode 255 ws ≡ Some (vec n (scalar s), take (length rest - 1) (drop 1 rest))
-vector_at ws rest n s is h e k inside =
-    level_of 255 ws (omega arith) h ∙ rw e (ap (λ r. decode 254 r >>= λ t. Some (vec n t.0, t.1)) (sym is) ∙ rw (scalar_of 254 rest s (omega arith) k inside) refl)
+pub vector_at : (d : ℕ) (ws rest : List ℕ) (n : ℕ) (s : Scalar) → 2 ≤ d → rest ≡ take (length ws - 1) (drop 1 ws) → 0 < length ws → head_at (get_or ws 0 0) ≡ Some (Around (arounds.Vec n)) → 0 < length rest →
+    head_at (get_or rest 0 0) ≡ Some (Leaf (leaf.Scalar s)) → decode d ws ≡ Some (vec n (scalar s), take (length rest - 1) (drop 1 rest))
+vector_at d ws rest n s deep is h e k inside =
+    level_of d ws (omega (arith, deep)) h ∙ rw e (ap (λ r. decode (d - 1) r >>= λ t. Some (vec n t.0, t.1)) (sym is) ∙ rw (scalar_of (d - 1) rest s (omega (arith, deep)) k inside) refl)
 
 of_two : (v w : ℕ) (s t : Scalar) → head_at v ≡ Some (Leaf (leaf.Scalar s)) → head_at w ≡ Some (Leaf (leaf.Scalar t)) →
     two_types (v ∷ w ∷ []) ≡ Some (scalar s, scalar t)

@@ -5,7 +5,7 @@ use Rattle.wgsl_rules.specs.standard.Answers.{IsResolution}
 use Rattle.wgsl_rules.specs.standard.Choice.{Operand}
 use Rattle.wgsl_rules.specs.codes.Reading.{◌>>=◌}
 use Rattle.wgsl_rules.specs.codes.DecodingSignatures.{parts_in_order}
-use Rattle.wgsl_standard.specs.Callees.{WgslCallee, a_unary, a_binary, a_function, a_constructor}
+use Rattle.wgsl_standard.specs.Callees.{WgslCallee, a_function, a_constructor}
 use Rattle.wgsl_asked.specs.Calls.{WgslCall, WgslResolution}
 use Rattle.wgsl_asked.specs.Requests.{WgslRequest, resolution_of}
 use Rattle.wgsl_coded.specs.Replies.{ReplyWords, resolution_words, words_or_none}
@@ -15,8 +15,6 @@ use Rattle.wgsl_coded.specs.declared.fast.callees.ShortCallee.{ShortCallee}
 use Rattle.wgsl_coded.specs.declared.fast.callees.ShortCallee.TheVariants as callees
 
 abbrev pub short_callee_view : ShortCallee → WgslCallee
-short_callee_view (callees.Unary o) = a_unary o
-short_callee_view (callees.Binary o) = a_binary o
 short_callee_view (callees.Function name) = a_function (take name.len name.bytes)
 short_callee_view (callees.Constructor name) = a_constructor (take name.len name.bytes)
 

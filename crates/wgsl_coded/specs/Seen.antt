@@ -1,8 +1,8 @@
 -- How the replies of the code are seen.
-use Rattle.std.specs.Prelude.{◌≡◌, ◌≢◌, [], ◌∷◌, Bool, true, false, Option, Some, None, Result, Ok, Err}
+use Rattle.std.specs.Prelude.{◌≡◌, ◌≢◌, [], Bool, true, false, Result, Ok, Err}
 use Rattle.wgsl_coded.specs.declared.unreadable.Unreadable.{Unreadable}
 use Rattle.wgsl_coded.specs.declared.reply.Reply.{Reply}
-use Rattle.wgsl_coded.specs.declared.reply.Reply.TheVariants.{Answer, Word, Short, Refusal}
+use Rattle.wgsl_coded.specs.declared.reply.Reply.TheVariants.{Short, Answer, Refusal}
 use Rattle.wgsl_coded.specs.declared.fast.short.ShortWords.{ShortWords}
 use Rattle.wgsl_rules.specs.codes.Refusals.{refusal_code}
 use Rattle.wgsl_core.specs.Answer.{refusal}
@@ -18,36 +18,30 @@ abbrev pub seen : {X : Type 0} → (X → ReplyWords) → Result X (Fail Unreada
 seen words (Ok x) = Ok (words x)
 seen words (Err fail) = Err fail
 
--- the words of a reply
-abbrev pub reply_words : Reply → ReplyWords
-reply_words (Answer words) = answered words.items
-reply_words (Word word) = answered (word ∷ [])
-reply_words (Short words) = answered (short_items words)
-reply_words (Refusal words) = refused words.items
+-- the words of a reply, of which those that are short were given
+abbrev pub reply_words : ShortWords → Reply → ReplyWords
+reply_words short Short = answered (short_items short)
+reply_words short (Answer words) = answered words.items
+reply_words short (Refusal words) = refused words.items
 
--- the words of what a call resolves to: those that are short if there is no reply
-abbrev pub resolved_words : ShortWords 12 → Option Reply → ReplyWords
-resolved_words short None = answered (short_items short)
-resolved_words short (Some reply) = reply_words reply
-
--- the same of a call that resolves with short words, or doesn't
-abbrev pub short_words : Bool → ShortWords 12 → ReplyWords
+-- the words of a call that resolves with short words, or doesn't
+abbrev pub short_words : Bool → ShortWords → ReplyWords
 short_words true short = answered (short_items short)
 short_words false short = refused []
 
 -- the reply has these words, unless memory runs out
-abbrev pub HasWords : ReplyWords → Result Reply (Fail Unreadable) → Type 0
-HasWords words (Ok reply) = reply_words reply ≡ words
-HasWords words (Err (fails.Memory e)) = Unit {0}
-HasWords words (Err (fails.Error e)) = ⊥
+abbrev pub HasWords : ReplyWords → ShortWords → Result Reply (Fail Unreadable) → Type 0
+HasWords words short (Ok reply) = reply_words short reply ≡ words
+HasWords words short (Err (fails.Memory e)) = Unit {0}
+HasWords words short (Err (fails.Error e)) = ⊥
 
 -- the reply has the words of the answer, unless memory runs out
-abbrev pub Writes : WgslAnswer → Result Reply (Fail Unreadable) → Type 0
-Writes a (Ok reply) = (a ≢ out_of_memory) × (reply_words reply ≡ answer_words a)
-Writes a (Err (fails.Memory e)) = Unit {0}
-Writes a (Err (fails.Error e)) = ⊥
+abbrev pub Writes : WgslAnswer → ShortWords → Result Reply (Fail Unreadable) → Type 0
+Writes a short (Ok reply) = (a ≢ out_of_memory) × (reply_words short reply ≡ answer_words a)
+Writes a short (Err (fails.Memory e)) = Unit {0}
+Writes a short (Err (fails.Error e)) = ⊥
 
 -- the reply has the code of the refusal, unless memory runs out
-abbrev pub HasRefused : Fail Error → Result Reply (Fail Unreadable) → Type 0
-HasRefused (fails.Error e) r = HasWords (refused (refusal_code (refusal e))) r
-HasRefused (fails.Memory e) r = r ≡ Err (fails.Memory e)
+abbrev pub HasRefused : Fail Error → ShortWords → Result Reply (Fail Unreadable) → Type 0
+HasRefused (fails.Error e) short r = HasWords (refused (refusal_code (refusal e))) short r
+HasRefused (fails.Memory e) short r = r ≡ Err (fails.Memory e)

@@ -3,5 +3,5 @@ use Rattle.std.specs.Prelude.{ℕ, List, take}
 use Rattle.wgsl_coded.specs.declared.fast.short.ShortWords.{ShortWords}
 
 -- the words that are set
-abbrev pub short_items : {N : ℕ} → ShortWords N → List ℕ
+abbrev pub short_items : ShortWords → List ℕ
 short_items s = take s.len s.words

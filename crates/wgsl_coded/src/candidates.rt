@@ -12,6 +12,7 @@ ghost use Rattle.wgsl_coded.specs.Replies.{IsReplyTo, answered, candidate_words,
 ghost use Rattle.wgsl_coded.specs.Seen.{HasWords, reply_words, seen};
 ghost use Rattle.wgsl_coded.specs.Short.{short_items};
 ghost use Rattle.wgsl_coded.specs.Memory.{AreScalars, NeedsNoMemory};
+ghost use Rattle.wgsl_coded.specs.declared.fast.short.ShortWords.{ShortWords};
 
 use crate::fast::short::ShortWords;
 use crate::refusals::write_operands;
@@ -35,27 +36,32 @@ pub(crate) fn reply_to_operands(
     operator: BinaryOperator,
     lhs: &Type,
     rhs: &Type,
+    short: &mut ShortWords,
 ) -> Result<Reply, Fail<Unreadable>>
     ensures reply { IsReplyTo (Some (candidate operator (view lhs.now) (view rhs.now)))
-        (seen reply_words result) }
+        (seen (reply_words short.new) result) }
     ensures never_out_of_memory { NeedsNoMemory (candidate operator (view lhs.now) (view rhs.now))
         → IsAnswered result }
 {
     match &resolve_operator(operator, lhs, rhs) {
-        Some(found) => reply_with_candidate(alloc, found),
+        Some(found) => reply_with_candidate(alloc, found, short),
         None => refuse_operands(alloc, Operands { operator, lhs, rhs }),
     }
 }
 
 /// The codes of a candidate's types.
 #[inline(always)]
-fn reply_with_candidate(alloc: Global, found: &Resolution<'_>) -> Result<Reply, Fail<Unreadable>>
-    ensures words { HasWords (answered (candidate_words (resolution_view found.now))) result }
+fn reply_with_candidate(
+    alloc: Global,
+    found: &Resolution<'_>,
+    short: &mut ShortWords,
+) -> Result<Reply, Fail<Unreadable>>
+    ensures words { HasWords (answered (candidate_words (resolution_view found.now))) short.new result }
     ensures never_out_of_memory { AreScalars (resolution_view found.now) → IsAnswered result }
 {
-    let mut words = ShortWords::new();
-    if push_candidate(&mut words, found) {
-        Ok(Reply::Short(words))
+    short.clear();
+    if push_candidate(short, found) {
+        Ok(Reply::Short)
     } else {
         Ok(Reply::Answer(words_of_resolution(alloc, found)?))
     }
@@ -63,7 +69,7 @@ fn reply_with_candidate(alloc: Global, found: &Resolution<'_>) -> Result<Reply, 
 
 /// Adds the codes of a candidate's types; false if they aren't short.
 #[inline(always)]
-fn push_candidate(out: &mut ShortWords<6>, found: &Resolution<'_>) -> bool
+fn push_candidate(out: &mut ShortWords, found: &Resolution<'_>) -> bool
     ensures items { IsTrue result
         → short_items out.new ≡ short_items out.old ++ candidate_words (resolution_view found.now) }
     ensures room { AreScalars (resolution_view found.now) → out.old.len ≡ 0 → IsTrue result }
@@ -75,10 +81,10 @@ fn push_candidate(out: &mut ShortWords<6>, found: &Resolution<'_>) -> bool
 
 /// Adds the code of a type that isn't built yet; false if it isn't short.
 #[inline(always)]
-pub(crate) fn push_resolved<const N: usize>(out: &mut ShortWords<N>, ty: ResolvedType<'_>) -> bool
+pub(crate) fn push_resolved(out: &mut ShortWords, ty: ResolvedType<'_>) -> bool
     ensures items { IsTrue result
         → short_items out.new ≡ short_items out.old ++ code (resolved_view ty.entry) }
-    ensures room { IsScalar (resolved_view ty.entry) → out.old.len < N
+    ensures room { IsScalar (resolved_view ty.entry) → out.old.len < 12
         → IsTrue result × (out.new.len ≡ suc out.old.len) }
 {
     match ty.extent {
@@ -93,10 +99,10 @@ pub(crate) fn push_resolved<const N: usize>(out: &mut ShortWords<N>, ty: Resolve
 }
 
 #[inline(always)]
-fn push_element<const N: usize>(out: &mut ShortWords<N>, element: Element<'_>) -> bool
+fn push_element(out: &mut ShortWords, element: Element<'_>) -> bool
     ensures items { IsTrue result
         → short_items out.new ≡ short_items out.old ++ code (element_view element.entry) }
-    ensures room { IsScalar (element_view element.entry) → out.old.len < N
+    ensures room { IsScalar (element_view element.entry) → out.old.len < 12
         → IsTrue result × (out.new.len ≡ suc out.old.len) }
 {
     match element {
@@ -121,13 +127,14 @@ fn words_of_resolution(alloc: Global, found: &Resolution<'_>) -> Result<Vec<u32>
 pub(crate) fn reply_with_resolved(
     alloc: Global,
     ty: ResolvedType<'_>,
+    short: &mut ShortWords,
 ) -> Result<Reply, Fail<Unreadable>>
-    ensures words { HasWords (answered (code (resolved_view ty.entry))) result }
+    ensures words { HasWords (answered (code (resolved_view ty.entry))) short.new result }
     ensures never_out_of_memory { IsScalar (resolved_view ty.entry) → IsAnswered result }
 {
-    let mut short = ShortWords::new();
-    if push_resolved(&mut short, ty) {
-        return Ok(Reply::Short(short));
+    short.clear();
+    if push_resolved(short, ty) {
+        return Ok(Reply::Short);
     }
     let mut words = new_words(alloc)?;
     write_built(alloc, &mut words, ty)?;
@@ -147,7 +154,8 @@ pub(crate) fn refuse_operands(
     alloc: Global,
     operands: Operands<'_>,
 ) -> Result<Reply, Fail<Unreadable>>
-    ensures { HasWords (refused (refusal_code (operands_refusal operands.entry))) result }
+    ensures { (short : ShortWords)
+        → HasWords (refused (refusal_code (operands_refusal operands.entry))) short result }
 {
     let Operands { operator, lhs, rhs } = operands;
     let mut words = new_words(alloc)?;

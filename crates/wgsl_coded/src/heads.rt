@@ -158,11 +158,7 @@ pub(crate) fn read_head(word: u32) -> Option<Head>
 pub(crate) fn read_scalar(word: u32) -> Option<Scalar>
     ensures { IfSome result (λ s. head_at word ≡ Some (head.Leaf (leaf.Scalar s))) }
 {
-    let [tag, index, _, _] = word.to_le_bytes();
-    if tag != 0 {
-        return None;
-    }
-    let scalar = Scalar::at(index)?;
+    let scalar = Scalar::ALL.get((word / 256) as usize).copied()?;
     if word_of(0, scalar as u8, 0, 0) == word {
         Some(scalar)
     } else {

@@ -4,6 +4,7 @@ ghost use Rattle.wgsl_core.specs.Layout.{layouts_of, offsets_of};
 ghost use Rattle.wgsl_asked.specs.Views.{layout_view};
 ghost use Rattle.wgsl_coded.specs.Replies.{answered, layout_words, member_words};
 ghost use Rattle.wgsl_coded.specs.Seen.{HasWords};
+ghost use Rattle.wgsl_coded.specs.declared.fast.short.ShortWords.{ShortWords};
 
 use crate::numbers::write_number;
 use crate::reply::Reply;
@@ -17,7 +18,8 @@ pub(crate) fn reply_with_layout(
     alloc: Global,
     layout: StructLayout,
 ) -> Result<Reply, Fail<Unreadable>>
-    ensures { HasWords (answered (layout_words (layout_view layout))) result }
+    ensures { (short : ShortWords)
+        → HasWords (answered (layout_words (layout_view layout))) short result }
 {
     let words = words_of_layout(alloc, &layout);
     drop(layout);

@@ -1,5 +1,5 @@
 // Names.
-ghost use Rattle.std.specs.Prelude.{◌≡◌, ◌<◌, ◌≤◌, ◌∷◌, ◌++◌, [], IfOk, IfSome, IsTrue, OnOk, length, string_bytes};
+ghost use Rattle.std.specs.Prelude.{◌≡◌, ◌↔◌, ◌<◌, ◌≤◌, ◌∷◌, ◌++◌, [], IfOk, IfSome, IsTrue, OnOk, string_bytes};
 ghost use Rattle.std.specs.List.{flat_map};
 ghost use Rattle.std.specs.Str.{bytes_eq};
 ghost use Rattle.wgsl_rules.specs.codes.Words.{bytes, name_code, packed};
@@ -100,7 +100,7 @@ pub(crate) fn is_ascii(count: usize, word: u32) -> bool
     ensures only { 0 < count → count ≤ 4 → IsAsciiText count (word ∷ []) [] → IsTrue result }
 {
     let [a, b, c, d] = word.to_le_bytes();
-    if a.max(b).max(c).max(d) >= 128 {
+    if !are_ascii(a, b, c, d) {
         return false;
     }
     match count {
@@ -109,6 +109,12 @@ pub(crate) fn is_ascii(count: usize, word: u32) -> bool
         3 => word == word_of(a, b, c, 0),
         _ => count == 4,
     }
+}
+
+fn are_ascii(a: u8, b: u8, c: u8, d: u8) -> bool
+    ensures { IsTrue result ↔ ((a < 128) × (b < 128) × (c < 128) × (d < 128)) }
+{
+    a < 128 && b < 128 && c < 128 && d < 128
 }
 
 /// The words after a text of that many bytes, if it is ASCII.

@@ -1,5 +1,5 @@
 // Words, numbers and attributes.
-ghost use Rattle.std.specs.Prelude.{◌≡◌, ◌++◌, IfOk, OnOk, option_map};
+ghost use Rattle.std.specs.Prelude.{◌≡◌, ◌++◌, OnOk, option_map};
 ghost use Rattle.wgsl_rules.specs.codes.Words.{number, attribute, word};
 ghost use Rattle.wgsl_rules.specs.codes.Reading.{number_at, attribute_at};
 

@@ -7,13 +7,13 @@ ghost use Rattle.wgsl_rules.specs.types.Kinds.{IsScalar};
 ghost use Rattle.wgsl_core.specs.Answer.{IsAnswered, refusal};
 ghost use Rattle.wgsl_core.specs.View.{view};
 ghost use Rattle.wgsl_standard.specs.Resolved.{resolved_view};
-ghost use Rattle.wgsl_standard.specs.Results.{result_view};
 ghost use Rattle.wgsl_asked.specs.Answers.{Answers, WgslAnswer, a_type, a_value};
 ghost use Rattle.wgsl_asked.specs.Memory.{AsksForNoMemory};
-ghost use Rattle.wgsl_asked.specs.Views.{answer_view, outcome, request_view};
+ghost use Rattle.wgsl_asked.specs.Views.{answer_view, binary_view, outcome, request_view};
 ghost use Rattle.wgsl_coded.specs.Replies.{IsReplyTo, answered, resolution_words, value_words};
 ghost use Rattle.wgsl_coded.specs.Seen.{HasRefused, HasWords, Writes, reply_words, seen};
 ghost use Rattle.wgsl_coded.specs.Memory.{IsShortAnswer};
+ghost use Rattle.wgsl_coded.specs.declared.fast.short.ShortWords.{ShortWords};
 
 use crate::candidates::{refuse_operands, reply_with_resolved};
 use crate::fast::short::ShortWords;
@@ -24,55 +24,66 @@ use crate::resolved::words_of_resolved;
 use crate::unreadable::Unreadable;
 use crate::writing::write;
 use std::alloc::{AllocError, Global};
-use wgsl_asked::answers::Answer;
+use wgsl_asked::answers::{Answer, Operands};
 use wgsl_asked::ask::answer;
 use wgsl_asked::requests::Request;
 use wgsl_core::error::{Error, Fail};
+use wgsl_core::operators::resolve::ResolvedType;
 use wgsl_core::ty::Type;
-use wgsl_standard::instance::{ResultType, built};
 use wgsl_standard::resolved::ResolvedCall;
 
 /// The words of a reply.
 #[derive(Drop)]
 pub enum Reply {
+    /// The answer is in the short words that the caller gave.
+    Short,
     /// The answer.
     Answer(Vec<u32>),
-    /// The answer, if it is one word.
-    Word(u32),
-    /// The answer, if it is short.
-    Short(ShortWords<6>),
     /// The code of the refusal; no words where there is nothing to say but no.
     Refusal(Vec<u32>),
 }
 
 /// The reply to the request.
 #[inline(always)]
-pub(crate) fn reply_to(alloc: Global, request: Request<'_>) -> Result<Reply, Fail<Unreadable>>
-    ensures reply { IsReplyTo (Some (request_view request.entry)) (seen reply_words result) }
+pub(crate) fn reply_to(
+    alloc: Global,
+    request: Request<'_>,
+    short: &mut ShortWords,
+) -> Result<Reply, Fail<Unreadable>>
+    ensures reply { IsReplyTo (Some (request_view request.entry))
+        (seen (reply_words short.new) result) }
     ensures never_out_of_memory { AsksForNoMemory (request_view request.entry)
         → ((a : WgslAnswer) → Answers (request_view request.entry) a → IsShortAnswer a)
         → IsAnswered result }
 {
     let answer = answer(alloc, request)?;
-    write_answer(alloc, answer)
+    write_answer(alloc, answer, short)
 }
 
 #[inline(always)]
-fn write_answer(alloc: Global, answer: Answer<'_>) -> Result<Reply, Fail<Unreadable>>
-    ensures writes { Writes (answer_view answer.entry) result }
+fn write_answer(
+    alloc: Global,
+    answer: Answer<'_>,
+    short: &mut ShortWords,
+) -> Result<Reply, Fail<Unreadable>>
+    ensures writes { Writes (answer_view answer.entry) short.new result }
     ensures never_out_of_memory { IsShortAnswer (answer_view answer.entry) → IsAnswered result }
 {
     match answer {
-        Answer::Number(Some(number)) => Ok(Reply::Word(number)),
-        Answer::Size(size, align) => Ok(Reply::Short(ShortWords::of_size(size, align))),
-        Answer::Common(Some(common)) => reply_with_code(alloc, common),
-        Answer::Type(made) => reply_with_type(alloc, made),
-        Answer::Value(returned) => reply_with_value(alloc, returned),
-        Answer::Binary(Ok(ty)) => reply_with_resolved(alloc, ty),
-        Answer::Binary(Err(operands)) => refuse_operands(alloc, operands),
+        Answer::Number(Some(number)) => {
+            short.set_word(number);
+            Ok(Reply::Short)
+        }
+        Answer::Size(size, align) => {
+            short.set_size(size, align);
+            Ok(Reply::Short)
+        }
+        Answer::Common(Some(common)) => reply_with_code(alloc, common, short),
+        Answer::Type(made) => reply_with_type(alloc, made, short),
+        Answer::Value(returned) => reply_with_value(alloc, returned, short),
+        Answer::Binary(found) => reply_with_binary(alloc, found, short),
         Answer::Offsets(Some(offsets)) => Ok(Reply::Answer(offsets)),
         Answer::Layout(_, Some(layout)) => reply_with_layout(alloc, layout),
-        Answer::TypeOf(_, Some(found)) => reply_with_result(alloc, found),
         Answer::Resolution(_, Some(resolved)) => reply_with_resolution(alloc, resolved),
         Answer::Overloads(signatures) => reply_with_list(alloc, signatures),
         Answer::Notes(notes) => reply_with_list(alloc, notes),
@@ -80,8 +91,23 @@ fn write_answer(alloc: Global, answer: Answer<'_>) -> Result<Reply, Fail<Unreada
         | Answer::Common(None)
         | Answer::Offsets(None)
         | Answer::Layout(_, None)
-        | Answer::TypeOf(_, None)
         | Answer::Resolution(_, None) => Ok(Reply::Refusal(Vec::new(alloc))),
+    }
+}
+
+/// The code of the type of a binary expression, or of the refusal of its operands.
+#[inline(always)]
+fn reply_with_binary(
+    alloc: Global,
+    found: Result<ResolvedType<'_>, Operands<'_>>,
+    short: &mut ShortWords,
+) -> Result<Reply, Fail<Unreadable>>
+    ensures writes { Writes (a_type (binary_view found.entry)) short.new result }
+    ensures never_out_of_memory { IsShortAnswer (a_type (binary_view found.entry)) → IsAnswered result }
+{
+    match found {
+        Ok(ty) => reply_with_resolved(alloc, ty, short),
+        Err(operands) => refuse_operands(alloc, operands),
     }
 }
 
@@ -89,12 +115,13 @@ fn write_answer(alloc: Global, answer: Answer<'_>) -> Result<Reply, Fail<Unreada
 pub(crate) fn reply_with_type(
     alloc: Global,
     made: Result<Type, Fail<Error>>,
+    short: &mut ShortWords,
 ) -> Result<Reply, Fail<Unreadable>>
-    ensures writes { Writes (outcome a_type view made) result }
+    ensures writes { Writes (outcome a_type view made) short.new result }
     ensures never_out_of_memory { IsShortAnswer (outcome a_type view made) → IsAnswered result }
 {
     match made {
-        Ok(ty) => reply_with_code(alloc, &ty),
+        Ok(ty) => reply_with_code(alloc, &ty, short),
         Err(fail) => refuse(alloc, fail),
     }
 }
@@ -103,35 +130,36 @@ pub(crate) fn reply_with_type(
 pub(crate) fn reply_with_value(
     alloc: Global,
     returned: Result<Option<Type>, Fail<Error>>,
+    short: &mut ShortWords,
 ) -> Result<Reply, Fail<Unreadable>>
-    ensures writes { Writes (outcome a_value (option_map view) returned) result }
+    ensures writes { Writes (outcome a_value (option_map view) returned) short.new result }
     ensures never_out_of_memory { IsShortAnswer (outcome a_value (option_map view) returned)
         → IsAnswered result }
 {
     match returned {
-        Ok(returned) => reply_with_returned(alloc, returned),
+        Ok(returned) => reply_with_returned(alloc, returned, short),
         Err(fail) => refuse(alloc, fail),
     }
 }
 
 /// The code of a type that a call returns, or no words.
 #[inline(always)]
-fn reply_with_returned(alloc: Global, returned: Option<Type>) -> Result<Reply, Fail<Unreadable>>
-    ensures words { HasWords (answered (value_words (option_map view returned))) result }
+fn reply_with_returned(
+    alloc: Global,
+    returned: Option<Type>,
+    short: &mut ShortWords,
+) -> Result<Reply, Fail<Unreadable>>
+    ensures words { HasWords (answered (value_words (option_map view returned))) short.new result }
     ensures never_out_of_memory { IsShortAnswer (a_value (Ok (option_map view returned)))
         → IsAnswered result }
 {
     match returned {
-        Some(ty) => reply_with_code(alloc, &ty),
-        None => Ok(Reply::Short(ShortWords::new())),
+        Some(ty) => reply_with_code(alloc, &ty, short),
+        None => {
+            short.clear();
+            Ok(Reply::Short)
+        }
     }
-}
-
-/// The code of the result of a call, or no words.
-fn reply_with_result(alloc: Global, found: Option<ResultType>) -> Result<Reply, Fail<Unreadable>>
-    ensures { HasWords (answered (value_words (option_map result_view found))) result }
-{
-    reply_with_returned(alloc, built(alloc, found)?)
 }
 
 /// The words of what a call resolves to.
@@ -139,7 +167,8 @@ pub(crate) fn reply_with_resolution(
     alloc: Global,
     resolved: ResolvedCall,
 ) -> Result<Reply, Fail<Unreadable>>
-    ensures { HasWords (answered (resolution_words (resolved_view resolved))) result }
+    ensures { (short : ShortWords)
+        → HasWords (answered (resolution_words (resolved_view resolved))) short result }
 {
     let words = words_of_resolved(alloc, &resolved);
     drop(resolved);
@@ -151,7 +180,8 @@ fn reply_with_list<T: WritePart + Drop>(
     alloc: Global,
     parts: Vec<T>,
 ) -> Result<Reply, Fail<Unreadable>>
-    ensures { HasWords (answered (list_code T.part_code (map T.written parts.items))) result }
+    ensures { (short : ShortWords)
+        → HasWords (answered (list_code T.part_code (map T.written parts.items))) short result }
 {
     let words = words_of_list(alloc, &parts);
     drop(parts);
@@ -169,7 +199,7 @@ fn words_of_list<T: WritePart>(alloc: Global, parts: &[T]) -> Result<Vec<u32>, A
 
 /// The code of a refusal.
 fn refuse(alloc: Global, fail: Fail<Error>) -> Result<Reply, Fail<Unreadable>>
-    ensures { HasRefused fail result }
+    ensures { (short : ShortWords) → HasRefused fail short result }
 {
     match fail {
         Fail::Error(error) => {
@@ -198,13 +228,19 @@ fn words_of_type(alloc: Global, ty: &Type) -> Result<Vec<u32>, AllocError>
 }
 
 #[inline(always)]
-fn reply_with_code(alloc: Global, ty: &Type) -> Result<Reply, Fail<Unreadable>>
-    ensures words { HasWords (answered (code (view ty.now))) result }
+fn reply_with_code(
+    alloc: Global,
+    ty: &Type,
+    short: &mut ShortWords,
+) -> Result<Reply, Fail<Unreadable>>
+    ensures words { HasWords (answered (code (view ty.now))) short.new result }
     ensures never_out_of_memory { IsScalar (view ty.now) → IsAnswered result }
 {
-    match ShortWords::of_type(ty) {
-        Some(words) => Ok(Reply::Short(words)),
-        None => Ok(Reply::Answer(words_of_type(alloc, ty)?)),
+    short.clear();
+    if short.push_type(ty) {
+        Ok(Reply::Short)
+    } else {
+        Ok(Reply::Answer(words_of_type(alloc, ty)?))
     }
 }
 

@@ -1,9 +1,9 @@
 // Lists of types, template parameters, and the signatures of calls.
-ghost use Rattle.std.specs.Prelude.{◌≡◌, ◌++◌, OnOk, flat_map, map, option_map};
+ghost use Rattle.std.specs.Prelude.{◌≡◌, ◌++◌, OnOk, map, option_map};
 ghost use Rattle.wgsl_rules.specs.codes.Codes.{code};
 ghost use Rattle.wgsl_rules.specs.codes.Decoding.{decode};
-ghost use Rattle.wgsl_rules.specs.codes.DecodingSignatures.{list_at, parameter_at, parts_in_order, signature_at, template_at, types_at};
-ghost use Rattle.wgsl_rules.specs.codes.Signatures.{list_code, parameter_code, signature_code, template_code};
+ghost use Rattle.wgsl_rules.specs.codes.DecodingSignatures.{parameter_at, signature_at, template_at};
+ghost use Rattle.wgsl_rules.specs.codes.Signatures.{parameter_code, signature_code, template_code};
 ghost use Rattle.wgsl_core.specs.View.{view};
 ghost use Rattle.wgsl_core.specs.Instances.{parameter_view, signature_view};
 ghost use Rattle.wgsl_coded.specs.Reads.{Reads};

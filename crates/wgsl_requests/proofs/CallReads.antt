@@ -20,7 +20,9 @@ use Rattle.wgsl_requests.specs.Calls.{HasArity, HeadAt, IsCall, OperandAt, Opera
 use Rattle.wgsl_requests.specs.Grammar.{TypeAt}
 use Rattle.wgsl_requests.specs.Reading.{IsText, NoneAt, OneWord}
 use Rattle.wgsl_requests.specs.Templates.{TemplateAt}
-use Rattle.wgsl_requests.specs.internal.Asked.{AreOperands, NamedAt, called, plain_there}
+use Rattle.wgsl_requests.specs.internal.Asked.{AreOperands, NamedAt, called, callee_named, command_of, plain_there}
+use Rattle.wgsl_requests.specs.declared.call.Named.{Named}
+use Rattle.wgsl_requests.specs.declared.call.Named.TheVariants as names
 use Rattle.wgsl_requests.proofs.Forms.{form, leaf_form}
 use Rattle.wgsl_requests.proofs.Meanings.{Made, OneMeaning, OneThing, both_bool, not_eq, one_made, one_then, one_word, past, text_one}
 use Rattle.wgsl_requests.proofs.OneType.{one_type}
@@ -303,11 +305,9 @@ module _ (words : List (List ℕ)) where
   pub no_binary_call : NoneAt (OneWord (IsText binary_text)) words → (c : WgslCall) → ¬ IsCall (codes "binary" ∷ words) c
   no_binary_call none = no_head_no_call (codes "binary" ∷ words) (no_binary (codes "binary") words refl none)
 
-  pub no_ctor_call : NoneAt NamedAt words → (c : WgslCall) → ¬ IsCall (codes "ctor" ∷ words) c
-  no_ctor_call none = no_head_no_call (codes "ctor" ∷ words) (no_ctor (codes "ctor") words refl none)
-
-  pub no_function_call : NoneAt NamedAt words → (c : WgslCall) → ¬ IsCall (codes "call" ∷ words) c
-  no_function_call none = no_head_no_call (codes "call" ∷ words) (no_call (codes "call") words refl none)
+  pub no_named_call : (by : Named) → NoneAt NamedAt words → (c : WgslCall) → ¬ IsCall (command_of by ∷ words) c
+  no_named_call names.Constructor none = no_head_no_call (codes "ctor" ∷ words) (no_ctor (codes "ctor") words refl none)
+  no_named_call names.Function none = no_head_no_call (codes "call" ∷ words) (no_call (codes "call") words refl none)
 
 module _ (words after : List (List ℕ)) (o : UnaryOperator) (d : OneWord (IsText unary_text) words o after) where
   unary_at_front : HeadAt (codes "unary" ∷ words) (unary_head o) after
@@ -330,16 +330,17 @@ module _ (words after : List (List ℕ)) (o : BinaryOperator) (d : OneWord (IsTe
   no_binary_operands none = no_operands_no_call (codes "binary" ∷ words) after (a_binary o) None (Some 2) binary_at_front refl none
 
 module _ (words after : List (List ℕ)) (name : List ℕ) (p : Option (List Parameter)) (d : NamedAt words (name, p) after) where
-  pub ctor_call : (xs : List Operand) → OperandsAt after xs → IsCall (codes "ctor" ∷ words) (called (a_constructor name) p xs)
-  ctor_call xs e = (after, ctor_read (codes "ctor") words name p after refl d, e, tt)
+  named_at_front : (by : Named) → HeadAt (command_of by ∷ words) (callee_named by name, p) after
+  named_at_front names.Constructor = ctor_read (codes "ctor") words name p after refl d
+  named_at_front names.Function = call_read (codes "call") words name p after refl d
 
-  pub no_ctor_operands : ((xs : List Operand) → ¬ OperandsAt after xs) → (c : WgslCall) → ¬ IsCall (codes "ctor" ∷ words) c
-  no_ctor_operands none =
-      no_operands_no_call (codes "ctor" ∷ words) after (a_constructor name) p None (ctor_read (codes "ctor") words name p after refl d) refl (λ xs e. none xs e.0)
+  any_arity : (by : Named) → None ≡ arity_of (callee_named by name)
+  any_arity names.Constructor = refl
+  any_arity names.Function = refl
 
-  pub function_call : (xs : List Operand) → OperandsAt after xs → IsCall (codes "call" ∷ words) (called (a_function name) p xs)
-  function_call xs e = (after, call_read (codes "call") words name p after refl d, e, tt)
+  pub named_call : (by : Named) (xs : List Operand) → OperandsAt after xs → IsCall (command_of by ∷ words) (called (callee_named by name) p xs)
+  named_call by xs e = (after, named_at_front by, e, subst (λ n. HasArity n xs) (any_arity by) tt)
 
-  pub no_function_operands : ((xs : List Operand) → ¬ OperandsAt after xs) → (c : WgslCall) → ¬ IsCall (codes "call" ∷ words) c
-  no_function_operands none =
-      no_operands_no_call (codes "call" ∷ words) after (a_function name) p None (call_read (codes "call") words name p after refl d) refl (λ xs e. none xs e.0)
+  pub no_named_operands : (by : Named) → ((xs : List Operand) → ¬ OperandsAt after xs) → (c : WgslCall) → ¬ IsCall (command_of by ∷ words) c
+  no_named_operands by none =
+      no_operands_no_call (command_of by ∷ words) after (callee_named by name) p None (named_at_front by) (any_arity by) (λ xs e. none xs e.0)

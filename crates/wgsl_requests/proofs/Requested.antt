@@ -216,12 +216,6 @@ other_struct words t d none name ms e = none name ms (one_type d (struct name ms
 pub no_overloads_name : (words : List (List ℕ)) → words ≡ [] → NoRequest Standard (codes "overloads" ∷ words)
 no_overloads_name words none request d = let f : OverloadsForm words request = request_form d in let e : [] ≡ f.0 ∷ [] = sym none ∙ f.1 in cc e
 
-pub no_overloads_more : (words after : List (List ℕ)) (name : List ℕ) → words ≡ name ∷ after → (after ≡ [] → ⊥) → NoRequest Standard (codes "overloads" ∷ words)
-no_overloads_more words after name is more request d =
-    let f : OverloadsForm words request = request_form d in
-    let e : name ∷ after ≡ f.0 ∷ [] = sym is ∙ f.1 in
-    more (cc e)
-
 pub no_resolve : (words : List (List ℕ)) → ((c : WgslCall) → ¬ IsCall words c) → NoRequest Standard (codes "resolve" ∷ words)
 no_resolve words none request d = let f : CallForm resolution_of words request = request_form d in none f.0 f.1
 

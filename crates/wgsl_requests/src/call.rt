@@ -6,7 +6,7 @@ ghost use Rattle.wgsl_standard.specs.Callees.{callee_view};
 ghost use Rattle.wgsl_asked.specs.StandardViews.{call_view, written_view};
 ghost use Rattle.wgsl_requests.specs.Answers.{IsAnswer};
 ghost use Rattle.wgsl_requests.specs.Reading.{IsText, OneWord, Reads};
-ghost use Rattle.wgsl_requests.specs.internal.Asked.{NamedAt, WritesOfCall, asked, called, operand_view};
+ghost use Rattle.wgsl_requests.specs.internal.Asked.{NamedAt, WritesOfCall, asked, called, callee_named, command_of, operand_view};
 ghost use Rattle.wgsl_requests.specs.internal.Taken.{left};
 ghost use Rattle.wgsl_requests.specs.internal.Written.{Adds};
 
@@ -33,6 +33,24 @@ pub(crate) enum Question {
     Explanation,
 }
 
+/// What has a name.
+#[derive(Clone, Copy)]
+pub(crate) enum Named {
+    Constructor,
+    Function,
+}
+
+impl Named {
+    fn callee(self, name: &str) -> Callee<'_>
+        ensures { callee_view result ≡ callee_named self name.now }
+    {
+        match self {
+            Named::Constructor => Callee::Constructor(name),
+            Named::Function => Callee::Function(name),
+        }
+    }
+}
+
 /// The answer to what is asked of the call.
 #[inline(always)]
 pub(crate) fn answer_call(
@@ -48,8 +66,8 @@ pub(crate) fn answer_call(
     match command {
         "unary" => unary(alloc, question, words, text),
         "binary" => binary(alloc, question, words, text),
-        "ctor" => ctor(alloc, question, words, text),
-        "call" => call(alloc, question, words, text),
+        "ctor" => by_name(alloc, question, Named::Constructor, words, text),
+        "call" => by_name(alloc, question, Named::Function, words, text),
         _ => Err(Fail::Error(Misfit::Wrong(Wanted::Command))),
     }
 }
@@ -118,47 +136,21 @@ fn read_binary_operator(words: &mut Words) -> Result<BinaryOperator, Fail<Misfit
     binary_operator(words.next(Wanted::BinaryOperator)?)
 }
 
-/// `ctor NAME P X..`.
+/// `ctor NAME P X..` or `call NAME P X..`.
 #[inline(never)]
-fn ctor(
+fn by_name(
     alloc: Global,
     question: Question,
+    by: Named,
     words: &mut Words,
     text: &mut String,
 ) -> Result<(), Fail<Misfit>>
-    ensures { WritesOfCall (asked question) (codes "ctor" ∷ left words.old)
+    ensures { WritesOfCall (asked question) (command_of by ∷ left words.old)
         (string_bytes text.old) (string_bytes text.new) result }
 {
     let (name, template) = read_named(alloc, words)?;
     let operands = read_operands(alloc, words)?;
-    let callee = Callee::Constructor(name);
-    let written = write_of_named(
-        alloc,
-        question,
-        callee,
-        template.as_deref(),
-        &operands,
-        text,
-    );
-    drop(operands);
-    drop(template);
-    Ok(written?)
-}
-
-/// `call NAME P X..`.
-#[inline(never)]
-fn call(
-    alloc: Global,
-    question: Question,
-    words: &mut Words,
-    text: &mut String,
-) -> Result<(), Fail<Misfit>>
-    ensures { WritesOfCall (asked question) (codes "call" ∷ left words.old)
-        (string_bytes text.old) (string_bytes text.new) result }
-{
-    let (name, template) = read_named(alloc, words)?;
-    let operands = read_operands(alloc, words)?;
-    let callee = Callee::Function(name);
+    let callee = by.callee(name);
     let written = write_of_named(
         alloc,
         question,
@@ -215,6 +207,7 @@ fn write_of_named(
     }
 }
 
+/// Writes the answer to what is asked of a call, never as a part of its caller, which calls it in four places.
 #[inline(never)]
 fn write_of(
     alloc: Global,

@@ -110,7 +110,7 @@ pub(crate) fn rank(alloc: Global, words: &mut Words, text: &mut String) -> Resul
 {
     let types = read_pair(alloc, words)?;
     let written = write_answer_to(alloc, Request::Rank(&types[0], &types[1]), text);
-    drop(types);
+    let [_source, _target] = types;
     Ok(written?)
 }
 
@@ -155,7 +155,7 @@ fn binary(alloc: Global, words: &mut Words, text: &mut String) -> Result<(), Fai
     let operator = binary_operator(words.next(Wanted::BinaryOperator)?)?;
     let types = read_pair(alloc, words)?;
     let written = write_answer_to(alloc, Request::Binary(operator, &types[0], &types[1]), text);
-    drop(types);
+    let [_left, _right] = types;
     Ok(written?)
 }
 

@@ -1,5 +1,6 @@
 // Calls of a short name with one argument to three and without a template: nothing is allocated for the name and for the
-// list of the arguments, and no request is asked. With short names, `clamp` of three scalars takes 1163 instructions of 1795.
+// list of the arguments, and no request is asked. With short names, `clamp` of three scalars took 1163 instructions of 1795,
+// before scalars had a way of their own.
 ghost use Rattle.std.specs.Prelude.{◌≡◌, IfSome, IsSomeAnd, Some, length, map, option_map, take};
 ghost use Rattle.wgsl_rules.specs.types.Signatures.{Signature};
 ghost use Rattle.wgsl_core.specs.View.{view};
@@ -12,6 +13,7 @@ ghost use Rattle.wgsl_coded.specs.Requests.{call_signature};
 
 use crate::calls::Kind;
 use crate::coded::{DEPTH, read_whole};
+use crate::fast::short::ShortWords;
 use crate::fast::short_name::{ShortName, read_short_name};
 use crate::numbers::read_number;
 use crate::reading::read_type;
@@ -26,6 +28,7 @@ use wgsl_core::ty::Type;
 
 /// The name of a call if it is short and there is no template, the number of the arguments, and the words from the first
 /// argument on.
+#[inline(always)]
 pub(crate) fn read_plain_head(words: &[u32]) -> Option<(ShortName, usize, &[u32])>
     ensures head { IfSome result (λ h. IsPlainHead words.now (take h.0.len h.0.bytes) h.1 h.2.now) }
     ensures only { (c : Signature) → call_signature words.now ≡ Some c → IsShortCall c
@@ -49,16 +52,17 @@ pub(crate) fn reply_to_one(
     kind: Kind,
     name: &str,
     words: &[u32],
+    short: &mut ShortWords,
 ) -> Result<Reply, Fail<Unreadable>>
     ensures reply { IsReplyTo
         (asked_of kind (option_map (call_of name.now) (arguments_at 1 words.now)))
-        (seen reply_words result) }
+        (seen (reply_words short.new) result) }
     ensures never_out_of_memory { IsSomeAnd
         (asked_of kind (option_map (call_of name.now) (arguments_at 1 words.now))) NeedsNoMemory
         → IsAnswered result }
 {
     let args = [read_whole(alloc, words)?];
-    let reply = reply_to_plain(alloc, kind, name, &args);
+    let reply = reply_to_plain(alloc, kind, name, &args, short);
     let [_first] = args;
     reply
 }
@@ -70,17 +74,18 @@ pub(crate) fn reply_to_two(
     kind: Kind,
     name: &str,
     words: &[u32],
+    short: &mut ShortWords,
 ) -> Result<Reply, Fail<Unreadable>>
     ensures reply { IsReplyTo
         (asked_of kind (option_map (call_of name.now) (arguments_at 2 words.now)))
-        (seen reply_words result) }
+        (seen (reply_words short.new) result) }
     ensures never_out_of_memory { IsSomeAnd
         (asked_of kind (option_map (call_of name.now) (arguments_at 2 words.now))) NeedsNoMemory
         → IsAnswered result }
 {
     let (first, second) = read_two(alloc, words)?;
     let args = [first, second];
-    let reply = reply_to_plain(alloc, kind, name, &args);
+    let reply = reply_to_plain(alloc, kind, name, &args, short);
     let [_first, _second] = args;
     reply
 }
@@ -92,10 +97,11 @@ pub(crate) fn reply_to_three(
     kind: Kind,
     name: &str,
     words: &[u32],
+    short: &mut ShortWords,
 ) -> Result<Reply, Fail<Unreadable>>
     ensures reply { IsReplyTo
         (asked_of kind (option_map (call_of name.now) (arguments_at 3 words.now)))
-        (seen reply_words result) }
+        (seen (reply_words short.new) result) }
     ensures never_out_of_memory { IsSomeAnd
         (asked_of kind (option_map (call_of name.now) (arguments_at 3 words.now))) NeedsNoMemory
         → IsAnswered result }
@@ -103,7 +109,7 @@ pub(crate) fn reply_to_three(
     let (first, rest) = read_type(alloc, words, DEPTH)?;
     let (second, third) = read_two(alloc, rest)?;
     let args = [first, second, third];
-    let reply = reply_to_plain(alloc, kind, name, &args);
+    let reply = reply_to_plain(alloc, kind, name, &args, short);
     let [_first, _second, _third] = args;
     reply
 }
@@ -115,14 +121,17 @@ fn reply_to_plain(
     kind: Kind,
     name: &str,
     arguments: &[Type],
+    short: &mut ShortWords,
 ) -> Result<Reply, Fail<Unreadable>>
     ensures reply { IsReplyTo (Some (request_of kind (call_of name.now (map view arguments.now))))
-        (seen reply_words result) }
+        (seen (reply_words short.new) result) }
     ensures never_out_of_memory { NeedsNoMemory
         (request_of kind (call_of name.now (map view arguments.now))) → IsAnswered result }
 {
     match kind {
-        Kind::Constructor => reply_with_type(alloc, type_ctor(alloc, name, None, arguments)),
-        Kind::Function => { reply_with_value(alloc, type_builtin_fn(alloc, name, None, arguments)) }
+        Kind::Constructor => reply_with_type(alloc, type_ctor(alloc, name, None, arguments), short),
+        Kind::Function => {
+            reply_with_value(alloc, type_builtin_fn(alloc, name, None, arguments), short)
+        }
     }
 }

@@ -14,7 +14,7 @@ ghost use Rattle.wgsl_asked.specs.Requests.{resolution_of};
 ghost use Rattle.wgsl_asked.specs.StandardViews.{written_view};
 ghost use Rattle.wgsl_coded.specs.PlainCalls.{IsResolvedWords, operands_at, plain_call, resolution_in};
 ghost use Rattle.wgsl_coded.specs.Replies.{IsReplyTo, optional_code, resolution_words};
-ghost use Rattle.wgsl_coded.specs.Seen.{reply_words, resolved_words, seen, short_words};
+ghost use Rattle.wgsl_coded.specs.Seen.{reply_words, seen, short_words};
 ghost use Rattle.wgsl_coded.specs.Short.{short_items};
 
 use crate::fast::short::ShortWords;
@@ -31,91 +31,79 @@ use wgsl_standard::operand::Operand;
 use wgsl_standard::overload::{parameters_of, result_of};
 use wgsl_standard::resolve::resolve;
 use wgsl_syntax::around::Around;
-use wgsl_syntax::code::Head;
+use wgsl_syntax::code::{Head, LeafType};
 use wgsl_syntax::overload::{
     Component, Dimensions, Instance, Overload, Parameters, Pattern, Returns, Shape,
 };
 use wgsl_syntax::scalar::Scalar;
 
 /// The reply to a call without a template, whose operand the words are.
-#[inline(never)]
+#[inline(always)]
 pub(crate) fn resolve_one(
     alloc: Global,
     callee: Callee<'_>,
     words: &[u32],
-    out: &mut ShortWords<12>,
-) -> Result<Option<Reply>, Fail<Unreadable>>
+    short: &mut ShortWords,
+) -> Result<Reply, Fail<Unreadable>>
     ensures { IsReplyTo (resolution_in
         (option_map (plain_call (callee_view callee.entry)) (operands_at 1 words.now)))
-        (seen (resolved_words out.new) result) }
+        (seen (reply_words short.new) result) }
 {
     let first = if_ended(read_operand(alloc, words)?)?;
-    reply_to_plain_call(alloc, callee, &[first.borrowed()], out)
+    reply_to_plain_call(alloc, callee, &[first.borrowed()], short)
 }
 
 /// The reply to a call without a template, whose operands the words are.
-#[inline(never)]
+#[inline(always)]
 pub(crate) fn resolve_two(
     alloc: Global,
     callee: Callee<'_>,
     words: &[u32],
-    out: &mut ShortWords<12>,
-) -> Result<Option<Reply>, Fail<Unreadable>>
+    short: &mut ShortWords,
+) -> Result<Reply, Fail<Unreadable>>
     ensures { IsReplyTo (resolution_in
         (option_map (plain_call (callee_view callee.entry)) (operands_at 2 words.now)))
-        (seen (resolved_words out.new) result) }
+        (seen (reply_words short.new) result) }
 {
     let (first, rest) = read_operand(alloc, words)?;
     let second = if_ended(read_operand(alloc, rest)?)?;
-    reply_to_plain_call(alloc, callee, &[first.borrowed(), second.borrowed()], out)
+    reply_to_plain_call(alloc, callee, &[first.borrowed(), second.borrowed()], short)
 }
 
 /// The reply to a call without a template, whose operands the words are.
-#[inline(never)]
+#[inline(always)]
 pub(crate) fn resolve_three(
     alloc: Global,
     callee: Callee<'_>,
     words: &[u32],
-    out: &mut ShortWords<12>,
-) -> Result<Option<Reply>, Fail<Unreadable>>
+    short: &mut ShortWords,
+) -> Result<Reply, Fail<Unreadable>>
     ensures { IsReplyTo (resolution_in
         (option_map (plain_call (callee_view callee.entry)) (operands_at 3 words.now)))
-        (seen (resolved_words out.new) result) }
+        (seen (reply_words short.new) result) }
 {
     let (first, rest) = read_operand(alloc, words)?;
     let (second, rest) = read_operand(alloc, rest)?;
     let third = if_ended(read_operand(alloc, rest)?)?;
     let operands = [first.borrowed(), second.borrowed(), third.borrowed()];
-    reply_to_plain_call(alloc, callee, &operands, out)
+    reply_to_plain_call(alloc, callee, &operands, short)
 }
 
 /// The reply to a call without a template.
-#[inline(always)]
 fn reply_to_plain_call(
     alloc: Global,
     callee: Callee<'_>,
     operands: &[Operand<'_>],
-    out: &mut ShortWords<12>,
-) -> Result<Option<Reply>, Fail<Unreadable>>
+    short: &mut ShortWords,
+) -> Result<Reply, Fail<Unreadable>>
     ensures { IsReplyTo (Some (resolution_of
         (plain_call (callee_view callee.entry) (map written_view operands.now))))
-        (seen (resolved_words out.new) result) }
+        (seen (reply_words short.new) result) }
 {
-    match short_reply(callee, operands, out) {
-        Some(found) => Ok(unless_found(alloc, found)),
-        None => Ok(Some(long_reply(alloc, callee, operands)?)),
-    }
-}
-
-/// Nothing if a call resolves with short words, and else the refusal.
-#[inline(always)]
-fn unless_found(alloc: Global, found: bool) -> Option<Reply>
-    ensures { (w : ShortWords 12) → resolved_words w result ≡ short_words found w }
-{
-    if found {
-        None
-    } else {
-        Some(Reply::Refusal(Vec::new(alloc)))
+    match short_reply(callee, operands, short) {
+        Some(true) => Ok(Reply::Short),
+        Some(false) => Ok(Reply::Refusal(Vec::new(alloc))),
+        None => long_reply(alloc, callee, operands, short),
     }
 }
 
@@ -124,7 +112,7 @@ fn unless_found(alloc: Global, found: bool) -> Option<Reply>
 pub(crate) fn short_reply(
     callee: Callee<'_>,
     operands: &[Operand<'_>],
-    out: &mut ShortWords<12>,
+    out: &mut ShortWords,
 ) -> Option<bool>
     ensures { IfSome result (λ found. IsReplyTo (Some (resolution_of
         (plain_call (callee_view callee.entry) (map written_view operands.now)))) (Ok (short_words found out.new))) }
@@ -140,7 +128,7 @@ pub(crate) fn short_reply(
 fn short_by_overloads(
     listed: &[Overload],
     operands: &[Operand<'_>],
-    out: &mut ShortWords<12>,
+    out: &mut ShortWords,
 ) -> Option<bool>
     requires { IsUnambiguous listed.now }
     ensures { IfSome result (λ found. IsResolvedWords listed.now (operands_view operands.now) (short_words found out.new)) }
@@ -157,28 +145,28 @@ fn short_by_overloads(
 }
 
 /// The reply to a call without a template, however long it is.
-#[inline(never)]
 fn long_reply<'r>(
     alloc: Global,
     callee: Callee<'r>,
     operands: &'r [Operand<'r>],
+    short: &mut ShortWords,
 ) -> Result<Reply, Fail<Unreadable>>
     ensures { IsReplyTo (Some (resolution_of
         (plain_call (callee_view callee.entry) (map written_view operands.now))))
-        (seen reply_words result) }
+        (seen (reply_words short.new) result) }
 {
     let call = Call {
         callee,
         template: None,
         operands,
     };
-    reply_to(alloc, Request::Resolution(&call))
+    reply_to(alloc, Request::Resolution(&call), short)
 }
 
 /// Puts the words of a call that resolves to that overload; false if they aren't short.
 #[inline(always)]
 fn push_resolution(
-    out: &mut ShortWords<12>,
+    out: &mut ShortWords,
     index: usize,
     overload: &Overload,
     instance: &Instance,
@@ -199,7 +187,7 @@ fn push_resolution(
 /// Adds the list of the parameters' types; false if there are none or more than three, or they aren't short.
 #[inline(always)]
 fn push_parameters(
-    out: &mut ShortWords<12>,
+    out: &mut ShortWords,
     instance: &Instance,
     parameters: &Parameters,
     operands: &[Operand<'_>],
@@ -236,19 +224,21 @@ fn push_parameters(
 
 /// Adds the type of a parameter, whatever its operand is; false if it isn't short.
 #[inline(always)]
-fn push_parameter(out: &mut ShortWords<12>, instance: &Instance, pattern: Pattern) -> bool
+fn push_parameter(out: &mut ShortWords, instance: &Instance, pattern: Pattern) -> bool
     ensures { IsTrue result → (t : WgslType) → short_items out.new ≡ short_items out.old
         ++ code (parameter_there instance.now pattern t) }
 {
     match pattern {
         Pattern::Value(shape, component) => push_value(out, instance, shape, component),
-        _ => false,
+        Pattern::Sampler(sampler) => out.push_head(Head::Leaf(LeafType::Sampler(sampler))),
+        Pattern::Texture(texture) => out.push_head(Head::Leaf(LeafType::Texture(texture))),
+        Pattern::Resource(_) => false,
     }
 }
 
 /// Adds the type of the result, or that there is none; false if it isn't short.
 #[inline(always)]
-fn push_result(out: &mut ShortWords<12>, instance: &Instance, returns: Returns) -> bool
+fn push_result(out: &mut ShortWords, instance: &Instance, returns: Returns) -> bool
     ensures { IsTrue result → (us : List WgslType) → short_items out.new ≡ short_items out.old
         ++ optional_code (result_in instance.now us returns) }
 {
@@ -260,7 +250,7 @@ fn push_result(out: &mut ShortWords<12>, instance: &Instance, returns: Returns) 
 }
 
 #[inline(always)]
-fn push_given(out: &mut ShortWords<12>, instance: &Instance, pattern: Pattern) -> bool
+fn push_given(out: &mut ShortWords, instance: &Instance, pattern: Pattern) -> bool
     ensures { IsTrue result → short_items out.new ≡ short_items out.old
         ++ optional_code (type_in instance.now pattern) }
 {
@@ -274,12 +264,7 @@ fn push_given(out: &mut ShortWords<12>, instance: &Instance, pattern: Pattern) -
 
 /// Adds a scalar, a vector or a matrix; false if there is no room for it.
 #[inline(always)]
-fn push_value(
-    out: &mut ShortWords<12>,
-    instance: &Instance,
-    shape: Shape,
-    component: Component,
-) -> bool
+fn push_value(out: &mut ShortWords, instance: &Instance, shape: Shape, component: Component) -> bool
     ensures { IsTrue result → short_items out.new ≡ short_items out.old
         ++ code (type_with (dimensions_there instance.now shape) (component_there instance.now component)) }
 {
@@ -290,7 +275,7 @@ fn push_value(
 }
 
 #[inline(always)]
-fn push_parts(out: &mut ShortWords<12>, dimensions: Dimensions, scalar: Scalar) -> bool
+fn push_parts(out: &mut ShortWords, dimensions: Dimensions, scalar: Scalar) -> bool
     ensures { IsTrue result → short_items out.new ≡ short_items out.old
         ++ code (type_with dimensions scalar) }
 {

@@ -1,31 +1,315 @@
-// The rank of two scalars, without a request: 143 instructions of 253.
-ghost use Rattle.std.specs.Prelude.{Some};
-ghost use Rattle.wgsl_rules.specs.types.Types.{scalar};
-ghost use Rattle.wgsl_core.specs.Answer.{IsAnswered};
-ghost use Rattle.wgsl_asked.specs.Requests.{rank};
-ghost use Rattle.wgsl_coded.specs.Replies.{IsReplyTo};
-ghost use Rattle.wgsl_coded.specs.Seen.{reply_words, seen};
+// What is asked of scalars alone, where the reply has a fixed number of words. No type is read, and no room is made for other
+// replies. The rank of two takes 78 instructions of 153, `+` 371 of 486, and by WGSL's own overloads 445 of 833; `clamp` of
+// three takes 698 of 1016.
+ghost use Rattle.std.specs.Prelude.{◌≡◌, ◌∷◌, [], IfSome, List, Ok, Some, map, option_map, ℕ};
+ghost use Rattle.wgsl_rules.specs.codes.Codes.{code};
+ghost use Rattle.wgsl_rules.specs.standard.Choice.{Operand as WgslOperand, parameter_for as parameter_there, parameters_for, result_for as result_there};
+ghost use Rattle.wgsl_rules.specs.standard.Overloads.{patterns_of, type_in};
+ghost use Rattle.wgsl_rules.specs.standard.Tables.{IsUnambiguous};
+ghost use Rattle.wgsl_rules.specs.types.Types.{WgslType, scalar};
+ghost use Rattle.wgsl_core.specs.View.{view};
+ghost use Rattle.wgsl_core.specs.internal.Resolution.{resolution_view, resolved_view};
+ghost use Rattle.wgsl_standard.specs.Callees.{a_binary};
+ghost use Rattle.wgsl_standard.specs.Operands.{operand_view};
+ghost use Rattle.wgsl_asked.specs.Requests.{call, candidate, rank, resolution_of};
+ghost use Rattle.wgsl_asked.specs.StandardViews.{written_view};
+ghost use Rattle.wgsl_coded.specs.Callees.{arguments_at, asked_of, call_of};
+ghost use Rattle.wgsl_coded.specs.PlainCalls.{IsResolvedWords, operands_at, plain_call, resolution_in};
+ghost use Rattle.wgsl_coded.specs.Replies.{IsBinaryReply, IsCallReply, IsRankReply, IsReplyTo, IsResolveReply, answered, candidate_words, optional_code, resolution_words, words_or_none};
+ghost use Rattle.wgsl_coded.specs.StandardCalls.{operand_at};
+ghost use Rattle.wgsl_coded.specs.declared.calls.Kind.TheVariants.{Function};
 
-use crate::reply::Reply;
-use crate::unreadable::Unreadable;
-use std::alloc::Global;
+use crate::fast::callees::read_binary_call;
+use crate::fast::plain::read_plain_head;
+use crate::fast::values::{is_abstract, is_said};
+use crate::heads::{read_scalar, word_of_head};
+use crate::requests::{read_binary_operator, read_two_scalars};
+use std::mem::forget;
+use wgsl_calls::call::scalar_of_builtin_fn;
 use wgsl_core::conversion::scalar_rank;
-use wgsl_core::error::Fail;
+use wgsl_core::operators::resolve::{Element, Extent, Resolution, ResolvedType, resolve_operator};
+use wgsl_core::ty::Type;
+use wgsl_standard::instance::value_in;
+use wgsl_standard::operand::{Operand, OperandType};
+use wgsl_standard::operators::binary_overloads;
+use wgsl_standard::overload::{parameters_of, result_of};
+use wgsl_standard::resolve::resolve;
+use wgsl_syntax::code::{Head, LeafType};
+use wgsl_syntax::operator::BinaryOperator;
+use wgsl_syntax::overload::{Dimensions, Instance, Overload, Parameters, Pattern, Returns};
 use wgsl_syntax::scalar::Scalar;
 
-/// The rank of the conversion from one scalar to another, refused without words if there is none.
+/// The rank of the conversion from one scalar to another, or the refusal without words; None if the request isn't two
+/// scalars.
 #[inline(always)]
-pub(crate) fn rank_of_scalars(
-    alloc: Global,
-    source: Scalar,
-    target: Scalar,
-) -> Result<Reply, Fail<Unreadable>>
-    ensures reply { IsReplyTo (Some (rank (scalar source) (scalar target)))
-        (seen reply_words result) }
-    ensures never_out_of_memory { IsAnswered result }
+pub fn rank_of_scalars(request: &[u32]) -> Option<Option<u32>>
+    ensures { IfSome result (λ found. IsRankReply request.now (Ok (words_or_none (λ word. word ∷ []) found))) }
 {
-    match scalar_rank(source, target) {
-        Some(rank) => Ok(Reply::Word(rank)),
-        None => Ok(Reply::Refusal(Vec::new(alloc))),
+    let (source, target) = read_two_scalars(request)?;
+    Some(rank_of(source, target))
+}
+
+#[inline(always)]
+fn rank_of(source: Scalar, target: Scalar) -> Option<u32>
+    ensures { IsReplyTo (Some (rank (scalar source) (scalar target)))
+        (Ok (words_or_none (λ word. word ∷ []) result)) }
+{
+    scalar_rank(source, target)
+}
+
+/// The words of the candidate of a binary operator that takes two scalars; None if the request isn't such an operator and
+/// two scalars, or none takes them.
+#[inline(always)]
+pub fn binary_of_scalars(request: &[u32]) -> Option<[u32; 3]>
+    ensures { IfSome result (λ words. IsBinaryReply request.now (Ok (answered words))) }
+{
+    let (operator, rest) = read_binary_operator(request)?;
+    let (lhs, rhs) = read_two_scalars(rest)?;
+    candidate_of_scalars(operator, lhs, rhs)
+}
+
+/// The words of the candidate of two scalars, whose types own nothing.
+#[inline(always)]
+fn candidate_of_scalars(operator: BinaryOperator, lhs: Scalar, rhs: Scalar) -> Option<[u32; 3]>
+    ensures { IfSome result (λ words. IsReplyTo (Some (candidate operator (scalar lhs) (scalar rhs)))
+        (Ok (answered words))) }
+{
+    let (lhs, rhs) = (Type::from(lhs), Type::from(rhs));
+    let words = words_of_operands(operator, &lhs, &rhs);
+    forget(lhs);
+    forget(rhs);
+    words
+}
+
+#[inline(always)]
+fn words_of_operands(operator: BinaryOperator, lhs: &Type, rhs: &Type) -> Option<[u32; 3]>
+    ensures { IfSome result (λ words. IsReplyTo (Some (candidate operator (view lhs.now) (view rhs.now)))
+        (Ok (answered words))) }
+{
+    match &resolve_operator(operator, lhs, rhs) {
+        Some(found) => words_of_candidate(found),
+        None => None,
+    }
+}
+
+/// The word of the scalar that a built-in function with a short name gives for one to three scalars, without a template;
+/// None if the request is another call, and if the call has another type or is refused.
+#[inline(always)]
+#[tactic(auto, using(crate::proofs::Least::call_reply))]
+pub fn call_of_scalars(request: &[u32]) -> Option<u32>
+    ensures { IfSome result (λ word. IsCallReply request.now (Ok (answered (word ∷ [])))) }
+{
+    let (name, count, words) = read_plain_head(request)?;
+    let word = match count {
+        1 => call_of_one(name.as_str(), words)?,
+        2 => call_of_two(name.as_str(), words)?,
+        3 => call_of_three(name.as_str(), words)?,
+        _ => return None,
+    };
+    Some(word)
+}
+
+#[inline(always)]
+fn call_of_one(name: &str, words: &[u32]) -> Option<u32>
+    ensures { IfSome result (λ word. IsReplyTo
+        (asked_of Function (option_map (call_of name.now) (arguments_at 1 words.now))) (Ok (answered (word ∷ [])))) }
+{
+    let [first] = words else {
+        return None;
+    };
+    let args = [Type::from(read_scalar(*first)?)];
+    let word = word_of_call(name, &args);
+    forget(args);
+    word
+}
+
+#[inline(always)]
+fn call_of_two(name: &str, words: &[u32]) -> Option<u32>
+    ensures { IfSome result (λ word. IsReplyTo
+        (asked_of Function (option_map (call_of name.now) (arguments_at 2 words.now))) (Ok (answered (word ∷ [])))) }
+{
+    let [first, second] = words else {
+        return None;
+    };
+    let (first, second) = (read_scalar(*first)?, read_scalar(*second)?);
+    let args = [Type::from(first), Type::from(second)];
+    let word = word_of_call(name, &args);
+    forget(args);
+    word
+}
+
+#[inline(always)]
+fn call_of_three(name: &str, words: &[u32]) -> Option<u32>
+    ensures { IfSome result (λ word. IsReplyTo
+        (asked_of Function (option_map (call_of name.now) (arguments_at 3 words.now))) (Ok (answered (word ∷ [])))) }
+{
+    let [first, second, third] = words else {
+        return None;
+    };
+    let first = read_scalar(*first)?;
+    let second = read_scalar(*second)?;
+    let third = read_scalar(*third)?;
+    let args = [Type::from(first), Type::from(second), Type::from(third)];
+    let word = word_of_call(name, &args);
+    forget(args);
+    word
+}
+
+/// The word of the scalar that a call without a template returns.
+#[inline(always)]
+fn word_of_call(name: &str, args: &[Type]) -> Option<u32>
+    ensures { IfSome result (λ word. IsReplyTo (Some (call (call_of name.now (map view args.now))))
+        (Ok (answered (word ∷ [])))) }
+{
+    Some(word_of_scalar(scalar_of_builtin_fn(name, args)?))
+}
+
+#[inline(always)]
+fn words_of_candidate(found: &Resolution<'_>) -> Option<[u32; 3]>
+    ensures { IfSome result (λ words. words ≡ candidate_words (resolution_view found.now)) }
+{
+    Some([
+        word_of_resolved(found.result)?,
+        word_of_resolved(found.lhs)?,
+        word_of_resolved(found.rhs)?,
+    ])
+}
+
+#[inline(always)]
+fn word_of_resolved(ty: ResolvedType<'_>) -> Option<u32>
+    ensures { IfSome result (λ word. code (resolved_view ty.entry) ≡ word ∷ []) }
+{
+    match ty.extent {
+        Extent::Single => match ty.element {
+            Element::Scalar(scalar) => Some(word_of_scalar(scalar)),
+            Element::Type(ty) => Some(word_of_scalar(ty.scalar()?)),
+        },
+        _ => None,
+    }
+}
+
+/// The code of a scalar.
+#[inline(always)]
+fn word_of_scalar(of: Scalar) -> u32
+    ensures { code (scalar of) ≡ result ∷ [] }
+{
+    word_of_head(Head::Leaf(LeafType::Scalar(of)))
+}
+
+/// The words of what a binary operator of two scalars resolves to by WGSL's own overloads, or the refusal without words;
+/// None if the request is another call, or not all types are scalars.
+#[inline(always)]
+pub fn resolve_scalars(request: &[u32]) -> Option<Option<[u32; 7]>>
+    ensures { IfSome result (λ found. IsResolveReply request.now (Ok (words_or_none (λ ws. ws) found))) }
+{
+    // Most other requests have another length.
+    if request.len() != 9 {
+        return None;
+    }
+    let (operator, count, words) = read_binary_call(request)?;
+    if count == 2 {
+        resolve_two(operator, words)
+    } else {
+        None
+    }
+}
+
+/// The same of an operator, whose operands the words are.
+#[inline(always)]
+fn resolve_two(operator: BinaryOperator, words: &[u32]) -> Option<Option<[u32; 7]>>
+    ensures { IfSome result (λ found. IsReplyTo (resolution_in
+        (option_map (plain_call (a_binary operator)) (operands_at 2 words.now)))
+        (Ok (words_or_none (λ ws. ws) found))) }
+{
+    let (lhs, rest) = read_scalar_operand(words)?;
+    let (rhs, []) = read_scalar_operand(rest)? else {
+        return None;
+    };
+    resolve_operands(operator, lhs, rhs)
+}
+
+/// An operand that is a scalar, and the words after it.
+#[inline(always)]
+fn read_scalar_operand(words: &[u32]) -> Option<(Operand<'_>, &[u32])>
+    ensures { IfSome result (λ x. operand_at words.now ≡ Some (written_view x.0, x.1.now)) }
+{
+    let [said, word, rest @ ..] = words else {
+        return None;
+    };
+    Some((scalar_operand(*said, *word)?, rest))
+}
+
+/// The operand with these two words, if it is a scalar.
+#[inline(always)]
+fn scalar_operand<'a>(said: u32, word: u32) -> Option<Operand<'a>>
+    ensures { IfSome result (λ x. (ws : List ℕ) → operand_at (said ∷ word ∷ ws) ≡ Some (written_view x, ws)) }
+{
+    let said = is_said(said)?;
+    let scalar = read_scalar(word)?;
+    Some(Operand {
+        ty: OperandType::Value(Dimensions::Single, scalar),
+        is_constant: said | is_abstract(scalar),
+    })
+}
+
+#[inline(always)]
+fn resolve_operands(
+    operator: BinaryOperator,
+    lhs: Operand<'_>,
+    rhs: Operand<'_>,
+) -> Option<Option<[u32; 7]>>
+    ensures { IfSome result (λ found. IsReplyTo (Some (resolution_of (plain_call (a_binary operator)
+        (written_view lhs.entry ∷ written_view rhs.entry ∷ [])))) (Ok (words_or_none (λ ws. ws) found))) }
+{
+    resolve_by_overloads(binary_overloads(operator), lhs, rhs)
+}
+
+/// The words of what these overloads resolve to.
+#[inline(always)]
+fn resolve_by_overloads(
+    listed: &[Overload],
+    lhs: Operand<'_>,
+    rhs: Operand<'_>,
+) -> Option<Option<[u32; 7]>>
+    requires { IsUnambiguous listed.now }
+    ensures { IfSome result (λ found. IsResolvedWords listed.now
+        (operand_view lhs.entry ∷ operand_view rhs.entry ∷ []) (words_or_none (λ ws. ws) found)) }
+{
+    let Some(choice) = resolve(listed, &[lhs, rhs]) else {
+        return Some(None);
+    };
+    let words = words_of_choice(choice.index, &listed[choice.index], &choice.instance)?;
+    Some(Some(words))
+}
+
+#[inline(always)]
+fn words_of_choice(index: usize, overload: &Overload, instance: &Instance) -> Option<[u32; 7]>
+    ensures { IfSome result (λ words. (x y : WgslOperand) → words ≡ resolution_words (
+      index,
+      parameters_for instance.now (patterns_of overload.now) (x ∷ y ∷ []),
+      result_there instance.now overload.now (x ∷ y ∷ []),
+    )) }
+{
+    let Parameters::Two(lhs, rhs) = parameters_of(overload) else {
+        return None;
+    };
+    let Returns::Gives(result) = result_of(overload) else {
+        return None;
+    };
+    let index = (index % 0x1_0000_0000) as u32;
+    let lhs = word_in(instance, lhs)?;
+    let rhs = word_in(instance, rhs)?;
+    Some([index, 2, 0, lhs, rhs, 1, word_in(instance, result)?])
+}
+
+/// The code of the type of a parameter or a result, if it is a scalar.
+#[inline(always)]
+fn word_in(instance: &Instance, pattern: &Pattern) -> Option<u32>
+    ensures parameter { IfSome result (λ word. (t : WgslType) → code (parameter_there instance.now pattern.now t) ≡ word ∷ []) }
+    ensures result { IfSome result (λ word. optional_code (type_in instance.now pattern.now) ≡ 1 ∷ word ∷ []) }
+{
+    match value_in(instance, pattern) {
+        Some((Dimensions::Single, scalar)) => Some(word_of_scalar(scalar)),
+        _ => None,
     }
 }

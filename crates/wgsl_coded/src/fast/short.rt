@@ -1,5 +1,5 @@
 // Words of short replies, which do not allocate: a candidate takes 805 instructions of 1784, `clamp` 1163 of 1350.
-ghost use Rattle.std.specs.Prelude.{◌≡◌, ◌<◌, ◌++◌, ◌∷◌, [], IfSome, IsSome, IsTrue, suc};
+ghost use Rattle.std.specs.Prelude.{◌≡◌, ◌<◌, ◌++◌, ◌∷◌, [], IsTrue, suc};
 ghost use Rattle.wgsl_rules.specs.types.Types.{scalar};
 ghost use Rattle.wgsl_rules.specs.codes.Codes.{code};
 ghost use Rattle.wgsl_rules.specs.codes.Heads.{head_word};
@@ -13,51 +13,24 @@ use wgsl_syntax::around::Around;
 use wgsl_syntax::code::{Head, LeafType};
 use wgsl_syntax::scalar::Scalar;
 
-/// At most N words.
+/// At most twelve words.
 #[derive(Clone, Copy)]
-pub struct ShortWords<const N: usize> {
-    words: [u32; N],
+pub struct ShortWords {
+    words: [u32; 12],
     len: usize,
 }
 
-impl ShortWords<6> {
-    ghost use Rattle.wgsl_coded.specs.Short.{short_items};
-
-    /// A size and an alignment.
-    #[inline(always)]
-    pub(crate) fn of_size(size: Option<u32>, align: Option<u32>) -> ShortWords<6>
-        ensures { short_items result ≡ attribute size ++ attribute align }
-    {
-        let (words, len) = match (size, align) {
-            (Some(size), Some(align)) => ([1, size, 1, align, 0, 0], 4),
-            (Some(size), None) => ([1, size, 0, 0, 0, 0], 3),
-            (None, Some(align)) => ([0, 1, align, 0, 0, 0], 3),
-            (None, None) => ([0; 6], 2),
-        };
-        ShortWords { words, len }
-    }
-}
-
-impl<const N: usize> ShortWords<N> {
+impl ShortWords {
     ghost use Rattle.wgsl_coded.specs.Short.{short_items};
 
     #[inline(always)]
-    pub fn new() -> ShortWords<N>
-        ensures items { short_items result ≡ [] }
-        ensures len { result.len ≡ 0 }
+    pub fn new() -> ShortWords
+        ensures { short_items result ≡ [] }
     {
         ShortWords {
-            words: [0; N],
+            words: [0; 12],
             len: 0,
         }
-    }
-
-    /// Takes all words away.
-    #[inline(always)]
-    pub(crate) fn clear(&mut self)
-        ensures { short_items self.new ≡ [] }
-    {
-        self.len = 0;
     }
 
     /// The words.
@@ -65,17 +38,51 @@ impl<const N: usize> ShortWords<N> {
     pub fn as_slice(&self) -> &[u32]
         ensures { result.now ≡ short_items self.now }
     {
-        &self.words[..self.len.min(N)]
+        &self.words[..self.len.min(12)]
+    }
+
+    /// Takes all words away.
+    #[inline(always)]
+    pub(crate) fn clear(&mut self)
+        ensures items { short_items self.new ≡ [] }
+        ensures len { self.new.len ≡ 0 }
+    {
+        self.len = 0;
+    }
+
+    /// Puts one word in place of all.
+    #[inline(always)]
+    pub(crate) fn set_word(&mut self, word: u32)
+        ensures { short_items self.new ≡ word ∷ [] }
+    {
+        *self = ShortWords {
+            words: [word, 0, 0, 0, 0, 0, 0, 0, 0, 0, 0, 0],
+            len: 1,
+        };
+    }
+
+    /// Puts a size and an alignment in place of all.
+    #[inline(always)]
+    pub(crate) fn set_size(&mut self, size: Option<u32>, align: Option<u32>)
+        ensures { short_items self.new ≡ attribute size ++ attribute align }
+    {
+        let (words, len) = match (size, align) {
+            (Some(size), Some(align)) => ([1, size, 1, align, 0, 0, 0, 0, 0, 0, 0, 0], 4),
+            (Some(size), None) => ([1, size, 0, 0, 0, 0, 0, 0, 0, 0, 0, 0], 3),
+            (None, Some(align)) => ([0, 1, align, 0, 0, 0, 0, 0, 0, 0, 0, 0], 3),
+            (None, None) => ([0; 12], 2),
+        };
+        *self = ShortWords { words, len };
     }
 
     /// Adds a word; false if there is no room for it.
     #[inline(always)]
     pub(crate) fn push_word(&mut self, word: u32) -> bool
         ensures items { IsTrue result → short_items self.new ≡ short_items self.old ++ (word ∷ []) }
-        ensures room { self.old.len < N → IsTrue result × (self.new.len ≡ suc self.old.len) }
+        ensures room { self.old.len < 12 → IsTrue result × (self.new.len ≡ suc self.old.len) }
     {
         let len = self.len;
-        if len >= N {
+        if len >= 12 {
             return false;
         }
         self.words[len] = word;
@@ -97,7 +104,7 @@ impl<const N: usize> ShortWords<N> {
     pub(crate) fn push_head(&mut self, head: Head) -> bool
         ensures items { IsTrue result
             → short_items self.new ≡ short_items self.old ++ (head_word head ∷ []) }
-        ensures room { self.old.len < N → IsTrue result × (self.new.len ≡ suc self.old.len) }
+        ensures room { self.old.len < 12 → IsTrue result × (self.new.len ≡ suc self.old.len) }
     {
         self.push_word(word_of_head(head))
     }
@@ -108,7 +115,7 @@ impl<const N: usize> ShortWords<N> {
     pub(crate) fn push_scalar(&mut self, of: Scalar) -> bool
         ensures items { IsTrue result
             → short_items self.new ≡ short_items self.old ++ code (scalar of) }
-        ensures room { self.old.len < N → IsTrue result × (self.new.len ≡ suc self.old.len) }
+        ensures room { self.old.len < 12 → IsTrue result × (self.new.len ≡ suc self.old.len) }
     {
         self.push_head(Head::Leaf(LeafType::Scalar(of)))
     }
@@ -118,7 +125,7 @@ impl<const N: usize> ShortWords<N> {
     pub(crate) fn push_type(&mut self, ty: &Type) -> bool
         ensures items { IsTrue result
             → short_items self.new ≡ short_items self.old ++ code (view ty.now) }
-        ensures room { IsScalar (view ty.now) → self.old.len < N
+        ensures room { IsScalar (view ty.now) → self.old.len < 12
             → IsTrue result × (self.new.len ≡ suc self.old.len) }
     {
         match ty {
@@ -132,20 +139,6 @@ impl<const N: usize> ShortWords<N> {
                 Some(of) => self.push_scalar(of),
                 None => false,
             },
-        }
-    }
-
-    /// The code of a scalar or of a vector of scalars.
-    #[inline(always)]
-    pub(crate) fn of_type(ty: &Type) -> Option<ShortWords<N>>
-        ensures items { IfSome result (λ words. short_items words ≡ code (view ty.now)) }
-        ensures room { IsScalar (view ty.now) → 0 < N → IsSome result }
-    {
-        let mut words = ShortWords::new();
-        if words.push_type(ty) {
-            Some(words)
-        } else {
-            None
         }
     }
 }

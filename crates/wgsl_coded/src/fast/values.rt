@@ -1,6 +1,6 @@
-// Calls by WGSL's own overloads whose operands are scalars and vectors of scalars: no type is built of them. `+` of two
-// scalars takes 788 instructions of 989, `clamp` of three vectors 1405 of 2455.
-ghost use Rattle.std.specs.Prelude.{◌≡◌, ◌∷◌, ℕ, IfSome, List, Ok, Some, option_map};
+// Calls by WGSL's own overloads whose operands are scalars and vectors of scalars: no type is built of them. `clamp` of three
+// vectors takes 1434 instructions of 2455.
+ghost use Rattle.std.specs.Prelude.{◌≡◌, ◌≤◌, ◌∷◌, ℕ, IfSome, List, Ok, Some, option_map};
 ghost use Rattle.wgsl_rules.specs.codes.Decoding.{decode};
 ghost use Rattle.wgsl_rules.specs.conversion.Concrete.{is_abstract as abstract_there};
 ghost use Rattle.wgsl_rules.specs.standard.Overloads.{type_with};
@@ -12,7 +12,7 @@ ghost use Rattle.wgsl_coded.specs.Seen.{short_words};
 ghost use Rattle.wgsl_coded.specs.Replies.{IsReplyTo, IsResolveReply};
 ghost use Rattle.wgsl_coded.specs.StandardCalls.{operand_at, operand_of};
 
-use crate::fast::callees::{read_operator_call, read_plain_call};
+use crate::fast::callees::{read_named_call, read_operator_call};
 use crate::fast::resolved::short_reply;
 use crate::fast::short::ShortWords;
 use crate::heads::{read_scalar, read_vector_head};
@@ -21,26 +21,26 @@ use wgsl_standard::operand::{Operand, OperandType};
 use wgsl_syntax::overload::Dimensions;
 use wgsl_syntax::scalar::Scalar;
 
-/// Whether a call resolves, with its words in `out`; None if an operand is of another type, the name is long, there is a
-/// template, or the words aren't short.
+/// Whether a call resolves, with its words in `out`; None if an operand is of another type, there are none or more than
+/// three, the name is long, there is a template, or the words aren't short.
 #[inline(always)]
-pub fn resolve_values(request: &[u32], out: &mut ShortWords<12>) -> Option<bool>
+pub fn resolve_values(request: &[u32], out: &mut ShortWords) -> Option<bool>
     ensures { IfSome result (λ found. IsResolveReply request.now (Ok (short_words found out.new))) }
 {
     if let Some((callee, count, words)) = read_operator_call(request) {
-        return reply_to_values(callee, count, words, out);
+        return resolve_operands(callee, count, words, out);
     }
-    let (callee, count, words) = read_plain_call(request)?;
-    reply_to_values(callee.borrowed(), count, words, out)
+    let (callee, count, words) = read_named_call(request)?;
+    resolve_operands(callee.borrowed(), count, words, out)
 }
 
 /// The same of a call without a template, whose operands the words are.
 #[inline(never)]
-fn reply_to_values(
+fn resolve_operands(
     callee: Callee<'_>,
     count: usize,
     words: &[u32],
-    out: &mut ShortWords<12>,
+    out: &mut ShortWords,
 ) -> Option<bool>
     ensures { IfSome result (λ found. IsReplyTo (resolution_in
         (option_map (plain_call (callee_view callee.entry)) (operands_at count words.now))) (Ok (short_words found out.new))) }
@@ -84,7 +84,7 @@ fn read_value(words: &[u32]) -> Option<(Operand<'_>, &[u32])>
 
 /// Whether the word before an operand's type says that it is a const-expression.
 #[inline(always)]
-fn is_said(word: u32) -> Option<bool>
+pub(crate) fn is_said(word: u32) -> Option<bool>
     ensures { IfSome result (λ said. (ws : List ℕ) → operand_at (word ∷ ws) ≡ operand_of said ws) }
 {
     match word {
@@ -107,7 +107,7 @@ fn read_value_of(said: bool, words: &[u32]) -> Option<(Operand<'_>, &[u32])>
 }
 
 #[inline(always)]
-fn is_abstract(scalar: Scalar) -> bool
+pub(crate) fn is_abstract(scalar: Scalar) -> bool
     ensures { (d : Dimensions) → result ≡ abstract_there (type_with d scalar) }
 {
     matches!(scalar, Scalar::AbstractInt | Scalar::AbstractFloat)
@@ -115,8 +115,9 @@ fn is_abstract(scalar: Scalar) -> bool
 
 /// A scalar or a vector of scalars, and the words after it.
 #[inline(always)]
-fn read_vector_or_scalar(words: &[u32]) -> Option<(Dimensions, Scalar, &[u32])>
-    ensures { IfSome result (λ x. decode 255 words.now ≡ Some (type_with x.0 x.1, x.2.now)) }
+pub(crate) fn read_vector_or_scalar(words: &[u32]) -> Option<(Dimensions, Scalar, &[u32])>
+    ensures { IfSome result (λ x. (depth : ℕ) → 2 ≤ depth
+        → decode depth words.now ≡ Some (type_with x.0 x.1, x.2.now)) }
 {
     let [word, rest @ ..] = words else {
         return None;

@@ -1,5 +1,5 @@
 -- How calls that are read from words are seen, and what is asked of them.
-use Rattle.std.specs.Prelude.{◌≡◌, ℕ, List, Option, Result}
+use Rattle.std.specs.Prelude.{◌≡◌, ℕ, List, Option, Result, codes}
 use Rattle.wgsl_syntax.specs.Scalar.{scalar_text}
 use Rattle.wgsl_syntax.specs.declared.scalar.Scalar.{Scalar}
 use Rattle.wgsl_rules.specs.types.Types.{WgslType}
@@ -8,13 +8,15 @@ use Rattle.wgsl_rules.specs.conversion.Concrete.{is_abstract}
 use Rattle.wgsl_rules.specs.standard.Choice.{Operand}
 use Rattle.wgsl_rules.specs.standard.Overloads.{type_with}
 use Rattle.wgsl_core.specs.View.{view}
-use Rattle.wgsl_standard.specs.Callees.{WgslCallee}
+use Rattle.wgsl_standard.specs.Callees.{WgslCallee, a_constructor, a_function}
 use Rattle.wgsl_asked.specs.Calls.{WgslCall}
 use Rattle.wgsl_requests.specs.Answers.{IsAnswer}
 use Rattle.wgsl_requests.specs.Calls.{HasArity, IsCall, OperandsAt}
 use Rattle.wgsl_requests.specs.Reading.{Answers, Beginning, OneWord, Then}
 use Rattle.wgsl_requests.specs.Templates.{TemplateAt}
 use Rattle.wgsl_requests.specs.Requests.{Request, explanation_of, resolution_of, type_of}
+use Rattle.wgsl_requests.specs.declared.call.Named.{Named}
+use Rattle.wgsl_requests.specs.declared.call.Named.TheVariants as names
 use Rattle.wgsl_requests.specs.declared.call.Question.{Question}
 use Rattle.wgsl_requests.specs.declared.call.Question.TheVariants as questions
 use Rattle.wgsl_requests.specs.declared.operand.WrittenOperand.{WrittenOperand}
@@ -45,6 +47,16 @@ NamedAt = Then (OneWord (λ word name. word ≡ name)) TemplateAt
 
 abbrev pub called : WgslCallee → Option (List Parameter) → List Operand → WgslCall
 called callee template operands = record { callee = callee; template = template; operands = operands }
+
+-- the command for a call of what has a name, and what is called
+
+abbrev pub command_of : Named → List ℕ
+command_of names.Constructor = codes "ctor"
+command_of names.Function = codes "call"
+
+abbrev pub callee_named : Named → List ℕ → WgslCallee
+callee_named names.Constructor = a_constructor
+callee_named names.Function = a_function
 
 -- what is asked of a call
 abbrev pub asked : Question → WgslCall → Request

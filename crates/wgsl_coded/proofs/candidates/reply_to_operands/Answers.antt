@@ -17,14 +17,14 @@ returns-in-Some-clause-reply c =
     let operands : Operands = record { operator = c.args.operator; lhs = c.args.lhs; rhs = c.args.rhs } in
     let found : Option Resolution = Some c.in-Some.found in
     let has = subst (λ r. HasCandidate c.args.operator (view c.args.lhs.now) (view c.args.rhs.now) (option_map resolution_view r)) c.in-Some.is c.resolve_operator.ensures in
-    replied (a_candidate (candidate_view operands found)) _ (candidate_is _ (candidate_seen operands found has)) (writes _ _ (λ e. cc e) c.reply_with_candidate.ensures.words)
+    replied (a_candidate (candidate_view operands found)) _ _ (candidate_is _ (candidate_seen operands found has)) (writes _ _ _ (λ e. cc e) c.reply_with_candidate.ensures.words)
 
 pub returns-in-None-clause-reply : goal.returns-in-None-clause-reply
 returns-in-None-clause-reply c =
     let operands : Operands = record { operator = c.args.operator; lhs = c.args.lhs; rhs = c.args.rhs } in
     let found : Option Resolution = None in
     let has = subst (λ r. HasCandidate c.args.operator (view c.args.lhs.now) (view c.args.rhs.now) (option_map resolution_view r)) c.in-None.is c.resolve_operator.ensures in
-    replied (a_candidate (candidate_view operands found)) _ (candidate_is _ (candidate_seen operands found has)) (writes _ _ (λ e. cc e) c.refuse_operands.ensures)
+    replied (a_candidate (candidate_view operands found)) _ _ (candidate_is _ (candidate_seen operands found has)) (writes _ _ _ (λ e. cc e) (c.refuse_operands.ensures _))
 
 pub returns-in-Some-clause-never_out_of_memory : goal.returns-in-Some-clause-never_out_of_memory
 returns-in-Some-clause-never_out_of_memory c h =

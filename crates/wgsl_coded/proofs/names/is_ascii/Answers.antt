@@ -7,16 +7,15 @@ use Rattle.wgsl_coded.proofs.names.is_ascii.Goals as goal
 pub returns-in_default-clause-ascii : goal.returns-in_default-clause-ascii
 returns-in_default-clause-ascii c four =
     let bs = c.to_le_bytes.result in
+    let all = c.are_ascii.ensures.0 c.if-not-are_ascii.false in
     rw (eqb-true c.args.count 4 four)
     (four_bytes c.args.word bs (omega (arith, c.ranges.word.fits)) c.to_le_bytes.ensures
-    (omega (arith, c.if-max-ge128.false, c.max.ensures, c.max-2.ensures, c.max-3.ensures)) (omega (arith, c.if-max-ge128.false, c.max.ensures, c.max-2.ensures, c.max-3.ensures))
-    (omega (arith, c.if-max-ge128.false, c.max-2.ensures, c.max-3.ensures)) (omega (arith, c.if-max-ge128.false, c.max-3.ensures)))
+    all.0 all.1 all.2 all.3)
 
-pub returns-then-max-ge128-clause-only : goal.returns-then-max-ge128-clause-only
-returns-then-max-ge128-clause-only c some few text =
+pub returns-then-not-are_ascii-clause-only : goal.returns-then-not-are_ascii-clause-only
+returns-then-not-are_ascii-clause-only c some few text =
     let all = ascii_word c.args.count c.args.word c.to_le_bytes.result some few c.to_le_bytes.ensures text in
-    let never : ⊥ = omega (arith, all.a, all.b, all.c, all.d, c.if-max-ge128.true, c.max.ensures, c.max-2.ensures, c.max-3.ensures) in
-    absurd never
+    absurd (cc (c.if-not-are_ascii.true, c.are_ascii.ensures.1 (all.a, all.b, all.c, all.d)))
 
 pub returns-in-1-clause-only : goal.returns-in-1-clause-only
 returns-in-1-clause-only c some few text =

@@ -14,11 +14,11 @@ returns-in-binary c =
 
 pub returns-in-ctor : goal.returns-in-ctor
 returns-in-ctor c =
-    subst (λ w. WritesOfCall (asked c.args.question) (w ∷ left c.args.words.now) (string_bytes c.args.text.now) (string_bytes c.ctor.new.text) c.ctor.result) (sym c.in-ctor.is) c.ctor.ensures
+    subst (λ w. WritesOfCall (asked c.args.question) (w ∷ left c.args.words.now) (string_bytes c.args.text.now) (string_bytes c.by_name.new.text) c.by_name.result) (sym c.in-ctor.is) c.by_name.ensures
 
 pub returns-in-call : goal.returns-in-call
 returns-in-call c =
-    subst (λ w. WritesOfCall (asked c.args.question) (w ∷ left c.args.words.now) (string_bytes c.args.text.now) (string_bytes c.call.new.text) c.call.result) (sym c.in-call.is) c.call.ensures
+    subst (λ w. WritesOfCall (asked c.args.question) (w ∷ left c.args.words.now) (string_bytes c.args.text.now) (string_bytes c.by_name-in-call.new.text) c.by_name-in-call.result) (sym c.in-call.is) c.by_name-in-call.ensures
 
 pub returns-in_default : goal.returns-in_default
 returns-in_default c =

@@ -1,4 +1,4 @@
-use Rattle.std.proofs.Common.{◌∷◌, string_bytes, subst, sym}
+use Rattle.std.proofs.Common.{string_bytes, subst, sym}
 use Rattle.wgsl_requests.specs.internal.Asked.{WritesOfCall, asked}
 use Rattle.wgsl_requests.proofs.Readers.{fails_by}
 use Rattle.wgsl_requests.proofs.CallReads.{no_words_no_call}

@@ -1,9 +1,9 @@
-use Rattle.std.proofs.Common.{◌∷◌, [], codes, rules, subst, sym, ap, ◌∙◌}
+use Rattle.std.proofs.Common.{◌∷◌, codes, rules, subst, sym, ap, ◌∙◌}
 use Rattle.wgsl_requests.specs.Requests.{IsRequest, overloads_of, overloads_words}
 use Rattle.wgsl_requests.specs.declared.rules.RuleSet.TheVariants.{Standard}
 use Rattle.wgsl_requests.proofs.Readers.{fails_by}
 use Rattle.wgsl_requests.proofs.Replied.{replied}
-use Rattle.wgsl_requests.proofs.Requested.{no_overloads_more, no_overloads_name}
+use Rattle.wgsl_requests.proofs.Requested.{no_overloads_name}
 use Rattle.wgsl_requests.proofs.standard.overloads.Goals as goal
 
 pub returns-in_err-name : goal.returns-in_err-name

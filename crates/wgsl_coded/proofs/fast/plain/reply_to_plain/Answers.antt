@@ -14,12 +14,12 @@ use Rattle.wgsl_coded.proofs.fast.plain.reply_to_plain.Goals as goal
 pub returns-in-Constructor-clause-reply : goal.returns-in-Constructor-clause-reply
 returns-in-Constructor-clause-reply c =
     let made = call_of c.args.name.now (map view c.args.arguments.now) in
-    rw c.in-Constructor.is (replied_outcome a_type view (IsConstructorAnswer made) _ _ c.type_ctor.ensures.row (λ r d. ctor_is r d) c.reply_with_type.ensures.writes)
+    rw c.in-Constructor.is (replied_outcome a_type view (IsConstructorAnswer made) _ _ _ c.type_ctor.ensures.row (λ r d. ctor_is r d) c.reply_with_type.ensures.writes)
 
 pub returns-in-Function-clause-reply : goal.returns-in-Function-clause-reply
 returns-in-Function-clause-reply c =
     let made = call_of c.args.name.now (map view c.args.arguments.now) in
-    rw c.in-Function.is (replied_outcome a_value (option_map view) (IsCallAnswer made) _ _ c.type_builtin_fn.ensures.row (λ r d. call_is r d) c.reply_with_value.ensures.writes)
+    rw c.in-Function.is (replied_outcome a_value (option_map view) (IsCallAnswer made) _ _ _ c.type_builtin_fn.ensures.row (λ r d. call_is r d) c.reply_with_value.ensures.writes)
 
 pub returns-in-Constructor-clause-never_out_of_memory : goal.returns-in-Constructor-clause-never_out_of_memory
 returns-in-Constructor-clause-never_out_of_memory c =

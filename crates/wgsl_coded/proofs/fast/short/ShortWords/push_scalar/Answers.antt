@@ -5,4 +5,4 @@ use Rattle.wgsl_coded.specs.Short.{short_items}
 use Rattle.wgsl_coded.proofs.fast.short.ShortWords.push_scalar.Goals as goal
 
 pub returns-clause-items : goal.returns-clause-items
-returns-clause-items g c pushed = c.push_head.ensures.items pushed ∙ ap (λ ws. short_items c.args.self.now ++ ws) (sym (leaf_code (leaf.Scalar c.args.of)))
+returns-clause-items c pushed = c.push_head.ensures.items pushed ∙ ap (λ ws. short_items c.args.self.now ++ ws) (sym (leaf_code (leaf.Scalar c.args.of)))

@@ -9,7 +9,7 @@ use Rattle.wgsl_coded.proofs.Written.{after_layer}
 use Rattle.wgsl_coded.proofs.fast.short.ShortWords.push_type.Goals as goal
 
 pub returns-then-push_head-clause-items : goal.returns-then-push_head-clause-items
-returns-then-push_head-clause-items g c pushed =
+returns-then-push_head-clause-items c pushed =
     let of = scalar c.in-Some.of in
     let shape : view c.args.ty.now ≡ vec c.in-Vec.components (view c.deref.result.now) = search (rules, the_lemmas) in
     let inside : view c.deref.result.now ≡ of = search rules in

@@ -3,7 +3,7 @@ use Rattle.wgsl_asked.specs.Requests.{rank}
 use Rattle.wgsl_coded.specs.Memory.{NeedsNoMemory}
 use Rattle.wgsl_coded.specs.Requests.{two_types}
 use Rattle.wgsl_coded.proofs.Memory.{of_made, rank_is_short, still_answered}
-use Rattle.wgsl_coded.proofs.calls.rank_of_types.Goals as goal
+use Rattle.wgsl_coded.proofs.calls.rank.Goals as goal
 
 pub returns-in_err-source-clause-never_out_of_memory : goal.returns-in_err-source-clause-never_out_of_memory
 returns-in_err-source-clause-never_out_of_memory c h =
