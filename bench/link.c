@@ -1,6 +1,6 @@
-/* Prints how many nanoseconds of processor time a call of the library takes, for ten requests in text and nine in numbers,
- * the best of five rounds. With the index of a call in numbers, and how often to make it, it makes that call alone and prints its
- * name. */
+/* Prints how many nanoseconds of processor time a call of the library takes, for requests in text and in numbers, the best of
+ * five rounds. With the index of a call in numbers, and how often to make it, it makes that call alone and prints its name; its
+ * status is 1 where there is none of that index. */
 #include "wgsl_codes.h"
 #include <stdio.h>
 #include <stdlib.h>
@@ -156,7 +156,10 @@ static const struct {
     {resolve_sample, "wgsl_standard_resolve: textureSample(texture_2d<f32>, sampler, vec2<f32>)"},
 };
 
+enum { IN_NUMBERS = sizeof calls / sizeof *calls };
+
 static int make_one(size_t index, long times) {
+    if (index >= IN_NUMBERS) return 1;
     calls[index].set();
     for (long k = 0; k < times; k++)
         if (ask() != WGSL_ANSWERED) return 1;
@@ -170,7 +173,7 @@ int main(int count, char **arguments) {
         text = requests[k];
         if (measure(text)) return 1;
     }
-    for (size_t k = 0; k < sizeof calls / sizeof *calls; k++) {
+    for (size_t k = 0; k < IN_NUMBERS; k++) {
         words.len = 0;
         calls[k].set();
         if (measure(calls[k].name)) return 1;
