@@ -21,10 +21,11 @@ use Rattle.wgsl_asked.specs.declared.requests.Request.TheVariants as requests
 use Rattle.wgsl_asked.specs.declared.answers.Operands.{Operands}
 use Rattle.wgsl_asked.specs.declared.answers.Answer.{Answer}
 use Rattle.wgsl_asked.specs.declared.answers.Answer.TheVariants as answers
+use Rattle.wgsl_standard.specs.Results.{result_view}
 use Rattle.wgsl_standard.specs.Resolved.{resolved_view as resolved_call_view}
 use Rattle.wgsl_standard.specs.Texts.{line_of, note_text}
-use Rattle.wgsl_asked.specs.Requests.{WgslRequest, rank, common, left_common, unary, binary, size, offsets, layout, ctor, call, resolution_of, explanation_of, overloads_of}
-use Rattle.wgsl_asked.specs.Answers.{WgslAnswer, WgslLayout, a_number, a_size, a_common_type, a_type, a_value, some_offsets, a_layout, a_resolution_of, some_lines, out_of_memory}
+use Rattle.wgsl_asked.specs.Requests.{WgslRequest, rank, common, left_common, unary, binary, size, offsets, layout, ctor, call, type_of, resolution_of, explanation_of, overloads_of}
+use Rattle.wgsl_asked.specs.Answers.{WgslAnswer, WgslLayout, a_number, a_size, a_common_type, a_type, a_value, some_offsets, a_layout, a_type_of, a_resolution_of, some_lines, out_of_memory}
 use Rattle.wgsl_asked.specs.StandardViews.{call_view as standard_view}
 
 abbrev pub callee_view : Callee → Signature
@@ -41,6 +42,7 @@ request_view (requests.Offsets s) = let seen = struct_view s.now in offsets seen
 request_view (requests.Layout s) = let seen = struct_view s.now in layout seen.name seen.members
 request_view (requests.Constructor c) = ctor (callee_view c)
 request_view (requests.Call c) = call (callee_view c)
+request_view (requests.Type c) = type_of (standard_view c.now)
 request_view (requests.Resolution c) = resolution_of (standard_view c.now)
 request_view (requests.Overloads name) = overloads_of name.now
 request_view (requests.Explanation c) = explanation_of (standard_view c.now)
@@ -84,6 +86,7 @@ answer_view (answers.Binary r) = a_type (binary_view r)
 answer_view (answers.Offsets o) = some_offsets (option_map (λ v. v.items) o)
 answer_view (answers.Layout s l) =
     let seen = struct_view s.now in a_layout seen.name seen.members (option_map layout_view l)
+answer_view (answers.TypeOf c r) = a_type_of (standard_view c.now) (option_map (option_map result_view) r)
 answer_view (answers.Resolution c r) = a_resolution_of (standard_view c.now) (option_map resolved_call_view r)
 answer_view (answers.Overloads lines) = some_lines (map line_of lines.items)
 answer_view (answers.Notes notes) = some_lines (map note_text notes.items)

@@ -9,6 +9,7 @@ use wgsl_core::layout::StructLayout;
 use wgsl_core::operators::resolve::{Element, Extent, ResolvedType};
 use wgsl_core::ty::{StructType, Type};
 use wgsl_standard::explanation::Note;
+use wgsl_standard::instance::ResultType;
 use wgsl_standard::resolved::ResolvedCall;
 use wgsl_standard::signature::Signature;
 use wgsl_syntax::operator::BinaryOperator;
@@ -29,6 +30,8 @@ pub enum Answer<'r> {
     Binary(Result<ResolvedType<'r>, Operands<'r>>),
     Offsets(Option<Vec<u32>>),
     Layout(&'r StructType, Option<StructLayout>),
+    /// The call, and its type, if it has a value; None if no overload takes the operands.
+    TypeOf(&'r Call<'r>, Option<Option<ResultType>>),
     /// The call, and what it resolves to; None if no overload takes the operands.
     Resolution(&'r Call<'r>, Option<ResolvedCall>),
     Overloads(Vec<Signature<'r>>),

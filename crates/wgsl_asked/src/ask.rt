@@ -11,7 +11,7 @@ use crate::answers::{Answer, Operands};
 use crate::common::common_type;
 use crate::overloads::signatures_named;
 use crate::requests::Request;
-use crate::standard::{notes_on, resolution_of};
+use crate::standard::{notes_on, resolution_of, type_of};
 use std::alloc::{AllocError, Global};
 use wgsl_calls::call::type_builtin_fn;
 use wgsl_calls::constructor::type_ctor;
@@ -51,6 +51,7 @@ pub fn answer<'r>(alloc: Global, request: Request<'r>) -> Result<Answer<'r>, All
             let made = type_builtin_fn(alloc, callee.name, callee.template, callee.arguments);
             Ok(Answer::Value(settled(made)?))
         }
+        Request::Type(call) => Ok(Answer::TypeOf(call, type_of(alloc, call)?)),
         Request::Resolution(call) => Ok(Answer::Resolution(call, resolution_of(alloc, call)?)),
         Request::Overloads(name) => Ok(Answer::Overloads(signatures_named(alloc, name)?)),
         Request::Explanation(call) => Ok(Answer::Notes(notes_on(alloc, call)?)),

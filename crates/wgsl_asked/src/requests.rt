@@ -5,7 +5,7 @@ use wgsl_standard::callee::Callee as OverloadedCallee;
 use wgsl_standard::operand::Operand;
 use wgsl_syntax::operator::{BinaryOperator, UnaryOperator};
 
-/// What is asked of the rules. The type of a call by WGSL's own overloads is asked of `type_of`.
+/// What is asked of the rules.
 #[derive(Clone, Copy)]
 pub enum Request<'r> {
     /// The rank of the conversion from one type to another.
@@ -28,6 +28,8 @@ pub enum Request<'r> {
     Constructor(Callee<'r>),
     /// What a built-in function returns.
     Call(Callee<'r>),
+    /// The type of a call by WGSL's own overloads.
+    Type(&'r Call<'r>),
     /// The overload of a call, the types of its parameters, and its result.
     Resolution(&'r Call<'r>),
     /// The overloads of a name, which may be an operator.

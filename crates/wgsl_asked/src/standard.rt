@@ -37,7 +37,10 @@ fn template_type(template: Option<&[TpltParam]>) -> Option<Option<&Type>>
 
 /// The type of a call, if it has a value.
 #[inline(always)]
-pub fn type_of(alloc: Global, call: &Call<'_>) -> Result<Option<Option<ResultType>>, AllocError>
+pub(crate) fn type_of(
+    alloc: Global,
+    call: &Call<'_>,
+) -> Result<Option<Option<ResultType>>, AllocError>
     ensures { IfOk result (λ r. IsTypeOf (call_view call.now) (option_map (option_map result_view) r)) }
 {
     let Some(template) = template_type(call.template) else {

@@ -7,6 +7,7 @@ ghost use Rattle.wgsl_rules.specs.types.Kinds.{IsScalar};
 ghost use Rattle.wgsl_core.specs.Answer.{IsAnswered, refusal};
 ghost use Rattle.wgsl_core.specs.View.{view};
 ghost use Rattle.wgsl_standard.specs.Resolved.{resolved_view};
+ghost use Rattle.wgsl_standard.specs.Results.{result_view};
 ghost use Rattle.wgsl_asked.specs.Answers.{Answers, WgslAnswer, a_type, a_value};
 ghost use Rattle.wgsl_asked.specs.Memory.{AsksForNoMemory};
 ghost use Rattle.wgsl_asked.specs.Views.{answer_view, binary_view, outcome, request_view};
@@ -30,6 +31,7 @@ use wgsl_asked::requests::Request;
 use wgsl_core::error::{Error, Fail};
 use wgsl_core::operators::resolve::ResolvedType;
 use wgsl_core::ty::Type;
+use wgsl_standard::instance::{ResultType, built};
 use wgsl_standard::resolved::ResolvedCall;
 
 /// The words of a reply.
@@ -84,6 +86,7 @@ fn write_answer(
         Answer::Binary(found) => reply_with_binary(alloc, found, short),
         Answer::Offsets(Some(offsets)) => Ok(Reply::Answer(offsets)),
         Answer::Layout(_, Some(layout)) => reply_with_layout(alloc, layout),
+        Answer::TypeOf(_, Some(found)) => reply_with_result(alloc, found, short),
         Answer::Resolution(_, Some(resolved)) => reply_with_resolution(alloc, resolved),
         Answer::Overloads(signatures) => reply_with_list(alloc, signatures),
         Answer::Notes(notes) => reply_with_list(alloc, notes),
@@ -91,6 +94,7 @@ fn write_answer(
         | Answer::Common(None)
         | Answer::Offsets(None)
         | Answer::Layout(_, None)
+        | Answer::TypeOf(_, None)
         | Answer::Resolution(_, None) => Ok(Reply::Refusal(Vec::new(alloc))),
     }
 }
@@ -160,6 +164,17 @@ fn reply_with_returned(
             Ok(Reply::Short)
         }
     }
+}
+
+/// The code of the result of a call, or no words.
+fn reply_with_result(
+    alloc: Global,
+    found: Option<ResultType>,
+    short: &mut ShortWords,
+) -> Result<Reply, Fail<Unreadable>>
+    ensures { HasWords (answered (value_words (option_map result_view found))) short.new result }
+{
+    reply_with_returned(alloc, built(alloc, found)?, short)
 }
 
 /// The words of what a call resolves to.

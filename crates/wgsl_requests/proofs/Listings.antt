@@ -42,14 +42,14 @@ resolution_written old mid n types items r same e =
 
 -- the text of a refusal, in the parts in which it is written
 
-refusal_parts : (old head name template takes types close : List ℕ) → (((old ++ head) ++ name) ++ template) ++ (takes ++ (types ++ close)) ≡ old ++ (head ++ name ++ template ++ takes ++ types ++ close)
+refusal_parts : (old head name template takes types close : List ℕ) → (((((old ++ head) ++ name) ++ template) ++ takes) ++ types) ++ close ≡ old ++ (head ++ name ++ template ++ takes ++ types ++ close)
 refusal_parts old head name template takes types close = simp append_assoc
 
-pub refusal_written : (old first named with all name template : List ℕ) (xs : List Operand) → first ≡ old ++ codes "no overload of `" → named ≡ first ++ name → with ≡ named ++ template
-    → all ≡ with ++ (codes "` takes (" ++ (listed (λ x. spelling (given_type x.ty)) xs ++ codes ")"))
+pub refusal_written : (old first named with taken shown all name template : List ℕ) (xs : List Operand) → first ≡ old ++ codes "no overload of `" → named ≡ first ++ name → with ≡ named ++ template
+    → taken ≡ with ++ codes "` takes (" → shown ≡ taken ++ listed (λ x. spelling (given_type x.ty)) xs → all ≡ shown ++ codes ")"
     → all ≡ old ++ (codes "no overload of `" ++ name ++ template ++ codes "` takes (" ++ listed spelling (types_of (map written_view xs)) ++ codes ")")
-refusal_written old first named with all name template xs a b c d =
+refusal_written old first named with taken shown all name template xs a b c d e f =
     let types = listed spelling (types_of (map written_view xs)) in
-    d ∙ (ap (λ y. with ++ (codes "` takes (" ++ (y ++ codes ")"))) (sym (operand_types xs))
-    ∙ (ap (λ w. w ++ (codes "` takes (" ++ (types ++ codes ")"))) (c ∙ ap (λ w. w ++ template) (b ∙ ap (λ w. w ++ name) a))
-    ∙ refusal_parts old (codes "no overload of `") name template (codes "` takes (") types (codes ")")))
+    let so_far : taken ≡ (((old ++ codes "no overload of `") ++ name) ++ template) ++ codes "` takes (" = d ∙ ap (λ y. y ++ codes "` takes (") (c ∙ ap (λ y. y ++ template) (b ∙ ap (λ y. y ++ name) a)) in
+    f ∙ ap (λ y. y ++ codes ")") (e ∙ ap (λ y. taken ++ y) (sym (operand_types xs)) ∙ ap (λ y. y ++ types) so_far)
+    ∙ refusal_parts old (codes "no overload of `") name template (codes "` takes (") types (codes ")")

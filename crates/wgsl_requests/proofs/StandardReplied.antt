@@ -1,16 +1,11 @@
 -- The answers to requests of WGSL's own overloads.
-use Rattle.std.proofs.Common.{◌≡◌, ◌∷◌, ◌++◌, ℕ, List, Option, Vec, Global, codes, map, ap, refl}
-use Rattle.std.specs.Prelude.{OnOk, Result, Ok, Err, option_map, vec_items}
-use Rattle.std.specs.declared.alloc.AllocError.{AllocError}
+use Rattle.std.proofs.Common.{◌≡◌, ◌∷◌, ℕ, List, Option, Vec, Global, codes, map, ap}
+use Rattle.std.specs.Prelude.{Result, Ok, Err, option_map, vec_items}
 use Rattle.std.specs.Borrow.{Bor}
-use Rattle.wgsl_rules.specs.types.Types.{WgslType}
 use Rattle.wgsl_core.specs.Instances.{parameter_view}
 use Rattle.wgsl_core.specs.declared.signature.TpltParam.{TpltParam}
 use Rattle.wgsl_standard.specs.Callees.{WgslCallee}
-use Rattle.wgsl_asked.specs.Answers.{a_type_of, type_of_is}
 use Rattle.wgsl_asked.specs.Calls.{WgslCall}
-use Rattle.wgsl_asked.specs.Standard.{IsTypeOf}
-use Rattle.wgsl_requests.specs.Answers.{IsAnswer}
 use Rattle.wgsl_requests.specs.Calls.{IsCall}
 use Rattle.wgsl_requests.specs.Requests.{NoRequest, explanation_of, resolution_of, resolve_words, type_of, type_words, why_words}
 use Rattle.wgsl_requests.specs.declared.operand.WrittenOperand.{WrittenOperand}
@@ -20,8 +15,6 @@ use Rattle.wgsl_requests.specs.declared.wanted.Misfit.{Misfit}
 use Rattle.wgsl_core.specs.declared.error.Fail.TheVariants.{Error, Memory}
 use Rattle.wgsl_requests.specs.internal.Asked.{WritesOfCall, called, operand_view}
 use Rattle.wgsl_requests.specs.internal.Replied.{Replies}
-use Rattle.wgsl_requests.specs.internal.Written.{Adds}
-use Rattle.wgsl_requests.specs.Texts.{or_no_overload, value_text}
 use Rattle.wgsl_requests.proofs.Replied.{replied, same_shown}
 use Rattle.wgsl_requests.proofs.Requested.{IsShared, no_resolve, no_why}
 
@@ -30,12 +23,6 @@ pub shared : (key : List ℕ) (words : List (List ℕ)) (old new : List ℕ) (r 
 shared key words old new (Ok x) same w = (w.0, (w.1.0, same.forth words w.1.0 w.1.1, w.1.2), w.2)
 shared key words old new (Err (Error misfit)) same none = λ request d. none request (same.back words request d)
 shared key words old new (Err (Memory e)) same none = tt
-
--- what is written of the type of a call
-pub type_written : (c : WgslCall) (r : Option (Option WgslType)) (old new : List ℕ) (w : Result (Unit {0}) AllocError) → IsTypeOf c r →
-    OnOk w (new ≡ old ++ or_no_overload value_text c r) → OnOk w (Adds (IsAnswer (type_of c)) old new)
-type_written c r old new (Ok x) h e = (or_no_overload value_text c r, (a_type_of c r, type_of_is r h, refl), e)
-type_written c r old new (Err x) h e = tt
 
 -- what is written of a call
 pub resolve_replied : (words : List (List ℕ)) (old new : List ℕ) (r : Result (Unit {0}) (Fail Misfit)) → WritesOfCall resolution_of words old new r → Replies Standard (codes "resolve" ∷ words) old new r

@@ -16,9 +16,11 @@ use crate::overloaded::write_type_of;
 use crate::template::read_template;
 use crate::wanted::{Misfit, Wanted};
 use crate::words::Words;
+use crate::write::write;
 use std::alloc::{AllocError, Global};
+use wgsl_asked::answers::Answer;
+use wgsl_asked::ask::answer;
 use wgsl_asked::requests::{Call, Request};
-use wgsl_asked::standard::type_of;
 use wgsl_standard::callee::Callee;
 use wgsl_standard::operand::Operand;
 use wgsl_types::error::Fail;
@@ -265,14 +267,15 @@ fn write_answer_on(
     }
 }
 
-/// Writes the type of a call, without an answer of all forms.
 #[inline(always)]
 fn write_type(alloc: Global, call: &Call<'_>, text: &mut String) -> Result<(), AllocError>
     ensures { OnOk result (Adds (IsAnswer (asked Question.Type (call_view call.now)))
         (string_bytes text.old) (string_bytes text.new)) }
 {
-    let found = type_of(alloc, call)?;
-    write_type_of(text, call, found)
+    match answer(alloc, Request::Type(call))? {
+        Answer::TypeOf(call, found) => write_type_of(text, call, found),
+        other => write(other, text),
+    }
 }
 
 #[inline(never)]

@@ -2,9 +2,7 @@
 use std::fmt;
 use std::fmt::Write;
 use wgsl_standard::explanation::Note;
-use wgsl_standard::operand::{Operand, OperandType};
 use wgsl_standard::signature::Signature;
-use wgsl_syntax::overload::Dimensions;
 use wgsl_types::tplt::TpltParam;
 use wgsl_types::ty::Type;
 
@@ -27,33 +25,6 @@ impl fmt::Display for Types<'_> {
         write!(f, "{first}")?;
         for ty in rest {
             write!(f, ", {ty}")?;
-        }
-        Ok(())
-    }
-}
-
-/// The types of operands, with a comma between.
-#[derive(Drop)]
-pub(crate) struct OperandTypes<'a>(pub &'a [Operand<'a>]);
-
-impl fmt::Display for OperandTypes<'_> {
-    ghost use Rattle.std.specs.Prelude.{Some};
-    ghost use Rattle.wgsl_rules.specs.types.Signatures.{listed};
-    ghost use Rattle.wgsl_rules.specs.types.Spelling.{spelling};
-    ghost use Rattle.wgsl_standard.specs.Operands.{given_type};
-
-    ghost output = { λ xs. Some (listed (λ x. spelling (given_type x.ty)) (xs.0.now)) };
-
-    fn fmt<W: Write>(&self, f: &mut fmt::Formatter<W>) -> fmt::Result {
-        let Some((first, rest)) = self.0.split_first() else {
-            return Ok(());
-        };
-        write!(f, "{}", first.ty)?;
-        for operand in rest {
-            match operand.ty {
-                OperandType::Value(Dimensions::Single, scalar) => write!(f, ", {scalar}")?,
-                ty => write!(f, ", {ty}")?,
-            }
         }
         Ok(())
     }

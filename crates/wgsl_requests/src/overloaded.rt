@@ -1,16 +1,17 @@
 // How the answers of WGSL's own overloads are written.
 ghost use Rattle.std.specs.Prelude.{◌≡◌, ◌++◌, OnOk, map, option_map, string_bytes};
-ghost use Rattle.wgsl_rules.specs.types.Signatures.{template_text};
+ghost use Rattle.wgsl_rules.specs.types.Signatures.{listed, template_text};
 ghost use Rattle.wgsl_rules.specs.types.Spelling.{spelling};
 ghost use Rattle.wgsl_core.specs.Instances.{parameter_view};
 ghost use Rattle.wgsl_core.specs.View.{view};
+ghost use Rattle.wgsl_standard.specs.Operands.{given_type};
 ghost use Rattle.wgsl_standard.specs.Resolved.{resolved_view};
 ghost use Rattle.wgsl_standard.specs.Results.{result_view};
 ghost use Rattle.wgsl_standard.specs.Texts.{callee_text, line_of, note_text};
 ghost use Rattle.wgsl_asked.specs.StandardViews.{call_view};
 ghost use Rattle.wgsl_requests.specs.Texts.{lines_text, no_overload_text, or_no_overload, resolution_text, result_text, value_text};
 
-use crate::lists::{Notes, OperandTypes, Parameters, Signatures, Types};
+use crate::lists::{Notes, Parameters, Signatures, Types};
 use crate::write::{write_resolved, write_type};
 use std::alloc::AllocError;
 use wgsl_asked::answers::unbuilt;
@@ -18,6 +19,7 @@ use wgsl_asked::requests::Call;
 use wgsl_standard::callee::Callee;
 use wgsl_standard::explanation::Note;
 use wgsl_standard::instance::ResultType;
+use wgsl_standard::operand::{Operand, OperandType};
 use wgsl_standard::resolved::ResolvedCall;
 use wgsl_standard::signature::Signature;
 use wgsl_types::tplt::TpltParam;
@@ -101,7 +103,39 @@ fn write_no_overload(text: &mut String, call: &Call<'_>) -> Result<(), AllocErro
     text.push_str("no overload of `")?;
     write_callee(text, call.callee)?;
     write_template(text, call.template)?;
-    write!(text, "` takes ({})", OperandTypes(call.operands))
+    text.push_str("` takes (")?;
+    write_operand_types(text, call.operands)?;
+    text.push(')')
+}
+
+/// Writes the types of operands, with a comma between.
+#[inline(always)]
+fn write_operand_types(text: &mut String, operands: &[Operand<'_>]) -> Result<(), AllocError>
+    ensures { OnOk result (string_bytes text.new ≡ string_bytes text.old
+        ++ listed (λ x. spelling (given_type x.ty)) operands.now) }
+{
+    let Some((first, rest)) = operands.split_first() else {
+        return Ok(());
+    };
+    write_operand_type(text, first.ty)?;
+    for operand in rest {
+        text.push_str(", ")?;
+        write_operand_type(text, operand.ty)?;
+    }
+    Ok(())
+}
+
+#[inline(always)]
+fn write_operand_type(text: &mut String, ty: OperandType<'_>) -> Result<(), AllocError>
+    ensures { OnOk result (string_bytes text.new
+        ≡ string_bytes text.old ++ spelling (given_type ty.entry)) }
+{
+    match ty {
+        OperandType::Value(dimensions, scalar) => {
+            write_resolved(text, unbuilt(dimensions, scalar))
+        }
+        OperandType::Any(ty) => write_type(text, ty),
+    }
 }
 
 fn write_callee(text: &mut String, callee: Callee<'_>) -> Result<(), AllocError>

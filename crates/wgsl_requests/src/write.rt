@@ -7,15 +7,19 @@ ghost use Rattle.wgsl_asked.specs.Answers.{a_type, a_value};
 ghost use Rattle.wgsl_core.specs.internal.Resolution.{element_view, resolved_view};
 ghost use Rattle.wgsl_asked.specs.Views.{answer_view, operands_refusal, outcome};
 ghost use Rattle.wgsl_requests.specs.Layouts.{spaced};
-ghost use Rattle.wgsl_requests.specs.Texts.{answer_text, or_none, value_text};
+ghost use Rattle.wgsl_standard.specs.Results.{result_view};
+ghost use Rattle.wgsl_asked.specs.StandardViews.{call_view};
+ghost use Rattle.wgsl_requests.specs.Texts.{answer_text, or_no_overload, or_none, value_text};
 ghost use Rattle.wgsl_requests.specs.internal.Written.{IsRefusal};
 
 use crate::fast::number::write_number;
-use crate::overloaded::{write_notes, write_resolution_of, write_signatures};
+use crate::overloaded::{write_notes, write_resolution_of, write_signatures, write_type_of};
 use crate::report::write_layout;
 use std::alloc::AllocError;
 use wgsl_asked::answers::{Answer, Operands};
+use wgsl_asked::requests::Call;
 use wgsl_core::operators::resolve::{Element, Extent, ResolvedType};
+use wgsl_standard::instance::ResultType;
 use wgsl_types::error::{Error, Fail};
 use wgsl_types::ty::Type;
 
@@ -39,10 +43,24 @@ pub fn write(answer: Answer<'_>, text: &mut String) -> Result<(), AllocError>
         Answer::Binary(Err(operands)) => write_operands(text, operands),
         Answer::Offsets(offsets) => write_offsets(text, offsets),
         Answer::Layout(structure, layout) => write_layout(text, structure, layout),
+        Answer::TypeOf(call, found) => write_found(text, call, found),
         Answer::Resolution(call, found) => write_resolution_of(text, call, found),
         Answer::Overloads(signatures) => write_signatures(text, signatures),
         Answer::Notes(notes) => write_notes(text, notes),
     }
+}
+
+/// Writes the type of a call.
+#[inline(never)]
+fn write_found(
+    text: &mut String,
+    call: &Call<'_>,
+    found: Option<Option<ResultType>>,
+) -> Result<(), AllocError>
+    ensures { OnOk result (string_bytes text.new ≡ string_bytes text.old
+        ++ or_no_overload value_text (call_view call.now) (option_map (option_map result_view) found)) }
+{
+    write_type_of(text, call, found)
 }
 
 /// Writes a number, or `none`.

@@ -5,7 +5,7 @@ use Rattle.wgsl_rules.specs.calls.Answers.{IsCallAnswer}
 use Rattle.wgsl_core.specs.View.{struct_view, view}
 use Rattle.wgsl_rules.proofs.conversion.Lists.{common_of_list}
 use Rattle.wgsl_asked.specs.Requests.{unary, ctor, call}
-use Rattle.wgsl_asked.specs.Answers.{a_type, a_value, rank_is, common_is, left_common_is, unary_is, binary_is, size_is, offsets_are, layout_is, ctor_is, call_is, resolution_of_is, explanation_of_is, overloads_of_are}
+use Rattle.wgsl_asked.specs.Answers.{a_type, a_value, rank_is, common_is, left_common_is, unary_is, binary_is, size_is, offsets_are, layout_is, ctor_is, call_is, type_of_is, resolution_of_is, explanation_of_is, overloads_of_are}
 use Rattle.wgsl_asked.specs.Views.{callee_view}
 use Rattle.wgsl_asked.proofs.Settled.{settles, offsets_seen, layout_seen}
 use Rattle.wgsl_asked.proofs.ask.answer.Goals as goal
@@ -53,6 +53,9 @@ returns-in_ok-settled-in-Call-clause-answers c =
     let made = callee_view c.in-Call.callee in
     let h = c.in_ok-settled-in-Call in
     rw c.in-Call.is (settles a_value (option_map view) (IsCallAnswer made) (call made) h.field-0 h.ensures.same c.type_builtin_fn-made.ensures.row (λ r d. call_is r d))
+
+pub returns-in_ok-type_of-in-Type-clause-answers : goal.returns-in_ok-type_of-in-Type-clause-answers
+returns-in_ok-type_of-in-Type-clause-answers c = rw c.in-Type.is (type_of_is _ c.in_ok-type_of-in-Type.ensures)
 
 pub returns-in_ok-resolution_of-in-Resolution-clause-answers : goal.returns-in_ok-resolution_of-in-Resolution-clause-answers
 returns-in_ok-resolution_of-in-Resolution-clause-answers c = rw c.in-Resolution.is (resolution_of_is _ c.in_ok-resolution_of-in-Resolution.ensures)

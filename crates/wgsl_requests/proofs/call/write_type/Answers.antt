@@ -1,6 +1,17 @@
+use Rattle.std.proofs.Common.{refl, subst}
+use Rattle.std.specs.Prelude.{option_map}
+use Rattle.wgsl_standard.specs.Results.{result_view}
+use Rattle.wgsl_asked.specs.Answers.{Answers, a_type_of}
+use Rattle.wgsl_asked.specs.Requests.{type_of}
 use Rattle.wgsl_asked.specs.StandardViews.{call_view}
-use Rattle.wgsl_requests.proofs.StandardReplied.{type_written}
+use Rattle.wgsl_asked.specs.Views.{answer_view}
+use Rattle.wgsl_requests.specs.Texts.{or_no_overload, value_text}
+use Rattle.wgsl_requests.proofs.Written.{on_ok}
 use Rattle.wgsl_requests.proofs.call.write_type.Goals as goal
 
-pub returns : goal.returns
-returns c = type_written (call_view c.args.call.now) _ _ _ c.write_type_of.result c.in_ok-found.ensures c.write_type_of.ensures
+pub returns-in-TypeOf : goal.returns-in-TypeOf
+returns-in-TypeOf c =
+    let call = call_view c.in-TypeOf.call.now in
+    let found = option_map (option_map result_view) c.in-TypeOf.found in
+    let answers = subst (λ a. Answers (type_of (call_view c.args.call.now)) (answer_view a)) c.in-TypeOf.is c.in_ok-other.ensures.answers in
+    on_ok c.write_type_of.result (λ e. (or_no_overload value_text call found, (a_type_of call found, answers, refl), e)) c.write_type_of.ensures
