@@ -64,6 +64,14 @@ static void ask_rank(void) {
     scalars(WGSL_SCALAR_ABSTRACT_INT, WGSL_SCALAR_F32);
 }
 
+static void ask_rank_of_vectors(void) {
+    call = wgsl_rank;
+    wgsl_vec(&words, 3);
+    wgsl_scalar(&words, WGSL_SCALAR_ABSTRACT_INT);
+    wgsl_vec(&words, 3);
+    wgsl_scalar(&words, WGSL_SCALAR_F32);
+}
+
 static void ask_sum_of_scalars(void) {
     call = wgsl_binary;
     wgsl_word(&words, WGSL_BINARY_ADDITION);
@@ -83,6 +91,18 @@ static void ask_clamp(void) {
     wgsl_signature(&words, "clamp", 3);
     scalars(WGSL_SCALAR_ABSTRACT_INT, WGSL_SCALAR_F32);
     wgsl_scalar(&words, WGSL_SCALAR_ABSTRACT_FLOAT);
+}
+
+static void ask_negation(void) {
+    call = wgsl_unary;
+    wgsl_word(&words, WGSL_UNARY_NEGATION);
+    wgsl_scalar(&words, WGSL_SCALAR_F32);
+}
+
+static void ask_size(void) {
+    call = wgsl_size;
+    wgsl_vec(&words, 3);
+    wgsl_scalar(&words, WGSL_SCALAR_F32);
 }
 
 static void ask_layout(void) {
@@ -146,9 +166,12 @@ static const struct {
     const char *name;
 } calls[] = {
     {ask_rank, "wgsl_rank: AbstractInt to f32"},
+    {ask_rank_of_vectors, "wgsl_rank: vec3<AbstractInt> to vec3<f32>"},
     {ask_sum_of_scalars, "wgsl_binary: AbstractInt + f32"},
     {ask_sum, "wgsl_binary: AbstractInt + vec3<f32>"},
     {ask_clamp, "wgsl_call: clamp(AbstractInt, f32, AbstractFloat)"},
+    {ask_negation, "wgsl_unary: -f32"},
+    {ask_size, "wgsl_size: vec3<f32>"},
     {ask_layout, "wgsl_layout: struct S { a: f32, b: vec3<f32>, c: f32 }"},
     {resolve_sum, "wgsl_standard_resolve: AbstractInt + f32"},
     {resolve_clamp, "wgsl_standard_resolve: clamp(AbstractInt, f32, AbstractFloat)"},

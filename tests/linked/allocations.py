@@ -2,8 +2,8 @@
 
 A vector that is read or built takes one allocation; the type of a binary expression isn't built. By numbers so do the list
 that `common` reads and the words of a refusal; a name, a list of one argument to three, and the words of a short reply take
-none. In text each list takes one, and so does an answer that is one word or has at most 8 bytes. Other answers of at most 16
-bytes take two.
+none. Two vectors of one length have a rank there, and a vector of i32, u32, f32 or f16 a size, without being read. In text
+each list takes one, and so does an answer that is one word or has at most 8 bytes. Other answers of at most 16 bytes take two.
 
 By WGSL's own overloads nothing is allocated for scalars and vectors of scalars, be they operands or results, nor for the words
 of what a call in numbers resolves to. Why there is none takes three if each overload takes the operands, one more for a name,
@@ -19,6 +19,7 @@ from wgsl.values import SCALARS, Scalar, Vector
 CONSTRUCTORS = "bool i32 u32 f32 f16 vec2 vec3 vec4".split()
 FUNCTIONS = """abs all any atan2 clamp countOneBits cross distance dot extractBits fma insertBits length max min mix
 normalize pow reflect select sign smoothstep sqrt step""".split()
+MEASURED = {"i32", "u32", "f32", "f16"}
 VECTOR = 3
 
 
@@ -54,7 +55,11 @@ def short_question(rng):
 def by_numbers(name, types, status, reply):
     """How often a call by numbers allocates, or None for a refusal that holds copies of its types."""
     read = vectors(types)
-    if name in ("rank", "size", "common"):
+    if name == "size":
+        return sum(t.element.name not in MEASURED for t in types if isinstance(t, Vector))
+    if name == "rank" and read == 2 and types[0].count == types[1].count:
+        return 0
+    if name in ("rank", "common"):
         return read + (name == "common")
     if name == "binary":
         return read + (status == 1)

@@ -55,13 +55,13 @@ impl Call<u32, u32, 12> {
     pub(crate) const RANK: Self = Call(wgsl_rank);
     pub(crate) const UNARY: Self = Call(wgsl_unary);
     pub(crate) const BINARY: Self = Call(wgsl_binary);
+    pub(crate) const SIZE: Self = Call(wgsl_size);
 }
 
 impl Call<u32, u32> {
     pub(crate) const COMMON: Self = Call(wgsl_common);
     pub(crate) const CONSTRUCTOR: Self = Call(wgsl_constructor);
     pub(crate) const FUNCTION: Self = Call(wgsl_call);
-    pub(crate) const SIZE: Self = Call(wgsl_size);
     pub(crate) const LAYOUT: Self = Call(wgsl_layout);
     pub(crate) const RESOLVE: Self = Call(wgsl_standard_resolve);
     pub(crate) const OVERLOADS: Self = Call(wgsl_standard_overloads);

@@ -16,7 +16,7 @@ use crate::hand_over_words::{hand_over_reply, hand_over_word};
 use std::alloc::Global;
 use wgsl_coded::{
     ShortWords, binary, binary_of_scalars, call, call_of_scalars, common, constructor, layout,
-    rank, rank_of_scalars, size, unary,
+    rank, rank_of_values, size, size_of_value, unary, unary_of_scalar,
 };
 
 /// The rank of the conversion from one type to another.
@@ -27,7 +27,7 @@ pub extern "C" fn wgsl_rank(alloc: Global, request: &[u32], room: &mut [u32], le
     ensures room { IsRoomKept room.old room.new len.new result }
     ensures never_out_of_memory { IsSomeAnd (rank_request request.now) NeedsNoMemory → result ≢ 3 }
 {
-    match rank_of_scalars(request) {
+    match rank_of_values(request) {
         Some(Some(rank)) => hand_over_word(rank, room, len),
         Some(None) => hand_over_items(RULED_OUT, &[], room, len),
         None => rank_of_types(alloc, request, room, len),
@@ -70,6 +70,20 @@ pub extern "C" fn wgsl_unary(
     room: &mut [u32],
     len: &mut usize,
 ) -> u8
+    ensures reply { (reply : Result ReplyWords (Fail Unreadable)) × IsUnaryReply request.now reply
+        × IsHandedReply reply room.old room.new len.new result }
+    ensures room { IsRoomKept room.old room.new len.new result }
+    ensures never_out_of_memory { IsSomeAnd (unary_request request.now) NeedsNoMemory → result ≢ 3 }
+{
+    match unary_of_scalar(alloc, request) {
+        Some(word) => hand_over_word(word, room, len),
+        None => unary_of_type(alloc, request, room, len),
+    }
+}
+
+/// The same, of any type.
+#[inline(never)]
+fn unary_of_type(alloc: Global, request: &[u32], room: &mut [u32], len: &mut usize) -> u8
     ensures reply { (reply : Result ReplyWords (Fail Unreadable)) × IsUnaryReply request.now reply
         × IsHandedReply reply room.old room.new len.new result }
     ensures room { IsRoomKept room.old room.new len.new result }
@@ -156,6 +170,20 @@ fn call_of_types(alloc: Global, request: &[u32], room: &mut [u32], len: &mut usi
 /// The size and the alignment of a type.
 #[unsafe(no_mangle)]
 pub extern "C" fn wgsl_size(alloc: Global, request: &[u32], room: &mut [u32], len: &mut usize) -> u8
+    ensures reply { (reply : Result ReplyWords (Fail Unreadable)) × IsSizeReply request.now reply
+        × IsHandedReply reply room.old room.new len.new result }
+    ensures room { IsRoomKept room.old room.new len.new result }
+    ensures never_out_of_memory { IsSomeAnd (size_request request.now) NeedsNoMemory → result ≢ 3 }
+{
+    match size_of_value(request) {
+        Some(words) => hand_over_items(ANSWERED, &words, room, len),
+        None => size_of_type(alloc, request, room, len),
+    }
+}
+
+/// The same, of any type.
+#[inline(never)]
+fn size_of_type(alloc: Global, request: &[u32], room: &mut [u32], len: &mut usize) -> u8
     ensures reply { (reply : Result ReplyWords (Fail Unreadable)) × IsSizeReply request.now reply
         × IsHandedReply reply room.old room.new len.new result }
     ensures room { IsRoomKept room.old room.new len.new result }

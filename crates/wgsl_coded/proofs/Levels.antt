@@ -67,6 +67,20 @@ two_scalars (v ∷ []) s t h e k = absurd (omega (arith, h))
 two_scalars (v ∷ w ∷ []) s t h e k = of_two v w s t e k
 two_scalars (v ∷ w ∷ x ∷ ws) s t h e k = absurd (omega (arith, h))
 
+-- four words are two vectors, if the first and the third are one word
+pub two_vectors : (ws : List ℕ) (n : ℕ) (s t : Scalar) → length ws ≡ 4 → get_or ws 0 0 ≡ get_or ws 2 0 → head_at (get_or ws 0 0) ≡ Some (Around (arounds.Vec n)) →
+    head_at (get_or ws 1 0) ≡ Some (Leaf (leaf.Scalar s)) → head_at (get_or ws 3 0) ≡ Some (Leaf (leaf.Scalar t)) → two_types ws ≡ Some (vec n (scalar s), vec n (scalar t))
+unfolding decoded
+two_vectors (v ∷ a ∷ w ∷ b ∷ []) n s t len same h e k =
+    let first : decode 255 (v ∷ a ∷ w ∷ b ∷ []) ≡ Some (vec n (scalar s), w ∷ b ∷ []) = vector_at 255 (v ∷ a ∷ w ∷ b ∷ []) (a ∷ w ∷ b ∷ []) n s (omega arith) refl (omega arith) h (omega arith) e in
+    let second : decode 255 (w ∷ b ∷ []) ≡ Some (vec n (scalar t), []) = vector_at 255 (w ∷ b ∷ []) (b ∷ []) n t (omega arith) refl (omega arith) (ap head_at (sym same) ∙ h) (omega arith) k in
+    rw (first, second) refl
+two_vectors [] n s t len same h e k = absurd (omega (arith, len))
+two_vectors (v ∷ []) n s t len same h e k = absurd (omega (arith, len))
+two_vectors (v ∷ a ∷ []) n s t len same h e k = absurd (omega (arith, len))
+two_vectors (v ∷ a ∷ w ∷ []) n s t len same h e k = absurd (omega (arith, len))
+two_vectors (v ∷ a ∷ w ∷ b ∷ x ∷ ws) n s t len same h e k = absurd (omega (arith, len))
+
 pub no_level : (d : ℕ) (ws : List ℕ) → d ≡ 0 → decode d ws ≡ None
 unfolding decode
 no_level d ws e = rw e refl

@@ -13,6 +13,7 @@ pub mod ShortNames
 pub mod PlainHeads
 pub mod PlainMemory
 pub mod LaidOut
+pub mod Measured
 pub mod Scalars
 pub mod InOrder
 pub mod InSequence

@@ -1,11 +1,11 @@
 // The layout of a struct is found while its members are read, and scalars and vectors are measured without a type: 869
-// instructions of 3868 for three members.
+// instructions of 3868 for three members, and 106 of 551 for a vector alone.
 ghost use Rattle.std.specs.Prelude.{IfOk, IfSome, Ok};
 ghost use Rattle.wgsl_rules.specs.layout.Layout.{HasAlignment, HasSize, IsGiven};
 ghost use Rattle.wgsl_rules.specs.types.Types.{WgslType};
 ghost use Rattle.wgsl_rules.specs.standard.Overloads.{type_with};
 ghost use Rattle.wgsl_coded.specs.Layouts.{AreLaidOut, HasExtent, IsSizedMember, IsSizedType, IsSizedValue, IsStructHead, IsUnit};
-ghost use Rattle.wgsl_coded.specs.Replies.{IsLayoutReply, answered};
+ghost use Rattle.wgsl_coded.specs.Replies.{IsLayoutReply, IsSizeReply, answered};
 
 use crate::coded::DEPTH;
 use crate::fast::values::read_vector_or_scalar;
@@ -26,6 +26,19 @@ use wgsl_syntax::scalar::Scalar;
 struct Extent {
     size: u32,
     align: u32,
+}
+
+/// The words of the size and the alignment of a scalar or a vector of scalars; None if the request is another type, or they
+/// aren't known here.
+#[inline(always)]
+pub fn size_of_value(request: &[u32]) -> Option<[u32; 4]>
+    ensures { IfSome result (λ words. IsSizeReply request.now (Ok (answered words))) }
+{
+    let (dimensions, scalar, []) = read_vector_or_scalar(request)? else {
+        return None;
+    };
+    let extent = extent_of(dimensions, scalar)?;
+    Some([1, extent.size, 1, extent.align])
 }
 
 /// The words of a struct's layout; None if it has none, if a name isn't ASCII, or if the words are no struct.

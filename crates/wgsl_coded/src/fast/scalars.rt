@@ -1,6 +1,6 @@
-// What is asked of scalars alone, where the reply has a fixed number of words. No type is read, and no room is made for other
-// replies. The rank of two takes 78 instructions of 153, `+` 371 of 486, and by WGSL's own overloads 445 of 833; `clamp` of
-// three takes 698 of 1016.
+// What is asked of scalars alone, and the rank of vectors, where the reply has a fixed number of words. No type is read, and no
+// room is made for other replies. The rank of two scalars takes 79 instructions of 153, and of two vectors 84 of about 800; `-`
+// takes 229 of 393, `+` 371 of 486, and by WGSL's own overloads 445 of 833; `clamp` of three takes 694 of 1016.
 ghost use Rattle.std.specs.Prelude.{◌≡◌, ◌∷◌, [], IfSome, List, Ok, Some, map, option_map, ℕ};
 ghost use Rattle.wgsl_rules.specs.codes.Codes.{code};
 ghost use Rattle.wgsl_rules.specs.standard.Choice.{Operand as WgslOperand, parameter_for as parameter_there, parameters_for, result_for as result_there};
@@ -11,23 +11,25 @@ ghost use Rattle.wgsl_core.specs.View.{view};
 ghost use Rattle.wgsl_core.specs.internal.Resolution.{resolution_view, resolved_view};
 ghost use Rattle.wgsl_standard.specs.Callees.{a_binary};
 ghost use Rattle.wgsl_standard.specs.Operands.{operand_view};
-ghost use Rattle.wgsl_asked.specs.Requests.{call, candidate, rank, resolution_of};
+ghost use Rattle.wgsl_asked.specs.Requests.{call, candidate, rank, resolution_of, unary};
 ghost use Rattle.wgsl_asked.specs.StandardViews.{written_view};
 ghost use Rattle.wgsl_coded.specs.Callees.{arguments_at, asked_of, call_of};
 ghost use Rattle.wgsl_coded.specs.PlainCalls.{IsResolvedWords, operands_at, plain_call, resolution_in};
-ghost use Rattle.wgsl_coded.specs.Replies.{IsBinaryReply, IsCallReply, IsRankReply, IsReplyTo, IsResolveReply, answered, candidate_words, optional_code, resolution_words, words_or_none};
+ghost use Rattle.wgsl_coded.specs.Replies.{IsBinaryReply, IsCallReply, IsRankReply, IsReplyTo, IsResolveReply, IsUnaryReply, answered, candidate_words, optional_code, resolution_words, words_or_none};
 ghost use Rattle.wgsl_coded.specs.StandardCalls.{operand_at};
 ghost use Rattle.wgsl_coded.specs.declared.calls.Kind.TheVariants.{Function};
 
 use crate::fast::callees::read_binary_call;
 use crate::fast::plain::read_plain_head;
 use crate::fast::values::{is_abstract, is_said};
-use crate::heads::{read_scalar, word_of_head};
-use crate::requests::{read_binary_operator, read_two_scalars};
+use crate::heads::{read_scalar, read_vector_head, word_of_head};
+use crate::requests::{read_binary_operator, read_two_scalars, read_unary_operator};
+use std::alloc::Global;
 use std::mem::forget;
 use wgsl_calls::call::scalar_of_builtin_fn;
 use wgsl_core::conversion::scalar_rank;
 use wgsl_core::operators::resolve::{Element, Extent, Resolution, ResolvedType, resolve_operator};
+use wgsl_core::operators::type_unary_op;
 use wgsl_core::ty::Type;
 use wgsl_standard::instance::value_in;
 use wgsl_standard::operand::{Operand, OperandType};
@@ -35,18 +37,35 @@ use wgsl_standard::operators::binary_overloads;
 use wgsl_standard::overload::{parameters_of, result_of};
 use wgsl_standard::resolve::resolve;
 use wgsl_syntax::code::{Head, LeafType};
-use wgsl_syntax::operator::BinaryOperator;
+use wgsl_syntax::operator::{BinaryOperator, UnaryOperator};
 use wgsl_syntax::overload::{Dimensions, Instance, Overload, Parameters, Pattern, Returns};
 use wgsl_syntax::scalar::Scalar;
 
-/// The rank of the conversion from one scalar to another, or the refusal without words; None if the request isn't two
-/// scalars.
+/// The rank of the conversion from one scalar to another, or from a vector of scalars to one as long, or the refusal without
+/// words; None if the request is two other types.
 #[inline(always)]
-pub fn rank_of_scalars(request: &[u32]) -> Option<Option<u32>>
+pub fn rank_of_values(request: &[u32]) -> Option<Option<u32>>
     ensures { IfSome result (λ found. IsRankReply request.now (Ok (words_or_none (λ word. word ∷ []) found))) }
 {
-    let (source, target) = read_two_scalars(request)?;
-    Some(rank_of(source, target))
+    match read_two_scalars(request) {
+        Some((source, target)) => Some(rank_of(source, target)),
+        None => rank_of_vectors(request),
+    }
+}
+
+#[inline(always)]
+fn rank_of_vectors(request: &[u32]) -> Option<Option<u32>>
+    ensures { IfSome result (λ found. IsRankReply request.now (Ok (words_or_none (λ word. word ∷ []) found))) }
+{
+    let [from, source, to, target] = request else {
+        return None;
+    };
+    if from != to {
+        return None;
+    }
+    read_vector_head(*from)?;
+    let (source, target) = (read_scalar(*source)?, read_scalar(*target)?);
+    Some(scalar_rank(source, target))
 }
 
 #[inline(always)]
@@ -55,6 +74,35 @@ fn rank_of(source: Scalar, target: Scalar) -> Option<u32>
         (Ok (words_or_none (λ word. word ∷ []) result)) }
 {
     scalar_rank(source, target)
+}
+
+/// The word of the scalar that a unary operator gives for a scalar; None if the request isn't such an operator and a scalar, or
+/// the operator doesn't take it.
+#[inline(always)]
+pub fn unary_of_scalar(alloc: Global, request: &[u32]) -> Option<u32>
+    ensures { IfSome result (λ word. IsUnaryReply request.now (Ok (answered (word ∷ [])))) }
+{
+    let (operator, [word]) = read_unary_operator(request)? else {
+        return None;
+    };
+    word_of_unary(alloc, operator, read_scalar(*word)?)
+}
+
+/// The word of the type that it has for a scalar; neither type owns anything.
+#[inline(always)]
+fn word_of_unary(alloc: Global, operator: UnaryOperator, of: Scalar) -> Option<u32>
+    ensures { IfSome result (λ word. IsReplyTo (Some (unary operator (scalar of)))
+        (Ok (answered (word ∷ [])))) }
+{
+    let operand = Type::from(of);
+    let made = type_unary_op(alloc, operator, &operand);
+    forget(operand);
+    let Ok(ty) = made else {
+        return None;
+    };
+    let word = word_of_scalar_type(&ty);
+    forget(ty);
+    word
 }
 
 /// The words of the candidate of a binary operator that takes two scalars; None if the request isn't such an operator and
@@ -182,10 +230,18 @@ fn word_of_resolved(ty: ResolvedType<'_>) -> Option<u32>
     match ty.extent {
         Extent::Single => match ty.element {
             Element::Scalar(scalar) => Some(word_of_scalar(scalar)),
-            Element::Type(ty) => Some(word_of_scalar(ty.scalar()?)),
+            Element::Type(ty) => word_of_scalar_type(ty),
         },
         _ => None,
     }
+}
+
+/// The code of a type, if it is a scalar.
+#[inline(always)]
+fn word_of_scalar_type(ty: &Type) -> Option<u32>
+    ensures { IfSome result (λ word. code (view ty.now) ≡ word ∷ []) }
+{
+    Some(word_of_scalar(ty.scalar()?))
 }
 
 /// The code of a scalar.
