@@ -267,6 +267,7 @@ fn write_answer_on(
     }
 }
 
+/// Writes the type of a call. It is written here, as a part of the caller, and not by `write`, which knows all forms.
 #[inline(always)]
 fn write_type(alloc: Global, call: &Call<'_>, text: &mut String) -> Result<(), AllocError>
     ensures { OnOk result (Adds (IsAnswer (asked Question.Type (call_view call.now)))

@@ -50,7 +50,7 @@ pub fn write(answer: Answer<'_>, text: &mut String) -> Result<(), AllocError>
     }
 }
 
-/// Writes the type of a call.
+/// Writes the type of a call, never as a part of `write`, which stands in each command.
 #[inline(never)]
 fn write_found(
     text: &mut String,

@@ -53,6 +53,7 @@ pub fn rank_of_values(request: &[u32]) -> Option<Option<u32>>
     }
 }
 
+/// The same of vectors alone.
 #[inline(always)]
 fn rank_of_vectors(request: &[u32]) -> Option<Option<u32>>
     ensures { IfSome result (λ found. IsRankReply request.now (Ok (words_or_none (λ word. word ∷ []) found))) }
