@@ -2,3 +2,4 @@
 pub mod line_feeds;
 pub mod marks;
 pub mod number;
+pub mod scalar;

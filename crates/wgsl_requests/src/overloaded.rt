@@ -11,6 +11,7 @@ ghost use Rattle.wgsl_standard.specs.Texts.{callee_text, line_of, note_text};
 ghost use Rattle.wgsl_asked.specs.StandardViews.{call_view};
 ghost use Rattle.wgsl_requests.specs.Texts.{lines_text, no_overload_text, or_no_overload, resolution_text, result_text, value_text};
 
+use crate::fast::scalar::write_scalar;
 use crate::lists::{Notes, Parameters, Signatures, Types};
 use crate::write::{write_resolved, write_type};
 use std::alloc::AllocError;
@@ -22,6 +23,7 @@ use wgsl_standard::instance::ResultType;
 use wgsl_standard::operand::{Operand, OperandType};
 use wgsl_standard::resolved::ResolvedCall;
 use wgsl_standard::signature::Signature;
+use wgsl_syntax::overload::Dimensions;
 use wgsl_types::tplt::TpltParam;
 use wgsl_types::ty::Type;
 
@@ -131,6 +133,7 @@ fn write_operand_type(text: &mut String, ty: OperandType<'_>) -> Result<(), Allo
         ≡ string_bytes text.old ++ spelling (given_type ty.entry)) }
 {
     match ty {
+        OperandType::Value(Dimensions::Single, scalar) => write_scalar(text, scalar),
         OperandType::Value(dimensions, scalar) => {
             write_resolved(text, unbuilt(dimensions, scalar))
         }
