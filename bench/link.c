@@ -59,6 +59,11 @@ static void scalars(int a, int b) {
     wgsl_scalar(&words, b);
 }
 
+static void vector(int components, int of) {
+    wgsl_vec(&words, components);
+    wgsl_scalar(&words, of);
+}
+
 static void ask_rank(void) {
     call = wgsl_rank;
     scalars(WGSL_SCALAR_ABSTRACT_INT, WGSL_SCALAR_F32);
@@ -66,10 +71,8 @@ static void ask_rank(void) {
 
 static void ask_rank_of_vectors(void) {
     call = wgsl_rank;
-    wgsl_vec(&words, 3);
-    wgsl_scalar(&words, WGSL_SCALAR_ABSTRACT_INT);
-    wgsl_vec(&words, 3);
-    wgsl_scalar(&words, WGSL_SCALAR_F32);
+    vector(3, WGSL_SCALAR_ABSTRACT_INT);
+    vector(3, WGSL_SCALAR_F32);
 }
 
 static void ask_sum_of_scalars(void) {
@@ -82,8 +85,7 @@ static void ask_sum(void) {
     call = wgsl_binary;
     wgsl_word(&words, WGSL_BINARY_ADDITION);
     wgsl_scalar(&words, WGSL_SCALAR_ABSTRACT_INT);
-    wgsl_vec(&words, 3);
-    wgsl_scalar(&words, WGSL_SCALAR_F32);
+    vector(3, WGSL_SCALAR_F32);
 }
 
 static void ask_clamp(void) {
@@ -101,8 +103,7 @@ static void ask_negation(void) {
 
 static void ask_size(void) {
     call = wgsl_size;
-    wgsl_vec(&words, 3);
-    wgsl_scalar(&words, WGSL_SCALAR_F32);
+    vector(3, WGSL_SCALAR_F32);
 }
 
 static void ask_layout(void) {
@@ -111,8 +112,7 @@ static void ask_layout(void) {
     wgsl_member(&words, "a");
     wgsl_scalar(&words, WGSL_SCALAR_F32);
     wgsl_member(&words, "b");
-    wgsl_vec(&words, 3);
-    wgsl_scalar(&words, WGSL_SCALAR_F32);
+    vector(3, WGSL_SCALAR_F32);
     wgsl_member(&words, "c");
     wgsl_scalar(&words, WGSL_SCALAR_F32);
 }
@@ -143,8 +143,7 @@ static void resolve_clamp_of_vectors(void) {
     wgsl_call_of(&words, WGSL_CALLEE_FUNCTION, "clamp", 3);
     for (int k = 0; k < 3; k++) {
         wgsl_operand(&words, 0);
-        wgsl_vec(&words, 3);
-        wgsl_scalar(&words, WGSL_SCALAR_F32);
+        vector(3, WGSL_SCALAR_F32);
     }
 }
 
@@ -156,8 +155,7 @@ static void resolve_sample(void) {
     wgsl_operand(&words, 0);
     wgsl_sampler(&words, WGSL_SAMPLER_PLAIN);
     wgsl_operand(&words, 0);
-    wgsl_vec(&words, 2);
-    wgsl_scalar(&words, WGSL_SCALAR_F32);
+    vector(2, WGSL_SCALAR_F32);
 }
 
 /* The calls in numbers, and what each asks. */
