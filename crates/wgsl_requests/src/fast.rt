@@ -2,4 +2,3 @@
 pub mod line_feeds;
 pub mod marks;
 pub mod number;
-pub mod scalar;

@@ -11,7 +11,6 @@ ghost use Rattle.wgsl_standard.specs.Texts.{callee_text, line_of, note_text};
 ghost use Rattle.wgsl_asked.specs.StandardViews.{call_view};
 ghost use Rattle.wgsl_requests.specs.Texts.{lines_text, no_overload_text, or_no_overload, resolution_text, result_text, value_text};
 
-use crate::fast::scalar::write_scalar;
 use crate::lists::{Notes, Parameters, Signatures, Types};
 use crate::write::{write_resolved, write_type};
 use std::alloc::AllocError;
@@ -127,17 +126,15 @@ fn write_operand_types(text: &mut String, operands: &[Operand<'_>]) -> Result<()
     Ok(())
 }
 
+/// Writes the type of an operand, a scalar without a formatter.
 #[inline(always)]
 fn write_operand_type(text: &mut String, ty: OperandType<'_>) -> Result<(), AllocError>
     ensures { OnOk result (string_bytes text.new
         ≡ string_bytes text.old ++ spelling (given_type ty.entry)) }
 {
     match ty {
-        OperandType::Value(Dimensions::Single, scalar) => write_scalar(text, scalar),
-        OperandType::Value(dimensions, scalar) => {
-            write_resolved(text, unbuilt(dimensions, scalar))
-        }
-        OperandType::Any(ty) => write_type(text, ty),
+        OperandType::Value(Dimensions::Single, scalar) => text.push_str(scalar.name()),
+        _ => write!(text, "{ty}"),
     }
 }
 

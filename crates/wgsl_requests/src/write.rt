@@ -13,7 +13,6 @@ ghost use Rattle.wgsl_requests.specs.Texts.{answer_text, or_no_overload, or_none
 ghost use Rattle.wgsl_requests.specs.internal.Written.{IsRefusal};
 
 use crate::fast::number::write_number;
-use crate::fast::scalar::write_scalar;
 use crate::overloaded::{write_notes, write_resolution_of, write_signatures, write_type_of};
 use crate::report::write_layout;
 use std::alloc::AllocError;
@@ -104,7 +103,7 @@ fn write_element(text: &mut String, element: Element<'_>) -> Result<(), AllocErr
         ≡ string_bytes text.old ++ spelling (element_view element.entry)) }
 {
     match element {
-        Element::Scalar(scalar) => write_scalar(text, scalar),
+        Element::Scalar(scalar) => text.push_str(scalar.name()),
         Element::Type(ty) => write_type(text, ty),
     }
 }

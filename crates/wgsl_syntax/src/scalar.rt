@@ -32,18 +32,7 @@ impl fmt::Display for Scalar {
     ghost styled_output = { λ x _. Some (scalar_text x) };
 
     fn fmt<W: Write>(&self, f: &mut fmt::Formatter<W>) -> fmt::Result {
-        f.write_str(match self {
-            Scalar::Bool => "bool",
-            Scalar::AbstractInt => "AbstractInt",
-            Scalar::AbstractFloat => "AbstractFloat",
-            Scalar::I32 => "i32",
-            Scalar::U32 => "u32",
-            Scalar::F32 => "f32",
-            Scalar::F16 => "f16",
-            Scalar::I64 => "i64",
-            Scalar::U64 => "u64",
-            Scalar::F64 => "f64",
-        })
+        f.write_str(self.name())
     }
 }
 
@@ -110,6 +99,24 @@ impl Scalar {
         ensures { result ≡ slice_get scalars index }
     {
         by_index(&Scalar::ALL, index)
+    }
+
+    /// The name, for example `f32`.
+    pub fn name(self) -> &'static str
+        ensures { result.now ≡ scalar_text self }
+    {
+        match self {
+            Scalar::Bool => "bool",
+            Scalar::AbstractInt => "AbstractInt",
+            Scalar::AbstractFloat => "AbstractFloat",
+            Scalar::I32 => "i32",
+            Scalar::U32 => "u32",
+            Scalar::F32 => "f32",
+            Scalar::F16 => "f16",
+            Scalar::I64 => "i64",
+            Scalar::U64 => "u64",
+            Scalar::F64 => "f64",
+        }
     }
 
     /// Whether it is an integer (WGSL, "Integer Types"), concrete or abstract.
