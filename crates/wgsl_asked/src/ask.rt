@@ -40,7 +40,10 @@ pub fn answer<'r>(alloc: Global, request: Request<'r>) -> Result<Answer<'r>, All
         Request::Binary(operator, lhs, rhs) => {
             Ok(Answer::Binary(resolved_type(operator, lhs, rhs)))
         }
-        Request::Size(ty) => Ok(Answer::Size(ty.size_of(), ty.align_of())),
+        Request::Size(ty) => {
+            let (size, align) = ty.size_and_align_of();
+            Ok(Answer::Size(size, align))
+        }
         Request::Offsets(structure) => Ok(Answer::Offsets(structure.offsets(alloc)?)),
         Request::Layout(structure) => { Ok(Answer::Layout(structure, structure.layout(alloc)?)) }
         Request::Constructor(callee) => {

@@ -84,7 +84,16 @@ impl Type {
         self.measure().align
     }
 
-    /// It is inlined, so that a scalar is measured without a call.
+    /// What `size_of` and `align_of` return, in one walk over the type.
+    pub fn size_and_align_of(&self) -> (Option<u32>, Option<u32>)
+        ensures size { IsExactly result.0 (HasSize (view self.now)) }
+        ensures align { IsExactly result.1 (HasAlignment (view self.now)) }
+    {
+        let measure = self.measure();
+        (measure.size, measure.align)
+    }
+
+    /// It is inlined, so that a scalar is measured without a call, and a vector with one.
     #[cycle(measure)]
     #[inline(always)]
     #[tactic(auto, using(crate::proofs::Scalars::scalar_is))]
@@ -93,7 +102,10 @@ impl Type {
     {
         match self.scalar() {
             Some(scalar) => measure_of_scalar(scalar),
-            None => self.measure_of_others(),
+            None => match self {
+                Type::Vec(n, ty) => vector_measure(*n, ty),
+                _ => self.measure_of_others(),
+            },
         }
     }
 
@@ -358,6 +370,7 @@ fn member_offsets(alloc: Global, members: &[PlacedMember]) -> Result<Vec<u32>, A
 
 impl StructMemberType {
     #[cycle(measure)]
+    #[inline(always)]
     fn measure(&self) -> Measure
         ensures size { let m = member_view self.now in
             IsExactly result.size (IsGiven m.size (HasSize m.ty)) }

@@ -263,7 +263,7 @@ pub fn type_binary_op(
     }
 }
 
-#[inline(never)]
+#[inline(always)]
 fn refuse_binary(
     alloc: Global,
     operator: BinaryOperator,

@@ -20,7 +20,7 @@ pub returns-in-LeftCommon-clause-answers : goal.returns-in-LeftCommon-clause-ans
 returns-in-LeftCommon-clause-answers c = rw c.in-LeftCommon.is (left_common_is _ (common_of_list _ _ c.common_of.ensures))
 
 pub returns-in-Size-clause-answers : goal.returns-in-Size-clause-answers
-returns-in-Size-clause-answers c = rw c.in-Size.is (size_is _ _ c.size_of.ensures.exact c.align_of.ensures)
+returns-in-Size-clause-answers c = rw c.in-Size.is (size_is _ _ c.size_and_align_of-size.ensures.size c.size_and_align_of-size.ensures.align)
 
 pub returns-in_ok-settled-in-Unary-clause-answers : goal.returns-in_ok-settled-in-Unary-clause-answers
 returns-in_ok-settled-in-Unary-clause-answers c =
