@@ -4,7 +4,7 @@ ghost use Rattle.wgsl_rules.specs.types.Types.{scalar};
 ghost use Rattle.wgsl_rules.specs.conversion.Concrete.{concretized};
 ghost use Rattle.wgsl_rules.specs.errors.Refusals.{signature};
 ghost use Rattle.wgsl_rules.specs.calls.ResultTypes.{exchange_struct};
-ghost use Rattle.wgsl_rules.specs.calls.Rows.{IsResultFor, IsFromTemplate, IsReturnType, return_type_of as return_type_of_row};
+ghost use Rattle.wgsl_rules.specs.calls.Rows.{IsResultFor, IsFromTemplate, IsReturnType, given, return_type_of as return_type_of_row};
 ghost use Rattle.wgsl_rules.specs.templates.Templates.{IsBitcastTemplate};
 ghost use Rattle.wgsl_rules.specs.calls.Table.{call_table, rows_named};
 ghost use Rattle.wgsl_rules.specs.calls.Answers.{IsCallAnswer, IsLeastCallAnswer, IsLeafCall};
@@ -14,7 +14,7 @@ ghost use Rattle.wgsl_core.specs.internal.Resolution.{element_view, resolved_vie
 ghost use Rattle.wgsl_core.specs.ResultStruct.{result_type};
 ghost use Rattle.wgsl_core.specs.Answer.{AnswersBy, AnswersAs, IsAnswered};
 ghost use Rattle.wgsl_calls.specs.internal.Rows.{rows_view};
-ghost use Rattle.wgsl_calls.specs.internal.Answers.{signature_of, template_of, Chooses, IsBuilt, IsMet, Answered};
+ghost use Rattle.wgsl_calls.specs.internal.Answers.{signature_of, template_of, Chooses, IsBuilt, IsMet, IsOfArguments, Answered};
 ghost use Rattle.wgsl_rules.specs.conversion.Conversion.{IsValueType};
 ghost use Rattle.wgsl_rules.specs.operators.Candidates.{Name};
 ghost use Rattle.wgsl_rules.specs.Laws.{OneChoice};
@@ -73,6 +73,21 @@ pub fn type_builtin_fn(
             args,
         },
     )
+}
+
+/// The type that a call without a template returns, not built yet. None if it is none of its arguments' types and isn't
+/// made of one, if the call returns no value, and if it is refused.
+pub fn unbuilt_of_builtin_fn<'a>(name: &'a str, args: &'a [Type]) -> Option<ResolvedType<'a>>
+    ensures { IfSome result (λ t. IsCallAnswer (call_view name.now None args.now)
+        (Ok (Some (resolved_view t)))) }
+{
+    let call = Call {
+        name,
+        template: None,
+        args,
+    };
+    let return_type = chosen(&call)?;
+    resolved(return_type, &call)
 }
 
 /// The scalar that a call without a template returns; None if it returns another type or no value, and if it is refused.
@@ -183,6 +198,24 @@ fn by_return_type(
     match built {
         Some(built) => Ok(Some(built?)),
         None => refuse(alloc, call),
+    }
+}
+
+/// The type that is returned, if it is an argument's or is made of one.
+#[inline(always)]
+fn resolved<'a>(return_type: ReturnType, call: &Call<'a>) -> Option<ResolvedType<'a>>
+    ensures given { IsOfArguments return_type → IsReturnType return_type (signature_of call.now)
+        (given (signature_of call.now) (option_map resolved_view result)) }
+    ensures others { IfSome result (λ t. IsOfArguments return_type) }
+{
+    let args = call.args;
+    match return_type {
+        ReturnType::Of(of) => bare(type_of_source(of, args)),
+        ReturnType::AsLong(of) => as_long(argument(args, 0), type_of_source(of, args)),
+        ReturnType::InVector(n, of) => in_vector(n, type_of_source(of, args)),
+        ReturnType::Transposed => transposed(argument(args, 0)),
+        ReturnType::TextureSize => texture_size(argument(args, 0)),
+        _ => None,
     }
 }
 

@@ -89,6 +89,11 @@ pub leaf_call : (c : Signature) (r : Option WgslType) → IsShortCall c → IsCa
 unfolding IsLeafCall
 leaf_call c r short is h = (short.plain, Ok r, is, leaf_value r h)
 
+pub scalar_returned : (c : Signature) (t : WgslType) (r : Option WgslType) → IsCallAnswer c (Ok r) → IfSome r IsScalar → IsCallAnswer c (Ok (Some t)) → IsScalar t
+scalar_returned c t r is h found =
+    let same : Ok r ≡ Ok (Some t) = call_answer_once c (Ok r) (Ok (Some t)) is found in
+    subst (λ q. IsShortAnswer (a_value q)) same (short_value r h)
+
 pub short_returned : (c : Signature) (made : Result (Option «Type») (Fail Error)) (r : Option WgslType) → IsCallAnswer c (Ok r) → IfSome r IsScalar → IsAnswered made →
     AnswersAs (option_map view) (IsCallAnswer c) made → IsShortAnswer (outcome a_value (option_map view) made)
 short_returned c (Ok x) r is h a answer =

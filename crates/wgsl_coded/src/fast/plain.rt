@@ -1,10 +1,12 @@
 // Calls of a short name with one argument to three and without a template: nothing is allocated for the name and for the
 // list of the arguments, and no request is asked. With short names, `clamp` of three scalars took 1163 instructions of 1795,
-// before scalars had a way of their own.
+// before scalars had a way of their own. What a function returns isn't built where it is an argument's type or made of one:
+// `abs` of a vector takes about 1100 instructions of 1536.
 ghost use Rattle.std.specs.Prelude.{◌≡◌, IfSome, IsSomeAnd, Some, length, map, option_map, take};
 ghost use Rattle.wgsl_rules.specs.types.Signatures.{Signature};
 ghost use Rattle.wgsl_core.specs.View.{view};
 ghost use Rattle.wgsl_core.specs.Answer.{IsAnswered};
+ghost use Rattle.wgsl_asked.specs.Requests.{call};
 ghost use Rattle.wgsl_coded.specs.Callees.{IsPlainHead, arguments_at, asked_of, call_of, request_of};
 ghost use Rattle.wgsl_coded.specs.Replies.{IsReplyTo};
 ghost use Rattle.wgsl_coded.specs.Seen.{reply_words, seen};
@@ -12,6 +14,7 @@ ghost use Rattle.wgsl_coded.specs.Memory.{IsShortCall, NeedsNoMemory};
 ghost use Rattle.wgsl_coded.specs.Requests.{call_signature};
 
 use crate::calls::Kind;
+use crate::candidates::reply_with_resolved;
 use crate::coded::{DEPTH, read_whole};
 use crate::fast::short::ShortWords;
 use crate::fast::short_name::{ShortName, read_short_name};
@@ -21,7 +24,7 @@ use crate::reply::{Reply, reply_with_type, reply_with_value};
 use crate::requests::read_two;
 use crate::unreadable::Unreadable;
 use std::alloc::Global;
-use wgsl_calls::call::type_builtin_fn;
+use wgsl_calls::call::{type_builtin_fn, unbuilt_of_builtin_fn};
 use wgsl_calls::constructor::type_ctor;
 use wgsl_core::error::Fail;
 use wgsl_core::ty::Type;
@@ -130,8 +133,26 @@ fn reply_to_plain(
 {
     match kind {
         Kind::Constructor => reply_with_type(alloc, type_ctor(alloc, name, None, arguments), short),
-        Kind::Function => {
-            reply_with_value(alloc, type_builtin_fn(alloc, name, None, arguments), short)
-        }
+        Kind::Function => reply_to_function(alloc, name, arguments, short),
+    }
+}
+
+/// The reply to a built-in function without a template. What it returns isn't built, if that is an argument's type or is made
+/// of one.
+#[inline(always)]
+fn reply_to_function(
+    alloc: Global,
+    name: &str,
+    arguments: &[Type],
+    short: &mut ShortWords,
+) -> Result<Reply, Fail<Unreadable>>
+    ensures reply { IsReplyTo (Some (call (call_of name.now (map view arguments.now))))
+        (seen (reply_words short.new) result) }
+    ensures never_out_of_memory { NeedsNoMemory (call (call_of name.now (map view arguments.now)))
+        → IsAnswered result }
+{
+    match unbuilt_of_builtin_fn(name, arguments) {
+        Some(returned) => reply_with_resolved(alloc, returned, short),
+        None => reply_with_value(alloc, type_builtin_fn(alloc, name, None, arguments), short),
     }
 }
