@@ -2,8 +2,9 @@
 
 A vector that is read or built takes one allocation; the type of a binary expression isn't built. By numbers so do the list
 that `common` reads and the words of a refusal; a name, a list of one argument to three, and the words of a short reply take
-none. Two vectors of one length have a rank there, and a vector of i32, u32, f32 or f16 a size, without being read. In text
-each list takes one, and so does an answer that is one word or has at most 8 bytes. Other answers of at most 16 bytes take two.
+none. What a function returns is built there only if it is made concrete. Without being read there, two vectors of one length
+have a rank, a vector of i32, u32, f32 or f16 a size, and vectors that a binary operator takes a result, but vectors of bool
+that `|` and `&` take. In text each list takes one, and so does an answer that is one word or has at most 8 bytes. Other answers of at most 16 bytes take two.
 
 By WGSL's own overloads nothing is allocated for scalars and vectors of scalars, be they operands or results, nor for the words
 of what a call in numbers resolves to. Why there is none takes three if each overload takes the operands, one more for a name,
@@ -19,6 +20,7 @@ from wgsl.values import SCALARS, Scalar, Vector
 CONSTRUCTORS = "bool i32 u32 f32 f16 vec2 vec3 vec4".split()
 FUNCTIONS = """abs all any atan2 clamp countOneBits cross distance dot extractBits fma insertBits length max min mix
 normalize pow reflect select sign smoothstep sqrt step""".split()
+CONCRETE = {"countOneBits", "extractBits", "insertBits"}
 MEASURED = {"i32", "u32", "f32", "f16"}
 VECTOR = 3
 
@@ -52,8 +54,13 @@ def short_question(rng):
     return name, given, " ".join([name] + operators[index].split() + spelled), types
 
 
-def by_numbers(name, types, status, reply):
+def are_bools(types):
+    return all(isinstance(t, Vector) and t.element.name == "bool" for t in types)
+
+
+def by_numbers(request, types, status, reply):
     """How often a call by numbers allocates, or None for a refusal that holds copies of its types."""
+    name, called = request.split()[:2]
     read = vectors(types)
     if name == "size":
         return sum(t.element.name not in MEASURED for t in types if isinstance(t, Vector))
@@ -62,8 +69,10 @@ def by_numbers(name, types, status, reply):
     if name in ("rank", "common"):
         return read + (name == "common")
     if name == "binary":
-        return read + (status == 1)
-    return None if status == 1 else read + (reply[0] & 255 == VECTOR)
+        is_read = status == 1 or (called in ("|", "&") and are_bools(types))
+        return read + (status == 1) if is_read else 0
+    built = name in ("unary", "ctor") or called in CONCRETE
+    return None if status == 1 else read + (built and reply[0] & 255 == VECTOR)
 
 
 def in_text(name, types, status, answer):
@@ -86,7 +95,7 @@ def ported(library, count):
     while min(len(asked), len(told)) < count:
         name, given, request, types = short_question(rng)
         status, reply = library.ask(name, given)
-        asked += with_number(in_hexadecimal(name, given), by_numbers(name, types, status, reply))
+        asked += with_number(in_hexadecimal(name, given), by_numbers(request, types, status, reply))
         told += with_number(f"answer {request}", in_text(name, types, status, library.text("answer", request)))
     return asked, told
 

@@ -15,8 +15,8 @@ use crate::hand_over::{ANSWERED, RULED_OUT, hand_over_items};
 use crate::hand_over_words::{hand_over_reply, hand_over_word};
 use std::alloc::Global;
 use wgsl_coded::{
-    ShortWords, binary, binary_of_scalars, call, call_of_scalars, common, constructor, layout,
-    rank, rank_of_values, size, size_of_value, unary, unary_of_scalar,
+    ShortWords, binary, binary_of_values, call, call_of_scalars, common, constructor, layout, rank,
+    rank_of_values, size, size_of_value, unary, unary_of_scalar,
 };
 
 /// The rank of the conversion from one type to another.
@@ -75,7 +75,7 @@ pub extern "C" fn wgsl_unary(
     ensures room { IsRoomKept room.old room.new len.new result }
     ensures never_out_of_memory { IsSomeAnd (unary_request request.now) NeedsNoMemory → result ≢ 3 }
 {
-    match unary_of_scalar(alloc, request) {
+    match unary_of_scalar(request) {
         Some(word) => hand_over_word(word, room, len),
         None => unary_of_type(alloc, request, room, len),
     }
@@ -106,9 +106,11 @@ pub extern "C" fn wgsl_binary(
     ensures room { IsRoomKept room.old room.new len.new result }
     ensures never_out_of_memory { IsSomeAnd (binary_request request.now) NeedsNoMemory → result ≢ 3 }
 {
-    match binary_of_scalars(request) {
-        Some(words) => hand_over_items(ANSWERED, &words, room, len),
-        None => binary_of_types(alloc, request, room, len),
+    let mut short = ShortWords::new();
+    if binary_of_values(request, &mut short) {
+        hand_over_items(ANSWERED, short.as_slice(), room, len)
+    } else {
+        binary_of_types(alloc, request, room, len)
     }
 }
 

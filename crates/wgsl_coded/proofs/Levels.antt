@@ -67,6 +67,11 @@ two_scalars (v ∷ []) s t h e k = absurd (omega (arith, h))
 two_scalars (v ∷ w ∷ []) s t h e k = of_two v w s t e k
 two_scalars (v ∷ w ∷ x ∷ ws) s t h e k = absurd (omega (arith, h))
 
+-- one type, and then another with no words left
+pub two_in_order : (ws rest : List ℕ) (t u : WgslType) → decode 255 ws ≡ Some (t, rest) → decode 255 rest ≡ Some (u, []) → two_types ws ≡ Some (t, u)
+unfolding decoded
+two_in_order ws rest t u e k = rw (e, k) refl
+
 -- four words are two vectors, if the first and the third are one word
 pub two_vectors : (ws : List ℕ) (n : ℕ) (s t : Scalar) → length ws ≡ 4 → get_or ws 0 0 ≡ get_or ws 2 0 → head_at (get_or ws 0 0) ≡ Some (Around (arounds.Vec n)) →
     head_at (get_or ws 1 0) ≡ Some (Leaf (leaf.Scalar s)) → head_at (get_or ws 3 0) ≡ Some (Leaf (leaf.Scalar t)) → two_types ws ≡ Some (vec n (scalar s), vec n (scalar t))

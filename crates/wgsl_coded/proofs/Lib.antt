@@ -15,6 +15,7 @@ pub mod PlainMemory
 pub mod LaidOut
 pub mod Measured
 pub mod Scalars
+pub mod Values
 pub mod InOrder
 pub mod InSequence
 pub mod Deep

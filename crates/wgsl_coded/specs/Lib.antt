@@ -7,6 +7,7 @@ pub mod Least
 pub mod Replies
 pub mod Memory
 pub mod Short
+pub mod Values
 pub mod Seen
 pub mod Within
 pub mod Layouts

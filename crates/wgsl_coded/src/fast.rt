@@ -1,5 +1,6 @@
 // What is answered without allocating, or while it is read.
 pub(crate) mod callees;
+pub(crate) mod operators;
 pub(crate) mod placing;
 pub(crate) mod plain;
 pub(crate) mod resolved;

@@ -30,10 +30,9 @@ mod writing;
 pub use calls::{binary, call, common, constructor, layout, rank, size, unary};
 pub use coded::read;
 pub use depth::{is_read_back, write_and_read};
+pub use fast::operators::{binary_of_values, unary_of_scalar};
 pub use fast::placing::size_of_value;
-pub use fast::scalars::{
-    binary_of_scalars, call_of_scalars, rank_of_values, resolve_scalars, unary_of_scalar,
-};
+pub use fast::scalars::{call_of_scalars, rank_of_values, resolve_scalars};
 pub use fast::short::ShortWords;
 pub use fast::values::resolve_values;
 pub use refusals::write_error;

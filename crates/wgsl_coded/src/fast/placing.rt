@@ -1,4 +1,4 @@
-// The layout of a struct is found while its members are read, and scalars and vectors are measured without a type: 869
+// The layout of a struct is found while its members are read, and scalars and vectors are measured without a type: 864
 // instructions of 3868 for three members, and 106 of 551 for a vector alone.
 ghost use Rattle.std.specs.Prelude.{IfOk, IfSome, Ok};
 ghost use Rattle.wgsl_rules.specs.layout.Layout.{HasAlignment, HasSize, IsGiven};

@@ -1,6 +1,6 @@
 // What is asked of scalars alone, and the rank of vectors, where the reply has a fixed number of words. No type is read, and no
-// room is made for other replies. The rank of two scalars takes 79 instructions of 153, and of two vectors 84 of about 800; `-`
-// takes 229 of 393, `+` 371 of 486, and by WGSL's own overloads 445 of 833; `clamp` of three takes 694 of 1016.
+// room is made for other replies. The rank of two scalars takes 79 instructions of 153, and of two vectors 84 of about 800; `+`
+// by WGSL's own overloads takes 445 of 833; `clamp` of three takes about 690 of 1016.
 ghost use Rattle.std.specs.Prelude.{◌≡◌, ◌∷◌, [], IfSome, List, Ok, Some, map, option_map, ℕ};
 ghost use Rattle.wgsl_rules.specs.codes.Codes.{code};
 ghost use Rattle.wgsl_rules.specs.standard.Choice.{Operand as WgslOperand, parameter_for as parameter_there, parameters_for, result_for as result_there};
@@ -8,14 +8,13 @@ ghost use Rattle.wgsl_rules.specs.standard.Overloads.{patterns_of, type_in};
 ghost use Rattle.wgsl_rules.specs.standard.Tables.{IsUnambiguous};
 ghost use Rattle.wgsl_rules.specs.types.Types.{WgslType, scalar};
 ghost use Rattle.wgsl_core.specs.View.{view};
-ghost use Rattle.wgsl_core.specs.internal.Resolution.{resolution_view, resolved_view};
 ghost use Rattle.wgsl_standard.specs.Callees.{a_binary};
 ghost use Rattle.wgsl_standard.specs.Operands.{operand_view};
-ghost use Rattle.wgsl_asked.specs.Requests.{call, candidate, rank, resolution_of, unary};
+ghost use Rattle.wgsl_asked.specs.Requests.{call, rank, resolution_of};
 ghost use Rattle.wgsl_asked.specs.StandardViews.{written_view};
 ghost use Rattle.wgsl_coded.specs.Callees.{arguments_at, asked_of, call_of};
 ghost use Rattle.wgsl_coded.specs.PlainCalls.{IsResolvedWords, operands_at, plain_call, resolution_in};
-ghost use Rattle.wgsl_coded.specs.Replies.{IsBinaryReply, IsCallReply, IsRankReply, IsReplyTo, IsResolveReply, IsUnaryReply, answered, candidate_words, optional_code, resolution_words, words_or_none};
+ghost use Rattle.wgsl_coded.specs.Replies.{IsCallReply, IsRankReply, IsReplyTo, IsResolveReply, answered, optional_code, resolution_words, words_or_none};
 ghost use Rattle.wgsl_coded.specs.StandardCalls.{operand_at};
 ghost use Rattle.wgsl_coded.specs.declared.calls.Kind.TheVariants.{Function};
 
@@ -23,13 +22,10 @@ use crate::fast::callees::read_binary_call;
 use crate::fast::plain::read_plain_head;
 use crate::fast::values::{is_abstract, is_said};
 use crate::heads::{read_scalar, read_vector_head, word_of_head};
-use crate::requests::{read_binary_operator, read_two_scalars, read_unary_operator};
-use std::alloc::Global;
+use crate::requests::read_two_scalars;
 use std::mem::forget;
 use wgsl_calls::call::scalar_of_builtin_fn;
 use wgsl_core::conversion::scalar_rank;
-use wgsl_core::operators::resolve::{Element, Extent, Resolution, ResolvedType, resolve_operator};
-use wgsl_core::operators::type_unary_op;
 use wgsl_core::ty::Type;
 use wgsl_standard::instance::value_in;
 use wgsl_standard::operand::{Operand, OperandType};
@@ -37,7 +33,7 @@ use wgsl_standard::operators::binary_overloads;
 use wgsl_standard::overload::{parameters_of, result_of};
 use wgsl_standard::resolve::resolve;
 use wgsl_syntax::code::{Head, LeafType};
-use wgsl_syntax::operator::{BinaryOperator, UnaryOperator};
+use wgsl_syntax::operator::BinaryOperator;
 use wgsl_syntax::overload::{Dimensions, Instance, Overload, Parameters, Pattern, Returns};
 use wgsl_syntax::scalar::Scalar;
 
@@ -77,70 +73,6 @@ fn rank_of(source: Scalar, target: Scalar) -> Option<u32>
     scalar_rank(source, target)
 }
 
-/// The word of the scalar that a unary operator gives for a scalar; None if the request isn't such an operator and a scalar, or
-/// the operator doesn't take it.
-#[inline(always)]
-pub fn unary_of_scalar(alloc: Global, request: &[u32]) -> Option<u32>
-    ensures { IfSome result (λ word. IsUnaryReply request.now (Ok (answered (word ∷ [])))) }
-{
-    let (operator, [word]) = read_unary_operator(request)? else {
-        return None;
-    };
-    word_of_unary(alloc, operator, read_scalar(*word)?)
-}
-
-/// The word of the type that it has for a scalar; neither type owns anything.
-#[inline(always)]
-fn word_of_unary(alloc: Global, operator: UnaryOperator, of: Scalar) -> Option<u32>
-    ensures { IfSome result (λ word. IsReplyTo (Some (unary operator (scalar of)))
-        (Ok (answered (word ∷ [])))) }
-{
-    let operand = Type::from(of);
-    let made = type_unary_op(alloc, operator, &operand);
-    forget(operand);
-    let Ok(ty) = made else {
-        return None;
-    };
-    let word = word_of_scalar_type(&ty);
-    forget(ty);
-    word
-}
-
-/// The words of the candidate of a binary operator that takes two scalars; None if the request isn't such an operator and
-/// two scalars, or none takes them.
-#[inline(always)]
-pub fn binary_of_scalars(request: &[u32]) -> Option<[u32; 3]>
-    ensures { IfSome result (λ words. IsBinaryReply request.now (Ok (answered words))) }
-{
-    let (operator, rest) = read_binary_operator(request)?;
-    let (lhs, rhs) = read_two_scalars(rest)?;
-    candidate_of_scalars(operator, lhs, rhs)
-}
-
-/// The words of the candidate of two scalars, whose types own nothing.
-#[inline(always)]
-fn candidate_of_scalars(operator: BinaryOperator, lhs: Scalar, rhs: Scalar) -> Option<[u32; 3]>
-    ensures { IfSome result (λ words. IsReplyTo (Some (candidate operator (scalar lhs) (scalar rhs)))
-        (Ok (answered words))) }
-{
-    let (lhs, rhs) = (Type::from(lhs), Type::from(rhs));
-    let words = words_of_operands(operator, &lhs, &rhs);
-    forget(lhs);
-    forget(rhs);
-    words
-}
-
-#[inline(always)]
-fn words_of_operands(operator: BinaryOperator, lhs: &Type, rhs: &Type) -> Option<[u32; 3]>
-    ensures { IfSome result (λ words. IsReplyTo (Some (candidate operator (view lhs.now) (view rhs.now)))
-        (Ok (answered words))) }
-{
-    match &resolve_operator(operator, lhs, rhs) {
-        Some(found) => words_of_candidate(found),
-        None => None,
-    }
-}
-
 /// The word of the scalar that a built-in function with a short name gives for one to three scalars, without a template;
 /// None if the request is another call, and if the call has another type or is refused.
 #[inline(always)]
@@ -149,6 +81,10 @@ pub fn call_of_scalars(request: &[u32]) -> Option<u32>
     ensures { IfSome result (λ word. IsCallReply request.now (Ok (answered (word ∷ [])))) }
 {
     let (name, count, words) = read_plain_head(request)?;
+    // A scalar is one word. Other arguments are seen before the name is made a text.
+    if words.len() != count {
+        return None;
+    }
     let word = match count {
         1 => call_of_one(name.as_str(), words)?,
         2 => call_of_two(name.as_str(), words)?,
@@ -211,38 +147,6 @@ fn word_of_call(name: &str, args: &[Type]) -> Option<u32>
         (Ok (answered (word ∷ [])))) }
 {
     Some(word_of_scalar(scalar_of_builtin_fn(name, args)?))
-}
-
-#[inline(always)]
-fn words_of_candidate(found: &Resolution<'_>) -> Option<[u32; 3]>
-    ensures { IfSome result (λ words. words ≡ candidate_words (resolution_view found.now)) }
-{
-    Some([
-        word_of_resolved(found.result)?,
-        word_of_resolved(found.lhs)?,
-        word_of_resolved(found.rhs)?,
-    ])
-}
-
-#[inline(always)]
-fn word_of_resolved(ty: ResolvedType<'_>) -> Option<u32>
-    ensures { IfSome result (λ word. code (resolved_view ty.entry) ≡ word ∷ []) }
-{
-    match ty.extent {
-        Extent::Single => match ty.element {
-            Element::Scalar(scalar) => Some(word_of_scalar(scalar)),
-            Element::Type(ty) => word_of_scalar_type(ty),
-        },
-        _ => None,
-    }
-}
-
-/// The code of a type, if it is a scalar.
-#[inline(always)]
-fn word_of_scalar_type(ty: &Type) -> Option<u32>
-    ensures { IfSome result (λ word. code (view ty.now) ≡ word ∷ []) }
-{
-    Some(word_of_scalar(ty.scalar()?))
 }
 
 /// The code of a scalar.
