@@ -95,6 +95,12 @@ static void ask_clamp(void) {
     wgsl_scalar(&words, WGSL_SCALAR_ABSTRACT_FLOAT);
 }
 
+static void ask_abs_of_vector(void) {
+    call = wgsl_call;
+    wgsl_signature(&words, "abs", 1);
+    vector(3, WGSL_SCALAR_F32);
+}
+
 static void ask_negation(void) {
     call = wgsl_unary;
     wgsl_word(&words, WGSL_UNARY_NEGATION);
@@ -168,6 +174,7 @@ static const struct {
     {ask_sum_of_scalars, "wgsl_binary: AbstractInt + f32"},
     {ask_sum, "wgsl_binary: AbstractInt + vec3<f32>"},
     {ask_clamp, "wgsl_call: clamp(AbstractInt, f32, AbstractFloat)"},
+    {ask_abs_of_vector, "wgsl_call: abs(vec3<f32>)"},
     {ask_negation, "wgsl_unary: -f32"},
     {ask_size, "wgsl_size: vec3<f32>"},
     {ask_layout, "wgsl_layout: struct S { a: f32, b: vec3<f32>, c: f32 }"},

@@ -130,6 +130,7 @@ impl StructType {
 }
 
 /// The size and the alignment of the type that is written.
+#[inline]
 fn measure(request: impl Fn(&mut Words<'_>)) -> (Option<u32>, Option<u32>) {
     let measure =
         ask::option(Call::SIZE, request, |words| Some((words.attribute()?, words.attribute()?)));
