@@ -4,7 +4,8 @@ A vector that is read or built takes one allocation; the type of a binary expres
 that `common` reads and the words of a refusal; a name, a list of one argument to three, and the words of a short reply take
 none. What a function returns is built there only if it is made concrete. Without being read there, two vectors of one length
 have a rank, a vector of i32, u32, f32 or f16 a size, and vectors that a binary operator takes a result, but vectors of bool
-that `|` and `&` take. In text each list takes one, and so does an answer that is one word or has at most 8 bytes. Other answers of at most 16 bytes take two.
+that `|` and `&` take. In text each list takes one, and so does an answer that is one word or has at most 8 bytes. Other
+answers of at most 16 bytes take two.
 
 By WGSL's own overloads nothing is allocated for scalars and vectors of scalars, be they operands or results, nor for the words
 of what a call in numbers resolves to. Why there is none takes three if each overload takes the operands, one more for a name,
