@@ -7,7 +7,7 @@ FEW = 100
 MORE = 1100
 
 
-def counted(command, given=b""):
+def counted(command, given):
     """All instructions of a run, by valgrind's callgrind, so that the load of the machine doesn't change them."""
     tool = ["valgrind", "--tool=callgrind", "--callgrind-out-file=/dev/null"]
     ran = subprocess.run(tool + command, input=given, capture_output=True, check=True)
