@@ -16,13 +16,12 @@ ghost use Rattle.wgsl_coded.specs.Requests.{two_types};
 ghost use Rattle.wgsl_coded.specs.Short.{short_items};
 ghost use Rattle.wgsl_coded.specs.Values.{IsWider, candidate_view, value_view};
 
+use crate::fast::resolved::push_parts;
 use crate::fast::short::ShortWords;
 use crate::fast::values::read_vector_or_scalar;
 use crate::heads::read_scalar;
 use crate::requests::{read_binary_operator, read_unary_operator};
 use wgsl_core::conversion::scalar_rank;
-use wgsl_syntax::around::Around;
-use wgsl_syntax::code::Head;
 use wgsl_syntax::operator::{BinaryOperator, UnaryOperator};
 use wgsl_syntax::overload::Dimensions;
 use wgsl_syntax::scalar::Scalar;
@@ -318,9 +317,7 @@ fn push_value(out: &mut ShortWords, value: Value) -> bool
     ensures { IsTrue result → short_items out.new ≡ short_items out.old ++ code (value_view value) }
 {
     match value.components {
-        None => out.push_scalar(value.scalar),
-        Some(components) => {
-            out.push_head(Head::Around(Around::Vec(components))) && out.push_scalar(value.scalar)
-        }
+        None => push_parts(out, Dimensions::Single, value.scalar),
+        Some(components) => push_parts(out, Dimensions::Vector(components), value.scalar),
     }
 }

@@ -274,8 +274,9 @@ fn push_value(out: &mut ShortWords, instance: &Instance, shape: Shape, component
     }
 }
 
+/// Adds a scalar, or a vector or a matrix of it; false if there is no room for it.
 #[inline(always)]
-fn push_parts(out: &mut ShortWords, dimensions: Dimensions, scalar: Scalar) -> bool
+pub(crate) fn push_parts(out: &mut ShortWords, dimensions: Dimensions, scalar: Scalar) -> bool
     ensures { IsTrue result → short_items out.new ≡ short_items out.old
         ++ code (type_with dimensions scalar) }
 {
