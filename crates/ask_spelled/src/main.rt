@@ -30,6 +30,7 @@ fn write_answer(alloc: Global, answers: &mut String, line: &str) -> Result<(), A
             let told = fault.cause.text();
             writeln!(answers, "{at}: {told}")
         }
-        Err(_) => Err(AllocError),
+        Err(Stop::Elsewhere) => writeln!(answers, "faulty elsewhere"),
+        Err(Stop::Memory(e)) => Err(e),
     }
 }

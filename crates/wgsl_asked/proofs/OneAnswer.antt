@@ -9,9 +9,8 @@ use Rattle.wgsl_rules.proofs.constructors.OneAnswer.{constructor_answer_once}
 use Rattle.wgsl_rules.proofs.layout.OneLayout.{layout_once, offsets_once}
 use Rattle.wgsl_rules.proofs.layout.StructSizes.{never_both}
 use Rattle.wgsl_rules.proofs.operators.OneAnswer.{operator_answer_once, unary_answer_once}
-use Rattle.wgsl_asked.specs.Answers.{Answers, WgslAnswer, WgslLayout, IsReceivedCommon, AreOffsetsOf, IsLayoutOf, a_number, a_size, a_common_type, a_type, a_value, a_candidate, some_offsets, a_layout, a_type_of, a_resolution_of, some_lines, rank_is, common_is, left_common_is, unary_is, binary_is, candidate_is, size_is, offsets_are, layout_is, ctor_is, call_is, type_of_is, resolution_of_is, explanation_of_is, overloads_of_are}
+use Rattle.wgsl_asked.specs.Answers.{Answers, WgslAnswer, WgslLayout, IsReceivedCommon, AreOffsetsOf, IsLayoutOf, a_number, a_size, a_common_type, a_type, a_value, some_offsets, a_layout, a_type_of, a_resolution_of, some_lines, rank_is, common_is, unary_is, binary_is, size_is, offsets_are, layout_is, ctor_is, call_is, type_of_is, resolution_of_is, explanation_of_is, overloads_of_are}
 use Rattle.wgsl_asked.specs.Requests.{WgslRequest}
-use Rattle.wgsl_asked.proofs.OneCandidate.{candidate_answer_once}
 use Rattle.wgsl_asked.proofs.OneOverloaded.{explanation_once, resolution_once, type_once}
 
 -- at most one number is exactly that
@@ -44,10 +43,8 @@ one_layout ms None None f g = refl
 same_answer : {request : WgslRequest} {a b : WgslAnswer} → Answers request a → Answers request b → a ≡ b
 same_answer (rank_is {t} {u} v f) (rank_is w g) = ap a_number (one_number (Converts t u) v w f g)
 same_answer (common_is {ts} c f) (common_is d g) = ap a_common_type (one_received ts c d f g)
-same_answer (left_common_is {ts} c f) (left_common_is d g) = ap a_common_type (left_common_once ts c d f.left g.left)
 same_answer (unary_is {o} {t} r f) (unary_is s g) = ap a_type (unary_answer_once o t r s f g)
 same_answer (binary_is {o} {t} {u} r f) (binary_is s g) = ap a_type (operator_answer_once o t u r s f g)
-same_answer (candidate_is {o} {t} {u} r f) (candidate_is s g) = ap a_candidate (candidate_answer_once o t u r s f g)
 same_answer (size_is {t} s a f g) (size_is r b h k) = λ i. a_size (one_number (HasSize t) s r f h i) (one_number (HasAlignment t) a b g k i)
 same_answer (offsets_are {ms} o f) (offsets_are p g) = ap some_offsets (one_offsets ms o p f g)
 same_answer (layout_is {name} {ms} k f) (layout_is l g) = ap (a_layout name ms) (one_layout ms k l f g)

@@ -13,12 +13,7 @@ use Rattle.wgsl_core.specs.declared.error.Fail.TheVariants as fails
 use Rattle.wgsl_core.specs.declared.layout.StructLayout.{StructLayout}
 use Rattle.wgsl_asked.specs.Answers.{Answers, AreOffsetsOf, IsLayoutOf, WgslAnswer}
 use Rattle.wgsl_asked.specs.Requests.{WgslRequest}
-use Rattle.wgsl_rules.specs.operators.Answers.{HasCandidate, IsCandidateAnswer}
-use Rattle.wgsl_core.specs.View.{view}
-use Rattle.wgsl_core.specs.declared.operators.resolve.Resolution.{Resolution}
-use Rattle.wgsl_core.specs.internal.Resolution.{resolution_view}
-use Rattle.wgsl_asked.specs.declared.answers.Operands.{Operands}
-use Rattle.wgsl_asked.specs.Views.{candidate_view, layout_view, outcome}
+use Rattle.wgsl_asked.specs.Views.{layout_view, outcome}
 
 pub settles : {A B : Type 0} (answered : Result B Refusal → WgslAnswer) (shown : A → B) (P : Result B Refusal → Type 0) (request : WgslRequest) {made : Result A (Fail Error)} (r : Result A (Fail Error)) →
     (made ≡ r) × IsAnswered r → AnswersAs shown P made → ((x : Result B Refusal) → P x → Answers request (answered x)) → Answers request (outcome answered shown r)
@@ -35,8 +30,3 @@ pub layout_seen : (ms : Members) (found : Option StructLayout) → (let r : Resu
     IsLayoutOf ms (option_map layout_view found)
 layout_seen ms (Some l) none some = some
 layout_seen ms None none some = none refl
-
-pub candidate_seen : (operands : Operands) (found : Option Resolution) → HasCandidate operands.operator (view operands.lhs.now) (view operands.rhs.now) (option_map resolution_view found) →
-    IsCandidateAnswer operands.operator (view operands.lhs.now) (view operands.rhs.now) (candidate_view operands found)
-candidate_seen operands (Some c) h = h
-candidate_seen operands None h = (refl, h)

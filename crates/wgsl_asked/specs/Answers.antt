@@ -8,16 +8,15 @@ use Rattle.wgsl_rules.specs.errors.Refusals.{Refusal}
 use Rattle.wgsl_rules.specs.Headline.{Receives}
 use Rattle.wgsl_rules.specs.conversion.Common.{IsLeftCommon}
 use Rattle.wgsl_rules.specs.conversion.Conversion.{Converts}
-use Rattle.wgsl_rules.specs.conversion.Lists.{IsCommonOfList}
 use Rattle.wgsl_rules.specs.layout.Placement.{MemberLayout}
 use Rattle.wgsl_rules.specs.layout.Layout.{AreOffsets, HasAlignment, HasNoSize, HasSize, IsExactly, IsStructLayout}
-use Rattle.wgsl_rules.specs.operators.Answers.{BinaryCandidate, IsCandidateAnswer, IsOperatorAnswer, IsUnaryAnswer}
+use Rattle.wgsl_rules.specs.operators.Answers.{IsOperatorAnswer, IsUnaryAnswer}
 use Rattle.wgsl_rules.specs.constructors.Constructors.{IsConstructorAnswer}
 use Rattle.wgsl_rules.specs.calls.Answers.{IsCallAnswer}
 use Rattle.wgsl_asked.specs.Calls.{WgslCall, WgslResolution}
 use Rattle.wgsl_asked.specs.Overloads.{lines_named}
 use Rattle.wgsl_asked.specs.Standard.{IsExplanationOf, IsResolutionOf, IsTypeOf}
-use Rattle.wgsl_asked.specs.Requests.{WgslRequest, rank, common, left_common, unary, binary, candidate, size, offsets, layout, ctor, call, type_of, resolution_of, explanation_of, overloads_of}
+use Rattle.wgsl_asked.specs.Requests.{WgslRequest, rank, common, unary, binary, size, offsets, layout, ctor, call, type_of, resolution_of, explanation_of, overloads_of}
 
 -- a struct's layout: the size, the alignment and the offset of each member, its own size and alignment
 pub record WgslLayout : Type 0 where
@@ -33,7 +32,6 @@ pub data WgslAnswer : Type 0 where
   a_common_type : Option WgslType → WgslAnswer
   a_type : Result WgslType Refusal → WgslAnswer
   a_value : Result (Option WgslType) Refusal → WgslAnswer
-  a_candidate : Result BinaryCandidate Refusal → WgslAnswer
   some_offsets : Option (List ℕ) → WgslAnswer
   a_layout : List ℕ → Members → Option WgslLayout → WgslAnswer
   -- None if no overload takes the operands
@@ -65,14 +63,10 @@ pub data Answers : WgslRequest → WgslAnswer → Type 0 where
       Answers (rank t u) (a_number w)
   common_is : {ts : List WgslType} (c : Option WgslType) → IsReceivedCommon ts c →
       Answers (common ts) (a_common_type c)
-  left_common_is : {ts : List WgslType} (c : Option WgslType) → IsCommonOfList ts c →
-      Answers (left_common ts) (a_common_type c)
   unary_is : {o : UnaryOperator} {t : WgslType} (r : Result WgslType Refusal) →
       IsUnaryAnswer o t r → Answers (unary o t) (a_type r)
   binary_is : {o : BinaryOperator} {t u : WgslType} (r : Result WgslType Refusal) →
       IsOperatorAnswer o t u r → Answers (binary o t u) (a_type r)
-  candidate_is : {o : BinaryOperator} {t u : WgslType} (r : Result BinaryCandidate Refusal) →
-      IsCandidateAnswer o t u r → Answers (candidate o t u) (a_candidate r)
   size_is : {t : WgslType} (s a : Option ℕ) → IsExactly s (HasSize t) →
       IsExactly a (HasAlignment t) → Answers (size t) (a_size s a)
   offsets_are : {name : List ℕ} {ms : Members} (found : Option (List ℕ)) →

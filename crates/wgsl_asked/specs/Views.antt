@@ -1,7 +1,6 @@
 -- How the rules see requests and answers.
 use Rattle.std.specs.Prelude.{Option, Some, None, Result, Ok, Err, map, option_map}
 use Rattle.wgsl_rules.specs.errors.Refusals.{Refusal, binary as refused_operands}
-use Rattle.wgsl_rules.specs.operators.Answers.{BinaryCandidate}
 use Rattle.wgsl_rules.specs.types.Signatures.{Signature}
 use Rattle.wgsl_rules.specs.types.Types.{WgslType}
 use Rattle.wgsl_core.specs.Answer.{refusal}
@@ -24,8 +23,8 @@ use Rattle.wgsl_asked.specs.declared.answers.Answer.TheVariants as answers
 use Rattle.wgsl_standard.specs.Results.{result_view}
 use Rattle.wgsl_standard.specs.Resolved.{resolved_view as resolved_call_view}
 use Rattle.wgsl_standard.specs.Texts.{line_of, note_text}
-use Rattle.wgsl_asked.specs.Requests.{WgslRequest, rank, common, left_common, unary, binary, size, offsets, layout, ctor, call, type_of, resolution_of, explanation_of, overloads_of}
-use Rattle.wgsl_asked.specs.Answers.{WgslAnswer, WgslLayout, a_number, a_size, a_common_type, a_type, a_value, some_offsets, a_layout, a_type_of, a_resolution_of, some_lines, out_of_memory}
+use Rattle.wgsl_asked.specs.Requests.{WgslRequest, rank, unary, binary, size, offsets, layout, ctor, call, type_of, resolution_of, explanation_of, overloads_of}
+use Rattle.wgsl_asked.specs.Answers.{WgslAnswer, WgslLayout, a_number, a_size, a_type, a_value, some_offsets, a_layout, a_type_of, a_resolution_of, some_lines, out_of_memory}
 use Rattle.wgsl_asked.specs.StandardViews.{call_view as standard_view}
 
 abbrev pub callee_view : Callee → Signature
@@ -33,8 +32,6 @@ callee_view c = call_view c.name.now c.template c.arguments.now
 
 abbrev pub request_view : Request → WgslRequest
 request_view (requests.Rank t u) = rank (view t.now) (view u.now)
-request_view (requests.Common ts) = common (map view ts.now)
-request_view (requests.LeftCommon ts) = left_common (map view ts.now)
 request_view (requests.Unary o t) = unary o (view t.now)
 request_view (requests.Binary o t u) = binary o (view t.now) (view u.now)
 request_view (requests.Size t) = size (view t.now)
@@ -63,11 +60,6 @@ abbrev pub binary_view : Result ResolvedType Operands → Result WgslType Refusa
 binary_view (Ok t) = Ok (resolved_view t)
 binary_view (Err e) = Err (operands_refusal e)
 
--- the candidate, or the refusal of the operands
-abbrev pub candidate_view : Operands → Option Resolution → Result BinaryCandidate Refusal
-candidate_view operands (Some c) = Ok (resolution_view c)
-candidate_view operands None = Err (operands_refusal operands)
-
 abbrev pub layout_view : StructLayout → WgslLayout
 layout_view l = record {
   layouts = layouts_of l.members.items;
@@ -79,7 +71,6 @@ layout_view l = record {
 abbrev pub answer_view : Answer → WgslAnswer
 answer_view (answers.Number n) = a_number n
 answer_view (answers.Size s a) = a_size s a
-answer_view (answers.Common t) = a_common_type (option_map (λ t. view t.now) t)
 answer_view (answers.Type r) = outcome a_type view r
 answer_view (answers.Value r) = outcome a_value (option_map view) r
 answer_view (answers.Binary r) = a_type (binary_view r)

@@ -21,7 +21,6 @@ use wgsl_syntax::scalar::Scalar;
 pub enum Answer<'r> {
     Number(Option<u32>),
     Size(Option<u32>, Option<u32>),
-    Common(Option<&'r Type>),
     /// The type of an expression, or why it has none; out of memory is no answer.
     Type(Result<Type, Fail<Error>>),
     /// What a call returns, which may be no value, or why it is refused; out of memory is no answer.

@@ -1,14 +1,12 @@
 // Where the rules meet requests.
-ghost use Rattle.std.specs.Prelude.{◌≡◌, IfOk, IsOk, None};
+ghost use Rattle.std.specs.Prelude.{◌≡◌, IfOk, None};
 ghost use Rattle.wgsl_asked.specs.Answers.{Answers};
 ghost use Rattle.wgsl_rules.specs.operators.Answers.{IsOperatorAnswer};
 ghost use Rattle.wgsl_core.specs.Answer.{IsAnswered};
 ghost use Rattle.wgsl_core.specs.View.{view};
-ghost use Rattle.wgsl_asked.specs.Memory.{AsksForNoMemory};
 ghost use Rattle.wgsl_asked.specs.Views.{answer_view, binary_view, request_view};
 
 use crate::answers::{Answer, Operands};
-use crate::common::common_type;
 use crate::overloads::signatures_named;
 use crate::requests::Request;
 use crate::standard::{notes_on, resolution_of, type_of};
@@ -16,7 +14,6 @@ use std::alloc::{AllocError, Global};
 use wgsl_calls::call::type_builtin_fn;
 use wgsl_calls::constructor::type_ctor;
 use wgsl_core::conversion::conversion_rank;
-use wgsl_core::conversion::lists::common_of;
 use wgsl_core::error::{Error, Fail};
 use wgsl_core::operators::resolve::{ResolvedType, resolve_operator};
 use wgsl_core::operators::type_unary_op;
@@ -26,13 +23,10 @@ use wgsl_syntax::operator::BinaryOperator;
 /// The answer to the request.
 #[inline(always)]
 pub fn answer<'r>(alloc: Global, request: Request<'r>) -> Result<Answer<'r>, AllocError>
-    ensures answers { IfOk result (λ a. Answers (request_view request.entry) (answer_view a)) }
-    ensures never_out_of_memory { AsksForNoMemory (request_view request.entry) → IsOk result }
+    ensures { IfOk result (λ a. Answers (request_view request.entry) (answer_view a)) }
 {
     match request {
         Request::Rank(source, target) => Ok(Answer::Number(conversion_rank(source, target))),
-        Request::Common(types) => Ok(Answer::Common(common_type(types))),
-        Request::LeftCommon(types) => Ok(Answer::Common(common_of(types))),
         Request::Unary(operator, operand) => {
             let made = type_unary_op(alloc, operator, operand);
             Ok(Answer::Type(settled(made)?))
@@ -79,8 +73,7 @@ fn resolved_type<'r>(
 /// The same, unless it is out of memory.
 #[inline(always)]
 fn settled<T: Drop>(made: Result<T, Fail<Error>>) -> Result<Result<T, Fail<Error>>, AllocError>
-    ensures same { IfOk result (λ same. (made ≡ same) × IsAnswered same) }
-    ensures never_out_of_memory { IsAnswered made → IsOk result }
+    ensures { IfOk result (λ same. (made ≡ same) × IsAnswered same) }
 {
     match out_of_memory(&made) {
         Some(error) => {
@@ -93,8 +86,7 @@ fn settled<T: Drop>(made: Result<T, Fail<Error>>) -> Result<Result<T, Fail<Error
 
 #[inline(always)]
 fn out_of_memory<T>(made: &Result<T, Fail<Error>>) -> Option<AllocError>
-    ensures answered { result ≡ None → IsAnswered made.now }
-    ensures only { IsAnswered made.now → result ≡ None }
+    ensures { result ≡ None → IsAnswered made.now }
 {
     match made {
         Ok(_) | Err(Fail::Error(_)) => None,

@@ -3,7 +3,6 @@
 
 pub mod answers;
 pub mod ask;
-pub mod common;
 mod overloads;
 pub mod requests;
 pub mod standard;

@@ -10,10 +10,6 @@ use wgsl_syntax::operator::{BinaryOperator, UnaryOperator};
 pub enum Request<'r> {
     /// The rank of the conversion from one type to another.
     Rank(&'r Type, &'r Type),
-    /// The common type of a list, if each of its types converts to it.
-    Common(&'r [Type]),
-    /// The common type of a list from left to right, as `convert_all_ty` has it.
-    LeftCommon(&'r [Type]),
     /// The type of a unary expression.
     Unary(UnaryOperator, &'r Type),
     /// The type of a binary expression.

@@ -1,15 +1,13 @@
 -- What is returned to C.
-use Rattle.std.specs.Prelude.{◌≡◌, ◌⊎◌, ◌<◌, ◌≤◌, ◌++◌, ℕ, List, [], All, IfOk, IsUtf8, Result, Ok, Err, drop, length, string_bytes, true}
+use Rattle.std.specs.Prelude.{◌≡◌, ◌≢◌, ◌⊎◌, ◌<◌, ◌≤◌, ◌++◌, ℕ, List, [], All, IfOk, IsUtf8, Result, Ok, Err, drop, length, string_bytes, take, true}
 use Rattle.std.specs.declared.alloc.AllocError.{AllocError}
 use Rattle.wgsl_requests.specs.Replies.{IsExplanation, IsReplyTo, reply_text}
 use Rattle.wgsl_requests.specs.Words.{has_line_feed, words_of}
 use Rattle.wgsl_requests.specs.declared.rules.RuleSet.{RuleSet}
 use Rattle.wgsl_requests.specs.declared.request.Reply.{Reply}
 use Rattle.wgsl_requests.specs.declared.request.Reply.TheVariants.{Nothing, Answer, Unreadable}
-
--- 0 answered or explained, 2 unreadable or nothing to explain, 3 out of memory, 4 no room
-abbrev pub IsStatus : ℕ → Type 0
-IsStatus status = (status ≡ 0) ⊎ (status ≡ 2) ⊎ (status ≡ 3) ⊎ (status ≡ 4)
+use Rattle.wgsl_requests.specs.declared.write.TextKind.{TextKind}
+use Rattle.wgsl_requests.specs.declared.write.TextKind.TheVariants as kinds
 
 -- What the library promises of the reply to a request, by a set of rules: which it is, and when memory can't have run out.
 pub record IsPromised (rules : RuleSet) (request : List ℕ) (reply : Result Reply AllocError) : Type 0 where
@@ -19,30 +17,73 @@ pub record IsPromised (rules : RuleSet) (request : List ℕ) (reply : Result Rep
   pub no_text : ¬ All IsUtf8 (words_of request) → IfOk reply (λ r. r ≡ Unreadable)
   pub no_words : length request ≤ 4096 → words_of request ≡ [] → IfOk reply (λ r. r ≡ Nothing)
 
--- what the library promises of an explanation: there is one exactly if the request has no answer
-abbrev pub IsExplained : RuleSet → List ℕ → Result Reply AllocError → Type 0
-IsExplained rules request reply = IfOk reply (λ r. IsExplanation rules request r)
+-- 0 answered, 1 ruled out
+abbrev pub status_of : TextKind → ℕ
+status_of kinds.Answer = 0
+status_of kinds.Refusal = 1
 
--- bytes or words are written if there is room for them: at the start of the room, whose rest stays
--- as it was
-pub record IsWritten {T : Type 0} (wanted : ℕ) (items old new : List T) (len status : ℕ) :
-    Type 0 where
-  pub whole_length : len ≡ length items
-  pub fits : length items ≤ length old → status ≡ wanted
-  pub written : length items ≤ length old → new ≡ items ++ drop (length items) old
-  pub no_room : length old < length items → status ≡ 4
-  pub unwritten : length old < length items → new ≡ old
+-- bytes are written if there is room for them: at the start of the buffer, whose rest stays as it was
+pub record IsWritten (wanted : ℕ) (bytes old new : List ℕ) (len status : ℕ) : Type 0 where
+  pub whole_length : len ≡ length bytes
+  pub fits : length bytes ≤ length old → status ≡ wanted
+  pub written : length bytes ≤ length old → new ≡ bytes ++ drop (length bytes) old
+  pub no_room : length old < length bytes → status ≡ 4
+  pub unwritten : length old < length bytes → new ≡ old
 
--- there is nothing to write: the room stays as it was
-pub record IsRefused (wanted : ℕ) (old new : List ℕ) (len status : ℕ) : Type 0 where
+-- there is nothing to write: the buffer stays as it was
+pub record IsEmpty (wanted : ℕ) (old new : List ℕ) (len status : ℕ) : Type 0 where
   pub answers : status ≡ wanted
   pub no_length : len ≡ 0
   pub unwritten : new ≡ old
 
--- the reply is returned: the room before and after, the length, the status
+-- the reply is returned: the buffer before and after, the length, the status; 2 unreadable or
+-- nothing to explain, 3 out of memory, 4 no room
 abbrev pub IsHandedOver : Result Reply AllocError → List ℕ → List ℕ → ℕ → ℕ → Type 0
-IsHandedOver (Ok (Answer text)) old new len status =
-    IsWritten 0 (string_bytes text) old new len status
-IsHandedOver (Ok Nothing) old new len status = IsRefused 2 old new len status
-IsHandedOver (Ok Unreadable) old new len status = IsRefused 2 old new len status
-IsHandedOver (Err _) old new len status = IsRefused 3 old new len status
+IsHandedOver (Ok (Answer kind text)) old new len status =
+    IsWritten (status_of kind) (string_bytes text) old new len status
+IsHandedOver (Ok Nothing) old new len status = IsEmpty 2 old new len status
+IsHandedOver (Ok Unreadable) old new len status = IsEmpty 2 old new len status
+IsHandedOver (Err _) old new len status = IsEmpty 3 old new len status
+
+-- What holds of the buffer and the length by the status, whatever is asked.
+pub record IsTransfer (old new : List ℕ) (len status : ℕ) : Type 0 where
+  pub known : status ≤ 4
+  pub fits : status ≤ 1 → len ≤ length old
+  pub text : status ≤ 1 → IsUtf8 (take len new)
+  pub rest : status ≤ 1 → drop len new ≡ drop len old
+  pub unwritten : 2 ≤ status → new ≡ old
+  pub no_length : 2 ≤ status → status ≤ 3 → len ≡ 0
+  pub no_room : status ≡ 4 → length old < len
+
+-- What a call gets that answers a request: the reply; and what follows from it.
+pub record IsAnswered (rules : RuleSet) (request old new : List ℕ) (len status : ℕ) : Type 0 where
+  pub reply : Result Reply AllocError
+  pub promised : IsPromised rules request reply
+  pub handed_over : IsHandedOver reply old new len status
+  pub transfer : IsTransfer old new len status
+  pub too_long : 4096 < length request → status ≡ 2
+  pub forbidden : has_line_feed request ≡ true → status ≡ 2
+  pub no_text : ¬ All IsUtf8 (words_of request) → (status ≡ 2) ⊎ (status ≡ 3)
+  pub no_words : words_of request ≡ [] → (status ≡ 2) ⊎ (status ≡ 3)
+
+-- What a call gets that explains a request: there is an explanation exactly if there is no answer.
+pub record IsExplained (rules : RuleSet) (request old new : List ℕ) (len status : ℕ) : Type 0 where
+  pub reply : Result Reply AllocError
+  pub which : IfOk reply (λ r. IsExplanation rules request r)
+  pub handed_over : IsHandedOver reply old new len status
+  pub transfer : IsTransfer old new len status
+  pub not_ruled_out : status ≢ 1
+
+-- a text, unless memory runs out
+abbrev pub IsText : Result Reply AllocError → Type 0
+IsText (Ok (Answer kind text)) = kind ≡ kinds.Answer
+IsText (Ok reply) = ⊥
+IsText (Err _) = Unit {0}
+
+-- What a call gets that writes a text whatever it is given.
+pub record IsTold (old new : List ℕ) (len status : ℕ) : Type 0 where
+  pub reply : Result Reply AllocError
+  pub is_text : IsText reply
+  pub handed_over : IsHandedOver reply old new len status
+  pub transfer : IsTransfer old new len status
+  pub readable : (status ≡ 0) ⊎ (status ≡ 3) ⊎ (status ≡ 4)

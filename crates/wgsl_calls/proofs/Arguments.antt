@@ -5,7 +5,8 @@ use Rattle.std.proofs.lemmas.List.Elements.{All-cons}
 use Rattle.wgsl_rules.specs.types.Types.{WgslType, Members, no_members, member}
 use Rattle.wgsl_rules.specs.conversion.Conversion.{ConvertsTo}
 use Rattle.std.specs.Borrow.{Bor}
-use Rattle.wgsl_rules.specs.conversion.Common.{IsLeftCommonFrom, IsLeftCommon}
+use Rattle.wgsl_rules.specs.conversion.Common.{IsLeftCommon, of_no_types}
+use Rattle.wgsl_rules.proofs.conversion.Folds.{IsFoldedFrom, folded}
 use Rattle.wgsl_rules.specs.types.Inner.{inner_of}
 use Rattle.wgsl_rules.specs.constructors.Constructors.{member_count, AllFit, IsFirstMisfit}
 use Rattle.wgsl_core.specs.View.{view, member_view}
@@ -69,11 +70,6 @@ pub shorter : (m : StructMemberType) (u : «Type») (ms : List StructMemberType)
     all ≡ m ∷ ms → args ≡ u ∷ us → length all ≡ length args → length ms ≡ length us
 shorter m u ms us all args p q e = cc (sym (ap length p) ∙ e ∙ ap length q)
 
--- without a common type so far there is none in the end
-pub none_from : (ts : List WgslType) → IsLeftCommonFrom None ts None
-none_from [] = refl
-none_from (t ∷ ts) = refl
-
 -- the types inside the arguments from one on
 abbrev pub inside_from : List «Type» → ℕ → List WgslType
 inside_from args i = map inner_of (map view (drop i args))
@@ -81,6 +77,16 @@ inside_from args i = map inner_of (map view (drop i args))
 pub inside_at : (args : List «Type») (i : ℕ) (x : «Type») → i < length args → x ≡ slice_index_or args i x →
     inside_from args i ≡ inner_of (view x) ∷ inside_from args (i + 1)
 inside_at args i x lt is = ap (map inner_of) (argument_at args i x lt is)
+
+pub none_inside : (args : List «Type») → length args ≡ 0 → IsLeftCommon (map inner_of (map view args)) None
+none_inside [] e = of_no_types
+none_inside (a ∷ args) e = absurd (cc e)
+
+pub all_inside : (args rest : List «Type») (first : «Type») (t : WgslType) → args ≡ first ∷ rest → t ≡ inner_of (view first) →
+    (r : Option WgslType) → IsFoldedFrom (Some t) (inside_from rest 0) r → IsLeftCommon (map inner_of (map view args)) r
+all_inside args rest first t e p r h =
+    subst (λ args. IsLeftCommon (map inner_of (map view args)) r) (sym e)
+    ((folded (map inner_of (map view (first ∷ rest))) r).1 (subst (λ t. IsFoldedFrom (Some t) (inside_from rest 0) r) p h))
 
 -- an answer may be replaced by an equal one
 pub left_common_at : (ts : List WgslType) (r s : Option (Bor «Type»)) → r ≡ s →

@@ -5,6 +5,7 @@ use Rattle.wgsl_rules.specs.types.Types.{array_of, WgslType, within, array}
 use Rattle.wgsl_rules.specs.types.Signatures.{Parameter}
 use Rattle.wgsl_rules.specs.conversion.Conversion.{IsValueType}
 use Rattle.wgsl_rules.specs.conversion.Common.{IsLeftCommon}
+use Rattle.wgsl_rules.proofs.conversion.Folds.{folded}
 use Rattle.wgsl_rules.specs.errors.Refusals.{Refusal, builtin}
 use Rattle.wgsl_rules.specs.Headline.{Receives}
 use Rattle.wgsl_rules.specs.operators.Choice.{HasRanks, Takes}
@@ -90,7 +91,7 @@ uncommon_elements a ts e vs h =
     (no_member (IsArrayCandidate None) (wholes (a ∷ ts)) (λ c. array (Some (length (a ∷ ts))) c) (a ∷ ts) (a ∷ ts) tt vs vs (whole_put (a ∷ ts)) h (elements_taken (a ∷ ts)))
 
 untyped_array : (ts : List WgslType) (r : Result WgslType Refusal) → All IsValueType ts → IsArrayCall None ts r → IsLeastMade (IsArrayCandidate None) ts r
-untyped_array [] r vs h = none h.0 h.1 h.2
+untyped_array [] r vs h = none h.0 ((folded [] h.0).0 h.1) h.2
   where
     none : (c : Option WgslType) → c ≡ None → Then (ok_or c (builtin (codes "array elements are incompatible"))) (λ c q. q ≡ Ok (array (Some 0) c)) r →
         IsLeastMade (IsArrayCandidate None) [] r

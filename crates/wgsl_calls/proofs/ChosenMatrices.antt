@@ -4,7 +4,8 @@ use Rattle.wgsl_rules.specs.types.Types.{mat_of, WgslType, within, mat}
 use Rattle.wgsl_rules.specs.types.Kinds.{IsFloatScalar}
 use Rattle.wgsl_rules.specs.types.Inner.{inner_of}
 use Rattle.wgsl_rules.specs.conversion.Conversion.{IsValueType}
-use Rattle.wgsl_rules.specs.conversion.Common.{IsLeftCommon}
+use Rattle.wgsl_rules.specs.conversion.Common.{IsLeftCommon, of_one_type}
+use Rattle.wgsl_rules.proofs.conversion.Folds.{folded}
 use Rattle.wgsl_rules.specs.errors.Refusals.{Refusal, builtin}
 use Rattle.wgsl_rules.specs.operators.Choice.{Takes}
 use Rattle.wgsl_rules.specs.constructors.Steps.{Then, ThenCommon}
@@ -54,7 +55,7 @@ copied : (c r : ℕ) (e : WgslType) → IsValueType e → IsLeastMade (Untyped c
 copied c r e v =
     let vs = all_one IsValueType (mat c r e) v in
     least_made (Untyped c r) (mat c r e ∷ []) (mat c r e ∷ []) (mat c r e)
-    (least_member (Untyped c r) (whole ∷ []) (λ u. u) (mat c r e ∷ []) (mat c r e ∷ []) (mat c r e) tt vs vs ([], refl, refl) refl
+    (least_member (Untyped c r) (whole ∷ []) (λ u. u) (mat c r e ∷ []) (mat c r e ∷ []) (mat c r e) tt vs vs ([], refl, refl) (of_one_type (mat c r e))
     (λ us q h k. member us q k (candidate_taken c r (mat c r e ∷ []) us q h k)) (matrix_copy e))
   where
     member : (us : List WgslType) (q : WgslType) → Takes us (mat c r e ∷ []) → CandidateTaken c r (mat c r e ∷ []) us q → IsMember (whole ∷ []) (λ u. u) us q
@@ -144,7 +145,7 @@ of_one name c r a q v h = by_common name c r a [] q (all_one IsValueType a v) (�
 
 pub untyped_matrix : (name : List ℕ) (c r : ℕ) (ts : List WgslType) (q : Result WgslType Refusal) → All IsValueType ts → IsUntypedMatrix name c r ts q →
     IsLeastMade (IsMatrixCandidate c r None) ts q
-untyped_matrix name c r [] q vs h = none h.0 h.1 h.2
+untyped_matrix name c r [] q vs h = none h.0 ((folded [] h.0).0 h.1) h.2
   where
     none : (u : Option WgslType) → u ≡ None → Then (ok_or u (builtin incompatible_matrix)) (IsUntypedMatrixOf name c r 0) q → IsLeastMade (Untyped c r) [] q
     none None e k = subst (λ q. IsLeastMade (Untyped c r) [] q) (sym k) (no_argument c r _)

@@ -6,6 +6,7 @@ use Rattle.wgsl_rules.specs.types.Types.{WgslType, scalar}
 use Rattle.wgsl_rules.specs.types.Kinds.{IsScalar}
 use Rattle.wgsl_rules.specs.types.Signatures.{Parameter}
 use Rattle.wgsl_rules.specs.conversion.Conversion.{IsValueType}
+use Rattle.wgsl_rules.specs.conversion.Common.{of_one_type}
 use Rattle.wgsl_rules.specs.errors.Refusals.{Refusal}
 use Rattle.wgsl_rules.specs.operators.Choice.{Takes}
 use Rattle.wgsl_rules.specs.constructors.Constructors.{scalar_call}
@@ -38,7 +39,7 @@ one_scalar : (s t : Scalar) → IsLeastMade (IsScalarCandidate s None) (scalar t
 one_scalar s t =
     let vs = All-cons IsValueType (scalar t) [] tt (All-nil IsValueType) in
     least_made (IsScalarCandidate s None) (scalar t ∷ []) (scalar t ∷ []) (scalar s)
-    (least_member (IsScalarCandidate s None) (whole ∷ []) (λ c. scalar s) (scalar t ∷ []) (scalar t ∷ []) (scalar t) tt vs vs ([], refl, refl) refl
+    (least_member (IsScalarCandidate s None) (whole ∷ []) (λ c. scalar s) (scalar t ∷ []) (scalar t ∷ []) (scalar t) tt vs vs ([], refl, refl) (of_one_type (scalar t))
     (λ us r q k. (only_scalar s (scalar t) [] us r tt q k).2) (scalar_conversion t))
 
 no_scalar : (s : Scalar) (a : WgslType) (ts : List WgslType) (e : Refusal) → IsValueType a → (ts ≡ [] → IsScalar a → ⊥) → IsLeastMade (IsScalarCandidate s None) (a ∷ ts) (Err e)

@@ -7,7 +7,7 @@ use Rattle.wgsl_rules.specs.types.Inner.{inner_of}
 use Rattle.wgsl_rules.specs.types.Signatures.{Parameter, of_type}
 use Rattle.wgsl_rules.specs.conversion.Conversion.{IsValueType}
 use Rattle.wgsl_rules.specs.conversion.Converted.{IsConverted, IsConvertedInside}
-use Rattle.wgsl_rules.specs.conversion.Common.{IsLeftCommon}
+use Rattle.wgsl_rules.specs.conversion.Common.{IsLeftCommon, of_one_type}
 use Rattle.wgsl_rules.specs.errors.Refusals.{Refusal, conversion, builtin}
 use Rattle.wgsl_rules.specs.operators.Choice.{Takes}
 use Rattle.wgsl_rules.specs.templates.Templates.{IsTemplateOf, IsMatTemplate}
@@ -61,7 +61,7 @@ converted : (c r : ℕ) (ps : List Parameter) (t e : WgslType) → IsMatTemplate
 converted c r ps t e h v =
     let vs = all_one IsValueType (mat c r e) v in
     least_made (Typed c r ps) (mat c r e ∷ []) (mat c r e ∷ []) (mat c r t)
-    (least_member (Typed c r ps) (whole ∷ []) (λ u. mat c r t) (mat c r e ∷ []) (mat c r e ∷ []) (mat c r e) tt vs vs ([], refl, refl) refl
+    (least_member (Typed c r ps) (whole ∷ []) (λ u. mat c r t) (mat c r e ∷ []) (mat c r e ∷ []) (mat c r e) tt vs vs ([], refl, refl) (of_one_type (mat c r e))
     (λ us q g k. let j = candidate_taken c r ps t (mat c r e) [] us q h g k in member us q k j.0 j.1) (typed_matrix_conversion ps t e h))
   where
     member : (us : List WgslType) (q : WgslType) → Takes us (mat c r e ∷ []) → q ≡ mat c r t → ((e : WgslType) × (us ≡ mat c r e ∷ [])) ⊎ OfOneType c r t (mat c r e ∷ []) us →

@@ -6,6 +6,7 @@ use Rattle.wgsl_rules.specs.types.Kinds.{IsScalarOrVector}
 use Rattle.wgsl_rules.specs.types.Inner.{inner_of}
 use Rattle.wgsl_rules.specs.types.Signatures.{Parameter}
 use Rattle.wgsl_rules.specs.conversion.Conversion.{IsValueType, ConvertsTo}
+use Rattle.wgsl_rules.specs.conversion.Common.{of_one_type}
 use Rattle.wgsl_rules.specs.errors.Refusals.{Refusal}
 use Rattle.wgsl_rules.specs.Headline.{Receives}
 use Rattle.wgsl_rules.specs.operators.Choice.{HasRanks, Takes}
@@ -110,7 +111,7 @@ typed_converted : (n : ℕ) (ps : List Parameter) (t e : WgslType) → IsVecTemp
 typed_converted n ps t e h v =
     let vs = all_one IsValueType (vec n e) v in
     least_made (Typed n ps) (vec n e ∷ []) (vec n e ∷ []) (vec n t)
-    (least_member (Typed n ps) (inner (vec_of n) ∷ []) (λ c. vec n t) (vec n e ∷ []) (e ∷ []) e tt vs (all_one IsValueType e v) (e, [], refl, refl, refl) refl
+    (least_member (Typed n ps) (inner (vec_of n) ∷ []) (λ c. vec n t) (vec n e ∷ []) (e ∷ []) e tt vs (all_one IsValueType e v) (e, [], refl, refl, refl) (of_one_type e)
     (λ us r q k. let j = typed_taken n ps t (vec n e) [] us r h vs q k in member us r j.0 j.1) (typed_vector_conversion ps t e h))
   where
     member : (us : List WgslType) (r : WgslType) → r ≡ vec n t → ((e : WgslType) × (us ≡ vec n e ∷ [])) ⊎ OfComponents n t (vec n e ∷ []) us →

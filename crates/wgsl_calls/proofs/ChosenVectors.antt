@@ -7,7 +7,7 @@ use Rattle.wgsl_rules.specs.types.Types.{vec_of, WgslType, scalar, within, vec}
 use Rattle.wgsl_rules.specs.types.Kinds.{IsScalarOrVector}
 use Rattle.wgsl_rules.specs.types.Inner.{inner_of}
 use Rattle.wgsl_rules.specs.conversion.Conversion.{IsValueType, ConvertsTo}
-use Rattle.wgsl_rules.specs.conversion.Common.{IsLeftCommon}
+use Rattle.wgsl_rules.specs.conversion.Common.{IsLeftCommon, of_one_type}
 use Rattle.wgsl_rules.specs.errors.Refusals.{Refusal, builtin}
 use Rattle.wgsl_rules.specs.Headline.{Receives}
 use Rattle.wgsl_rules.specs.operators.Choice.{HasRanks, Takes}
@@ -234,10 +234,10 @@ all_one P a h = All-cons P a [] h (All-nil P)
 untyped_of_one : (n : ℕ) (a : WgslType) (r : Result WgslType Refusal) → IsValueType a → IsUntypedVectorOfOne n a r → IsLeastMade (IsVectorCandidate n None) (a ∷ []) r
 untyped_of_one n (scalar s) r v h =
     subst (λ r. IsLeastMade (IsVectorCandidate n None) (scalar s ∷ []) r) (sym h)
-    (vector_at n (scalar s) [] (scalar s) (all_one IsValueType (scalar s) v) (all_one IsScalarOrVector (scalar s) tt) (inr (s, refl)) refl)
+    (vector_at n (scalar s) [] (scalar s) (all_one IsValueType (scalar s) v) (all_one IsScalarOrVector (scalar s) tt) (inr (s, refl)) (of_one_type (scalar s)))
 untyped_of_one n (within (vec_of m) e) r v (inl h) =
     subst (λ r. IsLeastMade (IsVectorCandidate n None) (vec m e ∷ []) r) (sym h.1)
-    (vector_at n (vec m e) [] e (all_one IsValueType (vec m e) v) (all_one IsScalarOrVector (vec m e) tt) (inl (omega (arith, h.0))) refl)
+    (vector_at n (vec m e) [] e (all_one IsValueType (vec m e) v) (all_one IsScalarOrVector (vec m e) tt) (inl (omega (arith, h.0))) (of_one_type e))
 untyped_of_one n (within (vec_of m) e) r v (inr h) =
     subst (λ r. IsLeastMade (IsVectorCandidate n None) (vec m e ∷ []) r) (sym h.1)
     (no_vector n (vec m e) [] _ (all_one IsValueType (vec m e) v) (λ q k. elim k [ inl p ↦ h.0 (omega (arith, p)) | inr p ↦ absurd (cc p.1) ]))

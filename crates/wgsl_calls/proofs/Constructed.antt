@@ -1,5 +1,5 @@
 -- The answer of a constructor from the answers of the functions that it calls, for one argument and for several.
-use Rattle.std.proofs.Common.{string_bytes, ◌≡◌, ◌≢◌, ℕ, ◌≤◌, List, [], ◌∷◌, length, map, Option, Some, None, Result, Ok, Err, Bool, IsTrue, ◌↔◌, refl, sym, ap, subst, ◌∙◌, inl, inr}
+use Rattle.std.proofs.Common.{string_bytes, ◌≡◌, ◌≢◌, ℕ, ◌<◌, ◌≤◌, List, [], ◌∷◌, length, map, Option, Some, None, Result, Ok, Err, Bool, IsTrue, ◌↔◌, refl, sym, ap, subst, ◌∙◌, inl, inr}
 use native.Mathlib.Omega.{arith}
 use Rattle.std.proofs.lemmas.List.{length-map}
 use Rattle.wgsl_rules.specs.types.Types.{Layer, array_of, vec_of, mat_of, WgslType, scalar, within, array, vec, mat, Members, struct, atomic, pointer, reference, texture, sampler, binding_array, ray_query, acceleration_structure}
@@ -7,10 +7,10 @@ use Rattle.wgsl_syntax.specs.declared.scalar.Scalar.{Scalar}
 use Rattle.wgsl_rules.specs.types.Kinds.{IsMatrix}
 use Rattle.wgsl_rules.specs.conversion.Conversion.{ConvertsTo}
 use Rattle.wgsl_rules.specs.conversion.Converted.{IsConvertedInside}
-use Rattle.wgsl_rules.specs.conversion.Common.{IsLeftCommon}
-use Rattle.wgsl_rules.specs.errors.Refusals.{Refusal, conversion, param_count, param_type}
+use Rattle.wgsl_rules.specs.conversion.Common.{IsLeftCommon, of_no_types, of_one_type}
+use Rattle.wgsl_rules.specs.errors.Refusals.{Refusal, builtin, conversion, param_count, param_type}
 use Rattle.wgsl_rules.specs.constructors.Vectors.{IsTypedVectorOfOne, IsTypedVectorOfSeveral, IsTypedVector, IsUntypedVectorOfSeveral, IsUntypedVector}
-use Rattle.wgsl_rules.specs.constructors.Matrices.{IsMatrixOf, IsTypedMatrixOf, IsTypedMatrixOfOne, IsTypedMatrix, IsUntypedMatrixOf, IsUntypedMatrixOfOne, IsUntypedMatrix}
+use Rattle.wgsl_rules.specs.constructors.Matrices.{incompatible_matrix, IsMatrixOf, IsTypedMatrixOf, IsTypedMatrixOfOne, IsTypedMatrix, IsUntypedMatrixOf, IsUntypedMatrixOfOne, IsUntypedMatrix}
 use Rattle.wgsl_rules.specs.types.Signatures.{Signature}
 use Rattle.wgsl_rules.specs.constructors.Constructors.{Constructor, constructor_of, IsBuilt, IsConstructorAnswer, IsTypedArray, IsFilled, IsStructCall, member_count, AllFit, IsFirstMisfit}
 use Rattle.wgsl_core.specs.View.{view, struct_view}
@@ -69,6 +69,11 @@ columns_untyped name c n u (a ∷ []) le l r h = absurd (omega arith)
 columns_untyped name c n u (a ∷ b ∷ args) le l r h =
     (Some u, l, subst (λ k. IsUntypedMatrixOf name c n k u r) (sym (length-map (a ∷ b ∷ args) view)) h)
 
+-- no arguments have no common type
+pub no_columns : (name : List ℕ) (c n : ℕ) (args : List «Type») → length args < 1 → IsUntypedMatrix name c n (map view args) (Err (builtin incompatible_matrix))
+no_columns name c n [] lt = (None, of_no_types, refl)
+no_columns name c n (a ∷ args) lt = absurd (omega arith)
+
 pub several_members : (name : List ℕ) (ms : Members) (args : List «Type») (r : Result (Unit {0}) Refusal) → 1 ≤ length args →
     IsFilled name ms (map view args) r → IsStructCall name ms (map view args) r
 several_members name ms [] r le h = absurd (omega arith)
@@ -82,35 +87,35 @@ of_several_members name ms (a ∷ args) r le h = h
 -- a single argument that isn't a matrix is the common type of the arguments
 pub one_typed : (name : List ℕ) (c n : ℕ) (t a : WgslType) → ¬ IsMatrix a → (r : Result WgslType Refusal) →
     IsTypedMatrixOf name c n 1 t a r → IsTypedMatrixOfOne name c n a t r
-one_typed name c n t (scalar s) m r h = (Some (scalar s), refl, h)
-one_typed name c n t (array k e) m r h = (Some (array k e), refl, h)
-one_typed name c n t (vec k e) m r h = (Some (vec k e), refl, h)
+one_typed name c n t (scalar s) m r h = (Some (scalar s), of_one_type _, h)
+one_typed name c n t (array k e) m r h = (Some (array k e), of_one_type _, h)
+one_typed name c n t (vec k e) m r h = (Some (vec k e), of_one_type _, h)
 one_typed name c n t (mat d s e) m r h = absurd (m tt)
-one_typed name c n t (struct s ms) m r h = (Some (struct s ms), refl, h)
-one_typed name c n t (atomic e) m r h = (Some (atomic e), refl, h)
-one_typed name c n t (pointer s e x) m r h = (Some (pointer s e x), refl, h)
-one_typed name c n t (reference s e x) m r h = (Some (reference s e x), refl, h)
-one_typed name c n t (texture x) m r h = (Some (texture x), refl, h)
-one_typed name c n t (sampler x) m r h = (Some (sampler x), refl, h)
-one_typed name c n t (binding_array k e) m r h = (Some (binding_array k e), refl, h)
-one_typed name c n t (ray_query f) m r h = (Some (ray_query f), refl, h)
-one_typed name c n t (acceleration_structure f) m r h = (Some (acceleration_structure f), refl, h)
+one_typed name c n t (struct s ms) m r h = (Some (struct s ms), of_one_type _, h)
+one_typed name c n t (atomic e) m r h = (Some (atomic e), of_one_type _, h)
+one_typed name c n t (pointer s e x) m r h = (Some (pointer s e x), of_one_type _, h)
+one_typed name c n t (reference s e x) m r h = (Some (reference s e x), of_one_type _, h)
+one_typed name c n t (texture x) m r h = (Some (texture x), of_one_type _, h)
+one_typed name c n t (sampler x) m r h = (Some (sampler x), of_one_type _, h)
+one_typed name c n t (binding_array k e) m r h = (Some (binding_array k e), of_one_type _, h)
+one_typed name c n t (ray_query f) m r h = (Some (ray_query f), of_one_type _, h)
+one_typed name c n t (acceleration_structure f) m r h = (Some (acceleration_structure f), of_one_type _, h)
 
 pub one_untyped : (name : List ℕ) (c n : ℕ) (a : WgslType) → ¬ IsMatrix a → (r : Result WgslType Refusal) →
     IsUntypedMatrixOf name c n 1 a r → IsUntypedMatrixOfOne name c n a r
-one_untyped name c n (scalar s) m r h = (Some (scalar s), refl, h)
-one_untyped name c n (array k e) m r h = (Some (array k e), refl, h)
-one_untyped name c n (vec k e) m r h = (Some (vec k e), refl, h)
+one_untyped name c n (scalar s) m r h = (Some (scalar s), of_one_type _, h)
+one_untyped name c n (array k e) m r h = (Some (array k e), of_one_type _, h)
+one_untyped name c n (vec k e) m r h = (Some (vec k e), of_one_type _, h)
 one_untyped name c n (mat d s e) m r h = absurd (m tt)
-one_untyped name c n (struct s ms) m r h = (Some (struct s ms), refl, h)
-one_untyped name c n (atomic e) m r h = (Some (atomic e), refl, h)
-one_untyped name c n (pointer s e x) m r h = (Some (pointer s e x), refl, h)
-one_untyped name c n (reference s e x) m r h = (Some (reference s e x), refl, h)
-one_untyped name c n (texture x) m r h = (Some (texture x), refl, h)
-one_untyped name c n (sampler x) m r h = (Some (sampler x), refl, h)
-one_untyped name c n (binding_array k e) m r h = (Some (binding_array k e), refl, h)
-one_untyped name c n (ray_query f) m r h = (Some (ray_query f), refl, h)
-one_untyped name c n (acceleration_structure f) m r h = (Some (acceleration_structure f), refl, h)
+one_untyped name c n (struct s ms) m r h = (Some (struct s ms), of_one_type _, h)
+one_untyped name c n (atomic e) m r h = (Some (atomic e), of_one_type _, h)
+one_untyped name c n (pointer s e x) m r h = (Some (pointer s e x), of_one_type _, h)
+one_untyped name c n (reference s e x) m r h = (Some (reference s e x), of_one_type _, h)
+one_untyped name c n (texture x) m r h = (Some (texture x), of_one_type _, h)
+one_untyped name c n (sampler x) m r h = (Some (sampler x), of_one_type _, h)
+one_untyped name c n (binding_array k e) m r h = (Some (binding_array k e), of_one_type _, h)
+one_untyped name c n (ray_query f) m r h = (Some (ray_query f), of_one_type _, h)
+one_untyped name c n (acceleration_structure f) m r h = (Some (acceleration_structure f), of_one_type _, h)
 
 pub no_matrix : {f : Form} {a : WgslType} → a ≡ form_view f → ((c r : ℕ) (e : Bor «Type») → f ≡ forms.Matrix c r e → ⊥) → ¬ IsMatrix a
 no_matrix {f} p n = subst (λ a. ¬ IsMatrix a) (sym p) (at f n)

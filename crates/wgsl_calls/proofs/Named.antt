@@ -1,15 +1,11 @@
 -- A call by its name: its answer, that this is the least candidate's, and when it is never out of memory.
-use Rattle.std.proofs.Common.{◌≡◌, List, Option, Some, None, Result, Ok, Err, ap, subst, sym, option_map}
-use Rattle.std.specs.Prelude.{IfSome}
-use Rattle.wgsl_syntax.specs.declared.call.ReturnType.TheVariants.{Of}
-use Rattle.wgsl_syntax.specs.declared.call.Source.{Source}
-use Rattle.wgsl_syntax.specs.declared.scalar.Scalar.{Scalar}
-use Rattle.wgsl_rules.specs.types.Types.{WgslType, scalar}
+use Rattle.std.proofs.Common.{◌≡◌, List, Option, Some, None, Result, Ok, Err, subst, option_map}
+use Rattle.wgsl_rules.specs.types.Types.{WgslType}
 use Rattle.wgsl_rules.specs.types.Signatures.{Parameter, Signature}
 use Rattle.wgsl_rules.specs.errors.Refusals.{Refusal, signature}
 use Rattle.wgsl_syntax.specs.declared.call.Row.{Row}
 use Rattle.wgsl_syntax.specs.declared.call.ReturnType.{ReturnType}
-use Rattle.wgsl_rules.specs.calls.Rows.{IsReturnType, IsSource, given}
+use Rattle.wgsl_rules.specs.calls.Rows.{IsReturnType}
 use Rattle.wgsl_rules.specs.calls.Table.{call_table, rows_named}
 use Rattle.wgsl_rules.specs.calls.Answers.{IsAnswerOf, IsCallAnswer, IsLeastCallAnswer, IsLeafAnswer, IsLeafCall}
 use Rattle.wgsl_rules.proofs.calls.OneAnswer.{call_answer_once}
@@ -20,7 +16,7 @@ use Rattle.wgsl_core.specs.declared.ty.Type.{«Type»}
 use Rattle.wgsl_core.specs.declared.error.Error.{Error}
 use Rattle.wgsl_core.specs.declared.error.Fail.{Fail}
 use Rattle.wgsl_core.specs.declared.error.Fail.TheVariants as fails
-use Rattle.wgsl_calls.specs.internal.Answers.{Chooses, MayBeOutOfMemory, IsMet, IsOfArguments, Answered}
+use Rattle.wgsl_calls.specs.internal.Answers.{Chooses, MayBeOutOfMemory, IsMet, Answered}
 use Rattle.wgsl_calls.proofs.OutOfMemory.{by_answer, by_other}
 
 pub by_name : (c : Signature) (rows : List Row) (p : Option (List Parameter)) (r : Result (Option «Type») (Fail Error)) → rows ≡ rows_named c.name call_table → Answered (IsAnswerOf rows c) p r →
@@ -32,23 +28,6 @@ by_name c rows p r e k = by_other (IsAnswerOf rows c) (IsCallAnswer c) p r (λ a
 pub by_chosen : (c : Signature) (rows : List Row) (o : ReturnType) (p : Option (List Parameter)) (r : Result (Option «Type») (Fail Error)) → rows ≡ rows_named c.name call_table →
     Chooses rows c (Some o) → Answered (IsReturnType o c) p r → Answered (IsCallAnswer c) p r
 by_chosen c rows o p r e h k = by_name c rows p r e (by_other (IsReturnType o c) (IsAnswerOf rows c) p r h k)
-
-chosen_answer : (c : Signature) (o : ReturnType) (a : Result (Option WgslType) Refusal) → Chooses (rows_named c.name call_table) c (Some o) → IsReturnType o c a → IsCallAnswer c a
-unfolding IsCallAnswer
-chosen_answer c o a h k = h a k
-
--- the answer of a call that returns a scalar found in its arguments
-pub scalar_found : (c : Signature) (p : Source) (o : ReturnType) (t : WgslType) (found : Option Scalar) → Chooses (rows_named c.name call_table) c (Some o) → o ≡ Of p → IsSource p c.arguments (Some t) →
-    IfSome found (λ s. t ≡ scalar s) → IfSome found (λ s. IsCallAnswer c (Ok (Some (scalar s))))
-scalar_found c p o t None h is source e = tt
-scalar_found c p o t (Some s) h is source e =
-    chosen_answer c o _ h (subst (λ o. IsReturnType o c (Ok (Some (scalar s)))) (sym is) (Some t, source, ap (λ t. Ok (Some t)) (sym e)))
-
--- the answer of a call that returns an argument's type, or one made of it
-pub resolved_answer : {X : Type 0} (of : X → WgslType) (c : Signature) (o : ReturnType) (found : Option X) → Chooses (rows_named c.name call_table) c (Some o) →
-    (IsOfArguments o → IsReturnType o c (given c (option_map of found))) → IfSome found (λ x. IsOfArguments o) → IfSome found (λ x. IsCallAnswer c (Ok (Some (of x))))
-resolved_answer of c o None h gives made = tt
-resolved_answer of c o (Some x) h gives made = chosen_answer c o _ h (gives made)
 
 pub by_none : (c : Signature) (rows : List Row) (p : Option (List Parameter)) (r : Result (Option «Type») (Fail Error)) → rows ≡ rows_named c.name call_table →
     Chooses rows c None → IsMet (Err (signature c)) r → Answered (IsCallAnswer c) p r

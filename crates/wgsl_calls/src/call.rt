@@ -1,10 +1,9 @@
 // The types of calls of built-in functions (WGSL, "Built-in Functions").
-ghost use Rattle.std.specs.Prelude.{◌≡◌, Err, IfSome, None, Ok, Some, option_map, map, All};
-ghost use Rattle.wgsl_rules.specs.types.Types.{scalar};
+ghost use Rattle.std.specs.Prelude.{◌≡◌, Err, option_map, map, All};
 ghost use Rattle.wgsl_rules.specs.conversion.Concrete.{concretized};
 ghost use Rattle.wgsl_rules.specs.errors.Refusals.{signature};
 ghost use Rattle.wgsl_rules.specs.calls.ResultTypes.{exchange_struct};
-ghost use Rattle.wgsl_rules.specs.calls.Rows.{IsResultFor, IsFromTemplate, IsReturnType, given, return_type_of as return_type_of_row};
+ghost use Rattle.wgsl_rules.specs.calls.Rows.{IsResultFor, IsFromTemplate, IsReturnType, return_type_of as return_type_of_row};
 ghost use Rattle.wgsl_rules.specs.templates.Templates.{IsBitcastTemplate};
 ghost use Rattle.wgsl_rules.specs.calls.Table.{call_table, rows_named};
 ghost use Rattle.wgsl_rules.specs.calls.Answers.{IsCallAnswer, IsLeastCallAnswer, IsLeafCall};
@@ -14,7 +13,7 @@ ghost use Rattle.wgsl_core.specs.internal.Resolution.{element_view, resolved_vie
 ghost use Rattle.wgsl_core.specs.ResultStruct.{result_type};
 ghost use Rattle.wgsl_core.specs.Answer.{AnswersBy, AnswersAs, IsAnswered};
 ghost use Rattle.wgsl_calls.specs.internal.Rows.{rows_view};
-ghost use Rattle.wgsl_calls.specs.internal.Answers.{signature_of, template_of, Chooses, IsBuilt, IsMet, IsOfArguments, Answered};
+ghost use Rattle.wgsl_calls.specs.internal.Answers.{signature_of, template_of, Chooses, IsBuilt, IsMet, Answered};
 ghost use Rattle.wgsl_rules.specs.conversion.Conversion.{IsValueType};
 ghost use Rattle.wgsl_rules.specs.operators.Candidates.{Name};
 ghost use Rattle.wgsl_rules.specs.Laws.{OneChoice};
@@ -30,7 +29,7 @@ use crate::call::find::rows_of;
 use crate::call::fit::{Call, fits};
 use crate::call::rows::Rows;
 use crate::call::source::{
-    argument, as_long, as_scalar, bare, in_vector, inner, texture_size, transposed, type_of_source,
+    argument, as_long, bare, in_vector, inner, texture_size, transposed, type_of_source,
 };
 use crate::template::BitcastTemplate;
 pub use find::{find_call, names_match_table, names_sorted};
@@ -43,7 +42,6 @@ use wgsl_core::ty::result_struct::shaped_float;
 use wgsl_core::ty::result_type::{exchange_result, hit_positions, ray_intersection, result_struct};
 use wgsl_syntax::call::{ReturnType, Row};
 use wgsl_syntax::result_struct::{ResultFunction, ResultStruct};
-use wgsl_syntax::scalar::Scalar;
 
 /// The type of a call of a built-in function (WGSL, "Built-in Functions"), by its name, its template if it has
 /// one, and the types of its arguments; None if it returns no value. `Signature` with all three refuses a call that
@@ -73,37 +71,6 @@ pub fn type_builtin_fn(
             args,
         },
     )
-}
-
-/// The type that a call without a template returns, not built yet. None if it is none of its arguments' types and isn't
-/// made of one, if the call returns no value, and if it is refused.
-pub fn unbuilt_of_builtin_fn<'a>(name: &'a str, args: &'a [Type]) -> Option<ResolvedType<'a>>
-    ensures { IfSome result (λ t. IsCallAnswer (call_view name.now None args.now)
-        (Ok (Some (resolved_view t)))) }
-{
-    let call = Call {
-        name,
-        template: None,
-        args,
-    };
-    let return_type = chosen(&call)?;
-    resolved(return_type, &call)
-}
-
-/// The scalar that a call without a template returns; None if it returns another type or no value, and if it is refused.
-pub fn scalar_of_builtin_fn<'a>(name: &'a str, args: &'a [Type]) -> Option<Scalar>
-    ensures { IfSome result (λ s. IsCallAnswer (call_view name.now None args.now)
-        (Ok (Some (scalar s)))) }
-{
-    let call = Call {
-        name,
-        template: None,
-        args,
-    };
-    match chosen(&call)? {
-        ReturnType::Of(of) => as_scalar(type_of_source(of, args)?),
-        _ => None,
-    }
 }
 
 /// The answer of a call: of the first row of its name that takes it, or the refusal if none does.
@@ -198,24 +165,6 @@ fn by_return_type(
     match built {
         Some(built) => Ok(Some(built?)),
         None => refuse(alloc, call),
-    }
-}
-
-/// The type that is returned, if it is an argument's or is made of one.
-#[inline(always)]
-fn resolved<'a>(return_type: ReturnType, call: &Call<'a>) -> Option<ResolvedType<'a>>
-    ensures given { IsOfArguments return_type → IsReturnType return_type (signature_of call.now)
-        (given (signature_of call.now) (option_map resolved_view result)) }
-    ensures others { IfSome result (λ t. IsOfArguments return_type) }
-{
-    let args = call.args;
-    match return_type {
-        ReturnType::Of(of) => bare(type_of_source(of, args)),
-        ReturnType::AsLong(of) => as_long(argument(args, 0), type_of_source(of, args)),
-        ReturnType::InVector(n, of) => in_vector(n, type_of_source(of, args)),
-        ReturnType::Transposed => transposed(argument(args, 0)),
-        ReturnType::TextureSize => texture_size(argument(args, 0)),
-        _ => None,
     }
 }
 

@@ -14,3 +14,4 @@ mod session;
 mod support;
 mod sweeps;
 mod templates;
+mod user;

@@ -24,14 +24,10 @@ use wgsl_syntax::result_struct::{ResultPrecision, ResultStruct};
 use wgsl_syntax::scalar::Scalar;
 
 /// The rank of the conversion from `a` to `b` (WGSL, "Conversion Rank"), or None if `a` doesn't convert to `b`.
-#[inline(always)]
 pub fn conversion_rank(a: &Type, b: &Type) -> Option<u32>
     ensures { (w : ℕ) → (result ≡ Some w) ↔ Converts (view a.now) (view b.now) w }
 {
-    match scalars(a, b) {
-        Some((source, target)) => scalar_rank(source, target),
-        None => rank_steps(a, b).0,
-    }
+    rank_steps(a, b).0
 }
 
 /// Both scalars, if both types are scalars.
@@ -50,30 +46,10 @@ fn scalars(a: &Type, b: &Type) -> Option<(Scalar, Scalar)>
 }
 
 /// The rank of the conversion from one scalar to another, or None if it doesn't convert.
-#[inline(always)]
 pub fn scalar_rank(source: Scalar, target: Scalar) -> Option<u32>
     ensures { (w : ℕ) → (result ≡ Some w) ↔ Converts (scalar source) (scalar target) w }
 {
-    if converts(source, target) {
-        Some(rank_from_root(Node::Scalar(target)) - rank_from_root(Node::Scalar(source)))
-    } else {
-        None
-    }
-}
-
-/// Whether a scalar converts to another.
-#[inline(always)]
-fn converts(source: Scalar, target: Scalar) -> bool
-    ensures { IsTrue result ↔ ConvertsTo (scalar source) (scalar target) }
-{
-    match source {
-        Scalar::AbstractInt => !matches!(target, Scalar::Bool | Scalar::F64),
-        Scalar::AbstractFloat => matches!(
-            target,
-            Scalar::AbstractFloat | Scalar::F32 | Scalar::F16
-        ),
-        _ => is_same(Node::Scalar(source), Node::Scalar(target)),
-    }
+    walk(Node::Scalar(source), Node::Scalar(target)).0
 }
 
 /// The common type of two types (WGSL, "Overload Resolution"): `b` if `a` converts to it, else `a` if `b` converts

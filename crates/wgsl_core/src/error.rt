@@ -12,6 +12,7 @@ use wgsl_syntax::operator::{BinaryOperator, UnaryOperator};
 
 /// Why an expression has no type, or no value (WGSL, "Errors").
 #[derive(Debug, Drop)]
+#[non_exhaustive]
 pub enum Error {
     /// What isn't implemented.
     Todo(String),
@@ -29,10 +30,15 @@ pub enum Error {
     MissingTemplate(&'static str),
     /// The type written, and the type that the reference refers to.
     WriteRefType(Type, Type),
+    /// A write through a reference that can't be written.
     NotWrite,
+    /// A read through a reference that can't be read.
     NotRead,
+    /// A read and a write through a reference that doesn't allow both.
     NotReadWrite,
+    /// A pointer into the handle space.
     PtrHandle,
+    /// A pointer to a component of a vector.
     PtrVecComp,
     /// A type, and the type to which it doesn't convert.
     Conversion(Type, Type),
@@ -50,10 +56,15 @@ pub enum Error {
     Binary(BinaryOperator, Type, Type),
     /// Two operands that have no component-wise operation.
     CompwiseBinary(Type, Type),
+    /// A sum that doesn't fit.
     AddOverflow,
+    /// A difference that doesn't fit.
     SubOverflow,
+    /// A product that doesn't fit.
     MulOverflow,
+    /// A division by zero.
     DivByZero,
+    /// A remainder of a division by zero.
     RemZeroDiv,
     /// The number of bits to shift by, and the value shifted.
     ShlOverflow(u32, LiteralInstance),
@@ -73,7 +84,7 @@ pub enum Error {
 
 /// Why a call has no answer: an error, or out of memory.
 #[derive(Debug, Drop)]
-pub enum Fail<E> {
+pub enum Fail<E = Error> {
     Error(E),
     Memory(AllocError),
 }
@@ -95,8 +106,8 @@ impl<E, T: Drop> From<AllocFailed<T>> for Fail<E> {
 
     ghost from_gives = { λ _ f. f ≡ Memory alloc_error };
 
-    fn from(_e: AllocFailed<T>) -> Fail<E> {
-        Fail::Memory(AllocError)
+    fn from(e: AllocFailed<T>) -> Fail<E> {
+        Fail::Memory(AllocError::from(e))
     }
 }
 

@@ -22,15 +22,20 @@ use wgsl_syntax::scalar::Scalar;
 pub struct StructLayout {
     /// One per member, in order.
     pub members: Vec<PlacedMember>,
+    /// The size of the struct.
     pub size: u32,
+    /// The alignment of the struct.
     pub align: u32,
 }
 
 /// The layout of a member in its struct, in bytes.
 #[derive(Clone, Copy, Debug, PartialEq, Eq)]
 pub struct PlacedMember {
+    /// Where the member begins.
     pub offset: u32,
+    /// The size of the member.
     pub size: u32,
+    /// The alignment of the member.
     pub align: u32,
 }
 

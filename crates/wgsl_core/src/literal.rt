@@ -13,17 +13,24 @@ use std::fmt::Write;
 /// A value: a literal.
 #[derive(Clone, Copy, PartialEq, Debug)]
 pub enum Instance {
+    /// A literal.
     Literal(LiteralInstance),
 }
 
 /// A literal (WGSL, "Literals"), with naga's 64-bit integers.
 #[derive(Clone, Copy, PartialEq, Debug)]
 pub enum LiteralInstance {
+    /// `true` or `false`
     Bool(bool),
+    /// `3`
     AbstractInt(i64),
+    /// `3i`
     I32(i32),
+    /// `3u`
     U32(u32),
+    /// `3li`
     I64(i64),
+    /// `3lu`
     U64(u64),
 }
 

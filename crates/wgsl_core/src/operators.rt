@@ -31,8 +31,11 @@ use wgsl_syntax::operator::{BinaryOperator, UnaryOperator};
 /// they convert, and the type of the result.
 #[derive(Debug, Drop)]
 pub struct Candidate {
+    /// The type to which the left operand converts.
     pub lhs: Type,
+    /// The type to which the right operand converts.
     pub rhs: Type,
+    /// The type of the result.
     pub result: Type,
 }
 

@@ -11,8 +11,11 @@ use wgsl_syntax::enumerant::Enumerant;
 /// A template parameter (WGSL, "Template Lists").
 #[derive(Debug, Drop)]
 pub enum TpltParam {
+    /// A type.
     Ty(Type),
+    /// A value.
     Instance(Instance),
+    /// An enumerant.
     Enumerant(Enumerant),
 }
 
@@ -20,8 +23,11 @@ pub enum TpltParam {
 /// arguments.
 #[derive(Debug, Drop)]
 pub struct CallSignature {
+    /// The name of what is called.
     pub name: String,
+    /// The template's parameters, if the call has a template.
     pub tplt: Option<Vec<TpltParam>>,
+    /// The types of the arguments.
     pub args: Vec<Type>,
 }
 
@@ -29,8 +35,11 @@ pub struct CallSignature {
 /// while the shader runs.
 #[derive(Clone, Copy, PartialEq, Eq, Hash, Debug)]
 pub enum ShaderStage {
+    /// At shader creation.
     Const,
+    /// At pipeline creation.
     Override,
+    /// While the shader runs.
     Exec,
 }
 

@@ -29,13 +29,21 @@ use wgsl_syntax::texture::{SampledType, SamplerType, TextureType};
 #[cycle(types)]
 #[derive(Debug, Drop)]
 pub enum Type {
+    /// `bool`
     Bool,
+    /// The type of an integer literal without a suffix.
     AbstractInt,
+    /// The type of a float literal without a suffix.
     AbstractFloat,
+    /// `i32`
     I32,
+    /// `u32`
     U32,
+    /// `f32`
     F32,
+    /// `f16`
     F16,
+    /// A struct.
     Struct(Box<StructType>),
     /// The element, and the number of elements, or None if runtime-sized.
     Array(Box<Type>, Option<usize>),
@@ -43,16 +51,27 @@ pub enum Type {
     Vec(u8, Box<Type>),
     /// The number of columns, the number of rows, and the type of the components.
     Mat(u8, u8, Box<Type>),
+    /// An atomic, of that type.
     Atomic(Box<Type>),
+    /// A pointer.
     Ptr(AddressSpace, Box<Type>, AccessMode),
+    /// A reference.
     Ref(AddressSpace, Box<Type>, AccessMode),
+    /// A texture.
     Texture(TextureType),
+    /// A sampler.
     Sampler(SamplerType),
+    /// `i64`
     I64,
+    /// `u64`
     U64,
+    /// `f64`
     F64,
+    /// The element, and the number of elements, or None if runtime-sized.
     BindingArray(Box<Type>, Option<usize>),
+    /// naga's ray query.
     RayQuery(Option<AccelerationStructureFlags>),
+    /// naga's acceleration structure.
     AccelerationStructure(Option<AccelerationStructureFlags>),
 }
 
@@ -60,7 +79,9 @@ pub enum Type {
 #[cycle(types)]
 #[derive(Debug, Drop)]
 pub struct StructType {
+    /// The name.
     pub name: String,
+    /// The members, in order.
     pub members: Vec<StructMemberType>,
 }
 
@@ -68,9 +89,13 @@ pub struct StructType {
 #[cycle(types)]
 #[derive(Debug, Drop)]
 pub struct StructMemberType {
+    /// The name.
     pub name: String,
+    /// The type.
     pub ty: Type,
+    /// The attribute `size`.
     pub size: Option<u32>,
+    /// The attribute `align`.
     pub align: Option<u32>,
 }
 

@@ -1,49 +1,148 @@
 // The words behind the program's name.
 
+use std::alloc::{AllocError, Global};
 use wgsl_report::report::Format;
 
-/// What is asked of a file.
-#[derive(Clone, Copy)]
+/// What is asked of files.
+#[derive(Drop)]
 pub struct Arguments<'a> {
-    pub file: &'a str,
-    pub only: Option<&'a str>,
+    /// `-` is standard input.
+    pub files: Vec<&'a str>,
+    /// The structs that are asked about; none stands for all.
+    pub only: Vec<&'a str>,
     pub format: Format,
 }
 
 /// What is asked of the program.
-#[derive(Clone, Copy)]
+#[derive(Drop)]
 pub enum Asked<'a> {
     Help,
     Version,
     Report(Arguments<'a>),
+    Nothing(Misuse<'a>),
 }
 
-/// What the words ask, or why they can't be read.
-pub fn read_arguments(words: &[String]) -> Result<Asked<'_>, &'static str> {
-    let mut file = None;
-    let mut only = None;
-    let mut format = Format::Tables;
-    let mut names_struct = false;
-    for word in words {
-        let word = word.as_str();
-        if names_struct {
-            only = Some(word);
-            names_struct = false;
-            continue;
-        }
-        match word {
-            "--help" | "-h" => return Ok(Asked::Help),
-            "--version" => return Ok(Asked::Version),
-            "--json" => format = Format::Json,
-            "--struct" => names_struct = true,
-            _ if word.starts_with("--") => return Err("an option is unknown"),
-            _ if file.is_some() => return Err("there is more than one file"),
-            _ => file = Some(word),
+/// Why words ask nothing.
+#[derive(Clone, Copy)]
+pub enum Misuse<'a> {
+    UnknownOption(&'a str),
+    /// Behind `--struct` there is no name.
+    NoName,
+    NoFile,
+    /// Two forms are asked for, of which this is the second.
+    OtherForm(&'a str),
+    /// A form that takes one file has more than one.
+    OneFile,
+}
+
+impl<'a> Misuse<'a> {
+    /// What is told of it, and the word behind that.
+    pub fn text(self) -> (&'static str, &'a str) {
+        match self {
+            Misuse::UnknownOption(word) => ("there is no option ", word),
+            Misuse::NoName => ("there is no name behind --struct", ""),
+            Misuse::NoFile => ("there is no file", ""),
+            Misuse::OtherForm(word) => ("another form is asked for beside ", word),
+            Misuse::OneFile => ("--c, --rust and --numpy take one file", ""),
         }
     }
-    match file {
-        _ if names_struct => Err("behind --struct there is no name"),
-        Some(file) => Ok(Asked::Report(Arguments { file, only, format })),
-        None => Err("there is no file"),
+}
+
+/// What the words ask.
+pub fn read_arguments<'a>(alloc: Global, words: &'a [String]) -> Result<Asked<'a>, AllocError> {
+    let mut reader = Reader::new(alloc);
+    for word in words {
+        match reader.read(word.as_str())? {
+            None => {}
+            Some(asked) => {
+                drop(reader);
+                return Ok(asked);
+            }
+        }
+    }
+    Ok(reader.finished())
+}
+
+/// What is read of the words.
+#[derive(Drop)]
+struct Reader<'a> {
+    files: Vec<&'a str>,
+    only: Vec<&'a str>,
+    format: Option<Format>,
+    /// Whether the next word is the name of a struct.
+    names_struct: bool,
+    /// Whether the words that follow are no options.
+    has_only_files: bool,
+}
+
+impl<'a> Reader<'a> {
+    fn new(alloc: Global) -> Reader<'a> {
+        Reader {
+            files: Vec::new(alloc),
+            only: Vec::new(alloc),
+            format: None,
+            names_struct: false,
+            has_only_files: false,
+        }
+    }
+
+    /// Reads a word. What is asked, if that is known whatever follows.
+    fn read(&mut self, word: &'a str) -> Result<Option<Asked<'a>>, AllocError> {
+        if self.names_struct {
+            self.names_struct = false;
+            self.only.push(word)?;
+        } else if self.has_only_files || word == "-" || !word.starts_with('-') {
+            self.files.push(word)?;
+        } else if let Some(name) = word.strip_prefix("--struct=") {
+            self.only.push(name)?;
+        } else {
+            return Ok(self.read_option(word));
+        }
+        Ok(None)
+    }
+
+    fn read_option(&mut self, word: &'a str) -> Option<Asked<'a>> {
+        match word {
+            "--help" | "-h" => return Some(Asked::Help),
+            "--version" => return Some(Asked::Version),
+            "--" => self.has_only_files = true,
+            "--struct" => self.names_struct = true,
+            _ => {
+                let Some(format) = Format::of_option(word) else {
+                    return Some(Asked::Nothing(Misuse::UnknownOption(word)));
+                };
+                if self.format.is_some_and(|other| other != format) {
+                    return Some(Asked::Nothing(Misuse::OtherForm(word)));
+                }
+                self.format = Some(format);
+            }
+        }
+        None
+    }
+
+    fn finished(self) -> Asked<'a> {
+        let Reader {
+            files,
+            only,
+            format,
+            names_struct,
+            has_only_files: _,
+        } = self;
+        let format = format.unwrap_or(Format::Tables);
+        let misuse = match files.len() {
+            _ if names_struct => Some(Misuse::NoName),
+            0 => Some(Misuse::NoFile),
+            1 => None,
+            _ if format.is_code() => Some(Misuse::OneFile),
+            _ => None,
+        };
+        match misuse {
+            Some(misuse) => Asked::Nothing(misuse),
+            None => Asked::Report(Arguments {
+                files,
+                only,
+                format,
+            }),
+        }
     }
 }

@@ -1,65 +1,113 @@
-// The program: it prints the layouts of the structs of a WGSL file, where its variables are bound, and what is wrong.
+// The program: it prints the layouts of the structs of WGSL files, where their variables are bound, and what is wrong.
 #![tactic(auto)]
 
 mod arguments;
+mod failure;
 
 use arguments::{Arguments, Asked, read_arguments};
+use failure::Failure;
 use std::alloc::Global;
-use std::io::{Read, Write};
+use std::io::{IsTerminal, Read, Write};
 use std::process::ExitCode;
 use std::{env, fs, io};
-use wgsl_report::report::{Request, report_on};
+use wgsl_report::report::{Report, Request, report_on};
+use wgsl_report::shown::Style;
 
 const HELP: &str = "\
-usage: ./wgsl_layout [--json | --c | --rust | --numpy] [--struct NAME] FILE
+usage: ./wgsl_layout [--json | --c | --rust | --numpy] [--struct NAME]... [--] FILE...
 
-Prints the layout of each struct of a WGSL file, where its variables are bound, and what is wrong with them.
+Prints the layout of each struct of WGSL files, where their variables are bound, and what is wrong with them.
 FILE - is standard input. docs/USING.md has the fields of the JSON.
 
-  --struct NAME  of this struct alone
-  --json         the same for programs
-  --c            the structs as a C header that checks each offset; what is wrong goes to standard error
+  --struct NAME  of this struct and those inside it alone; also --struct=NAME, and more than once
+  --json         the same for programs: an object on a line for each file
+  --c            the structs of one file as a C header that checks each offset
   --rust         as Rust
-  --numpy        as numpy dtypes
+  --numpy        as numpy dtypes; of these three, what is wrong goes to standard error
   --help, --version
 
-Exit status: 0 if nothing is wrong, 1 if there is an error or a finding, 2 if the arguments or the file can't be read,
-3 if memory ran out or a write failed.
+On a terminal each message has its line, with a caret under the place, and colors unless NO_COLOR is set.
+
+Exit status: 0 if nothing is wrong, 1 if there is an error or a finding, 2 if the arguments or a file can't be read or
+no struct has the name, 3 if memory ran out or a write failed.
 ";
 
+const CLEAN: u8 = 0;
+
+const FOUND: u8 = 1;
+
+const UNREAD: u8 = 2;
+
+const FAILED: u8 = 3;
+
 fn main(rt: HostRuntime) -> ExitCode {
-    ExitCode::from(run(&rt).unwrap_or(3))
+    let status = match run(&rt) {
+        Ok(status) => status,
+        Err(failure) => {
+            let _ = eprintln!(rt; "wgsl_layout: {failure}");
+            FAILED
+        }
+    };
+    ExitCode::from(status)
 }
 
-fn run(rt: &HostRuntime) -> io::Result<u8> {
-    let mut words = Vec::new(rt.alloc());
-    for word in env::args(rt)?.skip(1) {
-        words.push(word)?;
+fn run(rt: &HostRuntime) -> Result<u8, Failure> {
+    let Ok(words) = env::args(rt) else {
+        return Ok(refuse(
+            rt,
+            "an argument is not UTF-8; a file can be given as standard input",
+            "",
+        ));
+    };
+    let mut behind_name = Vec::new(rt.alloc());
+    for word in words.skip(1) {
+        behind_name.push(word)?;
     }
-    match read_arguments(&words) {
-        Ok(Asked::Help) => told(rt, HELP),
-        Ok(Asked::Version) => told(rt, "wgsl_layout 0.1.0\n"),
-        Ok(Asked::Report(arguments)) => run_report(rt, arguments),
-        Err(reason) => refuse(rt, "", reason),
+    match read_arguments(rt.alloc(), &behind_name)? {
+        Asked::Help => print(rt, HELP),
+        Asked::Version => print(rt, "wgsl_layout 0.2.0\n"),
+        Asked::Report(arguments) => report_all(rt, &arguments),
+        Asked::Nothing(misuse) => {
+            let (reason, word) = misuse.text();
+            Ok(refuse(rt, reason, word))
+        }
     }
 }
 
-fn told(rt: &HostRuntime, text: &str) -> io::Result<u8> {
-    rt.print(text)?;
-    Ok(0)
-}
-
-/// Says why nothing was done.
-fn refuse(rt: &HostRuntime, name: &str, reason: &str) -> io::Result<u8> {
-    eprintln!(rt; "wgsl_layout: {name}{reason}: see --help")?;
-    Ok(2)
-}
-
-fn run_report(rt: &HostRuntime, arguments: Arguments) -> io::Result<u8> {
-    match read_file(rt, arguments.file) {
-        Ok(bytes) => write_report(rt, &bytes, arguments),
-        Err(_) => refuse(rt, arguments.file, " can't be read"),
+fn print(rt: &HostRuntime, text: &str) -> Result<u8, Failure> {
+    match rt.stdout().write_all(text.as_bytes()) {
+        Ok(()) => Ok(CLEAN),
+        Err(error) => Err(Failure::Output(format!(in rt.alloc(); "{error}")?)),
     }
+}
+
+/// Says why words ask nothing.
+fn refuse(rt: &HostRuntime, reason: &str, word: &str) -> u8 {
+    let _ = eprintln!(rt; "wgsl_layout: {reason}{word}: see --help");
+    UNREAD
+}
+
+/// Reports on each file. The status is the highest.
+fn report_all(rt: &HostRuntime, arguments: &Arguments) -> Result<u8, Failure> {
+    let mut is_found = vec![in rt.alloc(); false; arguments.only.len()]?;
+    let mut status = CLEAN;
+    for file in &arguments.files {
+        let one = match read_file(rt, file) {
+            Ok(bytes) => report_one(rt, arguments, file, &bytes, &mut is_found)?,
+            Err(error) => {
+                let _ = eprintln!(rt; "wgsl_layout: {file} can't be read: {error}");
+                UNREAD
+            }
+        };
+        status = status.max(one);
+    }
+    for (name, is_found) in arguments.only.iter().zip(&is_found) {
+        if !is_found {
+            let _ = eprintln!(rt; "wgsl_layout: no struct is called `{name}`");
+            status = UNREAD;
+        }
+    }
+    Ok(status)
 }
 
 fn read_file(rt: &HostRuntime, file: &str) -> io::Result<Vec<u8>> {
@@ -71,13 +119,40 @@ fn read_file(rt: &HostRuntime, file: &str) -> io::Result<Vec<u8>> {
     Ok(bytes)
 }
 
-fn write_report(rt: &HostRuntime, bytes: &[u8], arguments: Arguments) -> io::Result<u8> {
+/// Prints what is told of a file, and marks the structs that are asked about and in it.
+fn report_one(
+    rt: &HostRuntime,
+    arguments: &Arguments,
+    file: &str,
+    bytes: &[u8],
+    is_found: &mut [bool],
+) -> Result<u8, Failure> {
     let request = Request {
-        file: arguments.file,
-        only: arguments.only,
+        file,
+        only: &arguments.only,
         format: arguments.format,
+        style: style(rt, arguments),
     };
-    let told = report_on(rt.alloc(), bytes, request)?;
-    rt.stdout().write_all(told.text.as_bytes())?;
-    Ok(if told.is_clean { 0 } else { 1 })
+    let report = report_on(rt.alloc(), bytes, request)?;
+    for (mark, is_here) in is_found.iter_mut().zip(&report.is_found) {
+        *mark = *mark || *is_here;
+    }
+    print(rt, report.text.as_str())?;
+    let _ = rt.stderr().write_all(report.notes.as_bytes());
+    Ok(if report.is_clean { CLEAN } else { FOUND })
+}
+
+/// How messages look where they are printed.
+fn style(rt: &HostRuntime, arguments: &Arguments) -> Style {
+    let is_terminal = if arguments.format.is_code() {
+        rt.stderr().is_terminal()
+    } else {
+        rt.stdout().is_terminal()
+    };
+    let is_plain = env::var(rt, "NO_COLOR").is_ok_and(|value| !value.is_empty());
+    match (is_terminal, is_plain) {
+        (false, _) => Style::Plain,
+        (true, true) => Style::Caret,
+        (true, false) => Style::Color,
+    }
 }

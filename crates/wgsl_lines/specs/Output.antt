@@ -20,7 +20,7 @@ bad_line n = codes "bad line " ++ decimal n ++ codes "\n"
 -- what is printed for line n if this is the reply to it
 abbrev pub printed : ℕ → ReplyText → List ℕ
 printed n nothing = []
-printed n (answer text) = text ++ codes "\n"
+printed n (answer kind text) = text ++ codes "\n"
 printed n unreadable = bad_line n
 
 -- the number after n: numbers stay at 18446744073709551615
@@ -35,7 +35,7 @@ printed_from n (reply ∷ replies) = printed n reply ++ printed_from (next_numbe
 -- whether this is the reply to a line that can be read
 abbrev pub is_readable : ReplyText → Bool
 is_readable nothing = true
-is_readable (answer text) = true
+is_readable (answer kind text) = true
 is_readable unreadable = false
 
 -- the text is the replies to the lines, in their order; `readable` tells whether each can be read

@@ -15,7 +15,7 @@ use Rattle.wgsl_lines.specs.Output.{Prints, PrintsUntil}
 -- a reply of this kind, if this text was written for it
 abbrev pub reply_of_kind : ReplyKind → List ℕ → ReplyText
 reply_of_kind k.Nothing text = nothing
-reply_of_kind k.Answer text = answer text
+reply_of_kind (k.Answer kind) text = answer kind text
 reply_of_kind (k.Unreadable why) text = unreadable
 
 -- before the first byte

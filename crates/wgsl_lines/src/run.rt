@@ -200,7 +200,7 @@ impl Session {
         self.answer.clear();
         match write_reply_to(self.alloc, rules, &mut self.line, end, &mut self.answer)? {
             ReplyKind::Nothing => {}
-            ReplyKind::Answer => {
+            ReplyKind::Answer(_) => {
                 self.answer.push('\n')?;
                 self.answers.push_str(&self.answer)?;
             }
@@ -308,10 +308,10 @@ fn write_reply_to(
     ensures number { line.new.number ≡ line.old.number }
 {
     if line.bytes.is_empty() {
-        return write_reply(alloc, rules, end, text);
+        return write_reply(alloc, rules, end, line.number, text);
     }
     line.extend(end);
-    write_reply(alloc, rules, &line.bytes, text)
+    write_reply(alloc, rules, &line.bytes, line.number, text)
 }
 
 /// What is printed for a line that can't be read.

@@ -11,12 +11,15 @@ pub struct Finding<'a> {
     /// The struct, if it is a member.
     pub of: Option<&'a str>,
     pub name: &'a str,
-    pub place: Place,
+    /// None where the rule is one for every struct, or for the whole module.
+    pub place: Option<Place>,
     pub trouble: Trouble,
+    /// Whether `requires uniform_buffer_standard_layout;` lifts the rule here.
+    pub is_lifted: bool,
 }
 
 /// Which rule is broken.
-#[derive(Clone, Copy)]
+#[derive(Clone, Copy, Debug)]
 pub enum Trouble {
     /// A member lies where its type may not, and needs this alignment.
     Offset { offset: u32, align: u32 },
@@ -97,17 +100,6 @@ impl Trouble {
             _ => (None, None),
         }
     }
-
-    /// Whether the rule is one for layouts in `uniform`, which a language extension lifts.
-    fn is_lifted(self) -> bool {
-        matches!(
-            self,
-            Trouble::Offset { .. }
-                | Trouble::Behind { .. }
-                | Trouble::Align { .. }
-                | Trouble::Stride { .. }
-        )
-    }
 }
 
 impl<'a> Finding<'a> {
@@ -115,14 +107,35 @@ impl<'a> Finding<'a> {
     pub fn write_to(&self, output: &mut String) -> Result<(), AllocError> {
         let trouble = self.trouble;
         let (number, mending) = trouble.numbers();
-        let (of, dot) = match self.of {
-            Some(of) => (of, "."),
-            None => ("", ""),
-        };
-        let lifted = if self.place == Place::Uniform && trouble.is_lifted() {
+        self.write_name(output)?;
+        let lifted = if self.is_lifted {
             " (`requires uniform_buffer_standard_layout;` lifts this rule)"
         } else {
             ""
+        };
+        let (before, place, behind) = match self.place {
+            Some(place) => ("; in `", place.text(), "` "),
+            None => ("; ", "", ""),
+        };
+        let pieces = [
+            Piece::Text(trouble.start()),
+            Piece::Number(number),
+            Piece::Text(before),
+            Piece::Text(place),
+            Piece::Text(behind),
+            Piece::Text(trouble.needs()),
+            Piece::Number(mending),
+            Piece::Text(trouble.end()),
+            Piece::Text(lifted),
+        ];
+        write_all(output, &pieces)
+    }
+
+    /// Writes the name of the variable, or of the member behind that of its struct, if it is one.
+    fn write_name(&self, output: &mut String) -> Result<(), AllocError> {
+        let (of, dot) = match self.of {
+            Some(of) => (of, "."),
+            None => ("", ""),
         };
         let pieces = [
             Piece::Text("`"),
@@ -130,15 +143,6 @@ impl<'a> Finding<'a> {
             Piece::Text(dot),
             Piece::Text(self.name),
             Piece::Text("` "),
-            Piece::Text(trouble.start()),
-            Piece::Number(number),
-            Piece::Text("; in `"),
-            Piece::Text(self.place.text()),
-            Piece::Text("` "),
-            Piece::Text(trouble.needs()),
-            Piece::Number(mending),
-            Piece::Text(trouble.end()),
-            Piece::Text(lifted),
         ];
         write_all(output, &pieces)
     }

@@ -1,101 +1,177 @@
-// Layouts and bindings as objects of JSON.
+// Layouts and bindings as an object of JSON.
 
-use crate::told::{end_of, is_endless, min_binding_size, padding, stride_of};
+use crate::message::{Message, Severity};
+use crate::resource::write_buffer;
+use crate::source::Source;
+use crate::told::{end_of, min_binding_size, padding, stride_of};
+use crate::tree::write_tree;
+use crate::type_text::type_text;
 use crate::write::{Piece, write_all};
 use std::alloc::AllocError;
-use wgsl_core::layout::PlacedMember;
-use wgsl_core::ty::StructMemberType;
-use wgsl_source::module::Module;
-use wgsl_source::structure::Struct;
+use wgsl_source::entry::{EntryPoint, Extent, Override};
+use wgsl_source::measured::MeasuredType;
+use wgsl_source::structure::{Member, Struct};
 use wgsl_source::variable::Variable;
 use wgsl_syntax::address::AddressSpace;
 
-/// What stands in front of an element of a list.
-pub fn separator(index: usize) -> &'static str {
-    if index == 0 { "\n" } else { ",\n" }
+/// Writes the chosen structs and all else of a module, on one line.
+pub fn write_json(output: &mut String, source: Source) -> Result<(), AllocError> {
+    let start = [
+        Piece::Text("{\"file\":\""),
+        Piece::Escaped(source.file),
+        Piece::Text("\",\"structs\":["),
+    ];
+    write_all(output, &start)?;
+    write_structs(output, source)?;
+    output.push_str("],\"variables\":[")?;
+    for (index, variable) in source.module.variables.iter().enumerate() {
+        write_variable(output, source, index, variable)?;
+    }
+    output.push_str("],\"overrides\":[")?;
+    for (index, constant) in source.module.overrides.iter().enumerate() {
+        write_override(output, source, index, constant)?;
+    }
+    output.push_str("],\"entryPoints\":[")?;
+    for (index, entry_point) in source.module.entry_points.iter().enumerate() {
+        write_entry_point(output, source, index, entry_point)?;
+    }
+    output.push_str("],\"errors\":[")?;
+    write_messages(output, source, Severity::Error)?;
+    output.push_str("],\"findings\":[")?;
+    write_messages(output, source, Severity::Finding)?;
+    output.push_str("]}\n")
 }
 
-/// A struct with its members.
-pub fn write_struct(output: &mut String, structure: &Struct) -> Result<(), AllocError> {
-    write_head(output, structure)?;
-    for (index, member) in structure.ty.members.iter().enumerate() {
-        if let Some(placed) = structure.layout.members.get(index) {
-            write_member(output, structure, index, member, *placed)?;
+/// What stands in front of an element of a list.
+fn separator(index: usize) -> &'static str {
+    if index == 0 { "" } else { "," }
+}
+
+/// How a declaration begins, at an index of a list.
+fn write_named(
+    output: &mut String,
+    source: Source,
+    index: usize,
+    name: &str,
+    at: usize,
+) -> Result<(), AllocError> {
+    let pieces = [
+        Piece::Text(separator(index)),
+        Piece::Text("{\"name\":\""),
+        Piece::Escaped(name),
+        Piece::Text("\""),
+        Piece::At(source.lines.place(at)),
+    ];
+    write_all(output, &pieces)
+}
+
+fn write_structs(output: &mut String, source: Source) -> Result<(), AllocError> {
+    let mut written = 0usize;
+    for index in &source.module.in_text {
+        if let Some(structure) = source.chosen(*index) {
+            write_named(output, source, written, structure.name, structure.place)?;
+            write_struct(output, source, structure)?;
+            written = 1;
         }
+    }
+    Ok(())
+}
+
+/// A struct with its members, behind its place.
+fn write_struct(output: &mut String, source: Source, structure: &Struct) -> Result<(), AllocError> {
+    let pieces = [
+        Piece::Field("size", Some(structure.size)),
+        Piece::Field("align", Some(structure.align)),
+        Piece::Text(",\"runtimeSized\":"),
+        Piece::Text(truth(structure.is_runtime_sized)),
+        Piece::Text(",\"members\":["),
+    ];
+    write_all(output, &pieces)?;
+    for (index, member) in structure.members.iter().enumerate() {
+        write_named(output, source, index, member.name, member.place)?;
+        write_member(output, source, member, end_of(structure, index))?;
     }
     output.push_str("]}")
 }
 
-fn write_head(output: &mut String, structure: &Struct) -> Result<(), AllocError> {
-    let is_runtime_sized = if structure.is_runtime_sized {
-        "true"
-    } else {
-        "false"
-    };
-    let pieces = [
-        Piece::Text("{\"name\":\""),
-        Piece::Text(structure.ty.name.as_str()),
-        Piece::Text("\""),
-        Piece::Field("size", Some(structure.layout.size)),
-        Piece::Field("align", Some(structure.layout.align)),
-        Piece::Text(",\"runtimeSized\":"),
-        Piece::Text(is_runtime_sized),
-        Piece::Text(",\"members\":["),
-    ];
-    write_all(output, &pieces)
+fn truth(is_true: bool) -> &'static str {
+    if is_true { "true" } else { "false" }
 }
 
+/// A member behind its place, and the padding up to an offset.
 fn write_member(
     output: &mut String,
-    structure: &Struct,
-    index: usize,
-    member: &StructMemberType,
-    placed: PlacedMember,
+    source: Source,
+    member: &Member,
+    end: u32,
 ) -> Result<(), AllocError> {
-    let gap = padding(placed, end_of(structure, index)).unwrap_or(0);
-    let pieces = [
-        Piece::Text(separator(index)),
-        Piece::Text("{\"name\":\""),
-        Piece::Text(member.name.as_str()),
-        Piece::Text("\",\"type\":\""),
-        Piece::Type(&member.ty, is_endless(structure, index)),
-        Piece::Text("\""),
-        Piece::Field("offset", Some(placed.offset)),
-        Piece::Field("size", Some(placed.size)),
-        Piece::Field("align", Some(placed.align)),
-        Piece::Field("stride", stride_of(&member.ty)),
+    let module = source.module;
+    write_type(output, source, member.ty)?;
+    let gap = padding(member, end).unwrap_or(0);
+    let numbers = [
+        Piece::Field("offset", Some(member.offset)),
+        Piece::Field("size", Some(member.size)),
+        Piece::Field("align", Some(member.align)),
+        Piece::Field("stride", stride_of(module, member.ty)),
         Piece::Field("padding", Some(gap)),
         Piece::Text("}"),
     ];
-    write_all(output, &pieces)
+    write_all(output, &numbers)
 }
 
-/// A variable, with the smallest size of a binding for it.
-pub fn write_variable(
+/// The fields for a type: its spelling, and its tree.
+fn write_type(output: &mut String, source: Source, ty: MeasuredType) -> Result<(), AllocError> {
+    let spelling = type_text(source.alloc, source.module, ty)?;
+    let pieces = [
+        Piece::Text(",\"type\":\""),
+        Piece::Escaped(spelling.as_str()),
+        Piece::Text("\",\"typeTree\":"),
+    ];
+    write_all(output, &pieces)?;
+    write_tree(output, source.module, ty)
+}
+
+/// A variable, with what is bound to it and the smallest size of that.
+fn write_variable(
     output: &mut String,
-    module: &Module,
+    source: Source,
+    index: usize,
     variable: &Variable,
 ) -> Result<(), AllocError> {
-    let pieces = [
-        Piece::Text("{\"name\":\""),
-        Piece::Text(variable.name),
-        Piece::Text("\",\"type\":\""),
-        Piece::Type(&variable.ty, false),
-        Piece::Text("\""),
+    let module = source.module;
+    write_named(output, source, index, variable.name, variable.place)?;
+    write_type(output, source, variable.ty)?;
+    let bound = [
         Piece::Field("group", variable.group),
         Piece::Field("binding", variable.binding),
         Piece::Text(",\"space\":\""),
-        Piece::Text(space_text(variable.space)),
-        Piece::Text("\",\"access\":\""),
-        Piece::Access(variable.access),
-        Piece::Text("\""),
+        Piece::Text(space_name(variable.space)),
+    ];
+    write_all(output, &bound)?;
+    let access = variable.access;
+    write!(output, "\",\"access\":\"{access}\",\"resource\":")?;
+    write_resource(output, source, variable)?;
+    let size = [
+        Piece::Field("size", variable.ty.size),
         Piece::Field("minBindingSize", min_binding_size(module, variable)),
         Piece::Text("}"),
     ];
-    write_all(output, &pieces)
+    write_all(output, &size)
 }
 
-fn space_text(space: AddressSpace) -> &'static str {
+/// What is bound to a variable: a buffer, or what its type says.
+fn write_resource(
+    output: &mut String,
+    source: Source,
+    variable: &Variable,
+) -> Result<(), AllocError> {
+    match variable.space {
+        AddressSpace::Handle => write_tree(output, source.module, variable.ty),
+        space => write_buffer(output, space, variable.access),
+    }
+}
+
+fn space_name(space: AddressSpace) -> &'static str {
     match space {
         AddressSpace::Function => "function",
         AddressSpace::Private => "private",
@@ -105,4 +181,94 @@ fn space_text(space: AddressSpace) -> &'static str {
         AddressSpace::Handle => "handle",
         AddressSpace::PushConstant => "immediate",
     }
+}
+
+fn write_override(
+    output: &mut String,
+    source: Source,
+    index: usize,
+    constant: &Override,
+) -> Result<(), AllocError> {
+    write_named(output, source, index, constant.name, constant.place)?;
+    let (start, ty, end) = match constant.ty {
+        Some(scalar) => ("\"", scalar.name(), "\""),
+        None => ("null", "", ""),
+    };
+    let pieces = [
+        Piece::Field("id", constant.id),
+        Piece::Text(",\"type\":"),
+        Piece::Text(start),
+        Piece::Text(ty),
+        Piece::Text(end),
+        Piece::Text(",\"hasDefault\":"),
+        Piece::Text(truth(constant.has_default)),
+        Piece::Text("}"),
+    ];
+    write_all(output, &pieces)
+}
+
+/// An entry point. Without a workgroup it has `null`; an extent that an override gives is `null`.
+fn write_entry_point(
+    output: &mut String,
+    source: Source,
+    index: usize,
+    entry_point: &EntryPoint,
+) -> Result<(), AllocError> {
+    write_named(output, source, index, entry_point.name, entry_point.place)?;
+    let stage = [
+        Piece::Text(",\"stage\":\""),
+        Piece::Text(entry_point.stage.name()),
+        Piece::Text("\",\"workgroupSize\":"),
+    ];
+    write_all(output, &stage)?;
+    match entry_point.workgroup_size {
+        Some(extents) => write_extents(output, extents)?,
+        None => output.push_str("null")?,
+    }
+    output.push_str("}")
+}
+
+fn write_extents(output: &mut String, extents: [Extent; 3]) -> Result<(), AllocError> {
+    for (index, extent) in extents.iter().enumerate() {
+        output.push_str(if index == 0 { "[" } else { "," })?;
+        match extent {
+            Extent::Known(count) => write!(output, "{count}")?,
+            Extent::Override => output.push_str("null")?,
+        }
+    }
+    output.push_str("]")
+}
+
+fn write_messages(
+    output: &mut String,
+    source: Source,
+    severity: Severity,
+) -> Result<(), AllocError> {
+    let mut written = 0usize;
+    for message in source.messages {
+        if message.severity == severity {
+            write_message(output, source, written, message)?;
+            written = 1;
+        }
+    }
+    Ok(())
+}
+
+fn write_message(
+    output: &mut String,
+    source: Source,
+    index: usize,
+    message: &Message,
+) -> Result<(), AllocError> {
+    let pieces = [
+        Piece::Text(separator(index)),
+        Piece::Text("{\"kind\":\""),
+        Piece::Text(message.kind.as_str()),
+        Piece::Text("\""),
+        Piece::At(source.lines.place(message.at)),
+        Piece::Text(",\"message\":\""),
+        Piece::Escaped(message.text.as_str()),
+        Piece::Text("\"}"),
+    ];
+    write_all(output, &pieces)
 }

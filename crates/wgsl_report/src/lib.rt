@@ -1,12 +1,21 @@
 //! What is told of a WGSL text: the layouts of its structs, where its variables are bound, and what is wrong.
 #![tactic(auto)]
 
+pub mod choice;
 pub mod finding;
+mod forms;
 mod json;
+pub mod layers;
+pub mod lines;
+pub mod message;
 mod place;
 pub mod report;
-mod rules;
-pub mod spelled;
+mod resource;
+pub mod rules;
+pub mod shown;
+mod source;
 mod table;
-mod told;
+pub mod told;
+mod tree;
+pub mod type_text;
 mod write;

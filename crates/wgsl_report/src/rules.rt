@@ -3,24 +3,23 @@
 use crate::finding::{Finding, Trouble};
 use crate::place::Place;
 use std::alloc::{AllocError, Global};
-use std::collections::BTreeMap;
-use wgsl_core::ty::form::Form;
-use wgsl_core::ty::{StructMemberType, StructType, Type};
+use wgsl_source::measured::{MeasuredType, TypeKind};
 use wgsl_source::module::Module;
-use wgsl_source::structure::Struct;
+use wgsl_source::structure::{Member, Struct};
 use wgsl_source::variable::Variable;
-use wgsl_spaces::content::{innermost, may_be_innermost, may_hold_elements};
-use wgsl_spaces::spaces::{Rule, broken_rule, may_be_elements, required_align, stride, up_to_16};
+use wgsl_spaces::content::{Content, may_be_innermost};
+use wgsl_spaces::spaces::{
+    Extent, Position, Rule, Shape, broken_rule, is_align_attribute, is_lifted, may_lie_apart,
+    required_align, up_to_16,
+};
 use wgsl_syntax::address::AddressSpace;
+use wgsl_syntax::scalar::Scalar;
 
 /// What checks the variables of a module.
 #[derive(Drop)]
 struct Checker<'a> {
     alloc: Global,
-    structs: &'a [Struct],
-    names: BTreeMap<&'a str, usize>,
-    /// By whose rules the variables of `uniform` are laid out.
-    uniform: AddressSpace,
+    module: &'a Module<'a>,
     findings: Vec<Finding<'a>>,
 }
 
@@ -30,17 +29,27 @@ struct Subject<'a> {
     at: usize,
     of: Option<&'a str>,
     name: &'a str,
-    place: Place,
+    place: Option<Place>,
 }
 
 impl<'a> Subject<'a> {
-    fn finding(self, trouble: Trouble) -> Finding<'a> {
+    fn of_member(of: &Struct<'a>, member: &Member<'a>, place: Option<Place>) -> Subject<'a> {
+        Subject {
+            at: member.place,
+            of: Some(of.name),
+            name: member.name,
+            place,
+        }
+    }
+
+    fn finding(self, trouble: Trouble, is_lifted: bool) -> Finding<'a> {
         Finding {
             at: self.at,
             of: self.of,
             name: self.name,
             place: self.place,
             trouble,
+            is_lifted,
         }
     }
 }
@@ -50,24 +59,16 @@ pub fn findings_of<'a>(
     alloc: Global,
     module: &'a Module<'a>,
 ) -> Result<Vec<Finding<'a>>, AllocError> {
-    let mut names = BTreeMap::new(alloc);
-    for (index, structure) in module.structs.iter().enumerate() {
-        names.insert(structure.ty.name.as_str(), index)?;
-    }
-    let uniform = if module.has_standard_uniform {
-        AddressSpace::Storage
-    } else {
-        AddressSpace::Uniform
-    };
     let mut checker = Checker {
         alloc,
-        structs: &module.structs,
-        names,
-        uniform,
+        module,
         findings: Vec::new(alloc),
     };
+    for structure in &module.structs {
+        checker.check_attributes(structure)?;
+    }
     for place in Place::ALL {
-        checker.check_place(place, &module.variables)?;
+        checker.check_place(place)?;
     }
     let Checker { mut findings, .. } = checker;
     findings.sort_unstable_by_key(|finding| finding.at);
@@ -75,20 +76,29 @@ pub fn findings_of<'a>(
 }
 
 impl<'a> Checker<'a> {
+    /// Checks the attribute `align` of each member: both compilers ask of every struct that it suits the member's type.
+    fn check_attributes(&mut self, structure: &Struct<'a>) -> Result<(), AllocError> {
+        for member in &structure.members {
+            let subject = Subject::of_member(structure, member, None);
+            let align = member.ty.align.unwrap_or(1);
+            if !suits_type(member) {
+                self.find(subject, Trouble::Align { align })?;
+            }
+        }
+        Ok(())
+    }
+
     /// Checks the variables that stand somewhere, and each struct in their types once.
-    fn check_place(
-        &mut self,
-        place: Place,
-        variables: &'a [Variable<'a>],
-    ) -> Result<(), AllocError> {
-        let mut reached = vec![in self.alloc; false; self.structs.len()]?;
-        for variable in variables {
+    fn check_place(&mut self, place: Place) -> Result<(), AllocError> {
+        let module = self.module;
+        let mut reached = vec![in self.alloc; false; module.structs.len()]?;
+        for variable in &module.variables {
             if Place::of(variable) == place {
                 self.check_variable(place, variable)?;
                 self.reach(&variable.ty, &mut reached);
             }
         }
-        for index in (0..self.structs.len()).rev() {
+        for index in (0..module.structs.len()).rev() {
             if reached.get(index) == Some(&true) {
                 self.check_struct(index, place, &mut reached)?;
             }
@@ -97,26 +107,40 @@ impl<'a> Checker<'a> {
     }
 
     /// Marks the struct in a type.
-    fn reach(&self, ty: &'a Type, reached: &mut [bool]) {
-        if let Some(structure) = inner_struct(ty) {
-            if let Some(index) = self.names.get(&structure.name.as_str()) {
-                if let Some(is_reached) = reached.get_mut(*index) {
-                    *is_reached = true;
-                }
+    fn reach(&self, ty: &MeasuredType, reached: &mut [bool]) {
+        if let TypeKind::Struct(index) = self.innermost(ty).kind {
+            if let Some(is_reached) = reached.get_mut(index) {
+                *is_reached = true;
             }
         }
     }
 
-    fn check_variable(
-        &mut self,
-        place: Place,
-        variable: &'a Variable<'a>,
-    ) -> Result<(), AllocError> {
+    /// The type that is innermost in arrays.
+    fn innermost(&self, ty: &MeasuredType) -> MeasuredType {
+        let mut inner = *ty;
+        for _ in 0..ty.levels {
+            match self.element(&inner) {
+                Some(element) => inner = element,
+                None => break,
+            }
+        }
+        inner
+    }
+
+    /// The type of an array's elements.
+    fn element(&self, ty: &MeasuredType) -> Option<MeasuredType> {
+        match ty.kind {
+            TypeKind::Array(index, _) => self.module.elements.get(index).copied(),
+            _ => None,
+        }
+    }
+
+    fn check_variable(&mut self, place: Place, variable: &Variable<'a>) -> Result<(), AllocError> {
         let subject = Subject {
             at: variable.place,
             of: None,
             name: variable.name,
-            place,
+            place: Some(place),
         };
         let is_bound = variable.group.is_some() && variable.binding.is_some();
         let has_any = variable.group.is_some() || variable.binding.is_some();
@@ -125,30 +149,27 @@ impl<'a> Checker<'a> {
         } else if !place.is_bound() && has_any {
             self.find(subject, Trouble::NeedlessBinding)?;
         }
-        match (place, is_data(&variable.ty)) {
+        match (place, variable.ty.align.is_some()) {
             (Place::Handle, false) => Ok(()),
             (Place::Handle, true) => self.find(subject, Trouble::NoHandle),
             (_, false) => self.find(subject, Trouble::NoData),
             (_, true) => {
-                if !place.takes_runtime_sized() && self.is_runtime_sized(variable) {
+                if !place.takes_runtime_sized() && self.is_runtime_sized(&variable.ty) {
                     self.find(subject, Trouble::RuntimeSized)?;
                 }
-                self.check_content(subject, &variable.ty)
+                self.check_content(subject, place, &variable.ty)
             }
         }
     }
 
     fn find(&mut self, subject: Subject<'a>, trouble: Trouble) -> Result<(), AllocError> {
-        Ok(self.findings.push(subject.finding(trouble))?)
+        Ok(self.findings.push(subject.finding(trouble, false))?)
     }
 
-    fn is_runtime_sized(&self, variable: &Variable) -> bool {
-        match variable.structure {
-            Some(index) => match self.structs.get(index) {
-                Some(structure) => structure.is_runtime_sized,
-                None => false,
-            },
-            None => matches!(variable.ty.form(), Form::Array(None, _)),
+    fn is_runtime_sized(&self, ty: &MeasuredType) -> bool {
+        match ty.kind {
+            TypeKind::Struct(_) => ty.size.is_none(),
+            _ => ty.is_runtime_sized_array(),
         }
     }
 
@@ -158,20 +179,15 @@ impl<'a> Checker<'a> {
         place: Place,
         reached: &mut [bool],
     ) -> Result<(), AllocError> {
-        let Some(structure) = self.structs.get(index) else {
+        let module = self.module;
+        let Some(structure) = module.structs.get(index) else {
             return Ok(());
         };
-        let offsets = offsets_of(self.alloc, structure)?;
-        for (index, member) in structure.ty.members.iter().enumerate() {
-            let subject = Subject {
-                at: structure.places.get(index).copied().unwrap_or(0),
-                of: Some(structure.ty.name.as_str()),
-                name: member.name.as_str(),
-                place,
-            };
-            let (offset, later) = split_at(&offsets, index);
-            self.check_member(subject, member, offset, later)?;
-            self.check_content(subject, &member.ty)?;
+        for (index, member) in structure.members.iter().enumerate() {
+            let subject = Subject::of_member(structure, member, Some(place));
+            let next = structure.members.get(index.saturating_add(1));
+            self.check_member(subject, place, member, next.map(|next| next.offset))?;
+            self.check_content(subject, place, &member.ty)?;
             self.reach(&member.ty, reached);
         }
         Ok(())
@@ -181,92 +197,128 @@ impl<'a> Checker<'a> {
     fn check_member(
         &mut self,
         subject: Subject<'a>,
-        member: &StructMemberType,
-        offset: u32,
-        later: &[u32],
+        place: Place,
+        member: &Member<'a>,
+        next: Option<u32>,
     ) -> Result<(), AllocError> {
-        let rules = self.rules(subject.place);
-        let ty = &member.ty;
-        let Some(rule) = broken_rule(rules, ty, member.size, member.align, offset, later) else {
+        let position = Position {
+            extent: extent_of(&member.ty),
+            size: member.size_attribute,
+            align: member.align_attribute,
+            offset: member.offset,
+            next,
+        };
+        let space = self.rules(place);
+        let Some(rule) = broken_rule(space, position) else {
             return Ok(());
         };
-        let align = required_align(rules, ty).unwrap_or(0);
-        let trouble = match rule {
-            Rule::Offset => Trouble::Offset { offset, align },
-            Rule::Behind => Trouble::Behind {
-                room: up_to_16(ty.size_of()).unwrap_or(0),
-            },
-            Rule::Align => Trouble::Align { align },
-            Rule::Size => Trouble::Size,
-        };
-        self.find(subject, trouble)
+        if rule == Rule::Align && !suits_type(member) {
+            return Ok(());
+        }
+        let is_lifted = space == AddressSpace::Uniform && is_lifted(rule, position);
+        let trouble = trouble_of(rule, space, position);
+        Ok(self.findings.push(subject.finding(trouble, is_lifted))?)
     }
 
     /// By whose rules types are laid out there.
     fn rules(&self, place: Place) -> AddressSpace {
         match place {
-            Place::Uniform => self.uniform,
+            Place::Uniform if self.module.has_standard_uniform => AddressSpace::Storage,
             _ => place.space(),
         }
     }
 
     /// Checks the elements of arrays, and what stands innermost.
-    fn check_content(&mut self, subject: Subject<'a>, ty: &Type) -> Result<(), AllocError> {
-        let rules = self.rules(subject.place);
-        if !may_hold_elements(rules, ty) {
-            let stride = crowded_stride(rules, ty).unwrap_or(0);
-            self.find(subject, Trouble::Stride { stride })?;
+    fn check_content(
+        &mut self,
+        subject: Subject<'a>,
+        place: Place,
+        ty: &MeasuredType,
+    ) -> Result<(), AllocError> {
+        self.check_strides(subject, place, ty)?;
+        let content = content_of(&self.innermost(ty));
+        if may_be_innermost(place.space(), place.access(), content) {
+            return Ok(());
         }
-        let inner = innermost(ty);
-        if may_be_innermost(subject.place.space(), subject.place.access(), inner) {
-            Ok(())
-        } else if inner.is_bool() {
-            self.find(subject, Trouble::Bool)
-        } else {
-            self.find(subject, Trouble::Atomic)
+        match content {
+            Content::Bool => self.find(subject, Trouble::Bool),
+            Content::Atomic | Content::Other => self.find(subject, Trouble::Atomic),
         }
     }
-}
 
-/// The offset of a member, and those of the members behind it.
-fn split_at(offsets: &[u32], index: usize) -> (u32, &[u32]) {
-    match offsets.get(index..) {
-        Some([offset, later @ ..]) => (*offset, later),
-        _ => (0, &[]),
-    }
-}
-
-fn offsets_of(alloc: Global, structure: &Struct) -> Result<Vec<u32>, AllocError> {
-    let mut offsets = Vec::with_capacity(alloc, structure.layout.members.len())?;
-    for member in &structure.layout.members {
-        offsets.push(member.offset)?;
-    }
-    Ok(offsets)
-}
-
-/// The stride of the first array whose elements may not lie so.
-fn crowded_stride(rules: AddressSpace, ty: &Type) -> Option<u32> {
-    match ty {
-        Type::Array(element, _) if may_be_elements(rules, element) => {
-            crowded_stride(rules, element)
+    /// Checks how far elements of arrays lie apart; the first that lie too close are told.
+    fn check_strides(
+        &mut self,
+        subject: Subject<'a>,
+        place: Place,
+        ty: &MeasuredType,
+    ) -> Result<(), AllocError> {
+        let space = self.rules(place);
+        let mut inner = *ty;
+        for _ in 0..ty.levels {
+            let Some(element) = self.element(&inner) else {
+                break;
+            };
+            let stride = element.stride().unwrap_or(0);
+            if !may_lie_apart(space, extent_of(&element), stride) {
+                let trouble = Trouble::Stride { stride };
+                return Ok(self.findings.push(subject.finding(trouble, true))?);
+            }
+            inner = element;
         }
-        Type::Array(element, _) => stride(element),
-        _ => None,
+        Ok(())
     }
 }
 
-/// The struct in a type.
-fn inner_struct(ty: &Type) -> Option<&StructType> {
-    match innermost(ty) {
-        Type::Struct(structure) => Some(structure),
-        _ => None,
+/// Whether the attribute `align` of a member suits the member's type.
+fn suits_type(member: &Member) -> bool {
+    is_align_attribute(
+        AddressSpace::Storage,
+        extent_of(&member.ty),
+        member.align_attribute,
+    )
+}
+
+/// What the rules see of a type.
+fn extent_of(ty: &MeasuredType) -> Extent {
+    let shape = match ty.kind {
+        TypeKind::Array(_, _) => Shape::Array,
+        TypeKind::Struct(_) => Shape::Struct,
+        _ => Shape::Other,
+    };
+    Extent {
+        shape,
+        size: ty.size.unwrap_or(0),
+        align: ty.align.unwrap_or(1),
     }
 }
 
-/// Whether a type has values in memory.
-fn is_data(ty: &Type) -> bool {
-    match innermost(ty) {
-        Type::Struct(_) => true,
-        inner => inner.size_of().is_some(),
+/// What the rules see of an innermost type.
+fn content_of(ty: &MeasuredType) -> Content {
+    match ty.kind {
+        TypeKind::Scalar(Scalar::Bool) | TypeKind::Vector(_, Scalar::Bool) => Content::Bool,
+        TypeKind::Atomic(_) => Content::Atomic,
+        _ => Content::Other,
     }
+}
+
+/// What is told of a rule that a member breaks.
+fn trouble_of(rule: Rule, space: AddressSpace, member: Position) -> Trouble {
+    let align = number(required_align(space, member.extent));
+    match rule {
+        Rule::Offset => Trouble::Offset {
+            offset: member.offset,
+            align,
+        },
+        Rule::Behind => Trouble::Behind {
+            room: number(up_to_16(member.extent.size)),
+        },
+        Rule::Align => Trouble::Align { align },
+        Rule::Size => Trouble::Size,
+    }
+}
+
+/// A number as it is told: none of these is above the greatest of 32 bits.
+fn number(number: u64) -> u32 {
+    u32::try_from(number).unwrap_or(u32::MAX)
 }

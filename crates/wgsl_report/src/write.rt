@@ -1,8 +1,7 @@
 // Pieces of a text, written one after another.
 
+use crate::lines::Place;
 use std::alloc::AllocError;
-use wgsl_core::ty::Type;
-use wgsl_syntax::address::AccessMode;
 
 /// A piece of a text.
 #[derive(Clone, Copy)]
@@ -10,6 +9,8 @@ pub enum Piece<'a> {
     Text(&'a str),
     /// The inside of a text of JSON.
     Escaped(&'a str),
+    /// A text whose control characters are written as blanks.
+    Visible(&'a str),
     Count(usize),
     /// A number, if there is one.
     Number(Option<u32>),
@@ -17,11 +18,10 @@ pub enum Piece<'a> {
     Column(Option<u32>),
     /// A field of JSON behind another: a number, or `null`.
     Field(&'a str, Option<u32>),
-    /// An attribute of a variable, if it is there.
+    /// The fields of JSON for a place, behind another.
+    At(Place),
+    /// A number, if there is one, as an attribute of a variable.
     Attribute(&'a str, Option<u32>),
-    Access(AccessMode),
-    /// A type, spelled as a runtime-sized array if it is an array that is said to be one.
-    Type(&'a Type, bool),
 }
 
 /// Writes pieces.
@@ -36,6 +36,7 @@ fn write_piece(output: &mut String, piece: Piece) -> Result<(), AllocError> {
     match piece {
         Piece::Text(text) => output.push_str(text),
         Piece::Escaped(text) => write_escaped(output, text),
+        Piece::Visible(text) => write_visible(output, text),
         Piece::Count(count) => write!(output, "{count}"),
         Piece::Number(Some(number)) => write!(output, "{number}"),
         Piece::Number(None) | Piece::Attribute(_, None) => Ok(()),
@@ -43,17 +44,21 @@ fn write_piece(output: &mut String, piece: Piece) -> Result<(), AllocError> {
         Piece::Column(None) => output.push_str("       -"),
         Piece::Field(name, Some(number)) => write!(output, ",\"{name}\":{number}"),
         Piece::Field(name, None) => write!(output, ",\"{name}\":null"),
+        Piece::At(place) => write_fields(output, place),
         Piece::Attribute(name, Some(number)) => write!(output, "@{name}({number}) "),
-        Piece::Access(access) => write!(output, "{access}"),
-        Piece::Type(ty, is_runtime_sized) => write_type(output, ty, is_runtime_sized),
     }
 }
 
-fn write_type(output: &mut String, ty: &Type, is_runtime_sized: bool) -> Result<(), AllocError> {
-    match ty {
-        Type::Array(element, Some(_)) if is_runtime_sized => write!(output, "array<{element}>"),
-        _ => write!(output, "{ty}"),
-    }
+fn write_fields(output: &mut String, place: Place) -> Result<(), AllocError> {
+    let Place {
+        line,
+        column,
+        utf16_column,
+    } = place;
+    write!(
+        output,
+        ",\"line\":{line},\"column\":{column},\"utf16Column\":{utf16_column}"
+    )
 }
 
 fn write_escaped(output: &mut String, text: &str) -> Result<(), AllocError> {
@@ -61,9 +66,20 @@ fn write_escaped(output: &mut String, text: &str) -> Result<(), AllocError> {
         match letter {
             '"' => output.push_str("\\\"")?,
             '\\' => output.push_str("\\\\")?,
-            '\0'..='\u{1f}' => output.push_str(" ")?,
+            '\0'..='\u{1f}' => write_code(output, u32::from(letter))?,
             _ => output.push(letter)?,
         }
+    }
+    Ok(())
+}
+
+fn write_code(output: &mut String, code: u32) -> Result<(), AllocError> {
+    write!(output, "\\u{code:04x}")
+}
+
+fn write_visible(output: &mut String, text: &str) -> Result<(), AllocError> {
+    for letter in text.chars() {
+        output.push(if letter.is_control() { ' ' } else { letter })?;
     }
     Ok(())
 }

@@ -1,6 +1,6 @@
 -- The answers to requests.
 use Rattle.std.proofs.Common.{◌≡◌, ℕ, List, [], ◌∷◌, Option, Some, None, codes, get_or, length, map, refl, sym, ap, subst, ◌∙◌, arith}
-use Rattle.std.specs.Prelude.{Result, Ok, Err, option_map, vec_items}
+use Rattle.std.specs.Prelude.{MatchOption, Result, Ok, Err, option_map, vec_items}
 use Rattle.std.specs.Borrow.{Bor}
 use Rattle.wgsl_syntax.specs.Operator.{binary_text, unary_text}
 use Rattle.wgsl_syntax.specs.declared.operator.BinaryOperator.{BinaryOperator}
@@ -10,14 +10,19 @@ use Rattle.wgsl_core.specs.View.{view}
 use Rattle.wgsl_core.specs.Instances.{call_view, parameter_view}
 use Rattle.wgsl_core.specs.declared.signature.TpltParam.{TpltParam}
 use Rattle.wgsl_core.specs.declared.ty.Type.{«Type»}
+use Rattle.wgsl_asked.specs.Answers.{a_type_of}
+use Rattle.wgsl_asked.specs.Calls.{WgslCall}
 use Rattle.wgsl_requests.specs.Grammar.{TypeAt, TypesAt}
 use Rattle.wgsl_requests.specs.Requests.{Request, rank, unary, binary, offsets, layout, IsRequest, rank_words, unary_words, binary_words, offsets_words, layout_words}
 use Rattle.wgsl_requests.specs.Answers.{IsAnswer, IsReply}
+use Rattle.wgsl_requests.specs.Texts.{text_kind}
 use Rattle.wgsl_requests.specs.declared.command.Callee.{Callee}
 use Rattle.wgsl_requests.specs.declared.rules.RuleSet.{RuleSet}
 use Rattle.wgsl_requests.specs.declared.rules.RuleSet.TheVariants.{Ported, Standard}
 use Rattle.wgsl_core.specs.declared.error.Fail.{Fail}
 use Rattle.wgsl_requests.specs.declared.wanted.Misfit.{Misfit}
+use Rattle.wgsl_requests.specs.declared.write.TextKind.{TextKind}
+use Rattle.wgsl_requests.specs.declared.write.TextKind.TheVariants as kinds
 use Rattle.wgsl_core.specs.declared.error.Fail.TheVariants.{Error, Memory}
 use Rattle.wgsl_requests.proofs.Requested.{IsShared, no_offsets, no_layout, other_struct}
 use Rattle.wgsl_requests.specs.internal.Replied.{callee_view, Replies, WritesOfStruct}
@@ -30,9 +35,15 @@ two seen (a ∷ []) x y n = absurd (omega (arith, n))
 two seen (a ∷ b ∷ []) x y n = refl
 two seen (a ∷ b ∷ c ∷ xs) x y n = absurd (omega (arith, n))
 
+-- the kind of the text of a call's type, if an overload takes the operands
+pub kind_of_type : {A : Type 0} (c : WgslCall) (seen : A → Option WgslType) (found : Option A) (kind : TextKind) → MatchOption found (kind ≡ kinds.Refusal) (λ x. kind ≡ kinds.Answer) →
+    kind ≡ text_kind (a_type_of c (option_map seen found))
+kind_of_type c seen None kind is = is
+kind_of_type c seen (Some x) kind is = is
+
 -- the answer to a request that words spell
-pub replied : {rules : RuleSet} {words : List (List ℕ)} {request : Request} (old new : List ℕ) → IsRequest rules words request → Adds (IsAnswer request) old new → Adds (IsReply rules words) old new
-replied {words} {request} old new d a = (a.0, (request, d, a.1), a.2)
+pub replied : {rules : RuleSet} {words : List (List ℕ)} {request : Request} (kind : TextKind) (old new : List ℕ) → IsRequest rules words request → Adds (IsAnswer request kind) old new → Adds (IsReply rules words kind) old new
+replied {words} {request} kind old new d a = (a.0, (request, d, a.1), a.2)
 
 pub rank_spelled : (words : List (List ℕ)) (types : List WgslType) (t u : WgslType) → TypesAt words types → types ≡ t ∷ u ∷ [] → IsRequest Ported (codes "rank" ∷ words) (rank t u)
 rank_spelled words types t u d pair = rank_words (subst (TypesAt words) pair d)
@@ -47,13 +58,13 @@ binary_spelled words after word o types t u e f d pair =
     subst (λ ws. IsRequest Ported (codes "binary" ∷ ws) (binary o t u)) (sym (e ∙ ap (λ w. w ∷ after) f)) (binary_words o (subst (TypesAt after) pair d))
 
 -- what is written of a struct
-pub offsets_replied : (words : List (List ℕ)) (t : WgslType) (old new : List ℕ) (r : Result (Unit {0}) (Fail Misfit)) → TypeAt words t [] → WritesOfStruct offsets t old new r → Replies Ported (codes "offsets" ∷ words) old new r
-offsets_replied words t old new (Ok x) d w = replied old new (offsets_words (subst (λ t. TypeAt words t []) w.2 d)) w.3
+pub offsets_replied : (words : List (List ℕ)) (t : WgslType) (old new : List ℕ) (r : Result TextKind (Fail Misfit)) → TypeAt words t [] → WritesOfStruct offsets t old new r → Replies Ported (codes "offsets" ∷ words) old new r
+offsets_replied words t old new (Ok kind) d w = replied kind old new (offsets_words (subst (λ t. TypeAt words t []) w.2 d)) w.3
 offsets_replied words t old new (Err (Error misfit)) d none = no_offsets words (other_struct words t d none)
 offsets_replied words t old new (Err (Memory e)) d none = tt
 
-pub layout_replied : (words : List (List ℕ)) (t : WgslType) (old new : List ℕ) (r : Result (Unit {0}) (Fail Misfit)) → TypeAt words t [] → WritesOfStruct layout t old new r → Replies Ported (codes "layout" ∷ words) old new r
-layout_replied words t old new (Ok x) d w = replied old new (layout_words (subst (λ t. TypeAt words t []) w.2 d)) w.3
+pub layout_replied : (words : List (List ℕ)) (t : WgslType) (old new : List ℕ) (r : Result TextKind (Fail Misfit)) → TypeAt words t [] → WritesOfStruct layout t old new r → Replies Ported (codes "layout" ∷ words) old new r
+layout_replied words t old new (Ok kind) d w = replied kind old new (layout_words (subst (λ t. TypeAt words t []) w.2 d)) w.3
 layout_replied words t old new (Err (Error misfit)) d none = no_layout words (other_struct words t d none)
 layout_replied words t old new (Err (Memory e)) d none = tt
 
@@ -72,7 +83,7 @@ call_seen callee r args e f =
     λ i. record { name = callee.name.now; template = template i; arguments = arguments i }
 
 -- what is written of a command that both sets of rules read alike
-pub shared : (key : List ℕ) (words : List (List ℕ)) (old new : List ℕ) (r : Result (Unit {0}) (Fail Misfit)) → IsShared key → Replies Ported (key ∷ words) old new r → Replies Standard (key ∷ words) old new r
+pub shared : (key : List ℕ) (words : List (List ℕ)) (old new : List ℕ) (r : Result TextKind (Fail Misfit)) → IsShared key → Replies Ported (key ∷ words) old new r → Replies Standard (key ∷ words) old new r
 shared key words old new (Ok x) same w = (w.0, (w.1.0, same.forth words w.1.0 w.1.1, w.1.2), w.2)
 shared key words old new (Err (Error misfit)) same none = λ request d. none request (same.back words request d)
 shared key words old new (Err (Memory e)) same none = tt

@@ -12,6 +12,7 @@ use Rattle.wgsl_requests.specs.declared.operand.WrittenOperand.{WrittenOperand}
 use Rattle.wgsl_requests.specs.declared.rules.RuleSet.TheVariants.{Ported, Standard}
 use Rattle.wgsl_core.specs.declared.error.Fail.{Fail}
 use Rattle.wgsl_requests.specs.declared.wanted.Misfit.{Misfit}
+use Rattle.wgsl_requests.specs.declared.write.TextKind.{TextKind}
 use Rattle.wgsl_core.specs.declared.error.Fail.TheVariants.{Error, Memory}
 use Rattle.wgsl_requests.specs.internal.Asked.{WritesOfCall, called, operand_view}
 use Rattle.wgsl_requests.specs.internal.Replied.{Replies}
@@ -19,24 +20,24 @@ use Rattle.wgsl_requests.proofs.Replied.{replied, same_shown}
 use Rattle.wgsl_requests.proofs.Requested.{IsShared, no_resolve, no_why}
 
 -- what is written of a command that both sets of rules read alike
-pub shared : (key : List ℕ) (words : List (List ℕ)) (old new : List ℕ) (r : Result (Unit {0}) (Fail Misfit)) → IsShared key → Replies Ported (key ∷ words) old new r → Replies Standard (key ∷ words) old new r
+pub shared : (key : List ℕ) (words : List (List ℕ)) (old new : List ℕ) (r : Result TextKind (Fail Misfit)) → IsShared key → Replies Ported (key ∷ words) old new r → Replies Standard (key ∷ words) old new r
 shared key words old new (Ok x) same w = (w.0, (w.1.0, same.forth words w.1.0 w.1.1, w.1.2), w.2)
 shared key words old new (Err (Error misfit)) same none = λ request d. none request (same.back words request d)
 shared key words old new (Err (Memory e)) same none = tt
 
 -- what is written of a call
-pub resolve_replied : (words : List (List ℕ)) (old new : List ℕ) (r : Result (Unit {0}) (Fail Misfit)) → WritesOfCall resolution_of words old new r → Replies Standard (codes "resolve" ∷ words) old new r
-resolve_replied words old new (Ok x) w = replied old new (resolve_words w.1) w.2
+pub resolve_replied : (words : List (List ℕ)) (old new : List ℕ) (r : Result TextKind (Fail Misfit)) → WritesOfCall resolution_of words old new r → Replies Standard (codes "resolve" ∷ words) old new r
+resolve_replied words old new (Ok kind) w = replied kind old new (resolve_words w.1) w.2
 resolve_replied words old new (Err (Error misfit)) none = no_resolve words none
 resolve_replied words old new (Err (Memory e)) none = tt
 
-pub why_replied : (words : List (List ℕ)) (old new : List ℕ) (r : Result (Unit {0}) (Fail Misfit)) → WritesOfCall explanation_of words old new r → Replies Standard (codes "why" ∷ words) old new r
-why_replied words old new (Ok x) w = replied old new (why_words w.1) w.2
+pub why_replied : (words : List (List ℕ)) (old new : List ℕ) (r : Result TextKind (Fail Misfit)) → WritesOfCall explanation_of words old new r → Replies Standard (codes "why" ∷ words) old new r
+why_replied words old new (Ok kind) w = replied kind old new (why_words w.1) w.2
 why_replied words old new (Err (Error misfit)) none = no_why words none
 why_replied words old new (Err (Memory e)) none = tt
 
-pub type_replied : (words : List (List ℕ)) (old new : List ℕ) (r : Result (Unit {0}) (Fail Misfit)) → (((c : WgslCall) → ¬ IsCall words c) → NoRequest Standard words) → WritesOfCall type_of words old new r → Replies Standard words old new r
-type_replied words old new (Ok x) no_other w = replied old new (type_words w.1) w.2
+pub type_replied : (words : List (List ℕ)) (old new : List ℕ) (r : Result TextKind (Fail Misfit)) → (((c : WgslCall) → ¬ IsCall words c) → NoRequest Standard words) → WritesOfCall type_of words old new r → Replies Standard words old new r
+type_replied words old new (Ok kind) no_other w = replied kind old new (type_words w.1) w.2
 type_replied words old new (Err (Error misfit)) no_other none = no_other none
 type_replied words old new (Err (Memory e)) no_other none = tt
 

@@ -2,7 +2,9 @@
 use Rattle.std.specs.Prelude.{◌≡◌, ℕ, List}
 use Rattle.wgsl_requests.specs.Answers.{IsAnswer}
 use Rattle.wgsl_requests.specs.Requests.{Request}
+use Rattle.wgsl_requests.specs.declared.write.TextKind.{TextKind}
 
--- at most one text answers the request
+-- at most one text, of one kind, answers the request
 abbrev pub OneAnswer : Request → Type 0
-OneAnswer request = (a b : List ℕ) → IsAnswer request a → IsAnswer request b → a ≡ b
+OneAnswer request = (k l : TextKind) (a b : List ℕ) → IsAnswer request k a → IsAnswer request l b →
+    (k ≡ l) × (a ≡ b)

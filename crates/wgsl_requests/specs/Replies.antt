@@ -8,11 +8,13 @@ use Rattle.wgsl_requests.specs.declared.request.Reply.{Reply}
 use Rattle.wgsl_requests.specs.declared.request.Reply.TheVariants as r
 use Rattle.wgsl_requests.specs.declared.request.ReplyKind.{ReplyKind}
 use Rattle.wgsl_requests.specs.declared.request.ReplyKind.TheVariants as k
+use Rattle.wgsl_requests.specs.declared.write.TextKind.{TextKind}
+use Rattle.wgsl_requests.specs.declared.write.TextKind.TheVariants as kinds
 
--- the reply to a request: nothing, a text, or that it can't be read
+-- the reply to a request: nothing, an answer or the message of a refusal, or that it can't be read
 pub data ReplyText : Type 0 where
   nothing : ReplyText
-  answer : List ℕ → ReplyText
+  answer : TextKind → List ℕ → ReplyText
   unreadable : ReplyText
 
 -- at most 4096 bytes of UTF-8, without a line feed
@@ -28,30 +30,32 @@ pub data IsReplyTo (rules : RuleSet) (bytes : List ℕ) : ReplyText → Type 0 w
   no_text : ¬ All IsUtf8 (words_of bytes) → IsReplyTo rules bytes unreadable
   no_request : IsLineOfText bytes → words_of bytes ≢ [] → NoRequest rules (words_of bytes) → IsReplyTo rules bytes unreadable
   no_words : IsLineOfText bytes → words_of bytes ≡ [] → IsReplyTo rules bytes nothing
-  answered : (text : List ℕ) → IsLineOfText bytes → words_of bytes ≢ [] → IsReply rules (words_of bytes) text →
-      IsReplyTo rules bytes (answer text)
+  answered : (kind : TextKind) (text : List ℕ) → IsLineOfText bytes → words_of bytes ≢ [] →
+      IsReply rules (words_of bytes) kind text → IsReplyTo rules bytes (answer kind text)
 
 -- a request of this kind can't be read
 abbrev pub IsUnreadable : ReplyKind → Type 0
 IsUnreadable k.Nothing = ⊥
-IsUnreadable k.Answer = ⊥
+IsUnreadable (k.Answer kind) = ⊥
 IsUnreadable (k.Unreadable why) = Unit {0}
 
 -- the reply is of this kind, and an answer is written at the end of the text
 abbrev pub WritesReply : RuleSet → List ℕ → ReplyKind → List ℕ → List ℕ → Type 0
 WritesReply rules bytes k.Nothing old new = IsReplyTo rules bytes nothing
-WritesReply rules bytes k.Answer old new =
-    (text : List ℕ) × IsReplyTo rules bytes (answer text) × (new ≡ old ++ text)
+WritesReply rules bytes (k.Answer kind) old new =
+    (text : List ℕ) × IsReplyTo rules bytes (answer kind text) × (new ≡ old ++ text)
 WritesReply rules bytes (k.Unreadable why) old new = IsReplyTo rules bytes unreadable
 
 -- a reply, without the memory that holds its text
 abbrev pub reply_text : Reply → ReplyText
 reply_text r.Nothing = nothing
-reply_text (r.Answer text) = answer (string_bytes text)
+reply_text (r.Answer kind text) = answer kind (string_bytes text)
 reply_text r.Unreadable = unreadable
 
 -- what is explained: a sentence for a request that is not answered, and nothing for one that is
 abbrev pub IsExplanation : RuleSet → List ℕ → Reply → Type 0
-IsExplanation rules bytes r.Nothing = (text : List ℕ) × IsReplyTo rules bytes (answer text)
-IsExplanation rules bytes (r.Answer text) = IsReplyTo rules bytes nothing ⊎ IsReplyTo rules bytes unreadable
+IsExplanation rules bytes r.Nothing =
+    (kind : TextKind) × (text : List ℕ) × IsReplyTo rules bytes (answer kind text)
+IsExplanation rules bytes (r.Answer kind text) =
+    (kind ≡ kinds.Answer) × (IsReplyTo rules bytes nothing ⊎ IsReplyTo rules bytes unreadable)
 IsExplanation rules bytes r.Unreadable = ⊥

@@ -4,13 +4,14 @@ use Rattle.std.specs.List.{flat_map}
 use Rattle.wgsl_rules.specs.types.Types.{WgslType}
 use Rattle.wgsl_rules.specs.types.Spelling.{spelling}
 use Rattle.wgsl_rules.specs.errors.Refusals.{Refusal, message}
-use Rattle.wgsl_rules.specs.operators.Answers.{BinaryCandidate}
 use Rattle.wgsl_rules.specs.standard.Choice.{types_of}
 use Rattle.wgsl_rules.specs.types.Signatures.{listed, template_text}
 use Rattle.wgsl_standard.specs.Texts.{name_of}
 use Rattle.wgsl_asked.specs.Calls.{WgslCall, WgslResolution}
-use Rattle.wgsl_asked.specs.Answers.{WgslAnswer, a_number, a_size, a_common_type, a_type, a_value, a_candidate, some_offsets, a_layout, a_type_of, a_resolution_of, some_lines, out_of_memory}
+use Rattle.wgsl_asked.specs.Answers.{WgslAnswer, a_number, a_size, a_common_type, a_type, a_value, some_offsets, a_layout, a_type_of, a_resolution_of, some_lines, out_of_memory}
 use Rattle.wgsl_requests.specs.Layouts.{layout_text, spaced}
+use Rattle.wgsl_requests.specs.declared.write.TextKind.{TextKind}
+use Rattle.wgsl_requests.specs.declared.write.TextKind.TheVariants as kinds
 
 -- the text of a value, or `none`
 abbrev pub or_none : {A : Type 0} → (A → List ℕ) → Option A → List ℕ
@@ -26,11 +27,6 @@ or_message text (Err e) = message e
 abbrev pub value_text : Option WgslType → List ℕ
 value_text (Some t) = spelling t
 value_text None = codes "no value"
-
--- the result of a candidate, or the refusal
-abbrev pub candidate_result : Result BinaryCandidate Refusal → Result WgslType Refusal
-candidate_result (Ok c) = Ok c.result
-candidate_result (Err e) = Err e
 
 -- lines, or `none` if there is none
 abbrev pub lines_text : List (List ℕ) → List ℕ
@@ -55,7 +51,16 @@ result_text None = []
 abbrev pub resolution_text : WgslResolution → List ℕ
 resolution_text r = decimal r.0 ++ codes " (" ++ listed spelling r.1 ++ codes ")" ++ result_text r.2
 
--- the text of an answer, of a candidate its result; no request is answered by out of memory
+-- the rules refuse an expression, or anything else is answered; no request is answered by out of memory
+abbrev pub text_kind : WgslAnswer → TextKind
+text_kind (a_type (Err e)) = kinds.Refusal
+text_kind (a_value (Err e)) = kinds.Refusal
+text_kind (a_type_of c None) = kinds.Refusal
+text_kind (a_resolution_of c None) = kinds.Refusal
+text_kind out_of_memory = kinds.Refusal
+text_kind a = kinds.Answer
+
+-- the text of an answer
 abbrev pub answer_text : WgslAnswer → List ℕ
 -- `6`
 answer_text (a_number w) = or_none decimal w
@@ -67,7 +72,6 @@ answer_text (a_common_type c) = or_none spelling c
 answer_text (a_type r) = or_message spelling r
 -- `f32`, `no value`
 answer_text (a_value r) = or_message value_text r
-answer_text (a_candidate r) = or_message spelling (candidate_result r)
 -- `0 16 32`
 answer_text (some_offsets o) = or_none spaced o
 answer_text (a_layout name ms l) = or_none (layout_text name ms) l

@@ -7,4 +7,5 @@ pub mod Marks
 pub mod Replied
 pub mod Structs
 pub mod Taken
+pub mod Typed
 pub mod Written

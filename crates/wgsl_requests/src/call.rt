@@ -1,5 +1,5 @@
 // What is answered to a call of WGSL's own overloads.
-ghost use Rattle.std.specs.Prelude.{◌≡◌, ◌∷◌, IfOk, None, OnOk, codes, map, option_map, string_bytes};
+ghost use Rattle.std.specs.Prelude.{◌≡◌, ◌∷◌, IfOk, MatchOption, None, codes, map, option_map, string_bytes};
 ghost use Rattle.wgsl_syntax.specs.Operator.{binary_text, unary_text};
 ghost use Rattle.wgsl_core.specs.Instances.{parameter_view};
 ghost use Rattle.wgsl_standard.specs.Callees.{callee_view};
@@ -16,7 +16,7 @@ use crate::overloaded::write_type_of;
 use crate::template::read_template;
 use crate::wanted::{Misfit, Wanted};
 use crate::words::Words;
-use crate::write::write;
+use crate::write::{TextKind, write};
 use std::alloc::{AllocError, Global};
 use wgsl_asked::answers::Answer;
 use wgsl_asked::ask::answer;
@@ -61,7 +61,7 @@ pub(crate) fn answer_call(
     command: &str,
     words: &mut Words,
     text: &mut String,
-) -> Result<(), Fail<Misfit>>
+) -> Result<TextKind, Fail<Misfit>>
     ensures { WritesOfCall (asked question) (command.now ∷ left words.old)
         (string_bytes text.old) (string_bytes text.new) result }
 {
@@ -81,7 +81,7 @@ fn unary(
     question: Question,
     words: &mut Words,
     text: &mut String,
-) -> Result<(), Fail<Misfit>>
+) -> Result<TextKind, Fail<Misfit>>
     ensures { WritesOfCall (asked question) (codes "unary" ∷ left words.old)
         (string_bytes text.old) (string_bytes text.new) result }
 {
@@ -113,7 +113,7 @@ fn binary(
     question: Question,
     words: &mut Words,
     text: &mut String,
-) -> Result<(), Fail<Misfit>>
+) -> Result<TextKind, Fail<Misfit>>
     ensures { WritesOfCall (asked question) (codes "binary" ∷ left words.old)
         (string_bytes text.old) (string_bytes text.new) result }
 {
@@ -146,7 +146,7 @@ fn by_name(
     by: Named,
     words: &mut Words,
     text: &mut String,
-) -> Result<(), Fail<Misfit>>
+) -> Result<TextKind, Fail<Misfit>>
     ensures { WritesOfCall (asked question) (command_of by ∷ left words.old)
         (string_bytes text.old) (string_bytes text.new) result }
 {
@@ -187,9 +187,9 @@ fn write_of_named(
     template: Option<&[TpltParam]>,
     written: &[WrittenOperand],
     text: &mut String,
-) -> Result<(), AllocError>
-    ensures { OnOk result (Adds (IsAnswer (asked question (called (callee_view callee.entry)
-        (option_map (λ ps. map parameter_view ps.now) template.entry) (map operand_view written.now))))
+) -> Result<TextKind, AllocError>
+    ensures { IfOk result (λ kind. Adds (IsAnswer (asked question (called (callee_view callee.entry)
+        (option_map (λ ps. map parameter_view ps.now) template.entry) (map operand_view written.now))) kind)
         (string_bytes text.old) (string_bytes text.new)) }
 {
     match written {
@@ -218,9 +218,9 @@ fn write_of(
     template: Option<&[TpltParam]>,
     operands: &[Operand<'_>],
     text: &mut String,
-) -> Result<(), AllocError>
-    ensures { OnOk result (Adds (IsAnswer (asked question (called (callee_view callee.entry)
-        (option_map (λ ps. map parameter_view ps.now) template.entry) (map written_view operands.now))))
+) -> Result<TextKind, AllocError>
+    ensures { IfOk result (λ kind. Adds (IsAnswer (asked question (called (callee_view callee.entry)
+        (option_map (λ ps. map parameter_view ps.now) template.entry) (map written_view operands.now))) kind)
         (string_bytes text.old) (string_bytes text.new)) }
 {
     write_answer_on(alloc, question, callee, template, operands, text)
@@ -250,9 +250,9 @@ fn write_answer_on(
     template: Option<&[TpltParam]>,
     operands: &[Operand<'_>],
     text: &mut String,
-) -> Result<(), AllocError>
-    ensures { OnOk result (Adds (IsAnswer (asked question (called (callee_view callee.entry)
-        (option_map (λ ps. map parameter_view ps.now) template.entry) (map written_view operands.now))))
+) -> Result<TextKind, AllocError>
+    ensures { IfOk result (λ kind. Adds (IsAnswer (asked question (called (callee_view callee.entry)
+        (option_map (λ ps. map parameter_view ps.now) template.entry) (map written_view operands.now))) kind)
         (string_bytes text.old) (string_bytes text.new)) }
 {
     let call = Call {
@@ -269,27 +269,50 @@ fn write_answer_on(
 
 /// Writes the type of a call. It is written here, as a part of the caller, and not by `write`, which knows all forms.
 #[inline(always)]
-fn write_type(alloc: Global, call: &Call<'_>, text: &mut String) -> Result<(), AllocError>
-    ensures { OnOk result (Adds (IsAnswer (asked Question.Type (call_view call.now)))
+fn write_type(alloc: Global, call: &Call<'_>, text: &mut String) -> Result<TextKind, AllocError>
+    ensures { IfOk result (λ kind. Adds (IsAnswer (asked Question.Type (call_view call.now)) kind)
         (string_bytes text.old) (string_bytes text.new)) }
 {
     match answer(alloc, Request::Type(call))? {
-        Answer::TypeOf(call, found) => write_type_of(text, call, found),
+        Answer::TypeOf(call, found) => {
+            let kind = kind_of(&found);
+            write_type_of(text, call, found)?;
+            Ok(kind)
+        }
         other => write(other, text),
     }
 }
 
+/// A refusal, if there is nothing.
+#[inline(always)]
+fn kind_of<T>(found: &Option<T>) -> TextKind
+    ensures { MatchOption found.now (result ≡ TextKind.Refusal) (λ x. result ≡ TextKind.Answer) }
+{
+    match found {
+        Some(_) => TextKind::Answer,
+        None => TextKind::Refusal,
+    }
+}
+
 #[inline(never)]
-fn write_resolution(alloc: Global, call: &Call<'_>, text: &mut String) -> Result<(), AllocError>
-    ensures { OnOk result (Adds (IsAnswer (asked Question.Resolution (call_view call.now)))
+fn write_resolution(
+    alloc: Global,
+    call: &Call<'_>,
+    text: &mut String,
+) -> Result<TextKind, AllocError>
+    ensures { IfOk result (λ kind. Adds (IsAnswer (asked Question.Resolution (call_view call.now)) kind)
         (string_bytes text.old) (string_bytes text.new)) }
 {
     write_answer_to(alloc, Request::Resolution(call), text)
 }
 
 #[inline(never)]
-fn write_explanation(alloc: Global, call: &Call<'_>, text: &mut String) -> Result<(), AllocError>
-    ensures { OnOk result (Adds (IsAnswer (asked Question.Explanation (call_view call.now)))
+fn write_explanation(
+    alloc: Global,
+    call: &Call<'_>,
+    text: &mut String,
+) -> Result<TextKind, AllocError>
+    ensures { IfOk result (λ kind. Adds (IsAnswer (asked Question.Explanation (call_view call.now)) kind)
         (string_bytes text.old) (string_bytes text.new)) }
 {
     write_answer_to(alloc, Request::Explanation(call), text)

@@ -1,15 +1,16 @@
 // What the program answers to a command.
-ghost use Rattle.std.specs.Prelude.{◌≡◌, ◌∷◌, IfOk, MatchOption, OnOk, codes, string_bytes};
+ghost use Rattle.std.specs.Prelude.{◌≡◌, ◌∷◌, IfOk, MatchResult, codes, map, option_map, string_bytes};
 ghost use Rattle.wgsl_syntax.specs.Operator.{binary_text, unary_text};
 ghost use Rattle.wgsl_rules.specs.types.Signatures.{Signature};
 ghost use Rattle.wgsl_core.specs.View.{view};
-ghost use Rattle.wgsl_asked.specs.Requests.{layout as layout_request, offsets as offsets_request};
+ghost use Rattle.wgsl_asked.specs.Requests.{common as common_request, layout as layout_request, offsets as offsets_request};
 ghost use Rattle.wgsl_asked.specs.Views.{callee_view as asked_view, request_view};
 ghost use Rattle.wgsl_requests.specs.Answers.{IsAnswer, IsReply};
 ghost use Rattle.wgsl_requests.specs.Reading.{Answers, ReadsWord};
 ghost use Rattle.wgsl_requests.specs.Requests.{IsCallee, NoRequest};
 ghost use Rattle.wgsl_requests.specs.internal.Replied.{Replies, WritesOfStruct, callee_view};
 ghost use Rattle.wgsl_requests.specs.internal.Taken.{left};
+ghost use Rattle.wgsl_requests.specs.internal.Typed.{first_type_of};
 ghost use Rattle.wgsl_requests.specs.internal.Written.{Adds};
 
 use crate::read::{read_last_type, read_pair, read_types};
@@ -18,10 +19,11 @@ use crate::standard::answer_standard;
 use crate::template::read_template;
 use crate::wanted::{Misfit, Misread, Wanted};
 use crate::words::{Words, parsed};
-use crate::write::write;
+use crate::write::{TextKind, write, write_type_or_none};
 use std::alloc::{AllocError, Global};
 use wgsl_asked::ask::answer;
 use wgsl_asked::requests::{Callee as AskedCallee, Request};
+use wgsl_typed::typed::{Typed, convert_to_common, typed_on};
 use wgsl_types::error::Fail;
 use wgsl_types::syntax::{BinaryOperator, UnaryOperator};
 use wgsl_types::tplt::TpltParam;
@@ -34,14 +36,14 @@ pub fn write_answer(
     command: &str,
     words: &mut Words,
     text: &mut String,
-) -> Result<Option<Misread>, AllocError>
-    ensures { IfOk result (λ misread. MatchOption misread
-        (Adds (IsReply rules (command.now ∷ left words.old)) (string_bytes text.old) (string_bytes text.new))
+) -> Result<Result<TextKind, Misread>, AllocError>
+    ensures { IfOk result (λ written. MatchResult written
+        (λ kind. Adds (IsReply rules (command.now ∷ left words.old) kind) (string_bytes text.old) (string_bytes text.new))
         (λ misread. NoRequest rules (command.now ∷ left words.old))) }
 {
     match answer_by(alloc, rules, command, words, text) {
-        Ok(()) => Ok(None),
-        Err(Fail::Error(misfit)) => Ok(Some(Misread {
+        Ok(kind) => Ok(Ok(kind)),
+        Err(Fail::Error(misfit)) => Ok(Err(Misread {
             misfit,
             taken: words.taken(),
         })),
@@ -56,7 +58,7 @@ fn answer_by(
     command: &str,
     words: &mut Words,
     text: &mut String,
-) -> Result<(), Fail<Misfit>>
+) -> Result<TextKind, Fail<Misfit>>
     ensures { Replies rules (command.now ∷ left words.old)
         (string_bytes text.old) (string_bytes text.new) result }
 {
@@ -71,7 +73,7 @@ fn answer_command(
     command: &str,
     words: &mut Words,
     text: &mut String,
-) -> Result<(), Fail<Misfit>>
+) -> Result<TextKind, Fail<Misfit>>
     ensures { Replies RuleSet.Ported (command.now ∷ left words.old)
         (string_bytes text.old) (string_bytes text.new) result }
 {
@@ -95,8 +97,8 @@ pub(crate) fn write_answer_to(
     alloc: Global,
     request: Request<'_>,
     text: &mut String,
-) -> Result<(), AllocError>
-    ensures { OnOk result (Adds (IsAnswer (request_view request.entry))
+) -> Result<TextKind, AllocError>
+    ensures { IfOk result (λ kind. Adds (IsAnswer (request_view request.entry) kind)
         (string_bytes text.old) (string_bytes text.new)) }
 {
     let answer = answer(alloc, request)?;
@@ -104,7 +106,11 @@ pub(crate) fn write_answer_to(
 }
 
 /// `rank T U`: the rank of the conversion.
-pub(crate) fn rank(alloc: Global, words: &mut Words, text: &mut String) -> Result<(), Fail<Misfit>>
+pub(crate) fn rank(
+    alloc: Global,
+    words: &mut Words,
+    text: &mut String,
+) -> Result<TextKind, Fail<Misfit>>
     ensures { Replies RuleSet.Ported (codes "rank" ∷ left words.old)
         (string_bytes text.old) (string_bytes text.new) result }
 {
@@ -114,23 +120,42 @@ pub(crate) fn rank(alloc: Global, words: &mut Words, text: &mut String) -> Resul
     Ok(written?)
 }
 
-/// `common T..`: the common type of all.
+/// `common T..`: the type that all types have after they were converted together, each on its line.
 pub(crate) fn common(
     alloc: Global,
     words: &mut Words,
     text: &mut String,
-) -> Result<(), Fail<Misfit>>
+) -> Result<TextKind, Fail<Misfit>>
     ensures { Replies RuleSet.Ported (codes "common" ∷ left words.old)
         (string_bytes text.old) (string_bytes text.new) result }
 {
-    let types = read_types(alloc, words)?;
-    let written = write_answer_to(alloc, Request::Common(&types), text);
-    drop(types);
+    let values = typed_on(alloc, words.line, read_types(alloc, words)?)?;
+    let written = write_common(alloc, &values, text);
+    drop(values);
     Ok(written?)
 }
 
+/// Writes the type that the values have after they were converted together, or `none`.
+fn write_common(alloc: Global, values: &[Typed], text: &mut String) -> Result<TextKind, AllocError>
+    ensures { IfOk result (λ kind. Adds (IsAnswer (common_request (map (λ x. view x.ty) values.now)) kind)
+        (string_bytes text.old) (string_bytes text.new)) }
+{
+    let converted = convert_to_common(alloc, values)?;
+    let written = write_type_or_none(text, first_type(&converted));
+    drop(converted);
+    written?;
+    Ok(TextKind::Answer)
+}
+
+fn first_type(values: &Option<Vec<Typed>>) -> Option<&Type>
+    ensures { option_map (λ t. view t.now) result ≡ first_type_of (option_map (λ v. v.items) values.now) }
+{
+    let first = values.as_ref()?.first()?;
+    Some(&first.ty)
+}
+
 /// `unary OP T`: the type of the expression, or why it has none.
-fn unary(alloc: Global, words: &mut Words, text: &mut String) -> Result<(), Fail<Misfit>>
+fn unary(alloc: Global, words: &mut Words, text: &mut String) -> Result<TextKind, Fail<Misfit>>
     ensures { Replies RuleSet.Ported (codes "unary" ∷ left words.old)
         (string_bytes text.old) (string_bytes text.new) result }
 {
@@ -148,7 +173,7 @@ pub(crate) fn unary_operator(word: &str) -> Result<UnaryOperator, Fail<Misfit>>
 }
 
 /// `binary OP T U`: the type of the expression, or why it has none.
-fn binary(alloc: Global, words: &mut Words, text: &mut String) -> Result<(), Fail<Misfit>>
+fn binary(alloc: Global, words: &mut Words, text: &mut String) -> Result<TextKind, Fail<Misfit>>
     ensures { Replies RuleSet.Ported (codes "binary" ∷ left words.old)
         (string_bytes text.old) (string_bytes text.new) result }
 {
@@ -166,7 +191,11 @@ pub(crate) fn binary_operator(word: &str) -> Result<BinaryOperator, Fail<Misfit>
 }
 
 /// `size T`: the size and the alignment.
-pub(crate) fn size(alloc: Global, words: &mut Words, text: &mut String) -> Result<(), Fail<Misfit>>
+pub(crate) fn size(
+    alloc: Global,
+    words: &mut Words,
+    text: &mut String,
+) -> Result<TextKind, Fail<Misfit>>
     ensures { Replies RuleSet.Ported (codes "size" ∷ left words.old)
         (string_bytes text.old) (string_bytes text.new) result }
 {
@@ -181,7 +210,7 @@ pub(crate) fn offsets(
     alloc: Global,
     words: &mut Words,
     text: &mut String,
-) -> Result<(), Fail<Misfit>>
+) -> Result<TextKind, Fail<Misfit>>
     ensures { Replies RuleSet.Ported (codes "offsets" ∷ left words.old)
         (string_bytes text.old) (string_bytes text.new) result }
 {
@@ -191,7 +220,7 @@ pub(crate) fn offsets(
     written
 }
 
-fn write_offsets_of(alloc: Global, ty: &Type, text: &mut String) -> Result<(), Fail<Misfit>>
+fn write_offsets_of(alloc: Global, ty: &Type, text: &mut String) -> Result<TextKind, Fail<Misfit>>
     ensures { WritesOfStruct offsets_request (view ty.now)
         (string_bytes text.old) (string_bytes text.new) result }
 {
@@ -206,7 +235,7 @@ pub(crate) fn layout(
     alloc: Global,
     words: &mut Words,
     text: &mut String,
-) -> Result<(), Fail<Misfit>>
+) -> Result<TextKind, Fail<Misfit>>
     ensures { Replies RuleSet.Ported (codes "layout" ∷ left words.old)
         (string_bytes text.old) (string_bytes text.new) result }
 {
@@ -216,7 +245,7 @@ pub(crate) fn layout(
     written
 }
 
-fn write_layout_of(alloc: Global, ty: &Type, text: &mut String) -> Result<(), Fail<Misfit>>
+fn write_layout_of(alloc: Global, ty: &Type, text: &mut String) -> Result<TextKind, Fail<Misfit>>
     ensures { WritesOfStruct layout_request (view ty.now)
         (string_bytes text.old) (string_bytes text.new) result }
 {
@@ -263,7 +292,7 @@ fn read_callee<'t>(alloc: Global, words: &mut Words<'t>) -> Result<Callee<'t>, F
 }
 
 /// `ctor NAME P T..`: the type that the constructor makes, or why it makes none.
-fn ctor(alloc: Global, words: &mut Words, text: &mut String) -> Result<(), Fail<Misfit>>
+fn ctor(alloc: Global, words: &mut Words, text: &mut String) -> Result<TextKind, Fail<Misfit>>
     ensures { Replies RuleSet.Ported (codes "ctor" ∷ left words.old)
         (string_bytes text.old) (string_bytes text.new) result }
 {
@@ -274,7 +303,7 @@ fn ctor(alloc: Global, words: &mut Words, text: &mut String) -> Result<(), Fail<
 }
 
 /// `call NAME P T..`: the type of the call, or why it has none; `no value` if it gives none.
-fn call(alloc: Global, words: &mut Words, text: &mut String) -> Result<(), Fail<Misfit>>
+fn call(alloc: Global, words: &mut Words, text: &mut String) -> Result<TextKind, Fail<Misfit>>
     ensures { Replies RuleSet.Ported (codes "call" ∷ left words.old)
         (string_bytes text.old) (string_bytes text.new) result }
 {

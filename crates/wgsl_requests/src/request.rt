@@ -9,6 +9,7 @@ use crate::split::has_line_feed;
 use crate::wanted::Wanted;
 use crate::why::{Why, write_why};
 use crate::words::Words;
+pub use crate::write::TextKind;
 use std::alloc::{AllocError, Global};
 
 /// How many bytes a request may have.
@@ -19,8 +20,8 @@ pub const LONGEST: usize = 4096;
 pub enum Reply {
     /// The request has no words.
     Nothing,
-    /// The answer, without a line feed at its end.
-    Answer(String),
+    /// The answer or the message of a refusal, without a line feed at its end.
+    Answer(TextKind, String),
     /// The request is too long, has a line feed, is not UTF-8, or is no command.
     Unreadable,
 }
@@ -29,11 +30,11 @@ pub enum Reply {
 #[derive(Clone, Copy)]
 pub enum ReplyKind {
     Nothing,
-    Answer,
+    Answer(TextKind),
     Unreadable(Why),
 }
 
-/// The reply to the request, by a set of rules.
+/// The reply to the request, by a set of rules, as to a first line.
 pub fn reply_to(alloc: Global, rules: RuleSet, request: &[u8]) -> Result<Reply, AllocError>
     ensures too_long { LONGEST < length request.now → result ≡ Ok Reply.Unreadable }
     ensures forbidden { has_line_feed request.now ≡ true → result ≡ Ok Reply.Unreadable }
@@ -44,19 +45,21 @@ pub fn reply_to(alloc: Global, rules: RuleSet, request: &[u8]) -> Result<Reply, 
     ensures reply { IfOk result (λ reply. IsReplyTo rules request.now (reply_text reply)) }
 {
     let mut text = String::new(alloc);
-    match write_reply(alloc, rules, request, &mut text)? {
+    match write_reply(alloc, rules, request, 1, &mut text)? {
         ReplyKind::Nothing => Ok(Reply::Nothing),
-        ReplyKind::Answer => Ok(Reply::Answer(text)),
+        ReplyKind::Answer(kind) => Ok(Reply::Answer(kind, text)),
         ReplyKind::Unreadable(_) => Ok(Reply::Unreadable),
     }
 }
 
-/// The kind of the reply to the request, by a set of rules. An answer is written at the end of the text.
+/// The kind of the reply to the request on a line of this number, by a set of rules. An answer is written at the end of
+/// the text.
 #[inline(always)]
 pub fn write_reply(
     alloc: Global,
     rules: RuleSet,
     request: &[u8],
+    line: u64,
     text: &mut String,
 ) -> Result<ReplyKind, AllocError>
     ensures too_long { LONGEST < length request.now
@@ -77,12 +80,13 @@ pub fn write_reply(
     let Some(mut words) = Words::of(request) else {
         return Ok(ReplyKind::Unreadable(Why::NotUtf8));
     };
+    words.line = line;
     let Ok(command) = words.next(Wanted::Command) else {
         return Ok(ReplyKind::Nothing);
     };
     match write_answer(alloc, rules, command, &mut words, text)? {
-        None => Ok(ReplyKind::Answer),
-        Some(misread) => Ok(ReplyKind::Unreadable(Why::Word(misread))),
+        Ok(kind) => Ok(ReplyKind::Answer(kind)),
+        Err(misread) => Ok(ReplyKind::Unreadable(Why::Word(misread))),
     }
 }
 
@@ -91,12 +95,17 @@ pub fn explain(alloc: Global, rules: RuleSet, request: &[u8]) -> Result<Reply, A
     ensures { IfOk result (λ reply. IsExplanation rules request.now reply) }
 {
     let mut text = String::new(alloc);
-    let kind = write_reply(alloc, rules, request, &mut text);
+    let kind = write_reply(alloc, rules, request, 1, &mut text);
     drop(text);
     match kind? {
-        ReplyKind::Answer => Ok(Reply::Nothing),
-        ReplyKind::Nothing => Ok(Reply::Answer(String::from_str(alloc, "no words")?)),
-        ReplyKind::Unreadable(why) => Ok(Reply::Answer(reason(alloc, request, why)?)),
+        ReplyKind::Answer(_) => Ok(Reply::Nothing),
+        ReplyKind::Nothing => Ok(Reply::Answer(
+            TextKind::Answer,
+            String::from_str(alloc, "no words")?,
+        )),
+        ReplyKind::Unreadable(why) => {
+            Ok(Reply::Answer(TextKind::Answer, reason(alloc, request, why)?))
+        }
     }
 }
 

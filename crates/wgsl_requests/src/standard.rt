@@ -9,6 +9,7 @@ use crate::command::{common, layout, offsets, rank, size, write_answer_to};
 use crate::rules::RuleSet;
 use crate::wanted::{Misfit, Wanted};
 use crate::words::Words;
+use crate::write::TextKind;
 use std::alloc::Global;
 use wgsl_asked::requests::Request;
 use wgsl_types::error::Fail;
@@ -19,7 +20,7 @@ pub(crate) fn answer_standard(
     command: &str,
     words: &mut Words,
     text: &mut String,
-) -> Result<(), Fail<Misfit>>
+) -> Result<TextKind, Fail<Misfit>>
     ensures { Replies RuleSet.Standard (command.now ∷ left words.old)
         (string_bytes text.old) (string_bytes text.new) result }
 {
@@ -37,7 +38,7 @@ pub(crate) fn answer_standard(
 }
 
 /// `overloads NAME`: a line for each overload.
-fn overloads(alloc: Global, words: &mut Words, text: &mut String) -> Result<(), Fail<Misfit>>
+fn overloads(alloc: Global, words: &mut Words, text: &mut String) -> Result<TextKind, Fail<Misfit>>
     ensures { Replies RuleSet.Standard (codes "overloads" ∷ left words.old)
         (string_bytes text.old) (string_bytes text.new) result }
 {
@@ -54,7 +55,7 @@ fn answer_next_call(
     question: Question,
     words: &mut Words,
     text: &mut String,
-) -> Result<(), Fail<Misfit>>
+) -> Result<TextKind, Fail<Misfit>>
     ensures { WritesOfCall (asked question) (left words.old)
         (string_bytes text.old) (string_bytes text.new) result }
 {

@@ -18,6 +18,8 @@ pub struct Words<'t> {
     text: &'t str,
     /// Which of its bytes belong to words, if they are marked.
     marks: u64,
+    /// The number of the line that the request is.
+    pub line: u64,
     taken: usize,
     ghost within: { taken ≤ length text.now },
     ghost boundary: { IsCharBoundary text.now taken },
@@ -27,7 +29,7 @@ pub struct Words<'t> {
 impl<'t> Words<'t> {
     ghost use Rattle.wgsl_requests.specs.internal.Taken.{GoesOn, left};
 
-    /// The words of a request, or `None` if it is not UTF-8.
+    /// The words of a request on a first line, or `None` if it is not UTF-8.
     ///
     /// Only ASCII separates words, so a request is UTF-8 if each of its words is.
     #[inline(always)]
@@ -41,6 +43,7 @@ impl<'t> Words<'t> {
             Ok(text) => Some(Words {
                 text,
                 marks: marks(text),
+                line: 1,
                 taken: 0,
             }),
             Err(_) => None,

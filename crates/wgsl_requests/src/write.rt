@@ -1,5 +1,5 @@
 // How answers are written.
-ghost use Rattle.std.specs.Prelude.{◌≡◌, ◌++◌, OnOk, decimal, option_map, string_bytes};
+ghost use Rattle.std.specs.Prelude.{◌≡◌, ◌++◌, IfOk, OnOk, decimal, option_map, string_bytes};
 ghost use Rattle.wgsl_rules.specs.errors.Refusals.{message};
 ghost use Rattle.wgsl_rules.specs.types.Spelling.{spelling};
 ghost use Rattle.wgsl_core.specs.View.{view};
@@ -9,7 +9,7 @@ ghost use Rattle.wgsl_asked.specs.Views.{answer_view, operands_refusal, outcome}
 ghost use Rattle.wgsl_requests.specs.Layouts.{spaced};
 ghost use Rattle.wgsl_standard.specs.Results.{result_view};
 ghost use Rattle.wgsl_asked.specs.StandardViews.{call_view};
-ghost use Rattle.wgsl_requests.specs.Texts.{answer_text, or_no_overload, or_none, value_text};
+ghost use Rattle.wgsl_requests.specs.Texts.{answer_text, or_no_overload, or_none, text_kind, value_text};
 ghost use Rattle.wgsl_requests.specs.internal.Written.{IsRefusal};
 
 use crate::fast::number::write_number;
@@ -23,9 +23,41 @@ use wgsl_standard::instance::ResultType;
 use wgsl_types::error::{Error, Fail};
 use wgsl_types::ty::Type;
 
-/// Writes an answer at the end of the text.
+/// What kind of text is written for a request.
+#[derive(Clone, Copy)]
+pub enum TextKind {
+    Answer,
+    /// The message by which the rules refuse an expression.
+    Refusal,
+}
+
+/// Writes an answer at the end of the text, and returns of which kind it is.
 #[inline(always)]
-pub fn write(answer: Answer<'_>, text: &mut String) -> Result<(), AllocError>
+pub fn write(answer: Answer<'_>, text: &mut String) -> Result<TextKind, AllocError>
+    ensures { IfOk result (λ kind. (kind ≡ text_kind (answer_view answer.entry))
+        × (string_bytes text.new ≡ string_bytes text.old ++ answer_text (answer_view answer.entry))) }
+{
+    let kind = text_kind(&answer);
+    write_text(answer, text)?;
+    Ok(kind)
+}
+
+#[inline(always)]
+fn text_kind(answer: &Answer<'_>) -> TextKind
+    ensures { result ≡ text_kind (answer_view answer.now) }
+{
+    match answer {
+        Answer::Type(Err(_)) | Answer::Value(Err(_)) | Answer::Binary(Err(_)) => TextKind::Refusal,
+        Answer::TypeOf(_, None) | Answer::Resolution(_, None) => TextKind::Refusal,
+        Answer::Type(Ok(_)) | Answer::Value(Ok(_)) | Answer::Binary(Ok(_)) => TextKind::Answer,
+        Answer::TypeOf(_, Some(_)) | Answer::Resolution(_, Some(_)) => TextKind::Answer,
+        Answer::Number(_) | Answer::Size(_, _) | Answer::Offsets(_) => TextKind::Answer,
+        Answer::Layout(_, _) | Answer::Overloads(_) | Answer::Notes(_) => TextKind::Answer,
+    }
+}
+
+#[inline(always)]
+fn write_text(answer: Answer<'_>, text: &mut String) -> Result<(), AllocError>
     ensures { OnOk result (string_bytes text.new
         ≡ string_bytes text.old ++ answer_text (answer_view answer.entry)) }
 {
@@ -36,7 +68,6 @@ pub fn write(answer: Answer<'_>, text: &mut String) -> Result<(), AllocError>
             text.push(' ')?;
             write_number_or_none(text, align)
         }
-        Answer::Common(common) => write_type_or_none(text, common),
         Answer::Type(made) => write_type_or_refusal(text, made),
         Answer::Value(returned) => write_value_or_refusal(text, returned),
         Answer::Binary(Ok(ty)) => write_resolved(text, ty),
@@ -74,7 +105,7 @@ fn write_number_or_none(text: &mut String, number: Option<u32>) -> Result<(), Al
     }
 }
 
-fn write_type_or_none(text: &mut String, ty: Option<&Type>) -> Result<(), AllocError>
+pub(crate) fn write_type_or_none(text: &mut String, ty: Option<&Type>) -> Result<(), AllocError>
     ensures { OnOk result (string_bytes text.new
         ≡ string_bytes text.old ++ or_none spelling (option_map (λ t. view t.now) ty.entry)) }
 {

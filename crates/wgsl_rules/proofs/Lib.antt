@@ -5,6 +5,5 @@ pub mod operators
 pub mod templates
 pub mod constructors
 pub mod calls
-pub mod codes
 pub mod Examples
 pub mod Laws

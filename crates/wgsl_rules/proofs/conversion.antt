@@ -4,6 +4,7 @@ pub mod Equations
 pub mod Counts
 pub mod Walks
 pub mod Loading
+pub mod Folds
 pub mod Commons
 pub mod Lists
 pub mod Concretes

@@ -8,6 +8,5 @@ pub mod templates
 pub mod constructors
 pub mod calls
 pub mod standard
-pub mod codes
 pub mod Laws
 pub mod internal

@@ -1,56 +1,147 @@
-// The attributes that are read: `size`, `align`, `group` and `binding`.
+// Attributes, and where each may stand (WGSL, "Attributes").
 ghost use Rattle.wgsl_source.specs.Cursor.{GoesOn};
 
 use crate::cursor::Cursor;
-use crate::expression::{Site, close};
+use crate::entry::{Extent, Stage};
+use crate::expression::{Site, Value, close};
 use crate::fault::{Cause, Expected, Stop};
 use crate::scope::Scope;
 use crate::skip::skip_group;
 
-/// The attributes of a member or a variable that are read.
+/// What attributes stand in front of.
+#[derive(Clone, Copy, PartialEq, Eq)]
+pub enum Owner {
+    Member,
+    Variable,
+    Override,
+    Function,
+    /// A declaration without attributes: an alias, a struct or a constant.
+    Other,
+}
+
+/// An attribute of WGSL.
+#[derive(Clone, Copy, PartialEq, Eq)]
+enum Name {
+    Align,
+    Binding,
+    BlendSrc,
+    Builtin,
+    Compute,
+    Diagnostic,
+    Fragment,
+    Group,
+    Id,
+    Interpolate,
+    Invariant,
+    Location,
+    MustUse,
+    Size,
+    Vertex,
+    WorkgroupSize,
+}
+
+/// The attributes of a declaration or a member that are read.
 #[derive(Clone, Copy)]
 pub struct Attributes {
     pub size: Option<u32>,
     pub align: Option<u32>,
     pub group: Option<u32>,
     pub binding: Option<u32>,
+    pub id: Option<u32>,
+    pub stage: Option<Stage>,
+    pub workgroup_size: Option<[Extent; 3]>,
+    /// Which of all attributes are there, in the order of `Name`.
+    is_there: [bool; 16],
+}
+
+impl Name {
+    fn named(name: &str) -> Option<Name> {
+        match name {
+            "align" => Some(Name::Align),
+            "binding" => Some(Name::Binding),
+            "blend_src" => Some(Name::BlendSrc),
+            "builtin" => Some(Name::Builtin),
+            "compute" => Some(Name::Compute),
+            "diagnostic" => Some(Name::Diagnostic),
+            "fragment" => Some(Name::Fragment),
+            "group" => Some(Name::Group),
+            "id" => Some(Name::Id),
+            "interpolate" => Some(Name::Interpolate),
+            "invariant" => Some(Name::Invariant),
+            "location" => Some(Name::Location),
+            "must_use" => Some(Name::MustUse),
+            "size" => Some(Name::Size),
+            "vertex" => Some(Name::Vertex),
+            "workgroup_size" => Some(Name::WorkgroupSize),
+            _ => None,
+        }
+    }
+
+    /// Whether the attribute may stand there.
+    fn may_stand(self, owner: Owner) -> bool {
+        match self {
+            Name::Align
+            | Name::BlendSrc
+            | Name::Builtin
+            | Name::Interpolate
+            | Name::Invariant
+            | Name::Location
+            | Name::Size => owner == Owner::Member,
+            Name::Binding | Name::Group => owner == Owner::Variable,
+            Name::Id => owner == Owner::Override,
+            Name::Compute
+            | Name::Diagnostic
+            | Name::Fragment
+            | Name::MustUse
+            | Name::Vertex
+            | Name::WorkgroupSize => owner == Owner::Function,
+        }
+    }
+
+    /// Whether something stands behind the name in parentheses.
+    fn has_arguments(self) -> bool {
+        !matches!(
+            self,
+            Name::Compute | Name::Fragment | Name::Invariant | Name::MustUse | Name::Vertex
+        )
+    }
 }
 
 impl Attributes {
-    /// The attribute with a name, if there is one.
-    fn get(&self, name: &str) -> Option<u32> {
-        match name {
-            "size" => self.size,
-            "align" => self.align,
-            "group" => self.group,
-            _ => self.binding,
-        }
-    }
-
-    /// Keeps the attribute with a name.
-    fn set(&mut self, name: &str, number: u32) {
-        match name {
-            "size" => self.size = Some(number),
-            "align" => self.align = Some(number),
-            "group" => self.group = Some(number),
-            _ => self.binding = Some(number),
-        }
-    }
-}
-
-impl<'a, 't> Scope<'a, 't> {
-    /// The attributes of a member or a variable.
-    pub fn read_attributes(&self, cursor: &mut Cursor<'t>) -> Result<Attributes, Stop>
-        ensures goes_on { GoesOn cursor.old cursor.new }
-    {
-        let mut attributes = Attributes {
+    fn none() -> Attributes {
+        Attributes {
             size: None,
             align: None,
             group: None,
             binding: None,
-        };
+            id: None,
+            stage: None,
+            workgroup_size: None,
+            is_there: [false; 16],
+        }
+    }
+
+    /// Notes that the attribute is there. Whether it was there already: `diagnostic` may be there twice.
+    fn is_twice(&mut self, name: Name) -> bool {
+        match self.is_there.get_mut(name as usize) {
+            Some(is_there) if name != Name::Diagnostic => {
+                let is_twice = *is_there;
+                *is_there = true;
+                is_twice
+            }
+            _ => false,
+        }
+    }
+}
+
+impl<'t> Scope<'t> {
+    /// The attributes of a member or a declaration.
+    pub fn read_attributes(&self, cursor: &mut Cursor<'t>, owner: Owner) -> Result<Attributes, Stop>
+        ensures goes_on { GoesOn cursor.old cursor.new }
+    {
+        let mut attributes = Attributes::none();
         while cursor.take(b'@') {
-            self.read_attribute(cursor, &mut attributes)?;
+            self.read_attribute(cursor, owner, &mut attributes)?;
         }
         Ok(attributes)
     }
@@ -59,37 +150,105 @@ impl<'a, 't> Scope<'a, 't> {
     fn read_attribute(
         &self,
         cursor: &mut Cursor<'t>,
+        owner: Owner,
         attributes: &mut Attributes,
     ) -> Result<(), Stop>
         ensures goes_on { GoesOn cursor.old cursor.new }
     {
         let at = cursor.index();
-        let name = cursor.take_word(Expected::Name)?;
-        if !matches!(name, "size" | "align" | "group" | "binding") {
-            return skip_group(cursor);
+        let name = match Name::named(cursor.take_word(Expected::Name)?) {
+            Some(name) => name,
+            None if self.extensions.foreign => return skip_group(cursor),
+            None => return Err(Stop::at(at, Cause::UnknownAttribute)),
+        };
+        if !name.may_stand(owner) {
+            return Err(Stop::at(at, Cause::MisplacedAttribute));
         }
-        if attributes.get(name).is_some() {
+        if attributes.is_twice(name) {
             return Err(Stop::at(at, Cause::AttributeTwice));
         }
-        let number = self.read_number(cursor, name == "align")?;
-        attributes.set(name, number);
+        if name.has_arguments() && !cursor.is_at(b'(') {
+            return Err(cursor.expected(Expected::Sign(b'(')));
+        }
+        match name {
+            Name::Align => attributes.align = Some(self.read_align(cursor)?),
+            Name::Size => attributes.size = Some(self.read_number(cursor)?),
+            Name::Group => attributes.group = Some(self.read_number(cursor)?),
+            Name::Binding => attributes.binding = Some(self.read_number(cursor)?),
+            Name::Id => attributes.id = Some(self.read_number(cursor)?),
+            Name::WorkgroupSize => {
+                attributes.workgroup_size = Some(self.read_workgroup_size(cursor)?);
+            }
+            Name::Compute => attributes.stage = Some(Stage::Compute),
+            Name::Fragment => attributes.stage = Some(Stage::Fragment),
+            Name::Vertex => attributes.stage = Some(Stage::Vertex),
+            Name::BlendSrc
+            | Name::Builtin
+            | Name::Diagnostic
+            | Name::Interpolate
+            | Name::Location => skip_group(cursor)?,
+            Name::Invariant | Name::MustUse => {}
+        }
         Ok(())
     }
 
     /// The number of an attribute in parentheses.
-    fn read_number(&self, cursor: &mut Cursor<'t>, is_power: bool) -> Result<u32, Stop>
+    fn read_number(&self, cursor: &mut Cursor<'t>) -> Result<u32, Stop>
         ensures goes_on { GoesOn cursor.old cursor.new }
     {
         cursor.expect(b'(')?;
         let at = cursor.index();
-        let number = self.read_integer(cursor, Site::Other)?;
+        let integer = self.read_integer(cursor)?;
         close(cursor)?;
-        match u32::try_from(number.value) {
-            Ok(number) if is_power && !number.is_power_of_two() => {
-                Err(Stop::at(at, Cause::AlignNotPower))
-            }
+        match u32::try_from(integer.value()) {
             Ok(number) => Ok(number),
             Err(_) => Err(Stop::at(at, Cause::NegativeAttribute)),
+        }
+    }
+
+    fn read_align(&self, cursor: &mut Cursor<'t>) -> Result<u32, Stop>
+        ensures goes_on { GoesOn cursor.old cursor.new }
+    {
+        let mut at = *cursor;
+        at.advance();
+        let align = self.read_number(cursor)?;
+        if align.is_power_of_two() {
+            Ok(align)
+        } else {
+            Err(at.stop(Cause::AlignNotPower))
+        }
+    }
+
+    /// The numbers of invocations of a workgroup, from one to three; those that aren't there are 1.
+    fn read_workgroup_size(&self, cursor: &mut Cursor<'t>) -> Result<[Extent; 3], Stop>
+        ensures goes_on { GoesOn cursor.old cursor.new }
+    {
+        cursor.expect(b'(')?;
+        let first = self.read_extent(cursor)?;
+        let mut second = Extent::Known(1);
+        let mut third = Extent::Known(1);
+        if cursor.take(b',') && !cursor.is_at(b')') {
+            second = self.read_extent(cursor)?;
+            if cursor.take(b',') && !cursor.is_at(b')') {
+                third = self.read_extent(cursor)?;
+                cursor.take(b',');
+            }
+        }
+        cursor.expect(b')')?;
+        Ok([first, second, third])
+    }
+
+    fn read_extent(&self, cursor: &mut Cursor<'t>) -> Result<Extent, Stop>
+        ensures goes_on { GoesOn cursor.old cursor.new }
+    {
+        let at = cursor.index();
+        match self.read_value(cursor, Site::Other)? {
+            Value::Later => Ok(Extent::Override),
+            Value::Integer(integer) => match u32::try_from(integer.value()) {
+                Ok(number) if number > 0 => Ok(Extent::Known(number)),
+                _ => Err(Stop::at(at, Cause::EmptyWorkgroup)),
+            },
+            Value::Bool(_) | Value::Float(_) => Err(Stop::at(at, Cause::NotInteger)),
         }
     }
 }

@@ -1,40 +1,24 @@
-// Which types WGSL has.
+// Where types may stand.
 
 use crate::fault::Cause;
-use wgsl_core::ty::Type;
-use wgsl_core::ty::form::Form;
+use crate::measured::{Count, MeasuredType, TypeKind};
 
-/// What is wrong with a type as it is written, if anything is.
-pub fn type_fault(ty: &Type) -> Option<Cause> {
-    match ty {
-        Type::Vec(_, component) if !component.is_scalar() => Some(Cause::VectorComponent),
-        Type::Mat(_, _, component) if !component.is_float() => Some(Cause::MatrixComponent),
-        Type::Atomic(content) if !content.is_integer() => Some(Cause::AtomicContent),
-        Type::Array(element, _) => match type_fault(element) {
-            Some(cause) => Some(cause),
-            None => footprint_fault(element),
-        },
-        _ => None,
-    }
-}
-
-/// What is wrong with the type of a member, if anything is: it has a fixed footprint.
-pub fn stored_fault(ty: &Type) -> Option<Cause> {
-    match type_fault(ty) {
-        Some(cause) => Some(cause),
-        None => footprint_fault(ty),
-    }
-}
-
-/// Why a type has no size or no alignment, if it lacks one.
-fn footprint_fault(ty: &Type) -> Option<Cause> {
-    if ty.size_of().is_some() && ty.align_of().is_some() {
-        return None;
-    }
-    match ty.form() {
-        Form::Array(None, _) | Form::Struct(_) => Some(Cause::RuntimeSized),
-        Form::Array(Some(_), _) => Some(Cause::TooLarge),
-        Form::Vector(_, _) | Form::Matrix(_, _, _) => Some(Cause::NoLayout),
+/// Why elements of a type have no fixed size, if they have none.
+pub fn element_fault(ty: &MeasuredType) -> Option<Cause> {
+    match (ty.kind, ty.size, ty.align) {
+        (_, Some(_), Some(_)) => None,
+        (TypeKind::Array(_, Count::Override), _, _) => Some(Cause::KnownLater),
+        (TypeKind::Array(_, _) | TypeKind::Struct(_), _, _) => Some(Cause::RuntimeSized),
         _ => Some(Cause::NotPlain),
+    }
+}
+
+/// What is wrong with the type of a member with an attribute `size`, if anything is.
+pub fn member_fault(ty: &MeasuredType, size: Option<u32>) -> Option<Cause> {
+    match (size, ty.size) {
+        (Some(_), _) if ty.is_runtime_sized_array() => Some(Cause::SizedRuntimeArray),
+        (None, _) if ty.is_runtime_sized_array() => None,
+        (Some(size), Some(least)) if size < least => Some(Cause::SizeTooSmall),
+        _ => element_fault(ty),
     }
 }

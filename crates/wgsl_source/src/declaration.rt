@@ -3,7 +3,9 @@ ghost use Rattle.std.specs.Prelude.{OnOk};
 ghost use Rattle.wgsl_source.specs.Cursor.{GoesOn, Takes};
 
 use crate::cursor::Cursor;
+use crate::extension::{enabled, required};
 use crate::fault::{Cause, Expected, Fault, Stop};
+use crate::scope::Extensions;
 use crate::skip::{skip_attributes, skip_to_end};
 use std::alloc::{AllocError, Global};
 use wgsl_tokens::token::Kind;
@@ -34,15 +36,14 @@ pub struct Declaration<'t> {
     pub is_faulty: bool,
 }
 
-/// The declarations of a module in order, and what else its head says.
+/// The declarations of a module in order, and what its directives say.
 #[derive(Drop)]
 pub struct Declarations<'t> {
     pub declarations: Vec<Declaration<'t>>,
     pub faults: Vec<Fault>,
-    /// Whether `requires uniform_buffer_standard_layout;` is there: then `uniform` has the rules of other address spaces.
-    pub has_standard_uniform: bool,
-    /// Whether `enable f16;` is there.
-    pub has_half: bool,
+    pub extensions: Extensions,
+    /// Whether something stands there that is no directive.
+    has_begun: bool,
 }
 
 impl<'t> Declarations<'t> {
@@ -50,8 +51,8 @@ impl<'t> Declarations<'t> {
         Declarations {
             declarations: Vec::new(alloc),
             faults: Vec::new(alloc),
-            has_standard_uniform: false,
-            has_half: false,
+            extensions: Extensions::none(),
+            has_begun: false,
         }
     }
 
@@ -60,27 +61,52 @@ impl<'t> Declarations<'t> {
         ensures goes_on { GoesOn cursor.old cursor.new }
     {
         let first = cursor.at;
-        let fault = match read_head(cursor) {
-            Ok(Head::Named(kind)) => return self.read_named(cursor, first, kind),
-            Ok(Head::Requires) => {
-                self.has_standard_uniform |= lists(cursor, "uniform_buffer_standard_layout");
-                skip_to_end(cursor)
+        let read = match read_head(cursor) {
+            Ok(Head::Named(kind)) => {
+                self.has_begun = true;
+                return self.read_named(cursor, first, kind);
             }
-            Ok(Head::Enable) => {
-                self.has_half |= lists(cursor, "f16");
-                skip_to_end(cursor)
+            Ok(Head::Directive(directive)) => self.read_directive(cursor, directive),
+            Ok(Head::Assertion) => {
+                self.has_begun = true;
+                Ok(())
             }
-            Ok(Head::Skipped) => skip_to_end(cursor),
-            Ok(Head::Empty) => Ok(()),
-            Err(stop) => {
-                let _ = skip_to_end(cursor);
-                Err(stop)
+            Ok(Head::Empty) => {
+                self.has_begun = true;
+                return Ok(());
             }
+            Err(stop) => Err(stop),
         };
-        match fault {
+        let end = skip_to_end(cursor);
+        match read.and(end) {
             Err(stop) => self.tell(stop),
             Ok(()) => Ok(()),
         }
+    }
+
+    /// The extensions of a directive behind its first word.
+    fn read_directive(&mut self, cursor: &mut Cursor<'t>, directive: Directive) -> Result<(), Stop>
+        ensures goes_on { GoesOn cursor.old cursor.new }
+    {
+        if self.has_begun {
+            return Err(cursor.stop(Cause::LateDirective));
+        }
+        if directive == Directive::Diagnostic {
+            return Ok(());
+        }
+        while cursor.kind() == Kind::Name {
+            let is_known = match directive {
+                Directive::Enable => enabled(&mut self.extensions, cursor.word()),
+                _ => required(&mut self.extensions, cursor.word()),
+            };
+            if !is_known {
+                return Err(cursor.stop(Cause::UnknownExtension));
+            }
+            if !cursor.advance() || !cursor.take(b',') {
+                break;
+            }
+        }
+        Ok(())
     }
 
     /// The rest of a declaration from its name on.
@@ -127,12 +153,18 @@ impl<'t> Declarations<'t> {
 #[derive(Clone, Copy)]
 enum Head {
     Named(DeclarationKind),
-    Requires,
-    Enable,
-    /// `diagnostic` or `const_assert`.
-    Skipped,
+    Directive(Directive),
+    /// `const_assert`
+    Assertion,
     /// A `;` alone.
     Empty,
+}
+
+#[derive(Clone, Copy, PartialEq, Eq)]
+enum Directive {
+    Enable,
+    Requires,
+    Diagnostic,
 }
 
 /// The declarations of a module.
@@ -156,10 +188,14 @@ pub fn read_declarations<'t>(
 fn read_head(cursor: &mut Cursor) -> Result<Head, Stop>
     ensures goes_on { GoesOn cursor.old cursor.new }
 {
+    let first = *cursor;
     skip_attributes(cursor)?;
     let Some(head) = head_of(cursor.word()) else {
         return Err(cursor.expected(Expected::Declaration));
     };
+    if first.is_at(b'@') && !matches!(head, Head::Named(_)) {
+        return Err(first.stop(Cause::MisplacedAttribute));
+    }
     cursor.advance();
     if cursor.is_at(b'<') {
         skip_list(cursor)?;
@@ -175,9 +211,10 @@ fn head_of(word: &str) -> Option<Head> {
         "override" => Some(Head::Named(DeclarationKind::Override)),
         "var" => Some(Head::Named(DeclarationKind::Variable)),
         "fn" => Some(Head::Named(DeclarationKind::Function)),
-        "requires" => Some(Head::Requires),
-        "enable" => Some(Head::Enable),
-        "diagnostic" | "const_assert" => Some(Head::Skipped),
+        "requires" => Some(Head::Directive(Directive::Requires)),
+        "enable" => Some(Head::Directive(Directive::Enable)),
+        "diagnostic" => Some(Head::Directive(Directive::Diagnostic)),
+        "const_assert" => Some(Head::Assertion),
         ";" => Some(Head::Empty),
         _ => None,
     }
@@ -193,18 +230,4 @@ fn skip_list(cursor: &mut Cursor) -> Result<(), Stop>
         }
     }
     Ok(())
-}
-
-/// Whether a list of extensions has this one.
-fn lists(cursor: &mut Cursor, extension: &str) -> bool
-    ensures goes_on { GoesOn cursor.old cursor.new }
-{
-    let mut is_there = false;
-    while cursor.kind() == Kind::Name {
-        is_there |= cursor.word() == extension;
-        if !cursor.advance() || !cursor.take(b',') {
-            break;
-        }
-    }
-    is_there
 }

@@ -1,12 +1,28 @@
-// Integer expressions.
+// Expressions whose values are known when a module is read.
 ghost use Rattle.std.specs.Prelude.{OnSome};
 ghost use Rattle.wgsl_source.specs.Cursor.{GoesOn, Takes};
 
 use crate::cursor::Cursor;
 use crate::fault::{Cause, Expected, Stop};
-use crate::integer::{Function, Integer, Operator, integer_of};
+use crate::function::Function;
+use crate::literal::{integer_of, whole_part};
+use crate::operator::{Operator, operator_at};
 use crate::scope::{Meaning, Scope};
+use wgsl_constants::integer::Integer;
+use wgsl_constants::operator::{complement, negative};
+use wgsl_syntax::scalar::Scalar;
 use wgsl_tokens::token::Kind;
+
+/// What is known of a value.
+#[derive(Clone, Copy, Debug, PartialEq, Eq)]
+pub enum Value {
+    Integer(Integer),
+    Bool(bool),
+    /// The whole part of a float.
+    Float(i64),
+    /// A value that is known when the pipeline is made.
+    Later,
+}
 
 /// Where an expression stands.
 #[derive(Clone, Copy, PartialEq, Eq)]
@@ -20,23 +36,70 @@ pub enum Site {
 /// How many levels types and expressions may have.
 pub const LEVELS: u32 = 255;
 
-impl<'a, 't> Scope<'a, 't> {
-    /// The value of the expression that comes next.
-    pub fn read_integer(&self, cursor: &mut Cursor<'t>, site: Site) -> Result<Integer, Stop>
+/// The arguments of a call: no function that is known here has more than three.
+#[derive(Clone, Copy)]
+struct Arguments {
+    values: [Value; 3],
+    count: usize,
+}
+
+impl Arguments {
+    fn none() -> Arguments {
+        Arguments {
+            values: [Value::Later; 3],
+            count: 0,
+        }
+    }
+
+    /// Adds an argument; whether there is room for it.
+    fn add(&mut self, value: Value) -> bool {
+        let count = self.count;
+        let Some(place) = self.values.get_mut(count) else {
+            return false;
+        };
+        *place = value;
+        self.count = count.saturating_add(1);
+        true
+    }
+
+    /// The value of a function for the arguments.
+    fn value_of(&self, function: Function) -> Result<Value, Cause> {
+        match self.values.get(..self.count) {
+            Some(values) => function.apply(values),
+            None => Err(Cause::WrongArgumentCount),
+        }
+    }
+}
+
+impl<'t> Scope<'t> {
+    /// The integer that comes next.
+    pub fn read_integer(&self, cursor: &mut Cursor<'t>) -> Result<Integer, Stop>
         ensures goes_on { GoesOn cursor.old cursor.new }
     {
-        self.read_value(cursor, 0, site, LEVELS)
+        let at = cursor.index();
+        match self.read_value(cursor, Site::Other)? {
+            Value::Integer(integer) => Ok(integer),
+            Value::Later => Err(Stop::at(at, Cause::KnownLater)),
+            Value::Bool(_) | Value::Float(_) => Err(Stop::at(at, Cause::NotInteger)),
+        }
+    }
+
+    /// The value of the expression that comes next.
+    pub fn read_value(&self, cursor: &mut Cursor<'t>, site: Site) -> Result<Value, Stop>
+        ensures goes_on { GoesOn cursor.old cursor.new }
+    {
+        self.read_operators(cursor, 0, site, LEVELS)
     }
 
     /// The value of the expression that comes next, with operators that bind at least so tightly.
     #[cycle(valuing)]
-    fn read_value(
+    fn read_operators(
         &self,
         cursor: &mut Cursor<'t>,
         level: u32,
         site: Site,
         depth: u32,
-    ) -> Result<Integer, Stop>
+    ) -> Result<Value, Stop>
         ensures goes_on { GoesOn cursor.old cursor.new }
     {
         let Some(inner) = depth.checked_sub(1) else {
@@ -49,18 +112,15 @@ impl<'a, 't> Scope<'a, 't> {
                 return Err(Stop::at(at, Cause::NoParentheses));
             }
             before = Some(operator);
-            let right = self.read_value(cursor, operator.inner_level(), site, inner)?;
-            match operator.apply(value, right) {
-                Ok(result_value) => value = result_value,
-                Err(cause) => return Err(Stop::at(at, cause)),
-            }
+            let right = self.read_operators(cursor, operator.inner_level(), site, inner)?;
+            value = known_at(operator.value(value, right), at)?;
         }
         Ok(value)
     }
 
     /// A literal, a name, or an expression in parentheses or behind a sign.
     #[cycle(valuing)]
-    fn read_operand(&self, cursor: &mut Cursor<'t>, site: Site, depth: u32) -> Result<Integer, Stop>
+    fn read_operand(&self, cursor: &mut Cursor<'t>, site: Site, depth: u32) -> Result<Value, Stop>
         ensures goes_on { GoesOn cursor.old cursor.new }
     {
         let Some(inner) = depth.checked_sub(1) else {
@@ -74,7 +134,7 @@ impl<'a, 't> Scope<'a, 't> {
         }
         cursor.advance();
         let value = match kind {
-            Kind::Number => integer_of(word),
+            Kind::Number => self.literal(word),
             Kind::Name => return self.read_named(cursor, word, at, inner),
             Kind::Sign(b'(') => return self.read_group(cursor, inner),
             _ => signed(word, self.read_operand(cursor, site, inner)?),
@@ -82,13 +142,28 @@ impl<'a, 't> Scope<'a, 't> {
         known_at(value, at)
     }
 
+    /// What a literal stands for.
+    fn literal(&self, word: &str) -> Result<Value, Cause> {
+        match integer_of(word) {
+            Ok(integer) => Ok(Value::Integer(integer)),
+            Err(Cause::NotInteger) if word.ends_with("h") && !self.extensions.half => {
+                Err(Cause::NoHalf)
+            }
+            Err(Cause::NotInteger) => match whole_part(word) {
+                Some(whole) => Ok(Value::Float(whole)),
+                None => Err(Cause::NotInteger),
+            },
+            Err(cause) => Err(cause),
+        }
+    }
+
     /// The rest of an expression in parentheses.
     #[cycle(valuing)]
-    fn read_group(&self, cursor: &mut Cursor<'t>, depth: u32) -> Result<Integer, Stop>
+    fn read_group(&self, cursor: &mut Cursor<'t>, depth: u32) -> Result<Value, Stop>
         ensures goes_on { GoesOn cursor.old cursor.new }
     {
-        let value = self.read_value(cursor, 0, Site::Other, depth)?;
-        close(cursor)?;
+        let value = self.read_operators(cursor, 0, Site::Other, depth)?;
+        cursor.expect(b')')?;
         Ok(value)
     }
 
@@ -100,47 +175,93 @@ impl<'a, 't> Scope<'a, 't> {
         name: &'t str,
         at: usize,
         depth: u32,
-    ) -> Result<Integer, Stop>
+    ) -> Result<Value, Stop>
         ensures goes_on { GoesOn cursor.old cursor.new }
     {
-        if let Some(meaning) = self.meaning(name) {
-            return value_of(meaning, at);
+        match (self.meaning(name), name) {
+            (Some(Meaning::Type(ty)), _) => match ty.as_scalar().and_then(conversion) {
+                Some(function) => self.read_call(cursor, function, at, depth),
+                None => Err(Stop::at(at, Cause::NotInteger)),
+            },
+            (Some(meaning), _) => value_of(meaning, at),
+            (None, "true") => Ok(Value::Bool(true)),
+            (None, "false") => Ok(Value::Bool(false)),
+            (None, "bitcast") => self.read_bitcast(cursor, at, depth),
+            (None, _) => match Function::named(name) {
+                Some(function) => self.read_call(cursor, function, at, depth),
+                None => Err(Stop::at(at, unknown_value(cursor))),
+            },
         }
-        if !cursor.take(b'(') {
-            return Err(Stop::at(at, unknown_value(cursor, name)));
-        }
-        let Some(function) = Function::named(name) else {
-            return Err(Stop::at(at, Cause::NotInteger));
-        };
-        let value = self.read_call(cursor, function, depth)?;
-        known_at(value, at)
     }
 
-    /// The arguments of a function, and its value.
+    /// A `bitcast` behind its name.
+    #[cycle(valuing)]
+    fn read_bitcast(&self, cursor: &mut Cursor<'t>, at: usize, depth: u32) -> Result<Value, Stop>
+        ensures goes_on { GoesOn cursor.old cursor.new }
+    {
+        cursor.expect(b'<')?;
+        let name = cursor.take_word(Expected::Type)?;
+        cursor.take(b',');
+        cursor.expect(b'>')?;
+        let function = match self.scalar_named(name) {
+            Some(Scalar::U32) => Function::BitcastU32,
+            Some(Scalar::I32) => Function::BitcastI32,
+            _ => return Err(Stop::at(at, Cause::NotInteger)),
+        };
+        self.read_call(cursor, function, at, depth)
+    }
+
+    /// The scalar type that a name stands for.
+    fn scalar_named(&self, name: &'t str) -> Option<Scalar> {
+        match (self.meaning(name), name) {
+            (Some(Meaning::Type(ty)), _) => ty.as_scalar(),
+            (None, "u32") => Some(Scalar::U32),
+            (None, "i32") => Some(Scalar::I32),
+            _ => None,
+        }
+    }
+
+    /// The value of a function that is named at an index of the text, behind its name.
     #[cycle(valuing)]
     fn read_call(
         &self,
         cursor: &mut Cursor<'t>,
         function: Function,
+        at: usize,
         depth: u32,
-    ) -> Result<Result<Integer, Cause>, Stop>
+    ) -> Result<Value, Stop>
         ensures goes_on { GoesOn cursor.old cursor.new }
     {
-        let left = self.read_value(cursor, 0, Site::Other, depth)?;
-        let mut right = left;
-        if function.takes_two() {
-            cursor.expect(b',')?;
-            right = self.read_value(cursor, 0, Site::Other, depth)?;
+        cursor.expect(b'(')?;
+        let arguments = self.read_arguments(cursor, depth)?;
+        known_at(arguments.value_of(function), at)
+    }
+
+    /// The arguments of a call, behind its `(`.
+    #[cycle(valuing)]
+    fn read_arguments(&self, cursor: &mut Cursor<'t>, depth: u32) -> Result<Arguments, Stop>
+        ensures goes_on { GoesOn cursor.old cursor.new }
+    {
+        let mut arguments = Arguments::none();
+        while !cursor.is_at(b')') {
+            let at = cursor.index();
+            let value = self.read_operators(cursor, 0, Site::Other, depth)?;
+            if !arguments.add(value) {
+                return Err(Stop::at(at, Cause::WrongArgumentCount));
+            }
+            if !cursor.take(b',') {
+                break;
+            }
         }
-        close(cursor)?;
-        Ok(function.apply(left, right))
+        cursor.expect(b')')?;
+        Ok(arguments)
     }
 }
 
 /// Whether an operand comes next. `--` is one token in WGSL, and begins none.
 fn begins_operand(cursor: &Cursor) -> bool {
     match cursor.kind() {
-        Kind::Number | Kind::Name | Kind::Sign(b'(' | b'~') => true,
+        Kind::Number | Kind::Name | Kind::Sign(b'(' | b'~' | b'!') => true,
         Kind::Sign(b'-') => !cursor.is_next(b'-'),
         _ => false,
     }
@@ -154,39 +275,50 @@ pub fn close(cursor: &mut Cursor) -> Result<(), Stop>
     cursor.expect(b')')
 }
 
-/// An integer behind a `-` or a `~`.
-fn signed(sign: &str, integer: Integer) -> Result<Integer, Cause> {
-    if sign == "-" {
-        integer.negated()
-    } else {
-        Ok(integer.complement())
+/// A value behind a `-`, a `~` or a `!`.
+fn signed(sign: &str, value: Value) -> Result<Value, Cause> {
+    match (sign, value) {
+        (_, Value::Later) => Ok(Value::Later),
+        ("-", Value::Integer(integer)) => Ok(Value::Integer(negative(integer)?)),
+        ("-", Value::Float(whole)) => Ok(Value::Float(0i64.saturating_sub(whole))),
+        ("~", Value::Integer(integer)) => Ok(Value::Integer(complement(integer))),
+        ("!", Value::Bool(test)) => Ok(Value::Bool(!test)),
+        _ => Err(Cause::NotInteger),
     }
 }
 
 /// A value, or what is wrong at an index of the text.
-fn known_at(value: Result<Integer, Cause>, at: usize) -> Result<Integer, Stop> {
+fn known_at(value: Result<Value, Cause>, at: usize) -> Result<Value, Stop> {
     match value {
         Ok(value) => Ok(value),
         Err(cause) => Err(Stop::at(at, cause)),
     }
 }
 
-/// What is wrong with a name that the module doesn't declare, where a value is wanted.
-fn unknown_value(cursor: &Cursor, name: &str) -> Cause {
-    if matches!(name, "true" | "false") || cursor.is_at(b'<') {
+/// The conversion to a scalar type.
+fn conversion(scalar: Scalar) -> Option<Function> {
+    match scalar {
+        Scalar::U32 => Some(Function::U32),
+        Scalar::I32 => Some(Function::I32),
+        _ => None,
+    }
+}
+
+/// What is wrong with a name that nothing declares and no function has that is known here.
+fn unknown_value(cursor: &Cursor) -> Cause {
+    if cursor.is_at(b'<') || cursor.is_at(b'(') {
         Cause::NotInteger
     } else {
         Cause::UnknownName
     }
 }
 
-/// The integer that a declaration stands for, named at an index of the text.
-fn value_of(meaning: Meaning, at: usize) -> Result<Integer, Stop> {
+/// The value that a declaration stands for, named at an index of the text.
+fn value_of(meaning: Meaning, at: usize) -> Result<Value, Stop> {
     match meaning {
-        Meaning::Integer(value) => Ok(value),
-        Meaning::KnownLater => Err(Stop::at(at, Cause::KnownLater)),
+        Meaning::Value(value) => Ok(value),
         Meaning::Faulty | Meaning::Unread => Err(Stop::Elsewhere),
-        _ => Err(Stop::at(at, Cause::NotInteger)),
+        Meaning::Type(_) | Meaning::Other => Err(Stop::at(at, Cause::NotInteger)),
     }
 }
 
@@ -200,29 +332,8 @@ fn take_operator(cursor: &mut Cursor, level: u32, site: Site) -> Option<(usize, 
     if operator.level() < level || !cursor.advance() {
         return None;
     }
-    if operator.is_shift() {
+    if operator.length() == 2 {
         cursor.advance();
     }
     Some((at, operator))
-}
-
-/// The operator that comes next. A `>` in a template list ends it, and `&&`, `||` and `--` are no operators on integers.
-fn operator_at(cursor: &Cursor, site: Site) -> Option<Operator> {
-    let Kind::Sign(sign) = cursor.kind() else {
-        return None;
-    };
-    let is_doubled = cursor.is_next(sign);
-    match sign {
-        b'+' => Some(Operator::Add),
-        b'-' if !is_doubled => Some(Operator::Sub),
-        b'*' => Some(Operator::Mul),
-        b'/' => Some(Operator::Div),
-        b'%' => Some(Operator::Rem),
-        b'^' => Some(Operator::Xor),
-        b'<' if is_doubled => Some(Operator::ShiftLeft),
-        b'>' if is_doubled && site == Site::Other => Some(Operator::ShiftRight),
-        b'&' if !is_doubled => Some(Operator::And),
-        b'|' if !is_doubled => Some(Operator::Or),
-        _ => None,
-    }
 }

@@ -1,6 +1,7 @@
 // Why a text was not read.
 
 use std::alloc::{AllocError, AllocFailed};
+use wgsl_constants::integer::IntegerError;
 
 /// What should have stood where something else stands.
 #[derive(Clone, Copy, Debug, PartialEq, Eq)]
@@ -25,10 +26,19 @@ pub enum Cause {
     DeclaredTwice,
     MemberTwice,
     AttributeTwice,
+    UnknownAttribute,
+    /// An attribute that what is declared there doesn't have.
+    MisplacedAttribute,
+    UnknownExtension,
+    /// A directive behind a declaration.
+    LateDirective,
+    /// A name of WGSL's for which the module has a declaration.
+    Shadowed,
     /// A declaration that needs itself.
     ContainsItself,
     TooDeep,
     NotUtf8,
+    ByteOrderMark,
     OpenComment,
     /// A type, in another spelling than its own.
     OtherSpelling,
@@ -42,6 +52,10 @@ pub enum Cause {
     MixedIntegers,
     NegatedUnsigned,
     ShiftTooFar,
+    /// A `clamp` whose least value is above its greatest.
+    EmptyRange,
+    /// A function with more or fewer arguments than it takes.
+    WrongArgumentCount,
     /// Operators beside each other that need parentheses.
     NoParentheses,
     /// An array without elements.
@@ -55,8 +69,6 @@ pub enum Cause {
     RuntimeSized,
     /// An element or a member of a type that is not plain.
     NotPlain,
-    /// An element or a member whose type has no alignment, as `vec3<bool>`.
-    NoLayout,
     TooLarge,
     NoMembers,
     /// An attribute `align` that is no power of two.
@@ -64,10 +76,33 @@ pub enum Cause {
     /// An attribute `size` below the size of the member's type.
     SizeTooSmall,
     NegativeAttribute,
+    /// A workgroup without invocations.
+    EmptyWorkgroup,
+    /// A declaration with neither a type nor a value.
+    NoType,
+    /// A value of a variable that has none.
+    NoInitializer,
+    /// An override of another type than a scalar.
+    NotScalar,
     /// An access mode that a variable can't have.
     NoAccess,
     /// An attribute `size` of a runtime-sized array.
     SizedRuntimeArray,
+    /// A type or an address space that naga has and WGSL doesn't.
+    NagaOnly,
+}
+
+impl From<IntegerError> for Cause {
+    fn from(error: IntegerError) -> Cause {
+        match error {
+            IntegerError::Overflow => Cause::Overflow,
+            IntegerError::DivisionByZero => Cause::DivisionByZero,
+            IntegerError::MixedTypes => Cause::MixedIntegers,
+            IntegerError::NegatedUnsigned => Cause::NegatedUnsigned,
+            IntegerError::ShiftTooFar => Cause::ShiftTooFar,
+            IntegerError::EmptyRange => Cause::EmptyRange,
+        }
+    }
 }
 
 impl Expected {
@@ -98,6 +133,11 @@ impl Expected {
 }
 
 impl Cause {
+    /// Whether what can't be read may have a value that is no integer.
+    pub fn is_of_other_value(self) -> bool {
+        matches!(self, Cause::NotInteger | Cause::Expected(_))
+    }
+
     /// What is told of it.
     pub fn text(self) -> &'static str {
         match self {
@@ -106,8 +146,14 @@ impl Cause {
             Cause::DeclaredTwice => "another declaration has this name",
             Cause::MemberTwice => "another member has this name",
             Cause::AttributeTwice => "this attribute is there already",
+            Cause::UnknownAttribute => "WGSL has no such attribute",
+            Cause::MisplacedAttribute => "this attribute has no place here",
+            Cause::UnknownExtension => "no extension has this name",
+            Cause::LateDirective => "a directive stands in front of all declarations",
+            Cause::Shadowed => "this name stands for a declaration of the module",
             Cause::ContainsItself => "this declaration contains itself",
             Cause::TooDeep => "more than 255 levels",
+            Cause::ByteOrderMark => "a byte order mark, which WGSL does not have",
             Cause::OpenComment => "a comment has no end",
             Cause::NotUtf8 => "the text is not UTF-8 from here on",
             Cause::OtherSpelling => "the type is spelled otherwise",
@@ -117,7 +163,9 @@ impl Cause {
             Cause::DivisionByZero => "a division by 0",
             Cause::MixedIntegers => "an i32 and a u32 do not mix",
             Cause::NegatedUnsigned => "a u32 has no negative",
-            Cause::ShiftTooFar => "a shift by more bits than there are",
+            Cause::ShiftTooFar => "a shift by 32 bits or more",
+            Cause::EmptyRange => "the least value is above the greatest",
+            Cause::WrongArgumentCount => "this function takes another number of arguments",
             Cause::NoParentheses => "this operator needs parentheses",
             Cause::NoElements => "an array has at least one element",
             Cause::NoHalf => "this type needs `enable f16;`",
@@ -130,14 +178,18 @@ impl Cause {
             Cause::NotPlain => {
                 "an element or a member is a scalar, vector, matrix, atomic, array or struct"
             }
-            Cause::NoLayout => "this type has no layout",
             Cause::TooLarge => "more than 4294967295 bytes",
             Cause::NoMembers => "a struct has at least one member",
             Cause::AlignNotPower => "`@align` is not a power of two",
             Cause::SizeTooSmall => "`@size` is below the size of the type",
             Cause::NegativeAttribute => "an attribute is 0 to 4294967295",
+            Cause::EmptyWorkgroup => "a workgroup has at least one invocation",
+            Cause::NoType => "neither a type nor a value is there",
+            Cause::NoInitializer => "only a variable of `private` has a value here",
+            Cause::NotScalar => "an override is a scalar",
             Cause::NoAccess => "only `storage` has an access mode, `read` or `read_write`",
             Cause::SizedRuntimeArray => "a runtime-sized array has no `@size`",
+            Cause::NagaOnly => "naga alone has this, and WGSL does not",
         }
     }
 }
@@ -152,7 +204,7 @@ pub struct Fault {
 /// Why reading stopped.
 #[derive(Clone, Copy, Debug, PartialEq, Eq)]
 pub enum Stop {
-    Memory,
+    Memory(AllocError),
     Fault(Fault),
     /// A declaration that is needed has a fault of its own.
     Elsewhere,
@@ -166,13 +218,13 @@ impl Stop {
 }
 
 impl From<AllocError> for Stop {
-    fn from(_e: AllocError) -> Stop {
-        Stop::Memory
+    fn from(e: AllocError) -> Stop {
+        Stop::Memory(e)
     }
 }
 
 impl<T: Drop> From<AllocFailed<T>> for Stop {
-    fn from(_e: AllocFailed<T>) -> Stop {
-        Stop::Memory
+    fn from(e: AllocFailed<T>) -> Stop {
+        Stop::Memory(AllocError::from(e))
     }
 }

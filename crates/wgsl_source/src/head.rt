@@ -33,6 +33,17 @@ impl Head {
             _ => false,
         }
     }
+
+    /// Whether naga alone has the type.
+    pub fn is_naga_only(self) -> bool {
+        matches!(
+            self,
+            Head::Scalar(Scalar::I64 | Scalar::U64 | Scalar::F64)
+                | Head::RayQuery
+                | Head::AccelerationStructure
+                | Head::Layer(LayerName::BindingArray)
+        )
+    }
 }
 
 /// The name of what stands around a type.

@@ -1,7 +1,7 @@
 // The words that are no names.
 
 /// Keywords and reserved words, sorted (WGSL, "Keyword Summary", "Reserved Words").
-const KEPT: [&str; 172] = [
+const KEPT: [&str; 171] = [
     "NULL",
     "Self",
     "abstract",
@@ -109,7 +109,6 @@ const KEPT: [&str; 172] = [
     "override",
     "package",
     "packoffset",
-    "partial",
     "pass",
     "patch",
     "pixelfragment",

@@ -1,19 +1,24 @@
-//! The declarations of a WGSL module, read from its text: structs with their layouts, variables, and what is wrong.
+//! The declarations of a WGSL module, read from its text: structs with their layouts, variables, overrides and entry points,
+//! and what is wrong.
 #![tactic(auto)]
 
 mod attribute;
 mod check;
 mod cursor;
 mod declaration;
+pub mod entry;
 mod expression;
+mod extension;
 pub mod fault;
+mod function;
 mod head;
-mod integer;
 mod keyword;
-mod measured;
+mod leaf;
+mod literal;
+pub mod measured;
 pub mod module;
+mod operator;
 mod order;
-pub mod place;
 mod scope;
 mod skip;
 pub mod spelled;

@@ -1,61 +1,157 @@
-// Structs that stand in others.
-ghost use Rattle.std.specs.Prelude.{IfOk, IsFalse, IsTrue};
-ghost use Rattle.wgsl_rules.specs.layout.Layout.{HasAlignment, HasSize};
-ghost use Rattle.wgsl_core.specs.View.{view};
+// Types of a module, each with its measure.
 
-use crate::fault::Stop;
-use std::alloc::{AllocError, Global};
-use wgsl_core::ty::{StructMemberType, StructType, Type};
+use wgsl_syntax::address::{AccessMode, AddressSpace};
+use wgsl_syntax::attribute::AccelerationStructureFlags;
+use wgsl_syntax::scalar::Scalar;
+use wgsl_syntax::texture::{SamplerType, TextureType};
 
-/// What others see of a struct that is laid out.
-#[derive(Clone, Copy)]
-pub struct Measured<'t> {
-    pub name: &'t str,
-    pub size: u32,
-    pub align: u32,
-    /// Whether the last member is a runtime-sized array.
-    pub is_runtime_sized: bool,
+/// A type of a module, with its size and its alignment in bytes.
+#[derive(Clone, Copy, Debug, PartialEq, Eq)]
+pub struct MeasuredType {
+    pub kind: TypeKind,
+    /// None of what is no data, of a runtime-sized array and a struct that ends in one, and of an array whose count is an
+    /// override.
+    pub size: Option<u32>,
+    /// None of what is no data.
+    pub align: Option<u32>,
+    /// How many arrays, binding arrays and pointers stand in each other.
+    pub levels: u32,
 }
 
-impl<'t> Measured<'t> {
-    /// A struct with this name, size and alignment, which stands for the whole one: a type is a tree, so whole structs
-    /// in structs would double at each level.
-    pub fn stand_in(self, alloc: Global) -> Result<Type, Stop>
-        ensures { IfOk result (λ ty. IsFalse self.entry.is_runtime_sized
-            → HasSize (view ty) self.entry.size × HasAlignment (view ty) self.entry.align) }
-    {
-        let ty = self.draft(alloc)?;
-        if self.is_runtime_sized || self.has_measures(&ty) {
-            Ok(ty)
-        } else {
-            drop(ty);
-            Err(Stop::Elsewhere)
+/// What a type is. Other types in it are the module's elements and structs, by their indices.
+#[derive(Clone, Copy, Debug, PartialEq, Eq)]
+pub enum TypeKind {
+    Scalar(Scalar),
+    /// The number of components.
+    Vector(u8, Scalar),
+    /// The number of columns, and the number of rows.
+    Matrix(u8, u8, Scalar),
+    Atomic(Scalar),
+    Array(usize, Count),
+    BindingArray(usize, Count),
+    Pointer(AddressSpace, usize, AccessMode),
+    Struct(usize),
+    Sampler(SamplerType),
+    Texture(TextureType),
+    RayQuery(Option<AccelerationStructureFlags>),
+    AccelerationStructure(Option<AccelerationStructureFlags>),
+}
+
+/// How many elements an array has.
+#[derive(Clone, Copy, Debug, PartialEq, Eq)]
+pub enum Count {
+    Known(u32),
+    Runtime,
+    /// The value of an override, which is known when the pipeline is made.
+    Override,
+}
+
+impl Count {
+    /// The number, if it is known.
+    pub fn known(self) -> Option<u32> {
+        match self {
+            Count::Known(count) => Some(count),
+            Count::Runtime | Count::Override => None,
+        }
+    }
+}
+
+impl MeasuredType {
+    /// A type that holds no other, with its size and its alignment.
+    pub fn leaf(kind: TypeKind, size: Option<u32>, align: Option<u32>) -> MeasuredType {
+        MeasuredType {
+            kind,
+            size,
+            align,
+            levels: 0,
         }
     }
 
-    /// Whether a type has this size and alignment.
-    fn has_measures(self, ty: &Type) -> bool
-        ensures { IsTrue result → HasSize (view ty.now) self.entry.size
-            × HasAlignment (view ty.now) self.entry.align }
-    {
-        ty.size_of() == Some(self.size) && ty.align_of() == Some(self.align)
+    /// A type that is no data: a texture, a sampler, a ray query or an acceleration structure.
+    pub fn resource(kind: TypeKind) -> MeasuredType {
+        MeasuredType::leaf(kind, None, None)
     }
 
-    fn draft(self, alloc: Global) -> Result<Type, AllocError> {
-        let mut members = Vec::with_capacity(alloc, 2)?;
-        members.push(placeholder(alloc, self.size, self.align))?;
-        if self.is_runtime_sized {
-            let endless = Type::array(alloc, None, Type::U32)?;
-            members.push(StructMemberType::new(String::new(alloc), endless))?;
+    pub fn scalar(scalar: Scalar) -> MeasuredType {
+        let size = scalar_size(scalar);
+        MeasuredType::leaf(TypeKind::Scalar(scalar), size, size)
+    }
+
+    /// A vector of this many scalars.
+    pub fn vector(count: u8, scalar: Scalar) -> MeasuredType {
+        let size = times(u32::from(count), scalar_size(scalar));
+        MeasuredType::leaf(
+            TypeKind::Vector(count, scalar),
+            size,
+            vector_align(count, scalar),
+        )
+    }
+
+    /// A matrix with these numbers of columns and rows.
+    pub fn matrix(columns: u8, rows: u8, scalar: Scalar) -> MeasuredType {
+        let align = vector_align(rows, scalar);
+        let size = times(u32::from(columns), align);
+        MeasuredType::leaf(TypeKind::Matrix(columns, rows, scalar), size, align)
+    }
+
+    pub fn atomic(scalar: Scalar) -> MeasuredType {
+        let size = scalar_size(scalar);
+        MeasuredType::leaf(TypeKind::Atomic(scalar), size, size)
+    }
+
+    /// An array of such elements, which stand at this index of the module's elements.
+    pub fn array(&self, index: usize, count: Count) -> MeasuredType {
+        let size = match count {
+            Count::Known(count) => times(count, self.stride()),
+            Count::Runtime | Count::Override => None,
+        };
+        self.around(TypeKind::Array(index, count), size, self.align)
+    }
+
+    /// A type around this one.
+    pub fn around(&self, kind: TypeKind, size: Option<u32>, align: Option<u32>) -> MeasuredType {
+        MeasuredType {
+            kind,
+            size,
+            align,
+            levels: self.levels.saturating_add(1),
         }
-        let name = String::from_str(alloc, self.name)?;
-        Type::from_struct(alloc, StructType { name, members })
+    }
+
+    /// How far such elements of an array lie apart.
+    pub fn stride(&self) -> Option<u32> {
+        self.size?.checked_next_multiple_of(self.align?)
+    }
+
+    pub fn is_runtime_sized_array(&self) -> bool {
+        matches!(self.kind, TypeKind::Array(_, Count::Runtime))
+    }
+
+    /// The scalar, if the type is one.
+    pub fn as_scalar(&self) -> Option<Scalar> {
+        match self.kind {
+            TypeKind::Scalar(scalar) => Some(scalar),
+            _ => None,
+        }
     }
 }
 
-fn placeholder(alloc: Global, size: u32, align: u32) -> StructMemberType {
-    let mut member = StructMemberType::new(String::new(alloc), Type::U32);
-    member.size = Some(size);
-    member.align = Some(align);
-    member
+/// The size of a scalar, which is its alignment too.
+fn scalar_size(scalar: Scalar) -> Option<u32> {
+    match scalar {
+        Scalar::Bool | Scalar::I32 | Scalar::U32 | Scalar::F32 => Some(4),
+        Scalar::F16 => Some(2),
+        Scalar::I64 | Scalar::U64 | Scalar::F64 => Some(8),
+        Scalar::AbstractInt | Scalar::AbstractFloat => None,
+    }
+}
+
+/// The alignment of a vector: that of three components is that of four.
+fn vector_align(count: u8, scalar: Scalar) -> Option<u32> {
+    let padded = if count == 3 { 4 } else { count };
+    times(u32::from(padded), scalar_size(scalar))
+}
+
+fn times(count: u32, size: Option<u32>) -> Option<u32> {
+    count.checked_mul(size?)
 }

@@ -1,61 +1,77 @@
-// Modules: their structs and variables, and what is wrong with them.
+// Modules: what they declare, and what is wrong with them.
 ghost use Rattle.wgsl_source.specs.Cursor.{GoesOn};
 
+use crate::attribute::Owner;
 use crate::cursor::Cursor;
 use crate::declaration::{Declaration, DeclarationKind, Declarations, read_declarations};
-use crate::expression::Site;
+use crate::entry::{EntryPoint, Override};
+use crate::expression::{Site, Value};
 use crate::fault::{Cause, Expected, Fault, Stop};
-use crate::integer::IntegerType;
-use crate::measured::Measured;
+use crate::measured::{MeasuredType, TypeKind};
 use crate::order::{Order, order_of};
 use crate::scope::{Meaning, Scope};
 use crate::structure::Struct;
+use crate::types::Types;
 use crate::variable::Variable;
 use std::alloc::{AllocError, Global};
-use std::collections::BTreeMap;
-use wgsl_core::ty::Type;
-use wgsl_core::ty::form::Form;
+use wgsl_constants::integer::Integer;
+use wgsl_constants::operator::{to_i32, to_u32};
 use wgsl_syntax::scalar::Scalar;
-use wgsl_tokens::token::Token;
+use wgsl_tokens::token::{Token, has_byte_order_mark};
 
 /// A module that is read.
 #[derive(Drop)]
 pub struct Module<'t> {
+    /// The types that stand in arrays, binding arrays and pointers.
+    pub elements: Vec<MeasuredType>,
     /// Each behind those that stand in it.
-    pub structs: Vec<Struct>,
+    pub structs: Vec<Struct<'t>>,
     /// The indices of the structs in the order of the text.
     pub in_text: Vec<usize>,
     pub variables: Vec<Variable<'t>>,
+    pub overrides: Vec<Override<'t>>,
+    pub entry_points: Vec<EntryPoint<'t>>,
     pub faults: Vec<Fault>,
+    /// Where types and address spaces stand that naga alone has, without a directive that enables them.
+    pub naga_only: Vec<Fault>,
     /// Whether `requires uniform_buffer_standard_layout;` is there.
     pub has_standard_uniform: bool,
 }
 
 impl<'t> Module<'t> {
-    /// A module of which nothing is read but a fault.
-    pub fn faulty(alloc: Global, fault: Fault) -> Result<Module<'t>, AllocError> {
-        Ok(Module {
+    fn empty(alloc: Global) -> Module<'t> {
+        Module {
+            elements: Vec::new(alloc),
             structs: Vec::new(alloc),
             in_text: Vec::new(alloc),
             variables: Vec::new(alloc),
-            faults: vec![in alloc; fault]?,
+            overrides: Vec::new(alloc),
+            entry_points: Vec::new(alloc),
+            faults: Vec::new(alloc),
+            naga_only: Vec::new(alloc),
             has_standard_uniform: false,
-        })
+        }
+    }
+
+    /// A module of which nothing is read but a fault.
+    pub fn faulty(alloc: Global, fault: Fault) -> Result<Module<'t>, AllocError> {
+        let mut module = Module::empty(alloc);
+        module.faults.push(fault)?;
+        Ok(module)
     }
 }
 
 /// What is read of a module.
 #[derive(Drop)]
 struct Reader<'t> {
-    alloc: Global,
     start: Cursor<'t>,
-    has_half: bool,
-    names: BTreeMap<&'t str, usize>,
-    meanings: Vec<Meaning>,
-    aliases: Vec<Type>,
-    measured: Vec<Measured<'t>>,
-    structs: Vec<Struct>,
+    scope: Scope<'t>,
+    types: Types,
+    structs: Vec<Struct<'t>>,
+    in_text: Vec<usize>,
     variables: Vec<Variable<'t>>,
+    overrides: Vec<Override<'t>>,
+    entry_points: Vec<EntryPoint<'t>>,
     faults: Vec<Fault>,
 }
 
@@ -69,23 +85,25 @@ pub fn read_module<'t>(
     let Declarations {
         declarations,
         faults,
-        has_standard_uniform,
-        has_half,
+        extensions,
+        ..
     } = read_declarations(alloc, start)?;
     let mut reader = Reader {
-        alloc,
         start,
-        has_half,
-        names: BTreeMap::new(alloc),
-        meanings: Vec::new(alloc),
-        aliases: Vec::new(alloc),
-        measured: Vec::new(alloc),
+        scope: Scope::new(alloc, extensions),
+        types: Types {
+            elements: Vec::new(alloc),
+            naga_only: Vec::new(alloc),
+        },
         structs: Vec::new(alloc),
+        in_text: Vec::new(alloc),
         variables: Vec::new(alloc),
+        overrides: Vec::new(alloc),
+        entry_points: Vec::new(alloc),
         faults,
     };
     match reader.read(&declarations) {
-        Ok(in_text) => Ok(reader.finished(in_text, has_standard_uniform)),
+        Ok(()) => Ok(reader.finished()),
         Err(e) => {
             drop(reader);
             Err(e)
@@ -93,86 +111,85 @@ pub fn read_module<'t>(
     }
 }
 
-/// The indices of the structs that declarations stand for. An alias of a struct is none.
-fn structs_in_text(alloc: Global, meanings: &[Meaning]) -> Result<Vec<usize>, AllocError> {
-    let mut indices = Vec::new(alloc);
-    for meaning in meanings {
-        if let Meaning::Struct(index) = meaning {
-            indices.push(*index)?;
-        }
-    }
-    Ok(indices)
-}
-
 impl<'t> Reader<'t> {
-    /// What names stand for so far.
-    fn scope(&self) -> Scope<'_, 't> {
-        Scope {
-            alloc: self.alloc,
-            names: &self.names,
-            meanings: &self.meanings,
-            aliases: &self.aliases,
-            structs: &self.measured,
-            has_half: self.has_half,
-            is_spelling: false,
+    /// Reads the declarations.
+    fn read(&mut self, declarations: &[Declaration<'t>]) -> Result<(), AllocError> {
+        if has_byte_order_mark(self.start.text.as_bytes()) {
+            self.faults.push(Fault {
+                at: 0,
+                cause: Cause::ByteOrderMark,
+            })?;
         }
-    }
-
-    /// Reads the declarations. The indices of the structs in the order of the text.
-    fn read(&mut self, declarations: &[Declaration<'t>]) -> Result<Vec<usize>, AllocError> {
         self.name_all(declarations)?;
         self.read_ordered(declarations)?;
-        self.read_variables(declarations)?;
+        self.list_structs(declarations)?;
+        self.read_others(declarations)?;
         self.faults.sort_unstable_by_key(|fault| fault.at);
-        structs_in_text(self.alloc, &self.meanings)
+        self.types.naga_only.sort_unstable_by_key(|fault| fault.at);
+        Ok(())
     }
 
-    fn finished(self, in_text: Vec<usize>, has_standard_uniform: bool) -> Module<'t> {
+    fn finished(self) -> Module<'t> {
         let Reader {
-            structs,
-            variables,
-            faults,
-            ..
-        } = self;
-        Module {
+            scope,
+            types,
             structs,
             in_text,
             variables,
+            overrides,
+            entry_points,
             faults,
-            has_standard_uniform,
+            ..
+        } = self;
+        let Types {
+            elements,
+            naga_only,
+        } = types;
+        Module {
+            elements,
+            structs,
+            in_text,
+            variables,
+            overrides,
+            entry_points,
+            faults,
+            naga_only,
+            has_standard_uniform: scope.extensions.standard_uniform,
         }
     }
 
     /// Names the declarations. Of two with one name the first has it.
     fn name_all(&mut self, declarations: &[Declaration<'t>]) -> Result<(), AllocError> {
         for (index, declaration) in declarations.iter().enumerate() {
-            let is_twice = self.names.contains_key(&declaration.name);
+            let is_twice = self.scope.names.contains_key(&declaration.name);
             if is_twice {
                 let at = self.start.moved_to(declaration.named).index();
                 let cause = Cause::DeclaredTwice;
                 self.faults.push(Fault { at, cause })?;
             } else {
-                self.names.insert(declaration.name, index)?;
+                self.scope.names.insert(declaration.name, index)?;
             }
-            self.meanings
+            self.scope
+                .meanings
                 .push(first_meaning(is_twice || declaration.is_faulty))?;
         }
         Ok(())
     }
 
     fn mean(&mut self, index: usize, meaning: Meaning) {
-        if let Some(now) = self.meanings.get_mut(index) {
+        if let Some(now) = self.scope.meanings.get_mut(index) {
             *now = meaning;
         }
     }
 
     fn is_unread(&self, index: usize) -> bool {
-        matches!(self.meanings.get(index), Some(Meaning::Unread))
+        matches!(self.scope.meanings.get(index), Some(Meaning::Unread))
     }
 
-    /// Reads each declaration but the variables behind those that it names.
+    /// Reads aliases, structs and constants, each behind those that it names.
     fn read_ordered(&mut self, declarations: &[Declaration<'t>]) -> Result<(), AllocError> {
-        let order = order_of(self.alloc, self.start, &self.names, &*declarations)?;
+        let alloc = self.scope.alloc;
+        let order = order_of(alloc, self.start, &self.scope.names, &*declarations)?;
         let read = self.read_in_order(&order, declarations);
         drop(order);
         read
@@ -197,12 +214,47 @@ impl<'t> Reader<'t> {
         Ok(())
     }
 
-    fn read_variables(&mut self, declarations: &[Declaration<'t>]) -> Result<(), AllocError> {
+    /// Lists the structs in the order of the text.
+    fn list_structs(&mut self, declarations: &[Declaration<'t>]) -> Result<(), AllocError> {
+        for (declaration, meaning) in declarations.iter().zip(&self.scope.meanings) {
+            if let (DeclarationKind::Struct, Meaning::Type(ty)) = (declaration.kind, meaning) {
+                if let TypeKind::Struct(index) = ty.kind {
+                    self.in_text.push(index)?;
+                }
+            }
+        }
+        Ok(())
+    }
+
+    /// Reads variables, overrides and functions in the order of the text.
+    fn read_others(&mut self, declarations: &[Declaration<'t>]) -> Result<(), AllocError> {
         for declaration in declarations {
-            if declaration.kind == DeclarationKind::Variable && !declaration.is_faulty {
-                let read = self.read_variable(declaration);
+            if !declaration.is_faulty {
+                let read = self.read_other(declaration);
                 self.tell(read)?;
             }
+        }
+        Ok(())
+    }
+
+    fn read_other(&mut self, declaration: &Declaration<'t>) -> Result<(), Stop> {
+        let mut cursor = self.start.moved_to(declaration.first);
+        match declaration.kind {
+            DeclarationKind::Variable => {
+                if let Some(variable) = self.scope.read_variable(&mut self.types, &mut cursor)? {
+                    self.variables.push(variable)?;
+                }
+            }
+            DeclarationKind::Override => {
+                let read = self.scope.read_override(&mut self.types, &mut cursor)?;
+                self.overrides.push(read)?;
+            }
+            DeclarationKind::Function => {
+                if let Some(entry_point) = self.scope.read_function(&mut cursor)? {
+                    self.entry_points.push(entry_point)?;
+                }
+            }
+            DeclarationKind::Alias | DeclarationKind::Struct | DeclarationKind::Constant => {}
         }
         Ok(())
     }
@@ -215,15 +267,7 @@ impl<'t> Reader<'t> {
         if !self.is_unread(index) {
             return Ok(());
         }
-        let mut cursor = self.start.moved_to(declaration.named);
-        let read = match declaration.kind {
-            DeclarationKind::Alias => self.read_alias(&mut cursor),
-            DeclarationKind::Struct => self.read_struct(&mut cursor, declaration.name),
-            DeclarationKind::Constant => self.read_constant(&mut cursor),
-            DeclarationKind::Override => Ok(Meaning::KnownLater),
-            DeclarationKind::Variable | DeclarationKind::Function => Ok(Meaning::Other),
-        };
-        match read {
+        match self.read_meaning(declaration) {
             Ok(meaning) => {
                 self.mean(index, meaning);
                 Ok(())
@@ -235,11 +279,27 @@ impl<'t> Reader<'t> {
         }
     }
 
+    fn read_meaning(&mut self, declaration: &Declaration<'t>) -> Result<Meaning, Stop> {
+        let mut cursor = self.start.moved_to(declaration.named);
+        match declaration.kind {
+            DeclarationKind::Override => return Ok(Meaning::Value(Value::Later)),
+            DeclarationKind::Variable | DeclarationKind::Function => return Ok(Meaning::Other),
+            DeclarationKind::Alias | DeclarationKind::Struct | DeclarationKind::Constant => {}
+        }
+        let mut first = self.start.moved_to(declaration.first);
+        self.scope.read_attributes(&mut first, Owner::Other)?;
+        match declaration.kind {
+            DeclarationKind::Alias => self.read_alias(&mut cursor),
+            DeclarationKind::Struct => self.read_struct(&mut cursor),
+            _ => self.read_constant(&mut cursor),
+        }
+    }
+
     /// Keeps why reading stopped.
     fn tell(&mut self, read: Result<(), Stop>) -> Result<(), AllocError> {
         match read {
             Err(Stop::Fault(fault)) => Ok(self.faults.push(fault)?),
-            Err(Stop::Memory) => Err(AllocError),
+            Err(Stop::Memory(e)) => Err(e),
             Ok(()) | Err(Stop::Elsewhere) => Ok(()),
         }
     }
@@ -249,70 +309,50 @@ impl<'t> Reader<'t> {
     {
         cursor.name(Expected::Name)?;
         cursor.expect(b'=')?;
-        let scope = self.scope();
-        if let (Some(index), true) = (scope.structure(cursor.word()), cursor.is_behind(b';')) {
-            return Ok(Meaning::StructAlias(index));
-        }
-        let ty = scope.read_type(cursor)?;
-        self.keep_alias(cursor, ty)
+        let ty = self.scope.read_type(&mut self.types, cursor)?;
+        cursor.expect(b';')?;
+        Ok(Meaning::Type(ty))
     }
 
-    /// Keeps the type of an alias, behind which a `;` stands.
-    fn keep_alias(&mut self, cursor: &mut Cursor<'t>, ty: Type) -> Result<Meaning, Stop>
+    fn read_struct(&mut self, cursor: &mut Cursor<'t>) -> Result<Meaning, Stop>
         ensures goes_on { GoesOn cursor.old cursor.new }
     {
-        let index = self.aliases.len();
-        if !cursor.take(b';') {
-            drop(ty);
-            return Err(cursor.expected(Expected::Sign(b';')));
-        }
-        self.aliases.push(ty)?;
-        Ok(Meaning::Alias(index))
-    }
-
-    fn read_struct(&mut self, cursor: &mut Cursor<'t>, name: &'t str) -> Result<Meaning, Stop>
-        ensures goes_on { GoesOn cursor.old cursor.new }
-    {
-        let structure = self.scope().read_struct(cursor)?;
-        let index = self.structs.len();
-        let measured = structure.measured(name);
+        let structure = self.scope.read_struct(&mut self.types, cursor)?;
+        let ty = structure.measured(self.structs.len());
         self.structs.push(structure)?;
-        self.measured.push(measured)?;
-        Ok(Meaning::Struct(index))
+        Ok(Meaning::Type(ty))
     }
 
-    /// A constant. One whose value is no integer stands for nothing that is read here.
+    /// A constant. One whose value isn't read stands for nothing here.
     fn read_constant(&mut self, cursor: &mut Cursor<'t>) -> Result<Meaning, Stop>
         ensures goes_on { GoesOn cursor.old cursor.new }
     {
         cursor.name(Expected::Name)?;
-        let scope = self.scope();
-        let Some(declared) = read_annotation(&scope, cursor)? else {
-            return Ok(Meaning::Other);
-        };
+        let mut declared = None;
+        if cursor.take(b':') {
+            let ty = self.scope.read_type(&mut self.types, cursor)?;
+            match ty.as_scalar() {
+                None => return Ok(Meaning::Other),
+                some => declared = some,
+            }
+        }
         cursor.expect(b'=')?;
         let at = cursor.index();
-        match scope.read_integer(cursor, Site::Other) {
-            Ok(_) if !cursor.is_at(b';') => Ok(Meaning::Other),
-            Ok(value) => match declared {
-                Declared::As(ty) => match value.declared(ty) {
-                    Ok(value) => Ok(Meaning::Integer(value)),
-                    Err(cause) => Err(Stop::at(at, cause)),
-                },
-                Declared::Freely => Ok(Meaning::Integer(value)),
+        let value = match self.scope.read_value(cursor, Site::Other) {
+            Ok(value) => value,
+            Err(Stop::Fault(fault)) if fault.cause.is_of_other_value() => {
+                return Ok(Meaning::Other);
+            }
+            Err(stop) => return Err(stop),
+        };
+        match (value, cursor.is_at(b';')) {
+            (Value::Later, _) => Err(Stop::at(at, Cause::KnownLater)),
+            (_, false) => Ok(Meaning::Other),
+            (_, true) => match declared_value(value, declared) {
+                Ok(meaning) => Ok(meaning),
+                Err(cause) => Err(Stop::at(at, cause)),
             },
-            Err(Stop::Fault(fault)) if is_other_value(fault.cause) => Ok(Meaning::Other),
-            Err(stop) => Err(stop),
         }
-    }
-
-    fn read_variable(&mut self, declaration: &Declaration<'t>) -> Result<(), Stop> {
-        let mut cursor = self.start.moved_to(declaration.first);
-        let read = self.scope().read_variable(&mut cursor)?;
-        if let Some(variable) = read {
-            self.variables.push(variable)?;
-        }
-        Ok(())
     }
 }
 
@@ -325,37 +365,20 @@ fn first_meaning(is_faulty: bool) -> Meaning {
     }
 }
 
-/// The type that a constant is declared with.
-#[derive(Clone, Copy)]
-enum Declared {
-    Freely,
-    As(IntegerType),
-}
-
-/// The type that a constant is declared with; None if it is no integer.
-fn read_annotation<'t>(
-    scope: &Scope<'_, 't>,
-    cursor: &mut Cursor<'t>,
-) -> Result<Option<Declared>, Stop>
-    ensures goes_on { GoesOn cursor.old cursor.new }
-{
-    if !cursor.take(b':') {
-        return Ok(Some(Declared::Freely));
-    }
-    let ty = scope.read_type(cursor)?;
-    let declared = match ty.form() {
-        Form::Scalar(Scalar::I32) => Some(Declared::As(IntegerType::I32)),
-        Form::Scalar(Scalar::U32) => Some(Declared::As(IntegerType::U32)),
-        _ => None,
+/// What a constant with a value stands for, which may be declared with a type.
+fn declared_value(value: Value, declared: Option<Scalar>) -> Result<Meaning, Cause> {
+    let value = match (declared, value) {
+        (None, _) | (Some(Scalar::Bool), Value::Bool(_)) => value,
+        (Some(Scalar::I32), Value::Integer(Integer::Abstract(number))) => {
+            Value::Integer(Integer::I32(to_i32(number)?))
+        }
+        (Some(Scalar::U32), Value::Integer(Integer::Abstract(number))) => {
+            Value::Integer(Integer::U32(to_u32(number)?))
+        }
+        (Some(Scalar::I32), Value::Integer(Integer::I32(_)))
+        | (Some(Scalar::U32), Value::Integer(Integer::U32(_))) => value,
+        (Some(Scalar::I32 | Scalar::U32), Value::Integer(_)) => return Err(Cause::MixedIntegers),
+        _ => return Ok(Meaning::Other),
     };
-    drop(ty);
-    Ok(declared)
-}
-
-/// Whether a value that can't be read may be one that is no integer.
-fn is_other_value(cause: Cause) -> bool {
-    matches!(
-        cause,
-        Cause::NotInteger | Cause::KnownLater | Cause::Expected(_)
-    )
+    Ok(Meaning::Value(value))
 }

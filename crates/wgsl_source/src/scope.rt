@@ -1,10 +1,9 @@
 // What the names of a module stand for.
 
-use crate::integer::Integer;
-use crate::measured::Measured;
+use crate::expression::Value;
+use crate::measured::MeasuredType;
 use std::alloc::Global;
 use std::collections::BTreeMap;
-use wgsl_core::ty::Type;
 
 /// What a declaration stands for, or that it isn't read yet.
 #[derive(Clone, Copy)]
@@ -12,40 +11,56 @@ pub enum Meaning {
     Unread,
     /// It has a fault, or needs a declaration that has one.
     Faulty,
-    Integer(Integer),
-    /// A value that is known only when the pipeline is made.
-    KnownLater,
-    /// The type at this index of the aliases.
-    Alias(usize),
-    /// The struct at this index of the structs.
-    Struct(usize),
-    /// Another name of the struct at this index.
-    StructAlias(usize),
-    /// Neither a type nor an integer.
+    Value(Value),
+    /// An alias or a struct.
+    Type(MeasuredType),
+    /// Neither a type nor a value that is read here.
     Other,
 }
 
-/// What names stand for where a declaration is read.
+/// The extensions that a module asks for.
 #[derive(Clone, Copy)]
-pub struct Scope<'a, 't> {
-    pub alloc: Global,
-    /// Which declaration has a name.
-    pub names: &'a BTreeMap<&'t str, usize>,
-    pub meanings: &'a [Meaning],
-    pub aliases: &'a [Type],
-    pub structs: &'a [Measured<'t>],
-    /// Whether the module may have types of half precision.
-    pub has_half: bool,
-    /// Whether the spelling of a type is read, which may be one that no module can write.
-    pub is_spelling: bool,
+pub struct Extensions {
+    /// `f16`
+    pub half: bool,
+    /// `uniform_buffer_standard_layout`: the variables of `uniform` are laid out as those of other address spaces.
+    pub standard_uniform: bool,
+    /// One of naga's.
+    pub naga: bool,
+    /// One of naga's or of a browser's, which may have attributes of its own.
+    pub foreign: bool,
 }
 
-impl<'a, 't> Scope<'a, 't> {
-    /// The index of the struct that a name stands for.
-    pub fn structure(&self, name: &'t str) -> Option<usize> {
-        match self.meaning(name) {
-            Some(Meaning::Struct(index) | Meaning::StructAlias(index)) => Some(index),
-            _ => None,
+impl Extensions {
+    /// Before the first directive.
+    pub fn none() -> Extensions {
+        Extensions {
+            half: false,
+            standard_uniform: false,
+            naga: false,
+            foreign: false,
+        }
+    }
+}
+
+/// What names stand for where a declaration is read.
+#[derive(Drop)]
+pub struct Scope<'t> {
+    pub alloc: Global,
+    /// Which declaration has a name.
+    pub names: BTreeMap<&'t str, usize>,
+    pub meanings: Vec<Meaning>,
+    pub extensions: Extensions,
+}
+
+impl<'t> Scope<'t> {
+    /// Without declarations.
+    pub fn new(alloc: Global, extensions: Extensions) -> Scope<'t> {
+        Scope {
+            alloc,
+            names: BTreeMap::new(alloc),
+            meanings: Vec::new(alloc),
+            extensions,
         }
     }
 

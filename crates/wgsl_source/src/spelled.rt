@@ -1,14 +1,20 @@
-// Types read from their spelling alone.
+// Types read from their spelling alone, without a module.
 ghost use Rattle.std.specs.Prelude.{◌≡◌, IfOk, IsTrue};
 ghost use Rattle.wgsl_rules.specs.types.Spelling.{spelling};
 ghost use Rattle.wgsl_core.specs.View.{view};
+ghost use Rattle.wgsl_source.specs.Cursor.{GoesOn};
 
 use crate::cursor::Cursor;
-use crate::fault::{Cause, Stop};
-use crate::scope::Scope;
+use crate::expression::LEVELS;
+use crate::fault::{Cause, Expected, Stop};
+use crate::head::{Head, LayerName, predeclared};
+use crate::leaf::space_named;
+use crate::scope::{Extensions, Scope};
 use std::alloc::Global;
-use std::collections::BTreeMap;
+use std::str::FromStr;
 use wgsl_core::ty::Type;
+use wgsl_syntax::address::AddressSpace;
+use wgsl_syntax::around::Around;
 use wgsl_tokens::token::tokens;
 
 /// The type that is spelled so, as `Display` writes it.
@@ -46,15 +52,112 @@ fn is_spelled(alloc: Global, ty: &Type, text: &str) -> Result<bool, Stop>
 
 fn read_alone(alloc: Global, text: &str) -> Result<Type, Stop> {
     let tokens = tokens(alloc, text.as_bytes())?;
-    let names = BTreeMap::new(alloc);
-    let scope = Scope {
-        alloc,
-        names: &names,
-        meanings: &[],
-        aliases: &[],
-        structs: &[],
-        has_half: true,
-        is_spelling: true,
-    };
-    scope.read_type(&mut Cursor::start(text, &tokens))
+    let scope = Scope::new(alloc, Extensions::none());
+    scope.read_spelled(&mut Cursor::start(text, &tokens), LEVELS)
+}
+
+impl<'t> Scope<'t> {
+    /// The type that comes next, of at most that many levels, which may be one that no module can write.
+    #[cycle(spelled)]
+    fn read_spelled(&self, cursor: &mut Cursor<'t>, depth: u32) -> Result<Type, Stop>
+        ensures goes_on { GoesOn cursor.old cursor.new }
+    {
+        let at = cursor.index();
+        match predeclared(cursor.name(Expected::Type)?) {
+            Some(Head::Layer(layer)) => self.read_spelled_layer(cursor, layer, depth),
+            Some(head) => self.read_spelled_leaf(cursor, head),
+            None => Err(Stop::at(at, Cause::UnknownName)),
+        }
+    }
+
+    /// A type in which another type stands.
+    #[cycle(spelled)]
+    fn read_spelled_layer(
+        &self,
+        cursor: &mut Cursor<'t>,
+        layer: LayerName,
+        depth: u32,
+    ) -> Result<Type, Stop>
+        ensures goes_on { GoesOn cursor.old cursor.new }
+    {
+        let Some(inner) = depth.checked_sub(1) else {
+            return Err(cursor.stop(Cause::TooDeep));
+        };
+        cursor.expect(b'<')?;
+        let space = read_spelled_space(cursor, layer)?;
+        let inside = self.read_spelled(cursor, inner)?;
+        match self.read_rest(cursor, layer, space) {
+            Ok(around) => Ok(Type::around(around, Box::new(self.alloc, inside)?)),
+            Err(stop) => {
+                drop(inside);
+                Err(stop)
+            }
+        }
+    }
+
+    /// The rest of a template list behind the type.
+    fn read_rest(
+        &self,
+        cursor: &mut Cursor<'t>,
+        layer: LayerName,
+        space: AddressSpace,
+    ) -> Result<Around, Stop>
+        ensures goes_on { GoesOn cursor.old cursor.new }
+    {
+        let mut count = None;
+        let mut access = space.default_access_mode();
+        if cursor.take(b',') {
+            if layer.has_count() {
+                count = Some(read_digits(cursor)?);
+            } else if layer.is_pointer() {
+                access = self.read_access(cursor)?;
+            }
+        }
+        cursor.expect(b'>')?;
+        Ok(layer.around(count, space, access))
+    }
+
+    /// A type in which no other type stands, behind its name.
+    fn read_spelled_leaf(&self, cursor: &mut Cursor<'t>, head: Head) -> Result<Type, Stop>
+        ensures goes_on { GoesOn cursor.old cursor.new }
+    {
+        match head {
+            Head::Scalar(scalar) => Ok(Type::from(scalar)),
+            Head::Vec(n, scalar) => Ok(Type::vector(self.alloc, n, Type::from(scalar))?),
+            Head::Mat(c, r, scalar) => Ok(Type::matrix(self.alloc, c, r, Type::from(scalar))?),
+            Head::Sampler(sampler) => Ok(Type::Sampler(sampler)),
+            Head::Texture(name) => Ok(Type::Texture(self.read_texture(cursor, name)?)),
+            Head::RayQuery => Ok(Type::RayQuery(self.read_flag(cursor)?)),
+            _ => Ok(Type::AccelerationStructure(self.read_flag(cursor)?)),
+        }
+    }
+}
+
+/// The address space of a pointer or a reference, with the `,` behind it.
+fn read_spelled_space(cursor: &mut Cursor, layer: LayerName) -> Result<AddressSpace, Stop>
+    ensures goes_on { GoesOn cursor.old cursor.new }
+{
+    if !layer.is_pointer() {
+        return Ok(AddressSpace::Function);
+    }
+    let at = cursor.index();
+    let name = cursor.take_word(Expected::AddressSpace)?;
+    cursor.expect(b',')?;
+    match space_named(name) {
+        Some(space) => Ok(space),
+        None => Err(Stop::at(at, Cause::Expected(Expected::AddressSpace))),
+    }
+}
+
+/// The number of elements of an array, in digits.
+fn read_digits(cursor: &mut Cursor) -> Result<usize, Stop>
+    ensures goes_on { GoesOn cursor.old cursor.new }
+{
+    let at = cursor.index();
+    let word = cursor.word();
+    cursor.advance();
+    match usize::from_str(word) {
+        Ok(count) => Ok(count),
+        Err(_) => Err(Stop::at(at, Cause::Expected(Expected::Integer))),
+    }
 }

@@ -1,52 +1,115 @@
 // Structs, read and laid out.
-ghost use Rattle.std.specs.Prelude.{◌≡◌, IfOk, OnOk};
-ghost use Rattle.wgsl_core.specs.Layout.{IsLayoutOf};
-ghost use Rattle.wgsl_core.specs.View.{struct_view};
+ghost use Rattle.std.specs.Prelude.{IfOk, OnOk};
 ghost use Rattle.wgsl_source.specs.Cursor.{GoesOn, Takes};
+ghost use Rattle.wgsl_source.specs.Layout.{IsLaidOut};
 
-use crate::attribute::Attributes;
-use crate::check::stored_fault;
+use crate::attribute::Owner;
+use crate::check::member_fault;
 use crate::cursor::Cursor;
 use crate::fault::{Cause, Expected, Stop};
-use crate::measured::Measured;
+use crate::measured::{MeasuredType, TypeKind};
 use crate::scope::Scope;
-use std::alloc::{AllocError, Global};
+use crate::types::Types;
+use std::alloc::Global;
 use std::collections::BTreeMap;
-use wgsl_core::layout::StructLayout;
-use wgsl_core::ty::{StructMemberType, StructType, Type};
+use wgsl_core::layout::placing::Placing;
 
-/// A struct with its layout.
+/// A struct with its layout in bytes.
 #[derive(Drop)]
-pub struct Struct {
-    /// The type, in which others stand by their name, size and alignment. A runtime-sized last member has one element.
-    pub ty: StructType,
-    pub layout: StructLayout,
+pub struct Struct<'t> {
+    pub name: &'t str,
+    /// Where its name stands in the text.
+    pub place: usize,
+    pub members: Vec<Member<'t>>,
+    /// With one element of a runtime-sized array at the end.
+    pub size: u32,
+    pub align: u32,
     /// Whether the last member is a runtime-sized array.
     pub is_runtime_sized: bool,
-    /// Where the name of each member stands in the text.
-    pub places: Vec<usize>,
 }
 
-impl Struct {
-    /// What others see of the struct, which has this name.
-    pub(crate) fn measured<'t>(&self, name: &'t str) -> Measured<'t>
-        ensures size { result.size ≡ self.now.layout.size }
-        ensures align { result.align ≡ self.now.layout.align }
-    {
-        Measured {
-            name,
-            size: self.layout.size,
-            align: self.layout.align,
-            is_runtime_sized: self.is_runtime_sized,
-        }
+/// A member of a struct with its layout in bytes.
+#[derive(Clone, Copy, Debug)]
+pub struct Member<'t> {
+    pub name: &'t str,
+    /// Where its name stands in the text.
+    pub place: usize,
+    pub ty: MeasuredType,
+    /// The attribute `size`.
+    pub size_attribute: Option<u32>,
+    /// The attribute `align`.
+    pub align_attribute: Option<u32>,
+    pub offset: u32,
+    /// That of one element if it is a runtime-sized array.
+    pub size: u32,
+    pub align: u32,
+}
+
+impl<'t> Struct<'t> {
+    /// The struct as a type, whose index this is.
+    pub fn measured(&self, index: usize) -> MeasuredType {
+        let size = if self.is_runtime_sized {
+            None
+        } else {
+            Some(self.size)
+        };
+        MeasuredType::leaf(TypeKind::Struct(index), size, Some(self.align))
     }
 }
 
-/// A struct of which members are read.
+/// A member in front of its place in the struct: its offset is not known yet.
+#[derive(Clone, Copy)]
+struct Written<'t> {
+    member: Member<'t>,
+    /// Where the type stands in the text.
+    at: usize,
+}
+
+/// The members of a struct at their offsets, with its size and its alignment.
+#[derive(Drop)]
+struct Layout<'t> {
+    members: Vec<Member<'t>>,
+    size: u32,
+    align: u32,
+}
+
+/// The layout of a struct with these members, whose name stands at an index of the text: each lies at the smallest offset.
+fn laid_out<'t>(alloc: Global, place: usize, written: &[Written<'t>]) -> Result<Layout<'t>, Stop>
+    ensures { IfOk result (λ l. IsLaidOut l.members.items l.size l.align) }
+{
+    let mut placing = Placing::start();
+    let mut members = Vec::with_capacity(alloc, written.len())?;
+    for next in written {
+        let Some(offset) = placing.place(Some(next.member.size), next.member.align) else {
+            return Err(Stop::at(next.at, Cause::TooLarge));
+        };
+        let mut member = next.member;
+        member.offset = offset;
+        members.push(member)?;
+    }
+    match placing.size() {
+        Some(size) => Ok(Layout {
+            members,
+            size,
+            align: placing.greatest,
+        }),
+        None => Err(Stop::at(place, size_fault(written))),
+    }
+}
+
+/// Why members that are placed make no struct.
+fn size_fault(written: &[Written]) -> Cause {
+    if written.is_empty() {
+        Cause::NoMembers
+    } else {
+        Cause::TooLarge
+    }
+}
+
+/// The members of a struct that are read so far.
 #[derive(Drop)]
 struct Draft<'t> {
-    ty: StructType,
-    places: Vec<usize>,
+    members: Vec<Written<'t>>,
     /// The names of the members, with their indices.
     names: BTreeMap<&'t str, usize>,
     /// Where the type of a runtime-sized member stands.
@@ -54,92 +117,76 @@ struct Draft<'t> {
 }
 
 impl<'t> Draft<'t> {
-    fn new(alloc: Global, name: &str) -> Result<Draft<'t>, AllocError> {
-        let name = String::from_str(alloc, name)?;
-        let members = Vec::new(alloc);
-        Ok(Draft {
-            ty: StructType { name, members },
-            places: Vec::new(alloc),
+    fn new(alloc: Global) -> Draft<'t> {
+        Draft {
+            members: Vec::new(alloc),
             names: BTreeMap::new(alloc),
             runtime_sized: None,
-        })
-    }
-
-    fn finished(self, layout: StructLayout) -> Struct
-        ensures ty { result.ty ≡ self.entry.ty }
-        ensures layout { result.layout ≡ layout }
-    {
-        Struct {
-            ty: self.ty,
-            layout,
-            is_runtime_sized: self.runtime_sized.is_some(),
-            places: self.places,
         }
     }
 
-    /// Adds a member whose type stands at an index of the text.
-    fn add(
-        &mut self,
-        alloc: Global,
-        name: &'t str,
-        place: usize,
-        ty: Type,
-        attributes: Attributes,
-    ) -> Result<(), AllocError> {
-        let mut member = StructMemberType::new(String::from_str(alloc, name)?, ty);
-        member.size = attributes.size;
-        member.align = attributes.align;
-        self.ty.members.push(member)?;
-        self.names.insert(name, self.places.len())?;
-        self.places.push(place)?;
+    /// Adds a member, whose name no other has.
+    fn add(&mut self, written: Written<'t>) -> Result<(), Stop> {
+        if self.names.contains_key(&written.member.name) {
+            return Err(Stop::at(written.member.place, Cause::MemberTwice));
+        }
+        if written.member.ty.is_runtime_sized_array() {
+            self.runtime_sized = Some(written.at);
+        }
+        self.names.insert(written.member.name, self.members.len())?;
+        self.members.push(written)?;
         Ok(())
     }
 }
 
-impl<'a, 't> Scope<'a, 't> {
+impl<'t> Scope<'t> {
     /// A struct from the name on, at which the cursor stands.
-    pub fn read_struct(&self, cursor: &mut Cursor<'t>) -> Result<Struct, Stop>
+    pub fn read_struct(
+        &self,
+        types: &mut Types,
+        cursor: &mut Cursor<'t>,
+    ) -> Result<Struct<'t>, Stop>
         ensures goes_on { GoesOn cursor.old cursor.new }
-        ensures layout { IfOk result (λ s. IsLayoutOf (struct_view s.ty).members s.layout) }
+        ensures layout { IfOk result (λ s. IsLaidOut s.members.items s.size s.align) }
     {
-        let at = cursor.index();
+        let place = cursor.index();
         let name = cursor.name(Expected::Name)?;
         cursor.expect(b'{')?;
-        let mut draft = Draft::new(self.alloc, name)?;
-        match self.read_layout(cursor, &mut draft, at) {
-            Ok(layout) => Ok(draft.finished(layout)),
-            Err(stop) => {
-                drop(draft);
-                Err(stop)
-            }
-        }
+        let mut draft = Draft::new(self.alloc);
+        let layout = match self.read_members(types, cursor, &mut draft) {
+            Ok(()) => laid_out(self.alloc, place, &draft.members),
+            Err(stop) => Err(stop),
+        };
+        let is_runtime_sized = draft.runtime_sized.is_some();
+        drop(draft);
+        let Layout {
+            members,
+            size,
+            align,
+        } = layout?;
+        Ok(Struct {
+            name,
+            place,
+            members,
+            size,
+            align,
+            is_runtime_sized,
+        })
     }
 
-    fn read_layout(
+    fn read_members(
         &self,
+        types: &mut Types,
         cursor: &mut Cursor<'t>,
         draft: &mut Draft<'t>,
-        at: usize,
-    ) -> Result<StructLayout, Stop>
-        ensures goes_on { GoesOn cursor.old cursor.new }
-        ensures layout { IfOk result (IsLayoutOf (struct_view draft.new.ty).members) }
-    {
-        self.read_members(cursor, draft)?;
-        match draft.ty.layout(self.alloc)? {
-            Some(layout) => Ok(layout),
-            None if draft.places.is_empty() => Err(Stop::at(at, Cause::NoMembers)),
-            None => Err(Stop::at(at, Cause::TooLarge)),
-        }
-    }
-
-    fn read_members(&self, cursor: &mut Cursor<'t>, draft: &mut Draft<'t>) -> Result<(), Stop>
+    ) -> Result<(), Stop>
         ensures goes_on { GoesOn cursor.old cursor.new }
     {
         while !cursor.take(b'}') {
             if let Some(at) = draft.runtime_sized {
                 return Err(Stop::at(at, Cause::RuntimeSized));
             }
-            self.read_member(cursor, draft)?;
+            draft.add(self.read_member(types, cursor)?)?;
             if !cursor.take(b',') && !cursor.is_at(b'}') {
                 return Err(cursor.expected(Expected::Sign(b',')));
             }
@@ -147,47 +194,34 @@ impl<'a, 't> Scope<'a, 't> {
         Ok(())
     }
 
-    fn read_member(&self, cursor: &mut Cursor<'t>, draft: &mut Draft<'t>) -> Result<(), Stop>
+    fn read_member(&self, types: &mut Types, cursor: &mut Cursor<'t>) -> Result<Written<'t>, Stop>
         ensures goes_on { GoesOn cursor.old cursor.new }
         ensures one { OnOk result (Takes cursor.old cursor.new) }
     {
-        let attributes = self.read_attributes(cursor)?;
+        let attributes = self.read_attributes(cursor, Owner::Member)?;
         let place = cursor.index();
         let name = cursor.name(Expected::Name)?;
-        if draft.names.contains_key(&name) {
-            return Err(Stop::at(place, Cause::MemberTwice));
-        }
         cursor.expect(b':')?;
         let at = cursor.index();
-        let ty = self.read_type(cursor)?;
-        let (ty, is_runtime_sized) = counted(ty);
-        if is_runtime_sized {
-            draft.runtime_sized = Some(at);
+        let ty = self.read_type(types, cursor)?;
+        if let Some(cause) = member_fault(&ty, attributes.size) {
+            return Err(Stop::at(at, cause));
         }
-        match member_fault(&ty, is_runtime_sized, attributes) {
-            Some(cause) => {
-                drop(ty);
-                Err(Stop::at(at, cause))
-            }
-            None => Ok(draft.add(self.alloc, name, place, ty, attributes)?),
-        }
-    }
-}
-
-/// The type with one element if it is a runtime-sized array, and whether it is.
-fn counted(ty: Type) -> (Type, bool) {
-    match ty {
-        Type::Array(element, None) => (Type::Array(element, Some(1)), true),
-        other => (other, false),
-    }
-}
-
-/// What is wrong with the type of a member, if anything is.
-fn member_fault(ty: &Type, is_runtime_sized: bool, attributes: Attributes) -> Option<Cause> {
-    match (stored_fault(ty), ty.size_of(), attributes.size) {
-        (Some(cause), _, _) => Some(cause),
-        (None, _, Some(_)) if is_runtime_sized => Some(Cause::SizedRuntimeArray),
-        (None, Some(least), Some(size)) if size < least => Some(Cause::SizeTooSmall),
-        _ => None,
+        let size = attributes.size.or(types.least_size(&ty));
+        let align = attributes.align.or(ty.align);
+        let (Some(size), Some(align)) = (size, align) else {
+            return Err(Stop::at(at, Cause::NotPlain));
+        };
+        let member = Member {
+            name,
+            place,
+            ty,
+            size_attribute: attributes.size,
+            align_attribute: attributes.align,
+            offset: 0,
+            size,
+            align,
+        };
+        Ok(Written { member, at })
     }
 }

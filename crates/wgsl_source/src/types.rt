@@ -1,302 +1,258 @@
-// Types, as they are written.
+// Types, as a module writes them.
 ghost use Rattle.wgsl_source.specs.Cursor.{GoesOn};
 
+use crate::check::element_fault;
 use crate::cursor::Cursor;
-use crate::expression::{LEVELS, Site};
-use crate::fault::{Cause, Expected, Stop};
-use crate::head::{Head, LayerName, predeclared};
-use crate::keyword::is_name;
+use crate::expression::{LEVELS, Site, Value};
+use crate::fault::{Cause, Expected, Fault, Stop};
+use crate::head::{Head, LayerName};
+use crate::leaf::space_named;
+use crate::measured::{Count, MeasuredType, TypeKind};
 use crate::scope::{Meaning, Scope};
-use std::str::FromStr;
-use wgsl_core::ty::Type;
-use wgsl_core::ty::clone::copy;
-use wgsl_syntax::address::{AccessMode, AddressSpace};
-use wgsl_syntax::around::Around;
-use wgsl_syntax::attribute::AccelerationStructureFlags;
-use wgsl_syntax::scalar::Scalar;
-use wgsl_syntax::texel::TexelFormat;
-use wgsl_syntax::texture::{SampledType, TextureType};
-use wgsl_syntax::texture_name::{TextureName, TextureParameterKind, TextureParameters};
+use wgsl_syntax::address::AddressSpace;
 
-impl<'a, 't> Scope<'a, 't> {
+/// What is kept of the types that are read.
+#[derive(Drop)]
+pub struct Types {
+    /// The types that stand in arrays, binding arrays and pointers.
+    pub elements: Vec<MeasuredType>,
+    /// Where types and address spaces stand that naga alone has.
+    pub naga_only: Vec<Fault>,
+}
+
+impl Types {
+    /// The size of a type, or of one element if it is a runtime-sized array.
+    pub fn least_size(&self, ty: &MeasuredType) -> Option<u32> {
+        match ty.kind {
+            TypeKind::Array(index, Count::Runtime) => self.elements.get(index)?.stride(),
+            _ => ty.size,
+        }
+    }
+
+    /// Keeps where something stands that naga alone has.
+    pub fn note(&mut self, at: usize) -> Result<(), Stop> {
+        let cause = Cause::NagaOnly;
+        Ok(self.naga_only.push(Fault { at, cause })?)
+    }
+
+    fn keep(&mut self, element: MeasuredType) -> Result<usize, Stop> {
+        let index = self.elements.len();
+        self.elements.push(element)?;
+        Ok(index)
+    }
+}
+
+impl<'t> Scope<'t> {
     /// The type that comes next.
-    pub fn read_type(&self, cursor: &mut Cursor<'t>) -> Result<Type, Stop>
+    pub fn read_type(
+        &self,
+        types: &mut Types,
+        cursor: &mut Cursor<'t>,
+    ) -> Result<MeasuredType, Stop>
         ensures goes_on { GoesOn cursor.old cursor.new }
     {
-        self.read_levels(cursor, LEVELS)
+        self.read_levels(types, cursor, LEVELS)
     }
 
     /// The type that comes next, of at most that many levels.
     #[cycle(reading)]
-    fn read_levels(&self, cursor: &mut Cursor<'t>, depth: u32) -> Result<Type, Stop>
+    fn read_levels(
+        &self,
+        types: &mut Types,
+        cursor: &mut Cursor<'t>,
+        depth: u32,
+    ) -> Result<MeasuredType, Stop>
         ensures goes_on { GoesOn cursor.old cursor.new }
     {
         let at = cursor.index();
         let name = cursor.take_word(Expected::Type)?;
         if let Some(meaning) = self.meaning(name) {
-            return self.declared_type(meaning, at, depth);
+            return declared_type(meaning, at, depth);
         }
-        match self.head(name) {
-            Ok(Head::Layer(layer)) => self.read_layer(cursor, layer, depth),
-            Ok(head) => self.read_leaf(cursor, head),
-            Err(cause) => Err(Stop::at(at, cause)),
-        }
-    }
-
-    /// What the predeclared name of a type says. Some types of spellings have no name in a module.
-    fn head(&self, name: &str) -> Result<Head, Cause> {
-        let Some(head) = predeclared(name) else {
-            return Err(unknown_type(name));
+        let head = match self.head(name) {
+            Ok(head) => head,
+            Err(cause) => return Err(Stop::at(at, cause)),
         };
-        let is_spelled_alone = matches!(
-            head,
-            Head::Scalar(Scalar::AbstractInt | Scalar::AbstractFloat)
-                | Head::Layer(LayerName::Reference)
-        );
-        if is_spelled_alone && !self.is_spelling {
-            Err(unknown_type(name))
-        } else if head.is_half() && !self.has_half {
-            Err(Cause::NoHalf)
-        } else {
-            Ok(head)
+        if head.is_naga_only() && !self.extensions.naga {
+            types.note(at)?;
+        }
+        match head {
+            Head::Layer(layer) => self.read_layer(types, cursor, layer, at, depth),
+            _ => self.read_leaf(cursor, head),
         }
     }
 
-    /// The type that a declaration stands for, named at an index of the text.
-    fn declared_type(&self, meaning: Meaning, at: usize, depth: u32) -> Result<Type, Stop> {
-        match meaning {
-            Meaning::Alias(index) => match self.aliases.get(index) {
-                Some(ty) if levels(ty) <= depth => Ok(copy(self.alloc, ty)?),
-                Some(_) => Err(Stop::at(at, Cause::TooDeep)),
-                None => Err(Stop::Elsewhere),
-            },
-            Meaning::Struct(index) | Meaning::StructAlias(index) => match self.structs.get(index) {
-                Some(measured) => Ok(measured.stand_in(self.alloc)?),
-                None => Err(Stop::Elsewhere),
-            },
-            Meaning::Faulty | Meaning::Unread => Err(Stop::Elsewhere),
-            _ => Err(Stop::at(at, Cause::Expected(Expected::Type))),
-        }
-    }
-
-    /// A type with a template list in which another type stands.
+    /// A type with a template list in which another type stands, whose name stands at an index of the text.
     #[cycle(reading)]
     fn read_layer(
         &self,
+        types: &mut Types,
         cursor: &mut Cursor<'t>,
         layer: LayerName,
+        at: usize,
         depth: u32,
-    ) -> Result<Type, Stop>
+    ) -> Result<MeasuredType, Stop>
         ensures goes_on { GoesOn cursor.old cursor.new }
     {
         let Some(inner) = depth.checked_sub(1) else {
             return Err(cursor.stop(Cause::TooDeep));
         };
         cursor.expect(b'<')?;
-        let space = read_pointed(cursor, layer)?;
-        let inside = self.read_levels(cursor, inner)?;
-        match self.read_rest(cursor, layer, space) {
-            Ok(around) => Ok(Type::around(around, Box::new(self.alloc, inside)?)),
-            Err(stop) => {
-                drop(inside);
-                Err(stop)
-            }
-        }
-    }
-
-    /// The rest of a template list behind the type.
-    fn read_rest(
-        &self,
-        cursor: &mut Cursor<'t>,
-        layer: LayerName,
-        space: AddressSpace,
-    ) -> Result<Around, Stop>
-        ensures goes_on { GoesOn cursor.old cursor.new }
-    {
-        let mut count = None;
-        let mut access = space.default_access_mode();
-        if cursor.take(b',') && !cursor.is_at(b'>') {
-            if layer.has_count() {
-                count = Some(self.read_count(cursor)?);
-            } else if layer.is_pointer() {
-                access = read_access(cursor)?;
-            }
-            cursor.take(b',');
-        }
-        cursor.expect(b'>')?;
-        Ok(layer.around(count, space, access))
-    }
-
-    /// The number of elements of an array. A spelling may have any number in digits.
-    fn read_count(&self, cursor: &mut Cursor<'t>) -> Result<usize, Stop>
-        ensures goes_on { GoesOn cursor.old cursor.new }
-    {
-        let at = cursor.index();
-        if self.is_spelling {
-            let word = cursor.word();
-            cursor.advance();
-            return match usize::from_str(word) {
-                Ok(count) => Ok(count),
-                Err(_) => Err(Stop::at(at, Cause::Expected(Expected::Integer))),
-            };
-        }
-        let count = self.read_integer(cursor, Site::Template)?;
-        match usize::try_from(count.value) {
-            Ok(count) if count > 0 => Ok(count),
-            _ => Err(Stop::at(at, Cause::NoElements)),
-        }
-    }
-
-    /// A type in which no other type stands.
-    fn read_leaf(&self, cursor: &mut Cursor<'t>, head: Head) -> Result<Type, Stop>
-        ensures goes_on { GoesOn cursor.old cursor.new }
-    {
-        match head {
-            Head::Scalar(scalar) => Ok(Type::from(scalar)),
-            Head::Vec(n, scalar) => Ok(Type::vector(self.alloc, n, Type::from(scalar))?),
-            Head::Mat(c, r, scalar) => Ok(Type::matrix(self.alloc, c, r, Type::from(scalar))?),
-            Head::Sampler(sampler) => Ok(Type::Sampler(sampler)),
-            Head::Texture(name) => Ok(Type::Texture(self.read_texture(cursor, name)?)),
-            Head::RayQuery => Ok(Type::RayQuery(read_flag(cursor)?)),
-            _ => Ok(Type::AccelerationStructure(read_flag(cursor)?)),
-        }
-    }
-
-    /// A texture behind its name.
-    fn read_texture(&self, cursor: &mut Cursor<'t>, name: TextureName) -> Result<TextureType, Stop>
-        ensures goes_on { GoesOn cursor.old cursor.new }
-    {
-        let at = cursor.index();
-        let parameters = match name.parameter_kind() {
-            TextureParameterKind::None => TextureParameters::None,
-            TextureParameterKind::Sampled => self.read_sampled(cursor)?,
-            TextureParameterKind::Storage => read_storage(cursor)?,
+        let space = self.read_pointed(types, cursor, layer)?;
+        let inside = self.read_levels(types, cursor, inner)?;
+        let formed = match layer {
+            LayerName::Array => self.read_array(types, cursor, inside)?,
+            LayerName::BindingArray => self.read_binding_array(types, cursor, inside)?,
+            LayerName::Pointer => self.read_pointer(types, cursor, space, inside)?,
+            _ => scalars(layer, &inside),
         };
-        match name.with(parameters) {
-            Some(texture) => Ok(texture),
-            None => Err(Stop::at(at, Cause::Expected(Expected::Type))),
-        }
-    }
-
-    /// The template list of a sampled texture.
-    fn read_sampled(&self, cursor: &mut Cursor<'t>) -> Result<TextureParameters, Stop>
-        ensures goes_on { GoesOn cursor.old cursor.new }
-    {
-        cursor.expect(b'<')?;
-        let at = cursor.index();
-        let name = cursor.take_word(Expected::SampledType)?;
         cursor.take(b',');
         cursor.expect(b'>')?;
-        match self.sampled_type(name) {
-            Some(sampled) => Ok(TextureParameters::Sampled(sampled)),
-            None => Err(Stop::at(at, Cause::Expected(Expected::SampledType))),
+        match formed {
+            Ok(ty) => Ok(ty),
+            Err(cause) => Err(Stop::at(at, cause)),
         }
     }
 
-    /// The sampled type that a name stands for.
-    fn sampled_type(&self, name: &'t str) -> Option<SampledType> {
-        let scalar = match self.meaning(name) {
-            None => return SampledType::from_str(name).ok(),
-            Some(Meaning::Alias(index)) => self.aliases.get(index)?.scalar(),
-            Some(_) => None,
-        };
-        match scalar {
-            Some(Scalar::F32) => Some(SampledType::F32),
-            Some(Scalar::I32) => Some(SampledType::I32),
-            Some(Scalar::U32) => Some(SampledType::U32),
-            _ => None,
+    /// An array behind the type of its elements.
+    fn read_array(
+        &self,
+        types: &mut Types,
+        cursor: &mut Cursor<'t>,
+        element: MeasuredType,
+    ) -> Result<Result<MeasuredType, Cause>, Stop>
+        ensures goes_on { GoesOn cursor.old cursor.new }
+    {
+        let count = self.read_count(cursor)?;
+        if let Some(cause) = element_fault(&element) {
+            return Ok(Err(cause));
+        }
+        let index = types.keep(element)?;
+        let array = element.array(index, count);
+        match (count, array.size) {
+            (Count::Known(_), None) => Ok(Err(Cause::TooLarge)),
+            _ => Ok(Ok(array)),
+        }
+    }
+
+    /// A binding array behind the type of its elements.
+    fn read_binding_array(
+        &self,
+        types: &mut Types,
+        cursor: &mut Cursor<'t>,
+        element: MeasuredType,
+    ) -> Result<Result<MeasuredType, Cause>, Stop>
+        ensures goes_on { GoesOn cursor.old cursor.new }
+    {
+        let count = self.read_count(cursor)?;
+        let index = types.keep(element)?;
+        Ok(Ok(element.around(TypeKind::BindingArray(index, count), None, None)))
+    }
+
+    /// A pointer behind the type to which it points.
+    fn read_pointer(
+        &self,
+        types: &mut Types,
+        cursor: &mut Cursor<'t>,
+        space: AddressSpace,
+        inside: MeasuredType,
+    ) -> Result<Result<MeasuredType, Cause>, Stop>
+        ensures goes_on { GoesOn cursor.old cursor.new }
+    {
+        let mut access = space.default_access_mode();
+        if cursor.take(b',') && !cursor.is_at(b'>') {
+            access = self.read_access(cursor)?;
+        }
+        let index = types.keep(inside)?;
+        Ok(Ok(inside.around(TypeKind::Pointer(space, index, access), None, None)))
+    }
+
+    /// The number of elements of an array, if it stands there.
+    fn read_count(&self, cursor: &mut Cursor<'t>) -> Result<Count, Stop>
+        ensures goes_on { GoesOn cursor.old cursor.new }
+    {
+        if !cursor.take(b',') || cursor.is_at(b'>') {
+            return Ok(Count::Runtime);
+        }
+        let at = cursor.index();
+        match count_of(self.read_value(cursor, Site::Template)?) {
+            Ok(count) => Ok(count),
+            Err(cause) => Err(Stop::at(at, cause)),
+        }
+    }
+
+    /// The address space of a pointer, with the `,` behind it.
+    fn read_pointed(
+        &self,
+        types: &mut Types,
+        cursor: &mut Cursor<'t>,
+        layer: LayerName,
+    ) -> Result<AddressSpace, Stop>
+        ensures goes_on { GoesOn cursor.old cursor.new }
+    {
+        if layer != LayerName::Pointer {
+            return Ok(AddressSpace::Function);
+        }
+        let space = self.read_space(types, cursor)?;
+        cursor.expect(b',')?;
+        Ok(space)
+    }
+
+    /// An address space.
+    pub fn read_space(
+        &self,
+        types: &mut Types,
+        cursor: &mut Cursor<'t>,
+    ) -> Result<AddressSpace, Stop>
+        ensures goes_on { GoesOn cursor.old cursor.new }
+    {
+        let at = cursor.index();
+        let name = self.take_enumerant(cursor, Expected::AddressSpace)?;
+        if name == "push_constant" && !self.extensions.naga {
+            types.note(at)?;
+        }
+        match space_named(name) {
+            Some(space) => Ok(space),
+            None => Err(Stop::at(at, Cause::Expected(Expected::AddressSpace))),
         }
     }
 }
 
-/// How many levels a type has around its innermost one.
-fn levels(ty: &Type) -> u32 {
-    match ty {
-        Type::Array(inner, _)
-        | Type::Vec(_, inner)
-        | Type::Mat(_, _, inner)
-        | Type::Atomic(inner)
-        | Type::BindingArray(inner, _)
-        | Type::Ptr(_, inner, _)
-        | Type::Ref(_, inner, _) => levels(inner).saturating_add(1),
-        _ => 0,
+/// The type that a declaration stands for, named at an index of the text.
+fn declared_type(meaning: Meaning, at: usize, depth: u32) -> Result<MeasuredType, Stop> {
+    match meaning {
+        Meaning::Type(ty) if ty.levels <= depth => Ok(ty),
+        Meaning::Type(_) => Err(Stop::at(at, Cause::TooDeep)),
+        Meaning::Faulty | Meaning::Unread => Err(Stop::Elsewhere),
+        _ => Err(Stop::at(at, Cause::Expected(Expected::Type))),
     }
 }
 
-/// The address space of a pointer or a reference, with the `,` behind it.
-fn read_pointed(cursor: &mut Cursor, layer: LayerName) -> Result<AddressSpace, Stop>
-    ensures goes_on { GoesOn cursor.old cursor.new }
-{
-    if !layer.is_pointer() {
-        return Ok(AddressSpace::Function);
+/// A vector, a matrix or an atomic of a type, or why there is none.
+fn scalars(layer: LayerName, inside: &MeasuredType) -> Result<MeasuredType, Cause> {
+    match (layer, inside.as_scalar()) {
+        (LayerName::Vec(n), Some(scalar)) => Ok(MeasuredType::vector(n, scalar)),
+        (LayerName::Vec(_), None) => Err(Cause::VectorComponent),
+        (LayerName::Mat(c, r), Some(scalar)) if scalar.is_float() => {
+            Ok(MeasuredType::matrix(c, r, scalar))
+        }
+        (LayerName::Mat(_, _), _) => Err(Cause::MatrixComponent),
+        (_, Some(scalar)) if scalar.is_integer() => Ok(MeasuredType::atomic(scalar)),
+        _ => Err(Cause::AtomicContent),
     }
-    let space = read_space(cursor)?;
-    cursor.expect(b',')?;
-    Ok(space)
 }
 
-/// An address space.
-pub fn read_space(cursor: &mut Cursor) -> Result<AddressSpace, Stop>
-    ensures goes_on { GoesOn cursor.old cursor.new }
-{
-    let at = cursor.index();
-    let space = match cursor.take_word(Expected::AddressSpace)? {
-        "immediate" => Some(AddressSpace::PushConstant),
-        name => AddressSpace::from_str(name).ok(),
+/// The number of elements that a value stands for, or why it stands for none.
+fn count_of(value: Value) -> Result<Count, Cause> {
+    let number = match value {
+        Value::Integer(integer) => integer.value(),
+        Value::Later => return Ok(Count::Override),
+        Value::Bool(_) | Value::Float(_) => return Err(Cause::NotInteger),
     };
-    space.ok_or(Stop::at(at, Cause::Expected(Expected::AddressSpace)))
-}
-
-/// An access mode.
-pub fn read_access(cursor: &mut Cursor) -> Result<AccessMode, Stop>
-    ensures goes_on { GoesOn cursor.old cursor.new }
-{
-    let at = cursor.index();
-    match AccessMode::from_str(cursor.take_word(Expected::AccessMode)?) {
-        Ok(access) => Ok(access),
-        Err(_) => Err(Stop::at(at, Cause::Expected(Expected::AccessMode))),
-    }
-}
-
-/// The template list of a storage texture.
-fn read_storage(cursor: &mut Cursor) -> Result<TextureParameters, Stop>
-    ensures goes_on { GoesOn cursor.old cursor.new }
-{
-    cursor.expect(b'<')?;
-    let at = cursor.index();
-    let format = TexelFormat::from_str(cursor.take_word(Expected::TexelFormat)?);
-    cursor.expect(b',')?;
-    let access = read_access(cursor)?;
-    cursor.take(b',');
-    cursor.expect(b'>')?;
-    match format {
-        Ok(format) => Ok(TextureParameters::Storage(format, access)),
-        Err(_) => Err(Stop::at(at, Cause::Expected(Expected::TexelFormat))),
-    }
-}
-
-/// The flag of a ray query or an acceleration structure, if there is a list.
-fn read_flag(cursor: &mut Cursor) -> Result<Option<AccelerationStructureFlags>, Stop>
-    ensures goes_on { GoesOn cursor.old cursor.new }
-{
-    if !cursor.take(b'<') {
-        return Ok(None);
-    }
-    let at = cursor.index();
-    let flag = AccelerationStructureFlags::from_str(cursor.take_word(Expected::Flag)?);
-    cursor.take(b',');
-    cursor.expect(b'>')?;
-    match flag {
-        Ok(flag) => Ok(Some(flag)),
-        Err(_) => Err(Stop::at(at, Cause::Expected(Expected::Flag))),
-    }
-}
-
-/// What is wrong with a word that nothing declares, where a type is wanted.
-fn unknown_type(word: &str) -> Cause {
-    if is_name(word) {
-        Cause::UnknownName
-    } else {
-        Cause::Expected(Expected::Type)
+    match u32::try_from(number) {
+        Ok(0) => Err(Cause::NoElements),
+        Ok(number) => Ok(Count::Known(number)),
+        Err(_) if number < 0 => Err(Cause::NoElements),
+        Err(_) => Err(Cause::TooLarge),
     }
 }

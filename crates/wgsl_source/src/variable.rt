@@ -1,17 +1,16 @@
 // Variables of a module.
 ghost use Rattle.wgsl_source.specs.Cursor.{GoesOn};
 
-use crate::attribute::Attributes;
-use crate::check::type_fault;
+use crate::attribute::{Attributes, Owner};
 use crate::cursor::Cursor;
 use crate::fault::{Cause, Expected, Stop};
+use crate::measured::{Count, MeasuredType, TypeKind};
 use crate::scope::Scope;
-use crate::types::{read_access, read_space};
-use wgsl_core::ty::Type;
+use crate::types::Types;
 use wgsl_syntax::address::{AccessMode, AddressSpace};
 
 /// A variable with a type.
-#[derive(Drop)]
+#[derive(Clone, Copy, Debug)]
 pub struct Variable<'t> {
     pub name: &'t str,
     /// Where its name stands in the text.
@@ -20,9 +19,7 @@ pub struct Variable<'t> {
     pub binding: Option<u32>,
     pub space: AddressSpace,
     pub access: AccessMode,
-    pub ty: Type,
-    /// The index of the struct that is its type, if it is one.
-    pub structure: Option<usize>,
+    pub ty: MeasuredType,
 }
 
 /// What stands in front of the type of a variable.
@@ -35,33 +32,64 @@ struct Head<'t> {
     access: AccessMode,
 }
 
-impl<'a, 't> Scope<'a, 't> {
-    /// A variable from its attributes on. One without a type is none.
-    pub fn read_variable(&self, cursor: &mut Cursor<'t>) -> Result<Option<Variable<'t>>, Stop>
+impl<'t> Scope<'t> {
+    /// A variable from its attributes on; None if only its value says the type.
+    pub fn read_variable(
+        &self,
+        types: &mut Types,
+        cursor: &mut Cursor<'t>,
+    ) -> Result<Option<Variable<'t>>, Stop>
         ensures goes_on { GoesOn cursor.old cursor.new }
     {
-        let head = self.read_variable_head(cursor)?;
-        if !cursor.take(b':') {
-            return Ok(None);
+        let head = self.read_variable_head(types, cursor)?;
+        let mut ty = None;
+        if cursor.take(b':') {
+            ty = Some(self.read_stored_type(types, cursor, head.space)?);
         }
         let at = cursor.index();
-        let structure = self.structure(cursor.word());
-        let ty = self.read_type(cursor)?;
-        match variable_fault(&ty, at, cursor) {
-            Some(stop) => {
-                drop(ty);
-                Err(stop)
-            }
-            None => Ok(Some(variable_of(head, ty, structure))),
+        let has_value = cursor.take(b'=');
+        if has_value && head.space != AddressSpace::Private {
+            return Err(Stop::at(at, Cause::NoInitializer));
+        }
+        if !has_value && !cursor.is_at(b';') {
+            return Err(cursor.expected(Expected::Sign(b';')));
+        }
+        match ty {
+            None if !has_value => Err(Stop::at(head.place, Cause::NoType)),
+            None => Ok(None),
+            Some(ty) => Ok(Some(variable_of(head, ty))),
         }
     }
 
-    fn read_variable_head(&self, cursor: &mut Cursor<'t>) -> Result<Head<'t>, Stop>
+    /// The type of a variable in an address space: only in `workgroup` may its count be an override.
+    fn read_stored_type(
+        &self,
+        types: &mut Types,
+        cursor: &mut Cursor<'t>,
+        space: AddressSpace,
+    ) -> Result<MeasuredType, Stop>
         ensures goes_on { GoesOn cursor.old cursor.new }
     {
-        let attributes = self.read_attributes(cursor)?;
+        let at = cursor.index();
+        let ty = self.read_type(types, cursor)?;
+        match ty.kind {
+            TypeKind::Array(_, Count::Override) if space != AddressSpace::Workgroup => {
+                Err(Stop::at(at, Cause::KnownLater))
+            }
+            _ => Ok(ty),
+        }
+    }
+
+    fn read_variable_head(
+        &self,
+        types: &mut Types,
+        cursor: &mut Cursor<'t>,
+    ) -> Result<Head<'t>, Stop>
+        ensures goes_on { GoesOn cursor.old cursor.new }
+    {
+        let attributes = self.read_attributes(cursor, Owner::Variable)?;
         cursor.take_word(Expected::Declaration)?;
-        let (space, access) = read_qualifiers(cursor)?;
+        let (space, access) = self.read_qualifiers(types, cursor)?;
         let place = cursor.index();
         let name = cursor.name(Expected::Name)?;
         Ok(Head {
@@ -72,18 +100,38 @@ impl<'a, 't> Scope<'a, 't> {
             access,
         })
     }
-}
 
-/// What is wrong with the type of a variable, which stands at an index of the text, or with what is behind it.
-fn variable_fault(ty: &Type, at: usize, cursor: &Cursor) -> Option<Stop> {
-    match type_fault(ty) {
-        Some(cause) => Some(Stop::at(at, cause)),
-        None if cursor.is_at(b';') || cursor.is_at(b'=') => None,
-        None => Some(cursor.expected(Expected::Sign(b';'))),
+    /// The address space and the access mode of a variable. Without a list they are those of resources.
+    fn read_qualifiers(
+        &self,
+        types: &mut Types,
+        cursor: &mut Cursor<'t>,
+    ) -> Result<(AddressSpace, AccessMode), Stop>
+        ensures goes_on { GoesOn cursor.old cursor.new }
+    {
+        if !cursor.take(b'<') {
+            return Ok((AddressSpace::Handle, AccessMode::Read));
+        }
+        let at = cursor.index();
+        let space = self.read_space(types, cursor)?;
+        if space == AddressSpace::Function {
+            return Err(Stop::at(at, Cause::Expected(Expected::AddressSpace)));
+        }
+        let mut access = space.default_access_mode();
+        if cursor.take(b',') && !cursor.is_at(b'>') {
+            let at = cursor.index();
+            access = self.read_access(cursor)?;
+            if space != AddressSpace::Storage || !is_buffer_access(access) {
+                return Err(Stop::at(at, Cause::NoAccess));
+            }
+            cursor.take(b',');
+        }
+        cursor.expect(b'>')?;
+        Ok((space, access))
     }
 }
 
-fn variable_of<'t>(head: Head<'t>, ty: Type, structure: Option<usize>) -> Variable<'t> {
+fn variable_of<'t>(head: Head<'t>, ty: MeasuredType) -> Variable<'t> {
     Variable {
         name: head.name,
         place: head.place,
@@ -92,33 +140,7 @@ fn variable_of<'t>(head: Head<'t>, ty: Type, structure: Option<usize>) -> Variab
         space: head.space,
         access: head.access,
         ty,
-        structure,
     }
-}
-
-/// The address space and the access mode of a variable. Without a list they are those of resources.
-fn read_qualifiers(cursor: &mut Cursor) -> Result<(AddressSpace, AccessMode), Stop>
-    ensures goes_on { GoesOn cursor.old cursor.new }
-{
-    if !cursor.take(b'<') {
-        return Ok((AddressSpace::Handle, AccessMode::Read));
-    }
-    let at = cursor.index();
-    let space = read_space(cursor)?;
-    if space == AddressSpace::Function {
-        return Err(Stop::at(at, Cause::Expected(Expected::AddressSpace)));
-    }
-    let mut access = space.default_access_mode();
-    if cursor.take(b',') && !cursor.is_at(b'>') {
-        let at = cursor.index();
-        access = read_access(cursor)?;
-        if space != AddressSpace::Storage || !is_buffer_access(access) {
-            return Err(Stop::at(at, Cause::NoAccess));
-        }
-        cursor.take(b',');
-    }
-    cursor.expect(b'>')?;
-    Ok((space, access))
 }
 
 /// Whether a variable of `storage` may have this access mode.

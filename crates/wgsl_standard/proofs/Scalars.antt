@@ -10,7 +10,7 @@ use Rattle.wgsl_rules.proofs.conversion.Order.{Above, above_trans, above_chain, 
 use Rattle.wgsl_rules.proofs.conversion.Equations.{scalar_rank, converts_scalar}
 use Rattle.wgsl_syntax.specs.declared.overload.Kind.{Kind}
 use Rattle.wgsl_rules.specs.standard.LetterKinds.{is_of_kind}
-use Rattle.wgsl_standard.specs.internal.Binding.{converts, may_be, join, targets, first_of_kind, pick}
+use Rattle.wgsl_standard.specs.internal.Binding.{converts, may_be, join, targets, first_of_kind, first_target, pick}
 
 -- as in the table of ranks
 pub by_rank : (a b : Scalar) → converts a b ≡ is_some (scalar_rank a b)
@@ -25,6 +25,45 @@ by_rank I64 BoolScalar = refl
 by_rank U64 BoolScalar = refl
 by_rank F64 BoolScalar = refl
 by_rank a b = refl
+
+-- a rank tells whether a scalar converts
+pub ranked : (a b : Scalar) (r : Option ℕ) → ((w : ℕ) → (r ≡ Some w) ↔ Converts (scalar a) (scalar b) w) → is_some r ≡ converts a b
+ranked a b r h = same r (scalar_rank a b) (λ w. (λ e. (converts_scalar a b w).0 ((h w).0 e), λ e. (h w).1 ((converts_scalar a b w).1 e))) ∙ sym (by_rank a b)
+  where
+    same : (r s : Option ℕ) → ((w : ℕ) → (r ≡ Some w) ↔ (s ≡ Some w)) → is_some r ≡ is_some s
+    same None None h = refl
+    same (Some v) (Some w) h = refl
+    same None (Some w) h = absurd (cc ((h w).1 refl))
+    same (Some v) None h = absurd (cc ((h v).0 refl))
+
+-- a scalar itself comes first
+pub itself : (c : Bool) (k : Kind) (a : Scalar) → IsTrue (is_of_kind k a) → IsTrue (may_be c a) → pick c k (Some a) ≡ Some a
+itself c k a i m = at a (λ ss. rw (i, m) refl)
+  where
+    at : (a : Scalar) → ((ss : List Scalar) → first_of_kind c k (a ∷ ss) ≡ Some a) → pick c k (Some a) ≡ Some a
+    at AbstractInt h = h (I32 ∷ U32 ∷ AbstractFloat ∷ F32 ∷ F16 ∷ I64 ∷ U64 ∷ [])
+    at AbstractFloat h = h (F32 ∷ F16 ∷ [])
+    at BoolScalar h = h []
+    at I32 h = h []
+    at U32 h = h []
+    at F32 h = h []
+    at F16 h = h []
+    at I64 h = h []
+    at U64 h = h []
+    at F64 h = h []
+
+-- what is picked is the first of all scalars to which the scalar converts
+pub first_of_all : (c : Bool) (k : Kind) (a : Scalar) → first_target c k a (targets None) ≡ pick c k (Some a)
+first_of_all c k AbstractInt = refl
+first_of_all c k AbstractFloat = refl
+first_of_all c k BoolScalar = refl
+first_of_all c k I32 = refl
+first_of_all c k U32 = refl
+first_of_all c k F32 = refl
+first_of_all c k F16 = refl
+first_of_all c k I64 = refl
+first_of_all c k U64 = refl
+first_of_all c k F64 = refl
 
 abbrev pub Reaches : Scalar → Scalar → Type 0
 Reaches a b = IsTrue (converts a b)

@@ -1,9 +1,9 @@
 // The letters for scalars: what operands require of them, and the least scalar of a kind.
-ghost use Rattle.std.specs.Prelude.{◌≡◌, [], ◌∷◌, None, Some, false};
-ghost use Rattle.wgsl_syntax.specs.declared.scalar.Scalar.TheVariants.{AbstractFloat, AbstractInt};
+ghost use Rattle.std.specs.Prelude.{◌≡◌, None, Some, false};
 ghost use Rattle.wgsl_rules.specs.standard.LetterKinds.{is_of_kind as is_in_kind};
-ghost use Rattle.wgsl_standard.specs.internal.Binding.{converts as converts_to, may_be as may_stand, join as joined, join_to as joined_to, first_of_kind as first_in, pick as picked};
+ghost use Rattle.wgsl_standard.specs.internal.Binding.{converts as converts_to, may_be as may_stand, join as joined, join_to as joined_to, first_target as first_from, pick as picked};
 
+use wgsl_core::conversion::scalar_rank;
 use wgsl_syntax::overload::Kind;
 use wgsl_syntax::scalar::Scalar;
 
@@ -33,18 +33,7 @@ fn join(a: Scalar, b: Scalar) -> Option<Scalar>
 pub fn converts(a: Scalar, b: Scalar) -> bool
     ensures { result ≡ converts_to a b }
 {
-    match a {
-        Scalar::AbstractInt => !matches!(b, Scalar::Bool | Scalar::F64),
-        Scalar::AbstractFloat => matches!(b, Scalar::AbstractFloat | Scalar::F32 | Scalar::F16),
-        Scalar::Bool => matches!(b, Scalar::Bool),
-        Scalar::I32 => matches!(b, Scalar::I32),
-        Scalar::U32 => matches!(b, Scalar::U32),
-        Scalar::F32 => matches!(b, Scalar::F32),
-        Scalar::F16 => matches!(b, Scalar::F16),
-        Scalar::I64 => matches!(b, Scalar::I64),
-        Scalar::U64 => matches!(b, Scalar::U64),
-        Scalar::F64 => matches!(b, Scalar::F64),
-    }
+    scalar_rank(a, b).is_some()
 }
 
 /// Whether a parameter may have this scalar.
@@ -89,63 +78,37 @@ fn least_of(kind: Kind) -> Scalar
     }
 }
 
-/// What a letter stands for to which a scalar converts.
+/// What a letter stands for to which a scalar converts: that scalar, or the one of least rank.
 fn pick_from(concrete: bool, kind: Kind, scalar: Scalar) -> Option<Scalar>
     ensures { result ≡ picked concrete kind (Some scalar) }
-{
-    match scalar {
-        Scalar::AbstractInt => pick_from_int(concrete, kind),
-        Scalar::AbstractFloat => pick_from_float(concrete, kind),
-        _ => itself_of_kind(concrete, kind, scalar),
-    }
-}
-
-fn itself_of_kind(concrete: bool, kind: Kind, scalar: Scalar) -> Option<Scalar>
-    ensures { result ≡ first_in concrete kind (scalar ∷ []) }
 {
     if is_of_kind(kind, scalar) && may_be(concrete, scalar) {
         Some(scalar)
     } else {
-        None
+        first_target(concrete, kind, scalar, &BY_RANK)
     }
 }
 
-#[inline(never)]
-fn pick_from_int(concrete: bool, kind: Kind) -> Option<Scalar>
-    ensures { result ≡ picked concrete kind (Some AbstractInt) }
-{
-    first_of_kind(
-        concrete,
-        kind,
-        &[
-            Scalar::AbstractInt,
-            Scalar::I32,
-            Scalar::U32,
-            Scalar::AbstractFloat,
-            Scalar::F32,
-            Scalar::F16,
-            Scalar::I64,
-            Scalar::U64,
-        ],
-    )
-}
+/// The scalars, those to which a scalar converts in the order of their ranks.
+const BY_RANK: [Scalar; 10] = [
+    Scalar::Bool,
+    Scalar::AbstractInt,
+    Scalar::I32,
+    Scalar::U32,
+    Scalar::AbstractFloat,
+    Scalar::F32,
+    Scalar::F16,
+    Scalar::I64,
+    Scalar::U64,
+    Scalar::F64,
+];
 
-#[inline(never)]
-fn pick_from_float(concrete: bool, kind: Kind) -> Option<Scalar>
-    ensures { result ≡ picked concrete kind (Some AbstractFloat) }
-{
-    first_of_kind(
-        concrete,
-        kind,
-        &[Scalar::AbstractFloat, Scalar::F32, Scalar::F16],
-    )
-}
-
-fn first_of_kind(concrete: bool, kind: Kind, scalars: &[Scalar]) -> Option<Scalar>
-    ensures { result ≡ first_in concrete kind scalars.now }
+/// The first of the scalars to which one converts, if it is of the kind.
+fn first_target(concrete: bool, kind: Kind, from: Scalar, scalars: &[Scalar]) -> Option<Scalar>
+    ensures { result ≡ first_from concrete kind from scalars.now }
 {
     for scalar in scalars {
-        if is_of_kind(kind, *scalar) && may_be(concrete, *scalar) {
+        if converts(from, *scalar) && is_of_kind(kind, *scalar) && may_be(concrete, *scalar) {
             return Some(*scalar);
         }
     }

@@ -16,7 +16,7 @@ use Rattle.wgsl_syntax.specs.Enumerant.{enumerant_text, enumerants}
 use Rattle.wgsl_syntax.specs.declared.enumerant.Enumerant.{Enumerant}
 use Rattle.wgsl_syntax.specs.declared.address.AddressSpace.{AddressSpace}
 use Rattle.wgsl_syntax.specs.declared.address.AccessMode.{AccessMode}
-use Rattle.wgsl_syntax.specs.declared.attribute.BuiltinValue.{BuiltinValue}
+use Rattle.wgsl_syntax.specs.declared.builtin_value.BuiltinValue.{BuiltinValue}
 use Rattle.wgsl_syntax.specs.declared.attribute.DiagnosticSeverity.{DiagnosticSeverity}
 use Rattle.wgsl_syntax.specs.declared.attribute.InterpolationType.{InterpolationType}
 use Rattle.wgsl_syntax.specs.declared.attribute.InterpolationSampling.{InterpolationSampling}
@@ -33,7 +33,7 @@ use Rattle.wgsl_syntax.specs.declared.texture_name.TextureName.{TextureName}
 use Rattle.wgsl_syntax.specs.declared.enumerant.Enumerant.TheVariants as enumerant
 use Rattle.wgsl_syntax.specs.declared.address.AddressSpace.TheVariants as space
 use Rattle.wgsl_syntax.specs.declared.address.AccessMode.TheVariants as access
-use Rattle.wgsl_syntax.specs.declared.attribute.BuiltinValue.TheVariants as builtin
+use Rattle.wgsl_syntax.specs.declared.builtin_value.BuiltinValue.TheVariants as builtin
 use Rattle.wgsl_syntax.specs.declared.attribute.DiagnosticSeverity.TheVariants as severity
 use Rattle.wgsl_syntax.specs.declared.attribute.InterpolationType.TheVariants as interpolation
 use Rattle.wgsl_syntax.specs.declared.attribute.InterpolationSampling.TheVariants as sampling

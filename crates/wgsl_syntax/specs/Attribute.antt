@@ -1,7 +1,7 @@
 -- The names that attributes and directives take (WGSL, "Attributes", "Built-in Values", "Diagnostics").
 use Rattle.std.specs.Prelude.{ℕ, List, [], ◌∷◌, codes}
-use Rattle.wgsl_syntax.specs.declared.attribute.BuiltinValue.{BuiltinValue}
-use Rattle.wgsl_syntax.specs.declared.attribute.BuiltinValue.TheVariants.{VertexIndex, InstanceIndex, ClipDistances, Position, FrontFacing, FragDepth, SampleIndex, SampleMask, LocalInvocationId, LocalInvocationIndex, GlobalInvocationId, WorkgroupId, NumWorkgroups, SubgroupInvocationId, SubgroupSize, SubgroupId, NumSubgroups, PrimitiveIndex, ViewIndex}
+use Rattle.wgsl_syntax.specs.declared.builtin_value.BuiltinValue.{BuiltinValue}
+use Rattle.wgsl_syntax.specs.declared.builtin_value.BuiltinValue.TheVariants.{VertexIndex, InstanceIndex, ClipDistances, Position, FrontFacing, FragDepth, SampleIndex, SampleMask, LocalInvocationId, LocalInvocationIndex, GlobalInvocationId, WorkgroupId, NumWorkgroups, SubgroupInvocationId, SubgroupSize, SubgroupId, NumSubgroups, PrimitiveIndex, ViewIndex}
 use Rattle.wgsl_syntax.specs.declared.attribute.DiagnosticSeverity.{DiagnosticSeverity}
 use Rattle.wgsl_syntax.specs.declared.attribute.DiagnosticSeverity.TheVariants.{Error, Warning, Info, Off}
 use Rattle.wgsl_syntax.specs.declared.attribute.InterpolationType.{InterpolationType}

@@ -1,5 +1,4 @@
 pub mod Address
-pub mod Around
 pub mod Attribute
 pub mod Enumerant
 pub mod Hash

@@ -1,10 +1,9 @@
 // Address spaces and access modes.
-ghost use Rattle.std.specs.Prelude.{◌≡◌, ◌↔◌, IsTrue, slice_get};
+ghost use Rattle.std.specs.Prelude.{◌≡◌, ◌↔◌, IsTrue};
 ghost use Rattle.wgsl_syntax.specs.Names.{named, table, Reads, ReadsBut};
 ghost use Rattle.wgsl_syntax.specs.Address.{access_modes, access_text, default_access, space_text, spaces, written_spaces, MayRead, MayWrite};
 ghost use Rattle.wgsl_syntax.specs.declared.address.AddressSpace.TheVariants.{Handle};
 
-use crate::index::by_index;
 use std::fmt;
 use std::fmt::Write;
 use std::str::FromStr;
@@ -12,34 +11,23 @@ use std::str::FromStr;
 /// An address space (WGSL, "Address Spaces"), including `handle` and naga's `push_constant`.
 #[derive(Clone, Copy, PartialEq, Eq, Hash, Debug)]
 pub enum AddressSpace {
+    /// `function`
     Function,
+    /// `private`
     Private,
+    /// `workgroup`
     Workgroup,
+    /// `uniform`
     Uniform,
+    /// `storage`
     Storage,
+    /// `handle`
     Handle,
+    /// `push_constant`
     PushConstant,
 }
 
 impl AddressSpace {
-    /// All address spaces, in the order of their indices.
-    pub const ALL: [AddressSpace; 7] = [
-        AddressSpace::Function,
-        AddressSpace::Private,
-        AddressSpace::Workgroup,
-        AddressSpace::Uniform,
-        AddressSpace::Storage,
-        AddressSpace::Handle,
-        AddressSpace::PushConstant,
-    ];
-
-    /// The address space with that index.
-    pub fn at(index: u8) -> Option<AddressSpace>
-        ensures { result ≡ slice_get spaces index }
-    {
-        by_index(&AddressSpace::ALL, index)
-    }
-
     /// The access mode of a variable whose declaration names none (WGSL, "Address Spaces").
     pub fn default_access_mode(self) -> AccessMode
         ensures { result ≡ default_access self }
@@ -51,17 +39,12 @@ impl AddressSpace {
             _ => AccessMode::Read,
         }
     }
-}
 
-impl fmt::Display for AddressSpace {
-    ghost use Rattle.std.specs.Prelude.{Some};
-
-    ghost output = { λ x. Some (space_text x) };
-
-    ghost styled_output = { λ x _. Some (space_text x) };
-
-    fn fmt<W: Write>(&self, f: &mut fmt::Formatter<W>) -> fmt::Result {
-        f.write_str(match self {
+    /// The name.
+    fn text(self) -> &'static str
+        ensures { result.now ≡ space_text self }
+    {
+        match self {
             AddressSpace::Function => "function",
             AddressSpace::Private => "private",
             AddressSpace::Workgroup => "workgroup",
@@ -69,7 +52,20 @@ impl fmt::Display for AddressSpace {
             AddressSpace::Storage => "storage",
             AddressSpace::Handle => "handle",
             AddressSpace::PushConstant => "push_constant",
-        })
+        }
+    }
+}
+
+impl fmt::Display for AddressSpace {
+    ghost use Rattle.std.specs.Prelude.{Some};
+    ghost use Rattle.std.specs.Fmt.{padded};
+
+    ghost output = { λ x. Some (space_text x) };
+
+    ghost styled_output = { λ x spec. Some (padded spec (space_text x)) };
+
+    fn fmt<W: Write>(&self, f: &mut fmt::Formatter<W>) -> fmt::Result {
+        f.pad(self.text())
     }
 }
 
@@ -100,28 +96,17 @@ impl FromStr for AddressSpace {
 /// An access mode (WGSL, "Memory Access Mode"), including naga's `atomic` for storage textures.
 #[derive(Clone, Copy, PartialEq, Eq, Hash, Debug)]
 pub enum AccessMode {
+    /// `read`
     Read,
+    /// `write`
     Write,
+    /// `read_write`
     ReadWrite,
+    /// `atomic`
     Atomic,
 }
 
 impl AccessMode {
-    /// All access modes, in the order of their indices.
-    pub const ALL: [AccessMode; 4] = [
-        AccessMode::Read,
-        AccessMode::Write,
-        AccessMode::ReadWrite,
-        AccessMode::Atomic,
-    ];
-
-    /// The access mode with that index.
-    pub fn at(index: u8) -> Option<AccessMode>
-        ensures { result ≡ slice_get access_modes index }
-    {
-        by_index(&AccessMode::ALL, index)
-    }
-
     /// Whether memory with this access mode can be read; false for `atomic`.
     pub fn is_read(self) -> bool
         ensures { IsTrue result ↔ MayRead self }
@@ -135,22 +120,30 @@ impl AccessMode {
     {
         matches!(self, AccessMode::Write | AccessMode::ReadWrite)
     }
-}
 
-impl fmt::Display for AccessMode {
-    ghost use Rattle.std.specs.Prelude.{Some};
-
-    ghost output = { λ x. Some (access_text x) };
-
-    ghost styled_output = { λ x _. Some (access_text x) };
-
-    fn fmt<W: Write>(&self, f: &mut fmt::Formatter<W>) -> fmt::Result {
-        f.write_str(match self {
+    /// The name.
+    fn text(self) -> &'static str
+        ensures { result.now ≡ access_text self }
+    {
+        match self {
             AccessMode::Read => "read",
             AccessMode::Write => "write",
             AccessMode::ReadWrite => "read_write",
             AccessMode::Atomic => "atomic",
-        })
+        }
+    }
+}
+
+impl fmt::Display for AccessMode {
+    ghost use Rattle.std.specs.Prelude.{Some};
+    ghost use Rattle.std.specs.Fmt.{padded};
+
+    ghost output = { λ x. Some (access_text x) };
+
+    ghost styled_output = { λ x spec. Some (padded spec (access_text x)) };
+
+    fn fmt<W: Write>(&self, f: &mut fmt::Formatter<W>) -> fmt::Result {
+        f.pad(self.text())
     }
 }
 

@@ -1,6 +1,4 @@
 // What stands around one other type.
-ghost use Rattle.std.specs.Prelude.{◌≡◌};
-ghost use Rattle.wgsl_syntax.specs.Around.{count_of};
 
 use crate::address::{AccessMode, AddressSpace};
 
@@ -18,17 +16,4 @@ pub enum Around {
     Atomic,
     Ptr(AddressSpace, AccessMode),
     Ref(AddressSpace, AccessMode),
-}
-
-impl Around {
-    /// The number of elements of an array or a binding array; None without one.
-    #[inline(always)]
-    pub fn count(self) -> Option<usize>
-        ensures { result ≡ count_of self }
-    {
-        match self {
-            Around::Array(count) | Around::BindingArray(count) => count,
-            _ => None,
-        }
-    }
 }

@@ -1,129 +1,49 @@
 // The names that attributes and directives take.
-ghost use Rattle.std.specs.Prelude.{◌≡◌, slice_get};
+ghost use Rattle.std.specs.Prelude.{◌≡◌};
 ghost use Rattle.wgsl_syntax.specs.Names.{named, table, Reads};
-ghost use Rattle.wgsl_syntax.specs.Attribute.{builtin_text, builtin_values, depth_text, depths, flag_text, flags, interpolation_text, interpolations, sampling_text, samplings, severities, severity_text};
+ghost use Rattle.wgsl_syntax.specs.Attribute.{depth_text, depths, flag_text, flags, interpolation_text, interpolations, sampling_text, samplings, severities, severity_text};
 
-use crate::index::by_index;
 use std::fmt;
 use std::fmt::Write;
 use std::str::FromStr;
 
-/// A built-in value (WGSL, "Built-in Inputs and Outputs"), including naga's.
-#[derive(Clone, Copy, PartialEq, Eq, Hash, Debug)]
-pub enum BuiltinValue {
-    VertexIndex,
-    InstanceIndex,
-    ClipDistances,
-    Position,
-    FrontFacing,
-    FragDepth,
-    SampleIndex,
-    SampleMask,
-    LocalInvocationId,
-    LocalInvocationIndex,
-    GlobalInvocationId,
-    WorkgroupId,
-    NumWorkgroups,
-    SubgroupInvocationId,
-    SubgroupSize,
-    SubgroupId,
-    NumSubgroups,
-    PrimitiveIndex,
-    ViewIndex,
-}
-
-impl fmt::Display for BuiltinValue {
-    ghost use Rattle.std.specs.Prelude.{Some};
-
-    ghost output = { λ x. Some (builtin_text x) };
-
-    ghost styled_output = { λ x _. Some (builtin_text x) };
-
-    fn fmt<W: Write>(&self, f: &mut fmt::Formatter<W>) -> fmt::Result {
-        f.write_str(match self {
-            BuiltinValue::VertexIndex => "vertex_index",
-            BuiltinValue::InstanceIndex => "instance_index",
-            BuiltinValue::ClipDistances => "clip_distances",
-            BuiltinValue::Position => "position",
-            BuiltinValue::FrontFacing => "front_facing",
-            BuiltinValue::FragDepth => "frag_depth",
-            BuiltinValue::SampleIndex => "sample_index",
-            BuiltinValue::SampleMask => "sample_mask",
-            BuiltinValue::LocalInvocationId => "local_invocation_id",
-            BuiltinValue::LocalInvocationIndex => "local_invocation_index",
-            BuiltinValue::GlobalInvocationId => "global_invocation_id",
-            BuiltinValue::WorkgroupId => "workgroup_id",
-            BuiltinValue::NumWorkgroups => "num_workgroups",
-            BuiltinValue::SubgroupInvocationId => "subgroup_invocation_id",
-            BuiltinValue::SubgroupSize => "subgroup_size",
-            BuiltinValue::SubgroupId => "subgroup_id",
-            BuiltinValue::NumSubgroups => "num_subgroups",
-            BuiltinValue::PrimitiveIndex => "primitive_index",
-            BuiltinValue::ViewIndex => "view_index",
-        })
-    }
-}
-
-fn builtin_named(s: &str) -> Option<BuiltinValue>
-    ensures { result ≡ named (table builtin_text builtin_values) s.now }
-{
-    match s {
-        "vertex_index" => Some(BuiltinValue::VertexIndex),
-        "instance_index" => Some(BuiltinValue::InstanceIndex),
-        "clip_distances" => Some(BuiltinValue::ClipDistances),
-        "position" => Some(BuiltinValue::Position),
-        "front_facing" => Some(BuiltinValue::FrontFacing),
-        "frag_depth" => Some(BuiltinValue::FragDepth),
-        "sample_index" => Some(BuiltinValue::SampleIndex),
-        "sample_mask" => Some(BuiltinValue::SampleMask),
-        "local_invocation_id" => Some(BuiltinValue::LocalInvocationId),
-        "local_invocation_index" => Some(BuiltinValue::LocalInvocationIndex),
-        "global_invocation_id" => Some(BuiltinValue::GlobalInvocationId),
-        "workgroup_id" => Some(BuiltinValue::WorkgroupId),
-        "num_workgroups" => Some(BuiltinValue::NumWorkgroups),
-        "subgroup_invocation_id" => Some(BuiltinValue::SubgroupInvocationId),
-        "subgroup_size" => Some(BuiltinValue::SubgroupSize),
-        "subgroup_id" => Some(BuiltinValue::SubgroupId),
-        "num_subgroups" => Some(BuiltinValue::NumSubgroups),
-        "primitive_index" => Some(BuiltinValue::PrimitiveIndex),
-        "view_index" => Some(BuiltinValue::ViewIndex),
-        _ => None,
-    }
-}
-
-impl FromStr for BuiltinValue {
-    type Err = ();
-
-    ghost from_str_gives = { Reads builtin_text };
-
-    fn from_str(s: &str) -> Result<BuiltinValue, ()> {
-        builtin_named(s).ok_or(())
-    }
-}
-
 /// The severity of a diagnostic (WGSL, "Diagnostics").
 #[derive(Clone, Copy, PartialEq, Eq, Hash, Debug)]
 pub enum DiagnosticSeverity {
+    /// `error`
     Error,
+    /// `warning`
     Warning,
+    /// `info`
     Info,
+    /// `off`
     Off,
 }
 
-impl fmt::Display for DiagnosticSeverity {
-    ghost use Rattle.std.specs.Prelude.{Some};
-
-    ghost output = { λ x. Some (severity_text x) };
-
-    ghost styled_output = { λ x _. Some (severity_text x) };
-
-    fn fmt<W: Write>(&self, f: &mut fmt::Formatter<W>) -> fmt::Result {
-        f.write_str(match self {
+impl DiagnosticSeverity {
+    /// The name.
+    fn text(self) -> &'static str
+        ensures { result.now ≡ severity_text self }
+    {
+        match self {
             DiagnosticSeverity::Error => "error",
             DiagnosticSeverity::Warning => "warning",
             DiagnosticSeverity::Info => "info",
             DiagnosticSeverity::Off => "off",
-        })
+        }
+    }
+}
+
+impl fmt::Display for DiagnosticSeverity {
+    ghost use Rattle.std.specs.Prelude.{Some};
+    ghost use Rattle.std.specs.Fmt.{padded};
+
+    ghost output = { λ x. Some (severity_text x) };
+
+    ghost styled_output = { λ x spec. Some (padded spec (severity_text x)) };
+
+    fn fmt<W: Write>(&self, f: &mut fmt::Formatter<W>) -> fmt::Result {
+        f.pad(self.text())
     }
 }
 
@@ -152,24 +72,37 @@ impl FromStr for DiagnosticSeverity {
 /// How a user-defined input or output is interpolated (WGSL, "Interpolation").
 #[derive(Clone, Copy, PartialEq, Eq, Hash, Debug)]
 pub enum InterpolationType {
+    /// `perspective`
     Perspective,
+    /// `linear`
     Linear,
+    /// `flat`
     Flat,
+}
+
+impl InterpolationType {
+    /// The name.
+    fn text(self) -> &'static str
+        ensures { result.now ≡ interpolation_text self }
+    {
+        match self {
+            InterpolationType::Perspective => "perspective",
+            InterpolationType::Linear => "linear",
+            InterpolationType::Flat => "flat",
+        }
+    }
 }
 
 impl fmt::Display for InterpolationType {
     ghost use Rattle.std.specs.Prelude.{Some};
+    ghost use Rattle.std.specs.Fmt.{padded};
 
     ghost output = { λ x. Some (interpolation_text x) };
 
-    ghost styled_output = { λ x _. Some (interpolation_text x) };
+    ghost styled_output = { λ x spec. Some (padded spec (interpolation_text x)) };
 
     fn fmt<W: Write>(&self, f: &mut fmt::Formatter<W>) -> fmt::Result {
-        f.write_str(match self {
-            InterpolationType::Perspective => "perspective",
-            InterpolationType::Linear => "linear",
-            InterpolationType::Flat => "flat",
-        })
+        f.pad(self.text())
     }
 }
 
@@ -197,28 +130,43 @@ impl FromStr for InterpolationType {
 /// Where a user-defined input or output is sampled (WGSL, "Interpolation").
 #[derive(Clone, Copy, PartialEq, Eq, Hash, Debug)]
 pub enum InterpolationSampling {
+    /// `center`
     Center,
+    /// `centroid`
     Centroid,
+    /// `sample`
     Sample,
+    /// `first`
     First,
+    /// `either`
     Either,
 }
 
-impl fmt::Display for InterpolationSampling {
-    ghost use Rattle.std.specs.Prelude.{Some};
-
-    ghost output = { λ x. Some (sampling_text x) };
-
-    ghost styled_output = { λ x _. Some (sampling_text x) };
-
-    fn fmt<W: Write>(&self, f: &mut fmt::Formatter<W>) -> fmt::Result {
-        f.write_str(match self {
+impl InterpolationSampling {
+    /// The name.
+    fn text(self) -> &'static str
+        ensures { result.now ≡ sampling_text self }
+    {
+        match self {
             InterpolationSampling::Center => "center",
             InterpolationSampling::Centroid => "centroid",
             InterpolationSampling::Sample => "sample",
             InterpolationSampling::First => "first",
             InterpolationSampling::Either => "either",
-        })
+        }
+    }
+}
+
+impl fmt::Display for InterpolationSampling {
+    ghost use Rattle.std.specs.Prelude.{Some};
+    ghost use Rattle.std.specs.Fmt.{padded};
+
+    ghost output = { λ x. Some (sampling_text x) };
+
+    ghost styled_output = { λ x spec. Some (padded spec (sampling_text x)) };
+
+    fn fmt<W: Write>(&self, f: &mut fmt::Formatter<W>) -> fmt::Result {
+        f.pad(self.text())
     }
 }
 
@@ -248,24 +196,37 @@ impl FromStr for InterpolationSampling {
 /// How a fragment shader may change the depth, for naga's early depth test.
 #[derive(Clone, Copy, PartialEq, Eq, Hash, Debug)]
 pub enum ConservativeDepth {
+    /// `greater_equal`
     GreaterEqual,
+    /// `less_equal`
     LessEqual,
+    /// `unchanged`
     Unchanged,
+}
+
+impl ConservativeDepth {
+    /// The name.
+    fn text(self) -> &'static str
+        ensures { result.now ≡ depth_text self }
+    {
+        match self {
+            ConservativeDepth::GreaterEqual => "greater_equal",
+            ConservativeDepth::LessEqual => "less_equal",
+            ConservativeDepth::Unchanged => "unchanged",
+        }
+    }
 }
 
 impl fmt::Display for ConservativeDepth {
     ghost use Rattle.std.specs.Prelude.{Some};
+    ghost use Rattle.std.specs.Fmt.{padded};
 
     ghost output = { λ x. Some (depth_text x) };
 
-    ghost styled_output = { λ x _. Some (depth_text x) };
+    ghost styled_output = { λ x spec. Some (padded spec (depth_text x)) };
 
     fn fmt<W: Write>(&self, f: &mut fmt::Formatter<W>) -> fmt::Result {
-        f.write_str(match self {
-            ConservativeDepth::GreaterEqual => "greater_equal",
-            ConservativeDepth::LessEqual => "less_equal",
-            ConservativeDepth::Unchanged => "unchanged",
-        })
+        f.pad(self.text())
     }
 }
 
@@ -293,32 +254,31 @@ impl FromStr for ConservativeDepth {
 /// A flag of naga's acceleration structures and ray queries.
 #[derive(Clone, Copy, PartialEq, Eq, Hash, Debug)]
 pub enum AccelerationStructureFlags {
+    /// `vertex_return`
     VertexReturn,
 }
 
 impl AccelerationStructureFlags {
-    /// All flags, in the order of their indices.
-    pub const ALL: [AccelerationStructureFlags; 1] = [AccelerationStructureFlags::VertexReturn];
-
-    /// The flag with that index.
-    pub fn at(index: u8) -> Option<AccelerationStructureFlags>
-        ensures { result ≡ slice_get flags index }
+    /// The name.
+    fn text(self) -> &'static str
+        ensures { result.now ≡ flag_text self }
     {
-        by_index(&AccelerationStructureFlags::ALL, index)
+        match self {
+            AccelerationStructureFlags::VertexReturn => "vertex_return",
+        }
     }
 }
 
 impl fmt::Display for AccelerationStructureFlags {
     ghost use Rattle.std.specs.Prelude.{Some};
+    ghost use Rattle.std.specs.Fmt.{padded};
 
     ghost output = { λ x. Some (flag_text x) };
 
-    ghost styled_output = { λ x _. Some (flag_text x) };
+    ghost styled_output = { λ x spec. Some (padded spec (flag_text x)) };
 
     fn fmt<W: Write>(&self, f: &mut fmt::Formatter<W>) -> fmt::Result {
-        f.write_str(match self {
-            AccelerationStructureFlags::VertexReturn => "vertex_return",
-        })
+        f.pad(self.text())
     }
 }
 

@@ -10,9 +10,13 @@ use std::str::FromStr;
 /// A predeclared enumerant (WGSL, "Predeclared Enumerants").
 #[derive(Clone, Copy, PartialEq, Eq, Hash, Debug)]
 pub enum Enumerant {
+    /// An access mode.
     AccessMode(AccessMode),
+    /// An address space.
     AddressSpace(AddressSpace),
+    /// A texel format.
     TexelFormat(TexelFormat),
+    /// A flag of naga's acceleration structures.
     AccelerationStructureFlags(AccelerationStructureFlags),
 }
 

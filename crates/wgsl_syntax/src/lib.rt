@@ -4,11 +4,10 @@
 pub mod address;
 pub mod around;
 pub mod attribute;
+pub mod builtin_value;
 pub mod call;
-pub mod code;
 pub mod enumerant;
 pub mod hash;
-pub mod index;
 pub mod layer;
 pub mod names;
 pub mod operator;

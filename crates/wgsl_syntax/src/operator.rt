@@ -1,9 +1,8 @@
 // The operators of expressions and assignments.
-ghost use Rattle.std.specs.Prelude.{◌≡◌, slice_get};
+ghost use Rattle.std.specs.Prelude.{◌≡◌};
 ghost use Rattle.wgsl_syntax.specs.Names.{named, table, Reads};
 ghost use Rattle.wgsl_syntax.specs.Operator.{binary_operators, binary_text, unary_operators, unary_text};
 
-use crate::index::by_index;
 use std::fmt;
 use std::fmt::Write;
 use std::str::FromStr;
@@ -11,15 +10,20 @@ use std::str::FromStr;
 /// A unary operator (WGSL, "Unary Expressions").
 #[derive(Clone, Copy, PartialEq, Eq, Hash, Debug)]
 pub enum UnaryOperator {
+    /// `!`
     LogicalNegation,
+    /// `-`
     Negation,
+    /// `~`
     BitwiseComplement,
+    /// `&`
     AddressOf,
+    /// `*`
     Indirection,
 }
 
 impl UnaryOperator {
-    /// All unary operators, in the order of their indices.
+    /// All unary operators, in the order of WGSL's text.
     pub const ALL: [UnaryOperator; 5] = [
         UnaryOperator::LogicalNegation,
         UnaryOperator::Negation,
@@ -28,29 +32,30 @@ impl UnaryOperator {
         UnaryOperator::Indirection,
     ];
 
-    /// The unary operator with that index.
-    pub fn at(index: u8) -> Option<UnaryOperator>
-        ensures { result ≡ slice_get unary_operators index }
+    /// The name.
+    fn text(self) -> &'static str
+        ensures { result.now ≡ unary_text self }
     {
-        by_index(&UnaryOperator::ALL, index)
-    }
-}
-
-impl fmt::Display for UnaryOperator {
-    ghost use Rattle.std.specs.Prelude.{Some};
-
-    ghost output = { λ x. Some (unary_text x) };
-
-    ghost styled_output = { λ x _. Some (unary_text x) };
-
-    fn fmt<W: Write>(&self, f: &mut fmt::Formatter<W>) -> fmt::Result {
-        f.write_str(match self {
+        match self {
             UnaryOperator::LogicalNegation => "!",
             UnaryOperator::Negation => "-",
             UnaryOperator::BitwiseComplement => "~",
             UnaryOperator::AddressOf => "&",
             UnaryOperator::Indirection => "*",
-        })
+        }
+    }
+}
+
+impl fmt::Display for UnaryOperator {
+    ghost use Rattle.std.specs.Prelude.{Some};
+    ghost use Rattle.std.specs.Fmt.{padded};
+
+    ghost output = { λ x. Some (unary_text x) };
+
+    ghost styled_output = { λ x spec. Some (padded spec (unary_text x)) };
+
+    fn fmt<W: Write>(&self, f: &mut fmt::Formatter<W>) -> fmt::Result {
+        f.pad(self.text())
     }
 }
 
@@ -80,28 +85,46 @@ impl FromStr for UnaryOperator {
 /// A binary operator (WGSL, "Logical Expressions" to "Bit Expressions").
 #[derive(Clone, Copy, PartialEq, Eq, Hash, Debug)]
 pub enum BinaryOperator {
+    /// `||`
     ShortCircuitOr,
+    /// `&&`
     ShortCircuitAnd,
+    /// `+`
     Addition,
+    /// `-`
     Subtraction,
+    /// `*`
     Multiplication,
+    /// `/`
     Division,
+    /// `%`
     Remainder,
+    /// `==`
     Equality,
+    /// `!=`
     Inequality,
+    /// `<`
     LessThan,
+    /// `<=`
     LessThanEqual,
+    /// `>`
     GreaterThan,
+    /// `>=`
     GreaterThanEqual,
+    /// `|`
     BitwiseOr,
+    /// `&`
     BitwiseAnd,
+    /// `^`
     BitwiseXor,
+    /// `<<`
     ShiftLeft,
+    /// `>>`
     ShiftRight,
 }
 
 impl BinaryOperator {
-    /// All binary operators, in the order of their indices.
+    /// All binary operators, in the order of WGSL's text.
     pub const ALL: [BinaryOperator; 18] = [
         BinaryOperator::ShortCircuitOr,
         BinaryOperator::ShortCircuitAnd,
@@ -123,23 +146,11 @@ impl BinaryOperator {
         BinaryOperator::ShiftRight,
     ];
 
-    /// The binary operator with that index.
-    pub fn at(index: u8) -> Option<BinaryOperator>
-        ensures { result ≡ slice_get binary_operators index }
+    /// The name.
+    fn text(self) -> &'static str
+        ensures { result.now ≡ binary_text self }
     {
-        by_index(&BinaryOperator::ALL, index)
-    }
-}
-
-impl fmt::Display for BinaryOperator {
-    ghost use Rattle.std.specs.Prelude.{Some};
-
-    ghost output = { λ x. Some (binary_text x) };
-
-    ghost styled_output = { λ x _. Some (binary_text x) };
-
-    fn fmt<W: Write>(&self, f: &mut fmt::Formatter<W>) -> fmt::Result {
-        f.write_str(match self {
+        match self {
             BinaryOperator::ShortCircuitOr => "||",
             BinaryOperator::ShortCircuitAnd => "&&",
             BinaryOperator::Addition => "+",
@@ -158,7 +169,20 @@ impl fmt::Display for BinaryOperator {
             BinaryOperator::BitwiseXor => "^",
             BinaryOperator::ShiftLeft => "<<",
             BinaryOperator::ShiftRight => ">>",
-        })
+        }
+    }
+}
+
+impl fmt::Display for BinaryOperator {
+    ghost use Rattle.std.specs.Prelude.{Some};
+    ghost use Rattle.std.specs.Fmt.{padded};
+
+    ghost output = { λ x. Some (binary_text x) };
+
+    ghost styled_output = { λ x spec. Some (padded spec (binary_text x)) };
+
+    fn fmt<W: Write>(&self, f: &mut fmt::Formatter<W>) -> fmt::Result {
+        f.pad(self.text())
     }
 }
 
@@ -201,29 +225,38 @@ impl FromStr for BinaryOperator {
 /// An assignment operator (WGSL, "Simple Assignment" and "Compound Assignment").
 #[derive(Clone, Copy, PartialEq, Eq, Hash, Debug)]
 pub enum AssignmentOperator {
+    /// `=`
     Equal,
+    /// `+=`
     PlusEqual,
+    /// `-=`
     MinusEqual,
+    /// `*=`
     TimesEqual,
+    /// `/=`
     DivisionEqual,
+    /// `%=`
     ModuloEqual,
+    /// `&=`
     AndEqual,
+    /// `|=`
     OrEqual,
+    /// `^=`
     XorEqual,
+    /// `>>=`
     ShiftRightAssign,
+    /// `<<=`
     ShiftLeftAssign,
 }
 
-impl fmt::Display for AssignmentOperator {
-    ghost use Rattle.std.specs.Prelude.{Some};
+impl AssignmentOperator {
     ghost use Rattle.wgsl_syntax.specs.Operator.{assignment_text};
 
-    ghost output = { λ x. Some (assignment_text x) };
-
-    ghost styled_output = { λ x _. Some (assignment_text x) };
-
-    fn fmt<W: Write>(&self, f: &mut fmt::Formatter<W>) -> fmt::Result {
-        f.write_str(match self {
+    /// The name.
+    fn text(self) -> &'static str
+        ensures { result.now ≡ assignment_text self }
+    {
+        match self {
             AssignmentOperator::Equal => "=",
             AssignmentOperator::PlusEqual => "+=",
             AssignmentOperator::MinusEqual => "-=",
@@ -235,6 +268,20 @@ impl fmt::Display for AssignmentOperator {
             AssignmentOperator::XorEqual => "^=",
             AssignmentOperator::ShiftRightAssign => ">>=",
             AssignmentOperator::ShiftLeftAssign => "<<=",
-        })
+        }
+    }
+}
+
+impl fmt::Display for AssignmentOperator {
+    ghost use Rattle.std.specs.Prelude.{Some};
+    ghost use Rattle.std.specs.Fmt.{padded};
+    ghost use Rattle.wgsl_syntax.specs.Operator.{assignment_text};
+
+    ghost output = { λ x. Some (assignment_text x) };
+
+    ghost styled_output = { λ x spec. Some (padded spec (assignment_text x)) };
+
+    fn fmt<W: Write>(&self, f: &mut fmt::Formatter<W>) -> fmt::Result {
+        f.pad(self.text())
     }
 }

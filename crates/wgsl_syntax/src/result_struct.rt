@@ -19,8 +19,11 @@ pub enum ResultShape {
 /// The float type of the function's argument.
 #[derive(Clone, Copy, PartialEq, Eq, Hash, Debug)]
 pub enum ResultPrecision {
+    /// `__modf_result_vec4_abstract`
     Abstract,
+    /// `__modf_result_vec4_f32`
     F32,
+    /// `__modf_result_vec4_f16`
     F16,
 }
 

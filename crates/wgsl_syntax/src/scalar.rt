@@ -1,9 +1,8 @@
 // Scalar types: their names, and which of them are integers, floats and numbers.
-ghost use Rattle.std.specs.Prelude.{◌≡◌, ◌↔◌, IsTrue, slice_get};
+ghost use Rattle.std.specs.Prelude.{◌≡◌, ◌↔◌, IsTrue};
 ghost use Rattle.wgsl_syntax.specs.Names.{named, table, Reads};
 ghost use Rattle.wgsl_syntax.specs.Scalar.{scalar_text, scalars, IsInteger, IsFloat, IsNumeric};
 
-use crate::index::by_index;
 use crate::texture::SampledType;
 use std::fmt;
 use std::fmt::Write;
@@ -12,27 +11,38 @@ use std::str::FromStr;
 /// A scalar type (WGSL, "Scalar Types"), including the abstract numbers and naga's 64-bit scalars.
 #[derive(Clone, Copy, PartialEq, Eq, Hash, Debug)]
 pub enum Scalar {
+    /// `bool`
     Bool,
+    /// `AbstractInt`
     AbstractInt,
+    /// `AbstractFloat`
     AbstractFloat,
+    /// `i32`
     I32,
+    /// `u32`
     U32,
+    /// `f32`
     F32,
+    /// `f16`
     F16,
+    /// `i64`
     I64,
+    /// `u64`
     U64,
+    /// `f64`
     F64,
 }
 
 impl fmt::Display for Scalar {
     ghost use Rattle.std.specs.Prelude.{Some};
+    ghost use Rattle.std.specs.Fmt.{padded};
 
     ghost output = { λ x. Some (scalar_text x) };
 
-    ghost styled_output = { λ x _. Some (scalar_text x) };
+    ghost styled_output = { λ x spec. Some (padded spec (scalar_text x)) };
 
     fn fmt<W: Write>(&self, f: &mut fmt::Formatter<W>) -> fmt::Result {
-        f.write_str(self.name())
+        f.pad(self.name())
     }
 }
 
@@ -80,27 +90,6 @@ impl From<SampledType> for Scalar {
 }
 
 impl Scalar {
-    /// All scalars, in the order of their indices.
-    pub const ALL: [Scalar; 10] = [
-        Scalar::Bool,
-        Scalar::AbstractInt,
-        Scalar::AbstractFloat,
-        Scalar::I32,
-        Scalar::U32,
-        Scalar::F32,
-        Scalar::F16,
-        Scalar::I64,
-        Scalar::U64,
-        Scalar::F64,
-    ];
-
-    /// The scalar with that index.
-    pub fn at(index: u8) -> Option<Scalar>
-        ensures { result ≡ slice_get scalars index }
-    {
-        by_index(&Scalar::ALL, index)
-    }
-
     /// The name, for example `f32`.
     pub fn name(self) -> &'static str
         ensures { result.now ≡ scalar_text self }

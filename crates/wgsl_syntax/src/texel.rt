@@ -1,9 +1,8 @@
 // Texel formats.
-ghost use Rattle.std.specs.Prelude.{◌≡◌, slice_get};
+ghost use Rattle.std.specs.Prelude.{◌≡◌};
 ghost use Rattle.wgsl_syntax.specs.Names.{named, table, Reads};
 ghost use Rattle.wgsl_syntax.specs.Texel.{channel_count, channel_type, texel_formats, texel_text};
 
-use crate::index::by_index;
 use crate::texture::SampledType;
 use std::fmt;
 use std::fmt::Write;
@@ -12,102 +11,91 @@ use std::str::FromStr;
 /// A texel format (WGSL, "Texel Formats"), including naga's.
 #[derive(Clone, Copy, PartialEq, Eq, Hash, Debug)]
 pub enum TexelFormat {
+    /// `rgba8unorm`
     Rgba8Unorm,
+    /// `rgba8snorm`
     Rgba8Snorm,
+    /// `rgba8uint`
     Rgba8Uint,
+    /// `rgba8sint`
     Rgba8Sint,
+    /// `r8unorm`
     R8Unorm,
+    /// `r8snorm`
     R8Snorm,
+    /// `r8uint`
     R8Uint,
+    /// `r8sint`
     R8Sint,
+    /// `rg8unorm`
     Rg8Unorm,
+    /// `rg8snorm`
     Rg8Snorm,
+    /// `rg8uint`
     Rg8Uint,
+    /// `rg8sint`
     Rg8Sint,
+    /// `rgba16unorm`
     Rgba16Unorm,
+    /// `rgba16snorm`
     Rgba16Snorm,
+    /// `rgba16uint`
     Rgba16Uint,
+    /// `rgba16sint`
     Rgba16Sint,
+    /// `rgba16float`
     Rgba16Float,
+    /// `r16unorm`
     R16Unorm,
+    /// `r16snorm`
     R16Snorm,
+    /// `r16uint`
     R16Uint,
+    /// `r16sint`
     R16Sint,
+    /// `r16float`
     R16Float,
+    /// `rg16unorm`
     Rg16Unorm,
+    /// `rg16snorm`
     Rg16Snorm,
+    /// `rg16uint`
     Rg16Uint,
+    /// `rg16sint`
     Rg16Sint,
+    /// `rg16float`
     Rg16Float,
+    /// `r32uint`
     R32Uint,
+    /// `r32sint`
     R32Sint,
+    /// `r32float`
     R32Float,
+    /// `rg32uint`
     Rg32Uint,
+    /// `rg32sint`
     Rg32Sint,
+    /// `rg32float`
     Rg32Float,
+    /// `rgba32uint`
     Rgba32Uint,
+    /// `rgba32sint`
     Rgba32Sint,
+    /// `rgba32float`
     Rgba32Float,
+    /// `bgra8unorm`
     Bgra8Unorm,
+    /// `rgb10a2uint`
     Rgb10a2Uint,
+    /// `rgb10a2unorm`
     Rgb10a2Unorm,
+    /// `rg11b10float`
     Rg11b10Float,
+    /// `r64uint`
     R64Uint,
 }
 
 impl TexelFormat {
-    /// All texel formats, in the order of their indices.
-    pub const ALL: [TexelFormat; 41] = [
-        TexelFormat::Rgba8Unorm,
-        TexelFormat::Rgba8Snorm,
-        TexelFormat::Rgba8Uint,
-        TexelFormat::Rgba8Sint,
-        TexelFormat::R8Unorm,
-        TexelFormat::R8Snorm,
-        TexelFormat::R8Uint,
-        TexelFormat::R8Sint,
-        TexelFormat::Rg8Unorm,
-        TexelFormat::Rg8Snorm,
-        TexelFormat::Rg8Uint,
-        TexelFormat::Rg8Sint,
-        TexelFormat::Rgba16Unorm,
-        TexelFormat::Rgba16Snorm,
-        TexelFormat::Rgba16Uint,
-        TexelFormat::Rgba16Sint,
-        TexelFormat::Rgba16Float,
-        TexelFormat::R16Unorm,
-        TexelFormat::R16Snorm,
-        TexelFormat::R16Uint,
-        TexelFormat::R16Sint,
-        TexelFormat::R16Float,
-        TexelFormat::Rg16Unorm,
-        TexelFormat::Rg16Snorm,
-        TexelFormat::Rg16Uint,
-        TexelFormat::Rg16Sint,
-        TexelFormat::Rg16Float,
-        TexelFormat::R32Uint,
-        TexelFormat::R32Sint,
-        TexelFormat::R32Float,
-        TexelFormat::Rg32Uint,
-        TexelFormat::Rg32Sint,
-        TexelFormat::Rg32Float,
-        TexelFormat::Rgba32Uint,
-        TexelFormat::Rgba32Sint,
-        TexelFormat::Rgba32Float,
-        TexelFormat::Bgra8Unorm,
-        TexelFormat::Rgb10a2Uint,
-        TexelFormat::Rgb10a2Unorm,
-        TexelFormat::Rg11b10Float,
-        TexelFormat::R64Uint,
-    ];
-
-    /// The texel format with that index.
-    pub fn at(index: u8) -> Option<TexelFormat>
-        ensures { result ≡ slice_get texel_formats index }
-    {
-        by_index(&TexelFormat::ALL, index)
-    }
-
     /// The type that the channels of a texel are read as (WGSL, "Texel Formats").
     pub fn channel_type(self) -> SampledType
         ensures { result ≡ channel_type self }
@@ -205,17 +193,12 @@ impl TexelFormat {
             TexelFormat::Rg11b10Float => 3,
         }
     }
-}
 
-impl fmt::Display for TexelFormat {
-    ghost use Rattle.std.specs.Prelude.{Some};
-
-    ghost output = { λ x. Some (texel_text x) };
-
-    ghost styled_output = { λ x _. Some (texel_text x) };
-
-    fn fmt<W: Write>(&self, f: &mut fmt::Formatter<W>) -> fmt::Result {
-        f.write_str(match self {
+    /// The name.
+    fn text(self) -> &'static str
+        ensures { result.now ≡ texel_text self }
+    {
+        match self {
             TexelFormat::Rgba8Unorm => "rgba8unorm",
             TexelFormat::Rgba8Snorm => "rgba8snorm",
             TexelFormat::Rgba8Uint => "rgba8uint",
@@ -257,7 +240,20 @@ impl fmt::Display for TexelFormat {
             TexelFormat::Rgb10a2Unorm => "rgb10a2unorm",
             TexelFormat::Rg11b10Float => "rg11b10float",
             TexelFormat::R64Uint => "r64uint",
-        })
+        }
+    }
+}
+
+impl fmt::Display for TexelFormat {
+    ghost use Rattle.std.specs.Prelude.{Some};
+    ghost use Rattle.std.specs.Fmt.{padded};
+
+    ghost output = { λ x. Some (texel_text x) };
+
+    ghost styled_output = { λ x spec. Some (padded spec (texel_text x)) };
+
+    fn fmt<W: Write>(&self, f: &mut fmt::Formatter<W>) -> fmt::Result {
+        f.pad(self.text())
     }
 }
 

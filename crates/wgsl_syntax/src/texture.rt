@@ -1,12 +1,11 @@
 // Textures and samplers.
-ghost use Rattle.std.specs.Prelude.{◌≡◌, ◌↔◌, IsTrue, slice_get};
+ghost use Rattle.std.specs.Prelude.{◌≡◌, ◌↔◌, IsTrue};
 ghost use Rattle.wgsl_syntax.specs.TextureKind.{dimensions, sampled_type, texture_channel, IsArrayed, IsDepth, IsMultisampled, IsSampled, IsStorage};
 ghost use Rattle.wgsl_syntax.specs.Names.{named, table, Reads};
 ghost use Rattle.wgsl_syntax.specs.Texture.{sampled_text, sampled_types, sampler_text, samplers, texture_text};
 ghost use Rattle.wgsl_syntax.specs.TextureName.{name_of, parameters_of};
 
 use crate::address::AccessMode;
-use crate::index::by_index;
 use crate::texel::TexelFormat;
 use crate::texture_name::{TextureName, TextureParameters};
 use std::fmt;
@@ -16,36 +15,37 @@ use std::str::FromStr;
 /// The sampled type of a texture (WGSL, "Sampled Texture Types").
 #[derive(Clone, Copy, PartialEq, Eq, Hash, Debug)]
 pub enum SampledType {
+    /// `i32`
     I32,
+    /// `u32`
     U32,
+    /// `f32`
     F32,
 }
 
 impl SampledType {
-    /// All sampled types, in the order of their indices.
-    pub const ALL: [SampledType; 3] = [SampledType::I32, SampledType::U32, SampledType::F32];
-
-    /// The sampled type with that index.
-    pub fn at(index: u8) -> Option<SampledType>
-        ensures { result ≡ slice_get sampled_types index }
+    /// The name.
+    fn text(self) -> &'static str
+        ensures { result.now ≡ sampled_text self }
     {
-        by_index(&SampledType::ALL, index)
+        match self {
+            SampledType::I32 => "i32",
+            SampledType::U32 => "u32",
+            SampledType::F32 => "f32",
+        }
     }
 }
 
 impl fmt::Display for SampledType {
     ghost use Rattle.std.specs.Prelude.{Some};
+    ghost use Rattle.std.specs.Fmt.{padded};
 
     ghost output = { λ x. Some (sampled_text x) };
 
-    ghost styled_output = { λ x _. Some (sampled_text x) };
+    ghost styled_output = { λ x spec. Some (padded spec (sampled_text x)) };
 
     fn fmt<W: Write>(&self, f: &mut fmt::Formatter<W>) -> fmt::Result {
-        f.write_str(match self {
-            SampledType::I32 => "i32",
-            SampledType::U32 => "u32",
-            SampledType::F32 => "f32",
-        })
+        f.pad(self.text())
     }
 }
 
@@ -73,34 +73,34 @@ impl FromStr for SampledType {
 /// A sampler (WGSL, "Sampler Types").
 #[derive(Clone, Copy, PartialEq, Eq, Hash, Debug)]
 pub enum SamplerType {
+    /// `sampler`
     Sampler,
+    /// `sampler_comparison`
     SamplerComparison,
 }
 
 impl SamplerType {
-    /// Both samplers, in the order of their indices.
-    pub const ALL: [SamplerType; 2] = [SamplerType::Sampler, SamplerType::SamplerComparison];
-
-    /// The sampler with that index.
-    pub fn at(index: u8) -> Option<SamplerType>
-        ensures { result ≡ slice_get samplers index }
+    /// The name.
+    fn text(self) -> &'static str
+        ensures { result.now ≡ sampler_text self }
     {
-        by_index(&SamplerType::ALL, index)
+        match self {
+            SamplerType::Sampler => "sampler",
+            SamplerType::SamplerComparison => "sampler_comparison",
+        }
     }
 }
 
 impl fmt::Display for SamplerType {
     ghost use Rattle.std.specs.Prelude.{Some};
+    ghost use Rattle.std.specs.Fmt.{padded};
 
     ghost output = { λ x. Some (sampler_text x) };
 
-    ghost styled_output = { λ x _. Some (sampler_text x) };
+    ghost styled_output = { λ x spec. Some (padded spec (sampler_text x)) };
 
     fn fmt<W: Write>(&self, f: &mut fmt::Formatter<W>) -> fmt::Result {
-        f.write_str(match self {
-            SamplerType::Sampler => "sampler",
-            SamplerType::SamplerComparison => "sampler_comparison",
-        })
+        f.pad(self.text())
     }
 }
 
@@ -127,25 +127,45 @@ impl FromStr for SamplerType {
 /// A texture (WGSL, "Texture Types"), including naga's one-dimensional and multisampled arrays.
 #[derive(Clone, Copy, PartialEq, Eq, Hash, Debug)]
 pub enum TextureType {
+    /// `texture_1d`
     Sampled1D(SampledType),
+    /// `texture_2d`
     Sampled2D(SampledType),
+    /// `texture_2d_array`
     Sampled2DArray(SampledType),
+    /// `texture_3d`
     Sampled3D(SampledType),
+    /// `texture_cube`
     SampledCube(SampledType),
+    /// `texture_cube_array`
     SampledCubeArray(SampledType),
+    /// `texture_1d_array`
     Sampled1DArray(SampledType),
+    /// `texture_multisampled_2d`
     Multisampled2D(SampledType),
+    /// `texture_multisampled_2d_array`
     Multisampled2DArray(SampledType),
+    /// `texture_depth_multisampled_2d`
     DepthMultisampled2D,
+    /// `texture_storage_1d`
     Storage1D(TexelFormat, AccessMode),
+    /// `texture_storage_1d_array`
     Storage1DArray(TexelFormat, AccessMode),
+    /// `texture_storage_2d`
     Storage2D(TexelFormat, AccessMode),
+    /// `texture_storage_2d_array`
     Storage2DArray(TexelFormat, AccessMode),
+    /// `texture_storage_3d`
     Storage3D(TexelFormat, AccessMode),
+    /// `texture_external`
     External,
+    /// `texture_depth_2d`
     Depth2D,
+    /// `texture_depth_2d_array`
     Depth2DArray,
+    /// `texture_depth_cube`
     DepthCube,
+    /// `texture_depth_cube_array`
     DepthCubeArray,
 }
 
@@ -315,7 +335,10 @@ impl fmt::Display for TextureType {
 /// How many dimensions a texture has.
 #[derive(Clone, Copy, PartialEq, Eq, Hash, Debug)]
 pub enum TextureDimensions {
+    /// One-dimensional.
     D1,
+    /// Two-dimensional, also a cube.
     D2,
+    /// Three-dimensional.
     D3,
 }

@@ -1,10 +1,9 @@
 // The names of textures, and the parameters of their templates.
-ghost use Rattle.std.specs.Prelude.{◌≡◌, slice_get};
+ghost use Rattle.std.specs.Prelude.{◌≡◌};
 ghost use Rattle.wgsl_syntax.specs.Names.{named, table, Reads};
 ghost use Rattle.wgsl_syntax.specs.TextureName.{parameter_kind, texture_name_text, texture_names, texture_with};
 
 use crate::address::AccessMode;
-use crate::index::by_index;
 use crate::texel::TexelFormat;
 use crate::texture::{SampledType, TextureType};
 use std::fmt;
@@ -14,25 +13,45 @@ use std::str::FromStr;
 /// The name of a texture's type, without its parameters (WGSL, "Texture and Sampler Types").
 #[derive(Clone, Copy, PartialEq, Eq, Hash, Debug)]
 pub enum TextureName {
+    /// `texture_1d`
     Sampled1D,
+    /// `texture_2d`
     Sampled2D,
+    /// `texture_2d_array`
     Sampled2DArray,
+    /// `texture_3d`
     Sampled3D,
+    /// `texture_cube`
     SampledCube,
+    /// `texture_cube_array`
     SampledCubeArray,
+    /// `texture_1d_array`
     Sampled1DArray,
+    /// `texture_multisampled_2d`
     Multisampled2D,
+    /// `texture_multisampled_2d_array`
     Multisampled2DArray,
+    /// `texture_depth_multisampled_2d`
     DepthMultisampled2D,
+    /// `texture_storage_1d`
     Storage1D,
+    /// `texture_storage_1d_array`
     Storage1DArray,
+    /// `texture_storage_2d`
     Storage2D,
+    /// `texture_storage_2d_array`
     Storage2DArray,
+    /// `texture_storage_3d`
     Storage3D,
+    /// `texture_external`
     External,
+    /// `texture_depth_2d`
     Depth2D,
+    /// `texture_depth_2d_array`
     Depth2DArray,
+    /// `texture_depth_cube`
     DepthCube,
+    /// `texture_depth_cube_array`
     DepthCubeArray,
 }
 
@@ -55,37 +74,6 @@ pub enum TextureParameters {
 }
 
 impl TextureName {
-    /// All names, in the order of their indices.
-    pub const ALL: [TextureName; 20] = [
-        TextureName::Sampled1D,
-        TextureName::Sampled2D,
-        TextureName::Sampled2DArray,
-        TextureName::Sampled3D,
-        TextureName::SampledCube,
-        TextureName::SampledCubeArray,
-        TextureName::Sampled1DArray,
-        TextureName::Multisampled2D,
-        TextureName::Multisampled2DArray,
-        TextureName::DepthMultisampled2D,
-        TextureName::Storage1D,
-        TextureName::Storage1DArray,
-        TextureName::Storage2D,
-        TextureName::Storage2DArray,
-        TextureName::Storage3D,
-        TextureName::External,
-        TextureName::Depth2D,
-        TextureName::Depth2DArray,
-        TextureName::DepthCube,
-        TextureName::DepthCubeArray,
-    ];
-
-    /// The name with that index.
-    pub fn at(index: u8) -> Option<TextureName>
-        ensures { result ≡ slice_get texture_names index }
-    {
-        by_index(&TextureName::ALL, index)
-    }
-
     /// Which parameters textures of this name have.
     pub fn parameter_kind(self) -> TextureParameterKind
         ensures { result ≡ parameter_kind self }
@@ -145,17 +133,12 @@ impl TextureName {
             },
         }
     }
-}
 
-impl fmt::Display for TextureName {
-    ghost use Rattle.std.specs.Prelude.{Some};
-
-    ghost output = { λ x. Some (texture_name_text x) };
-
-    ghost styled_output = { λ x _. Some (texture_name_text x) };
-
-    fn fmt<W: Write>(&self, f: &mut fmt::Formatter<W>) -> fmt::Result {
-        f.write_str(match self {
+    /// The name.
+    fn text(self) -> &'static str
+        ensures { result.now ≡ texture_name_text self }
+    {
+        match self {
             TextureName::Sampled1D => "texture_1d",
             TextureName::Sampled2D => "texture_2d",
             TextureName::Sampled2DArray => "texture_2d_array",
@@ -176,7 +159,20 @@ impl fmt::Display for TextureName {
             TextureName::Depth2DArray => "texture_depth_2d_array",
             TextureName::DepthCube => "texture_depth_cube",
             TextureName::DepthCubeArray => "texture_depth_cube_array",
-        })
+        }
+    }
+}
+
+impl fmt::Display for TextureName {
+    ghost use Rattle.std.specs.Prelude.{Some};
+    ghost use Rattle.std.specs.Fmt.{padded};
+
+    ghost output = { λ x. Some (texture_name_text x) };
+
+    ghost styled_output = { λ x spec. Some (padded spec (texture_name_text x)) };
+
+    fn fmt<W: Write>(&self, f: &mut fmt::Formatter<W>) -> fmt::Result {
+        f.pad(self.text())
     }
 }
 

@@ -1,7 +1,7 @@
 // The tokens of a text, and where they stand.
-ghost use Rattle.std.specs.Prelude.{◌<◌, ◌≤◌, ◌≡◌, IfSome, length};
+ghost use Rattle.std.specs.Prelude.{◌<◌, ◌≤◌, ◌≡◌, IfSome, IsTrue, length};
 
-use crate::gap::gap_end;
+use crate::gap::{blank_len, gap_end};
 use std::alloc::{AllocError, Global};
 
 /// What a token is.
@@ -27,10 +27,17 @@ pub struct Token {
     pub end: usize,
 }
 
-/// The tokens of a text, of which the last is its end.
+/// Whether a byte order mark stands in front of the text.
+pub fn has_byte_order_mark(text: &[u8]) -> bool
+    ensures { IsTrue result → 3 ≤ length text.now }
+{
+    matches!(text, [0xef, 0xbb, 0xbf, ..])
+}
+
+/// The tokens of a text, of which the last is its end. A byte order mark in front of it is skipped.
 pub fn tokens(alloc: Global, text: &[u8]) -> Result<Vec<Token>, AllocError> {
     let mut tokens = Vec::new(alloc);
-    let mut at = 0;
+    let mut at = if has_byte_order_mark(text) { 3 } else { 0 };
     while let Some(token) = next_token(text, at) {
         tokens.push(token)?;
         at = token.end;
@@ -61,13 +68,13 @@ pub fn next_token(text: &[u8], at: usize) -> Option<Token>
     Some(Token { kind, start, end })
 }
 
-/// The end of a name that begins at `from`. Each byte beyond ASCII counts as a letter.
+/// The end of a name that begins at `from`. Each character beyond ASCII counts as a letter, except for blanks.
 fn name_end(text: &[u8], from: usize) -> usize
     requires { from < length text.now }
     ensures { (from < result) × (result ≤ length text.now) }
 {
     let mut at = from + 1;
-    while at < text.len() && is_in_name(text[at]) {
+    while at < text.len() && goes_on(text[at], &text[at + 1..]) {
         at += 1;
     }
     at
@@ -79,10 +86,15 @@ fn number_end(text: &[u8], from: usize) -> usize
     ensures { (from < result) × (result ≤ length text.now) }
 {
     let mut at = from + 1;
-    while at < text.len() && (is_in_name(text[at]) || text[at] == b'.') {
+    while at < text.len() && (text[at] == b'.' || goes_on(text[at], &text[at + 1..])) {
         at += 1;
     }
     at
+}
+
+/// Whether a name or a number goes on with this byte.
+fn goes_on(first: u8, rest: &[u8]) -> bool {
+    is_in_name(first) && blank_len(first, rest) == 0
 }
 
 fn is_in_name(byte: u8) -> bool {

@@ -10,7 +10,7 @@ use Rattle.wgsl_syntax.specs.declared.operator.UnaryOperator.TheVariants.{Logica
 use Rattle.wgsl_rules.specs.types.Types.{vec_of, mat_of, WgslType, scalar, within, pointer, reference, vec, mat}
 use Rattle.wgsl_rules.specs.errors.Refusals.{Refusal, unary, binary, ptr_handle}
 use Rattle.wgsl_rules.specs.conversion.Common.{IsCommon}
-use Rattle.wgsl_rules.specs.operators.Answers.{BinaryCandidate, HasCandidate, IsUnaryAnswer, IsCandidateAnswer, IsOperatorAnswer}
+use Rattle.wgsl_rules.specs.operators.Answers.{BinaryCandidate, HasCandidate, IsUnaryAnswer, IsOperatorAnswer}
 use Rattle.wgsl_rules.specs.operators.Candidates.{IsArithmetic, IsSum, IsComparison, IsLogical, IsBitwise, IsOrAnd, IsShift}
 use Rattle.wgsl_rules.specs.operators.Rows.{IsRow, scalar_row, vector_row, scalar_vector_row, vector_scalar_row, matrix_row, scalar_matrix_row, matrix_scalar_row, vector_matrix_row, matrix_vector_row, matrix_matrix_row, comparison_row, comparison_vector_row, logical_row, bools_row, bit_row, shift_row, shift_vector_row}
 use Rattle.wgsl_rules.specs.operators.UnaryRows.{not_row, not_vector_row, negation_row, complement_row, address_row, indirection_row}
@@ -185,13 +185,6 @@ a_row ShiftLeft = by_shift ShiftLeft tt
 a_row ShiftRight = by_shift ShiftRight tt
 
 -- The answers
-
-pub a_candidate : (o : BinaryOperator) (a b : WgslType) → (r : Result BinaryCandidate Refusal) × IsCandidateAnswer o a b r
-a_candidate o a b = let f = a_row o a b in answer f.0 f.1
-  where
-    answer : (c : Option BinaryCandidate) → HasCandidate o a b c → (r : Result BinaryCandidate Refusal) × IsCandidateAnswer o a b r
-    answer (Some c) h = (Ok c, h)
-    answer None h = (Err (binary o a b), (refl, h))
 
 pub a_binary : (o : BinaryOperator) (a b : WgslType) → (r : Result WgslType Refusal) × IsOperatorAnswer o a b r
 a_binary o a b = let f = a_row o a b in answer f.0 f.1

@@ -6,7 +6,7 @@ use Rattle.std.proofs.lemmas.Bool.{cases_lt}
 use Rattle.std.proofs.lemmas.List.Elements.{All-nil, All-cons, All-head, All-tail}
 use Rattle.std.proofs.lemmas.Str.{IsUtf8-from_is_utf8, is_utf8-from_IsUtf8}
 use Rattle.wgsl_requests.specs.Replies.{IsLineOfText, IsReplyTo, ReplyText, nothing, answer, unreadable, too_long, forbidden, no_text, no_request, no_words, answered}
-use Rattle.wgsl_requests.specs.Texts.{answer_text}
+use Rattle.wgsl_requests.specs.Texts.{answer_text, text_kind}
 use Rattle.wgsl_requests.specs.Words.{has_line_feed, words_of}
 use Rattle.wgsl_requests.specs.declared.rules.RuleSet.{RuleSet}
 use Rattle.wgsl_requests.proofs.OneReply.{one_reply}
@@ -34,7 +34,7 @@ module _ (rules : RuleSet) (bytes : List ℕ) where
       let words : words_of bytes ≢ [] = λ e. let f : w ∷ ws ≡ [] = sym some ∙ e in absurd (cc f) in
       elim (a_request rules (words_of bytes)) [
         | inr none ↦ (unreadable, no_request line words none)
-        | inl r ↦ let a = some_answer r.0 in (answer (answer_text a.0), answered (answer_text a.0) line words (r.0, r.1, (a.0, a.1, refl)))
+        | inl r ↦ let a = some_answer r.0 in (answer (text_kind a.0) (answer_text a.0), answered (text_kind a.0) (answer_text a.0) line words (r.0, r.1, (a.0, a.1, refl, refl)))
       ]
 
   to_line : length bytes ≤ 4096 → (feed : Bool) → has_line_feed bytes ≡ feed → (reply : ReplyText) × IsReplyTo rules bytes reply

@@ -78,6 +78,19 @@ fn on_line(line: u64, ty: Option<Type>) -> Option<Typed>
     Some(Typed { ty: ty?, line })
 }
 
+/// Each type, in order, with the number of the line.
+pub fn typed_on(alloc: Global, line: u64, types: Vec<Type>) -> Result<Vec<Typed>, AllocError>
+    ensures types { IfOk result (λ values.
+        map (λ x. view x.ty) values.items ≡ map view types.items) }
+    ensures lines { IfOk result (λ values. All (λ x. x.line ≡ line) values.items) }
+{
+    let mut values = Vec::with_capacity(alloc, types.len())?;
+    for ty in types {
+        values.push(Typed { ty, line })?;
+    }
+    Ok(values)
+}
+
 /// All of them converted to the common type of their types, in order; None if there is none, as for an empty list, or if one
 /// doesn't convert to it.
 pub fn convert_to_common(alloc: Global, values: &[Typed]) -> Result<Option<Vec<Typed>>, AllocError>

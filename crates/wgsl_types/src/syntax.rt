@@ -2,9 +2,10 @@
 pub use wgsl_syntax::address::{AccessMode, AddressSpace};
 pub use wgsl_syntax::around::Around;
 pub use wgsl_syntax::attribute::{
-    AccelerationStructureFlags, BuiltinValue, ConservativeDepth, DiagnosticSeverity,
-    InterpolationSampling, InterpolationType,
+    AccelerationStructureFlags, ConservativeDepth, DiagnosticSeverity, InterpolationSampling,
+    InterpolationType,
 };
+pub use wgsl_syntax::builtin_value::BuiltinValue;
 pub use wgsl_syntax::enumerant::Enumerant;
 pub use wgsl_syntax::layer::Layer;
 pub use wgsl_syntax::operator::{AssignmentOperator, BinaryOperator, UnaryOperator};

@@ -7,7 +7,6 @@ use Rattle.wgsl_rules.specs.types.Signatures.{Parameter, Signature}
 use Rattle.wgsl_rules.specs.errors.Refusals.{Refusal, signature}
 use Rattle.wgsl_syntax.specs.declared.call.Row.{Row}
 use Rattle.wgsl_syntax.specs.declared.call.ReturnType.{ReturnType}
-use Rattle.wgsl_syntax.specs.declared.call.ReturnType.TheVariants.{Of, AsLong, InVector, Transposed, TextureSize}
 use Rattle.wgsl_rules.specs.calls.Rows.{IsReturnType}
 use Rattle.wgsl_rules.specs.calls.Answers.{IsAnswerOf}
 use Rattle.wgsl_core.specs.View.{view}
@@ -30,15 +29,6 @@ abbrev pub MayBeOutOfMemory : Result (Option WgslType) Refusal → Type 0
 MayBeOutOfMemory (Err e) = Unit {0}
 MayBeOutOfMemory (Ok None) = ⊥
 MayBeOutOfMemory (Ok (Some t)) = ¬ IsLeaf t
-
--- The type that is returned is an argument's, or is made of one.
-abbrev pub IsOfArguments : ReturnType → Type 0
-IsOfArguments (Of p) = Unit {0}
-IsOfArguments (AsLong p) = Unit {0}
-IsOfArguments (InVector n p) = Unit {0}
-IsOfArguments Transposed = Unit {0}
-IsOfArguments TextureSize = Unit {0}
-IsOfArguments o = ⊥
 
 -- What was built is the type, if there is one. Out of memory stands for any but leaf types.
 abbrev pub IsBuilt : Option WgslType → Option (Result «Type» AllocError) → Type 0

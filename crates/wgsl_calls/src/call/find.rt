@@ -33,7 +33,7 @@ pub fn find_call(name: &str) -> (Option<usize>, u32)
 pub fn rows_of(name: &str) -> Option<&'static Rows>
     ensures { found_rows (option_map (λ r. r.now) result) ≡ rows_named name.now call_table }
 {
-    match index_named(name) {
+    match find_call(name).0 {
         Some(index) => Some(&built_ins()[index].1),
         None => None,
     }

@@ -109,17 +109,6 @@ fn channel<'a>(ty: Option<&'a Type>) -> Option<Element<'a>>
     Some(Element::Scalar(Scalar::from(texture.channel_type())))
 }
 
-/// The scalar that an element is.
-#[inline(always)]
-pub fn as_scalar(element: Element<'_>) -> Option<Scalar>
-    ensures { IfSome result (λ s. element_view element.entry ≡ scalar s) }
-{
-    match element {
-        Element::Scalar(scalar) => Some(scalar),
-        Element::Type(ty) => ty.scalar(),
-    }
-}
-
 /// The element itself.
 pub fn bare(element: Option<Element<'_>>) -> Option<ResolvedType<'_>>
     ensures { option_map resolved_view result ≡ option_map element_view element.entry }

@@ -137,10 +137,30 @@ fn count(instance: &Instance) -> Option<usize>
     let Instance::Literal(literal) = instance;
     match literal {
         LiteralInstance::Bool(_) => None,
-        LiteralInstance::AbstractInt(n) => if *n > 0 { Some(*n as usize) } else { None },
-        LiteralInstance::I32(n) => if *n > 0 { Some(*n as usize) } else { None },
-        LiteralInstance::U32(n) => if *n > 0 { Some(*n as usize) } else { None },
-        LiteralInstance::I64(n) => if *n > 0 { Some(*n as usize) } else { None },
-        LiteralInstance::U64(n) => if *n > 0 { Some(*n as usize) } else { None },
+        LiteralInstance::AbstractInt(n) => if *n > 0 {
+            usize::try_from(*n).ok()
+        } else {
+            None
+        },
+        LiteralInstance::I32(n) => if *n > 0 {
+            usize::try_from(*n).ok()
+        } else {
+            None
+        },
+        LiteralInstance::U32(n) => if *n > 0 {
+            usize::try_from(*n).ok()
+        } else {
+            None
+        },
+        LiteralInstance::I64(n) => if *n > 0 {
+            usize::try_from(*n).ok()
+        } else {
+            None
+        },
+        LiteralInstance::U64(n) => if *n > 0 {
+            usize::try_from(*n).ok()
+        } else {
+            None
+        },
     }
 }

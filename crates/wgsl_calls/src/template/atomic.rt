@@ -17,6 +17,7 @@ use wgsl_core::ty::clone::boxed_copy;
 /// The template of an atomic (WGSL, "Atomic Types"): the type inside.
 #[derive(Drop)]
 pub struct AtomicTemplate {
+    /// The type inside.
     pub ty: Type,
 }
 

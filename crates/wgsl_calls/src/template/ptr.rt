@@ -19,8 +19,11 @@ use wgsl_syntax::enumerant::Enumerant;
 /// The template of a pointer (WGSL, "Memory Views"): the address space, the type, and the access mode.
 #[derive(Drop)]
 pub struct PtrTemplate {
+    /// The address space.
     pub space: AddressSpace,
+    /// The type that is pointed to.
     pub ty: Type,
+    /// The access mode.
     pub access: AccessMode,
 }
 

@@ -1,11 +1,12 @@
 // Readers and writers that fail at each of their calls, and input that ends after each of its bytes.
 use super::support::streams::{Source, Target};
 use super::support::{WHOLE, expect};
+use crate::{RunError, run};
 use std::alloc::{AllocError, Global};
 use std::io::ErrorKind;
 use std::process::Abort;
 use std::test::Fail;
-use wgsl_lines::run::{RunError, run};
+use wgsl_lines::run::run as run_with_notes;
 use wgsl_requests::rules::RuleSet;
 
 /// A line of every command, a blank one and one that can't be read, each with what is printed for it.
@@ -121,15 +122,7 @@ fn expect_cut(
     let mut source = Source::new(input.as_bytes(), most_read);
     let mut target = Target::new(rt.alloc(), most_written);
     target.fails_after = Some(before);
-    let mut notes = Target::new(rt.alloc(), WHOLE);
-    let outcome = run(
-        rt.alloc(),
-        RuleSet::Ported,
-        "wgsl_check",
-        &mut source,
-        &mut target,
-        &mut notes,
-    );
+    let outcome = run(rt.alloc(), &mut source, &mut target);
     assert_eq!(rt; outcome, Err(RunError::Write));
     let is_beginning = answers.as_bytes().starts_with(&target.taken);
     assert!(rt; is_beginning && (most_written > 1 || target.taken.len() == before));
@@ -190,15 +183,7 @@ fn expect_stuck(
     let mut source = Source::new(input.as_bytes(), 1);
     let mut target = Target::new(rt.alloc(), WHOLE);
     target.stuck_after = Some(before);
-    let mut notes = Target::new(rt.alloc(), WHOLE);
-    let outcome = run(
-        rt.alloc(),
-        RuleSet::Ported,
-        "wgsl_check",
-        &mut source,
-        &mut target,
-        &mut notes,
-    );
+    let outcome = run(rt.alloc(), &mut source, &mut target);
     assert_eq!(rt; outcome, Err(RunError::Write));
     let written = answers(rt.alloc(), line)?;
     assert_eq!(rt; target.taken.as_slice(), written.as_bytes());
@@ -235,7 +220,7 @@ fn expect_part(
     let mut source = Source::new(part, most_read);
     let mut target = Target::new(rt.alloc(), 1);
     let mut notes = Target::new(rt.alloc(), 1);
-    let outcome = run(
+    let outcome = run_with_notes(
         rt.alloc(),
         RuleSet::Ported,
         "wgsl_check",

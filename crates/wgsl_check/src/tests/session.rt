@@ -1,8 +1,8 @@
 // A session: what short, interrupted and failed reads and writes come to.
 use super::support::streams::{Source, Target};
 use super::support::{WHOLE, expect};
+use crate::RunError;
 use std::io::ErrorKind;
-use wgsl_lines::run::RunError;
 
 // A body of most calls that answers out of memory whatever it is asked meets its contract too.
 #[test]

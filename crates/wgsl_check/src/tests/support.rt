@@ -4,11 +4,12 @@ pub mod sixty;
 pub mod streams;
 pub mod texts;
 
+use crate::{RunError, run};
 use std::alloc::{AllocError, Global};
 use std::process::Abort;
 use std::test::Fail;
 use streams::{Source, Target};
-use wgsl_lines::run::{RunError, run};
+use wgsl_lines::run::run as run_with_notes;
 use wgsl_requests::read::{read_type, read_types};
 use wgsl_requests::rules::RuleSet;
 use wgsl_requests::template::read_template;
@@ -29,15 +30,7 @@ pub fn expect(
     outcome: Result<bool, RunError>,
     output: &str,
 ) {
-    let mut notes = Target::new(rt.alloc(), WHOLE);
-    let ended = run(
-        rt.alloc(),
-        RuleSet::Ported,
-        "wgsl_check",
-        &mut source,
-        &mut target,
-        &mut notes,
-    );
+    let ended = run(rt.alloc(), &mut source, &mut target);
     assert_eq!(rt; ended, outcome);
     assert_eq!(rt; target.taken.as_slice(), output.as_bytes());
     assert_eq!(rt; target.flushed, target.taken.len());
@@ -53,7 +46,7 @@ pub fn expect_answers(
     let mut source = Source::new(input.as_bytes(), WHOLE);
     let mut target = Target::new(rt.alloc(), WHOLE);
     let mut notes = Target::new(rt.alloc(), 0);
-    let outcome = run(
+    let outcome = run_with_notes(
         rt.alloc(),
         RuleSet::Ported,
         "wgsl_check",

@@ -24,6 +24,7 @@ use Rattle.wgsl_requests.specs.declared.operand.WrittenType.{WrittenType}
 use Rattle.wgsl_requests.specs.declared.operand.WrittenType.TheVariants.{Value, Built}
 use Rattle.wgsl_core.specs.declared.error.Fail.{Fail}
 use Rattle.wgsl_requests.specs.declared.wanted.Misfit.{Misfit}
+use Rattle.wgsl_requests.specs.declared.write.TextKind.{TextKind}
 use Rattle.wgsl_requests.specs.internal.Written.{Adds}
 
 abbrev pub type_view : WrittenType → WgslType
@@ -65,9 +66,9 @@ asked questions.Resolution = resolution_of
 asked questions.Explanation = explanation_of
 
 -- The answer to what is asked of the call that the words spell is written. The error is a misfit only if they spell none.
-abbrev pub WritesOfCall : (WgslCall → Request) → List (List ℕ) → List ℕ → List ℕ → Result (Unit {0}) (Fail Misfit) → Type 0
+abbrev pub WritesOfCall : (WgslCall → Request) → List (List ℕ) → List ℕ → List ℕ → Result TextKind (Fail Misfit) → Type 0
 WritesOfCall ask words old new r =
-    Answers (λ done. (c : WgslCall) × IsCall words c × Adds (IsAnswer (ask c)) old new) ((c : WgslCall) → ¬ IsCall words c) r
+    Answers (λ kind. (c : WgslCall) × IsCall words c × Adds (IsAnswer (ask c) kind) old new) ((c : WgslCall) → ¬ IsCall words c) r
 
 -- the words are as many operands as are taken
 abbrev pub AreOperands : Option ℕ → List (List ℕ) → List Operand → Type 0

@@ -11,19 +11,21 @@ use Rattle.wgsl_requests.specs.declared.command.Callee.{Callee}
 use Rattle.wgsl_requests.specs.declared.rules.RuleSet.{RuleSet}
 use Rattle.wgsl_core.specs.declared.error.Fail.{Fail}
 use Rattle.wgsl_requests.specs.declared.wanted.Misfit.{Misfit}
+use Rattle.wgsl_requests.specs.declared.write.TextKind.{TextKind}
 use Rattle.wgsl_requests.specs.internal.Written.{Adds}
 
 -- The answer to the request that the words spell is written. The error is a misfit only if they
 -- spell none.
-abbrev pub Replies : RuleSet → List (List ℕ) → List ℕ → List ℕ → Result (Unit {0}) (Fail Misfit) → Type 0
-Replies rules words old new r = Answers (λ done. Adds (IsReply rules words) old new) (NoRequest rules words) r
+abbrev pub Replies : RuleSet → List (List ℕ) → List ℕ → List ℕ → Result TextKind (Fail Misfit) → Type 0
+Replies rules words old new r =
+    Answers (λ kind. Adds (IsReply rules words kind) old new) (NoRequest rules words) r
 
 -- The answer to what is asked of the struct is written. The error is a misfit only if the type is no struct.
 abbrev pub WritesOfStruct : (List ℕ → Members → Request) → WgslType → List ℕ → List ℕ →
-    Result (Unit {0}) (Fail Misfit) → Type 0
+    Result TextKind (Fail Misfit) → Type 0
 WritesOfStruct ask t old new r =
-    Answers (λ done. (name : List ℕ) × (ms : Members) × (t ≡ struct name ms)
-    × Adds (IsAnswer (ask name ms)) old new)
+    Answers (λ kind. (name : List ℕ) × (ms : Members) × (t ≡ struct name ms)
+    × Adds (IsAnswer (ask name ms) kind) old new)
     ((name : List ℕ) (ms : Members) → ¬ t ≡ struct name ms) r
 
 -- the call that is made

@@ -2,7 +2,8 @@
 use Rattle.std.proofs.Common.{◌≡◌, ℕ, ◌⊎◌, List, [], ◌∷◌, Option, None, Some, Result, Err, inl, inr, All, refl, sym, subst, option_map}
 use Rattle.wgsl_rules.specs.types.Types.{WgslType}
 use Rattle.wgsl_rules.specs.conversion.Conversion.{IsValueType, ConvertsTo}
-use Rattle.wgsl_rules.specs.conversion.Common.{IsCommon, IsLeftCommonFrom, IsLeftCommon}
+use Rattle.wgsl_rules.specs.conversion.Common.{IsCommon, IsCommonWith, IsLeftCommon, of_last_member}
+use Rattle.wgsl_rules.proofs.conversion.Folds.{left_of_two}
 use Rattle.wgsl_rules.specs.operators.Candidates.{Name, IsCandidate}
 use Rattle.wgsl_rules.specs.operators.Choice.{HasRanks, Takes as TakenBy}
 use Rattle.wgsl_rules.specs.types.Signatures.{Signature}
@@ -43,7 +44,7 @@ returned_common n ts f a x y t vx vy put m up q = record {
   values = two_values x y vx vy;
   put = put;
   common = t;
-  is_common = (t, m, refl);
+  is_common = left_of_two x y t m;
   admitted = λ b e. up b (common_join x y b vx vy (subst (λ u. IsCommon x y u) e m)).left;
   answer = q;
 }
@@ -135,9 +136,12 @@ three_taken ts u v w va h =
     let y = two_taken x.rest v w x.values x.taken in
     record { a = x.a; b = y.a; c = y.b; is = cc (x.is, y.is); a_above = x.above; b_above = y.a_above; c_above = y.b_above }
 
-pub from_common : (c : Option WgslType) (z : WgslType) (t : Option WgslType) → IsCommonOf c (Some z) t → IsLeftCommonFrom c (z ∷ []) t
-from_common None z t k = k
-from_common (Some x) z t k = (t, k, refl)
+pub left_of_three : (x y z : WgslType) (c t : Option WgslType) → IsCommon x y c → IsCommonOf c (Some z) t → IsLeftCommon (x ∷ y ∷ z ∷ []) t
+left_of_three x y z c t h k = of_last_member z (λ e. absurd (cc e)) (left_of_two x y c h) (at c k)
+  where
+    at : (c : Option WgslType) → IsCommonOf c (Some z) t → IsCommonWith c z t
+    at None k = k
+    at (Some c) k = k
 
 pub record AreAbove (a b c d : WgslType) : Type 0 where
   pub first : Above a d

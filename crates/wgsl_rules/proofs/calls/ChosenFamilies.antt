@@ -20,7 +20,7 @@ use Rattle.wgsl_rules.proofs.conversion.Order.{Above}
 use Rattle.wgsl_rules.proofs.conversion.Commons.{values_head, values_tail}
 use Rattle.wgsl_rules.proofs.operators.FamilyKinds.{Kind, Admits, outers}
 use Rattle.wgsl_rules.proofs.operators.Forms.{pair_form, three, kind_of, form_of}
-use Rattle.wgsl_rules.proofs.calls.Answered.{returned_common, one_row, two_taken, three_taken, from_common, are_above, Answer, its, Returned}
+use Rattle.wgsl_rules.proofs.calls.Answered.{returned_common, one_row, two_taken, three_taken, left_of_three, are_above, Answer, its, Returned}
 use Rattle.wgsl_rules.proofs.calls.ShapedKinds.{dec_refused, Shaped}
 
 -- Functions of two arguments
@@ -72,7 +72,7 @@ triple_row s = Takes (Three s Any Any) (Of CommonOfThree)
 pub returned_triple : (n : Name) (h : IsOfThree n) (x y z : WgslType) (a : Answer) → All IsValueType (x ∷ y ∷ z ∷ []) → ((d : WgslType) → Above x d → Admits (kind_of n) d) →
     IsReturnType (Of CommonOfThree) (its n (x ∷ y ∷ z ∷ [])) a → Returned n (x ∷ y ∷ z ∷ []) (three n h) a
 returned_triple n h x y z a v up o =
-    let k : IsLeftCommon (x ∷ y ∷ z ∷ []) o.0 = (o.1.0, o.1.1, from_common o.1.0 z o.0 o.1.2) in
+    let k : IsLeftCommon (x ∷ y ∷ z ∷ []) o.0 = left_of_three x y z o.1.0 o.0 o.1.1 o.1.2 in
     record {
       types = x ∷ y ∷ z ∷ [];
       values = v;

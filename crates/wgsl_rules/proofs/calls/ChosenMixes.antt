@@ -29,7 +29,7 @@ use Rattle.wgsl_rules.proofs.operators.FamilyKinds.{any_scalar, a_float, or_vect
 use Rattle.wgsl_rules.proofs.operators.Forms.{three, admitted_for, mixed_form, form_of}
 use Rattle.wgsl_rules.proofs.operators.Choices.{mixed_known}
 use Rattle.wgsl_rules.proofs.operators.ChosenRows.{two_values}
-use Rattle.wgsl_rules.proofs.calls.Answered.{returned_is_chosen, refused_is_chosen, head_taken, three_taken, from_common, are_above, Answer, its, Returned, AreAbove}
+use Rattle.wgsl_rules.proofs.calls.Answered.{returned_is_chosen, refused_is_chosen, head_taken, three_taken, left_of_three, are_above, Answer, its, Returned, AreAbove}
 use Rattle.wgsl_rules.proofs.calls.ShapedKinds.{float_shape, float_scalar, no_int_float, float_or_vector_above, dec_refused}
 use Rattle.wgsl_rules.proofs.calls.ChosenFamilies.{returned_triple, triple_row}
 
@@ -52,7 +52,7 @@ mixed_got n h k e f s i a v o =
     let ve : IsValueType e = values_head (vec k e) (vec k f ∷ scalar s ∷ []) v in
     let vf : IsValueType f = values_head (vec k f) (scalar s ∷ []) (values_tail (vec k e) (vec k f ∷ scalar s ∷ []) v) in
     let ves = three_values e f (scalar s) ve vf tt in
-    let m : IsLeftCommon (e ∷ f ∷ scalar s ∷ []) o.0 = (o.1.0, o.1.1, from_common o.1.0 (scalar s) o.0 o.1.2) in
+    let m : IsLeftCommon (e ∷ f ∷ scalar s ∷ []) o.0 = left_of_three e f (scalar s) o.1.0 o.0 o.1.1 o.1.2 in
     record {
       types = e ∷ f ∷ scalar s ∷ [];
       values = ves;
@@ -209,7 +209,7 @@ mix_answer ts v a (inr (n, inl k)) = got ts v n k.0 k.1
     got [] v n f o = absurd f.1
     got (x ∷ []) v n f o = absurd f.1.1
     got (x ∷ y ∷ []) v n f o = absurd f.1.1.1
-    got (x ∷ y ∷ z ∷ []) v n f o = at_common x y z o.0 v n f o (o.1.0, o.1.1, from_common o.1.0 z o.0 o.1.2) o.2
+    got (x ∷ y ∷ z ∷ []) v n f o = at_common x y z o.0 v n f o (left_of_three x y z o.1.0 o.0 o.1.1 o.1.2) o.2
     got (x ∷ y ∷ z ∷ w ∷ ts) v n f o = absurd f.1.1.1.1
 mix_answer ts v a (inr (n, inr k)) = refused_is_chosen mix ts a (dec_refused mix ts) down k.1
   where

@@ -4,8 +4,9 @@ use Rattle.std.proofs.lemmas.List.Elements.{All-nil, All-cons, All-head, All-tai
 use Rattle.std.proofs.lemmas.List.Sorted.{All-permutation, length_permutation, IsPermutation-sym}
 use Rattle.wgsl_rules.specs.types.Types.{WgslType}
 use Rattle.wgsl_rules.specs.conversion.Conversion.{IsValueType, ConvertsTo}
-use Rattle.wgsl_rules.specs.conversion.Common.{IsCommon, IsLeftCommonFrom, IsLeftCommon}
+use Rattle.wgsl_rules.specs.conversion.Common.{IsCommon, IsLeftCommon, of_no_types}
 use Rattle.wgsl_rules.specs.Headline.{Receives, IsLeastCommon}
+use Rattle.wgsl_rules.proofs.conversion.Folds.{IsFoldedFrom, IsFolded, folded}
 use Rattle.wgsl_rules.proofs.conversion.Order.{Above, here, above_trans, above_chain, above_values, above_converts, value_converts, dec_converts, converts_antisym}
 
 -- of two types
@@ -86,9 +87,9 @@ abbrev pub LeastFrom : WgslType → List WgslType → Option WgslType → Type 0
 LeastFrom c ts (Some u) = Above c u × Receives u ts × ((v : WgslType) → Above c v → Receives v ts → Above u v)
 LeastFrom c ts None = (v : WgslType) → Above c v → Receives v ts → ⊥
 
-left_from_none : (ts : List WgslType) (r : Option WgslType) → IsLeftCommonFrom None ts r → r ≡ None
-left_from_none [] r h = sym h
-left_from_none (t ∷ ts) r h = h
+fold_from_none : (ts : List WgslType) (r : Option WgslType) → IsFoldedFrom None ts r → r ≡ None
+fold_from_none [] r h = sym h
+fold_from_none (t ∷ ts) r h = h
 
 least_past : (c t e : WgslType) (ts : List WgslType) (r : Option WgslType) → IsValueType t → IsJoin c t e → LeastFrom e ts r → LeastFrom c (t ∷ ts) r
 least_past c t e ts None vt j h = λ v s g. h v (j.least v s (value_above vt (receives_head v t ts g))) (receives_tail v t ts g)
@@ -101,48 +102,51 @@ least_past c t e ts (Some u) vt j h = (
 none_past : (c t : WgslType) (ts : List WgslType) → IsValueType t → IsCommon c t None → LeastFrom c (t ∷ ts) None
 none_past c t ts vt k = λ v s g. no_common c t k v s (value_above vt (receives_head v t ts g))
 
-pub left_least_from : (c : WgslType) (ts : List WgslType) (r : Option WgslType) → IsValueType c → All IsValueType ts → IsLeftCommonFrom (Some c) ts r → LeastFrom c ts r
-left_least_from c [] r vc vs h = subst (λ r. LeastFrom c [] r) h (here, receives_nil c, λ v s g. s)
-left_least_from c (t ∷ ts) r vc vs h = go h.0 h.1 h.2 (λ e ve m. left_least_from e ts r ve (values_tail t ts vs) m)
+least_fold : (c : WgslType) (ts : List WgslType) (r : Option WgslType) → IsValueType c → All IsValueType ts → IsFoldedFrom (Some c) ts r → LeastFrom c ts r
+least_fold c [] r vc vs h = subst (λ r. LeastFrom c [] r) h (here, receives_nil c, λ v s g. s)
+least_fold c (t ∷ ts) r vc vs h = go h.0 h.1 h.2 (λ e ve m. least_fold e ts r ve (values_tail t ts vs) m)
   where
-    go : (d : Option WgslType) → IsCommon c t d → IsLeftCommonFrom d ts r →
-        ((e : WgslType) → IsValueType e → IsLeftCommonFrom (Some e) ts r → LeastFrom e ts r) → LeastFrom c (t ∷ ts) r
-    go None k m ih = subst (λ r. LeastFrom c (t ∷ ts) r) (sym (left_from_none ts r m)) (none_past c t ts (values_head t ts vs) k)
+    go : (d : Option WgslType) → IsCommon c t d → IsFoldedFrom d ts r →
+        ((e : WgslType) → IsValueType e → IsFoldedFrom (Some e) ts r → LeastFrom e ts r) → LeastFrom c (t ∷ ts) r
+    go None k m ih = subst (λ r. LeastFrom c (t ∷ ts) r) (sym (fold_from_none ts r m)) (none_past c t ts (values_head t ts vs) k)
     go (Some e) k m ih =
         let j = common_join c t e vc (values_head t ts vs) k in
         least_past c t e ts r (values_head t ts vs) j (ih e ((above_values j.left).0 vc) m)
 
-pub left_common_from : (c : Option WgslType) (ts : List WgslType) → (r : Option WgslType) × IsLeftCommonFrom c ts r
-left_common_from c [] = (c, refl)
-left_common_from None (t ∷ ts) = (None, refl)
-left_common_from (Some c) (t ∷ ts) =
+some_fold : (c : Option WgslType) (ts : List WgslType) → (r : Option WgslType) × IsFoldedFrom c ts r
+some_fold c [] = (c, refl)
+some_fold None (t ∷ ts) = (None, refl)
+some_fold (Some c) (t ∷ ts) =
     let k = some_common c t in
-    let m = left_common_from k.0 ts in
+    let m = some_fold k.0 ts in
     (m.0, (k.0, k.1, m.1))
 
 pub some_left_common : (ts : List WgslType) → (r : Option WgslType) × IsLeftCommon ts r
-some_left_common [] = (None, refl)
-some_left_common (t ∷ ts) = left_common_from (Some t) ts
+some_left_common [] = (None, of_no_types)
+some_left_common (t ∷ ts) = let k = some_fold (Some t) ts in (k.0, (folded (t ∷ ts) k.0).1 k.1)
 
-pub left_common_once_from : (c : Option WgslType) (ts : List WgslType) (r s : Option WgslType) → IsLeftCommonFrom c ts r → IsLeftCommonFrom c ts s → r ≡ s
-left_common_once_from c [] r s h k = sym h ∙ k
-left_common_once_from None (t ∷ ts) r s h k = h ∙ sym k
-left_common_once_from (Some c) (t ∷ ts) r s h k =
-    left_common_once_from h.0 ts r s h.2 (subst (λ d. IsLeftCommonFrom d ts s) (common_once c t k.0 h.0 k.1 h.1) k.2)
+fold_once : (c : Option WgslType) (ts : List WgslType) (r s : Option WgslType) → IsFoldedFrom c ts r → IsFoldedFrom c ts s → r ≡ s
+fold_once c [] r s h k = sym h ∙ k
+fold_once None (t ∷ ts) r s h k = h ∙ sym k
+fold_once (Some c) (t ∷ ts) r s h k =
+    fold_once h.0 ts r s h.2 (subst (λ d. IsFoldedFrom d ts s) (common_once c t k.0 h.0 k.1 h.1) k.2)
 
 pub left_common_once : (ts : List WgslType) (r s : Option WgslType) → IsLeftCommon ts r → IsLeftCommon ts s → r ≡ s
-left_common_once [] r s h k = h ∙ sym k
-left_common_once (t ∷ ts) r s h k = left_common_once_from (Some t) ts r s h k
+left_common_once ts r s h k = once ts ((folded ts r).0 h) ((folded ts s).0 k)
+  where
+    once : (ts : List WgslType) → IsFolded ts r → IsFolded ts s → r ≡ s
+    once [] h k = h ∙ sym k
+    once (t ∷ ts) h k = fold_once (Some t) ts r s h k
 
 -- the common type from left to right is the least common type, and None if there is none
 pub left_common_least : (ts : List WgslType) (u : WgslType) → All IsValueType ts → IsLeftCommon ts (Some u) → IsLeastCommon u ts
-left_common_least [] u vs h = absurd (no_none h)
+left_common_least [] u vs h = absurd (no_none ((folded [] (Some u)).0 h))
   where
     no_none : Some u ≡ None → ⊥
     no_none e = cc e
 left_common_least (t ∷ ts) u vs h =
     let vt = values_head t ts vs in
-    let k = left_least_from t ts (Some u) vt (values_tail t ts vs) h in (
+    let k = least_fold t ts (Some u) vt (values_tail t ts vs) ((folded (t ∷ ts) (Some u)).0 h) in (
       receives_cons u t ts (above_converts k.0) k.1,
       λ v g. above_converts (k.2 v (value_above vt (receives_head v t ts g)) (receives_tail v t ts g)),
     )
@@ -150,7 +154,7 @@ left_common_least (t ∷ ts) u vs h =
 pub left_common_none : (t : WgslType) (ts : List WgslType) → All IsValueType (t ∷ ts) → IsLeftCommon (t ∷ ts) None → (v : WgslType) → ¬ Receives v (t ∷ ts)
 left_common_none t ts vs h v g =
     let vt = values_head t ts vs in
-    left_least_from t ts None vt (values_tail t ts vs) h v (value_above vt (receives_head v t ts g)) (receives_tail v t ts g)
+    least_fold t ts None vt (values_tail t ts vs) ((folded (t ∷ ts) None).0 h) v (value_above vt (receives_head v t ts g)) (receives_tail v t ts g)
 
 pub least_common_once : (ts : List WgslType) (u v : WgslType) → IsLeastCommon u ts → IsLeastCommon v ts → u ≡ v
 least_common_once ts u v h k = converts_antisym (h.1 v k.0) (k.1 u h.0)
@@ -166,7 +170,7 @@ least_permuted u ts us p h = (
 
 pub common_any_order_lem : (ts us : List WgslType) (r s : Option WgslType) → IsPermutation ts us → All IsValueType ts →
     IsLeftCommon ts r → IsLeftCommon us s → r ≡ s
-common_any_order_lem [] [] r s p vs h k = h ∙ sym k
+common_any_order_lem [] [] r s p vs h k = left_common_once [] r s h k
 common_any_order_lem [] (u ∷ us) r s p vs h k = absurd (omega (arith, length_permutation [] (u ∷ us) p))
 common_any_order_lem (t ∷ ts) [] r s p vs h k = absurd (omega (arith, length_permutation (t ∷ ts) [] p))
 common_any_order_lem (t ∷ ts) (u ∷ us) None None p vs h k = refl

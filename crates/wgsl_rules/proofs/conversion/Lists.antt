@@ -1,10 +1,11 @@
 -- Common types of lists, one type after another.
 use Rattle.std.proofs.Common.{◌≡◌, ◌≢◌, ◌⊎◌, List, [], ◌∷◌, ◌++◌, Option, Some, None, refl, sym, subst, inl, inr}
 use Rattle.wgsl_rules.specs.types.Types.{WgslType}
-use Rattle.wgsl_rules.specs.conversion.Common.{IsCommon, IsLeftCommonFrom, IsLeftCommon}
+use Rattle.wgsl_rules.specs.conversion.Common.{IsLeftCommon}
 use Rattle.wgsl_rules.specs.Laws.{LeftCommonIsLeast}
 use Rattle.wgsl_rules.specs.conversion.Lists.{IsCommonOfList, IsCommonOfGiven}
 use Rattle.wgsl_rules.specs.Headline.{Receives, IsLeastCommon, IsLeastCommonAnswer}
+use Rattle.wgsl_rules.proofs.conversion.Folds.{IsFolded, folded, none_follows}
 use Rattle.wgsl_rules.proofs.conversion.Commons.{least_permuted}
 use Rattle.wgsl_rules.proofs.Laws.{left_is_least}
 
@@ -14,7 +15,7 @@ least_is_given : (ts : List WgslType) (r : Option WgslType) → IsLeftCommon ts 
 least_is_given ts r h l = record { some = λ u. (some_to u, λ p. l.one r (Some u) h (l.least_is_left p.0 u p.1)); none = (none_to ts r h l, none_from ts r h l); any_order = λ us u p e. least_permuted u ts us p (some_to u e).1 }
   where
     not_empty : (ts : List WgslType) (u : WgslType) → IsLeftCommon ts (Some u) → ts ≢ []
-    not_empty [] u h e = absurd (cc h)
+    not_empty [] u h e = absurd (cc ((folded [] (Some u)).0 h))
     not_empty (t ∷ ts) u h e = absurd (cc e)
 
     some_to : (u : WgslType) → r ≡ Some u → (ts ≢ []) × IsLeastCommon u ts
@@ -34,30 +35,13 @@ least_is_given ts r h l = record { some = λ u. (some_to u, λ p. l.one r (Some 
 pub common_of_list : (ts : List WgslType) (r : Option WgslType) → IsLeftCommon ts r → IsCommonOfList ts r
 common_of_list ts r h = record { left = h; least = λ vs. least_is_given ts r h (left_is_least ts vs) }
 
--- One more type
+-- A list without a common type, and the lists that begin with it
 
-pub one_more : (c : Option WgslType) (ts : List WgslType) (d t : WgslType) (r : Option WgslType) → IsLeftCommonFrom c ts (Some d) → IsCommon d t r →
-    IsLeftCommonFrom c (ts ++ t ∷ []) r
-one_more c [] d t r h k = subst (λ c. IsLeftCommonFrom c (t ∷ []) r) (sym h) (r, k, refl)
-one_more None (u ∷ us) d t r h k = absurd (cc h)
-one_more (Some c) (u ∷ us) d t r h k = (h.0, h.1, one_more h.0 us d t r h.2 k)
-
--- A list without a common type
-
-none_stays : (ts : List WgslType) → IsLeftCommonFrom None ts None
-none_stays [] = refl
-none_stays (t ∷ ts) = refl
-
-none_follows : (c : Option WgslType) (ts more : List WgslType) → IsLeftCommonFrom c ts None → IsLeftCommonFrom c (ts ++ more) None
-none_follows c [] more h = subst (λ c. IsLeftCommonFrom c more None) (sym h) (none_stays more)
-none_follows None (t ∷ ts) more h = refl
-none_follows (Some c) (t ∷ ts) more h = (h.0, h.1, none_follows h.0 ts more h.2)
-
-pub common_of_given : (ts : List WgslType) (r : Option WgslType) → IsLeftCommon ts r → IsCommonOfGiven ts r
-common_of_given ts r h = record { given = common_of_list ts r h; whatever_follows = follows ts r h }
+pub common_of_given : (ts : List WgslType) (r : Option WgslType) → IsFolded ts r → IsCommonOfGiven ts r
+common_of_given ts r h = record { given = common_of_list ts r ((folded ts r).1 h); whatever_follows = follows ts r h }
   where
-    follows : (ts : List WgslType) (r : Option WgslType) → IsLeftCommon ts r → ts ≢ [] → r ≡ None → (more : List WgslType) → IsCommonOfList (ts ++ more) r
+    follows : (ts : List WgslType) (r : Option WgslType) → IsFolded ts r → ts ≢ [] → r ≡ None → (more : List WgslType) → IsCommonOfList (ts ++ more) r
     follows [] r h n e more = absurd (n refl)
     follows (t ∷ ts) r h n e more =
         subst (λ r. IsCommonOfList (t ∷ ts ++ more) r) (sym e)
-        (common_of_list (t ∷ (ts ++ more)) None (none_follows (Some t) ts more (subst (λ r. IsLeftCommon (t ∷ ts) r) e h)))
+        (common_of_list (t ∷ (ts ++ more)) None ((folded (t ∷ (ts ++ more)) None).1 (none_follows (Some t) ts more (subst (λ r. IsFolded (t ∷ ts) r) e h))))

@@ -6,7 +6,8 @@ use Rattle.wgsl_syntax.specs.declared.scalar.Scalar.{Scalar}
 use Rattle.wgsl_syntax.specs.declared.scalar.Scalar.TheVariants.{Bool, U32}
 use Rattle.wgsl_rules.specs.types.Types.{Layer, vec_of, mat_of, WgslType, scalar, within, vec, mat}
 use Rattle.wgsl_rules.specs.conversion.Conversion.{IsValueType, ConvertsTo}
-use Rattle.wgsl_rules.specs.conversion.Common.{IsCommon, IsLeftCommon}
+use Rattle.wgsl_rules.specs.conversion.Common.{IsCommon, of_one_type}
+use Rattle.wgsl_rules.proofs.conversion.Folds.{left_of_two}
 use Rattle.wgsl_syntax.specs.declared.operator.BinaryOperator.{BinaryOperator}
 use Rattle.wgsl_syntax.specs.declared.operator.BinaryOperator.TheVariants.{ShortCircuitOr, ShortCircuitAnd, Addition, Subtraction, Multiplication, BitwiseOr, BitwiseAnd, BitwiseXor}
 use Rattle.wgsl_rules.specs.operators.Candidates.{Name, operator, IsArithmetic, IsSum, IsComparison, IsLogical, IsBitwise, IsOrAnd, IsShift, IsCandidate, scalars, vectors, scalar_vector, vector_scalar, matrices, scalar_matrix, matrix_scalar, vector_matrix, matrix_vector, matrix_matrix, compared, compared_vectors, logical, bits, bits_vectors, bools_vectors, shifted, shifted_vectors, of_two}
@@ -24,9 +25,6 @@ use Rattle.wgsl_rules.proofs.operators.Choices.{arithmetic_form, comparison_form
 
 pub two_values : (a b : WgslType) → IsValueType a → IsValueType b → All IsValueType (a ∷ b ∷ [])
 two_values a b va vb = All-cons IsValueType a (b ∷ []) va (All-cons IsValueType b [] vb (All-nil IsValueType))
-
-left_of_two : (a b c : WgslType) → IsCommon a b (Some c) → IsLeftCommon (a ∷ b ∷ []) (Some c)
-left_of_two a b c h = (Some c, h, refl)
 
 pub common_one_of : (a b c : WgslType) → IsCommon a b (Some c) → (c ≡ a) ⊎ (c ≡ b)
 common_one_of a b c (inl p) = inr p.1
@@ -79,7 +77,7 @@ both_plain o f a b c va vb p q e k h =
     let ts = two_values a b va vb in
     subst (λ us. IsLeastCandidate o (a ∷ b ∷ []) us (f.gives c)) (ap (λ ss. fill_all ss c) q)
     (row_choice o (a ∷ b ∷ []) (a ∷ b ∷ []) f c ts ts (ap (λ os. form_of o os) os ∙ e)
-    (subst (λ ss. IsPut ss (a ∷ b ∷ []) (a ∷ b ∷ [])) (sym q) (b ∷ [], refl, ([], refl, refl))) (left_of_two a b c k) h)
+    (subst (λ ss. IsPut ss (a ∷ b ∷ []) (a ∷ b ∷ [])) (sym q) (b ∷ [], refl, ([], refl, refl))) (left_of_two a b (Some c) k) h)
 
 pub both_layered : (o : Name) (f : Form o) (l k : Layer) (a b c : WgslType) → IsValueType a → IsValueType b → f.slots ≡ inner l ∷ inner k ∷ [] →
     form_of o (layer l ∷ layer k ∷ []) ≡ Some f → IsCommon a b (Some c) → Admits f.kind c →
@@ -88,7 +86,7 @@ both_layered o f l k a b c va vb q e m h =
     let xs = within l a ∷ within k b ∷ [] in
     subst (λ us. IsLeastCandidate o xs us (f.gives c)) (ap (λ ss. fill_all ss c) q)
     (row_choice o xs (a ∷ b ∷ []) f c (two_values (within l a) (within k b) va vb) (two_values a b va vb) e
-    (subst (λ ss. IsPut ss xs (a ∷ b ∷ [])) (sym q) (a, b ∷ [], refl, refl, (b, [], refl, refl, refl))) (left_of_two a b c m) h)
+    (subst (λ ss. IsPut ss xs (a ∷ b ∷ [])) (sym q) (a, b ∷ [], refl, refl, (b, [], refl, refl, refl))) (left_of_two a b (Some c) m) h)
 
 left_layered : (o : Name) (f : Form o) (l : Layer) (a : WgslType) (s : Scalar) (c : WgslType) → IsValueType a → f.slots ≡ inner l ∷ whole ∷ [] →
     form_of o (layer l ∷ plain ∷ []) ≡ Some f → IsCommon a (scalar s) (Some c) → Admits f.kind c →
@@ -97,7 +95,7 @@ left_layered o f l a s c va q e m h =
     let xs = within l a ∷ scalar s ∷ [] in
     subst (λ us. IsLeastCandidate o xs us (f.gives c)) (ap (λ ss. fill_all ss c) q)
     (row_choice o xs (a ∷ scalar s ∷ []) f c (two_values (within l a) (scalar s) va tt) (two_values a (scalar s) va tt) e
-    (subst (λ ss. IsPut ss xs (a ∷ scalar s ∷ [])) (sym q) (a, scalar s ∷ [], refl, refl, ([], refl, refl))) (left_of_two a (scalar s) c m) h)
+    (subst (λ ss. IsPut ss xs (a ∷ scalar s ∷ [])) (sym q) (a, scalar s ∷ [], refl, refl, ([], refl, refl))) (left_of_two a (scalar s) (Some c) m) h)
 
 right_layered : (o : Name) (f : Form o) (s : Scalar) (k : Layer) (b c : WgslType) → IsValueType b → f.slots ≡ whole ∷ inner k ∷ [] →
     form_of o (plain ∷ layer k ∷ []) ≡ Some f → IsCommon (scalar s) b (Some c) → Admits f.kind c →
@@ -106,7 +104,7 @@ right_layered o f s k b c vb q e m h =
     let xs = scalar s ∷ within k b ∷ [] in
     subst (λ us. IsLeastCandidate o xs us (f.gives c)) (ap (λ ss. fill_all ss c) q)
     (row_choice o xs (scalar s ∷ b ∷ []) f c (two_values (scalar s) (within k b) tt vb) (two_values (scalar s) b tt vb) e
-    (subst (λ ss. IsPut ss xs (scalar s ∷ b ∷ [])) (sym q) (b ∷ [], refl, (b, [], refl, refl, refl))) (left_of_two (scalar s) b c m) h)
+    (subst (λ ss. IsPut ss xs (scalar s ∷ b ∷ [])) (sym q) (b ∷ [], refl, (b, [], refl, refl, refl))) (left_of_two (scalar s) b (Some c) m) h)
 
 -- the least candidate for operands whose common type is a vector
 pub layered_common : (o : Name) (f : Form o) (n : ℕ) (a b c : WgslType) → IsValueType a → IsValueType b → f.slots ≡ inner (vec_of n) ∷ inner (vec_of n) ∷ [] →
@@ -170,14 +168,14 @@ shift_chosen : (o : BinaryOperator) → IsShift o → (i : Scalar) → IsInteger
 shift_chosen o h i k t v m =
     let os : outers (scalar i ∷ t ∷ []) ≡ plain ∷ plain ∷ [] = ap (λ x. plain ∷ x ∷ []) (outer_of t (scalar U32) v m) in
     row_choice (operator o) (scalar i ∷ t ∷ []) (scalar i ∷ []) _ (scalar i) (two_values (scalar i) t tt v) (All-cons IsValueType (scalar i) [] tt (All-nil IsValueType))
-    (ap (λ os. form_of (operator o) os) os ∙ shift_form o h (plain ∷ plain ∷ []) _ refl) ([], refl, (m, refl)) refl k
+    (ap (λ os. form_of (operator o) os) os ∙ shift_form o h (plain ∷ plain ∷ []) _ refl) ([], refl, (m, refl)) (of_one_type (scalar i)) k
 
 shift_vectors_chosen : (o : BinaryOperator) → IsShift o → (n : ℕ) (i : Scalar) → IsInteger i → (t : WgslType) → IsValueType t → ConvertsTo t (scalar U32) →
     IsLeastCandidate (operator o) (vec n (scalar i) ∷ vec n t ∷ []) (vec n (scalar i) ∷ vec n (scalar U32) ∷ []) (vec n (scalar i))
 shift_vectors_chosen o h n i k t v m =
     row_choice (operator o) (vec n (scalar i) ∷ vec n t ∷ []) (scalar i ∷ []) _ (scalar i) (two_values (vec n (scalar i)) (vec n t) tt v) (All-cons IsValueType (scalar i) [] tt (All-nil IsValueType))
     (shift_form o h (layer (vec_of n) ∷ layer (vec_of n) ∷ []) _ refl)
-    (scalar i, [], refl, refl, (above_converts (above_inside (vec_of n) (value_above v m)), refl)) refl k
+    (scalar i, [], refl, refl, (above_converts (above_inside (vec_of n) (value_above v m)), refl)) (of_one_type (scalar i)) k
 
 scalar_common : (s t : Scalar) (c : WgslType) → IsCommon (scalar s) (scalar t) (Some c) → outer c ≡ plain
 scalar_common s t c k = common_has (λ c. outer c ≡ plain) (scalar s) (scalar t) c refl refl k

@@ -170,6 +170,11 @@ abbrev pub first_of_kind : Bool → Kind → List Scalar → Option Scalar
 first_of_kind c k [] = None
 first_of_kind c k (s ∷ ss) = cond (is_of_kind k s) (cond (may_be c s) (Some s) (first_of_kind c k ss)) (first_of_kind c k ss)
 
+-- the first scalar of the list to which a scalar converts and that the letter may stand for
+abbrev pub first_target : Bool → Kind → Scalar → List Scalar → Option Scalar
+first_target c k a [] = None
+first_target c k a (s ∷ ss) = cond (converts a s) (cond (is_of_kind k s) (cond (may_be c s) (Some s) (first_target c k a ss)) (first_target c k a ss)) (first_target c k a ss)
+
 abbrev pub pick : Bool → Kind → Option Scalar → Option Scalar
 pick c k None = first_of_kind false k (targets None)
 pick c k (Some a) = first_of_kind c k (targets (Some a))

@@ -3,65 +3,58 @@ use Rattle.wgsl_rules.specs.operators.Answers.{IsUnaryAnswer}
 use Rattle.wgsl_rules.specs.constructors.Constructors.{IsConstructorAnswer}
 use Rattle.wgsl_rules.specs.calls.Answers.{IsCallAnswer}
 use Rattle.wgsl_core.specs.View.{struct_view, view}
-use Rattle.wgsl_rules.proofs.conversion.Lists.{common_of_list}
 use Rattle.wgsl_asked.specs.Requests.{unary, ctor, call}
-use Rattle.wgsl_asked.specs.Answers.{a_type, a_value, rank_is, common_is, left_common_is, unary_is, binary_is, size_is, offsets_are, layout_is, ctor_is, call_is, type_of_is, resolution_of_is, explanation_of_is, overloads_of_are}
+use Rattle.wgsl_asked.specs.Answers.{a_type, a_value, rank_is, unary_is, binary_is, size_is, offsets_are, layout_is, ctor_is, call_is, type_of_is, resolution_of_is, explanation_of_is, overloads_of_are}
 use Rattle.wgsl_asked.specs.Views.{callee_view}
 use Rattle.wgsl_asked.proofs.Settled.{settles, offsets_seen, layout_seen}
 use Rattle.wgsl_asked.proofs.ask.answer.Goals as goal
 
-pub returns-in-Rank-clause-answers : goal.returns-in-Rank-clause-answers
-returns-in-Rank-clause-answers c = rw c.in-Rank.is (rank_is _ c.conversion_rank.ensures)
+pub returns-in-Rank : goal.returns-in-Rank
+returns-in-Rank c = rw c.in-Rank.is (rank_is _ c.conversion_rank.ensures)
 
-pub returns-in-Common-clause-answers : goal.returns-in-Common-clause-answers
-returns-in-Common-clause-answers c = rw c.in-Common.is (common_is _ c.common_type.ensures)
+pub returns-in-Size : goal.returns-in-Size
+returns-in-Size c = rw c.in-Size.is (size_is _ _ c.size_and_align_of-size.ensures.size c.size_and_align_of-size.ensures.align)
 
-pub returns-in-LeftCommon-clause-answers : goal.returns-in-LeftCommon-clause-answers
-returns-in-LeftCommon-clause-answers c = rw c.in-LeftCommon.is (left_common_is _ (common_of_list _ _ c.common_of.ensures))
-
-pub returns-in-Size-clause-answers : goal.returns-in-Size-clause-answers
-returns-in-Size-clause-answers c = rw c.in-Size.is (size_is _ _ c.size_and_align_of-size.ensures.size c.size_and_align_of-size.ensures.align)
-
-pub returns-in_ok-settled-in-Unary-clause-answers : goal.returns-in_ok-settled-in-Unary-clause-answers
-returns-in_ok-settled-in-Unary-clause-answers c =
+pub returns-in_ok-settled-in-Unary : goal.returns-in_ok-settled-in-Unary
+returns-in_ok-settled-in-Unary c =
     let o = c.in-Unary.operator in
     let t = view c.in-Unary.operand.now in
     let h = c.in_ok-settled-in-Unary in
-    rw c.in-Unary.is (settles a_type view (IsUnaryAnswer o t) (unary o t) h.field-0 h.ensures.same c.type_unary_op-made.ensures.row (λ r d. unary_is r d))
+    rw c.in-Unary.is (settles a_type view (IsUnaryAnswer o t) (unary o t) h.field-0 h.ensures c.type_unary_op-made.ensures.row (λ r d. unary_is r d))
 
-pub returns-in-Binary-clause-answers : goal.returns-in-Binary-clause-answers
-returns-in-Binary-clause-answers c = rw c.in-Binary.is (binary_is _ c.resolved_type.ensures)
+pub returns-in-Binary : goal.returns-in-Binary
+returns-in-Binary c = rw c.in-Binary.is (binary_is _ c.resolved_type.ensures)
 
-pub returns-in_ok-offsets-in-Offsets-clause-answers : goal.returns-in_ok-offsets-in-Offsets-clause-answers
-returns-in_ok-offsets-in-Offsets-clause-answers c =
+pub returns-in_ok-offsets-in-Offsets : goal.returns-in_ok-offsets-in-Offsets
+returns-in_ok-offsets-in-Offsets c =
     let h = c.in_ok-offsets-in-Offsets in
     rw c.in-Offsets.is (offsets_are _ (offsets_seen (struct_view c.in-Offsets.structure.now).members h.field-0 h.ensures.none.1 h.ensures.offsets))
 
-pub returns-in_ok-layout-in-Layout-clause-answers : goal.returns-in_ok-layout-in-Layout-clause-answers
-returns-in_ok-layout-in-Layout-clause-answers c =
+pub returns-in_ok-layout-in-Layout : goal.returns-in_ok-layout-in-Layout
+returns-in_ok-layout-in-Layout c =
     let h = c.in_ok-layout-in-Layout in
     rw c.in-Layout.is (layout_is _ (layout_seen (struct_view c.in-Layout.structure.now).members h.field-0 h.ensures.none.1 h.ensures.layout))
 
-pub returns-in_ok-settled-in-Constructor-clause-answers : goal.returns-in_ok-settled-in-Constructor-clause-answers
-returns-in_ok-settled-in-Constructor-clause-answers c =
+pub returns-in_ok-settled-in-Constructor : goal.returns-in_ok-settled-in-Constructor
+returns-in_ok-settled-in-Constructor c =
     let made = callee_view c.in-Constructor.callee in
     let h = c.in_ok-settled-in-Constructor in
-    rw c.in-Constructor.is (settles a_type view (IsConstructorAnswer made) (ctor made) h.field-0 h.ensures.same c.type_ctor-made.ensures.row (λ r d. ctor_is r d))
+    rw c.in-Constructor.is (settles a_type view (IsConstructorAnswer made) (ctor made) h.field-0 h.ensures c.type_ctor-made.ensures.row (λ r d. ctor_is r d))
 
-pub returns-in_ok-settled-in-Call-clause-answers : goal.returns-in_ok-settled-in-Call-clause-answers
-returns-in_ok-settled-in-Call-clause-answers c =
+pub returns-in_ok-settled-in-Call : goal.returns-in_ok-settled-in-Call
+returns-in_ok-settled-in-Call c =
     let made = callee_view c.in-Call.callee in
     let h = c.in_ok-settled-in-Call in
-    rw c.in-Call.is (settles a_value (option_map view) (IsCallAnswer made) (call made) h.field-0 h.ensures.same c.type_builtin_fn-made.ensures.row (λ r d. call_is r d))
+    rw c.in-Call.is (settles a_value (option_map view) (IsCallAnswer made) (call made) h.field-0 h.ensures c.type_builtin_fn-made.ensures.row (λ r d. call_is r d))
 
-pub returns-in_ok-type_of-in-Type-clause-answers : goal.returns-in_ok-type_of-in-Type-clause-answers
-returns-in_ok-type_of-in-Type-clause-answers c = rw c.in-Type.is (type_of_is _ c.in_ok-type_of-in-Type.ensures)
+pub returns-in_ok-type_of-in-Type : goal.returns-in_ok-type_of-in-Type
+returns-in_ok-type_of-in-Type c = rw c.in-Type.is (type_of_is _ c.in_ok-type_of-in-Type.ensures)
 
-pub returns-in_ok-resolution_of-in-Resolution-clause-answers : goal.returns-in_ok-resolution_of-in-Resolution-clause-answers
-returns-in_ok-resolution_of-in-Resolution-clause-answers c = rw c.in-Resolution.is (resolution_of_is _ c.in_ok-resolution_of-in-Resolution.ensures)
+pub returns-in_ok-resolution_of-in-Resolution : goal.returns-in_ok-resolution_of-in-Resolution
+returns-in_ok-resolution_of-in-Resolution c = rw c.in-Resolution.is (resolution_of_is _ c.in_ok-resolution_of-in-Resolution.ensures)
 
-pub returns-in_ok-signatures_named-in-Overloads-clause-answers : goal.returns-in_ok-signatures_named-in-Overloads-clause-answers
-returns-in_ok-signatures_named-in-Overloads-clause-answers c = rw c.in-Overloads.is (overloads_of_are _ c.in_ok-signatures_named-in-Overloads.ensures)
+pub returns-in_ok-signatures_named-in-Overloads : goal.returns-in_ok-signatures_named-in-Overloads
+returns-in_ok-signatures_named-in-Overloads c = rw c.in-Overloads.is (overloads_of_are _ c.in_ok-signatures_named-in-Overloads.ensures)
 
-pub returns-in_ok-notes_on-in-Explanation-clause-answers : goal.returns-in_ok-notes_on-in-Explanation-clause-answers
-returns-in_ok-notes_on-in-Explanation-clause-answers c = rw c.in-Explanation.is (explanation_of_is _ c.in_ok-notes_on-in-Explanation.ensures)
+pub returns-in_ok-notes_on-in-Explanation : goal.returns-in_ok-notes_on-in-Explanation
+returns-in_ok-notes_on-in-Explanation c = rw c.in-Explanation.is (explanation_of_is _ c.in_ok-notes_on-in-Explanation.ensures)

@@ -1,5 +1,5 @@
-use Rattle.wgsl_c.proofs.Text.{text_of}
+use Rattle.wgsl_c.proofs.Transfer.{told}
 use Rattle.wgsl_c.proofs.source.wgsl_source_layout.Goals as goal
 
-pub returns-clause-text : goal.returns-clause-text
-returns-clause-text c = text_of _ _ _ _ _ c.hand_over.ensures
+pub returns : goal.returns
+returns c = told _ _ _ _ c.layouts.result c.layouts.ensures c.hand_over.ensures

@@ -13,7 +13,7 @@ use Rattle.wgsl_lines.proofs.run.write_reply_to.Goals as goal
 -- what is written to an empty text
 of_kind : (rules : RuleSet) (kind : ReplyKind) (bytes old new : List ℕ) → old ≡ [] → WritesReply rules bytes kind old new → IsReplyTo rules bytes (reply_of_kind kind new)
 of_kind rules k.Nothing bytes old new empty w = w
-of_kind rules k.Answer bytes old new empty w = subst (λ text. IsReplyTo rules bytes (answer text)) (sym (w.2 ∙ ap (λ text. text ++ w.0) empty)) w.1
+of_kind rules (k.Answer kind) bytes old new empty w = subst (λ text. IsReplyTo rules bytes (answer kind text)) (sym (w.2 ∙ ap (λ text. text ++ w.0) empty)) w.1
 of_kind rules (k.Unreadable why) bytes old new empty w = w
 
 of_written : {E : Type 0} (rules : RuleSet) (r : Result ReplyKind E) (bytes old new : List ℕ) → old ≡ [] → IfOk r (λ kind. WritesReply rules bytes kind old new) → IfOk r (λ kind. IsReplyTo rules bytes (reply_of_kind kind new))

@@ -21,6 +21,6 @@ returns c = (
   _,
   named_call (left c.args.words.now) _ _ _ c.in_ok-name.ensures c.args.by _ c.in_ok-operands.ensures,
   rw (← c.callee-callee.ensures)
-      (subst (λ call. Adds (IsAnswer (asked c.args.question call)) (string_bytes c.args.text.now) (string_bytes c.write_of_named-written.new.text))
+      (subst (λ call. Adds (IsAnswer (asked c.args.question call) c.in_ok-written.field-0) (string_bytes c.args.text.now) (string_bytes c.write_of_named-written.new.text))
       (named_seen (callee_view c.callee-callee.result) c.in_ok-name.template _ _ _ c.as_deref.ensures.value c.deref.ensures.value) c.in_ok-written.ensures),
 )

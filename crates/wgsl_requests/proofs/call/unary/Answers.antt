@@ -19,5 +19,5 @@ pub returns : goal.returns
 returns c = (
   _,
   unary_call (left c.args.words.now) _ _ c.in_ok-operator.ensures _ c.in_ok-x.ensures,
-  subst (λ x. Adds (IsAnswer (asked c.args.question (called (a_unary c.in_ok-operator.operator) None (x ∷ [])))) (string_bytes c.args.text.now) (string_bytes c.write_answer_on-written.new.text)) c.borrowed.ensures c.in_ok-written.ensures,
+  subst (λ x. Adds (IsAnswer (asked c.args.question (called (a_unary c.in_ok-operator.operator) None (x ∷ []))) c.in_ok-written.field-0) (string_bytes c.args.text.now) (string_bytes c.write_answer_on-written.new.text)) c.borrowed.ensures c.in_ok-written.ensures,
 )

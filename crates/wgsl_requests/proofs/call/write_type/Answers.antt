@@ -6,12 +6,13 @@ use Rattle.wgsl_asked.specs.Requests.{type_of}
 use Rattle.wgsl_asked.specs.StandardViews.{call_view}
 use Rattle.wgsl_asked.specs.Views.{answer_view}
 use Rattle.wgsl_requests.specs.Texts.{or_no_overload, value_text}
-use Rattle.wgsl_requests.proofs.Written.{on_ok}
+use Rattle.wgsl_requests.proofs.Replied.{kind_of_type}
 use Rattle.wgsl_requests.proofs.call.write_type.Goals as goal
 
-pub returns-in-TypeOf : goal.returns-in-TypeOf
-returns-in-TypeOf c =
+pub returns-in_ok-write_type_of-in-TypeOf : goal.returns-in_ok-write_type_of-in-TypeOf
+returns-in_ok-write_type_of-in-TypeOf c =
     let call = call_view c.in-TypeOf.call.now in
     let found = option_map (option_map result_view) c.in-TypeOf.found in
-    let answers = subst (λ a. Answers (type_of (call_view c.args.call.now)) (answer_view a)) c.in-TypeOf.is c.in_ok-other.ensures.answers in
-    on_ok c.write_type_of.result (λ e. (or_no_overload value_text call found, (a_type_of call found, answers, refl), e)) c.write_type_of.ensures
+    let answers = subst (λ a. Answers (type_of (call_view c.args.call.now)) (answer_view a)) c.in-TypeOf.is c.in_ok-other.ensures in
+    let kind = kind_of_type call (option_map result_view) c.in-TypeOf.found _ c.kind_of-kind.ensures in
+    (or_no_overload value_text call found, (a_type_of call found, answers, kind, refl), c.in_ok-write_type_of-in-TypeOf.ensures)

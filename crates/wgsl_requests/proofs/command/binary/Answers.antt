@@ -22,6 +22,6 @@ pub returns : goal.returns
 returns c =
     let types = c.in_ok-types.types in
     let n : length types ≡ 2 = search rules in
-    replied _ _
+    replied _ _ _
     (binary_spelled _ _ _ _ _ _ _ c.in_ok-next.ensures.word c.in_ok-operator.ensures c.in_ok-types.ensures (two view types c.index-types-0.result c.index-types-1.result n))
     c.in_ok-written.ensures

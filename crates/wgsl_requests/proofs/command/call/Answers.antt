@@ -12,5 +12,5 @@ returns-in_err-callee c = fails _ _ _ _ _ (no_call _) c.from_residual.ensures.1 
 
 pub returns : goal.returns
 returns c =
-    replied _ _ (call_words c.in_ok-callee.ensures)
-    (subst (λ made. Adds (IsAnswer (call made)) (string_bytes c.args.text.now) (string_bytes c.write_answer_to-written.new.text)) c.as_asked.ensures c.in_ok-written.ensures)
+    replied _ _ _ (call_words c.in_ok-callee.ensures)
+    (subst (λ made. Adds (IsAnswer (call made) c.in_ok-written.field-0) (string_bytes c.args.text.now) (string_bytes c.write_answer_to-written.new.text)) c.as_asked.ensures c.in_ok-written.ensures)

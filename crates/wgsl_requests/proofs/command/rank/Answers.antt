@@ -7,4 +7,4 @@ pub returns : goal.returns
 returns c =
     let types = c.in_ok-types.types in
     let n : length types ≡ 2 = search rules in
-    replied _ _ (rank_spelled _ _ _ _ c.in_ok-types.ensures (two view types c.index-types-0.result c.index-types-1.result n)) c.in_ok-written.ensures
+    replied _ _ _ (rank_spelled _ _ _ _ c.in_ok-types.ensures (two view types c.index-types-0.result c.index-types-1.result n)) c.in_ok-written.ensures

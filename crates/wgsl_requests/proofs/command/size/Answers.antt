@@ -8,4 +8,4 @@ pub returns-in_err-ty : goal.returns-in_err-ty
 returns-in_err-ty c = fails _ _ _ _ _ (no_size _) c.from_residual.ensures.1 c.in_err-ty.ensures
 
 pub returns : goal.returns
-returns c = replied _ _ (size_words c.in_ok-ty.ensures) c.in_ok-written.ensures
+returns c = replied _ _ _ (size_words c.in_ok-ty.ensures) c.in_ok-written.ensures

@@ -17,4 +17,4 @@ returns-in_err-operand c =
     c.from_residual-in_err-operand.ensures.1 c.in_err-operand.ensures
 
 pub returns : goal.returns
-returns c = replied _ _ (unary_spelled _ _ _ _ _ c.in_ok-next.ensures.word c.in_ok-operator.ensures c.in_ok-operand.ensures) c.in_ok-written.ensures
+returns c = replied _ _ _ (unary_spelled _ _ _ _ _ c.in_ok-next.ensures.word c.in_ok-operator.ensures c.in_ok-operand.ensures) c.in_ok-written.ensures

@@ -1,11 +1,12 @@
 use Rattle.std.proofs.Common.{◌≡◌, ◌≢◌, ◌≤◌, ◌∙◌, ℕ, Bool, false, List, [], ◌∷◌, All, IsUtf8, arith, length, rules, subst, sym}
-use Rattle.std.specs.Prelude.{MatchOption, Option, None, Some}
+use Rattle.std.specs.Prelude.{MatchResult, Result, Ok, Err}
 use Rattle.wgsl_requests.specs.Answers.{IsReply}
 use Rattle.wgsl_requests.specs.Requests.{NoRequest}
 use Rattle.wgsl_requests.specs.internal.Written.{Adds}
 use Rattle.wgsl_requests.specs.Replies.{IsLineOfText, too_long, forbidden, no_text, no_request, no_words, answered}
 use Rattle.wgsl_requests.specs.Words.{has_line_feed, words_of}
 use Rattle.wgsl_requests.specs.declared.rules.RuleSet.{RuleSet}
+use Rattle.wgsl_requests.specs.declared.write.TextKind.{TextKind}
 use Rattle.wgsl_requests.proofs.FirstWord.{blank-no_line_feed}
 use Rattle.wgsl_requests.proofs.request.write_reply.Goals as goal
 
@@ -36,26 +37,26 @@ returns-in_default-next-clause-reply c =
     (sym c.in-Some.ensures.words ∙ c.in_default-next.ensures.word)
 
 -- what was written for all of the words
-written : (rules : RuleSet) (words all : List (List ℕ)) (old new : List ℕ) → words ≡ all → Adds (IsReply rules words) old new → Adds (IsReply rules all) old new
-written rules words all old new same w = subst (λ ws. Adds (IsReply rules ws) old new) same w
+written : (rules : RuleSet) (kind : TextKind) (words all : List (List ℕ)) (old new : List ℕ) → words ≡ all → Adds (IsReply rules words kind) old new → Adds (IsReply rules all kind) old new
+written rules kind words all old new same w = subst (λ ws. Adds (IsReply rules ws kind) old new) same w
 
 -- what write_answer promises where it finds nothing wrong, and where it does
-told_none : {A : Type 0} (found : Option A) (P N : Type 0) → found ≡ None → MatchOption found P (λ misread. N) → P
-told_none None P N e m = m
-told_none (Some a) P N e m = absurd (cc e)
+told_ok : {A B : Type 0} (found : Result A B) (x : A) (P : A → Type 0) (N : B → Type 0) → found ≡ Ok x → MatchResult found P N → P x
+told_ok (Ok y) x P N e m = subst P (cc e) m
+told_ok (Err y) x P N e m = absurd (cc e)
 
-told_some : {A : Type 0} (found : Option A) (a : A) (P N : Type 0) → found ≡ Some a → MatchOption found P (λ misread. N) → N
-told_some None a P N e m = absurd (cc e)
-told_some (Some b) a P N e m = m
+told_err : {A B : Type 0} (found : Result A B) (x : B) (P : A → Type 0) (N : B → Type 0) → found ≡ Err x → MatchResult found P N → N x
+told_err (Ok y) x P N e m = absurd (cc e)
+told_err (Err y) x P N e m = subst N (cc e) m
 
-pub returns-in-None-clause-reply : goal.returns-in-None-clause-reply
-returns-in-None-clause-reply c =
+pub returns-in-Ok-2-clause-reply : goal.returns-in-Ok-2-clause-reply
+returns-in-Ok-2-clause-reply c =
     let first = sym c.in-Some.ensures.words ∙ c.in-Ok.ensures.word in
-    let w = written c.args.rules _ _ _ _ (sym first) (told_none _ _ _ c.in-None.is c.in_ok-write_answer.ensures) in
-    (w.0, answered _ (line _ _ (first_of (search rules, omega arith)) c.has_line_feed.ensures c.if-has_line_feed.false c.in-Some.ensures.text) (begins _ _ _ first) w.1, w.2)
+    let w = written c.args.rules _ _ _ _ _ (sym first) (told_ok _ _ _ _ c.in-Ok-2.is c.in_ok-kind.ensures) in
+    (w.0, answered _ _ (line _ _ (first_of (search rules, omega arith)) c.has_line_feed.ensures c.if-has_line_feed.false c.in-Some.ensures.text) (begins _ _ _ first) w.1, w.2)
 
-pub returns-in-Some-2-clause-reply : goal.returns-in-Some-2-clause-reply
-returns-in-Some-2-clause-reply c =
+pub returns-in-Err-clause-reply : goal.returns-in-Err-clause-reply
+returns-in-Err-clause-reply c =
     let first = sym c.in-Some.ensures.words ∙ c.in-Ok.ensures.word in
     no_request (line _ _ (first_of (search rules, omega arith)) c.has_line_feed.ensures c.if-has_line_feed.false c.in-Some.ensures.text)
-    (begins _ _ _ first) (subst (NoRequest c.args.rules) (sym first) (told_some _ _ _ _ c.in-Some-2.is c.in_ok-write_answer.ensures))
+    (begins _ _ _ first) (subst (NoRequest c.args.rules) (sym first) (told_err _ _ _ _ c.in-Err.is c.in_ok-kind.ensures))

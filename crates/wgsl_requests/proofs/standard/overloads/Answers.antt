@@ -12,5 +12,5 @@ returns-in_err-name c = fails_by _ _ _ _ c.from_residual.ensures.1 (no_overloads
 pub returns : goal.returns
 returns c =
     let all = c.in_ok-name.ensures.word ∙ ap (λ ws. c.in_ok-name.name.now ∷ ws) (c.is_empty.ensures.0 (search rules)) in
-    replied _ _ (subst (λ ws. IsRequest Standard (codes "overloads" ∷ ws) (overloads_of c.in_ok-name.name.now)) (sym all) (overloads_words c.in_ok-name.name.now))
+    replied _ _ _ (subst (λ ws. IsRequest Standard (codes "overloads" ∷ ws) (overloads_of c.in_ok-name.name.now)) (sym all) (overloads_words c.in_ok-name.name.now))
     c.in_ok-write_answer_to.ensures

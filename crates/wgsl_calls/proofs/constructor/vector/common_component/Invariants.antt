@@ -1,11 +1,12 @@
 use Rattle.std.proofs.Common.{Option, Some, map}
 use Rattle.wgsl_rules.specs.types.Types.{WgslType}
 use Rattle.wgsl_rules.specs.types.Inner.{inner_of}
-use Rattle.wgsl_rules.specs.conversion.Common.{IsLeftCommonFrom, IsLeftCommon}
+use Rattle.wgsl_rules.specs.conversion.Common.{IsLeftCommon}
+use Rattle.wgsl_rules.proofs.conversion.Folds.{IsFoldedFrom}
 use Rattle.wgsl_core.specs.View.{view}
 use Rattle.wgsl_calls.proofs.Arguments.{inside_from}
 use Rattle.wgsl_calls.proofs.constructor.vector.common_component.Given as goal
 
 abbrev pub invariant-loop-arg : goal.invariant-loop-arg
 invariant-loop-arg l =
-    (r : Option WgslType) → IsLeftCommonFrom (Some (view l.common)) (inside_from l.rest l.arg-index) r → IsLeftCommon (map inner_of (map view l.args)) r
+    (r : Option WgslType) → IsFoldedFrom (Some (view l.common)) (inside_from l.rest l.arg-index) r → IsLeftCommon (map inner_of (map view l.args)) r

@@ -1,5 +1,5 @@
 use Rattle.std.proofs.Common.{Some, map}
-use Rattle.wgsl_rules.specs.conversion.Common.{IsLeftCommonFrom}
+use Rattle.wgsl_rules.proofs.conversion.Folds.{IsFoldedFrom}
 use Rattle.wgsl_core.specs.View.{view}
 use Rattle.wgsl_core.proofs.conversion.lists.convert_all_ty.Given as goal
 
@@ -7,4 +7,4 @@ abbrev pub invariant-loop-t : goal.invariant-loop-t
 invariant-loop-t g l =
     (goal.iterator-loop-t g).can_next l.t-iterator ×
     (goal.iterator-loop-t g).is_finite l.t-iterator ×
-    IsLeftCommonFrom (Some (view l.initial.common)) (map (λ t. view t.now) l.yielded) (Some (view l.common))
+    IsFoldedFrom (Some (view l.initial.common)) (map (λ t. view t.now) l.yielded) (Some (view l.common))

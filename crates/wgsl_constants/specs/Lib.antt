@@ -1,0 +1,5 @@
+pub mod Answers
+pub mod Conversions
+pub mod Arithmetic
+pub mod Shifts
+pub mod Functions

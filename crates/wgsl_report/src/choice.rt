@@ -1,0 +1,48 @@
+// The structs that are asked about, with those inside them.
+
+use crate::layers::inner_struct;
+use std::alloc::{AllocError, Global};
+use wgsl_source::module::Module;
+
+/// Which structs of a module are asked about.
+#[derive(Drop)]
+pub struct Choice {
+    /// Which structs have one of the names, or stand in one that has. Without names all are chosen.
+    pub is_chosen: Vec<bool>,
+    /// Which names are those of a struct.
+    pub is_found: Vec<bool>,
+}
+
+/// The structs with these names.
+pub fn choose(alloc: Global, module: &Module, names: &[&str]) -> Result<Choice, AllocError> {
+    let mut choice = Choice {
+        is_chosen: vec![in alloc; names.is_empty(); module.structs.len()]?,
+        is_found: Vec::new(alloc),
+    };
+    for name in names {
+        let index = module.structs.iter().position(|s| s.name == *name);
+        choice.is_found.push(index.is_some())?;
+        choose_one(&mut choice.is_chosen, index);
+    }
+    choose_inside(&mut choice.is_chosen, module);
+    Ok(choice)
+}
+
+fn choose_one(is_chosen: &mut [bool], index: Option<usize>) {
+    if let Some(index) = index {
+        if let Some(is_chosen) = is_chosen.get_mut(index) {
+            *is_chosen = true;
+        }
+    }
+}
+
+/// Chooses the structs inside those that are chosen, which stand in front of them.
+fn choose_inside(is_chosen: &mut [bool], module: &Module) {
+    for (index, structure) in module.structs.iter().enumerate().rev() {
+        if is_chosen.get(index) == Some(&true) {
+            for member in &structure.members {
+                choose_one(is_chosen, inner_struct(module, member.ty));
+            }
+        }
+    }
+}

@@ -1,0 +1,157 @@
+// Names as another language takes them, no two the same.
+
+use crate::forms::reserved::{is_c_name, is_python_name, is_rust_keyword, is_rust_type, is_unraw};
+use crate::forms::settled::is_settled;
+use std::alloc::{AllocError, Global};
+use std::collections::BTreeSet;
+
+#[derive(Clone, Copy, PartialEq, Eq)]
+pub enum Language {
+    C,
+    Rust,
+    Python,
+}
+
+/// What a name names.
+#[derive(Clone, Copy, PartialEq, Eq)]
+pub enum Role {
+    Struct,
+    Field,
+}
+
+/// What names become in a language.
+#[derive(Drop)]
+pub struct Names {
+    /// In the order of the names.
+    spelled: Vec<String>,
+    taken: BTreeSet<String>,
+}
+
+impl Names {
+    /// What distinct names become. One that the language takes stays. Another is changed, and then gets a `_` at its end
+    /// for each name that it would be.
+    pub fn new(
+        alloc: Global,
+        language: Language,
+        role: Role,
+        names: &[&str],
+    ) -> Result<Names, AllocError> {
+        let mut spelled = Vec::new(alloc);
+        let mut taken = BTreeSet::new(alloc);
+        for name in names {
+            let new = spelling(alloc, language, role, name)?;
+            if new.as_str() == *name {
+                taken.insert(String::from_str(alloc, name)?)?;
+            }
+            spelled.push(new)?;
+        }
+        let mut all = Names { spelled, taken };
+        all.tell_apart(alloc, names)?;
+        Ok(all)
+    }
+
+    fn tell_apart(&mut self, alloc: Global, names: &[&str]) -> Result<(), AllocError> {
+        for (index, name) in names.iter().enumerate() {
+            if let Some(new) = self.spelled.get_mut(index) {
+                if new.as_str() != *name {
+                    take(alloc, &mut self.taken, new)?;
+                }
+            }
+        }
+        Ok(())
+    }
+
+    /// What the name with this index becomes.
+    pub fn get(&self, index: usize) -> &str {
+        match self.spelled.get(index) {
+            Some(name) => name.as_str(),
+            None => "",
+        }
+    }
+
+    /// A new name that begins so.
+    pub fn add(&mut self, alloc: Global, start: String) -> Result<String, AllocError> {
+        let mut name = start;
+        take(alloc, &mut self.taken, &mut name)?;
+        Ok(name)
+    }
+}
+
+/// Takes a name, with a `_` at its end for each that is taken already.
+fn take(alloc: Global, taken: &mut BTreeSet<String>, name: &mut String) -> Result<(), AllocError> {
+    for _ in 0..taken.len() {
+        if !taken.contains(name.as_str()) {
+            break;
+        }
+        name.push('_')?;
+    }
+    taken.insert(String::from_str(alloc, name.as_str())?)?;
+    Ok(())
+}
+
+/// What a name becomes, whatever the others are.
+fn spelling(
+    alloc: Global,
+    language: Language,
+    role: Role,
+    name: &str,
+) -> Result<String, AllocError> {
+    let mut new = String::new(alloc);
+    if language == Language::Rust && is_rust_keyword(name) && !is_unraw(name) {
+        new.push_str("r#")?;
+    }
+    if language == Language::C {
+        push_unreserved(&mut new, role, name)?;
+    } else {
+        push_settled(&mut new, name)?;
+    }
+    if is_kept(language, role, name) {
+        new.push('_')?;
+    }
+    Ok(new)
+}
+
+/// Whether a language keeps a name for itself.
+fn is_kept(language: Language, role: Role, name: &str) -> bool {
+    match (language, role) {
+        (Language::C, _) => is_c_name(name),
+        (Language::Rust, Role::Field) => is_unraw(name),
+        (Language::Rust, Role::Struct) => is_unraw(name) || is_rust_type(name),
+        (Language::Python, _) => is_python_name(name),
+    }
+}
+
+/// Adds a name. A character that a normalization might change or join with others is written as its code: two names that
+/// normalize to one stay two.
+fn push_settled(output: &mut String, name: &str) -> Result<(), AllocError> {
+    for letter in name.chars() {
+        push_letter(output, letter)?;
+    }
+    Ok(())
+}
+
+fn push_letter(output: &mut String, letter: char) -> Result<(), AllocError> {
+    if is_settled(letter) {
+        output.push(letter)
+    } else {
+        let code = u32::from(letter);
+        write!(output, "u{code:04X}")
+    }
+}
+
+/// Adds a name as `push_settled` does, with an `x` in front of each `_` for which C or C++ reserves it: a second one in a
+/// row, and a first letter that a capital follows, or that begins the name of a struct.
+fn push_unreserved(output: &mut String, role: Role, name: &str) -> Result<(), AllocError> {
+    let mut is_reserved = match name.as_bytes() {
+        [b'_', b'A'..=b'Z', ..] => true,
+        _ => role == Role::Struct,
+    };
+    for letter in name.chars() {
+        if is_reserved && letter == '_' {
+            output.push('x')?;
+        }
+        push_letter(output, letter)?;
+        is_reserved = letter == '_';
+    }
+    Ok(())
+}

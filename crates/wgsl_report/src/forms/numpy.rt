@@ -1,0 +1,142 @@
+// Structs as dtypes of numpy.
+
+use crate::forms::fields::struct_names;
+use crate::forms::names::{Language, Names};
+use crate::layers::{Base, Shape, shape_of};
+use crate::source::Source;
+use crate::write::{Piece, write_all};
+use std::alloc::{AllocError, Global};
+use wgsl_source::measured::MeasuredType;
+use wgsl_source::module::Module;
+use wgsl_source::structure::Struct;
+use wgsl_syntax::scalar::Scalar;
+
+/// Writes the chosen structs, each behind those that stand in it.
+pub fn write_numpy(output: &mut String, source: Source) -> Result<(), AllocError> {
+    output.push_str("import numpy\n")?;
+    let names = struct_names(source.alloc, source.module, Language::Python)?;
+    let writer = Writer {
+        alloc: source.alloc,
+        module: source.module,
+        names: &names,
+    };
+    for index in 0..source.module.structs.len() {
+        if let Some(structure) = source.chosen(index) {
+            writer.write_struct(output, index, structure)?;
+        }
+    }
+    Ok(())
+}
+
+#[derive(Clone, Copy)]
+struct Writer<'a> {
+    alloc: Global,
+    module: &'a Module<'a>,
+    names: &'a Names,
+}
+
+impl<'a> Writer<'a> {
+    fn write_struct(
+        self,
+        output: &mut String,
+        index: usize,
+        structure: &Struct,
+    ) -> Result<(), AllocError> {
+        let start = [
+            Piece::Text("\n"),
+            Piece::Text(self.names.get(index)),
+            Piece::Text(" = numpy.dtype({\n    'names': ["),
+        ];
+        write_all(output, &start)?;
+        for (index, member) in structure.members.iter().enumerate() {
+            let name = member.name;
+            let separator = separator(index);
+            write!(output, "{separator}'{name}'")?;
+        }
+        output.push_str("],\n    'formats': [")?;
+        for (index, member) in structure.members.iter().enumerate() {
+            output.push_str(separator(index))?;
+            self.write_format(output, member.ty)?;
+        }
+        output.push_str("],\n    'offsets': [")?;
+        for (index, member) in structure.members.iter().enumerate() {
+            let offset = member.offset;
+            let separator = separator(index);
+            write!(output, "{separator}{offset}")?;
+        }
+        let size = structure.size;
+        write!(output, "],\n    'itemsize': {size},\n}})\n")
+    }
+
+    fn write_format(self, output: &mut String, ty: MeasuredType) -> Result<(), AllocError> {
+        match shape_of(self.alloc, self.module, ty)? {
+            Some(shape) => output.push_str(self.format(&shape)?.as_str()),
+            None => Ok(()),
+        }
+    }
+
+    /// What `numpy.dtype` takes for a type.
+    fn format(self, shape: &Shape) -> Result<String, AllocError> {
+        let mut base = self.base(shape.base)?;
+        let mut counts = String::new(self.alloc);
+        for layer in shape.layers.iter().rev() {
+            if layer.padding() > 0 {
+                let inner = counted(self.alloc, base.as_str(), counts.as_str())?;
+                base = padded(self.alloc, inner.as_str(), layer.stride)?;
+                counts = String::new(self.alloc);
+            }
+            let count = layer.count;
+            counts = format!(in self.alloc; "{count}, {counts}")?;
+        }
+        counted(self.alloc, base.as_str(), counts.as_str())
+    }
+
+    fn base(self, base: Base) -> Result<String, AllocError> {
+        match base {
+            Base::Scalar(scalar) => {
+                let name = scalar_name(scalar);
+                format!(in self.alloc; "'{name}'")
+            }
+            Base::Struct(index) => String::from_str(self.alloc, self.names.get(index)),
+        }
+    }
+}
+
+fn separator(index: usize) -> &'static str {
+    if index == 0 { "" } else { ", " }
+}
+
+/// A format in an array with these counts, if there are some.
+fn counted(alloc: Global, base: &str, counts: &str) -> Result<String, AllocError> {
+    match counts.strip_suffix(", ") {
+        Some(counts) => format!(in alloc; "({base}, ({counts},))"),
+        None => String::from_str(alloc, base),
+    }
+}
+
+/// A format that takes as many bytes as the stride.
+fn padded(alloc: Global, inner: &str, stride: u32) -> Result<String, AllocError> {
+    let mut format = String::new(alloc);
+    let pieces = [
+        Piece::Text("numpy.dtype({'names': ['value'], 'formats': ["),
+        Piece::Text(inner),
+        Piece::Text("], 'offsets': [0], 'itemsize': "),
+        Piece::Number(Some(stride)),
+        Piece::Text("})"),
+    ];
+    write_all(&mut format, &pieces)?;
+    Ok(format)
+}
+
+/// What numpy calls a scalar: a `bool` is its 4 bytes.
+fn scalar_name(scalar: Scalar) -> &'static str {
+    match scalar {
+        Scalar::I32 | Scalar::AbstractInt => "<i4",
+        Scalar::Bool | Scalar::U32 => "<u4",
+        Scalar::F32 | Scalar::AbstractFloat => "<f4",
+        Scalar::F16 => "<f2",
+        Scalar::I64 => "<i8",
+        Scalar::U64 => "<u8",
+        Scalar::F64 => "<f8",
+    }
+}

@@ -1,0 +1,108 @@
+// What is bound to a variable, in the words of a WebGPU bind group layout.
+
+use crate::type_text::write_format;
+use crate::write::{Piece, write_all};
+use std::alloc::AllocError;
+use wgsl_syntax::address::{AccessMode, AddressSpace};
+use wgsl_syntax::texture::{SampledType, SamplerType, TextureDimensions, TextureType};
+use wgsl_syntax::texture_name::TextureParameters;
+
+/// Writes what is bound to a variable of this address space whose type is no texture, sampler or the like.
+pub fn write_buffer(
+    output: &mut String,
+    space: AddressSpace,
+    access: AccessMode,
+) -> Result<(), AllocError> {
+    let kind = match (space, access) {
+        (AddressSpace::Uniform, _) => "uniform",
+        (AddressSpace::Storage, AccessMode::Read) => "read-only-storage",
+        (AddressSpace::Storage, _) => "storage",
+        _ => return output.push_str("null"),
+    };
+    let pieces = [
+        Piece::Text("{\"kind\":\"buffer\",\"type\":\""),
+        Piece::Text(kind),
+        Piece::Text("\"}"),
+    ];
+    write_all(output, &pieces)
+}
+
+pub fn write_sampler(output: &mut String, sampler: SamplerType) -> Result<(), AllocError> {
+    output.push_str(match sampler {
+        SamplerType::Sampler => "{\"kind\":\"sampler\",\"type\":\"filtering\"}",
+        SamplerType::SamplerComparison => "{\"kind\":\"sampler\",\"type\":\"comparison\"}",
+    })
+}
+
+pub fn write_texture(output: &mut String, texture: TextureType) -> Result<(), AllocError> {
+    match (texture, texture.parameters()) {
+        (TextureType::External, _) => output.push_str("{\"kind\":\"externalTexture\"}"),
+        (_, TextureParameters::Storage(format, access)) => {
+            output.push_str("{\"kind\":\"storageTexture\",\"format\":\"")?;
+            write_format(output, format)?;
+            output.push_str("\",\"access\":\"")?;
+            output.push_str(access_name(access))?;
+            write_dimension(output, texture)?;
+            output.push_str("}")
+        }
+        (_, TextureParameters::Sampled(sampled)) => {
+            write_sampled(output, texture, sample_type(sampled))
+        }
+        (_, TextureParameters::None) => write_sampled(output, texture, "depth"),
+    }
+}
+
+fn write_sampled(
+    output: &mut String,
+    texture: TextureType,
+    sample_type: &str,
+) -> Result<(), AllocError> {
+    output.push_str("{\"kind\":\"texture\",\"sampleType\":\"")?;
+    output.push_str(sample_type)?;
+    write_dimension(output, texture)?;
+    output.push_str(if texture.is_multisampled() {
+        ",\"multisampled\":true}"
+    } else {
+        ",\"multisampled\":false}"
+    })
+}
+
+fn write_dimension(output: &mut String, texture: TextureType) -> Result<(), AllocError> {
+    let pieces = [
+        Piece::Text("\",\"viewDimension\":\""),
+        Piece::Text(view_dimension(texture)),
+        Piece::Text("\""),
+    ];
+    write_all(output, &pieces)
+}
+
+fn view_dimension(texture: TextureType) -> &'static str {
+    match texture {
+        TextureType::SampledCube(_) | TextureType::DepthCube => "cube",
+        TextureType::SampledCubeArray(_) | TextureType::DepthCubeArray => "cube-array",
+        _ => match (texture.dimensions(), texture.is_arrayed()) {
+            (TextureDimensions::D1, false) => "1d",
+            (TextureDimensions::D1, true) => "1d-array",
+            (TextureDimensions::D2, false) => "2d",
+            (TextureDimensions::D2, true) => "2d-array",
+            (TextureDimensions::D3, _) => "3d",
+        },
+    }
+}
+
+fn sample_type(sampled: SampledType) -> &'static str {
+    match sampled {
+        SampledType::F32 => "float",
+        SampledType::I32 => "sint",
+        SampledType::U32 => "uint",
+    }
+}
+
+fn access_name(access: AccessMode) -> &'static str {
+    match access {
+        AccessMode::Read => "read-only",
+        AccessMode::Write => "write-only",
+        AccessMode::ReadWrite => "read-write",
+        AccessMode::Atomic => "atomic",
+    }
+}

@@ -1,0 +1,115 @@
+// Messages for people, with the line that each is about.
+
+use crate::lines::{Lines, Place};
+use crate::message::{Message, Severity};
+use crate::source::Source;
+use crate::write::{Piece, write_all};
+use std::alloc::AllocError;
+use std::str::from_utf8;
+
+/// How messages for people look.
+#[derive(Clone, Copy, Debug, PartialEq, Eq)]
+pub enum Style {
+    /// One line for each.
+    Plain,
+    /// Below it the line of the text, and a caret under the place.
+    Caret,
+    /// The same in colors.
+    Color,
+}
+
+impl Style {
+    /// What begins a color.
+    fn color(self, code: &'static str) -> &'static str {
+        match self {
+            Style::Color => code,
+            Style::Plain | Style::Caret => "",
+        }
+    }
+}
+
+const BOLD: &str = "\x1b[1m";
+
+const RED: &str = "\x1b[1;31m";
+
+const YELLOW: &str = "\x1b[1;33m";
+
+const GREEN: &str = "\x1b[1;32m";
+
+const RESET: &str = "\x1b[0m";
+
+/// A longer line, in bytes, is not shown.
+const LONGEST: usize = 200;
+
+/// Writes the messages on a text.
+pub fn write_messages(output: &mut String, source: Source, style: Style) -> Result<(), AllocError> {
+    for message in source.messages {
+        let place = source.lines.place(message.at);
+        write_message(output, source.file, place, message, style)?;
+        if style != Style::Plain {
+            write_line(output, source.lines, place, style)?;
+        }
+    }
+    Ok(())
+}
+
+fn write_message(
+    output: &mut String,
+    file: &str,
+    place: Place,
+    message: &Message,
+    style: Style,
+) -> Result<(), AllocError> {
+    let color = match message.severity {
+        Severity::Error => RED,
+        Severity::Finding => YELLOW,
+    };
+    let Place { line, column, .. } = place;
+    let (bold, color, reset) = (style.color(BOLD), style.color(color), style.color(RESET));
+    let severity = message.severity.name();
+    let text = message.text.as_str();
+    write!(
+        output,
+        "{bold}{file}:{line}:{column}: {color}{severity}: {reset}{text}\n"
+    )
+}
+
+/// The line of a place, and a caret under it.
+fn write_line(
+    output: &mut String,
+    lines: &Lines,
+    place: Place,
+    style: Style,
+) -> Result<(), AllocError> {
+    let line = lines.line(place.line);
+    let (Ok(line), true) = (from_utf8(line), line.len() <= LONGEST) else {
+        return Ok(());
+    };
+    let Some(before) = line.get(..place.column.saturating_sub(1)) else {
+        return Ok(());
+    };
+    output.push_str("    ")?;
+    for letter in line.chars() {
+        output.push(shown(letter))?;
+    }
+    output.push_str("\n    ")?;
+    for letter in before.chars() {
+        output.push(if letter == '\t' { letter } else { ' ' })?;
+    }
+    let pieces = [
+        Piece::Text(style.color(GREEN)),
+        Piece::Text("^"),
+        Piece::Text(style.color(RESET)),
+        Piece::Text("\n"),
+    ];
+    write_all(output, &pieces)
+}
+
+/// How a letter of a line is shown: no control character but the tab reaches a terminal.
+fn shown(letter: char) -> char {
+    if letter.is_control() && letter != '\t' {
+        ' '
+    } else {
+        letter
+    }
+}

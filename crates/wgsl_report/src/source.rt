@@ -1,0 +1,32 @@
+// A text whose module is read, and what is asked of it.
+
+use crate::lines::Lines;
+use crate::message::Message;
+use std::alloc::Global;
+use wgsl_source::module::Module;
+use wgsl_source::structure::Struct;
+
+/// A text whose module is read, and what is asked of it.
+#[derive(Clone, Copy)]
+pub struct Source<'a> {
+    pub alloc: Global,
+    /// What the text is called.
+    pub file: &'a str,
+    pub lines: &'a Lines<'a>,
+    pub module: &'a Module<'a>,
+    pub messages: &'a [Message],
+    /// Whether no struct is asked about by its name, so that all are.
+    pub has_all: bool,
+    /// Which structs are asked about, or stand in one that is.
+    pub is_chosen: &'a [bool],
+}
+
+impl<'a> Source<'a> {
+    /// The struct with this index, if it is to be written.
+    pub fn chosen(self, index: usize) -> Option<&'a Struct<'a>> {
+        match self.is_chosen.get(index) {
+            Some(true) => self.module.structs.get(index),
+            _ => None,
+        }
+    }
+}

@@ -1,0 +1,104 @@
+// Types as WGSL spells them.
+
+use crate::layers::inside;
+use std::alloc::{AllocError, Global};
+use wgsl_source::measured::{Count, MeasuredType, TypeKind};
+use wgsl_source::module::Module;
+use wgsl_syntax::attribute::AccelerationStructureFlags;
+use wgsl_syntax::texel::TexelFormat;
+use wgsl_syntax::texture::TextureType;
+use wgsl_syntax::texture_name::TextureParameters;
+
+/// The spelling of a type.
+pub fn type_text(alloc: Global, module: &Module, ty: MeasuredType) -> Result<String, AllocError> {
+    let mut text = String::new(alloc);
+    let mut around = Vec::new(alloc);
+    let mut inner = ty;
+    for _ in 0..ty.levels {
+        if let Some(next) = inside(module, inner) {
+            around.push(inner)?;
+            write_start(&mut text, inner.kind)?;
+            inner = next;
+        }
+    }
+    write_leaf(&mut text, module, inner.kind)?;
+    for outer in around.iter().rev() {
+        write_end(&mut text, outer.kind)?;
+    }
+    Ok(text)
+}
+
+/// A type around another, up to that.
+fn write_start(text: &mut String, kind: TypeKind) -> Result<(), AllocError> {
+    match kind {
+        TypeKind::BindingArray(_, _) => text.push_str("binding_array<"),
+        TypeKind::Pointer(space, _, _) => write!(text, "ptr<{space}, "),
+        _ => text.push_str("array<"),
+    }
+}
+
+/// A type around another, from that on.
+fn write_end(text: &mut String, kind: TypeKind) -> Result<(), AllocError> {
+    match kind {
+        TypeKind::Array(_, Count::Known(count)) | TypeKind::BindingArray(_, Count::Known(count)) =>
+            { write!(text, ", {count}>") }
+        TypeKind::Array(_, Count::Override) | TypeKind::BindingArray(_, Count::Override) => {
+            text.push_str(", override>")
+        }
+        TypeKind::Pointer(_, _, access) => write!(text, ", {access}>"),
+        _ => text.push_str(">"),
+    }
+}
+
+/// A type in which no array or pointer stands.
+fn write_leaf(text: &mut String, module: &Module, kind: TypeKind) -> Result<(), AllocError> {
+    match kind {
+        TypeKind::Scalar(scalar) => text.push_str(scalar.name()),
+        TypeKind::Vector(count, scalar) => write!(text, "vec{count}<{scalar}>"),
+        TypeKind::Matrix(columns, rows, scalar) => { write!(text, "mat{columns}x{rows}<{scalar}>") }
+        TypeKind::Atomic(scalar) => write!(text, "atomic<{scalar}>"),
+        TypeKind::Struct(index) => match module.structs.get(index) {
+            Some(structure) => text.push_str(structure.name),
+            None => Ok(()),
+        },
+        TypeKind::Sampler(sampler) => write!(text, "{sampler}"),
+        TypeKind::Texture(texture) => write_texture(text, texture),
+        TypeKind::RayQuery(flag) => write_flagged(text, "ray_query", flag),
+        TypeKind::AccelerationStructure(flag) => {
+            write_flagged(text, "acceleration_structure", flag)
+        }
+        TypeKind::Array(_, _) | TypeKind::BindingArray(_, _) | TypeKind::Pointer(_, _, _) => Ok(()),
+    }
+}
+
+fn write_texture(text: &mut String, texture: TextureType) -> Result<(), AllocError> {
+    match texture.parameters() {
+        TextureParameters::Storage(format, access) => {
+            let name = texture.name();
+            write!(text, "{name}<")?;
+            write_format(text, format)?;
+            write!(text, ", {access}>")
+        }
+        _ => write!(text, "{texture}"),
+    }
+}
+
+/// Writes WGSL's name of a texel format, which is not naga's for one of them.
+pub fn write_format(text: &mut String, format: TexelFormat) -> Result<(), AllocError> {
+    match format {
+        TexelFormat::Rg11b10Float => text.push_str("rg11b10ufloat"),
+        _ => write!(text, "{format}"),
+    }
+}
+
+fn write_flagged(
+    text: &mut String,
+    name: &str,
+    flag: Option<AccelerationStructureFlags>,
+) -> Result<(), AllocError> {
+    text.push_str(name)?;
+    match flag {
+        Some(flag) => write!(text, "<{flag}>"),
+        None => Ok(()),
+    }
+}

@@ -1,0 +1,195 @@
+// Types in which no other type stands, and the names in template lists.
+ghost use Rattle.wgsl_source.specs.Cursor.{GoesOn};
+
+use crate::cursor::Cursor;
+use crate::fault::{Cause, Expected, Stop};
+use crate::head::{Head, LayerName, predeclared};
+use crate::keyword::is_name;
+use crate::measured::{MeasuredType, TypeKind};
+use crate::scope::{Meaning, Scope};
+use std::str::FromStr;
+use wgsl_syntax::address::{AccessMode, AddressSpace};
+use wgsl_syntax::attribute::AccelerationStructureFlags;
+use wgsl_syntax::scalar::Scalar;
+use wgsl_syntax::texel::TexelFormat;
+use wgsl_syntax::texture::{SampledType, TextureType};
+use wgsl_syntax::texture_name::{TextureName, TextureParameterKind, TextureParameters};
+
+impl<'t> Scope<'t> {
+    /// What the predeclared name of a type says. Some types of spellings have no name in a module.
+    pub fn head(&self, name: &str) -> Result<Head, Cause> {
+        let Some(head) = predeclared(name) else {
+            return Err(unknown_type(name));
+        };
+        let is_spelled_alone = matches!(
+            head,
+            Head::Scalar(Scalar::AbstractInt | Scalar::AbstractFloat)
+                | Head::Layer(LayerName::Reference)
+        );
+        if is_spelled_alone {
+            Err(unknown_type(name))
+        } else if head.is_half() && !self.extensions.half {
+            Err(Cause::NoHalf)
+        } else {
+            Ok(head)
+        }
+    }
+
+    /// A type in which no other type stands, behind its name.
+    pub fn read_leaf(&self, cursor: &mut Cursor<'t>, head: Head) -> Result<MeasuredType, Stop>
+        ensures goes_on { GoesOn cursor.old cursor.new }
+    {
+        let kind = match head {
+            Head::Scalar(scalar) => return Ok(MeasuredType::scalar(scalar)),
+            Head::Vec(n, scalar) => return Ok(MeasuredType::vector(n, scalar)),
+            Head::Mat(c, r, scalar) => return Ok(MeasuredType::matrix(c, r, scalar)),
+            Head::Sampler(sampler) => TypeKind::Sampler(sampler),
+            Head::Texture(name) => TypeKind::Texture(self.read_texture(cursor, name)?),
+            Head::RayQuery => TypeKind::RayQuery(self.read_flag(cursor)?),
+            _ => TypeKind::AccelerationStructure(self.read_flag(cursor)?),
+        };
+        Ok(MeasuredType::resource(kind))
+    }
+
+    /// A texture behind its name.
+    pub fn read_texture(
+        &self,
+        cursor: &mut Cursor<'t>,
+        name: TextureName,
+    ) -> Result<TextureType, Stop>
+        ensures goes_on { GoesOn cursor.old cursor.new }
+    {
+        let at = cursor.index();
+        let parameters = match name.parameter_kind() {
+            TextureParameterKind::None => TextureParameters::None,
+            TextureParameterKind::Sampled => self.read_sampled(cursor)?,
+            TextureParameterKind::Storage => self.read_storage(cursor)?,
+        };
+        match name.with(parameters) {
+            Some(texture) => Ok(texture),
+            None => Err(Stop::at(at, Cause::Expected(Expected::Type))),
+        }
+    }
+
+    /// The template list of a sampled texture.
+    fn read_sampled(&self, cursor: &mut Cursor<'t>) -> Result<TextureParameters, Stop>
+        ensures goes_on { GoesOn cursor.old cursor.new }
+    {
+        cursor.expect(b'<')?;
+        let at = cursor.index();
+        let name = cursor.take_word(Expected::SampledType)?;
+        cursor.take(b',');
+        cursor.expect(b'>')?;
+        match self.sampled_type(name) {
+            Some(sampled) => Ok(TextureParameters::Sampled(sampled)),
+            None => Err(Stop::at(at, Cause::Expected(Expected::SampledType))),
+        }
+    }
+
+    /// The sampled type that a name stands for.
+    fn sampled_type(&self, name: &'t str) -> Option<SampledType> {
+        let scalar = match self.meaning(name) {
+            None => return SampledType::from_str(name).ok(),
+            Some(Meaning::Type(ty)) => ty.as_scalar()?,
+            Some(_) => return None,
+        };
+        match scalar {
+            Scalar::F32 => Some(SampledType::F32),
+            Scalar::I32 => Some(SampledType::I32),
+            Scalar::U32 => Some(SampledType::U32),
+            _ => None,
+        }
+    }
+
+    /// The template list of a storage texture.
+    fn read_storage(&self, cursor: &mut Cursor<'t>) -> Result<TextureParameters, Stop>
+        ensures goes_on { GoesOn cursor.old cursor.new }
+    {
+        cursor.expect(b'<')?;
+        let at = cursor.index();
+        let format = format_named(self.take_enumerant(cursor, Expected::TexelFormat)?);
+        cursor.expect(b',')?;
+        let access = self.read_access(cursor)?;
+        cursor.take(b',');
+        cursor.expect(b'>')?;
+        match format {
+            Some(format) => Ok(TextureParameters::Storage(format, access)),
+            None => Err(Stop::at(at, Cause::Expected(Expected::TexelFormat))),
+        }
+    }
+
+    /// An access mode.
+    pub fn read_access(&self, cursor: &mut Cursor<'t>) -> Result<AccessMode, Stop>
+        ensures goes_on { GoesOn cursor.old cursor.new }
+    {
+        let at = cursor.index();
+        match AccessMode::from_str(self.take_enumerant(cursor, Expected::AccessMode)?) {
+            Ok(access) => Ok(access),
+            Err(_) => Err(Stop::at(at, Cause::Expected(Expected::AccessMode))),
+        }
+    }
+
+    /// The flag of a ray query or an acceleration structure, if there is a list.
+    pub fn read_flag(
+        &self,
+        cursor: &mut Cursor<'t>,
+    ) -> Result<Option<AccelerationStructureFlags>, Stop>
+        ensures goes_on { GoesOn cursor.old cursor.new }
+    {
+        if !cursor.take(b'<') {
+            return Ok(None);
+        }
+        let at = cursor.index();
+        let flag = AccelerationStructureFlags::from_str(self.take_enumerant(
+            cursor,
+            Expected::Flag,
+        )?);
+        cursor.take(b',');
+        cursor.expect(b'>')?;
+        match flag {
+            Ok(flag) => Ok(Some(flag)),
+            Err(_) => Err(Stop::at(at, Cause::Expected(Expected::Flag))),
+        }
+    }
+
+    /// Takes the name of an enumerant, which stands for one unless the module declares it.
+    pub fn take_enumerant(
+        &self,
+        cursor: &mut Cursor<'t>,
+        expected: Expected,
+    ) -> Result<&'t str, Stop>
+        ensures goes_on { GoesOn cursor.old cursor.new }
+    {
+        let at = cursor.index();
+        let name = cursor.take_word(expected)?;
+        match self.meaning(name) {
+            Some(_) => Err(Stop::at(at, Cause::Shadowed)),
+            None => Ok(name),
+        }
+    }
+}
+
+/// The address space with this name, or with naga's older one.
+pub fn space_named(name: &str) -> Option<AddressSpace> {
+    match name {
+        "immediate" => Some(AddressSpace::PushConstant),
+        _ => AddressSpace::from_str(name).ok(),
+    }
+}
+
+/// The texel format with this name, or with naga's.
+pub fn format_named(name: &str) -> Option<TexelFormat> {
+    match name {
+        "rg11b10ufloat" => Some(TexelFormat::Rg11b10Float),
+        _ => TexelFormat::from_str(name).ok(),
+    }
+}
+
+/// What is wrong with a word that nothing declares, where a type is wanted.
+fn unknown_type(word: &str) -> Cause {
+    if is_name(word) {
+        Cause::UnknownName
+    } else {
+        Cause::Expected(Expected::Type)
+    }
+}
