@@ -1,0 +1,44 @@
+//! The library for C: the functions of `wgsl.h`, over the proved calls. A slice is a pointer and a length.
+
+use std::ffi::c_char;
+use std::slice::{from_raw_parts, from_raw_parts_mut};
+use wgsl_types_proved::library;
+
+macro_rules! export {
+    ($($name:ident: $call:path;)*) => {
+        $(
+            /// As `wgsl.h` says.
+            ///
+            /// # Safety
+            ///
+            /// As `wgsl.h` says: the pointers are those of as many bytes as the lengths say, and `text_len` is that of a number.
+            #[no_mangle]
+            pub unsafe extern "C" fn $name(
+                request: *const u8,
+                request_len: usize,
+                buffer: *mut u8,
+                buffer_len: usize,
+                text_len: *mut usize,
+            ) -> u8 {
+                let (request, buffer) = (from_raw_parts(request, request_len), from_raw_parts_mut(buffer, buffer_len));
+                $call(request, buffer, &mut *text_len)
+            }
+        )*
+    };
+}
+
+export! {
+    wgsl_answer: library::answer;
+    wgsl_explain: library::explain;
+    wgsl_standard_answer: library::standard_answer;
+    wgsl_standard_explain: library::standard_explain;
+    wgsl_source_layout: library::source_layout;
+}
+
+const VERSION: &str = concat!(env!("CARGO_PKG_VERSION"), "\0");
+
+/// The version.
+#[no_mangle]
+pub extern "C" fn wgsl_version() -> *const c_char {
+    VERSION.as_ptr().cast()
+}

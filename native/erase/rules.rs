@@ -1,0 +1,227 @@
+//! What is left out, what is written otherwise, and why the meaning stays.
+
+use crate::derives::derive;
+use crate::names;
+use crate::source::{Refusal, Source};
+use std::collections::HashSet;
+
+/// What a rule knows beside the source.
+pub struct Project<'s> {
+    /// The name of the crate of the source.
+    pub name: &'s str,
+    /// The names of the methods that have an allocator among their parameters, in all crates.
+    pub methods: &'s HashSet<&'s str>,
+    /// The types that have a trait's `impl` of their own, as pairs of the trait and the type.
+    pub written_out: &'s HashSet<(&'s str, &'s str)>,
+}
+
+/// A rule is asked of each token. It answers where to go on, if it knows what stands there.
+type Rule = fn(&mut Source<'_>, usize, &Project<'_>) -> Result<Option<usize>, Refusal>;
+
+/// The rules. The first one that knows a token has it.
+const RULES: [Rule; 15] = [
+    // Left out: contracts, what only they use, and what speaks to the prover make no code.
+    ghost_item,
+    clause,
+    attribute,
+    // Left out: here a call from C is a plain function, which `native/c` exports.
+    exported,
+    // Left out: a program's tests are for the proved build, whose `main` they drive.
+    tests,
+    // `Drop` in a derive says that values may be let go, which any value may in Rust: no source has an `impl Drop`, which
+    // is refused. In its place stand the derives that Rust's users expect of data, unless the source writes them out.
+    // Nothing in the sources calls them.
+    derive,
+    drop_impl,
+    // Rust's `Formatter` has no parameter for what it writes to.
+    formatter,
+    writer,
+    // Rust calls the `main` of a binary without arguments. Here it is called by one.
+    main_function,
+    // Each crate is a module of one. The names of crates, and `std`, come from the line that is put in.
+    names::path,
+    // The enumeration `Type` has that name to itself in the proofs. Users know this variant as `Type`.
+    names::template_parameter,
+    // Rust's `Box`, `Vec`, `String` and `BTreeMap` have functions of these names with other parameters and results. The
+    // shim has Rattle's, as traits, by these names with a prefix. A name that it lacks doesn't compile.
+    names::of_std,
+    // So that users have methods of these names without an allocator, and don't see these.
+    names::with_allocator,
+    // So that users don't see these.
+    names::internal,
+];
+
+/// What is put into each file: Rattle's prelude, and the names of crates.
+const FIRST_LINE: &str = "#[allow(unused_imports)]\nuse crate::shim::prelude::*;";
+
+/// The source in Rust.
+pub fn erase(mut source: Source<'_>, project: &Project<'_>) -> Result<String, Refusal> {
+    let mut index = 0;
+    while index < source.len() {
+        let mut next = index + 1;
+        for rule in RULES {
+            if let Some(behind) = rule(&mut source, index, project)? {
+                next = behind;
+                break;
+            }
+        }
+        index = next;
+    }
+    source.put_first(FIRST_LINE);
+    source.edited()
+}
+
+/// `ghost use ..;`, `ghost name = {..};`, `ghost name: {..};` or `ghost name: {..},`, with the comments right above.
+fn ghost_item(
+    source: &mut Source<'_>,
+    index: usize,
+    _: &Project<'_>,
+) -> Result<Option<usize>, Refusal> {
+    if source.at(index) != "ghost" || !source.is_word(index + 1) {
+        return Ok(None);
+    }
+    let end = source
+        .find(index, &[";", ",", ")", "]", "}"])
+        .filter(|end| matches!(source.at(*end), ";" | ","));
+    let end = end.ok_or_else(|| source.refuse(index, "a ghost item without an end"))?;
+    let first = if source.before(index, 1) == "pub" { index - 1 } else { index };
+    source.leave_out(first, end);
+    source.leave_out_comments_above(first);
+    Ok(Some(end + 1))
+}
+
+/// `requires {..}`, `ensures {..}`, `ensures name {..}` or `ensures* name {..}`.
+fn clause(
+    source: &mut Source<'_>,
+    index: usize,
+    _: &Project<'_>,
+) -> Result<Option<usize>, Refusal> {
+    if !matches!(source.at(index), "requires" | "ensures") {
+        return Ok(None);
+    }
+    let mut open = index + 1;
+    while source.at(open) == "*" || source.is_word(open) {
+        open += 1;
+    }
+    if source.at(open) != "{" {
+        return Err(source.refuse(index, "a clause without braces"));
+    }
+    let behind = source.behind(open);
+    source.leave_out(index, behind - 1);
+    Ok(Some(behind))
+}
+
+/// `#[tactic(..)]`, `#![tactic(..)]` and `#[cycle(..)]`; `#[unsafe(no_mangle)]`, since `native/c` exports. Those that Rust has stay,
+/// and others are refused.
+fn attribute(
+    source: &mut Source<'_>,
+    index: usize,
+    _: &Project<'_>,
+) -> Result<Option<usize>, Refusal> {
+    let open = if source.has(index, &["#", "!", "["]) { index + 2 } else { index + 1 };
+    if source.at(index) != "#" || source.at(open) != "[" {
+        return Ok(None);
+    }
+    match source.at(open + 1) {
+        "tactic" | "cycle" | "unsafe" => {
+            let behind = source.behind(open);
+            source.leave_out(index, behind - 1);
+            Ok(Some(behind))
+        }
+        "derive" | "inline" | "cold" | "must_use" | "non_exhaustive" | "cfg" => Ok(None),
+        name => Err(source.refuse(index, format!("the attribute `{name}` isn't known"))),
+    }
+}
+
+/// `extern "C"` in front of a function.
+fn exported(
+    source: &mut Source<'_>,
+    index: usize,
+    _: &Project<'_>,
+) -> Result<Option<usize>, Refusal> {
+    if !source.has(index, &["extern", "\"C\"", "fn"]) {
+        return Ok(None);
+    }
+    source.leave_out(index, index + 1);
+    Ok(Some(index + 2))
+}
+
+/// `#[cfg(test)] mod name;`. Any other condition is refused.
+fn tests(source: &mut Source<'_>, index: usize, _: &Project<'_>) -> Result<Option<usize>, Refusal> {
+    if !source.has(index, &["#", "[", "cfg"]) {
+        return Ok(None);
+    }
+    if !source.has(index + 3, &["(", "test", ")", "]", "mod"]) || source.at(index + 9) != ";" {
+        return Err(source.refuse(index, "a condition that isn't `test`, or not of a file"));
+    }
+    source.leave_out(index, index + 9);
+    Ok(Some(index + 10))
+}
+
+/// `impl Drop for ..`, which is refused.
+fn drop_impl(
+    source: &mut Source<'_>,
+    index: usize,
+    _: &Project<'_>,
+) -> Result<Option<usize>, Refusal> {
+    if source.at(index) == "Drop" && source.at(index + 1) == "for" {
+        return Err(source.refuse(index, "what happens when a value is let go"));
+    }
+    Ok(None)
+}
+
+/// `Formatter<W>`, which becomes `Formatter<'_>`.
+fn formatter(
+    source: &mut Source<'_>,
+    index: usize,
+    _: &Project<'_>,
+) -> Result<Option<usize>, Refusal> {
+    if !source.has(index, &["Formatter", "<"]) {
+        return Ok(None);
+    }
+    if !source.is_word(index + 2) || source.at(index + 3) != ">" {
+        return Err(source.refuse(index, "a `Formatter` of something else than a parameter"));
+    }
+    source.put(index + 2, index + 2, "'_");
+    Ok(Some(index + 4))
+}
+
+/// `<W: Write>` behind the name of a function that takes a `Formatter<W>`.
+fn writer(
+    source: &mut Source<'_>,
+    index: usize,
+    _: &Project<'_>,
+) -> Result<Option<usize>, Refusal> {
+    let open = index + 2;
+    if source.at(index) != "fn" || !source.has(open, &["<", "W", ":"]) {
+        return Ok(None);
+    }
+    let Some(close) = source.find(open, &[">"]).filter(|close| source.at(close + 1) == "(") else {
+        return Ok(None);
+    };
+    let parameters = close + 1..source.behind(close + 1);
+    let is_formatter = |at: usize| source.has(at, &["Formatter", "<", "W", ">"]);
+    if !parameters.into_iter().any(is_formatter) {
+        return Ok(None);
+    }
+    if !source.has(open + 3, &["Write", ">"]) && !source.has(open + 3, &["fmt", "::", "Write", ">"])
+    {
+        return Err(source.refuse(index, "a `Formatter` beside other parameters of types"));
+    }
+    source.leave_out(open, close);
+    // The name in front of it may have a prefix.
+    Ok(None)
+}
+
+/// `fn main`, which becomes `pub(crate) fn main`.
+fn main_function(
+    source: &mut Source<'_>,
+    index: usize,
+    _: &Project<'_>,
+) -> Result<Option<usize>, Refusal> {
+    if !source.has(index, &["fn", "main", "("]) {
+        return Ok(None);
+    }
+    source.put(index, index, "pub(crate) fn");
+    Ok(Some(index + 2))
+}

@@ -1,0 +1,80 @@
+//! Sizes, alignments and offsets in memory (WGSL, "Alignment and Size").
+//!
+//! The size and the alignment of a type, and the least size:
+//!
+//! ```
+//! use wgsl_types_proved::Type;
+//!
+//! let elements = Type::array(Some(4), Type::vector(3, Type::F32));
+//! assert_eq!((elements.size_of(), elements.align_of()), (Some(64), Some(16)));
+//! ```
+//!
+//! ```
+//! use wgsl_types_proved::Type;
+//!
+//! let elements = Type::array(None, Type::vector(3, Type::F32));
+//! assert_eq!((elements.size_of(), elements.min_size_of()), (None, Some(16)));
+//! ```
+//!
+//! ```
+//! use wgsl_types_proved::Type;
+//!
+//! assert_eq!(Type::vector(3, Type::F16).align_of(), Some(8));
+//! assert_eq!(Type::AbstractInt.align_of(), None);
+//! ```
+//!
+//! Those of a struct:
+//!
+//! ```
+//! use wgsl_types_proved::ty::StructType;
+//! use wgsl_types_proved::Type;
+//!
+//! let light = StructType::new("Light", [("power", Type::F32), ("color", Type::vector(3, Type::F32))]);
+//! assert_eq!(light.size_of(), Some(32));
+//! ```
+//!
+//! ```
+//! use wgsl_types_proved::ty::StructType;
+//! use wgsl_types_proved::Type;
+//!
+//! let light = StructType::new("Light", [("power", Type::F32), ("color", Type::vector(3, Type::F32))]);
+//! assert_eq!(light.align_of(), Some(16));
+//! ```
+
+pub use crate::proved::wgsl_core::layout::{PlacedMember, StructLayout};
+use crate::shim::always;
+use crate::shim::std::alloc::Global;
+use crate::ty::StructType;
+use alloc::vec::Vec;
+
+impl StructType {
+    /// The layout of the struct: each member at the smallest offset of any placement, and the smallest size.
+    ///
+    /// None exactly if the struct has no size: if it has no members; if a member's size or alignment comes neither from an
+    /// attribute nor from its type, or its alignment is 0; and if the size is above 4294967295.
+    ///
+    /// ```
+    /// use wgsl_types_proved::ty::StructType;
+    /// use wgsl_types_proved::Type;
+    ///
+    /// let light = StructType::new("Light", [("power", Type::F32), ("color", Type::vector(3, Type::F32))]);
+    /// let layout = light.layout().unwrap();
+    /// assert_eq!((layout.members[1].offset, layout.members[1].size, layout.size), (16, 12, 32));
+    /// ```
+    pub fn layout(&self) -> Option<StructLayout> {
+        always(self.rattle_layout(Global))
+    }
+
+    /// The offset of each member in bytes: no placement has a smaller one. None if [`layout`](StructType::layout) is None.
+    ///
+    /// ```
+    /// use wgsl_types_proved::ty::StructType;
+    /// use wgsl_types_proved::Type;
+    ///
+    /// let light = StructType::new("Light", [("power", Type::F32), ("color", Type::vector(3, Type::F32))]);
+    /// assert_eq!(light.offsets(), Some(vec![0, 16]));
+    /// ```
+    pub fn offsets(&self) -> Option<Vec<u32>> {
+        always(self.rattle_offsets(Global))
+    }
+}

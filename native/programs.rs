@@ -1,0 +1,61 @@
+//! The programs: the `main` of each proved one, and what starts it.
+
+use crate::proved::{wgsl_check, wgsl_layout, wgsl_standard_check};
+use crate::shim::host::HostRuntime;
+use crate::shim::std::process::ExitCode;
+use alloc::format;
+use alloc::string::String;
+use alloc::vec::Vec;
+use rust_std::io::Write;
+
+/// `wgsl_check`: requests on standard input, answered by the rules of wgsl-types.
+pub fn check() -> ExitCode {
+    start("wgsl_check", "", wgsl_check::main)
+}
+
+/// `wgsl_standard`: requests on standard input, answered by WGSL's own overloads.
+pub fn standard() -> ExitCode {
+    start("wgsl_standard", " by WGSL's own overloads", wgsl_standard_check::main)
+}
+
+/// `wgsl_layout`: the layouts of WGSL files. It reads its arguments itself.
+pub fn layout() -> ExitCode {
+    wgsl_layout::main(HostRuntime)
+}
+
+/// Starts a program that reads standard input, or says what it is.
+fn start(name: &str, by_rules: &str, main: fn(HostRuntime) -> ExitCode) -> ExitCode {
+    let words: Option<Vec<String>> =
+        rust_std::env::args_os().skip(1).map(|word| word.into_string().ok()).collect();
+    let words: Option<Vec<&str>> =
+        words.as_ref().map(|words| words.iter().map(String::as_str).collect());
+    match words.as_deref() {
+        Some([]) => main(HostRuntime),
+        Some(["--version"]) => tell(&format!("{name} {}\n", env!("CARGO_PKG_VERSION"))),
+        Some(["--help" | "-h"]) => tell(&help(name, by_rules)),
+        _ => {
+            rust_std::eprintln!(
+                "{name}: it takes no argument, and reads commands from standard input: see {name} --help"
+            );
+            ExitCode::from(64)
+        }
+    }
+}
+
+fn help(name: &str, by_rules: &str) -> String {
+    format!(
+        "\
+usage: {name} <COMMANDS
+       {name} --version
+
+Reads commands from standard input, one per line, and prints the answers{by_rules}. docs/USING.md lists the commands.
+
+Exit status: 0 if every line was readable, 1 if a read or a write failed, 2 if a line wasn't readable, 64 if there was an
+argument.
+"
+    )
+}
+
+fn tell(text: &str) -> ExitCode {
+    ExitCode::from(u8::from(HostRuntime.stdout().write_all(text.as_bytes()).is_err()))
+}

@@ -1,0 +1,76 @@
+//! What Rattle has and Rust hasn't: an allocator that is passed, and calls that fail when memory runs out.
+//!
+//! Rust's allocation ends the process instead, so `AllocError` has no values here: a `Result<T, AllocError>` is a `T`, a `?`
+//! on it is no branch, and an arm for it is no code.
+
+mod collections;
+#[cfg(feature = "std")]
+pub mod host;
+mod simd;
+pub mod std;
+
+use self::std::alloc::AllocError;
+use crate::proved::wgsl_core::error::Fail;
+
+/// What each module of the proved sources uses: what Rattle has in its prelude, and the names of crates.
+pub mod prelude {
+    pub(crate) use super::collections::{
+        RattleBox, RattleExtend, RattleMap, RattleSet, RattleString, RattleToString, RattleVec,
+        RattleWrite,
+    };
+    #[cfg(feature = "std")]
+    pub(crate) use super::host::{eprintln, HostRuntime};
+    #[allow(unused_imports)]
+    pub(crate) use super::macros::{format, vec};
+    pub(crate) use super::{std, Drop};
+    pub(crate) use crate::proved::*;
+    pub(crate) use alloc::boxed::Box;
+    pub(crate) use alloc::string::String;
+    pub(crate) use alloc::vec::Vec;
+}
+
+/// The value of what can't fail.
+#[inline(always)]
+pub fn always<T>(made: Result<T, AllocError>) -> T {
+    match made {
+        Ok(made) => made,
+        Err(never) => match never {},
+    }
+}
+
+/// The answer, or why there is none.
+#[inline(always)]
+pub fn settled<T, E>(made: Result<T, Fail<E>>) -> Result<T, E> {
+    match made {
+        Ok(made) => Ok(made),
+        Err(Fail::Error(error)) => Err(error),
+        Err(Fail::Memory(never)) => match never {},
+    }
+}
+
+/// The bound of Rattle for values that may be let go. In Rust all may.
+pub trait Drop {}
+
+impl<T: ?Sized> Drop for T {}
+
+mod macros {
+    /// `vec![in alloc; ..]?`
+    macro_rules! vec_in {
+        (in $alloc:expr; $($items:tt)*) => {{
+            let crate::shim::std::alloc::Global = $alloc;
+            Ok::<_, crate::shim::std::alloc::AllocError>(alloc::vec![$($items)*])
+        }};
+    }
+
+    /// `format!(in alloc; ..)?`
+    #[allow(unused_macros)] // the programs use it
+    macro_rules! format_in {
+        (in $alloc:expr; $($format:tt)*) => {{
+            let crate::shim::std::alloc::Global = $alloc;
+            Ok::<_, crate::shim::std::alloc::AllocError>(alloc::format!($($format)*))
+        }};
+    }
+
+    #[allow(unused_imports)]
+    pub(crate) use {format_in as format, vec_in as vec};
+}

@@ -1,0 +1,191 @@
+//! Rattle's functions of `Box`, `Vec`, `String`, `BTreeMap` and `BTreeSet`, by the names that the eraser gives them: each is one
+//! call of Rust's std.
+
+use super::std::alloc::{AllocError, Global};
+use alloc::boxed::Box;
+use alloc::collections::{BTreeMap, BTreeSet};
+use alloc::string::{String, ToString};
+use alloc::vec::Vec;
+use core::fmt;
+
+type Made<T> = Result<T, AllocError>;
+
+pub trait RattleBox<T> {
+    fn rattle_new(alloc: Global, value: T) -> Made<Box<T>>;
+    fn rattle_into_inner(boxed: Box<T>) -> T;
+}
+
+impl<T> RattleBox<T> for Box<T> {
+    #[inline(always)]
+    fn rattle_new(_: Global, value: T) -> Made<Box<T>> {
+        Ok(Box::new(value))
+    }
+
+    #[inline(always)]
+    fn rattle_into_inner(boxed: Box<T>) -> T {
+        *boxed
+    }
+}
+
+pub trait RattleVec<T>: Sized {
+    fn rattle_new(alloc: Global) -> Self;
+    fn rattle_with_capacity(alloc: Global, capacity: usize) -> Made<Self>;
+    fn rattle_push(&mut self, value: T) -> Made<()>;
+    fn rattle_insert(&mut self, index: usize, value: T) -> Made<()>;
+}
+
+impl<T> RattleVec<T> for Vec<T> {
+    #[inline(always)]
+    fn rattle_new(_: Global) -> Self {
+        Vec::new()
+    }
+
+    #[inline(always)]
+    fn rattle_with_capacity(_: Global, capacity: usize) -> Made<Self> {
+        Ok(Vec::with_capacity(capacity))
+    }
+
+    #[inline(always)]
+    fn rattle_push(&mut self, value: T) -> Made<()> {
+        self.push(value);
+        Ok(())
+    }
+
+    #[inline(always)]
+    fn rattle_insert(&mut self, index: usize, value: T) -> Made<()> {
+        self.insert(index, value);
+        Ok(())
+    }
+}
+
+pub trait RattleExtend<T> {
+    fn rattle_extend_from_slice(&mut self, values: &[T]) -> Made<()>;
+}
+
+impl<T: Copy> RattleExtend<T> for Vec<T> {
+    #[inline(always)]
+    fn rattle_extend_from_slice(&mut self, values: &[T]) -> Made<()> {
+        self.extend_from_slice(values);
+        Ok(())
+    }
+}
+
+pub trait RattleString: Sized {
+    fn rattle_new(alloc: Global) -> Self;
+    fn rattle_from_str(alloc: Global, text: &str) -> Made<Self>;
+    fn rattle_push(&mut self, c: char) -> Made<()>;
+    fn rattle_push_str(&mut self, text: &str) -> Made<()>;
+}
+
+impl RattleString for String {
+    #[inline(always)]
+    fn rattle_new(_: Global) -> Self {
+        String::new()
+    }
+
+    #[inline(always)]
+    fn rattle_from_str(_: Global, text: &str) -> Made<Self> {
+        Ok(String::from(text))
+    }
+
+    #[inline(always)]
+    fn rattle_push(&mut self, c: char) -> Made<()> {
+        self.push(c);
+        Ok(())
+    }
+
+    #[inline(always)]
+    fn rattle_push_str(&mut self, text: &str) -> Made<()> {
+        self.push_str(text);
+        Ok(())
+    }
+}
+
+/// `write!` to a String, whose error is that of memory.
+pub trait RattleWrite {
+    fn write_fmt(&mut self, args: fmt::Arguments<'_>) -> Made<()>;
+}
+
+impl RattleWrite for String {
+    #[inline]
+    fn write_fmt(&mut self, args: fmt::Arguments<'_>) -> Made<()> {
+        if fmt::Write::write_fmt(self, args).is_err() {
+            unreachable!("no `Display` here gives an error of its own");
+        }
+        Ok(())
+    }
+}
+
+pub trait RattleMap<K, V>: Sized {
+    fn rattle_new(alloc: Global) -> Self;
+    fn rattle_insert(&mut self, key: K, value: V) -> Made<Option<V>>;
+}
+
+impl<K: Ord, V> RattleMap<K, V> for BTreeMap<K, V> {
+    #[inline(always)]
+    fn rattle_new(_: Global) -> Self {
+        BTreeMap::new()
+    }
+
+    #[inline(always)]
+    fn rattle_insert(&mut self, key: K, value: V) -> Made<Option<V>> {
+        Ok(self.insert(key, value))
+    }
+}
+
+pub trait RattleSet<T>: Sized {
+    fn rattle_new(alloc: Global) -> Self;
+    fn rattle_insert(&mut self, value: T) -> Made<bool>;
+}
+
+impl<T: Ord> RattleSet<T> for BTreeSet<T> {
+    #[inline(always)]
+    fn rattle_new(_: Global) -> Self {
+        BTreeSet::new()
+    }
+
+    #[inline(always)]
+    fn rattle_insert(&mut self, value: T) -> Made<bool> {
+        Ok(self.insert(value))
+    }
+}
+
+pub trait RattleToString {
+    fn rattle_to_string(&self, alloc: Global) -> Made<String>;
+}
+
+impl<T: fmt::Display + ?Sized> RattleToString for T {
+    #[inline(always)]
+    fn rattle_to_string(&self, _: Global) -> Made<String> {
+        Ok(self.to_string())
+    }
+}
+
+#[cfg(test)]
+mod tests {
+    use super::*;
+
+    #[test]
+    fn values_are_put_where_they_belong() {
+        let mut values = Vec::rattle_new(Global);
+        assert_eq!((values.rattle_push(1), values.rattle_insert(0, 2)), (Ok(()), Ok(())));
+        assert_eq!(values.rattle_extend_from_slice(&[3, 4]), Ok(()));
+        assert_eq!(values, [2, 1, 3, 4]);
+        let mut text = String::rattle_from_str(Global, "a").unwrap();
+        assert_eq!((text.rattle_push_str("bc"), text.rattle_push('é')), (Ok(()), Ok(())));
+        assert_eq!(write!(text, "{:>3}", 4), Ok(()));
+        assert_eq!((text.as_str(), 7.rattle_to_string(Global)), ("abcé  4", Ok("7".to_string())));
+    }
+
+    #[test]
+    fn a_second_value_replaces_the_first() {
+        let mut map = BTreeMap::rattle_new(Global);
+        assert_eq!(
+            (map.rattle_insert(1, 'a'), map.rattle_insert(1, 'b')),
+            (Ok(None), Ok(Some('a')))
+        );
+        assert_eq!(map[&1], 'b');
+        let mut set = BTreeSet::rattle_new(Global);
+        assert_eq!((set.rattle_insert(1), set.rattle_insert(1)), (Ok(true), Ok(false)));
+    }
+}

@@ -1,0 +1,55 @@
+//! The modules of Rattle's std that the proved sources name.
+
+pub use core::{cmp, str};
+
+/// The allocator.
+pub mod alloc {
+    use core::fmt;
+
+    /// The allocator that Rust's collections use without being told.
+    #[derive(Clone, Copy, Debug, PartialEq, Eq, Hash)]
+    pub struct Global;
+
+    /// Out of memory, which is never answered here.
+    #[derive(Clone, Copy, Debug, PartialEq, Eq, Hash)]
+    pub enum AllocError {}
+
+    /// Out of memory, with the value that had no room.
+    pub struct AllocFailed<T> {
+        error: AllocError,
+        _value: T,
+    }
+
+    impl<T> From<AllocFailed<T>> for AllocError {
+        fn from(failed: AllocFailed<T>) -> AllocError {
+            failed.error
+        }
+    }
+
+    impl fmt::Display for AllocError {
+        fn fmt(&self, _: &mut fmt::Formatter<'_>) -> fmt::Result {
+            match *self {}
+        }
+    }
+}
+
+pub mod collections {
+    pub use alloc::collections::{BTreeMap, BTreeSet};
+}
+
+pub mod fmt {
+    pub use crate::shim::collections::RattleWrite as Write;
+    pub use core::fmt::{Debug, Display, Formatter, Result};
+}
+
+pub mod simd {
+    pub use crate::shim::simd::Simd;
+
+    #[cfg(feature = "std")]
+    pub mod prelude {
+        pub use crate::shim::simd::u8x16;
+    }
+}
+
+#[cfg(feature = "std")]
+pub use crate::shim::host::{env, fs, io, process};

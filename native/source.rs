@@ -1,0 +1,167 @@
+//! What a WGSL file declares: the layouts of its structs, where its variables are bound, its overrides and its entry points
+//! (WGSL, "Memory Layout").
+
+mod laid_out;
+
+pub use crate::proved::wgsl_report::lines::Place;
+use crate::proved::wgsl_source::entry;
+use crate::syntax::{AccessMode, AddressSpace, Scalar};
+use alloc::string::String;
+use alloc::vec::Vec;
+use core::fmt;
+pub use entry::Stage;
+pub(crate) use laid_out::fault_text;
+
+/// What a module declares, and what is wrong with it.
+#[derive(Clone, Debug, PartialEq, Eq, Hash)]
+#[non_exhaustive]
+pub struct Layouts {
+    /// The structs that have a layout, in the order of the text.
+    pub structs: Vec<Struct>,
+    /// The variables of the module that lie in memory, in the order of the text.
+    pub variables: Vec<Variable>,
+    /// The values that are given when a pipeline is made, in the order of the text.
+    pub overrides: Vec<Override>,
+    /// The functions with which stages of a pipeline begin, in the order of the text.
+    pub entry_points: Vec<EntryPoint>,
+    /// What can't be read or laid out. Reading goes on behind it.
+    pub errors: Vec<Message>,
+    /// Which rules of address spaces a variable breaks, and what naga alone has.
+    pub findings: Vec<Message>,
+}
+
+/// A struct, in bytes.
+#[derive(Clone, Debug, PartialEq, Eq, Hash)]
+#[non_exhaustive]
+pub struct Struct {
+    /// The name.
+    pub name: String,
+    /// Where its name stands.
+    pub place: Place,
+    /// The size; with one element, if the last member is a runtime-sized array.
+    pub size: u32,
+    /// The alignment.
+    pub align: u32,
+    /// Whether the last member is a runtime-sized array.
+    pub is_runtime_sized: bool,
+    /// The members, in order.
+    pub members: Vec<Member>,
+}
+
+/// A member of a struct, in bytes.
+#[derive(Clone, Debug, PartialEq, Eq, Hash)]
+#[non_exhaustive]
+pub struct Member {
+    /// The name.
+    pub name: String,
+    /// Where its name stands.
+    pub place: Place,
+    /// The type, as WGSL spells it, with aliases resolved.
+    pub ty: String,
+    /// Where the member begins.
+    pub offset: u32,
+    /// The size.
+    pub size: u32,
+    /// The alignment.
+    pub align: u32,
+    /// How far the elements of an array or the columns of a matrix lie apart.
+    pub stride: Option<u32>,
+    /// How many bytes lie between this member and the next one, or the end of the struct.
+    pub padding: u32,
+}
+
+/// A variable of the module.
+#[derive(Clone, Debug, PartialEq, Eq, Hash)]
+#[non_exhaustive]
+pub struct Variable {
+    /// The name.
+    pub name: String,
+    /// Where its name stands.
+    pub place: Place,
+    /// The type, as WGSL spells it, with aliases resolved.
+    pub ty: String,
+    /// The number of `@group`.
+    pub group: Option<u32>,
+    /// The number of `@binding`.
+    pub binding: Option<u32>,
+    /// The address space; that of `var<immediate>` is `PushConstant`.
+    pub space: AddressSpace,
+    /// The access mode.
+    pub access: AccessMode,
+    /// The size of the type in bytes, if it has one.
+    pub size: Option<u32>,
+    /// The least number of bytes that a buffer bound here has, if it is one.
+    pub min_binding_size: Option<u32>,
+}
+
+/// A value that is given when a pipeline is made.
+#[derive(Clone, Debug, PartialEq, Eq, Hash)]
+#[non_exhaustive]
+pub struct Override {
+    /// The name.
+    pub name: String,
+    /// Where its name stands.
+    pub place: Place,
+    /// The number of `@id`.
+    pub id: Option<u32>,
+    /// The type; None if only the value says it, and that isn't read here.
+    pub ty: Option<Scalar>,
+    /// Whether it has a value if none is given.
+    pub has_default: bool,
+}
+
+/// A function with which a stage of a pipeline begins.
+#[derive(Clone, Debug, PartialEq, Eq, Hash)]
+#[non_exhaustive]
+pub struct EntryPoint {
+    /// The name.
+    pub name: String,
+    /// Where its name stands.
+    pub place: Place,
+    /// The stage.
+    pub stage: Stage,
+    /// How many invocations a workgroup has in each dimension, None where an override gives it.
+    pub workgroup_size: Option<[Option<u32>; 3]>,
+}
+
+/// What is said of a place in the text. It displays as `10:3: ..`.
+#[derive(Clone, Debug, PartialEq, Eq, Hash)]
+#[non_exhaustive]
+pub struct Message {
+    /// The line, from 1.
+    pub line: usize,
+    /// The column, in bytes from 1.
+    pub column: usize,
+    /// The column in units of UTF-16, from 1, as editors count them.
+    pub utf16_column: usize,
+    /// The name of what is wrong, for programs.
+    pub kind: String,
+    /// What is wrong, and what would mend it.
+    pub text: String,
+}
+
+impl fmt::Display for Message {
+    fn fmt(&self, f: &mut fmt::Formatter<'_>) -> fmt::Result {
+        write!(f, "{}:{}: {}", self.line, self.column, self.text)
+    }
+}
+
+/// The layouts of a module, which is given as its text. Bytes that aren't UTF-8 are an error in the answer, as any other.
+///
+/// ```
+/// let module = wgsl_types_proved::source::layouts(
+///     "const LIGHTS = 2 + 2;
+///      struct Light { color: vec3f, power: f32, @align(16) cone: vec2f }
+///      struct Scene { lights: array<Light, LIGHTS>, weights: array<f32, 3> }
+///      @group(0) @binding(1) var<uniform> scene: Scene;",
+/// );
+/// let [light, scene] = &module.structs[..] else { panic!() };
+/// assert_eq!((light.size, light.members[2].offset, light.members[2].padding), (32, 16, 8));
+/// assert_eq!((scene.members[0].ty.as_str(), scene.members[0].stride), ("array<Light, 4>", Some(32)));
+/// assert_eq!(module.variables[0].min_binding_size, Some(144));
+/// assert!(module.errors.is_empty());
+/// assert!(module.findings[0].text.contains("`Scene.weights` has elements with the stride 4"));
+/// ```
+pub fn layouts(text: impl AsRef<[u8]>) -> Layouts {
+    laid_out::layouts(text.as_ref())
+}

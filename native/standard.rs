@@ -1,0 +1,167 @@
+//! WGSL's own overloads: which overload an operator, a call or a constructor resolves to, what its operands convert to, what
+//! it returns, and why no overload takes the operands (WGSL, "Overload Resolution").
+//!
+//! The calls of [`builtin`](crate::builtin) answer by the rules of wgsl-types 0.3.2 instead, which differ from WGSL's.
+//! Constructors of arrays and structs, `&`, `*` and naga's ray queries have no overloads: ask `builtin`.
+//!
+//! A compiler asks with what it knows of an expression: its type and whether it is a const-expression. It loads nothing and
+//! makes nothing concrete before it asks. The type of a variable is a reference: one that can be read stands for what it
+//! loads as.
+//!
+//! ```
+//! use wgsl_types_proved::standard::{resolve_builtin_fn, type_unary_op, Operand};
+//! use wgsl_types_proved::syntax::UnaryOperator::Negation;
+//! use wgsl_types_proved::Type;
+//!
+//! let (int, x) = (Operand::new(Type::AbstractInt), Operand::new(Type::F32));
+//! let v = Operand::new("vec3<f32>".parse()?);
+//! assert_eq!(type_unary_op(Negation, &v), Ok(v.ty.clone()));
+//!
+//! let call = resolve_builtin_fn("ldexp", None, &[x, int.clone()]).unwrap();
+//! assert_eq!(call.parameters, [Type::F32, Type::I32]);
+//!
+//! let refused = resolve_builtin_fn("dot", None, &[v, int]).unwrap_err();
+//! assert_eq!(refused.to_string(), "no overload of `dot` takes (vec3<f32>, AbstractInt)");
+//! let dot = "dot(vecN<T>, vecN<T>) -> T, T: number";
+//! assert_eq!(refused.explanations(), [format!("{dot}: argument 2 is AbstractInt")]);
+//! # Ok::<(), wgsl_types_proved::ty::SpellingError>(())
+//! ```
+
+mod overload;
+mod refusal;
+mod resolve;
+
+use crate::proved::wgsl_standard as proved;
+use crate::syntax::{BinaryOperator, UnaryOperator};
+use crate::ty::Type;
+use alloc::string::String;
+use alloc::vec::Vec;
+use core::fmt;
+pub use overload::{overloads, Overload};
+pub use refusal::{explain, NoOverload};
+pub use resolve::{resolve_binary_op, resolve_builtin_fn, resolve_ctor, resolve_unary_op};
+pub use resolve::{type_binary_op, type_builtin_fn, type_ctor, type_unary_op};
+
+/// An operand of an operator, or an argument of a call.
+#[derive(Clone, Debug, PartialEq, Eq, Hash)]
+pub struct Operand {
+    /// The type of the expression, not loaded and not made concrete.
+    pub ty: Type,
+    /// Whether it is a const-expression. If one operand isn't, no operand converts to an abstract type.
+    pub is_constant: bool,
+}
+
+impl Operand {
+    /// An expression of that type. It is a const-expression exactly if the type is abstract, as no other has one.
+    ///
+    /// ```
+    /// use wgsl_types_proved::{standard::Operand, Type};
+    ///
+    /// assert!(Operand::new(Type::AbstractInt).is_constant);
+    /// assert!(!Operand::new(Type::I32).is_constant);
+    /// ```
+    pub fn new(ty: Type) -> Operand {
+        let is_constant = ty.is_abstract();
+        Operand { ty, is_constant }
+    }
+
+    /// A const-expression of that type, such as a literal, a constant, or what is computed from these alone.
+    ///
+    /// ```
+    /// use wgsl_types_proved::standard::{type_binary_op, Operand};
+    /// use wgsl_types_proved::syntax::BinaryOperator::ShiftLeft;
+    /// use wgsl_types_proved::Type;
+    ///
+    /// let one = Operand::constant(Type::AbstractInt);
+    /// let shifted = |by| type_binary_op(ShiftLeft, &one, &by);
+    /// assert_eq!(shifted(Operand::constant(Type::U32)), Ok(Type::AbstractInt));
+    /// assert_eq!(shifted(Operand::new(Type::U32)), Ok(Type::I32));
+    /// ```
+    pub fn constant(ty: Type) -> Operand {
+        Operand { ty, is_constant: true }
+    }
+}
+
+/// An expression of that type, as [`Operand::new`] makes it.
+impl From<Type> for Operand {
+    fn from(ty: Type) -> Operand {
+        Operand::new(ty)
+    }
+}
+
+/// What a call resolves to: the overload, and what a compiler converts the operands to.
+#[derive(Clone, Debug, PartialEq, Eq, Hash)]
+#[non_exhaustive]
+pub struct Resolution {
+    /// The index of the overload among those of what is called, with a template or without one. An overload that takes
+    /// scalars and vectors is one, of which [`overloads`] lists both forms.
+    pub overload: usize,
+    /// The types to which the operands convert, in order. With a template, its type stands first.
+    pub parameters: Vec<Type>,
+    /// The type of the result, or None for a call without a value.
+    pub result: Option<Type>,
+}
+
+/// What is called. It displays as the operator or the name.
+#[derive(Clone, Debug, PartialEq, Eq, Hash)]
+pub enum Callee {
+    /// A unary operator.
+    Unary(UnaryOperator),
+    /// A binary operator.
+    Binary(BinaryOperator),
+    /// A built-in function.
+    Function(String),
+    /// A constructor: `f32`, `vec3`, `mat2x2`, .. For `vec3f` ask as for `vec3<f32>`: aliases have no overloads.
+    Constructor(String),
+}
+
+/// The same, with a name that is borrowed.
+pub(crate) use proved::callee::Callee as Called;
+
+fn owned(called: Called<'_>) -> Callee {
+    match called {
+        Called::Unary(operator) => Callee::Unary(operator),
+        Called::Binary(operator) => Callee::Binary(operator),
+        Called::Function(name) => Callee::Function(name.into()),
+        Called::Constructor(name) => Callee::Constructor(name.into()),
+    }
+}
+
+impl Callee {
+    fn called(&self) -> Called<'_> {
+        match self {
+            Callee::Unary(operator) => Called::Unary(*operator),
+            Callee::Binary(operator) => Called::Binary(*operator),
+            Callee::Function(name) => Called::Function(name),
+            Callee::Constructor(name) => Called::Constructor(name),
+        }
+    }
+}
+
+/// The operands as the proved sources take them: on the stack, if they aren't many.
+fn with_operands<'a, T>(
+    operands: impl ExactSizeIterator<Item = &'a Operand>,
+    ask: impl FnOnce(&[proved::operand::Operand<'a>]) -> T,
+) -> T {
+    let asked =
+        |operand: &'a Operand| proved::operand::Operand::of(&operand.ty, operand.is_constant);
+    let count = operands.len();
+    let mut few = [proved::operand::Operand::of(&Type::Bool, false); 4];
+    match few.get_mut(..count) {
+        Some(few) => {
+            few.iter_mut().zip(operands).for_each(|(to, operand)| *to = asked(operand));
+            ask(few)
+        }
+        None => ask(&operands.map(asked).collect::<Vec<_>>()),
+    }
+}
+
+impl fmt::Display for Callee {
+    fn fmt(&self, f: &mut fmt::Formatter<'_>) -> fmt::Result {
+        match self {
+            Callee::Unary(operator) => operator.fmt(f),
+            Callee::Binary(operator) => operator.fmt(f),
+            Callee::Function(name) | Callee::Constructor(name) => f.write_str(name),
+        }
+    }
+}

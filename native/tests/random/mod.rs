@@ -1,0 +1,328 @@
+//! Random types and calls, and the words of a request for them.
+// Each test that has this module uses a part of it.
+#![allow(dead_code)]
+
+use wgsl_types_proved::inst::LiteralInstance;
+use wgsl_types_proved::standard::Operand;
+use wgsl_types_proved::syntax::{
+    AccelerationStructureFlags, AccessMode, AddressSpace, BinaryOperator, Enumerant,
+};
+use wgsl_types_proved::syntax::{SampledType, TexelFormat, UnaryOperator};
+use wgsl_types_proved::tplt::TpltParam;
+use wgsl_types_proved::ty::{SamplerType, StructMemberType, StructType, TextureType};
+use wgsl_types_proved::{Instance, Type};
+
+const SCALARS: [Type; 10] = [
+    Type::Bool,
+    Type::AbstractInt,
+    Type::AbstractFloat,
+    Type::I32,
+    Type::U32,
+    Type::F32,
+    Type::F16,
+    Type::I64,
+    Type::U64,
+    Type::F64,
+];
+const SPACES: [AddressSpace; 7] = [
+    AddressSpace::Function,
+    AddressSpace::Private,
+    AddressSpace::Workgroup,
+    AddressSpace::Uniform,
+    AddressSpace::Storage,
+    AddressSpace::Handle,
+    AddressSpace::PushConstant,
+];
+const ACCESS_MODES: [AccessMode; 4] =
+    [AccessMode::Read, AccessMode::Write, AccessMode::ReadWrite, AccessMode::Atomic];
+const TEXTURES: [TextureType; 8] = [
+    TextureType::Sampled2D(SampledType::F32),
+    TextureType::SampledCubeArray(SampledType::U32),
+    TextureType::Multisampled2DArray(SampledType::I32),
+    TextureType::DepthMultisampled2D,
+    TextureType::Storage1D(TexelFormat::Rgba8Unorm, AccessMode::Write),
+    TextureType::Storage3D(TexelFormat::R64Uint, AccessMode::Atomic),
+    TextureType::External,
+    TextureType::DepthCubeArray,
+];
+const BINARY: [BinaryOperator; 18] = [
+    BinaryOperator::ShortCircuitOr,
+    BinaryOperator::ShortCircuitAnd,
+    BinaryOperator::Addition,
+    BinaryOperator::Subtraction,
+    BinaryOperator::Multiplication,
+    BinaryOperator::Division,
+    BinaryOperator::Remainder,
+    BinaryOperator::Equality,
+    BinaryOperator::Inequality,
+    BinaryOperator::LessThan,
+    BinaryOperator::LessThanEqual,
+    BinaryOperator::GreaterThan,
+    BinaryOperator::GreaterThanEqual,
+    BinaryOperator::BitwiseOr,
+    BinaryOperator::BitwiseAnd,
+    BinaryOperator::BitwiseXor,
+    BinaryOperator::ShiftLeft,
+    BinaryOperator::ShiftRight,
+];
+const UNARY: [UnaryOperator; 5] = [
+    UnaryOperator::LogicalNegation,
+    UnaryOperator::Negation,
+    UnaryOperator::BitwiseComplement,
+    UnaryOperator::AddressOf,
+    UnaryOperator::Indirection,
+];
+const CALLED: [&str; 24] = [
+    "array",
+    "f32",
+    "u32",
+    "vec2",
+    "vec3",
+    "vec4",
+    "mat2x2",
+    "mat3x2",
+    "bitcast",
+    "min",
+    "clamp",
+    "dot",
+    "select",
+    "frexp",
+    "modf",
+    "abs",
+    "length",
+    "transpose",
+    "countOneBits",
+    "pow",
+    "insertBits",
+    "arrayLength",
+    "workgroupBarrier",
+    "no_such_name",
+];
+
+/// Numbers by Marsaglia's xorshift.
+pub struct Random(u64);
+
+impl Random {
+    pub fn new(seed: u64) -> Random {
+        Random(seed.wrapping_mul(0x9e37_79b9_7f4a_7c15) | 1)
+    }
+
+    pub fn number(&mut self, bound: usize) -> usize {
+        self.below(bound)
+    }
+
+    fn below(&mut self, bound: usize) -> usize {
+        self.0 ^= self.0 << 13;
+        self.0 ^= self.0 >> 7;
+        self.0 ^= self.0 << 17;
+        (self.0 >> 33) as usize % bound
+    }
+
+    fn of<T: Clone>(&mut self, values: &[T]) -> T {
+        values[self.below(values.len())].clone()
+    }
+
+    fn count(&mut self) -> Option<usize> {
+        [None, Some(0), Some(2), Some(4), Some(usize::MAX)][self.below(5)]
+    }
+
+    fn attribute(&mut self) -> Option<u32> {
+        [None, None, None, Some(0), Some(4), Some(16), Some(u32::MAX)][self.below(7)]
+    }
+
+    /// A type of at most so many levels.
+    pub fn ty(&mut self, levels: usize) -> Type {
+        if levels == 1 || self.below(3) == 0 {
+            return self.leaf();
+        }
+        let inner = Box::new(self.ty(levels - 1));
+        match self.below(9) {
+            0 | 1 => Type::Vec(self.below(5) as u8, inner),
+            2 => Type::Mat(self.below(5) as u8, self.below(5) as u8, inner),
+            3 => Type::Array(inner, self.count()),
+            4 => Type::Atomic(inner),
+            5 => Type::Ptr(self.of(&SPACES), inner, self.of(&ACCESS_MODES)),
+            6 => Type::Ref(self.of(&SPACES), inner, self.of(&ACCESS_MODES)),
+            7 => Type::BindingArray(inner, self.count()),
+            _ => self.structure(levels),
+        }
+    }
+
+    fn leaf(&mut self) -> Type {
+        match self.below(12) {
+            0 => Type::Texture(self.of(&TEXTURES)),
+            1 => Type::Sampler(self.of(&[SamplerType::Sampler, SamplerType::SamplerComparison])),
+            2 => Type::RayQuery(self.of(&[None, Some(AccelerationStructureFlags::VertexReturn)])),
+            3 => Type::AccelerationStructure(
+                self.of(&[None, Some(AccelerationStructureFlags::VertexReturn)]),
+            ),
+            _ => self.of(&SCALARS),
+        }
+    }
+
+    fn structure(&mut self, levels: usize) -> Type {
+        let members = (0..self.below(4)).map(|index| {
+            let (ty, size, align) = (self.ty(levels - 1), self.attribute(), self.attribute());
+            StructMemberType {
+                name: ["a", "größe", "long_name"][index].to_string(),
+                ty,
+                size,
+                align,
+            }
+        });
+        let members = members.collect();
+        Type::from(StructType { name: self.of(&["S", "Struct", "名"]).to_string(), members })
+    }
+
+    /// A scalar or a vector, mostly.
+    fn value(&mut self) -> Type {
+        let scalar = self.of(&SCALARS);
+        match self.below(6) {
+            0 | 1 => Type::vector(2 + self.below(2) as u8, scalar),
+            2 => Type::matrix(2 + self.below(2) as u8, 2, scalar),
+            3 => self.ty(2),
+            _ => scalar,
+        }
+    }
+
+    /// Types that may have a common one: one layer around several scalars.
+    pub fn like_types(&mut self) -> Vec<Type> {
+        let layer = self.below(4);
+        let types = (0..self.below(5)).map(|_| {
+            let scalar = self.of(&SCALARS[1..]);
+            match layer {
+                0 => scalar,
+                1 => Type::vector(3, scalar),
+                2 => Type::array(Some(2), Type::matrix(2, 3, scalar)),
+                _ => self.value(),
+            }
+        });
+        types.collect()
+    }
+
+    pub fn pair(&mut self) -> (Type, Type) {
+        (self.value(), self.value())
+    }
+
+    pub fn binary_operator(&mut self) -> BinaryOperator {
+        self.of(&BINARY)
+    }
+
+    pub fn unary_operator(&mut self) -> UnaryOperator {
+        self.of(&UNARY)
+    }
+
+    /// A name, a template and arguments.
+    pub fn call(&mut self) -> (&'static str, Option<Vec<TpltParam>>, Vec<Type>) {
+        let name = self.of(&CALLED);
+        let tplt = (self.below(4) == 0)
+            .then(|| (0..self.below(3)).map(|index| self.parameter(index)).collect());
+        let first = self.value();
+        let args =
+            (0..self.below(5)).map(
+                |_| {
+                    if self.below(2) == 0 {
+                        first.clone()
+                    } else {
+                        self.value()
+                    }
+                },
+            );
+        (name, tplt, args.collect())
+    }
+
+    /// An operand, which is now and then a const-expression or a reference.
+    pub fn operand(&mut self) -> Operand {
+        let ty = self.value();
+        match self.below(8) {
+            0 => Operand::new(Type::Ref(self.of(&SPACES), Box::new(ty), self.of(&ACCESS_MODES))),
+            1..=4 => Operand::constant(ty),
+            _ => Operand::new(ty),
+        }
+    }
+
+    /// A name, a template and operands, for WGSL's own overloads.
+    pub fn standard_call(&mut self) -> (&'static str, Option<Type>, Vec<Operand>) {
+        let (name, _, arguments) = self.call();
+        let template = (self.below(4) == 0).then(|| self.value());
+        let operand = if self.below(2) == 0 { Operand::constant } else { Operand::new };
+        let operands = arguments.into_iter().map(operand).collect();
+        (name, template, operands)
+    }
+
+    fn parameter(&mut self, index: usize) -> TpltParam {
+        match self.below(4) {
+            0 => TpltParam::Instance(Instance::Literal(self.literal())),
+            1 => TpltParam::Enumerant(self.enumerant()),
+            _ if index == 1 => TpltParam::Instance(Instance::Literal(self.literal())),
+            _ => TpltParam::Type(self.value()),
+        }
+    }
+
+    fn literal(&mut self) -> LiteralInstance {
+        self.of(&[
+            LiteralInstance::Bool(true),
+            LiteralInstance::AbstractInt(3),
+            LiteralInstance::AbstractInt(i64::MIN),
+            LiteralInstance::I32(-1),
+            LiteralInstance::I32(7),
+            LiteralInstance::U32(u32::MAX),
+            LiteralInstance::I64(-9),
+            LiteralInstance::U64(u64::MAX),
+        ])
+    }
+
+    fn enumerant(&mut self) -> Enumerant {
+        self.of(&[
+            Enumerant::AccessMode(AccessMode::ReadWrite),
+            Enumerant::AddressSpace(AddressSpace::Function),
+            Enumerant::TexelFormat(TexelFormat::R64Uint),
+            Enumerant::AccelerationStructureFlags(AccelerationStructureFlags::VertexReturn),
+        ])
+    }
+}
+
+fn or_dash(value: Option<u32>) -> String {
+    value.map_or("-".to_string(), |value| value.to_string())
+}
+
+/// The words of a request that spell the type.
+pub fn words(ty: &Type) -> String {
+    let count = |count: &Option<usize>| count.map_or("*".to_string(), |count| count.to_string());
+    let flag = |flag: &Option<AccelerationStructureFlags>| {
+        flag.map_or("-".to_string(), |flag| flag.to_string())
+    };
+    match ty {
+        Type::Array(ty, n) => format!("array {} {}", count(n), words(ty)),
+        Type::BindingArray(ty, n) => format!("binding_array {} {}", count(n), words(ty)),
+        Type::Vec(n, ty) => format!("vec {n} {}", words(ty)),
+        Type::Mat(c, r, ty) => format!("mat {c} {r} {}", words(ty)),
+        Type::Atomic(ty) => format!("atomic {}", words(ty)),
+        Type::Ptr(space, ty, access) => format!("ptr {space} {access} {}", words(ty)),
+        Type::Ref(space, ty, access) => format!("ref {space} {access} {}", words(ty)),
+        Type::Struct(of) => of.members.iter().fold(
+            format!("struct {} {}", of.name, of.members.len()),
+            |text, member| {
+                let (size, align) = (or_dash(member.size), or_dash(member.align));
+                format!("{text} {} {size} {align} {}", member.name, words(&member.ty))
+            },
+        ),
+        Type::Texture(texture) => texture.to_string().replace(['<', ',', '>'], " "),
+        Type::RayQuery(f) => format!("ray_query {}", flag(f)),
+        Type::AccelerationStructure(f) => format!("acceleration_structure {}", flag(f)),
+        _ => ty.to_string(),
+    }
+}
+
+/// The words of a request that spell the template.
+pub fn template_words(tplt: Option<&[TpltParam]>) -> String {
+    let Some(tplt) = tplt else {
+        return "-".to_string();
+    };
+    let parameters = tplt.iter().map(|parameter| match parameter {
+        TpltParam::Type(ty) => format!("t {}", words(ty)),
+        TpltParam::Instance(instance) => format!("n {instance}"),
+        TpltParam::Enumerant(enumerant) => format!("e {enumerant}"),
+    });
+    format!("< {} >", parameters.collect::<Vec<_>>().join(" "))
+}

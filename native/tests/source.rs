@@ -1,0 +1,161 @@
+//! Types from their spellings, and the layouts of a file.
+
+mod random;
+
+use random::Random;
+use wgsl_types_proved::source::{layouts, Message, Stage};
+use wgsl_types_proved::syntax::{AccessMode, AddressSpace, Scalar};
+use wgsl_types_proved::ty::StructType;
+use wgsl_types_proved::Type;
+
+const ROUNDS: usize = 20_000;
+
+#[test]
+fn what_displays_is_read() {
+    let mut random = Random::new(8);
+    for _ in 0..ROUNDS {
+        let ty = random.ty(4);
+        let text = ty.to_string();
+        match text.parse::<Type>() {
+            Ok(read) => assert_eq!(read, ty),
+            Err(error) => assert!(has_no_spelling(&ty), "{text}: {error}"),
+        }
+    }
+}
+
+/// Whether a struct is in the type, or `handle`, or a number of components, none of which WGSL spells.
+fn has_no_spelling(ty: &Type) -> bool {
+    let is_count = |count: &u8| (2..=4).contains(count);
+    match ty {
+        Type::Struct(_) => true,
+        Type::Vec(count, _) if !is_count(count) => true,
+        Type::Mat(columns, rows, _) if !is_count(columns) || !is_count(rows) => true,
+        Type::Ptr(space, inner, _) | Type::Ref(space, inner, _) => {
+            *space == AddressSpace::Handle || has_no_spelling(inner)
+        }
+        Type::Array(inner, _)
+        | Type::Vec(_, inner)
+        | Type::Mat(_, _, inner)
+        | Type::Atomic(inner)
+        | Type::BindingArray(inner, _) => has_no_spelling(inner),
+        _ => false,
+    }
+}
+
+#[test]
+fn what_is_no_spelling_has_a_place() {
+    for (text, offset) in [("", 0), ("vec3<float>", 5), ("array<f32, 4", 12), ("S", 0)] {
+        let error = text.parse::<Type>().unwrap_err();
+        assert_eq!(error.offset, offset, "{text}: {error}");
+        assert_eq!(error.to_string(), format!("column {}: {}", offset + 1, error.message));
+        assert!(!error.message.is_empty());
+    }
+}
+
+const MODULE: &str = "
+struct Light { color: vec3f, power: f32, @align(16) cone: vec2f }
+struct Particles { count: u32, items: array<Light> }
+var<private> counter: i32;
+@group(0) @binding(1) var<storage, read_write> particles: Particles;
+@group(1) @binding(2) var map: texture_2d<f32>;
+@group(1) @binding(3) var<uniform> weights: array<f32, 3>;
+";
+
+#[test]
+fn a_module_is_laid_out() {
+    let module = layouts(MODULE);
+    let [light, particles] = &module.structs[..] else { panic!("{:?}", module.structs) };
+    let members = [
+        ("color", Type::vector(3, Type::F32)),
+        ("power", Type::F32),
+        ("cone", Type::vector(2, Type::F32)),
+    ];
+    let mut of = StructType::new("Light", members);
+    of.members[2].align = Some(16);
+    let layout = of.layout().unwrap();
+    assert_eq!(
+        (light.name.as_str(), light.size, light.align),
+        ("Light", layout.size, layout.align)
+    );
+    for (member, placed) in light.members.iter().zip(&layout.members) {
+        assert_eq!(
+            (member.offset, member.size, member.align),
+            (placed.offset, placed.size, placed.align)
+        );
+    }
+    assert_eq!((light.is_runtime_sized, particles.is_runtime_sized), (false, true));
+    let items = &particles.members[1];
+    assert_eq!((items.ty.as_str(), items.offset, items.stride), ("array<Light>", 16, Some(32)));
+    assert_eq!(particles.members[0].padding, 12);
+}
+
+#[test]
+fn variables_and_findings_are_told() {
+    let module = layouts(MODULE);
+    let variable = |name| module.variables.iter().find(|variable| variable.name == name).unwrap();
+    let particles = variable("particles");
+    assert_eq!((particles.group, particles.binding), (Some(0), Some(1)));
+    assert_eq!((particles.space, particles.access), (AddressSpace::Storage, AccessMode::ReadWrite));
+    assert_eq!((particles.ty.as_str(), particles.min_binding_size), ("Particles", Some(48)));
+    assert_eq!(variable("map").space, AddressSpace::Handle);
+    assert!(module.errors.is_empty(), "{:?}", module.errors);
+    let [Message { line: 7, text, .. }] = &module.findings[..] else {
+        panic!("{:?}", module.findings)
+    };
+    assert!(text.contains("stride 4"), "{text}");
+}
+
+#[test]
+fn faults_are_told_and_reading_goes_on() {
+    let module = layouts("struct A { a: \"x\", }\nstruct B { b: f32 }");
+    assert_eq!(module.structs.len(), 1);
+    let [error] = &module.errors[..] else { panic!("{:?}", module.errors) };
+    assert_eq!((error.line, error.column), (1, 15));
+    assert!(error.to_string().starts_with("1:15: "));
+    let [error] = &layouts(b"struct A { \xff }").errors[..] else { panic!() };
+    assert_eq!((error.line, error.column), (1, 12));
+    let empty = layouts("");
+    assert!(empty.structs.is_empty() && empty.variables.is_empty() && empty.errors.is_empty());
+}
+
+#[test]
+fn large_modules_need_more_room_than_text() {
+    let structs: String =
+        (0..2000).map(|index| format!("struct S{index}{{a:f32,b:u32}}")).collect();
+    let module = layouts(structs);
+    assert_eq!(module.structs.len(), 2000);
+    assert!(module.structs.iter().all(|of| of.size == 8));
+}
+
+#[test]
+fn what_a_pipeline_asks_is_told() {
+    let module = layouts(
+        "@id(3) override scale: f32 = 2.0;\noverride flag: bool;\noverride wide = 4u;\n\
+        /* \u{1d11e}é */ @compute @workgroup_size(8, wide) fn main() {}\n\
+        @fragment fn shade() -> @location(0) vec4f { return vec4f(); }",
+    );
+    assert!(module.errors.is_empty(), "{:?}", module.errors);
+    let [scale, flag, wide] = &module.overrides[..] else { panic!("{:?}", module.overrides) };
+    assert_eq!((scale.name.as_str(), scale.id, scale.ty), ("scale", Some(3), Some(Scalar::F32)));
+    assert_eq!((scale.has_default, flag.has_default, wide.has_default), (true, false, true));
+    assert_eq!((flag.id, flag.ty, wide.ty), (None, Some(Scalar::Bool), Some(Scalar::U32)));
+    let [main, shade] = &module.entry_points[..] else { panic!("{:?}", module.entry_points) };
+    assert_eq!((main.name.as_str(), main.stage), ("main", Stage::Compute));
+    assert_eq!(main.workgroup_size, Some([Some(8), None, Some(1)]));
+    assert_eq!((main.place.line, main.place.column, main.place.utf16_column), (4, 51, 48));
+    assert_eq!((shade.stage, shade.workgroup_size), (Stage::Fragment, None));
+}
+
+#[test]
+fn places_and_kinds_are_told() {
+    let module =
+        layouts("struct A {\n  a: f32,\n  é: vec3f }\nvar<uniform> b: A;\nstruct C { d: x }");
+    let [of] = &module.structs[..] else { panic!("{:?}", module.structs) };
+    assert_eq!((of.place.line, of.place.column), (1, 8));
+    assert_eq!((of.members[1].place.line, of.members[1].place.column), (3, 3));
+    let [variable] = &module.variables[..] else { panic!("{:?}", module.variables) };
+    assert_eq!((variable.place.line, variable.place.column, variable.size), (4, 14, Some(32)));
+    let [error] = &module.errors[..] else { panic!("{:?}", module.errors) };
+    assert_eq!((error.line, error.utf16_column, error.kind.as_str()), (5, 15, "UnknownName"));
+    assert_eq!(module.findings[0].kind, "NoBinding");
+}

@@ -1,0 +1,145 @@
+//! WGSL's own overloads: what the calls answer, as it is spelled here, is what the same request answers in text.
+
+mod random;
+
+use random::{words, Random};
+use wgsl_types_proved::builtin::is_ctor;
+use wgsl_types_proved::requests::standard_answer;
+use wgsl_types_proved::standard::*;
+use wgsl_types_proved::syntax::{BinaryOperator, UnaryOperator};
+use wgsl_types_proved::Type;
+
+const ROUNDS: usize = 20_000;
+
+fn expect(request: &str, found: &str) {
+    let answered = standard_answer(request).unwrap_or_else(|refused| refused.to_string());
+    assert_eq!(answered, found, "{request}");
+}
+
+fn operand_words(operand: &Operand) -> String {
+    format!("{}{}", if operand.is_constant { "const " } else { "" }, words(&operand.ty))
+}
+
+fn type_text(found: Result<Option<Type>, NoOverload>) -> String {
+    match found {
+        Ok(Some(ty)) => ty.to_string(),
+        Ok(None) => "no value".to_string(),
+        Err(refused) => refused.to_string(),
+    }
+}
+
+fn resolution_text(found: Result<Resolution, NoOverload>) -> String {
+    let Resolution { overload, parameters, result, .. } = match found {
+        Ok(resolution) => resolution,
+        Err(refused) => return refused.to_string(),
+    };
+    let parameters: Vec<String> = parameters.iter().map(Type::to_string).collect();
+    let result = result.map_or(String::new(), |ty| format!(" -> {ty}"));
+    format!("{overload} ({}){result}", parameters.join(", "))
+}
+
+/// What is asked, in words behind the command, with its type, its resolution and, if it is refused, why.
+fn compare(
+    asked: &str,
+    ty: Result<Option<Type>, NoOverload>,
+    resolution: Result<Resolution, NoOverload>,
+) {
+    let why = match &resolution {
+        Err(refused) => refused.explanations().join("\n"),
+        Ok(_) => String::new(),
+    };
+    if resolution.is_err() {
+        expect(&format!("why {asked}"), if why.is_empty() { "none" } else { &why });
+    }
+    expect(asked, &type_text(ty));
+    expect(&format!("resolve {asked}"), &resolution_text(resolution));
+}
+
+#[test]
+fn operators() {
+    let mut random = Random::new(6);
+    for _ in 0..ROUNDS {
+        let (operator, unary) = (random.binary_operator(), random.unary_operator());
+        let (lhs, rhs) = (random.operand(), random.operand());
+        compare(
+            &format!("binary {operator} {} {}", operand_words(&lhs), operand_words(&rhs)),
+            type_binary_op(operator, &lhs, &rhs).map(Some),
+            resolve_binary_op(operator, &lhs, &rhs),
+        );
+        compare(
+            &format!("unary {unary} {}", operand_words(&lhs)),
+            type_unary_op(unary, &lhs).map(Some),
+            resolve_unary_op(unary, &lhs),
+        );
+    }
+}
+
+#[test]
+fn constructors_and_calls() {
+    let mut random = Random::new(7);
+    for _ in 0..ROUNDS {
+        let (name, template, operands) = random.standard_call();
+        let spelled: Vec<String> = operands.iter().map(operand_words).collect();
+        let in_brackets =
+            template.as_ref().map_or("-".to_string(), |ty| format!("< t {} >", words(ty)));
+        let rest = format!("{name} {in_brackets} {}", spelled.join(" "));
+        let template = template.as_ref();
+        if is_ctor(name) {
+            compare(
+                &format!("ctor {rest}"),
+                type_ctor(name, template, &operands).map(Some),
+                resolve_ctor(name, template, &operands),
+            );
+        } else {
+            compare(
+                &format!("call {rest}"),
+                type_builtin_fn(name, template, &operands),
+                resolve_builtin_fn(name, template, &operands),
+            );
+        }
+    }
+}
+
+#[test]
+fn overloads_are_listed() {
+    for name in ["-", "+", "<<", "select", "vec3", "textureStore", "bitcast", "no_such_name"] {
+        let texts: Vec<String> = overloads(name).into_iter().map(|listed| listed.text).collect();
+        let found = if texts.is_empty() { "none".to_string() } else { texts.join("\n") };
+        expect(&format!("overloads {name}"), &found);
+    }
+}
+
+#[test]
+fn parameters_are_parts_of_the_text() {
+    let parameters = |name: &str, index: usize| {
+        let overload = &overloads(name)[index];
+        let found = overload.parameters().into_iter().map(|at| overload.text[at].to_string());
+        found.collect::<Vec<String>>()
+    };
+    assert_eq!(parameters("<<", 0), ["T", "u32"]);
+    assert_eq!(parameters("<", 1), ["vecN<T>", "vecN<T>"]);
+    assert_eq!(parameters("workgroupBarrier", 0), [""; 0]);
+    let store = parameters("textureStore", 0);
+    assert!(store[0].starts_with("texture_storage_1d<") && store[0].ends_with('>'), "{store:?}");
+    assert_eq!(store.len(), 3);
+}
+
+#[test]
+fn refusals_are_plain_data() {
+    let (truth, one) = (Operand::new(Type::Bool), Operand::constant(Type::I32));
+    let refused = type_binary_op(BinaryOperator::Addition, &truth, &one).unwrap_err();
+    assert_eq!(refused.callee, Callee::Binary(BinaryOperator::Addition));
+    assert_eq!((refused.template.as_ref(), &refused.operands[..]), (None, &[truth, one][..]));
+    assert_eq!(refused.explanations(), explain(&refused.callee, None, &refused.operands));
+    let nothing = type_builtin_fn("no_such_name", None, &[]).unwrap_err();
+    assert_eq!(nothing.to_string(), "no overload of `no_such_name` takes ()");
+    assert_eq!(nothing.explanations(), [""; 0]);
+    let pointed = Operand::new(Type::F32);
+    assert!(type_unary_op(UnaryOperator::AddressOf, &pointed).is_err());
+}
+
+#[test]
+fn deeper_operands_are_answered() {
+    let deep = (1..300).fold(Type::F32, |ty, _| Type::array(None, ty));
+    assert!(type_unary_op(UnaryOperator::Negation, &Operand::new(deep)).is_err());
+}

@@ -1,0 +1,155 @@
+//! Types, and values that have a type.
+
+use crate::error::Error;
+use crate::proved::wgsl_core::conversion::typed::Ty as _;
+pub use crate::proved::wgsl_core::ty::{StructMemberType, StructType, Type};
+use crate::proved::wgsl_source::fault::{Cause, Expected, Fault, Stop};
+use crate::proved::wgsl_source::spelled::{read_type, spelling_of};
+pub use crate::proved::wgsl_syntax::texture::{SamplerType, TextureDimensions, TextureType};
+use crate::shim::std::alloc::Global;
+use crate::shim::{always, settled};
+use crate::source::fault_text;
+use crate::syntax::SampledType;
+use alloc::boxed::Box;
+use alloc::format;
+use alloc::string::String;
+use core::fmt;
+use core::str::FromStr;
+
+/// How many levels deep a type can be that is answered on a stack of 512 KiB. A scalar, a texture or a sampler has one level,
+/// and each array, vector, struct and so on around it has one more. Deeper ones are answered on a larger stack.
+pub const MAX_DEPTH: usize = 255;
+
+/// A value that has a type.
+pub trait Ty {
+    /// The type of the value.
+    fn ty(&self) -> Type;
+
+    /// The type inside the type of the value, or that type itself if nothing is inside.
+    fn inner_ty(&self) -> Type {
+        self.ty()
+    }
+}
+
+/// A type is its own type. The inner type is the one inside an array, a vector, a matrix, an atomic, a pointer, a reference
+/// or a binding array.
+impl Ty for Type {
+    fn ty(&self) -> Type {
+        self.clone()
+    }
+
+    fn inner_ty(&self) -> Type {
+        always(self.rattle_inner_ty(Global))
+    }
+}
+
+impl Type {
+    /// A vector with that many components (WGSL, "Vector Types").
+    pub fn vector(components: u8, of: Type) -> Type {
+        always(Type::rattle_vector(Global, components, of))
+    }
+
+    /// A matrix with that many columns and rows (WGSL, "Matrix Types").
+    pub fn matrix(columns: u8, rows: u8, of: Type) -> Type {
+        always(Type::rattle_matrix(Global, columns, rows, of))
+    }
+
+    /// An array (WGSL, "Array Types"); without a count it is runtime-sized.
+    pub fn array(count: Option<usize>, of: Type) -> Type {
+        always(Type::rattle_array(Global, count, of))
+    }
+
+    /// The concrete type for the type (WGSL, "Abstract Numeric Types").
+    pub fn concretize(&self) -> Type {
+        always(Type::rattle_concretize(self, Global))
+    }
+
+    /// How many levels deep the type is: 1 for a scalar, 2 for a vector of scalars.
+    pub fn depth(&self) -> usize {
+        match self {
+            Type::Struct(of) => {
+                1 + of.members.iter().map(|member| member.ty.depth()).max().unwrap_or(0)
+            }
+            _ if core::ptr::eq(self.inner(), self) => 1,
+            _ => 1 + self.inner().depth(),
+        }
+    }
+}
+
+impl StructType {
+    /// A struct (WGSL, "Structure Types") from the names and types of its members, which have no attributes.
+    pub fn new<N: Into<String>>(
+        name: impl Into<String>,
+        members: impl IntoIterator<Item = (N, Type)>,
+    ) -> StructType {
+        let members = members.into_iter().map(|(name, ty)| StructMemberType::new(name.into(), ty));
+        StructType { name: name.into(), members: members.collect() }
+    }
+}
+
+impl From<StructType> for Type {
+    fn from(of: StructType) -> Type {
+        Type::Struct(Box::new(of))
+    }
+}
+
+/// `i32`, `u32` or `f32`; [`Error::SampledType`] for any other type.
+impl TryFrom<&Type> for SampledType {
+    type Error = Error;
+
+    fn try_from(ty: &Type) -> Result<SampledType, Error> {
+        settled(crate::proved::wgsl_core::ty::try_from_type(Global, ty))
+    }
+}
+
+/// Why a text isn't read as a type. It displays as `column 6: ..`, in bytes from 1.
+#[derive(Clone, Debug, PartialEq, Eq, Hash)]
+#[non_exhaustive]
+pub struct SpellingError {
+    /// Where in the text the fault is, in bytes from 0. It may be the end of the text.
+    pub offset: usize,
+    /// What is expected there.
+    pub message: String,
+}
+
+impl FromStr for Type {
+    type Err = SpellingError;
+
+    /// The type that displays as exactly that text. A struct's name says nothing of its members, so no struct is read.
+    ///
+    /// ```
+    /// use wgsl_types_proved::Type;
+    ///
+    /// let ty: Type = "array<vec3<f32>, 4>".parse()?;
+    /// assert_eq!(ty, Type::array(Some(4), Type::vector(3, Type::F32)));
+    /// assert_eq!("vec3<float>".parse::<Type>().unwrap_err().offset, 5);
+    /// # Ok::<(), wgsl_types_proved::ty::SpellingError>(())
+    /// ```
+    fn from_str(text: &str) -> Result<Type, SpellingError> {
+        read_type(Global, text).map_err(|stop| why_not(text, stop))
+    }
+}
+
+#[cold]
+fn why_not(text: &str, stop: Stop) -> SpellingError {
+    let fault = match stop {
+        Stop::Fault(fault) => fault,
+        Stop::Elsewhere => Fault { at: 0, cause: Cause::Expected(Expected::Type) },
+        Stop::Memory(never) => match never {},
+    };
+    let message = match spelling_of(Global, text) {
+        Ok(spelling) if fault.cause == Cause::OtherSpelling => {
+            format!("the type is spelled `{spelling}`")
+        }
+        _ => fault_text(text, fault),
+    };
+    SpellingError { offset: fault.at, message }
+}
+
+impl fmt::Display for SpellingError {
+    fn fmt(&self, f: &mut fmt::Formatter<'_>) -> fmt::Result {
+        write!(f, "column {}: {}", self.offset.saturating_add(1), self.message)
+    }
+}
+
+impl core::error::Error for SpellingError {}

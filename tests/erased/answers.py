@@ -1,0 +1,95 @@
+"""The native programs beside the proved ones."""
+import glob
+import os
+import re
+
+from random_lines import random_lines
+from tools import TESTS, TOP, answers_of, cargo, fail
+
+LINES = 300_000
+PROGRAMS = ("wgsl_check", "wgsl_standard")
+
+
+def compare_answers(folder):
+    build_proved()
+    cargo(folder, "build", "--release", "--quiet")
+    native = os.path.join(folder, "target", "release")
+    compare_arguments(native)
+    compare_lines(native)
+    compare_modules(native)
+    checked = os.path.join(folder, "checked")
+    settings = {"CARGO_TARGET_DIR": checked, "CARGO_PROFILE_RELEASE_OVERFLOW_CHECKS": "true"}
+    cargo(folder, "build", "--release", "--quiet", **settings)
+    compare_builds(native, os.path.join(checked, "release"))
+
+
+def build_proved():
+    """Proves and builds the programs where that isn't done, so that they note nothing of it later."""
+    for words in [["wgsl_check"], ["wgsl_standard"], ["wgsl_layout", "--version"]]:
+        if answers_of(os.path.join(TOP, words[0]), words=words[1:])[2] != 0:
+            fail(f"./{words[0]} wasn't built")
+
+
+def rows():
+    """The requests of tests/lines."""
+    for path in sorted(glob.glob(os.path.join(TESTS, "lines", "**", "*.txt"), recursive=True)):
+        with open(path, encoding="utf-8") as file:
+            yield from (line.split(" => ")[0] for line in file if line.strip() and not line.startswith("#"))
+
+
+def compare_arguments(native):
+    """What programs that read standard input make of arguments: their version, and the statuses of help and of wrong use."""
+    for name in PROGRAMS:
+        for words in (["--version"], ["--help"], ["-h"], ["x"], [""], ["--version", "x"]):
+            ours, proved = (answers_of(os.path.join(top, name), words=words) for top in (native, TOP))
+            if ours[2] != proved[2] or words == ["--version"] and ours[0] != proved[0]:
+                fail(f"{name} {words}: {ours}, not {proved}")
+    print("arguments have the statuses of the proved programs")
+
+
+def questions():
+    asked = list(rows())
+    names = sorted({row.split()[1] for row in asked if re.match(r"(call|ctor) \S", row)})
+    lines = [row.encode() for row in asked] + random_lines(names, LINES)
+    return b"\n".join(lines) + b"\n"
+
+
+def compare_lines(native):
+    given = questions()
+    for name in PROGRAMS:
+        ours, proved = (answers_of(os.path.join(top, name), given) for top in (native, TOP))
+        compare(name, ours, proved, given)
+        print(f"{name}: {given.count(10)} lines are answered as by the proved program, with notes and status")
+
+
+def compare(name, ours, theirs, given):
+    """Compares what two programs print, their notes and their statuses."""
+    if ours == theirs:
+        return
+    for kind, a, b in zip(("answers", "notes"), ours, theirs):
+        for number, (x, y) in enumerate(zip(a.split(b"\n"), b.split(b"\n"))):
+            if x != y:
+                fail(f"{name}: line {number + 1} of the {kind} is {x!r}, not {y!r}")
+    fail(f"{name}: status {ours[2]}, not {theirs[2]}, or one printed more, for {given[:200]!r}")
+
+
+def compare_modules(native):
+    """The layouts of each module of tests/sourced, in each form, and wrong arguments."""
+    paths = sorted(glob.glob(os.path.join(TESTS, "sourced", "*.wgsl")))
+    uses = [[], ["--help"], ["--version"], ["--what"], ["--struct"], ["nowhere.wgsl"]]
+    for path in paths:
+        uses += [[path], ["--json", path], ["--struct", "Scene", path], ["-"]]
+    for words in uses:
+        given = b"struct A { a: f32, b: vec3f }\nvar<uniform> a: A;\n"
+        ours, proved = (answers_of(os.path.join(top, "wgsl_layout"), given, words) for top in (native, TOP))
+        compare(f"wgsl_layout {' '.join(words)}", ours, proved, given)
+    print(f"wgsl_layout: {len(uses)} uses are answered as by the proved program")
+
+
+def compare_builds(native, checked):
+    """A build that checks for overflow answers as one that doesn't."""
+    given = questions()
+    for name in PROGRAMS:
+        ours, theirs = (answers_of(os.path.join(top, name), given) for top in (checked, native))
+        compare(f"{name} with overflow checks", ours, theirs, given)
+    print("a build that checks for overflow answers alike")

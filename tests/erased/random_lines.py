@@ -1,0 +1,126 @@
+"""Random requests: right ones, ones with operands that don't fit, and broken ones."""
+import random
+
+SCALARS = "bool AbstractInt AbstractFloat i32 u32 f32 f16 i64 u64 f64".split()
+SPACES = "function private workgroup uniform storage handle push_constant".split()
+ACCESS = "read write read_write atomic".split()
+SAMPLED = "texture_1d texture_2d texture_2d_array texture_3d texture_cube texture_cube_array texture_multisampled_2d".split()
+LEAVES = """sampler sampler_comparison texture_depth_2d texture_depth_2d_array texture_depth_cube texture_external
+texture_depth_multisampled_2d""".split() + ["ray_query -", "ray_query vertex_return", "acceleration_structure -"]
+FORMATS = "rgba8unorm r32uint rgba16float bgra8unorm r64uint".split()
+UNARY = "! - ~ & *".split()
+BINARY = "|| && + - * / % == != < <= > >= | & ^ << >>".split()
+COUNTS = ["*", "0", "1", "2", "4", "16", "4294967295", "4294967296", "18446744073709551615", "18446744073709551616"]
+LITERALS = "0 1 3 -1 2i -7i 4u 9li 9lu true false 2147483648i 4294967296u".split()
+ATTRIBUTES = ["-", "-", "-", "0", "4", "16", "48", "4294967295"]
+ODD = ["", "\t", "\r", "größe", "\0", "<", ">", "-", "*", "4097", "é" * 9, "x" * 5000]
+NAMED = ["call", "ctor"]
+
+
+class Random(random.Random):
+    """`names` are those of built-in functions and constructors."""
+
+    def __init__(self, seed, names):
+        super().__init__(seed)
+        self.names = names
+
+    def leaf(self):
+        kind = self.randrange(9)
+        if kind == 0:
+            return f"{self.choice(SAMPLED)} {self.choice(['i32', 'u32', 'f32'])}"
+        if kind == 1:
+            return f"texture_storage_2d {self.choice(FORMATS)} {self.choice(ACCESS)}"
+        return self.choice(LEAVES) if kind == 2 else self.choice(SCALARS)
+
+    def type(self, levels=4):
+        kind = self.randrange(10) if levels else 0
+        if kind < 3:
+            return self.leaf()
+        inner = self.type(levels - 1)
+        return [
+            lambda: f"vec {self.choice('234')} {self.choice(SCALARS)}",
+            lambda: f"vec {self.choice(['2', '3', '4', '0', '255', '256'])} {inner}",
+            lambda: f"mat {self.choice('234')} {self.choice('234')} {self.choice([inner, 'f32'])}",
+            lambda: f"array {self.choice(COUNTS)} {inner}",
+            lambda: f"atomic {inner}",
+            lambda: f"{self.choice(['ptr', 'ref'])} {self.choice(SPACES)} {self.choice(ACCESS)} {inner}",
+            lambda: self.struct(levels - 1),
+        ][kind - 3]()
+
+    def struct(self, levels=2):
+        count = self.randrange(4)
+        members = [f"{name} {self.choice(ATTRIBUTES)} {self.choice(ATTRIBUTES)} {self.type(levels)}" for name in "abc"[:count]]
+        return " ".join([f"struct S {count}", *members])
+
+    def value(self):
+        """Mostly a scalar or a vector, as built-in functions take them."""
+        kind = self.randrange(8)
+        if kind == 0:
+            return self.type(2)
+        return self.choice(SCALARS) if kind < 5 else f"vec {self.choice('23')} {self.choice(SCALARS)}"
+
+    def operand(self):
+        return ("const " if self.randrange(6) == 0 else "") + self.value()
+
+    def operands(self):
+        same, count = self.operand(), self.randrange(5)
+        return [same if self.randrange(2) else self.operand() for _ in range(count)]
+
+    def template(self):
+        if self.randrange(4):
+            return "-"
+        parameters = [lambda: f"t {self.value()}", lambda: f"n {self.choice(LITERALS)}",
+                      lambda: f"e {self.choice(SPACES + ACCESS + FORMATS)}"]
+        return " ".join(["<", *(self.choice(parameters)() for _ in range(self.randrange(1, 3))), ">"])
+
+    def call(self):
+        return " ".join([self.choice(NAMED), self.choice(self.names), self.template(), *self.operands()])
+
+    def operator(self):
+        if self.randrange(3) == 0:
+            return f"unary {self.choice(UNARY)} {self.operand()}"
+        return f"binary {self.choice(BINARY)} {self.operand()} {self.operand()}"
+
+    def request(self):
+        kind = self.randrange(12)
+        if kind < 6:
+            front = self.choice(["", "", "", "resolve ", "why "])
+            return front + (self.call() if kind < 4 else self.operator())
+        return [
+            lambda: f"rank {self.type()} {self.type()}",
+            lambda: f"rank {self.value()} {self.value()}",
+            lambda: " ".join(["common", *(self.value() for _ in range(self.randrange(5)))]),
+            lambda: f"size {self.type()}",
+            lambda: f"{self.choice(['layout', 'offsets'])} {self.struct(3)}",
+            lambda: f"overloads {self.choice(self.names)}",
+        ][kind - 6]()
+
+    def broken(self, line):
+        """The line with one word left out, doubled or replaced, or cut."""
+        words = line.split(" ")
+        at = self.randrange(len(words))
+        change = self.randrange(5)
+        if change == 0:
+            del words[at]
+        elif change == 1:
+            words.insert(at, words[at])
+        elif change == 2:
+            words[at] = self.choice(ODD)
+        elif change == 3:
+            words[at] = words[at][:-1]
+        else:
+            return line[:self.randrange(len(line) + 1)]
+        return " ".join(words)
+
+    def line(self):
+        request = self.request()
+        return (self.broken(request) if self.randrange(5) == 0 else request).replace("\n", " ")
+
+
+def random_lines(names, count, seed=1):
+    """Lines, as bytes. One in a thousand isn't UTF-8."""
+    found = Random(seed, names)
+    lines = [found.line().encode() for _ in range(count)]
+    for at in range(0, count, 1000):
+        lines[at] += b"\xff"
+    return lines
