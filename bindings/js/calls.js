@@ -1,0 +1,199 @@
+// The calls, over an instance of the module. They need no file and no network.
+
+const encoder = new TextEncoder();
+const decoder = new TextDecoder("utf-8", { ignoreBOM: true });
+const PAGE = 65536;
+
+/** What a call of the module returns, as wgsl.h says. */
+const Status = { ANSWERED: 0, RULED_OUT: 1, UNREADABLE: 2, OUT_OF_MEMORY: 3, NO_ROOM: 4 };
+
+let compiled = null; // the WebAssembly.Module
+let wasm = null; // the exports of its instance
+let room = { at: 0, size: 0 }; // the memory of the instance that is ours
+
+/** A request that can't be read: it is no command, is blank, has a line feed, or is longer than 4096 bytes. */
+export class Unreadable extends Error {
+  constructor(request, message) {
+    super(message);
+    this.name = "Unreadable";
+    const column = /^column (\d+)/.exec(message);
+    this.index = column ? indexOfByte(request, Number(column[1]) - 1) : null;
+  }
+}
+
+/** What the rules refuse: no overload takes the operands, for example. */
+export class Refused extends Error {
+  constructor(message) {
+    super(message);
+    this.name = "Refused";
+  }
+}
+
+/** A WGSL text with errors. */
+export class SourceError extends Error {
+  constructor(layouts) {
+    const [{ line, column, message }] = layouts.errors, more = layouts.errors.length - 1;
+    super(`line ${line}, column ${column}: ${message}${more ? `, and ${more} more` : ""}`);
+    this.name = "SourceError";
+    this.errors = layouts.errors;
+    Object.defineProperty(this, "layouts", { value: layouts }); // not enumerable: who prints the error sees the errors alone
+  }
+}
+
+/** Makes the calls work at once: from the bytes of `wgsl.wasm`, a data URL of them, or a compiled module. */
+export function initSync(source) {
+  if (typeof source === "string") source = bytesOfDataUrl(source);
+  compiled = source instanceof WebAssembly.Module ? source : new WebAssembly.Module(source);
+  restart();
+}
+
+function bytesOfDataUrl(url) {
+  const found = /^data:[^,]*;base64,(.*)$/s.exec(url);
+  if (!found) throw new TypeError("wgsl-types-proved: at once, it takes bytes, a compiled module or a data URL in base64");
+  return Uint8Array.from(atob(found[1]), (character) => character.charCodeAt(0));
+}
+
+/** Makes the calls work, from an address, a response, bytes or a compiled module; each may be waited for. */
+export async function load(source) {
+  source = await source;
+  if (typeof source === "string" || source instanceof URL) source = await fetch(source);
+  if (typeof Response === "function" && source instanceof Response) {
+    if (!source.ok) throw new Error(`wgsl-types-proved: ${source.url} answers ${source.status}`);
+    source = await source.arrayBuffer(); // whatever media type the server names
+  }
+  initSync(source instanceof WebAssembly.Module ? source : await WebAssembly.compile(source));
+}
+
+/** Whether the calls work. */
+export function isReady() {
+  return wasm !== null;
+}
+
+function restart() {
+  wasm = new WebAssembly.Instance(compiled, {}).exports;
+  room = { at: 0, size: 0 };
+}
+
+/** Has so many bytes of the module's memory for us, which its own allocator doesn't touch: pages that we have added. */
+function ensureRoom(size) {
+  if (size <= room.size) return;
+  const pages = Math.ceil((size * 1.5) / PAGE), at = wasm.memory.grow(pages) * PAGE, end = room.at + room.size;
+  room = at === end ? { at: room.at, size: room.size + pages * PAGE } : { at, size: pages * PAGE };
+}
+
+const LENGTH = 8; // in front of the request stands the length of the answer
+const SHORTEST = 4 * PAGE;
+
+/** What a call answers to a text: its status, and the text that it writes. */
+function ask(name, text) {
+  if (typeof text !== "string") throw new TypeError("wgsl-types-proved: a string is wanted");
+  if (!text.isWellFormed()) throw new TypeError("wgsl-types-proved: the text has half of a surrogate pair");
+  if (wasm === null) throw new Error("wgsl-types-proved: call `await init()` first");
+  const request = encoder.encode(text);
+  try {
+    return answerOf(name, request);
+  } catch (cause) {
+    restart(); // a call that trapped may have left anything
+    throw new RangeError(`wgsl-types-proved: 32 bits of memory are too few for the answer (${cause.message})`, { cause });
+  }
+}
+
+function answerOf(name, request) {
+  const start = LENGTH + request.length;
+  for (let wanted = SHORTEST; ; ) {
+    ensureRoom(start + wanted);
+    new Uint8Array(wasm.memory.buffer, room.at + LENGTH, request.length).set(request);
+    const buffer = room.at + start, status = wasm[name](room.at + LENGTH, request.length, buffer, room.size - start, room.at);
+    const length = new DataView(wasm.memory.buffer).getUint32(room.at, true);
+    if (status === Status.NO_ROOM) wanted = length;
+    else if (status === Status.OUT_OF_MEMORY) throw new RangeError("out of memory");
+    else return { status, text: decoder.decode(new Uint8Array(wasm.memory.buffer, buffer, length)) };
+  }
+}
+
+function answered(name, explainName, request) {
+  const { status, text } = ask(name, request);
+  if (status === Status.ANSWERED) return text;
+  if (status === Status.RULED_OUT) throw new Refused(text);
+  throw new Unreadable(request, explained(explainName, request));
+}
+
+function explained(name, request) {
+  const { status, text } = ask(name, request);
+  return status === Status.ANSWERED ? text : null;
+}
+
+/** Answers a request by the rules of the Rust crate wgsl-types. */
+export function answer(request) {
+  return answered("wgsl_answer", "wgsl_explain", request);
+}
+
+/** Answers a request by WGSL's own overloads. */
+export function standardAnswer(request) {
+  return answered("wgsl_standard_answer", "wgsl_standard_explain", request);
+}
+
+/** Why a request can't be read by the rules of the Rust crate wgsl-types, or null if it can. */
+export function explain(request) {
+  return explained("wgsl_explain", request);
+}
+
+/** Why a request can't be read by WGSL's own overloads, or null if it can. */
+export function standardExplain(request) {
+  return explained("wgsl_standard_explain", request);
+}
+
+/** The version of the library. */
+export function version() {
+  if (wasm === null) throw new Error("wgsl-types-proved: call `await init()` first");
+  const bytes = new Uint8Array(wasm.memory.buffer, wasm.wgsl_version());
+  return decoder.decode(bytes.subarray(0, bytes.indexOf(0)));
+}
+
+/** The layouts of a WGSL text. Throws `SourceError` if it has errors. */
+export function layouts(text) {
+  const { structs, variables, overrides, entryPoints, errors, findings } = JSON.parse(ask("wgsl_source_layout", text).text);
+  const starts = startsOfLines(text), told = { structs, variables, overrides, entryPoints, errors, findings };
+  for (const place of Object.values(told).flat()) place.index = indexOfPlace(starts, place);
+  for (const struct of structs) for (const member of struct.members) member.index = indexOfPlace(starts, member);
+  linkStructs(structs, variables);
+  if (errors.length) throw new SourceError(told);
+  return told;
+}
+
+/** Where the lines of a text begin, as WGSL ends them. */
+function startsOfLines(text) {
+  const starts = [0];
+  for (const { 0: end, index } of text.matchAll(/\r\n|[\n\v\f\r\u0085\u2028\u2029]/g)) starts.push(index + end.length);
+  return starts;
+}
+
+function indexOfPlace(starts, { line, utf16Column }) {
+  return starts[line - 1] + utf16Column - 1;
+}
+
+/** Has each type that is a struct refer to the struct. */
+function linkStructs(structs, variables) {
+  const named = new Map(structs.map((struct) => [struct.name, struct]));
+  for (const { typeTree } of [...structs.flatMap(({ members }) => members), ...variables]) {
+    let type = typeTree;
+    while (type.element ?? type.target) type = type.element ?? type.target;
+    if (type.kind === "struct") type.struct = named.get(type.name);
+  }
+}
+
+/** The index in a string of the character at a byte of its UTF-8. */
+function indexOfByte(text, wanted) {
+  let bytes = 0, index = 0;
+  while (bytes < wanted && index < text.length) {
+    const code = text.codePointAt(index);
+    bytes += code < 0x80 ? 1 : code < 0x800 ? 2 : code < 0x10000 ? 3 : 4;
+    index += code < 0x10000 ? 1 : 2;
+  }
+  return index;
+}
+
+/** How many bytes of memory the module has. It grows, and does not shrink. */
+export function memorySize() {
+  return wasm === null ? 0 : wasm.memory.buffer.byteLength;
+}

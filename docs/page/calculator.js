@@ -1,0 +1,135 @@
+// The calculator: a request, or an expression with types for its operands, is answered by both sets of rules.
+import { Refused, Unreadable, answer, standardAnswer } from "wgsl-types-proved";
+import { coded, h } from "page/dom";
+import { Unread, requestOf } from "page/expression";
+
+/** The answers to a text, as elements; and in words what was asked. */
+export function answersTo(text) {
+  if (!text.trim()) return { asked: "", elements: [] };
+  let request;
+  try {
+    request = requestOf(text);
+  } catch (error) {
+    if (!(error instanceof Unread)) throw error;
+    return { asked: "", elements: [unread(text, error.at, error.message)] };
+  }
+  const asked = request === text.trim() ? "" : request;
+  const ours = askOf(standardAnswer, request), ported = askOf(answer, withoutConst(request));
+  if (ours.error instanceof Unreadable && ported.error instanceof Unreadable) {
+    const { index, message } = ours.error;
+    return { asked, elements: [unread(request, index ?? request.length, message.replace(/^column \d+, word \d+: /, ""))] };
+  }
+  return { asked, elements: /^(unary|binary|call|ctor) /.test(request) ? ofExpression(request, ours, ported) : ofRequest(ours, ported) };
+}
+
+function ofExpression(request, ours, ported) {
+  const resolution = ours.error ? null : resolutionOf(request);
+  const note = resolution && resolution.parameters !== "()" ? `The operands convert to ${resolution.parameters}` : "";
+  const verdicts = h("div", { className: "verdicts" }, verdict("WGSL’s own overloads", ours, note), verdict("Rules of the crate wgsl-types", ported, ""));
+  return ours.error instanceof Unreadable ? [verdicts] : [verdicts, ...reasons(request, resolution)];
+}
+
+function ofRequest(ours, ported) {
+  const isSame = ours.text === ported.text && ours.error?.message === ported.error?.message;
+  const verdicts = isSame ? [verdict("By both sets of rules", ours, "")] : [verdict("WGSL’s own overloads", ours, ""), verdict("Rules of the crate wgsl-types", ported, "")];
+  return [h("div", { className: "verdicts" }, ...verdicts)];
+}
+
+// The ported rules know no const-expressions.
+const withoutConst = (request) => request.replace(/ const (?=\S)/g, " ");
+
+/** The text of an answer, or the error. */
+function askOf(call, request) {
+  try {
+    return { text: call(request) };
+  } catch (error) {
+    if (error instanceof Refused || error instanceof Unreadable) return { error };
+    throw error;
+  }
+}
+
+function verdict(title, { text, error }, note) {
+  const isUnread = error instanceof Unreadable, isRefused = error instanceof Refused || text === "none";
+  const told = isUnread ? ["no such request"] : error ? coded(error.message) : [text];
+  const element = h("div", { className: `verdict ${isUnread ? "" : isRefused ? "no" : "yes"}` }, h("h3", {}, title), h("p", { className: "answer" }, ...told));
+  if (note) element.append(h("p", { className: "note" }, note));
+  return element;
+}
+
+/** What an expression resolves to: which overload, and the types of its parameters; null if to none. */
+function resolutionOf(request) {
+  const parts = /^(\d+) (\(.*?\))(?: -> (.*))?$/.exec(askOf(standardAnswer, `resolve ${request}`).text ?? "");
+  return parts && { index: Number(parts[1]), parameters: parts[2] };
+}
+
+/** Each overload of what is called: the one that is chosen, and why others don't take the operands. */
+function reasons(request, resolution) {
+  const [kind, name, template] = request.split(/\s+/);
+  const listed = overloadsOf(name).filter((overload) => isOfKind(overload, kind, template === "<"));
+  const lines = listed.flat(), refused = new Map();
+  for (const line of linesOf(`why ${request}`)) {
+    const signature = lines.filter((signature) => line.startsWith(`${signature}: `)).sort((a, b) => b.length - a.length)[0];
+    if (signature) refused.set(signature, line.slice(signature.length + 2));
+  }
+  const rows = listed.map((overload, index) => {
+    const reason = overload.map((signature) => refused.get(signature)).find(Boolean);
+    const isChosen = resolution?.index === index, isVector = / vec|\(vec/.test(resolution?.parameters ?? "");
+    const signature = overload.find((signature) => refused.has(signature)) ?? (isVector ? overload.at(-1) : overload[0]);
+    const said = isChosen ? "takes the operands" : reason ?? "takes them too, at a higher rank";
+    return h("li", { className: isChosen ? "taken" : reason ? "" : "other" }, h("code", {}, signature), h("span", {}, said));
+  });
+  if (rows.length === 0) return [];
+  const isChosen = (row) => row.className === "taken";
+  rows.sort((a, b) => isChosen(b) - isChosen(a));
+  return [h("div", { className: "why" }, h("h3", {}, resolution ? "The overloads" : "Why no overload takes the operands"), h("ol", {}, ...rows))];
+}
+
+/** The overloads of a name. One that takes scalars or vectors has two lines. */
+function overloadsOf(name) {
+  const found = [];
+  for (const line of linesOf(`overloads ${name}`)) {
+    const last = found.at(-1);
+    if (last?.length === 1 && isVectorLine(line, last[0])) last.push(line);
+    else found.push([line]);
+  }
+  return found;
+}
+
+function isVectorLine(line, scalar) {
+  const parameters = parametersOf(line);
+  return parameters.length > 0 && parameters.every((type) => type.startsWith("vecN<")) && line.replace(/vecN<(\w+)>/g, "$1") === scalar;
+}
+
+/** The parameters of a signature. */
+function parametersOf(signature) {
+  const start = signature.indexOf("("), parameters = [];
+  let depth = 0, from = start + 1;
+  for (let at = start; at < signature.length; at++) {
+    const character = signature[at];
+    if (character === "(" || character === "<") depth++;
+    if (character === ")" || (character === ">" && signature[at - 1] !== "-")) depth--;
+    if (depth === 0 || (depth === 1 && character === ",")) {
+      const parameter = signature.slice(from, at).trim();
+      if (parameter) parameters.push(parameter);
+      from = at + 1;
+    }
+    if (depth === 0) break;
+  }
+  return parameters;
+}
+
+/** Whether an overload is one of a request's: a name may be that of two operators, and a constructor may have a template. */
+function isOfKind([signature], kind, hasTemplate) {
+  if (kind === "unary" || kind === "binary") return parametersOf(signature).length === (kind === "unary" ? 1 : 2);
+  return kind !== "ctor" || /^\w+</.test(signature) === hasTemplate;
+}
+
+function linesOf(request) {
+  const { text } = askOf(standardAnswer, request);
+  return text === undefined || text === "none" ? [] : text.split("\n");
+}
+
+function unread(text, at, message) {
+  const before = text.slice(0, at).replace(/./gsu, " ");
+  return h("pre", { className: "request" }, text, "\n", before, h("b", {}, "^"), ` ${message}`);
+}

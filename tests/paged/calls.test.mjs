@@ -1,0 +1,227 @@
+// The calls of the npm package.
+import assert from "node:assert/strict";
+import { readFileSync } from "node:fs";
+import test from "node:test";
+import { Worker } from "node:worker_threads";
+import { pathToFileURL } from "node:url";
+import { createRequire } from "node:module";
+import * as wgsl from "wgsl-types-proved";
+
+const PACKAGE = new URL(".", pathToFileURL(createRequire(import.meta.url).resolve("wgsl-types-proved/package.json")));
+const browser = await import(new URL("index.js", PACKAGE).href);
+const { memorySize } = await import(new URL("calls.js", PACKAGE).href);
+const MODULE = readFileSync(new URL("wgsl.wasm", PACKAGE));
+
+const LIGHT = `const COUNT = 4u;
+alias Color = vec3f;
+struct Light { color: Color, power: f32, cone: vec2<f32> }
+struct Scene {
+  view_proj: mat4x4<f32>,
+  lights: array<Light, COUNT>,
+  weights: array<f32, COUNT - 1>,
+}
+@group(0) @binding(0) var<uniform> scene: Scene;
+`;
+
+/** What a text is refused with, which must be a SourceError. */
+function sourceError(text) {
+  try {
+    wgsl.layouts(text);
+  } catch (error) {
+    assert.ok(error instanceof wgsl.SourceError, String(error));
+    return error;
+  }
+  return assert.fail(`it has no errors: ${text.slice(0, 60)}`);
+}
+
+test("a request is answered by both rules", () => {
+  assert.equal(wgsl.standardAnswer("unary - vec 3 f32"), "vec3<f32>");
+  assert.equal(wgsl.answer("binary + AbstractInt vec 3 f32"), "vec3<f32>");
+  assert.equal(wgsl.standardAnswer("why unary - u32"), "-(T) -> T, T: signed number: argument 1 is u32");
+});
+
+test("what the rules refuse is thrown", () => {
+  assert.throws(() => wgsl.answer("unary - vec 3 f32"), { name: "Refused", message: "cannot use unary operator `-` on type `vec3<f32>`" });
+  assert.throws(() => wgsl.standardAnswer("binary + bool i32"), { name: "Refused", message: "no overload of `+` takes (bool, i32)" });
+});
+
+test("a request that can't be read is thrown", () => {
+  assert.throws(() => wgsl.answer("unary - vec 3"), { name: "Unreadable", message: "column 14, word 5: a type is missing", index: 13 });
+  assert.throws(() => wgsl.standardAnswer(""), { name: "Unreadable", message: "no words", index: null });
+  assert.throws(() => wgsl.answer("size ü"), { index: 5 });
+  assert.throws(() => wgsl.answer("rank f32 f32\nrank f32 f32"), wgsl.Unreadable);
+  assert.throws(() => wgsl.answer(`size struct ${"é".repeat(3000)} 0`), wgsl.Unreadable);
+});
+
+test("why a request can't be read", () => {
+  assert.equal(wgsl.explain("unary - vec 3"), "column 14, word 5: a type is missing");
+  assert.equal(wgsl.standardExplain("unary - vec 3"), "column 14, word 5: a type is missing");
+  assert.equal(wgsl.explain("unary - f32"), null);
+  assert.notEqual(wgsl.explain("overloads dot"), null);
+  assert.equal(wgsl.standardExplain("overloads dot"), null);
+});
+
+test("the layouts of a text", () => {
+  const { structs, variables, errors, findings } = wgsl.layouts(LIGHT);
+  assert.deepEqual(structs.map(({ name, size }) => [name, size]), [["Light", 32], ["Scene", 208]]);
+  const { typeTree, ...lights } = structs[1].members[1];
+  assert.deepEqual(lights, {
+    name: "lights", type: "array<Light, 4>", offset: 64, size: 128, align: 16, stride: 32, padding: 0,
+    line: 6, column: 3, utf16Column: 3, index: LIGHT.indexOf("lights"),
+  });
+  assert.deepEqual([typeTree.kind, typeTree.count, typeTree.element.struct], ["array", 4, structs[0]]);
+  assert.equal(variables[0].minBindingSize, 208);
+  assert.equal(variables[0].typeTree.struct, structs[1]);
+  assert.deepEqual(variables[0].resource, { kind: "buffer", type: "uniform" });
+  assert.deepEqual(errors, []);
+  assert.deepEqual(findings.map(({ index }) => LIGHT.slice(index).split(":")[0]), ["weights"]);
+});
+
+test("errors of a text are thrown with their places, also behind each line break and characters of four bytes", () => {
+  const error = sourceError("// 🦀\n/* é🦀 */ struct S { a: nowhere }\r\nstruct T { a: f32 }\u2028bad");
+  const text = "// 🦀\n/* é🦀 */ struct S { a: nowhere }\r\nstruct T { a: f32 }\u2028bad";
+  assert.deepEqual(error.errors.map(({ index }) => text.slice(index).split(/\W/)[0]), ["nowhere", "bad"]);
+  assert.deepEqual(error.errors.map(({ line, column, utf16Column }) => [line, column, utf16Column]), [[2, 28, 25], [4, 1, 1]]);
+  assert.match(error.message, /^line 2, column 28: no declaration has this name: `nowhere`, and 1 more$/);
+  assert.deepEqual(error.layouts.structs.map(({ name, index }) => [name, text.slice(index, index + 1)]), [["T", "T"]]);
+});
+
+test("an empty text, and what is no text", () => {
+  assert.deepEqual(wgsl.layouts(""), { structs: [], variables: [], overrides: [], entryPoints: [], errors: [], findings: [] });
+  for (const call of [wgsl.answer, wgsl.standardAnswer, wgsl.explain, wgsl.standardExplain, wgsl.layouts]) {
+    for (const value of [7, null, undefined, ["size f32"], Buffer.from("size f32")]) assert.throws(() => call(value), TypeError);
+  }
+});
+
+test("half of a surrogate pair is refused, and not replaced in silence", () => {
+  for (const call of [wgsl.answer, wgsl.standardAnswer, wgsl.explain, wgsl.standardExplain, wgsl.layouts]) {
+    for (const text of ["\ud83e", "size struct \udd80 0", "// \udd80\ud83e"]) assert.throws(() => call(text), { name: "TypeError", message: /surrogate/ });
+  }
+});
+
+test("a name keeps NULs, a byte order mark and every other character", () => {
+  assert.match(wgsl.answer("layout struct \u{feff}S 1 \u{1f980}\0x - - f32"), /🦀\0x f32\n.* \u{feff}S$/u);
+  assert.equal(wgsl.answer("common struct \u{feff}S 1 x - - f32"), "\u{feff}S");
+  assert.equal(sourceError("struct S { a: f32 }\0").errors[0].index, 19);
+});
+
+test("counts of 2^32 and more are refused, and those below are taken", () => {
+  assert.equal(wgsl.answer("ctor array < t f32 n 4294967295 >").slice(0, 5), "array");
+  for (const count of [2n ** 32n, 2n ** 32n + 1n, 2n ** 63n - 1n]) {
+    for (const call of [wgsl.answer, wgsl.standardAnswer]) {
+      assert.throws(() => call(`size array ${count} f32`), wgsl.Unreadable);
+      assert.throws(() => call(`ctor array < t f32 n ${count} >`), wgsl.Refused);
+    }
+  }
+});
+
+test("the deepest types, and a text of any size", () => {
+  assert.match(wgsl.answer(`layout struct S 1 a - - ${"array 1 ".repeat(252)}f32`), /^ *0 +4 +4 a array<array/);
+  assert.equal(sourceError(`struct S { a: ${"array<".repeat(300)}f32${", 1>".repeat(300)} }`).errors.length, 1);
+  assert.equal(sourceError("/*".repeat(500_000)).errors.length, 1);
+  const brackets = `const A = ${"(".repeat(100_000)}1${")".repeat(100_000)}; struct S { a: array<f32, A> }`;
+  assert.ok(sourceError(brackets).errors.length > 0);
+  const many = Array.from({ length: 20_000 }, (_, index) => `struct S${index} { a: vec3f }`).join("\n");
+  assert.equal(wgsl.layouts(many).structs.at(-1).name, "S19999");
+});
+
+test("if the memory can't grow, a call says so, and the next one answers", () => {
+  const { grow } = WebAssembly.Memory.prototype, text = LIGHT.repeat(200_000);
+  WebAssembly.Memory.prototype.grow = () => {
+    throw new RangeError("no more");
+  };
+  try {
+    assert.throws(() => wgsl.layouts(text), { name: "RangeError", message: /32 bits of memory are too few.*no more/ });
+  } finally {
+    WebAssembly.Memory.prototype.grow = grow;
+  }
+  assert.equal(wgsl.layouts(LIGHT).structs.length, 2);
+});
+
+test("a million calls leave the memory as it is", { timeout: 300_000 }, () => {
+  const big = LIGHT.replaceAll(/(Light|Scene|Color|COUNT|scene)/g, "$1_1") + LIGHT;
+  const error = () => assert.throws(() => wgsl.layouts(`${LIGHT} bad`), wgsl.SourceError);
+  wgsl.layouts(big);
+  error();
+  for (let i = 0; i < 1000; i++) wgsl.standardAnswer("why binary + f32 f32");
+  const before = memorySize();
+  for (let i = 0; i < 1_000_000; i++) wgsl.standardAnswer("binary + AbstractInt vec 3 f32");
+  for (let i = 0; i < 100_000; i++) wgsl.explain("unary - vec 3");
+  for (let i = 0; i < 10_000; i++) wgsl.layouts(LIGHT);
+  for (let i = 0; i < 1000; i++) error();
+  assert.equal(memorySize(), before);
+});
+
+test("no text makes a call fail", () => {
+  const pieces = LIGHT.split(/\b/);
+  let seed = 1;
+  const next = (n) => {
+    seed = (seed + 0x6d2b79f5) | 0;
+    let bits = Math.imul(seed ^ (seed >>> 15), 1 | seed);
+    bits ^= bits + Math.imul(bits ^ (bits >>> 7), 61 | bits);
+    return ((bits ^ (bits >>> 14)) >>> 0) % n;
+  };
+  let wrong = 0;
+  for (let round = 0; round < 3000; round++) {
+    const copy = [...pieces];
+    for (let change = 0; change < 4; change++) copy.splice(next(copy.length), next(2), ...(next(3) ? [pieces[next(pieces.length)]] : []));
+    const text = copy.join("");
+    try {
+      wgsl.layouts(text);
+    } catch (error) {
+      assert.ok(error instanceof wgsl.SourceError, text);
+      for (const { index, message } of error.errors) assert.ok(message && index >= 0 && index <= text.length, text);
+      wrong++;
+    }
+  }
+  assert.ok(wrong > 1000 && wrong < 3000, `${wrong}`);
+});
+
+test("the entry for browsers takes an address, bytes, a response, a module; a 404 is told", async () => {
+  const { load } = await import(new URL("calls.js", PACKAGE).href);
+  const address = `data:application/wasm;base64,${MODULE.toString("base64")}`;
+  for (const source of [MODULE, await WebAssembly.compile(MODULE), Promise.resolve(new Response(MODULE)), address, new URL(address)]) {
+    await browser.init(source);
+    assert.equal(browser.standardAnswer("binary + f32 f32"), "f32");
+  }
+  await browser.init();
+  await assert.rejects(browser.init(new Response("", { status: 404 })), /404/);
+  await assert.rejects(load(new Uint8Array(8)), WebAssembly.CompileError);
+  for (const source of [MODULE, new WebAssembly.Module(MODULE), address]) browser.initSync(source);
+  assert.throws(() => browser.initSync("wgsl.wasm"), TypeError);
+});
+
+test("before init a call says what is missing", async () => {
+  const fresh = await import(new URL("calls.js?fresh", PACKAGE).href);
+  for (const call of [() => fresh.layouts(""), () => fresh.version(), () => fresh.answer("size f32")]) {
+    assert.throws(call, { message: "wgsl-types-proved: call `await init()` first" });
+  }
+});
+
+test("the entry with the module in it works at once, and all entries export the same", async () => {
+  const inline = await import("wgsl-types-proved/inline");
+  assert.equal(inline.standardAnswer("binary + f32 f32"), "f32");
+  await inline.init();
+  const names = ["Refused", "SourceError", "Unreadable", "answer", "explain", "init", "initSync", "layouts", "standardAnswer", "standardExplain", "version", "view"];
+  for (const entry of [inline, browser, wgsl]) assert.deepEqual(Object.keys(entry).sort(), names);
+});
+
+test("in a worker, also with a module that is sent", async () => {
+  const program = `import { parentPort, workerData } from "node:worker_threads";
+    const { init, layouts } = await import(workerData.entry);
+    await init(workerData.module);
+    parentPort.postMessage(layouts("struct A { a: vec3f, b: f32 } var<private> a: A;"));`;
+  const entry = new URL("index.js", PACKAGE).href, module = await WebAssembly.compile(MODULE);
+  const worker = new Worker(new URL(`data:text/javascript,${encodeURIComponent(program)}`), { workerData: { entry, module } });
+  const told = await new Promise((resolve, reject) => worker.once("message", resolve).once("error", reject));
+  assert.deepEqual(told, wgsl.layouts("struct A { a: vec3f, b: f32 } var<private> a: A;"));
+  assert.equal(told.variables[0].typeTree.struct, told.structs[0]);
+});
+
+test("the version is that of the package, and the module imports nothing and has the six calls", () => {
+  const { version } = JSON.parse(readFileSync(new URL("package.json", PACKAGE)));
+  assert.equal(wgsl.version(), version);
+  const module = new WebAssembly.Module(MODULE), functions = WebAssembly.Module.exports(module).filter(({ kind }) => kind === "function");
+  assert.deepEqual(WebAssembly.Module.imports(module), []);
+  assert.deepEqual(functions.map(({ name }) => name).sort(), ["wgsl_answer", "wgsl_explain", "wgsl_source_layout", "wgsl_standard_answer", "wgsl_standard_explain", "wgsl_version"]);
+});

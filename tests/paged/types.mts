@@ -1,0 +1,36 @@
+// What TypeScript makes of the package's types. Each line under `@ts-expect-error` must be refused.
+import { Layouts, Message, Refused, SourceError, StructLayout, Type, Unreadable, answer, init, layouts, standardExplain, version, view } from "wgsl-types-proved";
+import { initSync } from "wgsl-types-proved/inline";
+
+await init();
+initSync(new Uint8Array(8));
+const told: Layouts = layouts("struct A { a: vec3f }");
+const struct: StructLayout | undefined = told.structs[0];
+const place: [number, number] | undefined = struct && [struct.members[0]!.offset, struct.index];
+const made = view(told.variables[0]!, { count: 2 });
+made.set({ a: [1, 2, 3], b: new Float32Array(16), c: [[1, 2], { d: 1n }], e: true });
+const bytes: ArrayBuffer = made.buffer;
+const why: string | null = standardExplain(version());
+try {
+  answer("unary - f32");
+} catch (error) {
+  if (error instanceof SourceError) error.errors.map(({ kind, index }: Message) => kind + index);
+  else if (error instanceof Unreadable) console.log(error.index, place, bytes, why);
+  else if (error instanceof Refused) console.log(error.message);
+}
+
+/** The struct inside all arrays, as a type says it. */
+function innermost(type: Type): string {
+  if (type.kind === "array") return innermost(type.element);
+  return type.kind === "struct" ? type.struct.name : type.kind;
+}
+console.log(innermost(told.variables[0]!.typeTree));
+
+// @ts-expect-error: a request is a string
+answer(7);
+// @ts-expect-error: a view has no such option
+view(struct!, { length: 2 });
+// @ts-expect-error: no value is a function
+made.set(() => 1);
+// @ts-expect-error: a layout isn't written
+told.structs[0].offset;

@@ -1,0 +1,123 @@
+// Values of JavaScript in buffers.
+import assert from "node:assert/strict";
+import test from "node:test";
+import { layouts, view } from "wgsl-types-proved";
+
+const LAYOUTS = layouts(`
+enable f16;
+struct Inner { a: f32, b: vec3f }
+struct Outer { flag: u32, list: array<Inner, 2>, m: mat3x3f, halves: vec4<f16>, @size(32) wide: i32, n: atomic<i32> }
+struct Endless { count: u32, items: array<vec3f> }
+struct Objects { count: u32, items: array<Inner> }
+struct Odd { v: vec3f, items: array<u32> }
+struct Halves { one: f16, two: mat2x3<f16>, grid: array<array<vec2f, 3>, 2> }
+@group(0) @binding(0) var<storage> outer: Outer;
+@group(0) @binding(1) var<storage> colors: array<vec4f>;
+@group(0) @binding(2) var image: texture_2d<f32>;
+var<private> on: bool;
+`);
+const structs = Object.fromEntries(LAYOUTS.structs.map((struct) => [struct.name, struct]));
+const variables = Object.fromEntries(LAYOUTS.variables.map((variable) => [variable.name, variable]));
+const VALUE = {
+  flag: 7,
+  list: [{ a: 1, b: [2, 3, 4] }, { a: 5, b: [6, 7, 8] }],
+  m: [[1, 2, 3], [4, 5, 6], [7, 8, 9]],
+  halves: [1, -2, 0.5, 65504],
+  wide: -1,
+  n: -5,
+};
+
+test("a value lies where the layout says", () => {
+  const outer = view(structs.Outer), data = new DataView(outer.buffer);
+  outer.set({ ...VALUE, list: [VALUE.list[0], { a: 5, b: new Float32Array([6, 7, 8]) }] });
+  assert.deepEqual([outer.size, outer.buffer.byteLength], [176, 176]);
+  assert.equal(data.getUint32(0, true), 7);
+  assert.deepEqual([...new Float32Array(outer.buffer, 16, 16)], [1, 0, 0, 0, 2, 3, 4, 0, 5, 0, 0, 0, 6, 7, 8, 0]);
+  assert.deepEqual([...new Float32Array(outer.buffer, 80, 12)], [1, 2, 3, 0, 4, 5, 6, 0, 7, 8, 9, 0]);
+  assert.deepEqual([...new Uint16Array(outer.buffer, 128, 4)], [0x3c00, 0xc000, 0x3800, 0x7bff]);
+  assert.deepEqual([data.getInt32(136, true), data.getInt32(168, true)], [-1, -5]);
+});
+
+test("what is written is read back", () => {
+  const outer = view(variables.outer);
+  outer.set(VALUE);
+  assert.deepEqual(outer.get(), VALUE);
+  const halves = view(structs.Halves), value = { one: -0.25, two: [[1, 2, 3], [4, 5, 6]], grid: [[[1, 2], [3, 4], [5, 6]], [[7, 8], [9, 10], [11, 12]]] };
+  halves.set(value);
+  assert.deepEqual(halves.get(), value);
+  const on = view(variables.on);
+  on.set(true);
+  assert.equal(on.get(), true);
+  assert.deepEqual([...new Uint8Array(on.buffer)], [1, 0, 0, 0]);
+});
+
+test("lists may be flat", () => {
+  const nested = view(structs.Outer), flat = view(structs.Outer), grid = view(structs.Halves);
+  nested.set({ m: VALUE.m });
+  flat.set({ m: new Float32Array([1, 2, 3, 4, 5, 6, 7, 8, 9]) });
+  assert.deepEqual(flat.buffer, nested.buffer);
+  grid.set({ grid: [1, 2, 3, 4, 5, 6, 7, 8, 9, 10, 11, 12] });
+  assert.deepEqual(grid.get().grid[1], [[7, 8], [9, 10], [11, 12]]);
+});
+
+test("a member has a view of its own", () => {
+  const outer = view(structs.Outer), member = structs.Outer.members[1], list = view(member, { buffer: outer.buffer, offset: member.offset });
+  list.set(VALUE.list);
+  assert.deepEqual(outer.get().list, VALUE.list);
+  assert.equal(list.size, 64);
+  assert.deepEqual(structs.Outer.members.map((member) => view(member).size), [4, 64, 48, 8, 4, 4]);
+});
+
+test("what isn't given stays, padding too, and an offset is kept", () => {
+  const buffer = new Uint8Array(64).fill(255).buffer;
+  view(structs.Inner, { buffer, offset: 32 }).set({ b: [0, 0, 0] });
+  const zeros = [...new Uint8Array(buffer).entries()].filter(([, byte]) => byte === 0).map(([index]) => index);
+  assert.deepEqual(zeros, Array.from({ length: 12 }, (_, index) => 48 + index));
+});
+
+test("runtime-sized arrays have as many elements as are asked for, or as the buffer has room for", () => {
+  assert.deepEqual([0, 1, 2, 3].map((count) => view(structs.Endless, { count }).size), [16, 32, 48, 64]);
+  assert.equal(view(structs.Objects, { count: 3 }).size, 16 + 3 * 32);
+  assert.deepEqual([0, 1, 2, 5].map((count) => view(structs.Odd, { count }).size), [16, 16, 32, 32]);
+  assert.equal(view(structs.Endless).count, 1);
+  assert.equal(view(variables.colors, { count: 10 }).size, 160);
+  const endless = view(structs.Endless, { buffer: new ArrayBuffer(80 + 15), offset: 16 });
+  assert.deepEqual([endless.count, endless.size], [3, 64]);
+  endless.set({ count: 2, items: [[1, 2, 3], [4, 5, 6]] });
+  assert.deepEqual(endless.get(), { count: 2, items: [[1, 2, 3], [4, 5, 6], [0, 0, 0]] });
+  assert.throws(() => endless.set({ items: [[1, 2, 3], [1, 2, 3], [1, 2, 3], [1, 2, 3]] }), RangeError);
+});
+
+test("what doesn't fit is refused by its path", () => {
+  const refused = (value, message) => assert.throws(() => view(structs.Outer).set(value), { message });
+  refused({ list: [{ b: [1, 2] }] }, "Outer.list[0].b: 3 numbers are wanted for a vector, not 2");
+  refused({ list: [{}, {}, {}] }, "Outer.list: 2 elements are wanted for an array, not 3");
+  refused({ listt: [] }, "Outer: Outer has no member listt");
+  refused({ flag: "1" }, "Outer.flag: a number is wanted for u32");
+  refused({ flag: [1] }, /a number is wanted/);
+  refused({ m: 1 }, "Outer.m: a list is wanted for a matrix");
+  refused({ m: [1, 2, 3, 4] }, "Outer.m: 9 numbers are wanted for a matrix, not 4");
+  refused({ m: [[1, 2, 3], [4, 5, 6]] }, "Outer.m: 3 elements are wanted for a matrix, not 2");
+  refused(null, "Outer: an object is wanted for Outer");
+  refused([1], "Outer: an object is wanted for Outer");
+  assert.throws(() => view(structs.Outer, { buffer: new ArrayBuffer(175) }), RangeError);
+  assert.throws(() => view(variables.image), { name: "TypeError", message: "wgsl-types-proved: a texture has no bytes" });
+});
+
+test("a f16 is rounded to the nearest, ties to even: each one, and the numbers around the middle of two", () => {
+  const { members: [one] } = structs.Halves, half = view(one), bits = new Uint16Array(half.buffer);
+  const bitsOf = (value) => (half.set(value), bits[0]);
+  const valueOf = (n) => ((bits[0] = n), half.get());
+  for (let n = 0; n < 0x7bff; n++) {
+    const low = valueOf(n), high = valueOf(n + 1), middle = (low + high) / 2;
+    assert.equal(low, n < 1024 ? n * 2 ** -24 : (1 + (n & 1023) / 1024) * 2 ** ((n >> 10) - 15));
+    assert.equal(bitsOf(low), n);
+    assert.equal(bitsOf(-low), n | 0x8000);
+    assert.equal(bitsOf(middle), n % 2 ? n + 1 : n);
+    assert.equal(bitsOf(middle + (high - low) / 1e6), n + 1);
+    assert.equal(bitsOf(middle - (high - low) / 1e6), n);
+  }
+  assert.deepEqual([65519, 65520, Infinity, -Infinity, 2 ** -26].map(bitsOf), [0x7bff, 0x7c00, 0x7c00, 0xfc00, 0]);
+  assert.deepEqual([0x7c00, 0xfc00, 0x7e00, 0x8000].map(valueOf), [Infinity, -Infinity, NaN, -0]);
+  assert.equal(bitsOf(NaN) & 0x7c00, 0x7c00);
+});
