@@ -37,6 +37,7 @@ int main(void) {
         if (len <= WGSL_LONGEST && strspn(line, " \t\r") >= (size_t)len) continue;
         switch (ask(wgsl_answer, line, (size_t)len, &room, &text_len)) {
         case WGSL_ANSWERED:
+        case WGSL_RULED_OUT:
             fwrite(room.at, 1, text_len, stdout);
             putchar('\n');
             break;

@@ -4,14 +4,17 @@ but the library, in the folder that WGSL_LIB names or in wgsl/, and no network. 
 import base64
 import hashlib
 import os
+import platform
 import re
 import sys
+import sysconfig
 import zipfile
 
 HERE = os.path.dirname(os.path.abspath(__file__))
-# The library asks for nothing of the C library that is newer than glibc 2.17.
-TAG = "py3-none-manylinux_2_17_x86_64"
-LIBRARY = "libwgsl.so"
+LIBRARY = {"darwin": "libwgsl.dylib", "win32": "wgsl.dll"}.get(sys.platform, "libwgsl.so")
+# The proved library, for x86-64 Linux, asks for nothing of the C library that is newer than glibc 2.17.
+IS_PROVED = (sys.platform, platform.machine()) == ("linux", "x86_64")
+TAG = "py3-none-" + ("manylinux_2_17_x86_64" if IS_PROVED else re.sub(r"[-.]", "_", sysconfig.get_platform()))
 OLDEST = (1980, 1, 1, 0, 0, 0)
 
 
@@ -33,7 +36,7 @@ def library():
     given = os.environ.get("WGSL_LIB")
     path = os.path.join(given if given else os.path.join(HERE, "wgsl"), LIBRARY)
     if not os.path.isfile(path):
-        sys.exit(f"wgsl: there is no {path}: set WGSL_LIB to the folder where ./build_library FOLDER wrote {LIBRARY}")
+        sys.exit(f"wgsl: there is no {path}: set WGSL_LIB to the folder where ./build_library FOLDER or cargo wrote {LIBRARY}")
     return read(os.path.abspath(path))
 
 
@@ -73,7 +76,7 @@ def build_wheel(wheel_directory, config_settings=None, metadata_directory=None):
         for member in [*sorted(set(found) - {record}), record]:
             info = zipfile.ZipInfo(member, OLDEST)
             info.compress_type = zipfile.ZIP_DEFLATED
-            info.external_attr = (0o100755 if member.endswith(".so") else 0o100644) << 16
+            info.external_attr = (0o100755 if member.endswith(LIBRARY) else 0o100644) << 16
             wheel.writestr(info, found[member])
     return name
 

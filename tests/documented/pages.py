@@ -5,7 +5,7 @@ import re
 from sources import TOP, read
 
 PAGES = ("README.md", "CHANGELOG.md", "CONTRIBUTING.md") + tuple(
-    os.path.join("docs", name) for name in sorted(os.listdir(os.path.join(TOP, "docs")))
+    os.path.join("docs", name) for name in sorted(os.listdir(os.path.join(TOP, "docs"))) if name.endswith(".md")
 )
 LINK = re.compile(r"\[[^\]]*\]\(([^)\s]+)\)")
 

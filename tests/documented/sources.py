@@ -15,8 +15,8 @@ LEFT_OUT = {"Shown", "shown"}  # what the other ghost members are said over
 FACADE = "wgsl_types"
 BEHIND = ("wgsl_syntax", "wgsl_core", "wgsl_calls", "wgsl_standard", FACADE)  # what the facade exports
 LIBRARIES = (
-    "wgsl_asked", "wgsl_coded", "wgsl_typed", "wgsl_requests", "wgsl_lines", "wgsl_agreement", "wgsl_total",
-    "wgsl_source", "wgsl_spaces", "wgsl_report",
+    "wgsl_asked", "wgsl_typed", "wgsl_requests", "wgsl_lines", "wgsl_total", "wgsl_constants", "wgsl_source", "wgsl_spaces",
+    "wgsl_report",
 )
 CALLED = {"wgsl_requests": ("request", "laws")}  # the modules that users call; the others read, ask and write for these
 PROGRAM, FOR_CALLERS_IN_C = "wgsl_check", "wgsl_c"

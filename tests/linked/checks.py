@@ -5,30 +5,21 @@ import re
 import sys
 
 import allocations
-import number_calls
 import source_calls
 import standard_calls
 import sweeps
-from library import Library
+from library import RULED_OUT, Library
 from python_module import check_python, check_python_folders
-from rust_crates import Crates, check_folders, check_rust, check_rust_standard, check_rust_types, check_versions
 from source_calls import check_source
 from statuses import check_statuses
-from tools import BINDINGS, LINKED, TOP, WARNINGS, answers_and_notes, compare, compare_both, compile_c, expect_shown, is_there, run
-from tools import write_shown
-from written_codes import compare_written
+from tools import BINDINGS, LINKED, TOP, WARNINGS, answers_and_notes, compare, compare_both, compile_c, compile_cpp, expect_shown
+from tools import is_there, run, write_shown
 
-# How many random questions, types and questions to be broken there are, and lines for the programs in C.
-QUESTIONS, TYPES, BROKEN, LINES = 100000, 20000, 1500, 1500
+# How many calls by WGSL's own overloads are asked, and short requests whose allocations are counted.
+CALLED, COUNTED = 150, 1500
 WRAPPED = ["-Wl,--wrap=malloc,--wrap=realloc,--wrap=free"]
 VALGRIND = ["valgrind", "--quiet", "--leak-check=full", "--show-leak-kinds=all", "--error-exitcode=9"]
-CALLS = """wgsl_answer wgsl_binary wgsl_call wgsl_common wgsl_constructor wgsl_explain wgsl_explain_type wgsl_layout
-wgsl_message wgsl_rank wgsl_read_type wgsl_size wgsl_source_layout wgsl_spell wgsl_standard_answer
-wgsl_standard_explain wgsl_standard_overloads wgsl_standard_resolve wgsl_standard_why wgsl_unary wgsl_version""".split()
-# How the programs in C are compiled, by what is asked and replied.
-FORMS = {
-    "texts": [], "numbers": ["-DWORDS_ASKED", "-DWORDS_REPLIED"], "codes": ["-DWORDS_ASKED"], "types": ["-DWORDS_REPLIED"],
-}
+CALLS = "wgsl_answer wgsl_explain wgsl_source_layout wgsl_standard_answer wgsl_standard_explain wgsl_version".split()
 
 
 def lines_of(*folders):
@@ -51,7 +42,7 @@ def requests():
 
 def standard_requests():
     """The same by WGSL's own overloads, with some calls of tests/standard, and all lists of overloads."""
-    lines = lines_of("lines", "standard") + standard_calls.requests(LINES // 10)
+    lines = lines_of("lines", "standard") + standard_calls.requests(CALLED)
     lines += ["", " \t\r", "\0", "foo", "why", "unary - " + "atomic " * 500 + "f32", " " * 4096, " " * 4097]
     return [line.encode() for line in lines] + [b"overloads \xff", b"unary - f32\r"]
 
@@ -77,30 +68,30 @@ def check_symbols(folder):
 
 
 def version_in(form, *path):
-    with open(os.path.join(BINDINGS, *path), encoding="utf-8") as file:
+    with open(os.path.join(TOP, *path), encoding="utf-8") as file:
         return re.search(form, file.read(), re.MULTILINE).group(1)
 
 
 def check_version(folder):
     """All versions are one. A program that has the toolchain's names links with either library, and finds the shared one."""
-    version = version_in(r'^version = "(.*)"$', "rust", "Cargo.toml")
-    others = [version_in(r'^version = "(.*)"$', "rust-types", "Cargo.toml"),
-              version_in(r'^VERSION = "(.*)"$', "python", "wgsl", "_library.py")]
+    version = version_in(r"^(.*)$", "VERSION")
+    others = [version_in(r'^VERSION = "(.*)"$', "bindings", "python", "wgsl", "_library.py")]
     source = os.path.join(LINKED, "beside.c")
     built = os.path.join(folder, "beside_shared")
     run("cc", *WARNINGS, "-I", folder, "-o", built, source, "-L", folder, "-lwgsl")
     printed = run(compile_c(folder, source, "beside")) + run(built, LD_LIBRARY_PATH=folder)
     others += printed.decode().split()
-    if others != [version] * 6:
+    if others != [version] * 5:
         sys.exit(f"link: the versions are {version} and {others}")
-    needed = f"libwgsl.so.{version.split('.')[0]}"
+    major, minor, _ = version.split(".")
+    needed = f"libwgsl.so.{f'0.{minor}' if major == '0' else major}"
     if needed not in run("readelf", "-d", built).decode():
         sys.exit(f"link: a program with the shared library doesn't need {needed}")
     print(f"link: the version is {version}, and a program that has `rattle_alloc` itself links and finds {needed}")
 
 
 def check_c(folder, asked, swept, wanted):
-    """The example over lines, without a leak, and the programs of docs/USING.md."""
+    """The example over lines, without a leak, and the program of docs/USING.md."""
     lines = compile_c(folder, os.path.join(BINDINGS, "c", "lines.c"), "lines")
     compare_both("C", wanted, answers_and_notes(lines, asked=swept))
     if is_there("valgrind"):
@@ -110,50 +101,76 @@ def check_c(folder, asked, swept, wanted):
     expect_shown("C", run(compile_c(folder, shown, "shown")))
 
 
+def check_cpp(folder, swept, wanted, standard_swept, standard_wanted):
+    """A program over lines by either set of rules, and the layouts of a module."""
+    if not is_there("c++"):
+        return
+    lines = compile_cpp(folder, os.path.join(LINKED, "lines.cpp"), "lines_cpp")
+    compare_both("C++", wanted, answers_and_notes(lines, asked=swept))
+    compare_both("C++, by WGSL's own overloads", standard_wanted, answers_and_notes(lines, "standard", asked=standard_swept))
+    layout = compile_cpp(folder, os.path.join(LINKED, "layout.cpp"), "layout_cpp")
+    for path in source_calls.MODULES:
+        text = source_calls.read(path)
+        if run(layout, asked=text) != source_calls.program_json(text):
+            sys.exit(f"link: the layouts of {path} in C++ are others than those of the program")
+    print(f"link: C++ writes the layouts of {len(source_calls.MODULES)} modules")
+
+
 def lines_for_c(asked, standard):
-    """What the programs in C are asked, by what is asked and replied."""
+    """What the programs in C are asked."""
     texts = [b"%s %s" % (name, line) for name in (b"answer", b"explain") for line in asked]
     texts += [b"%s %s" % (name, line) for name in (b"standard_answer", b"standard_explain") for line in standard]
     texts += [b"source_layout " + module for module in source_calls.modules()]
-    texts += [b"explain_type " + text for text in source_calls.types()]
-    return {
-        "texts": b"\n".join(texts) + b"\n",
-        "numbers": (number_calls.lines(LINES, 4) + standard_calls.lines(LINES)).encode(),
-        "codes": standard_calls.text_lines(LINES).encode(),
-        "types": b"".join(b"read_type %s\n" % text for text in source_calls.types()),
-    }
+    return b"\n".join(texts) + b"\n"
 
 
 def run_linked(folder, asked):
-    """Rooms and threads, of each kind of call, and the stack."""
+    """Rooms and threads, and the stack."""
     for name in ("rooms", "threads"):
-        source = os.path.join(LINKED, name + ".c")
-        for form, lines in asked.items():
-            printed = run(compile_c(folder, source, f"{name}_{form}", *FORMS[form]), asked=lines)
-            print(f"link: {name}, of {form}: {printed.decode().strip()}")
-    for name in ("stack", "stack_numbers", "stack_source"):
+        printed = run(compile_c(folder, os.path.join(LINKED, name + ".c"), name), asked=asked)
+        print(f"link: {name}: {printed.decode().strip()}")
+    for name in ("stack", "stack_source"):
         printed = run(compile_c(folder, os.path.join(LINKED, name + ".c"), name))
         print(f"link: {name}: {printed.decode().strip()}")
 
 
 def check_memory(folder, library, asked):
-    """Each request for memory is refused in turn, and short questions make as many as allocations.py says."""
-    source, questions = os.path.join(LINKED, "refused.c"), allocations.questions(library, LINES)
-    for form, lines in asked.items():
-        program = compile_c(folder, source, f"refused_{form}", *FORMS[form], *WRAPPED)
-        total = sum(int(count) for count in run(program, asked=lines).split())
-        counts = count_short(program, questions[form])
-        print(f"link: refused, of {form}: {total} requests for memory, {min(counts)} to {max(counts)} for a short question")
+    """Each request for memory is refused in turn, and short requests make as many as allocations.py says."""
+    program = compile_c(folder, os.path.join(LINKED, "refused.c"), "refused", *WRAPPED)
+    total = sum(int(count) for count in run(program, asked=asked).split())
+    counts = count_short(program, allocations.questions(library, COUNTED))
+    print(f"link: refused: {total} requests for memory, {min(counts)} to {max(counts)} for a short request")
 
 
 def count_short(program, short):
-    """How often the library allocates for each of the questions: as often as it is to."""
+    """How often the library allocates for each of the requests: as often as it is to."""
     questions = "".join(f"{question}\n" for question, _ in short)
     counts = [int(count) for count in run(program, asked=questions.encode()).split()]
     for (question, wanted), count in zip(short, counts, strict=True):
         if count != wanted:
             sys.exit(f"link: {question} allocates {count} times, not {wanted}")
     return counts
+
+
+def messages():
+    """How messages of refusals begin: the texts in the sources of errors and of constructors, calls and templates."""
+    paths = [os.path.join("wgsl_core", "src", "error.rt"), os.path.join("wgsl_calls", "src", "**", "*.rt")]
+    texts = ["no overload of ", "`"]
+    for path in (path for each in paths for path in glob.glob(os.path.join(TOP, "crates", each), recursive=True)):
+        with open(path, encoding="utf-8") as file:
+            texts += [text.split("{")[0] for text in re.findall(r'"([^"\n]* [^"\n]*)"', file.read())]
+    return tuple(text for text in texts if text)
+
+
+def check_ruled_out(library, name, lines):
+    """The status is 1 exactly for messages of refusals. Returns how many there are."""
+    count, refusals = 0, messages()
+    for line in lines:
+        status, text = library.ask(name, line)
+        if status <= RULED_OUT and (status == RULED_OUT) != text.decode().startswith(refusals):
+            sys.exit(f"link: {name} {line[:1000]} has the status {status}, and writes {text[:1000]}")
+        count += status == RULED_OUT
+    print(f"link: {name} rules {count} of {len(lines)} requests out")
 
 
 def check_standard_text(library, swept):
@@ -172,115 +189,50 @@ def check_standard_text(library, swept):
     return wanted
 
 
-def check_headers(folder):
-    """What the functions of wgsl_codes.h write; an example over numbers; the header alone, as C and C++ of old standards."""
-    codes = run(compile_c(folder, os.path.join(LINKED, "codes.c"), "codes", "-std=c99", "-pedantic"))
-    compare("a program with wgsl_codes.h", number_calls.codes_in_c().encode(), codes)
-    read = run(compile_c(folder, os.path.join(LINKED, "cursor.c"), "cursor", "-std=c99", "-pedantic"))
-    with open(os.path.join(LINKED, "cursor.txt"), "rb") as file:
-        compare("a program that reads replies", file.read(), read)
-    example = os.path.join(BINDINGS, "c", "light.c")
-    shown = run(compile_c(folder, example, "light", "-std=c99", "-pedantic"))
-    with open(os.path.join(LINKED, "light.txt"), "rb") as file:
-        if shown != file.read():
-            sys.exit(f"link: bindings/c/light.c prints {shown}")
-    if is_there("valgrind"):
-        run(*VALGRIND, os.path.join(folder, "light"))
+def check_headers():
+    """Each header alone, as C and C++ of old standards."""
+    strict = [*WARNINGS, "-pedantic", "-Wconversion", "-Wsign-conversion", "-I", os.path.join(BINDINGS, "c"), "-fsyntax-only"]
     languages = [["cc", "-x", "c", "-std=c99"]]
     if is_there("c++"):
         languages.append(["c++", "-x", "c++", "-std=c++11", "-Wold-style-cast"])
-        run("c++", "-x", "c++", "-std=c++11", *WARNINGS, "-pedantic", "-I", folder, "-fsyntax-only", example)
+        run("c++", "-x", "c++", "-std=c++17", "-Wold-style-cast", "-I", os.path.join(BINDINGS, "cpp"), *strict, "-",
+            asked=b'#include "wgsl.hpp"\n')
     for language in languages:
-        strict = [*WARNINGS, "-pedantic", "-Wconversion", "-Wsign-conversion", "-I", folder, "-fsyntax-only"]
-        run(*language, *strict, "-", asked=b'#include "wgsl_codes.h"\n')
-
-
-# Constants in C, by their prefix, and the enumerations of which they are the variants.
-ENUMERATIONS = [
-    ("SCALAR", "wgsl_syntax/src/scalar.rt", "Scalar"),
-    ("SPACE", "wgsl_syntax/src/address.rt", "AddressSpace"),
-    ("ACCESS", "wgsl_syntax/src/address.rt", "AccessMode"),
-    ("SAMPLED", "wgsl_syntax/src/texture.rt", "SampledType"),
-    ("TEXTURE", "wgsl_syntax/src/texture.rt", "TextureType"),
-    ("FORMAT", "wgsl_syntax/src/texel.rt", "TexelFormat"),
-    ("UNARY", "wgsl_syntax/src/operator.rt", "UnaryOperator"),
-    ("BINARY", "wgsl_syntax/src/operator.rt", "BinaryOperator"),
-    ("ERROR", "wgsl_core/src/error.rt", "Error"),
-]
-
-
-def declared(file, name):
-    """The variants of an enumeration of the sources, in lower case."""
-    with open(os.path.join(TOP, "crates", file), encoding="utf-8") as source:
-        body = re.search(rf"pub enum {name} \{{\n(.*?)\n\}}", source.read(), re.DOTALL).group(1)
-    return [variant.lower() for variant in re.findall(r"^    (\w+)", body, re.MULTILINE)]
-
-
-def check_constants():
-    """The constants of the headers are the variants of the sources, in their order."""
-    text = ""
-    for header in ("wgsl.h", "wgsl_codes.h"):
-        with open(os.path.join(BINDINGS, "c", header), encoding="utf-8") as file:
-            text += file.read()
-    for prefix, file, name in ENUMERATIONS:
-        for body in re.findall(r"^enum \{\n(.*?)\n\};", text, re.DOTALL | re.MULTILINE):
-            constants = re.findall(rf"\bWGSL_{prefix}_(\w+)", body)
-            if constants and [constant.replace("_", "").lower() for constant in constants] != declared(file, name):
-                sys.exit(f"link: the constants WGSL_{prefix}_ aren't the variants of {name}")
-        if f"WGSL_{prefix}_" not in text:
-            sys.exit(f"link: the headers lack the constants of {name}")
-    print(f"link: the headers have the values of {len(ENUMERATIONS)} enumerations")
-
-
-def check_numbers(library):
-    print(f"link: {compare_written(library)} codes that are written out by hand are those of the package and of the library")
-    number_calls.compare_types(library, TYPES)
-    number_calls.compare_texts(library, QUESTIONS)
-    number_calls.compare_known(library)
-    broken = number_calls.compare_broken(library, BROKEN)
-    print(f"link: {QUESTIONS} random questions are answered by numbers as in text, {TYPES} types come back whole")
-    print(f"link: {broken} changed requests in numbers are read or not, as they are defined to be")
-    resolved = standard_calls.compare_texts(library, QUESTIONS)
-    print(f"link: {QUESTIONS} calls by WGSL's own overloads, of which {resolved} are resolved, are answered by numbers as by a search")
-    print(f"link: {standard_calls.compare_overloads(library)} names have overloads by numbers")
-    broken = standard_calls.compare_broken(library, BROKEN // 5)
-    print(f"link: {broken} changed calls are read or not, as they are defined to be")
-    changed = standard_calls.compare_spellings(library, TYPES // 10)
-    changed += standard_calls.compare_messages(library, number_calls.refusals(library, BROKEN))
-    print(f"link: types are spelled, errors have their messages, and {changed} changed codes are read or not")
-    print(f"link: {sweeps.compare_numbers(library)} names and lists of lengths around powers of two are answered by numbers")
-    print(f"link: {sweeps.compare_source(library)} texts of WGSL with such names, lists and lines have layouts")
+        run(*language, *strict, "-", asked=b'#include "wgsl.h"\n')
 
 
 def lines(asked):
     return b"".join(line + b"\n" for line in asked)
 
 
-def check_all(top, folder):
-    """Checks the library in the folder out of the folder top."""
-    asked, standard = requests(), standard_requests()
+def check_library(top, folder, asked, standard):
+    """A library answers as the programs do, from each language."""
     swept = lines(asked + [request.encode() for request in sweeps.text_requests()])
     standard_swept = lines(standard + [request.encode() for request in sweeps.standard_requests()])
     wanted = answers_and_notes(os.path.join(TOP, "wgsl_check"), asked=swept)
-    library, for_c = Library(folder), lines_for_c(asked, standard)
-    check_symbols(folder)
+    library = Library(folder)
     check_source(library)
-    check_version(folder)
-    check_constants()
+    print(f"link: {sweeps.compare_source(library)} texts of WGSL with long names, lists and lines have layouts")
     check_c(folder, lines(asked), swept, wanted)
     standard_wanted = check_standard_text(library, standard_swept)
-    run_linked(folder, for_c)
-    check_headers(folder)
-    check_memory(folder, library, for_c)
-    check_numbers(library)
-    check_python(top, swept, wanted, standard_swept, standard_wanted)
+    check_ruled_out(library, "answer", asked)
+    check_ruled_out(library, "standard_answer", standard)
+    check_cpp(folder, swept, wanted, standard_swept, standard_wanted)
+    run_linked(folder, lines_for_c(asked, standard))
+    check_python(top, folder, swept, wanted, standard_swept, standard_wanted)
+    return library
+
+
+def check_all(top, folder, native):
+    """Checks the proved library in a folder, and the one of the crate in another, if it is there, out of the folder top."""
+    asked, standard = requests(), standard_requests()
+    library = check_library(top, folder, asked, standard)
+    check_symbols(folder)
+    check_version(folder)
+    check_memory(folder, library, lines_for_c(asked, standard))
+    check_headers()
     check_python_folders(top)
-    crates = Crates(top) if is_there("cargo") else None
-    if crates:
-        check_rust(crates, swept, wanted, standard_swept, standard_wanted)
-        check_rust_types(crates)
-        check_rust_standard(crates)
-    check_statuses(top, crates)
-    if crates:
-        check_folders(crates)
-        check_versions(crates)
+    check_statuses(top)
+    if native:
+        print("link: now the library of the crate")
+        check_library(top, native, asked, standard)

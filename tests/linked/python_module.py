@@ -11,21 +11,21 @@ TO_DO = "set it to the folder where ./build_library FOLDER wrote libwgsl.so"
 FOUND = {"PYTHONPATH": FOLDER, "PYTHONDONTWRITEBYTECODE": "1"}
 
 
-def check_python(top, asked, wanted, standard_asked, standard_wanted):
-    """The package as a program, the program of docs/USING.md, and threads. A relative folder is found from below."""
-    where = {"WGSL_LIB": os.path.join(top, "out"), **FOUND}
-    compare_both("Python", wanted, answers_and_notes(*PROGRAM, asked=asked, **where))
-    given = answers_and_notes(*PROGRAM, "--rules", "wgsl", asked=standard_asked, **where)
+def check_python(top, folder, asked, wanted, standard_asked, standard_wanted):
+    """The package as a program, the program of docs/USING.md, threads, and calls. A relative folder is found from below."""
+    where, name = {"WGSL_LIB": folder, **FOUND}, os.path.basename(folder)
+    compare_both("Python", wanted, answers_and_notes(*PROGRAM, "--rules", "wgsl-types", asked=asked, **where))
+    given = answers_and_notes(*PROGRAM, asked=standard_asked, **where)
     compare_both("Python, by WGSL's own overloads", standard_wanted, given)
     below = os.path.join(top, "below", "that")
-    os.makedirs(below)
+    os.makedirs(below, exist_ok=True)
     shown = write_shown("python", os.path.join(below, "shown.py"))
-    expect_shown("Python", run(sys.executable, shown, where=below, WGSL_LIB="out", **FOUND), b"vec3<f32>\n[0, 16, 28]\n")
+    expect_shown("Python", run(sys.executable, shown, where=below, WGSL_LIB=name, **FOUND), b"vec3<f32>\n[0, 16, 28]\n")
     program = os.path.join(LINKED, "python_threads.py")
-    threads = run(sys.executable, program, asked=asked, where=top, WGSL_LIB="out", **FOUND)
+    threads = run(sys.executable, program, asked=asked, where=top, WGSL_LIB=name, **FOUND)
     print(f"link: Python: {threads.decode().strip()}")
-    values = run(sys.executable, os.path.join(LINKED, "python_values.py"), where=top, WGSL_LIB="out", **FOUND)
-    print(f"link: Python: {values.decode().strip()}")
+    calls = run(sys.executable, os.path.join(LINKED, "python_calls.py"), where=top, WGSL_LIB=name, **FOUND)
+    print(f"link: Python: {calls.decode().strip()}")
 
 
 def check_python_statuses(top):

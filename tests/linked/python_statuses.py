@@ -26,10 +26,27 @@ def check_statuses():
         expect_raised(MemoryError, "memory" + needed)
     for request in ("other", "", " "):
         expect_raised(wgsl.Unreadable, request, request)
-    for status in (1, 5, 255):
+    for status in (5, 255):
         expect_raised(RuntimeError, f"status {status}", f"wgsl.h has no status {status}")
+    for text in ("", "no", "ß" * 200, "x" * 5000):
+        expect_raised(wgsl.Refused, f"refuse {text}", text)
     for wrong in (b"say a", bytearray(b"say a"), None, 3, ["say a"]):
         expect_raised(TypeError, wrong, f"a request is a str, not {type(wrong).__name__}")
+
+
+def check_refused():
+    """A refusal has its request, and asks why; by the rules of wgsl-types there are no notes."""
+    for command, asked in (("refuse a", "why refuse a"), (" resolve\tsay b", "why \tsay b"), ("resolved", "why resolved")):
+        notes = wgsl.Refused("", command, "wgsl")
+        try:
+            expect(False, f"{command!r} has the notes {notes.notes}")
+        except wgsl.Unreadable as unreadable:
+            expect(unreadable.request == str(unreadable) == asked, f"{command!r} is explained by {unreadable.request!r}")
+    expect(wgsl.Refused("", "refuse a", "wgsl-types").notes == [], "the rules of wgsl-types have notes")
+    try:
+        wgsl.answer("refuse a", rules="wgsl-types")
+    except wgsl.Refused as refused:
+        expect((refused.request, refused.rules) == ("refuse a", "wgsl-types"), f"a refusal is {refused.request}, {refused.rules}")
 
 
 def meet(letter):
@@ -46,5 +63,6 @@ def check_threads():
 
 
 check_statuses()
+check_refused()
 check_threads()
 print(f"{2 * TURNS} answers while another thread asks")

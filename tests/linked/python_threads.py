@@ -14,6 +14,8 @@ SURROGATES = ["\ud800", "\udcff", "\udcc3\udc9f", "\ud83d\ude00"]
 def reply(request):
     try:
         return wgsl.answer(request)
+    except wgsl.Refused as refused:
+        return str(refused)
     except wgsl.Unreadable:
         return None
 

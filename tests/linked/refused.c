@@ -5,7 +5,7 @@
 #include "requests.h"
 #include "wrapped.h"
 
-static Unit wanted[LONG_ANSWER], room[LONG_ANSWER];
+static uint8_t wanted[LONG_ANSWER], room[LONG_ANSWER];
 
 /* One call with that request for memory refused, or all from it on. */
 static void refuse(size_t k, long one, long from, int status, size_t wanted_len) {
@@ -17,7 +17,7 @@ static void refuse(size_t k, long one, long from, int status, size_t wanted_len)
     refused = refused_from = -1;
     if (found != WGSL_OUT_OF_MEMORY || len || !is_filled(room, 0)) wrong(k, "refused memory is told otherwise");
     if (live != before) wrong(k, "memory is kept");
-    if (ask(k, room, LONG_ANSWER, &len) != status || len != wanted_len || memcmp(room, wanted, len * sizeof(Unit)))
+    if (ask(k, room, LONG_ANSWER, &len) != status || len != wanted_len || memcmp(room, wanted, len))
         wrong(k, "another answer after refused memory");
 }
 
@@ -27,7 +27,7 @@ static void refuse_all(size_t k, int status, size_t wanted_len) {
     asked = 0, refused_from = 1;
     int found = ask(k, room, LONG_ANSWER, &len);
     refused_from = -1;
-    if (asked || found != status || len != wanted_len || memcmp(room, wanted, len * sizeof(Unit)))
+    if (asked || found != status || len != wanted_len || memcmp(room, wanted, len))
         wrong(k, "another answer without memory");
 }
 

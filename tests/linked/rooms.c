@@ -1,7 +1,7 @@
 /* Asks each request with a room that is large enough, exact, too small by one, and empty. */
 #include "requests.h"
 
-static Unit large[LONG_ANSWER], room[LONG_ANSWER];
+static uint8_t large[LONG_ANSWER], room[LONG_ANSWER];
 
 /* Whether a call that returns this has written to the room. */
 static int is_written(int status) { return status == WGSL_ANSWERED || status == WGSL_RULED_OUT; }
@@ -12,7 +12,7 @@ static void expect(size_t k, size_t room_len, int wanted, size_t wanted_len) {
     int status = ask(k, room, room_len, &len);
     if (status != wanted || len != wanted_len) wrong(k, "another status or length");
     size_t written = is_written(status) ? len : 0;
-    if (memcmp(room, large, written * sizeof(Unit)) || !is_filled(room, written)) wrong(k, "the room is written otherwise");
+    if (memcmp(room, large, written) || !is_filled(room, written)) wrong(k, "the room is written otherwise");
 }
 
 int main(void) {

@@ -1,19 +1,15 @@
-"""The calls over texts of WGSL: the JSON of `./wgsl_layout --json`, and types read from their spellings."""
+"""The call over texts of WGSL: the JSON of `./wgsl_layout --json`."""
 import glob
 import json
 import os
 import random
 
-from random_types import Random
 from tools import TOP, run
-from wgsl.codes import encode
-from wgsl.values import Matrix, Pointer, Reference, Struct, Vector
 
 SOURCED = os.path.join(TOP, "tests", "sourced")
 MODULES = sorted(glob.glob(os.path.join(SOURCED, "*.wgsl")))
-# How many random types are read, how many of them are lines for the programs in C, and one in how many changed modules the
-# program is asked about too.
-TYPES, LINES, COMPARED = 20000, 300, 40
+# One in how many changed modules the program is asked about too.
+COMPARED = 40
 
 
 def wrong(what):
@@ -61,65 +57,13 @@ def compare_changed(library):
     return len(texts)
 
 
-def is_spelled(ty):
-    """Whether a type is read from its spelling: no struct is, nor vectors, matrices and spaces that no module can write."""
-    if isinstance(ty, Struct) or isinstance(ty, (Pointer, Reference)) and ty.space == "handle":
-        return False
-    counts = {ty.count} if isinstance(ty, Vector) else {ty.columns, ty.rows} if isinstance(ty, Matrix) else set()
-    return counts <= {2, 3, 4} and (not hasattr(ty, "element") or is_spelled(ty.element))
-
-
-def spellings(count):
-    """The codes of random types, by their spellings."""
-    rng = Random(38)
-    types = (rng.type(rng.randrange(1, 5)) for _ in range(count))
-    return {str(ty): encode(ty) for ty in types if is_spelled(ty)}
-
-
-def compare_types(library):
-    """The code of a type is read from its spelling, and from no beginning of it that is no type. Returns how many types."""
-    rng, spelled = random.Random(39), spellings(TYPES)
-    for text, wanted in spelled.items():
-        if library.ask("read_type", text.encode()) != (0, wanted) or library.text("explain_type", text) is not None:
-            wrong(f"{text} is read otherwise, or not: {library.text('explain_type', text)}")
-        cut = text[: rng.randrange(len(text))]
-        status, told = library.ask("read_type", cut.encode())
-        why = library.text("explain_type", cut)
-        if cut not in spelled and (status == 0) != (why is None) or status == 2 and told:
-            wrong(f"{cut} has the status {status}, and the explanation {why}")
-    return len(spelled)
-
-
-EXPLAINED = [
-    (b"vec3f", "column 1: the type is spelled `vec3<f32>`"),
-    (b"array<f32,4>", "column 1: the type is spelled `array<f32, 4>`"),
-    (b"f32 f32", "column 1: the type is spelled `f32`"),
-    (b"", "column 1: expected a type, found the end"),
-    (b"array<f32", "column 10: expected `>`, found the end"),
-    (b"vec3<Light>", "column 6: no declaration has this name: `Light`"),
-    (b"array<f32, x>", "column 12: expected an integer expression, found `x`"),
-    (b"f32\xff", "column 4: the text is not UTF-8 from here on"),
-]
-
-
-def compare_explained(library):
-    for text, wanted in EXPLAINED:
-        if library.text("explain_type", text) != wanted or library.ask("read_type", text) != (2, []):
-            wrong(f"{text} is explained by {library.text('explain_type', text)!r}")
-
-
 def check_source(library):
-    """The calls answer as the program does."""
-    modules, changed, types = compare_modules(library), compare_changed(library), compare_types(library)
-    compare_explained(library)
-    print(f"link: {modules} modules and {changed} changed ones have the layouts of the program, {types} types are read")
+    """The call answers as the program does."""
+    modules, changed = compare_modules(library), compare_changed(library)
+    print(f"link: {modules} modules and {changed} changed ones have the layouts of the program")
 
 
 # As the programs in C read them.
-
-def types():
-    return [text.encode() for text in list(spellings(4 * LINES))[:LINES]] + [text for text, _ in EXPLAINED] + [b"array<"]
-
 
 def modules():
     """The modules, each in one line: a carriage return ends a line of WGSL too."""

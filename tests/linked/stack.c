@@ -64,9 +64,9 @@ static size_t most_of(Call *answer, Call *explain, const char *command, const ch
         for (int explains = 0; explains < 2; explains++) {
             call = explains ? explain : answer;
             size_t taken = touched(ask, WGSL_STACK) - base;
-            if (explains ? (status == WGSL_ANSWERED) == answered : status != WGSL_ANSWERED && status != WGSL_UNREADABLE)
+            if (explains ? (status == WGSL_ANSWERED) == answered : status > WGSL_UNREADABLE)
                 exit(printf("%s%s of %s: status %d\n", command, head, layers[l], status) != 0);
-            answered = status == WGSL_ANSWERED;
+            answered = status <= WGSL_RULED_OUT;
             if (all) printf("%7zu bytes, %4zu a layer, status %d: %s%s of %zu %s\n", taken, taken / deep, status, command, head, deep, layers[l]);
             if (taken > most) most = taken;
         }

@@ -1,6 +1,6 @@
 /* How much stack a call takes. */
 #define _GNU_SOURCE
-#include "wgsl_codes.h"
+#include "wgsl.h"
 #include <pthread.h>
 #include <stdio.h>
 #include <stdlib.h>

@@ -1,17 +1,16 @@
-"""What C, Rust and Python make of each status, asked of a stub (stub.c) in the library's place."""
+"""What C, C++ and Python make of each status, asked of a stub (stub.c) in the library's place."""
 import os
 import sys
 
 from python_module import FOUND, PROGRAM, check_python_statuses
-from rust_crates import build_lines_over_stub, check_types_out_of_memory
 from sweeps import around_powers
-from tools import BINDINGS, LINKED, WARNINGS, compare, compile_c, run
+from tools import BINDINGS, LINKED, WARNINGS, compare, compile_c, compile_cpp, end, is_there, run
 
 UNREADABLE, OUT_OF_MEMORY = 2, 3
 
 
 def write_stub(top):
-    """The stub as both libraries, and the headers, in the folder `stub`."""
+    """The stub as both libraries, in the folder `stub`."""
     folder = os.path.join(top, "stub")
     os.mkdir(folder)
     built = os.path.join(folder, "stub.o")
@@ -25,8 +24,8 @@ def write_stub(top):
 def check_program(language, program, folder, **more):
     """The program over lines prints each answer, whatever its length and its bytes, and ends when memory runs out."""
     said = ["", "a\0b", "\0", " ", "ß\0漢"] + ["x" * length for length in around_powers(1 << 16)]
-    asked = "".join(f"say {text}\nother\n" for text in said)
-    wanted = "".join(f"{text}\nbad line {2 * number}\n" for number, text in enumerate(said, 1))
+    asked = "".join(f"say {text}\nother\nrefuse {text}\n" for text in said)
+    wanted = "".join(f"{text}\nbad line {3 * number - 1}\n{text}\n" for number, text in enumerate(said, 1))
     printed = run(*program, asked=asked.encode(), statuses=(UNREADABLE,), WGSL_LIB=folder, **more)
     compare(f"{language}, over a stub,", wanted.encode(), printed)
     for needed in ("", " 1", " 256", " 257", " 5000"):
@@ -36,12 +35,27 @@ def check_program(language, program, folder, **more):
             sys.exit(f"link: {language}, out of memory, prints {printed}")
 
 
-def check_statuses(top, crates):
-    folder = write_stub(top)
+def check_versions(top):
+    """Python refuses a library of another major version, and before 1.0.0 of another minor one."""
+    for version, is_taken in (("0.2.7", True), ("0.1.0", False), ("0.3.0", False), ("1.2.0", False), ("10.0.0", False)):
+        folder = os.path.join(top, f"version {version}")
+        os.mkdir(folder)
+        other = f'-DOTHER_VERSION="{version}"'
+        shared = os.path.join(folder, "libwgsl.so")
+        run("cc", "-shared", "-fPIC", other, "-I", os.path.join(BINDINGS, "c"), "-o", shared, os.path.join(LINKED, "stub.c"))
+        done = end(sys.executable, "-c", "import wgsl", statuses=(0, 1), WGSL_LIB=folder, **FOUND)
+        said = done.stderr.decode().splitlines()[-1:]
+        if is_taken != (done.returncode == 0) or not is_taken and f"{shared} has the version {version}" not in said[0]:
+            sys.exit(f"link: Python, over a library of version {version}, says {said}")
+    print("link: Python takes only libraries of versions that serve it")
+
+
+def check_statuses(top):
+    folder, headers = write_stub(top), ["-I", os.path.join(BINDINGS, "c"), "-I", os.path.join(BINDINGS, "cpp")]
     lines = os.path.join(BINDINGS, "c", "lines.c")
-    check_program("C", [compile_c(folder, lines, "lines", "-I", os.path.join(BINDINGS, "c"))], folder)
+    check_program("C", [compile_c(folder, lines, "lines", *headers)], folder)
+    if is_there("c++"):
+        check_program("C++", [compile_cpp(folder, os.path.join(LINKED, "lines.cpp"), "lines_cpp", *headers)], folder)
     check_program("Python", PROGRAM, folder, **FOUND)
     check_python_statuses(top)
-    if crates:
-        check_program("Rust", [build_lines_over_stub(crates)], folder)
-        check_types_out_of_memory(crates)
+    check_versions(top)

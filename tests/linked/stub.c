@@ -2,14 +2,14 @@
  * returned:
  *
  *   say TEXT    the answer TEXT
+ *   refuse TEXT the message TEXT of a refusal
  *   meet TEXT   the answer TEXT, once another thread has its answer in its room too
  *   memory      out of memory
  *   memory N    out of memory, once there is room for N bytes
  *   status N    the status N
  *
  * Any other request is unreadable, which is explained by the request itself. Requests of WGSL's own overloads are answered
- * in the same way. The calls over numbers and over texts of WGSL are always out of memory. The version is that of wgsl.h, or
- * OTHER_VERSION. */
+ * in the same way. A WGSL text is answered as a request is. The version is that of wgsl.h, or OTHER_VERSION. */
 #include "wgsl.h"
 #include <sched.h>
 #include <stdatomic.h>
@@ -29,11 +29,15 @@ static int number_at(const char *digits, const char *end) {
     return number;
 }
 
-static uint8_t say(const char *text, const char *end, uint8_t *room, size_t room_len, size_t *text_len) {
+static uint8_t write(uint8_t status, const char *text, const char *end, uint8_t *room, size_t room_len, size_t *text_len) {
     *text_len = (size_t)(end - text);
     if (room_len < *text_len) return WGSL_NO_ROOM;
     memcpy(room, text, *text_len);
-    return WGSL_ANSWERED;
+    return status;
+}
+
+static uint8_t say(const char *text, const char *end, uint8_t *room, size_t room_len, size_t *text_len) {
+    return write(WGSL_ANSWERED, text, end, room, room_len, text_len);
 }
 
 /* Waits until a second call has come, for some seconds at most, and no more if none came in that time. */
@@ -50,6 +54,7 @@ uint8_t wgsl_answer(const uint8_t *bytes, size_t len, uint8_t *room, size_t room
     const char *request = (const char *)bytes, *end = request + len, *rest;
     *text_len = 0;
     if ((rest = after("say", request, len))) return say(rest, end, room, room_len, text_len);
+    if ((rest = after("refuse", request, len))) return write(WGSL_RULED_OUT, rest, end, room, room_len, text_len);
     if ((rest = after("meet", request, len))) {
         uint8_t status = say(rest, end, room, room_len, text_len);
         if (status == WGSL_ANSWERED) meet();
@@ -84,25 +89,6 @@ uint8_t wgsl_standard_explain(const uint8_t *bytes, size_t len, uint8_t *room, s
 
 const char *wgsl_version(void) { return OTHER_VERSION; }
 
-#define OUT_OF_MEMORY_BETWEEN(given, found, name) \
-    uint8_t name(const given *request, size_t request_len, found *room, size_t room_len, size_t *len) { \
-        (void)request, (void)request_len, (void)room, (void)room_len; \
-        *len = 0; \
-        return WGSL_OUT_OF_MEMORY; \
-    }
-#define OUT_OF_MEMORY(name) OUT_OF_MEMORY_BETWEEN(uint32_t, uint32_t, name)
-
-OUT_OF_MEMORY(wgsl_rank)
-OUT_OF_MEMORY(wgsl_common)
-OUT_OF_MEMORY(wgsl_unary)
-OUT_OF_MEMORY(wgsl_binary)
-OUT_OF_MEMORY(wgsl_constructor)
-OUT_OF_MEMORY(wgsl_call)
-OUT_OF_MEMORY(wgsl_size)
-OUT_OF_MEMORY(wgsl_layout)
-OUT_OF_MEMORY(wgsl_standard_resolve)
-OUT_OF_MEMORY(wgsl_standard_overloads)
-OUT_OF_MEMORY(wgsl_standard_why)
-OUT_OF_MEMORY_BETWEEN(uint8_t, uint32_t, wgsl_read_type)
-OUT_OF_MEMORY_BETWEEN(uint8_t, uint8_t, wgsl_explain_type)
-OUT_OF_MEMORY_BETWEEN(uint8_t, uint8_t, wgsl_source_layout)
+uint8_t wgsl_source_layout(const uint8_t *bytes, size_t len, uint8_t *room, size_t room_len, size_t *text_len) {
+    return wgsl_answer(bytes, len, room, room_len, text_len);
+}

@@ -4,18 +4,18 @@
 
 enum { ROUNDS = 20 };
 
-static Unit *wanted[MOST];
+static uint8_t *wanted[MOST];
 static size_t wanted_len[MOST];
 static int wanted_status[MOST];
 
 /* In their order, or backwards. */
 static void *ask_all(void *in_order) {
-    Unit *own = calloc(LONG_ANSWER, sizeof(Unit));
+    uint8_t *own = calloc(LONG_ANSWER, 1);
     if (!own) exit(1);
     for (size_t i = 0; i < ROUNDS * count; i++) {
         size_t k = in_order ? i % count : count - 1 - i % count, len = 0;
         int status = ask(k, own, LONG_ANSWER, &len);
-        if (status != wanted_status[k] || len != wanted_len[k] || memcmp(own, wanted[k], len * sizeof(Unit)))
+        if (status != wanted_status[k] || len != wanted_len[k] || memcmp(own, wanted[k], len))
             wrong(k, "another answer beside a thread");
     }
     free(own);
@@ -23,14 +23,14 @@ static void *ask_all(void *in_order) {
 }
 
 int main(void) {
-    static Unit room[LONG_ANSWER];
+    static uint8_t room[LONG_ANSWER];
     pthread_t one, two;
     read_requests();
     for (size_t k = 0; k < count; k++) {
         wanted_status[k] = ask(k, room, LONG_ANSWER, &wanted_len[k]);
-        wanted[k] = malloc(wanted_len[k] * sizeof(Unit) + 1);
+        wanted[k] = malloc(wanted_len[k] + 1);
         if (!wanted[k]) return 1;
-        memcpy(wanted[k], room, wanted_len[k] * sizeof(Unit));
+        memcpy(wanted[k], room, wanted_len[k]);
     }
     if (pthread_create(&one, NULL, ask_all, NULL) || pthread_create(&two, NULL, ask_all, room)) return 1;
     if (pthread_join(one, NULL) || pthread_join(two, NULL)) return 1;

@@ -49,6 +49,14 @@ def compile_c(folder, source, name, *flags):
     return built
 
 
+def compile_cpp(folder, source, name, *flags):
+    """The same in C++17, without exceptions."""
+    built = os.path.join(folder, name)
+    library = os.path.join(folder, "libwgsl.a")
+    run("c++", "-std=c++17", "-fno-exceptions", *WARNINGS, "-pedantic", "-I", folder, "-o", built, source, library, *flags)
+    return built
+
+
 def compare(language, wanted, given):
     if wanted != given:
         lines = zip(wanted.split(b"\n"), given.split(b"\n"))
@@ -65,7 +73,7 @@ def answers_and_notes(*command, **more):
 
 def compare_both(language, wanted, given):
     """Compares the answers of two programs, and their notes."""
-    compare(f"{language}, asked in text,", wanted[0], given[0])
+    compare(f"{language}, on requests,", wanted[0], given[0])
     compare(f"{language}, on what can't be read,", wanted[1], given[1])
 
 

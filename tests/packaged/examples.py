@@ -1,19 +1,26 @@
-"""The examples in the documentation of the package hold."""
+"""The examples in the documentation of the package hold. Those of dtypes are left out without numpy."""
 import doctest
 import importlib
+import importlib.util
 import pkgutil
 
 import wgsl
 
+HAS_NUMPY = importlib.util.find_spec("numpy") is not None
+
 
 def main():
     found = {module.name for module in pkgutil.iter_modules(wgsl.__path__)} - {"__main__", "libwgsl"}
-    names = ["wgsl", *(f"wgsl.{name}" for name in sorted(found))]
-    results = [doctest.testmod(importlib.import_module(name)) for name in names]
-    failed, tried = sum(result.failed for result in results), sum(result.attempted for result in results)
-    if failed or tried < 40:
-        raise SystemExit(f"package: {failed} of {tried} examples in Python fail")
-    print(f"package: {tried} examples in Python hold")
+    modules = [importlib.import_module(name) for name in ["wgsl", *(f"wgsl.{name}" for name in sorted(found))]]
+    tests = [test for module in modules for test in doctest.DocTestFinder().find(module) if test.examples]
+    undocumented = {name for name in wgsl.__all__ if callable(getattr(wgsl, name))} - {test.name.split(".")[-1] for test in tests}
+    runner = doctest.DocTestRunner()
+    for test in tests:
+        if HAS_NUMPY or "dtype" not in test.name:
+            runner.run(test)
+    if runner.failures or undocumented:
+        raise SystemExit(f"package: {runner.failures} of {runner.tries} examples in Python fail, and {undocumented} have none")
+    print(f"package: {runner.tries} examples in Python hold" + ("" if HAS_NUMPY else ", without numpy"))
 
 
 main()

@@ -1,7 +1,7 @@
 override LATER: u32 = 3;
 const MINUS = -1;
 const REAL = 1.5;
-const BIG = 2147483647i + 1;
+const BIG = 9223372036854775807 + 1;
 const SUM = 1u + 1i;
 const NEGATIVE = -1u;
 const QUOTIENT = 1 / (2 - 2);

@@ -24,10 +24,10 @@ const NEGATED = -1 + -2 * ~3 % 5 - (1 << 2) * (3 & 5 & 1) + (8 | 4 | 2) - (1 ^ 2
 struct Sized { @size(16) @align(4) @size(16) a: f32 }
 struct Fine { @size(16) @align(16) a: f32, @size(NEGATED + 40) b: f32 }
 @group(0) @group(1) @binding(0) var<uniform> twice_grouped: Fine;
-@group(0) @binding(0) var<uniform, read> read: Fine;
+@group(0) @binding(0) var<uniform, read> may_read: Fine;
 @group(0) @binding(1) var<storage, write> written: Fine;
 var<private, read_write> private_access: f32;
-@group(0) @binding(2) var<storage, read_write> storage: Fine;
+@group(0) @binding(2) var<storage, read_write> kept: Fine;
 alias Other = Fine;
 alias Another = Other;
 struct Ends { count: u32, items: array<Another> }

@@ -6,7 +6,7 @@ from use import ANSWERS, PROGRAM, add, equal, expect, read
 
 
 def _again(use):
-    expect(use.run("./wgsl_check"), 0, ANSWERS, "10 of 10")
+    expect(use.run("./wgsl_check"), 0, ANSWERS, "11 of 11")
     equal(use.calls(), PROGRAM)
     _not_again(use)
 
@@ -129,7 +129,7 @@ def source_that_changed_since_the_gate(use):
 
 
 def source_of_a_crate_that_stands_elsewhere(use):
-    for crate in ("wgsl_c", "wgsl_coded", "wgsl_memory", "example_hover", "hover"):
+    for crate in ("wgsl_c", "wgsl_report", "wgsl_memory", "example_hover", "hover"):
         add(use.path("crates", crate, "src", "main.rt"))
     _after(use, "crates", "example_fits", "src", "lib.rt")
     _not_again(use)

@@ -11,7 +11,9 @@ def _makes(use, folder, *said):
     expect(use.run("./package", folder), 0, "", *said)
     version = read(use.path("VERSION")).strip()
     wheel = f"wgsl-{version}-py3-none-manylinux_2_17_x86_64.whl"
-    names = ["SHA256SUMS", f"wgsl-{version}-bindings.tar.gz", wheel, f"wgsl-{version}-x86_64-linux.tar.gz"]
+    npm = f"wgsl-types-proved-{version}.tgz"
+    page = f"wgsl-{version}-page.html"
+    names = ["SHA256SUMS", f"wgsl-{version}-bindings.tar.gz", page, wheel, f"wgsl-{version}-x86_64-linux.tar.gz", npm]
     equal(sorted(os.listdir(use.path(folder))), names)
     return [use.path(folder, name) for name in names]
 
@@ -25,14 +27,14 @@ def packages_made_twice(use):
     for one, two in zip(first, second):
         with open(one, "rb") as file, open(two, "rb") as other:
             assert file.read() == other.read(), f"{one} differs"
-    with tarfile.open(first[3]) as packed:
+    with tarfile.open(first[4]) as packed:
         found = packed.getnames()
     equal(sorted(os.path.basename(name) for name in found if "/bin/" in name), PROGRAMS)
 
 
 def programs_unpacked_at_another_place(use):
     """They start from there, by a link too, say their version, and take no other argument. Uninstalled again nothing is left."""
-    archive = _makes(use, "made", "wgsl_c is proved")[3]
+    archive = _makes(use, "made", "wgsl_c is proved")[4]
     with tarfile.open(archive) as packed:
         packed.extractall(use.path("other place"))
     (folder,) = os.listdir(use.path("other place"))
@@ -58,6 +60,18 @@ def packages_after_a_change_of_a_binding(use):
     second = _makes(use, "two")
     equal(use.calls(), [])
     equal([read(one) == read(two) for one, two in zip(first[:1], second[:1])], [False])
+
+
+def no_webassembly(use):
+    """Where it can't be built, all else is packed."""
+    add(use.path("bindings", "js", "build"), 'echo "build: no rustc" >&2\nrm -r "$1"\nexit 4\n')
+    expect(use.run("./package", "made"), 0, "", "build: no rustc", "package: the npm package and the page are left out")
+    equal([name for name in os.listdir(use.path("made")) if "types-proved" in name or "page" in name], [])
+
+
+def webassembly_that_fails(use):
+    add(use.path("bindings", "js", "build"), "exit 101\n")
+    equal(use.run("./package", "made")[0], 101)
 
 
 def help_is_asked_for(use):

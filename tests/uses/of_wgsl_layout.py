@@ -3,12 +3,12 @@ import os
 
 from use import ANSWERS, add, equal, expect
 
-BELOW = ["wgsl_tokens", "wgsl_syntax", "wgsl_rules", "wgsl_core", "wgsl_source", "wgsl_spaces", "wgsl_report"]
+BELOW = ["wgsl_tokens", "wgsl_constants", "wgsl_syntax", "wgsl_rules", "wgsl_core", "wgsl_source", "wgsl_spaces", "wgsl_report"]
 CALLS = [f"rt lib {crate}" for crate in BELOW] + ["rt run wgsl_layout"]
 
 
 def first_run(use):
-    expect(use.run("./wgsl_layout"), 0, ANSWERS, "proving wgsl_layout and the 7 crates that it stands on")
+    expect(use.run("./wgsl_layout"), 0, ANSWERS, "proving wgsl_layout and the 8 crates that it stands on")
     equal(use.calls(), CALLS)
 
 
@@ -34,17 +34,6 @@ def arguments_and_status(use):
     with open(program, "w", encoding="utf-8") as file:
         file.write('#!/bin/sh\nprintf "<%s>" "$@"\nexit 2\n')
     expect(use.run("./wgsl_layout", "--struct", "a b", "--help"), 2, "<--struct><a b><--help>")
-
-
-def forms(use):
-    """A form is written from the JSON, with the other arguments; what is wrong is told, and the status stays."""
-    use.run("./wgsl_layout")
-    program = use.path("crates", "wgsl_layout", "out", "wgsl_layout")
-    told = '{"file":"f","structs":[],"variables":[],"errors":[],"findings":[{"line":1,"column":2,"message":"m"}]}'
-    with open(program, "w", encoding="utf-8") as file:
-        file.write(f"#!/bin/sh\n[ \"$1 $2 $3\" = \"--json a b -\" ] || exit 2\necho '{told}'\nexit 1\n")
-    expect(use.run("./wgsl_layout", "a b", "--numpy", "-"), 1, "import numpy\n", "f:1:2: finding: m")
-    expect(use.run("./wgsl_layout", "--c"), 2, "")
 
 
 def proof_that_fails(use):

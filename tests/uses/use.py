@@ -10,10 +10,10 @@ HERE = os.path.dirname(os.path.realpath(__file__))
 TOP = os.path.dirname(os.path.dirname(HERE))
 STAND_IN = os.path.join(HERE, "stand_in")
 # The crates that the program stands on, in the order of their proofs; and what the toolchain is asked if all are proved.
-REQUESTS = ["wgsl_syntax", "wgsl_rules", "wgsl_core", "wgsl_calls", "wgsl_standard", "wgsl_types", "wgsl_asked", "wgsl_requests"]
+REQUESTS = ["wgsl_syntax", "wgsl_rules", "wgsl_core", "wgsl_calls", "wgsl_standard", "wgsl_types", "wgsl_typed", "wgsl_asked", "wgsl_requests"]
 BELOW = REQUESTS + ["wgsl_lines"]
 PROGRAM = [f"rt lib {crate}" for crate in BELOW] + ["rt run wgsl_check"]
-BELOW_C = REQUESTS + ["wgsl_coded", "wgsl_tokens", "wgsl_source", "wgsl_spaces", "wgsl_report"]
+BELOW_C = REQUESTS + ["wgsl_tokens", "wgsl_constants", "wgsl_source", "wgsl_spaces", "wgsl_report"]
 LIBRARY = [f"rt lib {crate}" for crate in BELOW_C + ["wgsl_c"]]
 # What a use gives to standard input, and what the stand-in for the program answers.
 GIVEN, ANSWERS = "a\nb\n", "answer to a\nanswer to b\n"
@@ -48,6 +48,7 @@ def make_template(folder):
     shutil.copytree(os.path.join(TOP, "docs"), os.path.join(top, "docs"))
     ignored = shutil.ignore_patterns("target", "__pycache__")
     shutil.copytree(os.path.join(TOP, "bindings"), os.path.join(top, "bindings"), ignore=ignored)
+    shutil.copy(os.path.join(STAND_IN, "js_build"), os.path.join(top, "bindings", "js", "build"))
     for line in read(os.path.join(TOP, "crates.txt")).splitlines():
         if not line.startswith("#"):
             crate = os.path.join(top, "crates", line.split(":")[0].split()[0])

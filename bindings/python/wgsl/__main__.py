@@ -4,7 +4,7 @@ import json
 import sys
 
 try:
-    from . import __version__, forms
+    from . import __version__
     from .requests import RULES, answer_lines
     from .source import source_layout
 except ImportError as wrong:
@@ -16,17 +16,14 @@ TEXT = {"encoding": "utf-8", "errors": "surrogateescape", "newline": "\n", "clos
 def read_arguments():
     parser = argparse.ArgumentParser(
         prog="python -m wgsl",
-        description="Answers each line of standard input, as the programs wgsl_check and wgsl_standard do. With a form and a "
+        description="Answers each line of standard input, as the programs wgsl_standard and wgsl_check do. With --json and a "
         "file it prints the layouts of the structs of that WGSL file instead; - is standard input.",
         epilog="Exit status: 0, or 1 if there is an error or a finding in the file, 2 if a line or the file can't be read, 3 if "
         "memory ran out.",
     )
     parser.add_argument("--version", action="version", version=f"wgsl {__version__}")
-    parser.add_argument("--rules", choices=list(RULES), default="wgsl-types", help="whose rules answer: wgsl-types' or WGSL's own")
-    form = parser.add_mutually_exclusive_group()
-    form.add_argument("--json", metavar="FILE", help="the layouts as JSON")
-    for name, help_text in (("--c", "in C"), ("--rust", "in Rust"), ("--numpy", "as dtypes of numpy")):
-        form.add_argument(name, metavar="FILE", help=f"the structs {help_text}, with padding and checks of each offset")
+    parser.add_argument("--rules", choices=list(RULES), default="wgsl", help="whose rules answer: WGSL's own or those of wgsl-types")
+    parser.add_argument("--json", metavar="FILE", help="the layouts as JSON")
     return parser.parse_args()
 
 
@@ -37,8 +34,8 @@ def read_file(name):
         return file.read()
 
 
-def print_layouts(form, name):
-    """Prints the layouts of a file in a form, says what is wrong with the file, and returns the exit status."""
+def print_layouts(name):
+    """Prints the layouts of a file, says what is wrong with the file, and returns the exit status."""
     try:
         told = source_layout(read_file(name))
     except OSError as wrong:
@@ -48,9 +45,8 @@ def print_layouts(form, name):
         sys.exit(f"wgsl: {wrong}")
     except MemoryError:
         return 3
-    written = json.dumps(told, ensure_ascii=False, indent=2) + "\n" if form == "json" else forms.written(told, f"--{form}")
     with open(sys.stdout.fileno(), "w", **TEXT) as output:
-        output.write(written)
+        output.write(json.dumps(told, ensure_ascii=False, indent=2) + "\n")
     wrong = [(kind, fault) for kind in ("error", "finding") for fault in told[f"{kind}s"]]
     for kind, fault in wrong:
         print(f"{name}:{fault['line']}:{fault['column']}: {kind}: {fault['message']}", file=sys.stderr)
@@ -59,9 +55,8 @@ def print_layouts(form, name):
 
 def main():
     arguments = read_arguments()
-    for form in ("json", "c", "rust", "numpy"):
-        if getattr(arguments, form) is not None:
-            return print_layouts(form, getattr(arguments, form))
+    if arguments.json is not None:
+        return print_layouts(arguments.json)
     with open(sys.stdin.fileno(), **TEXT) as lines, open(sys.stdout.fileno(), "w", **TEXT) as output:
         return answer_lines(lines, output, arguments.rules)
 

@@ -1,15 +1,16 @@
 """Finds the library and calls it. Each call has buffers of its own: other threads may ask meanwhile."""
 import ctypes
 import os
+import sys
 
-LIBRARY = "libwgsl.so"
-VERSION = "0.1.0"
+LIBRARY = {"darwin": "libwgsl.dylib", "win32": "wgsl.dll"}.get(sys.platform, "libwgsl.so")
+VERSION = "0.2.0"
 _TO_DO = f"set it to the folder where ./build_library FOLDER wrote {LIBRARY}"
 _AGAIN = "write the library again with ./build_library FOLDER"
 
-# The statuses of wgsl.h. Most answers have fewer than 256 bytes, or 64 words.
+# The statuses of wgsl.h. Most answers have fewer than 256 bytes.
 ANSWERED, REFUSED, UNREADABLE, OUT_OF_MEMORY, NO_ROOM = range(5)
-_BYTES, _WORDS = 256, 64
+_USUAL = 256
 
 
 def _folders():
@@ -40,17 +41,14 @@ def _find():
     raise ImportError(f"{missing}: {_TO_DO}")
 
 
-def _typed(library, name, given, returned):
-    """A call of the library from values of one kind to values of another."""
-    found = getattr(library, name)
-    size, pointer = ctypes.c_size_t, ctypes.POINTER
-    found.restype = ctypes.c_uint8
-    found.argtypes = [given, size, returned, size, pointer(size)]
-    return found
+def _serves(version):
+    """What versions that serve one another share: the major version, and before 1.0.0 the minor one too."""
+    major, minor, *_ = version.split(".")
+    return (major, minor) if major == "0" else (major,)
 
 
 def _load():
-    """The library, which answers and explains, and is of the major version of this package."""
+    """The library, which answers and explains, and is of a version that serves this package."""
     path = _find()
     try:
         library = ctypes.CDLL(path)
@@ -60,7 +58,7 @@ def _load():
         version = library.wgsl_version().decode()
     except (OSError, AttributeError) as error:
         raise ImportError(f"{error}: {_AGAIN}") from None
-    if version.split(".")[0] != VERSION.split(".")[0]:
+    if _serves(version) != _serves(VERSION):
         raise ImportError(f"{path} has the version {version}, and the package wgsl the version {VERSION}: {_AGAIN}")
     return library, path, version
 
@@ -69,56 +67,35 @@ _library, _path, version = _load()
 _known = {}
 
 
-def _call(name, given, returned):
+def _call(name):
     """A call by its name. Raises NotImplementedError if the library is an older one that lacks it."""
     if name not in _known:
         try:
-            _known[name] = _typed(_library, name, given, returned)
+            found = getattr(_library, name)
         except AttributeError:
             raise NotImplementedError(f"{_path} has no {name}: {_AGAIN}") from None
+        size = ctypes.c_size_t
+        found.restype = ctypes.c_uint8
+        found.argtypes = [ctypes.c_char_p, size, ctypes.c_char_p, size, ctypes.POINTER(size)]
+        _known[name] = found
     return _known[name]
 
 
-def _ask_once(call, request, count, room):
+def _ask_once(call, request, buffer):
     length = ctypes.c_size_t()
-    status = call(request, count, room, len(room), ctypes.byref(length))
+    status = call(request, len(request), buffer, len(buffer), ctypes.byref(length))
     return status, length.value
 
 
-def _ask(call, request, count, unit, room_len):
-    """The status, and the buffer with the reply and its length. Asks again with a larger buffer if the reply doesn't fit."""
-    room = (unit * room_len)()
-    status, length = _ask_once(call, request, count, room)
+def ask(name, request):
+    """The status of a call, and the text that it writes. Asks again with a larger buffer if that doesn't fit."""
+    call, buffer = _call(name), ctypes.create_string_buffer(_USUAL)
+    status, length = _ask_once(call, request, buffer)
     if status == NO_ROOM:
-        room = (unit * length)()
-        status, length = _ask_once(call, request, count, room)
+        buffer = ctypes.create_string_buffer(length)
+        status, length = _ask_once(call, request, buffer)
     if status == OUT_OF_MEMORY:
         raise MemoryError("there was no memory for an answer")
     if status > UNREADABLE:
         raise RuntimeError(f"wgsl.h has no status {status}")
-    return status, room, length
-
-
-def ask_text(name, data):
-    """What a call from bytes to bytes says, or None if it can't read them."""
-    call = _call(name, ctypes.c_char_p, ctypes.c_char_p)
-    status, room, length = _ask(call, data, len(data), ctypes.c_char, _BYTES)
-    if status == REFUSED:
-        raise RuntimeError(f"wgsl.h has no status {status}")
-    return room[:length] if status == ANSWERED else None
-
-
-def ask_codes(name, words):
-    """The status of a call over numbers, and the words of its reply."""
-    pointer = ctypes.POINTER(ctypes.c_uint32)
-    call = _call(name, pointer, pointer)
-    request = (ctypes.c_uint32 * max(len(words), 1))(*words)
-    status, room, length = _ask(call, request, len(words), ctypes.c_uint32, _WORDS)
-    return status, room[:length] if status != UNREADABLE else []
-
-
-def read_text(name, data):
-    """The words that a call from bytes to numbers makes of a text, or None if it can't read it."""
-    call = _call(name, ctypes.c_char_p, ctypes.POINTER(ctypes.c_uint32))
-    status, room, length = _ask(call, data, len(data), ctypes.c_uint32, _WORDS)
-    return room[:length] if status == ANSWERED else None
+    return status, buffer[:length].decode()

@@ -1,19 +1,67 @@
-"""Requests in words: lines of the programs wgsl_check and wgsl_standard."""
+"""Requests: lines of the programs wgsl_standard and wgsl_check, and calls that ask one each."""
+import re
 import sys
-from typing import Any, TextIO
+from dataclasses import dataclass
+from typing import Any, Iterable, List, NamedTuple, Optional, TextIO, Tuple
 
-from ._library import ask_text
-from .errors import Unreadable
+from ._library import ANSWERED, REFUSED, ask
+from ._words import operand_words, split_list, type_words
 
 # The calls that answer and explain, by the rules that they ask.
-RULES = {"wgsl-types": ("wgsl_answer", "wgsl_explain"), "wgsl": ("wgsl_standard_answer", "wgsl_standard_explain")}
+RULES = {"wgsl": ("wgsl_standard_answer", "wgsl_standard_explain"), "wgsl-types": ("wgsl_answer", "wgsl_explain")}
 
 
-def answer(request: str, rules: str = "wgsl-types") -> str:
-    """Answers one request, by the rules of wgsl-types or by `wgsl`, WGSL's own overloads. If they refuse the expression, the
-    message is the answer. Names in requests and answers may have NULs.
+class Unreadable(ValueError):
+    """The request is no command, is blank, isn't one line of text, or has more than 4096 bytes.
 
-    Raises Unreadable, or MemoryError if memory runs out.
+    Its text says why: the column in bytes, the number of the word, and what was expected there. `request` is the request.
+
+    >>> try:
+    ...     unary("-", "vec3<f33>")
+    ... except Unreadable as unreadable:
+    ...     print(unreadable)
+    column 15, word 5: `f33` is no type
+    """
+
+    def __init__(self, why: str, request: str) -> None:
+        super().__init__(why)
+        self.request = request
+
+
+class Refused(Exception):
+    """The rules give an expression no type. Its text is their message, `request` the request.
+
+    >>> try:
+    ...     binary("+", "vec3<f32>", "vec3<i32>")
+    ... except Refused as refused:
+    ...     print(refused)
+    ...     print(refused.notes[0])
+    no overload of `+` takes (vec3<f32>, vec3<i32>)
+    +(vecN<T>, vecN<T>) -> vecN<T>, T: number: argument 2 is vec3<i32>
+    """
+
+    def __init__(self, message: str, request: str, rules: str) -> None:
+        super().__init__(message)
+        self.request, self.rules = request, rules
+
+    @property
+    def notes(self) -> List[str]:
+        """For each overload of WGSL's own why it doesn't take the operands. The rules of wgsl-types have no notes."""
+        if self.rules != "wgsl":
+            return []
+        asked = re.sub(r"^[ \t\r]*resolve(?=[ \t\r])", "", self.request)
+        return _lines(answer(f"why {asked}"))
+
+
+def _lines(text: str) -> List[str]:
+    return [] if text == "none" else text.split("\n")
+
+
+def answer(request: str, rules: str = "wgsl") -> str:
+    """Answers one request, by WGSL's own overloads or by the rules of the Rust crate `wgsl-types`. Names in requests and answers
+    may have NULs.
+
+    Raises Refused if the rules refuse the expression, Unreadable, or MemoryError if memory runs out.
 
     >>> answer("binary + AbstractInt vec 3 f32")
     'vec3<f32>'
@@ -25,10 +73,132 @@ def answer(request: str, rules: str = "wgsl-types") -> str:
     asks, explains = RULES[rules]
     # A lone surrogate is passed as bytes that aren't UTF-8, which the library doesn't read.
     encoded = request.encode("utf-8", "surrogatepass")
-    text = ask_text(asks, encoded)
-    if text is None:
-        raise Unreadable((ask_text(explains, encoded) or b"").decode(), request)
-    return text.decode()
+    status, text = ask(asks, encoded)
+    if status == ANSWERED:
+        return text
+    if status == REFUSED:
+        raise Refused(text, request, rules)
+    raise Unreadable(ask(explains, encoded)[1], request)
+
+
+def unary(operator: str, operand: str) -> str:
+    """The type of a unary expression. An operand is a type as WGSL spells it, with `const ` in front of a const-expression.
+
+    >>> unary("-", "vec3<f32>")
+    'vec3<f32>'
+    """
+    return answer(f"unary {operator} {operand_words(operand)}")
+
+
+def binary(operator: str, left: str, right: str) -> str:
+    """The type of a binary expression.
+
+    >>> binary("*", "mat4x3f", "vec4<f32>"), binary("<<", "const AbstractInt", "u32")
+    ('vec3<f32>', 'i32')
+    """
+    return answer(f"binary {operator} {operand_words(left)} {operand_words(right)}")
+
+
+def _named(command: str, name: str, operands: Iterable[str], template: Optional[str]) -> str:
+    """The request on what has a name."""
+    given = "-" if template is None else f"< t {type_words(template)} >"
+    return " ".join([command, name, given, *map(operand_words, operands)])
+
+
+def call(name: str, arguments: Iterable[str], template: Optional[str] = None) -> Optional[str]:
+    """The type of the call of a built-in function, None if it has no value.
+
+    >>> call("clamp", ["vec3f", "vec3f", "vec3f"]), call("bitcast", ["f32"], template="i32"), call("storageBarrier", [])
+    ('vec3<f32>', 'i32', None)
+    """
+    return _value(answer(_named("call", name, arguments, template)))
+
+
+def _value(text: str) -> Optional[str]:
+    return None if text == "no value" else text
+
+
+def construct(name: str, arguments: Iterable[str], template: Optional[str] = None) -> str:
+    """The type that a constructor makes.
+
+    >>> construct("vec3", ["f32", "vec2<f32>"]), construct("mat2x2", ["vec2h", "vec2h"], template="f16")
+    ('vec3<f32>', 'mat2x2<f16>')
+    """
+    return answer(_named("ctor", name, arguments, template))
+
+
+@dataclass(frozen=True)
+class Resolution:
+    """The overload that takes a call: its index, the types of its parameters, and its result, None without a value.
+
+    >>> resolve_call("sqrt", ["AbstractInt"]).parameters
+    ('AbstractFloat',)
+    """
+
+    overload: int
+    parameters: Tuple[str, ...]
+    result: Optional[str]
+
+
+def resolve_call(name: str, arguments: Iterable[str], template: Optional[str] = None) -> Resolution:
+    """Which overload takes the call of a built-in function. A template's type stands first among the parameters.
+
+    >>> resolve_call("mix", ["vec2<f32>", "vec2<f32>", "AbstractFloat"])
+    Resolution(overload=1, parameters=('vec2<f32>', 'vec2<f32>', 'f32'), result='vec2<f32>')
+    """
+    index, _, rest = answer(f"resolve {_named('call', name, arguments, template)}").partition(" (")
+    parameters, _, result = rest.partition(")")
+    types = tuple(split_list(parameters)) if parameters else ()
+    return Resolution(int(index), types, result[len(" -> "):] or None)
+
+
+def overloads(name: str) -> List[str]:
+    """The overloads of an operator, a built-in function or a constructor.
+
+    >>> overloads("cross")
+    ['cross(vec3<T>, vec3<T>) -> vec3<T>, T: float']
+    """
+    return _lines(answer(f"overloads {name}"))
+
+
+def rank(source: str, target: str) -> Optional[int]:
+    """The rank of the conversion from one type to another, None if there is none.
+
+    >>> rank("AbstractInt", "f32"), rank("f32", "i32")
+    (6, None)
+    """
+    text = answer(f"rank {type_words(source)} {type_words(target)}")
+    return None if text == "none" else int(text)
+
+
+def common(types: Iterable[str]) -> Optional[str]:
+    """The type to which all of the types convert, None if there is none.
+
+    >>> common(["AbstractInt", "f16", "AbstractFloat"]), common(["i32", "u32"])
+    ('f16', None)
+    """
+    text = answer(" ".join(["common", *map(type_words, types)]))
+    return None if text == "none" else text
+
+
+class Size(NamedTuple):
+    """A size and an alignment in bytes, each None if the type lacks it.
+
+    >>> size("vec3<f32>").align
+    16
+    """
+
+    size: Optional[int]
+    align: Optional[int]
+
+
+def size(ty: str) -> Size:
+    """The size and the alignment of a type.
+
+    >>> size("array<mat4x3f, 4>"), size("array<vec3<f32>>")
+    (Size(size=256, align=16), Size(size=None, align=16))
+    """
+    return Size(*(None if text == "none" else int(text) for text in answer(f"size {type_words(ty)}").split(" ")))
 
 
 def answer_lines(lines: Any, output: TextIO, rules: str) -> int:
@@ -40,6 +210,8 @@ def answer_lines(lines: Any, output: TextIO, rules: str) -> int:
             continue
         try:
             output.write(answer(request, rules) + "\n")
+        except Refused as refused:
+            output.write(f"{refused}\n")
         except Unreadable as unreadable:
             output.write(f"bad line {number}\n")
             print(f"line {number}: {unreadable}", file=sys.stderr)

@@ -1,0 +1,135 @@
+"""The calls of the Python package over types as WGSL spells them, compared with requests in words. The words come from
+tests/spelling.py."""
+import os
+import random
+import sys
+
+import wgsl
+
+TESTS = os.path.dirname(os.path.dirname(os.path.abspath(__file__)))
+sys.path[1:1] = [TESTS, os.path.join(TESTS, "overloads")]
+from calls import UNIVERSE, Calls, in_words, is_constructor  # noqa: E402, beside tests/standard
+from facts import read_facts  # noqa: E402
+from spelling import STRUCTS, words  # noqa: E402
+
+CALLED, PAIRS, LISTS = 20000, 5000, 2000
+SHORT = {"i": "i32", "u": "u32", "f": "f32", "h": "f16"}
+
+
+def wrong(what):
+    raise SystemExit(f"link: in Python {what}")
+
+
+def outcome(ask, *given, **named):
+    """What a call returns, or the message of a refusal."""
+    try:
+        return ask(*given, **named)
+    except wgsl.Refused as refused:
+        return "refused", str(refused)
+
+
+def expect_same(request, found):
+    """The call gave what the request is answered."""
+    wanted = outcome(wgsl.answer, request)
+    wanted = None if wanted in ("no value", "none") else wanted
+    if found != wanted:
+        wrong(f"{request} is {wanted}, and by a call {found}")
+
+
+def is_spelled(call):
+    """Whether no struct stands in a call: these can't be spelled."""
+    return not any(struct in operand for operand in call[2] for struct in STRUCTS)
+
+
+def compare_call(call):
+    name, template, operands, constant = call
+    given = [("const " if is_const else "") + operand for operand, is_const in zip(operands, constant)]
+    if not name[0].isalpha():
+        found = outcome(wgsl.unary, name, *given) if len(given) == 1 else outcome(wgsl.binary, name, *given)
+    elif is_constructor(name):
+        found = outcome(wgsl.construct, name, given, template=template)
+    else:
+        found = outcome(wgsl.call, name, given, template)
+        compare_resolution(call, given)
+    expect_same(in_words(call), found)
+
+
+def compare_resolution(call, given):
+    """A resolution is what the text says."""
+    found = outcome(wgsl.resolve_call, call[0], given, call[1])
+    if isinstance(found, wgsl.Resolution):
+        result = "" if found.result is None else f" -> {found.result}"
+        found = f"{found.overload} ({', '.join(found.parameters)}){result}"
+    expect_same(f"resolve {in_words(call)}", found)
+
+
+def compare_calls():
+    formats, table = read_facts()
+    asked = [call for call in Calls(table, formats).all() if is_spelled(call)]
+    for call in random.Random(61).sample(asked, CALLED):
+        compare_call(call)
+    for name in table:
+        if "\n".join(wgsl.overloads(name)) != wgsl.answer(f"overloads {name}"):
+            wrong(f"the overloads of {name} are {wgsl.overloads(name)}")
+
+
+def compare_types():
+    """Ranks, common types, sizes; and refusals have a note for each overload."""
+    rng, types = random.Random(62), [ty for ty in UNIVERSE if ty not in STRUCTS]
+    for ty in types:
+        size = wgsl.size(ty)
+        expect_same(f"size {words(ty)}", " ".join("none" if n is None else str(n) for n in size))
+    for _ in range(PAIRS):
+        a, b = rng.choice(types), rng.choice(types)
+        rank = wgsl.rank(a, b)
+        expect_same(f"rank {words(a)} {words(b)}", None if rank is None else str(rank))
+    for _ in range(LISTS):
+        some = rng.choices(types, k=rng.randrange(4))
+        expect_same(" ".join(["common", *map(words, some)]), wgsl.common(iter(some)))
+
+
+def compare_aliases():
+    """Aliases that WGSL predeclares, blanks, and an access mode that is left out."""
+    same = [(f"vec{n}{s}", f"vec{n}<{SHORT[s]}>") for n in "234" for s in SHORT]
+    same += [(f"mat{c}x{r}{s}", f"mat{c}x{r}<{SHORT[s]}>") for c in "234" for r in "234" for s in "fh"]
+    same += [(" array<vec3f,4> ", "array<vec3<f32>, 4>"), ("ptr<function,i32>", "ptr<function, i32, read_write>")]
+    same += [("ptr<storage, i32>", "ptr<storage, i32, read>"), ("ptr<private, vec2h>", "ptr<private, vec2<f16>, read_write>")]
+    for alias, spelled in same:
+        if wgsl.common([alias, spelled]) != spelled:
+            wrong(f"{alias} is no {spelled}")
+    leaves = ["ray_query", "ray_query<vertex_return>", "acceleration_structure", "acceleration_structure<vertex_return>", "sampler"]
+    leaves += ["sampler_comparison", "texture_2d<f32>", "texture_depth_2d", "texture_external", "texture_storage_1d<r32uint, read>"]
+    for leaf in leaves:
+        if wgsl.common([leaf, leaf]) != leaf:
+            wrong(f"{leaf} is {wgsl.common([leaf, leaf])}")
+    for wrong_type in ("vec5f", "mat2x2i", "vec3<f32", "vec3<>", "array<f32, 4, 4>", "vec3<f32>>", "", "f33", "vec3<f32> f32"):
+        try:
+            wrong(f"{wrong_type} has the size {wgsl.size(wrong_type)}")
+        except wgsl.Unreadable:
+            pass
+
+
+def compare_source():
+    """A text, and its bytes, whatever letters are in it."""
+    for text in ("struct ß { a: f32 }", "struct 漢 { ö: f32 }"):
+        told = wgsl.source_layout(text)
+        if told["structs"][0]["name"] != text.split()[1] or told != wgsl.source_layout(text.encode()):
+            wrong(f"{text} has the structs {told['structs']}")
+    if not wgsl.source_layout(b"struct a { b: f32 }\xff")["errors"] or not wgsl.source_layout("\ud800")["errors"]:
+        wrong("a text that isn't UTF-8 has no error")
+
+
+def compare_notes():
+    try:
+        wgsl.call("cross", ["f32", "vec3f"])
+    except wgsl.Refused as refused:
+        if "\n".join(refused.notes) != wgsl.answer("why call cross - f32 vec 3 f32"):
+            wrong(f"the notes are {refused.notes}")
+
+
+compare_calls()
+compare_types()
+compare_aliases()
+compare_source()
+compare_notes()
+print(f"{CALLED} calls, {PAIRS} ranks, {LISTS} common types, as requests in words answer")
