@@ -3,12 +3,13 @@ import os
 
 from use import ANSWERS, add, equal, expect
 
-BELOW = ["wgsl_tokens", "wgsl_constants", "wgsl_syntax", "wgsl_rules", "wgsl_core", "wgsl_source", "wgsl_spaces", "wgsl_report"]
+BELOW = ["wgsl_tokens", "wgsl_constants", "wgsl_syntax", "wgsl_tables", "wgsl_rules", "wgsl_core"]
+BELOW += ["wgsl_source", "wgsl_spaces", "wgsl_report"]
 CALLS = [f"rt lib {crate}" for crate in BELOW] + ["rt run wgsl_layout"]
 
 
 def first_run(use):
-    expect(use.run("./wgsl_layout"), 0, ANSWERS, "proving wgsl_layout and the 8 crates that it stands on")
+    expect(use.run("./wgsl_layout"), 0, ANSWERS, "proving wgsl_layout and the 9 crates that it stands on")
     equal(use.calls(), CALLS)
 
 
