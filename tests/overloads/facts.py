@@ -1,12 +1,14 @@
 """The facts: which candidates WGSL has. And what the repository has instead, with the reason for each difference."""
 import os
 import re
+from collections import Counter
 
 from signatures import candidates, name_of
 
 HERE = os.path.dirname(os.path.abspath(__file__))
 TEXEL_FORMATS = os.path.join(HERE, "..", "..", "crates", "wgsl_syntax", "src", "texel.rt")
 BUILT_INS = os.path.join(HERE, "..", "lines", "built_ins.txt")
+NAMES = os.path.join(HERE, "..", "..", "crates", "wgsl_tables", "src", "names.rt")
 
 # The ported crate spells this texel format so.
 RENAMED_FORMATS = {"rg11b10ufloat": "rg11b10float"}
@@ -16,6 +18,8 @@ OWN_FORMATS = {"r64uint": "u32"}
 OWN_FUNCTIONS = """getCandidateHitVertexPositions getCommittedHitVertexPositions rayQueryConfirmIntersection
 rayQueryGenerateIntersection rayQueryGetCandidateIntersection rayQueryGetCommittedIntersection rayQueryInitialize
 rayQueryProceed rayQueryTerminate""".split()
+# naga's scalars of 64 bits, each made of any scalar, and of nothing.
+OWN_LINES = {name: [f"{name}(T) -> {name}, T: scalar", f"{name}() -> {name}"] for name in ("i64", "u64", "f64")}
 
 
 def converts_abstract_matrix(name, candidate):
@@ -79,6 +83,11 @@ def repository_functions():
     return set(re.findall(r"^call (\w+)", read(BUILT_INS), re.MULTILINE))
 
 
+def table_names():
+    """The functions and constructors that have a table."""
+    return set(re.findall(r'\("(\w+)", \w+\)', read(NAMES)))
+
+
 def spelled(name, candidate):
     template, parameters, answer = candidate
     return f"{name}{f'<{template}>' if template else ''}({', '.join(parameters)}) -> {answer}"
@@ -96,9 +105,14 @@ def compare_candidates(formats, table, printed):
     """Compares the candidates of each name with those of the signatures that the program printed for it."""
     applied = set()
     for name, lines in printed.items():
-        own = {candidate for line in lines for candidate in candidates(line, {**formats, **OWN_FORMATS})}
+        counted = Counter(candidate for line in lines for candidate in candidates(line, {**formats, **OWN_FORMATS}))
+        yield from (f"stands twice: {spelled(name, candidate)}" for candidate, times in counted.items() if times > 1)
         yield from (f"{line} stands at {name}" for line in lines if name_of(line) != name)
-        wgsl = table.get(name, set())
+        if name in OWN_LINES:
+            if lines != OWN_LINES[name]:
+                yield f"{name} has the overloads {lines}, and not {OWN_LINES[name]}"
+            continue
+        own, wgsl = set(counted), table.get(name, set())
         for fault, extra, reasons in ("is missing", wgsl - own, LEFT_OUT), ("is not WGSL's", own - wgsl, OWN_CANDIDATES):
             for candidate in sorted(extra, key=str):
                 known = [reason for reason in reasons if reason(name, candidate)]

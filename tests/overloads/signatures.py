@@ -79,7 +79,8 @@ def answer_of(result):
 
 
 def candidates(line, formats):
-    """The candidates of a signature: the template or None, the parameters, and what a call answers."""
+    """The candidates of a signature: the template or None, the parameters, and what a call answers. A letter of which nothing
+    is said stays."""
     for sized in with_sizes(line):
         match = SHAPE.fullmatch(sized[len(name_of(sized)):])
         if match is None:
@@ -90,6 +91,6 @@ def candidates(line, formats):
             letters.setdefault("F", "texel format")
         for chosen in choices(letters, formats):
             template_now, parameters_now, result_now = (
-                text and LETTER.sub(lambda match: chosen[match[0]], text) for text in (template, parameters, result)
+                text and LETTER.sub(lambda match: chosen.get(*match.group(0, 0)), text) for text in (template, parameters, result)
             )
             yield template_now, tuple(split_list(parameters_now)), answer_of(result_now)
