@@ -11,6 +11,7 @@ use Rattle.wgsl_syntax.specs.declared.overload.Pattern.{Pattern}
 use Rattle.wgsl_syntax.specs.declared.overload.Pattern.TheVariants as patterns
 use Rattle.wgsl_syntax.specs.declared.overload.Resource.{Resource}
 use Rattle.wgsl_rules.specs.standard.Signatures.{first_resource, patterns_text, after_comma, pattern_text}
+use Rattle.wgsl_standard.specs.internal.Binding.{first_pattern}
 
 pub repeated : {X : Type 0} (n i : ℕ) (x : X) → i < n → slice_get (replicate n x) i ≡ Some x
 repeated zero i x h = absurd (omega (arith, h))
@@ -30,6 +31,10 @@ pub past_repeated_after : {X : Type 0} (n i : ℕ) (x y : X) → n < i → slice
 past_repeated_after n zero x y h = absurd (omega (arith, h))
 past_repeated_after n (suc i) x y h = past_repeated n i y (omega (arith, h))
 
+pub first_at : (ps : List Pattern) → slice_get ps 0 ≡ first_pattern ps
+first_at [] = refl
+first_at (p ∷ ps) = refl
+
 drop_suc : {X : Type 0} (xs : List X) (i : ℕ) → drop i xs ≡ option_to_list (slice_get xs i) ++ drop (suc i) xs
 drop_suc [] zero = refl
 drop_suc [] (suc i) = refl
@@ -42,7 +47,7 @@ next n = omega arith
 pub drop_next : {X : Type 0} (xs : List X) (i : ℕ) → drop i xs ≡ option_to_list (slice_get xs i) ++ drop (i + 1) xs
 drop_next xs i = drop_suc xs i ∙ ap (λ n. option_to_list (slice_get xs i) ++ drop n xs) (next i)
 
-drop_none : {X : Type 0} (xs : List X) (i : ℕ) → slice_get xs i ≡ None → drop i xs ≡ []
+pub drop_none : {X : Type 0} (xs : List X) (i : ℕ) → slice_get xs i ≡ None → drop i xs ≡ []
 drop_none [] zero e = refl
 drop_none [] (suc i) e = refl
 drop_none (x ∷ xs) zero e = cc

@@ -11,6 +11,7 @@ ghost use Rattle.wgsl_standard.specs.Values.{value_in as value_there, result_val
 
 use crate::operand::{Operand, OperandType, loaded};
 use crate::overload::{parameters_of, result_of};
+use crate::written::pattern_at;
 use std::alloc::{AllocError, Global};
 use wgsl_core::ty::Type;
 use wgsl_core::ty::result_type::{exchange_result, result_struct};
@@ -153,21 +154,11 @@ fn pointee(
     }
 }
 
+#[tactic(auto, using(crate::proofs::Listed::first_at))]
 fn first_pattern(parameters: &Parameters) -> Option<Pattern>
     ensures { result ≡ first_there (in_order parameters.now) }
 {
-    match parameters {
-        Parameters::Nothing => None,
-        Parameters::One(a) => Some(*a),
-        Parameters::Two(a, _) => Some(*a),
-        Parameters::Three(a, _, _) => Some(*a),
-        Parameters::Four(a, _, _, _) => Some(*a),
-        Parameters::Five(a, _, _, _, _) => Some(*a),
-        Parameters::Six(a, _, _, _, _, _) => Some(*a),
-        Parameters::Seven(a, _, _, _, _, _, _) => Some(*a),
-        Parameters::Times(count, a) => { if *count == 0 { None } else { Some(*a) } }
-        Parameters::AndTimes(a, _, _) => Some(*a),
-    }
+    pattern_at(parameters, 0)
 }
 
 /// The type of a parameter for its operand.

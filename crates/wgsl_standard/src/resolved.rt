@@ -21,11 +21,12 @@ use crate::operand::Operand;
 use crate::operators::{binary_overloads, unary_overloads};
 use crate::overload::parameters_of;
 use crate::resolve::resolve;
+use crate::written::pattern_at;
 use std::alloc::{AllocError, Global};
 use wgsl_core::error::Fail;
 use wgsl_core::ty::Type;
 use wgsl_syntax::operator::{BinaryOperator, UnaryOperator};
-use wgsl_syntax::overload::{Instance, Overload, Parameters, Pattern};
+use wgsl_syntax::overload::{Instance, Overload, Parameters};
 
 /// An overload that is chosen, with the types that a compiler converts the operands to.
 #[derive(Drop)]
@@ -173,47 +174,14 @@ fn parameter_types(
 ) -> Result<Vec<Type>, AllocError>
     ensures { IfOk result (λ v. map view v.items ≡ parameters_for instance.now (in_order parameters.now) (operands_view operands.now)) }
 {
-    match parameters {
-        Parameters::Nothing => types_for(alloc, instance, &[], operands),
-        Parameters::One(a) => types_for(alloc, instance, &[*a], operands),
-        Parameters::Two(a, b) => types_for(alloc, instance, &[*a, *b], operands),
-        Parameters::Three(a, b, c) => types_for(alloc, instance, &[*a, *b, *c], operands),
-        Parameters::Four(a, b, c, d) => types_for(alloc, instance, &[*a, *b, *c, *d], operands),
-        Parameters::Five(a, b, c, d, e) => {
-            types_for(alloc, instance, &[*a, *b, *c, *d, *e], operands)
-        }
-        Parameters::Six(a, b, c, d, e, f) => {
-            types_for(alloc, instance, &[*a, *b, *c, *d, *e, *f], operands)
-        }
-        Parameters::Seven(a, b, c, d, e, f, g) => {
-            types_for(alloc, instance, &[*a, *b, *c, *d, *e, *f, *g], operands)
-        }
-        Parameters::Times(count, a) => {
-            let patterns = vec![in alloc; *a; *count as usize]?;
-            types_for(alloc, instance, &patterns, operands)
-        }
-        Parameters::AndTimes(a, count, b) => {
-            let mut patterns = vec![in alloc; *b; *count as usize]?;
-            patterns.insert(0, *a)?;
-            types_for(alloc, instance, &patterns, operands)
-        }
-    }
-}
-
-fn types_for(
-    alloc: Global,
-    instance: &Instance,
-    patterns: &[Pattern],
-    operands: &[Operand<'_>],
-) -> Result<Vec<Type>, AllocError>
-    ensures { IfOk result (λ v. map view v.items ≡ parameters_for instance.now patterns.now (operands_view operands.now)) }
-{
     let mut types = Vec::with_capacity(alloc, operands.len())?;
-    for i in 0..operands.len() {
-        if i >= patterns.len() {
-            return Ok(types);
+    for index in 0..operands.len() {
+        match pattern_at(parameters, index) {
+            Some(pattern) => {
+                types.push(parameter_for(alloc, instance, pattern, &operands[index])?)?;
+            }
+            None => return Ok(types),
         }
-        types.push(parameter_for(alloc, instance, patterns[i], &operands[i])?)?;
     }
     Ok(types)
 }
