@@ -31,7 +31,6 @@ pub trait RattleVec<T>: Sized {
     fn rattle_new(alloc: Global) -> Self;
     fn rattle_with_capacity(alloc: Global, capacity: usize) -> Made<Self>;
     fn rattle_push(&mut self, value: T) -> Made<()>;
-    fn rattle_insert(&mut self, index: usize, value: T) -> Made<()>;
 }
 
 impl<T> RattleVec<T> for Vec<T> {
@@ -48,12 +47,6 @@ impl<T> RattleVec<T> for Vec<T> {
     #[inline(always)]
     fn rattle_push(&mut self, value: T) -> Made<()> {
         self.push(value);
-        Ok(())
-    }
-
-    #[inline(always)]
-    fn rattle_insert(&mut self, index: usize, value: T) -> Made<()> {
-        self.insert(index, value);
         Ok(())
     }
 }
@@ -168,9 +161,9 @@ mod tests {
     #[test]
     fn values_are_put_where_they_belong() {
         let mut values = Vec::rattle_new(Global);
-        assert_eq!((values.rattle_push(1), values.rattle_insert(0, 2)), (Ok(()), Ok(())));
+        assert_eq!(values.rattle_push(1), Ok(()));
         assert_eq!(values.rattle_extend_from_slice(&[3, 4]), Ok(()));
-        assert_eq!(values, [2, 1, 3, 4]);
+        assert_eq!(values, [1, 3, 4]);
         let mut text = String::rattle_from_str(Global, "a").unwrap();
         assert_eq!((text.rattle_push_str("bc"), text.rattle_push('é')), (Ok(()), Ok(())));
         assert_eq!(write!(text, "{:>3}", 4), Ok(()));
