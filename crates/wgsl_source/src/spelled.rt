@@ -8,6 +8,7 @@ use crate::cursor::Cursor;
 use crate::expression::LEVELS;
 use crate::fault::{Cause, Expected, Stop};
 use crate::head::{Head, LayerName, predeclared};
+use crate::keyword::is_name;
 use crate::leaf::space_named;
 use crate::scope::{Extensions, Scope};
 use std::alloc::Global;
@@ -63,10 +64,12 @@ impl<'t> Scope<'t> {
         ensures goes_on { GoesOn cursor.old cursor.new }
     {
         let at = cursor.index();
-        match predeclared(cursor.name(Expected::Type)?) {
+        let name = cursor.take_word(Expected::Type)?;
+        match predeclared(name) {
             Some(Head::Layer(layer)) => self.read_spelled_layer(cursor, layer, depth),
             Some(head) => self.read_spelled_leaf(cursor, head),
-            None => Err(Stop::at(at, Cause::UnknownName)),
+            None if is_name(name) => Err(Stop::at(at, Cause::UnknownName)),
+            None => Err(Stop::at(at, Cause::Expected(Expected::Type))),
         }
     }
 
