@@ -1,6 +1,6 @@
 -- The conversions of integers (WGSL, "Feasible Automatic Conversion", "Value Constructor Built-in Functions").
-use Rattle.std.specs.Prelude.{◌≡◌, ℕ, ℤ, pos, Result, Ok, Err, FitsSigned, unsigned_abs}
-use Rattle.std.specs.Int.{w32, FitsUnsignedBits, cast_unsigned}
+use Rattle.std.specs.Prelude.{◌≡◌, ℕ, ℤ, Result, Ok, Err, FitsSigned, unsigned_abs}
+use Rattle.std.specs.Int.{w32, FitsUnsignedBits}
 use Rattle.wgsl_constants.specs.declared.integer.Integer.{Integer}
 use Rattle.wgsl_constants.specs.declared.integer.Integer.TheVariants.{Abstract, I32, U32}
 use Rattle.wgsl_constants.specs.declared.integer.IntegerPair.{IntegerPair}

@@ -130,7 +130,7 @@ impl<'t> Scope<'t> {
         }
     }
 
-    /// The type that an override has by its value, as far as that is read here.
+    /// The type that an override has by its value; None if that value isn't read here.
     fn default_type(&self, cursor: &mut Cursor<'t>) -> Result<Option<Scalar>, Stop>
         ensures goes_on { GoesOn cursor.old cursor.new }
     {

@@ -1,4 +1,8 @@
 // Types of a module, each with its measure.
+ghost use Rattle.std.specs.Prelude.{◌≡◌, Some};
+ghost use Rattle.wgsl_rules.specs.layout.Layout.{IsArraySize, IsExactly, IsScalarSize, IsTimes};
+ghost use Rattle.wgsl_core.specs.Placing.{IsValue};
+ghost use Rattle.wgsl_source.specs.Measures.{IsMatrixSize, IsMeasure, IsStrideOf, IsVectorAlign, known_count};
 
 use wgsl_syntax::address::{AccessMode, AddressSpace};
 use wgsl_syntax::attribute::AccelerationStructureFlags;
@@ -48,7 +52,9 @@ pub enum Count {
 
 impl Count {
     /// The number, if it is known.
-    pub fn known(self) -> Option<u32> {
+    pub fn known(self) -> Option<u32>
+        ensures { result ≡ known_count self }
+    {
         match self {
             Count::Known(count) => Some(count),
             Count::Runtime | Count::Override => None,
@@ -58,7 +64,10 @@ impl Count {
 
 impl MeasuredType {
     /// A type that holds no other, with its size and its alignment.
-    pub fn leaf(kind: TypeKind, size: Option<u32>, align: Option<u32>) -> MeasuredType {
+    pub fn leaf(kind: TypeKind, size: Option<u32>, align: Option<u32>) -> MeasuredType
+        ensures size { result.size ≡ size }
+        ensures align { result.align ≡ align }
+    {
         MeasuredType {
             kind,
             size,
@@ -72,13 +81,17 @@ impl MeasuredType {
         MeasuredType::leaf(kind, None, None)
     }
 
-    pub fn scalar(scalar: Scalar) -> MeasuredType {
+    pub fn scalar(scalar: Scalar) -> MeasuredType
+        ensures { IsMeasure (IsScalarSize scalar) (IsScalarSize scalar) result }
+    {
         let size = scalar_size(scalar);
         MeasuredType::leaf(TypeKind::Scalar(scalar), size, size)
     }
 
     /// A vector of this many scalars.
-    pub fn vector(count: u8, scalar: Scalar) -> MeasuredType {
+    pub fn vector(count: u8, scalar: Scalar) -> MeasuredType
+        ensures { IsMeasure (IsTimes count (IsScalarSize scalar)) (IsVectorAlign count scalar) result }
+    {
         let size = times(u32::from(count), scalar_size(scalar));
         MeasuredType::leaf(
             TypeKind::Vector(count, scalar),
@@ -88,28 +101,34 @@ impl MeasuredType {
     }
 
     /// A matrix with these numbers of columns and rows.
-    pub fn matrix(columns: u8, rows: u8, scalar: Scalar) -> MeasuredType {
+    pub fn matrix(columns: u8, rows: u8, scalar: Scalar) -> MeasuredType
+        ensures { IsMeasure (IsMatrixSize columns rows scalar) (IsVectorAlign rows scalar) result }
+    {
         let align = vector_align(rows, scalar);
         let size = times(u32::from(columns), align);
         MeasuredType::leaf(TypeKind::Matrix(columns, rows, scalar), size, align)
     }
 
-    pub fn atomic(scalar: Scalar) -> MeasuredType {
+    pub fn atomic(scalar: Scalar) -> MeasuredType
+        ensures { IsMeasure (IsScalarSize scalar) (IsScalarSize scalar) result }
+    {
         let size = scalar_size(scalar);
         MeasuredType::leaf(TypeKind::Atomic(scalar), size, size)
     }
 
     /// An array of such elements, which stand at this index of the module's elements.
-    pub fn array(&self, index: usize, count: Count) -> MeasuredType {
-        let size = match count {
-            Count::Known(count) => times(count, self.stride()),
-            Count::Runtime | Count::Override => None,
-        };
+    pub fn array(&self, index: usize, count: Count) -> MeasuredType
+        ensures { IsMeasure (IsArraySize (known_count count) (IsStrideOf self.now)) (IsValue self.now.align) result }
+    {
+        let size = array_size(count.known(), self.stride());
         self.around(TypeKind::Array(index, count), size, self.align)
     }
 
     /// A type around this one.
-    pub fn around(&self, kind: TypeKind, size: Option<u32>, align: Option<u32>) -> MeasuredType {
+    pub fn around(&self, kind: TypeKind, size: Option<u32>, align: Option<u32>) -> MeasuredType
+        ensures size { result.size ≡ size }
+        ensures align { result.align ≡ align }
+    {
         MeasuredType {
             kind,
             size,
@@ -119,7 +138,9 @@ impl MeasuredType {
     }
 
     /// How far such elements of an array lie apart.
-    pub fn stride(&self) -> Option<u32> {
+    pub fn stride(&self) -> Option<u32>
+        ensures { IsExactly result (IsStrideOf self.now) }
+    {
         self.size?.checked_next_multiple_of(self.align?)
     }
 
@@ -137,7 +158,9 @@ impl MeasuredType {
 }
 
 /// The size of a scalar, which is its alignment too.
-fn scalar_size(scalar: Scalar) -> Option<u32> {
+fn scalar_size(scalar: Scalar) -> Option<u32>
+    ensures { IsExactly result (IsScalarSize scalar) }
+{
     match scalar {
         Scalar::Bool | Scalar::I32 | Scalar::U32 | Scalar::F32 => Some(4),
         Scalar::F16 => Some(2),
@@ -147,11 +170,34 @@ fn scalar_size(scalar: Scalar) -> Option<u32> {
 }
 
 /// The alignment of a vector: that of three components is that of four.
-fn vector_align(count: u8, scalar: Scalar) -> Option<u32> {
-    let padded = if count == 3 { 4 } else { count };
-    times(u32::from(padded), scalar_size(scalar))
+fn vector_align(count: u8, scalar: Scalar) -> Option<u32>
+    ensures { IsExactly result (IsVectorAlign count scalar) }
+{
+    let size = scalar_size(scalar);
+    if count == 3 {
+        times(4, size)
+    } else {
+        times(u32::from(count), size)
+    }
 }
 
-fn times(count: u32, size: Option<u32>) -> Option<u32> {
+fn array_size(count: Option<u32>, stride: Option<u32>) -> Option<u32>
+    ensures { IsExactly result (IsArraySize count (IsValue stride)) }
+{
+    match count {
+        Some(count) => known_array_size(count, stride),
+        None => None,
+    }
+}
+
+fn known_array_size(count: u32, stride: Option<u32>) -> Option<u32>
+    ensures { IsExactly result (IsArraySize (Some count) (IsValue stride)) }
+{
+    times(count, stride)
+}
+
+fn times(count: u32, size: Option<u32>) -> Option<u32>
+    ensures { IsExactly result (IsTimes count (IsValue size)) }
+{
     count.checked_mul(size?)
 }

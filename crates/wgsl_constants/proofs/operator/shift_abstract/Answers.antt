@@ -1,4 +1,4 @@
-use Rattle.std.proofs.Common.{◌≡◌, ap, inl, inr, refl, of_z, w64}
+use Rattle.std.proofs.Common.{ap, inl, inr, refl, of_z, w64}
 use Rattle.wgsl_constants.proofs.Shifted.{too_large}
 use Rattle.wgsl_constants.proofs.operator.shift_abstract.Goals as goal
 
