@@ -36,20 +36,20 @@ align_of_others n k s o r other same of is a =
 pub vector_measure : (n k : ℕ) (s : Scalar) (component size align : Option ℕ) (m : MeasuredType) → k ≡ n → IsExactly component (IsScalarSize s)
     → IsExactly size (IsTimes k (IsValue component)) → IsExactly align (IsVectorAlign n s) → m.size ≡ size → m.align ≡ align → IsMeasure (IsTimes n (IsScalarSize s)) (IsVectorAlign n s) m
 vector_measure n k s component size align m same of is_size is_align sized aligned = record {
-    size = given m.size size (IsTimes n (IsScalarSize s)) sized (times_of n k component size (IsScalarSize s) same of is_size);
-    align = given m.align align (IsVectorAlign n s) aligned is_align
+  size = given m.size size (IsTimes n (IsScalarSize s)) sized (times_of n k component size (IsScalarSize s) same of is_size);
+  align = given m.align align (IsVectorAlign n s) aligned is_align;
 }
 
 pub matrix_measure : (c r k : ℕ) (s : Scalar) (align size : Option ℕ) (m : MeasuredType) → k ≡ c → IsExactly align (IsVectorAlign r s)
     → IsExactly size (IsTimes k (IsValue align)) → m.size ≡ size → m.align ≡ align → IsMeasure (IsMatrixSize c r s) (IsVectorAlign r s) m
 matrix_measure c r k s align size m same of is_size sized aligned = record {
-    size = given m.size size (IsMatrixSize c r s) sized (times_of c k align size (IsVectorAlign r s) same of is_size);
-    align = given m.align align (IsVectorAlign r s) aligned of
+  size = given m.size size (IsMatrixSize c r s) sized (times_of c k align size (IsVectorAlign r s) same of is_size);
+  align = given m.align align (IsVectorAlign r s) aligned of;
 }
 
 pub array_measure : (count : Count) (element : MeasuredType) (known stride size : Option ℕ) (m : MeasuredType) → known ≡ known_count count → IsExactly stride (IsStrideOf element)
     → IsExactly size (IsArraySize known (IsValue stride)) → m.size ≡ size → m.align ≡ element.align → IsMeasure (IsArraySize (known_count count) (IsStrideOf element)) (IsValue element.align) m
 array_measure count element known stride size m same of is_size sized aligned = record {
-    size = given m.size size (IsArraySize (known_count count) (IsStrideOf element)) sized (subst (λ (k : Option ℕ). IsExactly size (IsArraySize k (IsStrideOf element))) same (array_size known stride size (IsStrideOf element) of is_size));
-    align = λ n. (λ e. sym aligned ∙ e, λ e. aligned ∙ e)
+  size = given m.size size (IsArraySize (known_count count) (IsStrideOf element)) sized (subst (λ (k : Option ℕ). IsExactly size (IsArraySize k (IsStrideOf element))) same (array_size known stride size (IsStrideOf element) of is_size));
+  align = λ n. (λ e. sym aligned ∙ e, λ e. aligned ∙ e);
 }

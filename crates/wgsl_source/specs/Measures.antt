@@ -1,7 +1,7 @@
 -- The size and the alignment of a type of a module, from its scalar or from its element (WGSL, "Alignment and Size").
 use Rattle.std.specs.Prelude.{◌≡◌, ◌≢◌, ◌⊎◌, ℕ, Option, Some, None}
 use Rattle.wgsl_syntax.specs.declared.scalar.Scalar.{Scalar}
-use Rattle.wgsl_rules.specs.layout.Layout.{IsArraySize, IsExactly, IsScalarSize, IsStride, IsTimes}
+use Rattle.wgsl_rules.specs.layout.Layout.{IsExactly, IsScalarSize, IsStride, IsTimes}
 use Rattle.wgsl_core.specs.Placing.{IsValue}
 use Rattle.wgsl_source.specs.declared.measured.Count.{Count}
 use Rattle.wgsl_source.specs.declared.measured.Count.TheVariants.{Known, Runtime, Override}
