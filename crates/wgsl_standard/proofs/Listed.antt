@@ -1,5 +1,7 @@
 -- The parameters of an overload, looked at or written one after another.
-use Rattle.std.proofs.Common.{◌≡◌, ℕ, zero, suc, ◌+◌, ◌<◌, ◌≤◌, List, [], ◌∷◌, ◌++◌, Option, Some, None, Bool, true, false, ◌||◌, replicate, drop, slice_get, refl, ap, sym, subst, ◌∙◌, arith, append_assoc}
+use Rattle.std.proofs.lemmas.Option.{slice_get-get_or}
+use Rattle.wgsl_syntax.specs.declared.overload.Overload.{Overload}
+use Rattle.std.proofs.Common.{get_or, length, ◌≡◌, ℕ, zero, suc, ◌+◌, ◌<◌, ◌≤◌, List, [], ◌∷◌, ◌++◌, Option, Some, None, Bool, true, false, ◌||◌, replicate, drop, slice_get, refl, ap, sym, subst, ◌∙◌, arith, append_assoc}
 use Rattle.std.specs.Fmt.{HasWritten, IsPlainFormatter}
 use Rattle.std.specs.List.{flat_map, list_any}
 use Rattle.std.specs.Option.{option_to_list}
@@ -68,6 +70,9 @@ resource_later (patterns.Texture t ∷ xs) ys e = resource_later xs ys e
 resource_later (patterns.Resource q ∷ xs) ys e = cc
 
 -- the element at an index, and those behind it
+
+pub stands : (os ls : List Overload) (i : ℕ) (d : Overload) → ls ≡ os → i < length ls → slice_get os i ≡ Some (get_or ls i d)
+stands os ls i d e h = subst (λ os. slice_get os i ≡ Some (get_or ls i d)) e (slice_get-get_or ls i d h)
 
 pub any_here : {X : Type 0} (f : X → Bool) (xs : List X) (i : ℕ) (o : Option X) → o ≡ slice_get xs i → list_any f (option_to_list o) ≡ true → list_any f (drop i xs) ≡ true
 any_here f xs i o e h =

@@ -2,6 +2,7 @@
 ghost use Rattle.std.specs.Prelude.{◌≡◌, option_map, IfSome};
 ghost use Rattle.wgsl_rules.specs.standard.Tables.{IsUnambiguous};
 ghost use Rattle.wgsl_standard.specs.Callees.{overloads_of};
+ghost use Rattle.wgsl_standard.specs.Explained.{or_none};
 
 use crate::names::{
     constructor_named, function_named, template_constructor_named, template_function_named,
@@ -33,5 +34,15 @@ pub fn overloads(callee: Callee<'_>, has_template: bool) -> Option<&'static [Ove
         (Callee::Function(name), true) => template_function_named(name),
         (Callee::Constructor(name), false) => constructor_named(name),
         (Callee::Constructor(name), true) => template_constructor_named(name),
+    }
+}
+
+/// The same, none if no such call is listed.
+pub fn listed_overloads(callee: Callee<'_>, has_template: bool) -> &'static [Overload]
+    ensures { result.now ≡ or_none (overloads_of callee.entry has_template) }
+{
+    match overloads(callee, has_template) {
+        Some(overloads) => overloads,
+        None => &[],
     }
 }

@@ -1,5 +1,5 @@
 // Why a call has no overload, one note per overload.
-ghost use Rattle.std.specs.Prelude.{◌≡◌, ◌++◌, IfOk, codes, map, option_map};
+ghost use Rattle.std.specs.Prelude.{◌≡◌, ◌++◌, All, IfOk, codes, map, option_map};
 ghost use Rattle.std.specs.Fmt.{WritesOnOk};
 ghost use Rattle.wgsl_rules.specs.types.Spelling.{spelling};
 ghost use Rattle.wgsl_rules.specs.standard.Choice.{value_of};
@@ -7,10 +7,10 @@ ghost use Rattle.wgsl_core.specs.View.{view};
 ghost use Rattle.wgsl_standard.specs.Operands.{given_type, operands_view};
 ghost use Rattle.wgsl_standard.specs.Callees.{overloads_of};
 ghost use Rattle.wgsl_standard.specs.Explained.{or_none, note_view, AddsNote, AreNotes, IsExplained};
-ghost use Rattle.wgsl_standard.specs.Texts.{begins_with_vector as vector_first, counts_text, is_vector as vector_there, line_with, note_line, note_text, operand_text, reason_text, type_refused, types_given};
+ghost use Rattle.wgsl_standard.specs.Texts.{NoteStandsAtIndex, StandsAtIndex, begins_with_vector as vector_first, counts_text, is_vector as vector_there, line_with, note_line, note_text, operand_text, reason_text, type_refused, types_given};
 
 use crate::answer::{is_template, operands_with};
-use crate::callee::{Callee, overloads};
+use crate::callee::{Callee, listed_overloads};
 use crate::operand::{Operand, OperandType, loaded};
 use crate::refusal::{Mismatch, refused_by};
 use crate::signature::Signature;
@@ -44,6 +44,7 @@ pub fn explain<'a>(
         (operands_view operands.now) (map note_view v.items)) }
     ensures texts { IfOk result (λ v. map note_text v.items
         ≡ map (note_line callee.entry (option_map (λ t. view t.now) template.entry) (types_given operands.now)) (map note_view v.items)) }
+    ensures indices { IfOk result (λ v. All NoteStandsAtIndex v.items) }
 {
     match template {
         Some(template) => {
@@ -67,8 +68,9 @@ fn notes<'a>(
         (or_none (overloads_of callee.entry has_template)) (map note_view v.items)) }
     ensures texts { IfOk result (λ v. map note_text v.items
         ≡ map (line_with callee.entry has_template (types_given operands.now)) (map note_view v.items)) }
+    ensures indices { IfOk result (λ v. All NoteStandsAtIndex v.items) }
 {
-    let listed = overloads(callee, has_template).unwrap_or(&[]);
+    let listed = listed_overloads(callee, has_template);
     let of_vectors = begins_with_vector(operands);
     let mut notes = Vec::new(alloc);
     for index in 0..listed.len() {
@@ -97,6 +99,8 @@ fn push_note<'a>(
         ≡ map (line_with signature.entry.callee signature.entry.has_template (types_given operands.now)) (map note_view notes.old.items))
         → map note_text notes.new.items
         ≡ map (line_with signature.entry.callee signature.entry.has_template (types_given operands.now)) (map note_view notes.new.items)) }
+    ensures index { IfOk result (λ u. StandsAtIndex signature.entry
+        → All NoteStandsAtIndex notes.old.items → All NoteStandsAtIndex notes.new.items) }
 {
     if let Some(mismatch) = refused_by(signature.overload, operands) {
         notes.push(note_of(signature, mismatch, operands))?;
@@ -109,6 +113,7 @@ fn note_of<'a>(signature: Signature<'a>, mismatch: Mismatch, operands: &[Operand
     ensures note { note_view result ≡ (signature.entry.overload.now, mismatch) }
     ensures text { note_text result
         ≡ line_with signature.entry.callee signature.entry.has_template (types_given operands.now) (note_view result) }
+    ensures index { StandsAtIndex signature.entry → NoteStandsAtIndex result }
 {
     Note {
         signature,

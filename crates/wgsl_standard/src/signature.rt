@@ -1,10 +1,10 @@
 // How overloads are printed: as WGSL writes them, in one line. An overload that takes scalars or vectors has two lines.
-ghost use Rattle.std.specs.Prelude.{◌≡◌, ◌++◌, IfOk, false, map};
+ghost use Rattle.std.specs.Prelude.{◌≡◌, ◌++◌, All, IfOk, false, map};
 ghost use Rattle.std.specs.Fmt.{WritesOnOk};
 ghost use Rattle.wgsl_rules.specs.standard.Signatures.{overload_lines};
-ghost use Rattle.wgsl_standard.specs.Texts.{callee_text, line_of, lines_with, overload_texts};
+ghost use Rattle.wgsl_standard.specs.Texts.{StandsAtIndex, callee_text, line_of, lines_with, overload_texts};
 
-use crate::callee::{Callee, overloads};
+use crate::callee::{Callee, listed_overloads};
 use crate::overload::{parameters_of, result_of};
 use crate::where_clause::{resource_of, write_letters};
 use crate::written::{takes_either, write_parameters, write_returns};
@@ -29,6 +29,7 @@ pub struct Signature<'a> {
 /// The signatures of what is called, those without a template first; none if the name isn't listed.
 pub fn signatures<'a>(alloc: Global, callee: Callee<'a>) -> Result<Vec<Signature<'a>>, AllocError>
     ensures texts { IfOk result (λ v. map line_of v.items ≡ overload_texts callee.entry) }
+    ensures indices { IfOk result (λ v. All StandsAtIndex v.items) }
 {
     let mut signatures = Vec::new(alloc);
     push_signatures(&mut signatures, callee, false)?;
@@ -41,10 +42,11 @@ fn push_signatures<'a>(
     callee: Callee<'a>,
     has_template: bool,
 ) -> Result<(), AllocError>
-    ensures { IfOk result (λ u. map line_of signatures.new.items
+    ensures texts { IfOk result (λ u. map line_of signatures.new.items
         ≡ map line_of signatures.old.items ++ lines_with callee.entry has_template) }
+    ensures indices { IfOk result (λ u. All StandsAtIndex signatures.old.items → All StandsAtIndex signatures.new.items) }
 {
-    let listed = overloads(callee, has_template).unwrap_or(&[]);
+    let listed = listed_overloads(callee, has_template);
     for index in 0..listed.len() {
         let signature = Signature {
             callee,
@@ -64,9 +66,11 @@ fn push_signature<'a>(
     signature: Signature<'a>,
 ) -> Result<(), AllocError>
     requires { signature.of_vectors ≡ false }
-    ensures { IfOk result (λ u. map line_of signatures.new.items
+    ensures texts { IfOk result (λ u. map line_of signatures.new.items
         ≡ map line_of signatures.old.items ++ overload_lines (callee_text signature.entry.callee)
         signature.entry.has_template signature.entry.overload.now) }
+    ensures indices { IfOk result (λ u. StandsAtIndex signature.entry
+        → All StandsAtIndex signatures.old.items → All StandsAtIndex signatures.new.items) }
 {
     signatures.push(signature)?;
     if takes_either(parameters_of(signature.overload)) {
