@@ -36,21 +36,8 @@ impl<const N: usize> Simd<u8, N> {
     }
 
     #[inline(always)]
-    pub fn simd_ne(self, other: Self) -> Mask {
-        self.compared(other, differ)
-    }
-
-    #[inline(always)]
     pub fn simd_eq(self, other: Self) -> Mask {
         self.compared(other, |a, b| !differ(a, b))
-    }
-
-    #[inline(always)]
-    pub fn simd_le(self, other: Self) -> Mask {
-        self.compared(other, |a, b| {
-            let low = (b | HIGH).wrapping_sub(a & !HIGH);
-            (!a & b) | (!(a ^ b) & low)
-        })
     }
 
     /// Answers 8 lanes at a time by the highest bits of the 8 bytes of what a function returns.
@@ -95,8 +82,6 @@ mod tests {
                     (0..8).map(|i| u64::from(holds(&lanes[i], &b)) << i).sum::<u64>()
                 };
                 assert_eq!(x.simd_eq(y).to_bitmask(), bits(|a, b| a == b));
-                assert_eq!(x.simd_ne(y).to_bitmask(), bits(|a, b| a != b));
-                assert_eq!(x.simd_le(y).to_bitmask(), bits(|a, b| a <= b));
             }
         }
     }

@@ -42,10 +42,8 @@ pub mod fmt {
     pub use core::fmt::{Debug, Display, Formatter, Result};
 }
 
+#[cfg(feature = "std")]
 pub mod simd {
-    pub use crate::shim::simd::Simd;
-
-    #[cfg(feature = "std")]
     pub mod prelude {
         pub use crate::shim::simd::u8x16;
     }

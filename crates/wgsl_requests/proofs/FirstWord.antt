@@ -1,8 +1,7 @@
 -- The first word of a request, and the words of what is left.
-use Rattle.std.proofs.Common.{All, ◌≡◌, ℕ, ◌+◌, ◌<◌, Bool, true, false, not, List, [], ◌∷◌, length, take, drop, refl, ap, sym, subst, ◌∙◌, arith}
+use Rattle.std.proofs.Common.{◌≡◌, ℕ, ◌+◌, ◌<◌, Bool, true, false, not, List, [], ◌∷◌, length, take, drop, refl, ap, sym, subst, ◌∙◌, arith}
 use Rattle.std.specs.List.{filter, prefix_len, take_while}
 use Rattle.std.proofs.lemmas.List.Folds.{length-prefix_len}
-use Rattle.std.proofs.lemmas.List.Elements.{All-head, All-tail}
 use Rattle.std.proofs.lemmas.Grind.{common_steps}
 use Rattle.wgsl_requests.specs.Words.{pieces, has_bytes, has_line_feed, is_line_feed, is_separator, words_of}
 
@@ -132,13 +131,3 @@ blank-gap (b ∷ bs) none = step (is_separator b) refl (blank-gap bs)
     step : (v : Bool) → is_separator b ≡ v → (words_of bs ≡ [] → gap_len is_separator bs ≡ length bs) → gap_len is_separator (b ∷ bs) ≡ length (b ∷ bs)
     step true e rest = rw e (omega (arith, rest (sym (words-cut is_separator b bs e) ∙ none)))
     step false e rest = let never : ⊥ = cc (sym (words-word is_separator b bs e) ∙ none) in absurd never
-
--- what is greater than a line feed is none
-great : (b : ℕ) → 10 < b → is_line_feed b ≡ false
-great b more = grind (arith, common_steps, more)
-
--- nor is any byte, if all are greater
-pub great-no_line_feed : (bytes : List ℕ) → All (λ byte. 10 < byte) bytes → has_line_feed bytes ≡ false
-great-no_line_feed [] all = refl
-great-no_line_feed (b ∷ bs) all =
-    rw (great b (All-head (λ byte. 10 < byte) b bs all)) (great-no_line_feed bs (All-tail (λ byte. 10 < byte) b bs all))

@@ -1,9 +1,7 @@
 pub mod Asked
-pub mod Lanes
 pub mod Layers
 pub mod Lines
 pub mod Leaves
-pub mod Marks
 pub mod Replied
 pub mod Structs
 pub mod Taken

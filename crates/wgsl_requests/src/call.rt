@@ -4,6 +4,7 @@ ghost use Rattle.wgsl_syntax.specs.Operator.{binary_text, unary_text};
 ghost use Rattle.wgsl_core.specs.Instances.{parameter_view};
 ghost use Rattle.wgsl_standard.specs.Callees.{callee_view};
 ghost use Rattle.wgsl_asked.specs.StandardViews.{call_view, written_view};
+ghost use Rattle.wgsl_asked.specs.Views.{request_view};
 ghost use Rattle.wgsl_requests.specs.Answers.{IsAnswer};
 ghost use Rattle.wgsl_requests.specs.Reading.{IsText, OneWord, Reads};
 ghost use Rattle.wgsl_requests.specs.internal.Asked.{NamedAt, WritesOfCall, asked, called, callee_named, command_of, operand_view};
@@ -262,8 +263,8 @@ fn write_answer_on(
     };
     match question {
         Question::Type => write_type(alloc, &call, text),
-        Question::Resolution => write_resolution(alloc, &call, text),
-        Question::Explanation => write_explanation(alloc, &call, text),
+        Question::Resolution => write_other(alloc, Request::Resolution(&call), text),
+        Question::Explanation => write_other(alloc, Request::Explanation(&call), text),
     }
 }
 
@@ -294,26 +295,15 @@ fn kind_of<T>(found: &Option<T>) -> TextKind
     }
 }
 
+/// Writes another answer, never as a part of its caller.
 #[inline(never)]
-fn write_resolution(
+fn write_other(
     alloc: Global,
-    call: &Call<'_>,
+    request: Request<'_>,
     text: &mut String,
 ) -> Result<TextKind, AllocError>
-    ensures { IfOk result (λ kind. Adds (IsAnswer (asked Question.Resolution (call_view call.now)) kind)
+    ensures { IfOk result (λ kind. Adds (IsAnswer (request_view request.entry) kind)
         (string_bytes text.old) (string_bytes text.new)) }
 {
-    write_answer_to(alloc, Request::Resolution(call), text)
-}
-
-#[inline(never)]
-fn write_explanation(
-    alloc: Global,
-    call: &Call<'_>,
-    text: &mut String,
-) -> Result<TextKind, AllocError>
-    ensures { IfOk result (λ kind. Adds (IsAnswer (asked Question.Explanation (call_view call.now)) kind)
-        (string_bytes text.old) (string_bytes text.new)) }
-{
-    write_answer_to(alloc, Request::Explanation(call), text)
+    write_answer_to(alloc, request, text)
 }

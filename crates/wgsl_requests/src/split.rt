@@ -3,8 +3,6 @@ ghost use Rattle.std.specs.Prelude.{◌≡◌, ◌↔◌, [], IsTrue, length, no
 ghost use Rattle.std.specs.List.{take_while};
 ghost use Rattle.wgsl_requests.specs.Words.{IsFirstWord, has_line_feed, is_line_feed, is_separator, words_of};
 
-use crate::fast::line_feeds::are_great;
-
 /// The first word of a text, and the index after it.
 #[inline(always)]
 pub fn first_word(text: &str) -> Option<(&str, usize)>
@@ -54,7 +52,7 @@ fn is_separator(byte: u8) -> bool
 pub fn has_line_feed(bytes: &[u8]) -> bool
     ensures { result ≡ has_line_feed bytes.now }
 {
-    !are_great(bytes) && bytes.iter().any(|byte| is_line_feed(*byte))
+    bytes.iter().any(|byte| is_line_feed(*byte))
 }
 
 fn is_line_feed(byte: u8) -> bool

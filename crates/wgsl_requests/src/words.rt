@@ -4,9 +4,7 @@ ghost use Rattle.std.specs.Str.{IsCharBoundary};
 ghost use Rattle.wgsl_requests.specs.Numbers.{IsAttribute, IsCount, IsLong, IsMedium, IsSmall};
 ghost use Rattle.wgsl_requests.specs.Reading.{Answers, OneWord, Reads, ReadsWord};
 ghost use Rattle.wgsl_requests.specs.Words.{IsFirstWord, words_of};
-ghost use Rattle.wgsl_requests.specs.internal.Marks.{IsMarked, marks_of};
 
-use crate::fast::marks::{first_marked, is_marked, marks};
 use crate::split::{first_word, is_blank};
 use crate::wanted::{Misfit, Wanted};
 use std::str::FromStr;
@@ -16,14 +14,11 @@ use wgsl_types::error::Fail;
 #[derive(Drop)]
 pub struct Words<'t> {
     text: &'t str,
-    /// Which of its bytes belong to words, if they are marked.
-    marks: u64,
     /// The number of the line that the request is.
     pub line: u64,
     taken: usize,
     ghost within: { taken ≤ length text.now },
     ghost boundary: { IsCharBoundary text.now taken },
-    ghost marked: { IsMarked text.now → marks ≡ marks_of text.now },
 }
 
 impl<'t> Words<'t> {
@@ -42,7 +37,6 @@ impl<'t> Words<'t> {
         match std::str::from_utf8(request) {
             Ok(text) => Some(Words {
                 text,
-                marks: marks(text),
                 line: 1,
                 taken: 0,
             }),
@@ -55,12 +49,7 @@ impl<'t> Words<'t> {
     fn first_left(&self) -> Option<(&'t str, usize)>
         ensures { IsFirstWord (drop self.now.taken self.now.text.now) result }
     {
-        let rest = &self.text[self.taken..];
-        if is_marked(self.text) {
-            first_marked(rest, self.marks >> self.taken)
-        } else {
-            first_word(rest)
-        }
+        first_word(&self.text[self.taken..])
     }
 
     /// The next word. If none is left, what is wanted is said to be missing.
@@ -89,11 +78,7 @@ impl<'t> Words<'t> {
     pub fn is_empty(&self) -> bool
         ensures { IsTrue result ↔ (left self.now ≡ []) }
     {
-        if is_marked(self.text) {
-            self.marks >> self.taken == 0
-        } else {
-            is_blank(&self.text[self.taken..])
-        }
+        is_blank(&self.text[self.taken..])
     }
 
     /// A number of members.

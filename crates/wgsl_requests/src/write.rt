@@ -74,24 +74,11 @@ fn write_text(answer: Answer<'_>, text: &mut String) -> Result<(), AllocError>
         Answer::Binary(Err(operands)) => write_operands(text, operands),
         Answer::Offsets(offsets) => write_offsets(text, offsets),
         Answer::Layout(structure, layout) => write_layout(text, structure, layout),
-        Answer::TypeOf(call, found) => write_found(text, call, found),
+        Answer::TypeOf(call, found) => write_type_of(text, call, found),
         Answer::Resolution(call, found) => write_resolution_of(text, call, found),
         Answer::Overloads(signatures) => write_signatures(text, signatures),
         Answer::Notes(notes) => write_notes(text, notes),
     }
-}
-
-/// Writes the type of a call, never as a part of `write`, which stands in each command.
-#[inline(never)]
-fn write_found(
-    text: &mut String,
-    call: &Call<'_>,
-    found: Option<Option<ResultType>>,
-) -> Result<(), AllocError>
-    ensures { OnOk result (string_bytes text.new ≡ string_bytes text.old
-        ++ or_no_overload value_text (call_view call.now) (option_map (option_map result_view) found)) }
-{
-    write_type_of(text, call, found)
 }
 
 /// Writes a number, or `none`.

@@ -1,4 +1,4 @@
-// Numbers, written in digits: a rank takes 719 instructions of 781 that it takes with `write!`, a size 1335 of 1414.
+// Numbers, written in digits: in the Rust crate a rank of scalars takes 1035 instructions of 1220 that it takes with `write!`.
 ghost use Rattle.std.specs.Prelude.{◌≡◌, ◌++◌, OnOk, decimal, string_bytes};
 
 use std::alloc::AllocError;
