@@ -4,8 +4,7 @@
 use std::alloc::{AllocError, Global};
 use std::io;
 use std::io::Read;
-use wgsl_source::fault::Stop;
-use wgsl_source::spelled::read_type;
+use wgsl_spelled::spelled::read;
 
 fn main(rt: HostRuntime) -> io::Result<()> {
     let mut text = String::new(rt.alloc());
@@ -23,14 +22,12 @@ fn answers_to(alloc: Global, text: &str) -> Result<String, AllocError> {
 }
 
 fn write_answer(alloc: Global, answers: &mut String, line: &str) -> Result<(), AllocError> {
-    match read_type(alloc, line) {
-        Ok(ty) => writeln!(answers, "{ty}"),
-        Err(Stop::Fault(fault)) => {
-            let at = fault.at;
-            let told = fault.cause.text();
-            writeln!(answers, "{at}: {told}")
+    match read(alloc, line)? {
+        Some(ty) => {
+            let written = writeln!(answers, "{ty}");
+            drop(ty);
+            written
         }
-        Err(Stop::Elsewhere) => writeln!(answers, "faulty elsewhere"),
-        Err(Stop::Memory(e)) => Err(e),
+        None => answers.push_str("no type\n"),
     }
 }

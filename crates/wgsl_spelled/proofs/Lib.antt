@@ -1,0 +1,10 @@
+pub mod Cuts
+pub mod Inverted
+pub mod Lists
+pub mod Results
+pub mod Sides
+pub mod Single
+pub mod Spellings
+pub mod Textures
+pub mod Wrapped
+pub mod Written

@@ -1,0 +1,15 @@
+use Rattle.std.proofs.Common.{◌∙◌, rules, subst, sym, ◌≡◌}
+use Rattle.std.specs.Prelude.{MatchOption}
+use Rattle.wgsl_syntax.specs.Texture.{texture_name}
+use Rattle.wgsl_syntax.specs.TextureName.{parameters_of, texture_name_text}
+use Rattle.wgsl_syntax.specs.declared.texture.TextureType.{TextureType}
+use Rattle.wgsl_spelled.specs.internal.{AreListed}
+use Rattle.wgsl_spelled.proofs.Textures.{texture_found}
+use Rattle.wgsl_spelled.proofs.list.texture.Goals as goal
+
+pub returns : goal.returns
+returns c =
+    let named : c.args.name.now ≡ texture_name_text c.in_ok-name.name = search rules in
+    let p = c.in_ok-parameters.ensures in
+    subst (λ r. MatchOption r ((x : TextureType) → c.args.name.now ≡ texture_name x → ¬ AreListed (parameters_of x) c.args.list.now) (λ x. (c.args.name.now ≡ texture_name x) × AreListed (parameters_of x) c.args.list.now)) (sym c.with.ensures)
+    (texture_found c.args.name.now c.args.list.now c.in_ok-name.name c.in_ok-parameters.field-0 named (p.0 ∙ c.parameter_kind.ensures) p.1)
