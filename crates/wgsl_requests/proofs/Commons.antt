@@ -9,7 +9,6 @@ use Rattle.wgsl_rules.specs.Headline.{Receives}
 use Rattle.wgsl_rules.proofs.conversion.Commons.{left_common_once, receives_nil, receives_cons, receives_head, receives_tail}
 use Rattle.wgsl_rules.proofs.conversion.Order.{dec_converts}
 use Rattle.wgsl_core.specs.View.{view}
-use Rattle.wgsl_core.specs.Converted.{converted}
 use Rattle.wgsl_core.proofs.Converted.{converted_some, converted_none}
 use Rattle.wgsl_typed.specs.Typed.{on_line, typed, typed_to}
 use Rattle.wgsl_typed.specs.declared.typed.Typed.{Typed}

@@ -1,5 +1,5 @@
 -- The bytes of a request have at most one reply.
-use Rattle.std.proofs.Common.{◌≡◌, ◌≢◌, ◌⊎◌, ◌∙◌, ℕ, List, [], ap, arith, inl, inr, refl, subst, sym}
+use Rattle.std.proofs.Common.{◌≡◌, ◌≢◌, ◌⊎◌, ◌∙◌, ℕ, List, [], arith, inl, inr, refl, subst, sym}
 use Rattle.wgsl_requests.specs.Answers.{IsAnswer, IsReply}
 use Rattle.wgsl_requests.specs.Replies.{IsLineOfText, IsReplyTo, ReplyText, nothing, answer, unreadable, too_long, forbidden, no_text, no_request, no_words, answered}
 use Rattle.wgsl_requests.specs.Requests.{NoRequest}
