@@ -27,6 +27,14 @@ const VALUE = {
   n: -5,
 };
 
+test("a bool has four bytes, whatever lay there", () => {
+  const buffer = new Uint8Array(4).fill(255).buffer, on = view(variables.on, { buffer });
+  for (const value of [true, false]) {
+    on.set(value);
+    assert.deepEqual([[...new Uint8Array(buffer)], on.get()], [[Number(value), 0, 0, 0], value]);
+  }
+});
+
 test("a value lies where the layout says", () => {
   const outer = view(structs.Outer), data = new DataView(outer.buffer);
   outer.set({ ...VALUE, list: [VALUE.list[0], { a: 5, b: new Float32Array([6, 7, 8]) }] });
