@@ -7,7 +7,7 @@
 
 static void show_layout() {
     auto layout = wgsl::source_layout("struct Light { color: vec3f, power: f32 }");
-    if (layout) std::puts(layout.text.c_str());
+    if (layout) std::fputs(layout.text.c_str(), stdout);
 }
 
 static void show_sum() {
