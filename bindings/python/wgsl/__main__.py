@@ -2,6 +2,7 @@
 import argparse
 import json
 import sys
+from typing import TextIO, cast
 
 try:
     from . import __version__
@@ -10,10 +11,13 @@ try:
 except ImportError as wrong:
     sys.exit(f"wgsl: {wrong}")
 
-TEXT = {"encoding": "utf-8", "errors": "surrogateescape", "newline": "\n", "closefd": False}
+
+def text_of(stream: TextIO, mode: str) -> TextIO:
+    """A stream as UTF-8. What is no UTF-8 passes as it is, and so do ends of lines."""
+    return cast(TextIO, open(stream.fileno(), mode, encoding="utf-8", errors="surrogateescape", newline="\n", closefd=False))
 
 
-def read_arguments():
+def read_arguments() -> argparse.Namespace:
     parser = argparse.ArgumentParser(
         prog="python -m wgsl",
         description="Answers each line of standard input, as the programs wgsl_standard and wgsl_check do. With --json and a "
@@ -27,14 +31,14 @@ def read_arguments():
     return parser.parse_args()
 
 
-def read_file(name):
+def read_file(name: str) -> bytes:
     if name == "-":
         return sys.stdin.buffer.read()
     with open(name, "rb") as file:
         return file.read()
 
 
-def print_layouts(name):
+def print_layouts(name: str) -> int:
     """Prints the layouts of a file, says what is wrong with the file, and returns the exit status."""
     try:
         told = source_layout(read_file(name))
@@ -45,19 +49,19 @@ def print_layouts(name):
         sys.exit(f"wgsl: {wrong}")
     except MemoryError:
         return 3
-    with open(sys.stdout.fileno(), "w", **TEXT) as output:
+    with text_of(sys.stdout, "w") as output:
         output.write(json.dumps(told, ensure_ascii=False, indent=2) + "\n")
-    wrong = [(kind, fault) for kind in ("error", "finding") for fault in told[f"{kind}s"]]
-    for kind, fault in wrong:
+    faults = [(kind, fault) for kind in ("error", "finding") for fault in told[f"{kind}s"]]
+    for kind, fault in faults:
         print(f"{name}:{fault['line']}:{fault['column']}: {kind}: {fault['message']}", file=sys.stderr)
-    return 1 if wrong else 0
+    return 1 if faults else 0
 
 
-def main():
+def main() -> int:
     arguments = read_arguments()
     if arguments.json is not None:
         return print_layouts(arguments.json)
-    with open(sys.stdin.fileno(), **TEXT) as lines, open(sys.stdout.fileno(), "w", **TEXT) as output:
+    with text_of(sys.stdin, "r") as lines, text_of(sys.stdout, "w") as output:
         return answer_lines(lines, output, arguments.rules)
 
 

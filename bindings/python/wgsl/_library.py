@@ -2,6 +2,7 @@
 import ctypes
 import os
 import sys
+from typing import Any, Dict, List, Tuple
 
 LIBRARY = {"darwin": "libwgsl.dylib", "win32": "wgsl.dll"}.get(sys.platform, "libwgsl.so")
 VERSION = "0.2.0"
@@ -13,7 +14,7 @@ ANSWERED, REFUSED, UNREADABLE, OUT_OF_MEMORY, NO_ROOM = range(5)
 _USUAL = 256
 
 
-def _folders():
+def _folders() -> Tuple[List[str], str]:
     """The folders in which the library may be, and what is wrong if it is in none of them."""
     given = os.environ.get("WGSL_LIB")
     if given is None:
@@ -30,7 +31,7 @@ def _folders():
     return [os.path.join(folder, given) for folder in above], f"{missing} in {above[0]!r}, nor above"
 
 
-def _find():
+def _find() -> str:
     """Where the library is. Raises ImportError, which says what to do, if it isn't found."""
     folders, missing = _folders()
     for path in (os.path.join(folder, LIBRARY) for folder in folders):
@@ -41,13 +42,13 @@ def _find():
     raise ImportError(f"{missing}: {_TO_DO}")
 
 
-def _serves(version):
+def _serves(version: str) -> Tuple[str, ...]:
     """What versions that serve one another share: the major version, and before 1.0.0 the minor one too."""
     major, minor, *_ = version.split(".")
     return (major, minor) if major == "0" else (major,)
 
 
-def _load():
+def _load() -> Tuple[ctypes.CDLL, str, str]:
     """The library, which answers and explains, and is of a version that serves this package."""
     path = _find()
     try:
@@ -55,7 +56,7 @@ def _load():
         for name in ("wgsl_answer", "wgsl_explain"):
             getattr(library, name)
         library.wgsl_version.restype = ctypes.c_char_p
-        version = library.wgsl_version().decode()
+        version: str = library.wgsl_version().decode()
     except (OSError, AttributeError) as error:
         raise ImportError(f"{error}: {_AGAIN}") from None
     if _serves(version) != _serves(VERSION):
@@ -64,10 +65,10 @@ def _load():
 
 
 _library, _path, version = _load()
-_known = {}
+_known: Dict[str, Any] = {}
 
 
-def _call(name):
+def _call(name: str) -> Any:
     """A call by its name. Raises NotImplementedError if the library is an older one that lacks it."""
     if name not in _known:
         try:
@@ -81,13 +82,13 @@ def _call(name):
     return _known[name]
 
 
-def _ask_once(call, request, buffer):
+def _ask_once(call: Any, request: bytes, buffer: Any) -> Tuple[int, int]:
     length = ctypes.c_size_t()
     status = call(request, len(request), buffer, len(buffer), ctypes.byref(length))
     return status, length.value
 
 
-def ask(name, request):
+def ask(name: str, request: bytes) -> Tuple[int, str]:
     """The status of a call, and the text that it writes. Asks again with a larger buffer if that doesn't fit."""
     call, buffer = _call(name), ctypes.create_string_buffer(_USUAL)
     status, length = _ask_once(call, request, buffer)
@@ -98,4 +99,4 @@ def ask(name, request):
         raise MemoryError("there was no memory for an answer")
     if status > UNREADABLE:
         raise RuntimeError(f"wgsl.h has no status {status}")
-    return status, buffer[:length].decode()
+    return status, buffer.raw[:length].decode()
