@@ -1,5 +1,6 @@
 """Layouts of WGSL texts."""
 import json
+from importlib import import_module
 from typing import Any, Dict, List, Union
 
 from ._library import ask
@@ -32,9 +33,7 @@ class _Dtypes:
         self.made: Dict[str, Any] = {}
 
     def dtype(self, data: Any) -> Any:
-        import numpy  # only who asks for dtypes needs it
-
-        return numpy.dtype(data)
+        return import_module("numpy").dtype(data)  # only who asks for dtypes needs it
 
     def named(self, name: str) -> Any:
         if name not in self.made:
