@@ -1,5 +1,5 @@
 -- What follows for a caller from the reply that is returned.
-use Rattle.std.proofs.Common.{◌≡◌, ◌≢◌, ◌⊎◌, ◌≤◌, ℕ, List, [], All, Result, Ok, Err, IsUtf8, arith, drop, inl, inr, length, subst, take}
+use Rattle.std.proofs.Common.{◌≡◌, ◌≢◌, ◌⊎◌, ◌≤◌, ℕ, List, [], Result, Ok, Err, IsUtf8, arith, drop, inl, inr, length, subst}
 use Rattle.std.specs.Prelude.{IfOk, string_bytes}
 use Rattle.std.specs.declared.alloc.AllocError.{AllocError}
 use Rattle.std.proofs.Math.Seq.{drop-append_seam, take-append_seam}
