@@ -36,7 +36,7 @@ def library():
     given = os.environ.get("WGSL_LIB")
     path = os.path.join(given if given else os.path.join(HERE, "wgsl"), LIBRARY)
     if not os.path.isfile(path):
-        sys.exit(f"wgsl: there is no {path}: set WGSL_LIB to the folder where ./build_library FOLDER or cargo wrote {LIBRARY}")
+        sys.exit(f"wgsl: there is no {path}: set WGSL_LIB to the folder where `make library FOLDER=..` or cargo wrote {LIBRARY}")
     return read(os.path.abspath(path))
 
 

@@ -6,7 +6,7 @@ from tools import BINDINGS, LINKED, answers_and_notes, compare_both, expect_show
 
 FOLDER = os.path.join(BINDINGS, "python")
 PROGRAM = [sys.executable, "-B", "-m", "wgsl"]
-TO_DO = "set it to the folder where ./build_library FOLDER wrote libwgsl.so"
+TO_DO = "set it to the folder where `make library FOLDER=..` wrote libwgsl.so"
 
 FOUND = {"PYTHONPATH": FOLDER, "PYTHONDONTWRITEBYTECODE": "1"}
 
@@ -46,7 +46,7 @@ def write_wrong_libraries(top):
 def check_python_folders(top):
     """Without the library the package and its program say in one line what to do."""
     write_wrong_libraries(top)
-    again = "write the library again with ./build_library FOLDER"
+    again = "write the library again with `make library FOLDER=..`"
     wrong = [
         ({}, f"WGSL_LIB is not set, and there is no libwgsl.so in '{FOLDER}/wgsl': {TO_DO}"),
         ({"WGSL_LIB": ""}, f"WGSL_LIB is empty: {TO_DO}"),

@@ -10,7 +10,7 @@ A type is a `str` as WGSL spells it. The calls answer by WGSL's own overloads; `
 by the rules of the Rust crate wgsl-types too. `source_layout` reads a whole file.
 
 The library libwgsl.so is beside this package. For another, the environment variable WGSL_LIB names the folder where
-./build_library FOLDER wrote it; a relative one is looked for in the working directory and in each folder above.
+`make library FOLDER=..` wrote it; a relative one is looked for in the working directory and in each folder above.
 """
 from ._library import VERSION as __version__
 from .requests import (Refused, Resolution, Size, Unreadable, answer, binary, call, common, construct, overloads, rank, resolve_call,

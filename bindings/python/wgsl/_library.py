@@ -6,8 +6,8 @@ from typing import Any, Dict, List, Tuple
 
 LIBRARY = {"darwin": "libwgsl.dylib", "win32": "wgsl.dll"}.get(sys.platform, "libwgsl.so")
 VERSION = "0.2.0"
-_TO_DO = f"set it to the folder where ./build_library FOLDER wrote {LIBRARY}"
-_AGAIN = "write the library again with ./build_library FOLDER"
+_TO_DO = f"set it to the folder where `make library FOLDER=..` wrote {LIBRARY}"
+_AGAIN = "write the library again with `make library FOLDER=..`"
 
 # The statuses of wgsl.h. Most answers have fewer than 256 bytes.
 ANSWERED, REFUSED, UNREADABLE, OUT_OF_MEMORY, NO_ROOM = range(5)
