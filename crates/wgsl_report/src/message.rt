@@ -18,6 +18,7 @@ pub enum Severity {
 }
 
 impl Severity {
+    /// How it is written in front of the message.
     pub fn name(self) -> &'static str {
         match self {
             Severity::Error => "error",

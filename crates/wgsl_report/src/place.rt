@@ -18,6 +18,7 @@ pub enum Place {
 }
 
 impl Place {
+    /// Each of them once.
     pub const ALL: [Place; 7] = [
         Place::Uniform,
         Place::ReadStorage,
@@ -54,6 +55,7 @@ impl Place {
         }
     }
 
+    /// Its address space.
     pub fn space(self) -> AddressSpace {
         match self {
             Place::Uniform => AddressSpace::Uniform,
@@ -65,6 +67,7 @@ impl Place {
         }
     }
 
+    /// The access mode of the variables that stand there.
     pub fn access(self) -> AccessMode {
         match self {
             Place::Uniform | Place::ReadStorage | Place::Immediate | Place::Handle => {

@@ -81,6 +81,7 @@ impl MeasuredType {
         MeasuredType::leaf(kind, None, None)
     }
 
+    /// A scalar.
     pub fn scalar(scalar: Scalar) -> MeasuredType
         ensures { IsMeasure (IsScalarSize scalar) (IsScalarSize scalar) result }
     {
@@ -109,6 +110,7 @@ impl MeasuredType {
         MeasuredType::leaf(TypeKind::Matrix(columns, rows, scalar), size, align)
     }
 
+    /// An atomic of this scalar.
     pub fn atomic(scalar: Scalar) -> MeasuredType
         ensures { IsMeasure (IsScalarSize scalar) (IsScalarSize scalar) result }
     {
@@ -144,6 +146,7 @@ impl MeasuredType {
         self.size?.checked_next_multiple_of(self.align?)
     }
 
+    /// Whether it is an array without a count.
     pub fn is_runtime_sized_array(&self) -> bool {
         matches!(self.kind, TypeKind::Array(_, Count::Runtime))
     }
