@@ -1,17 +1,14 @@
-"""The sources: their files, their functions and clauses, and which of these users can name."""
+"""The sources: their files, their functions, and which of these users can name."""
 import os
 import re
 
 TOP = os.path.dirname(os.path.dirname(os.path.dirname(os.path.abspath(__file__))))
-CLAUSE = re.compile(r"^\s*(requires|ensures)\*?\s*(\w*)\s*\{")
-GHOST = re.compile(r"^\s*ghost\s+(\w+)\s*=\s*\{")
 FUNCTION = re.compile(r'^\s*(?:(pub)\s+|pub\(\w+\)\s+)?(?:const\s+)?(?:extern "C"\s+)?fn\s+(\w+)')
 FOR_C = re.compile(r'^pub extern "C" fn (\w+)', re.MULTILINE)
 OWNER = re.compile(r"^(?:impl(?:<[^>]*>)?|pub trait)\s+(.*?)\s*\{?$")
 TYPE = re.compile(r"^pub (?:struct|enum|trait) (\w+)", re.MULTILINE)
 EXPORT = re.compile(r"^pub use ([\w:]+?)(?:::\{([^}]*)\})?(?: as \w+)?;", re.MULTILINE)
 IMPORT = re.compile(r"^use (?:crate::)?(\w+)::(?:\{([^}]*)\}|(\w+));", re.MULTILINE)
-LEFT_OUT = {"Shown", "shown"}  # what the other ghost members are said over
 FACADE = "wgsl_types"
 BEHIND = ("wgsl_syntax", "wgsl_core", "wgsl_calls", "wgsl_standard", FACADE)  # what the facade exports
 LIBRARIES = (
@@ -61,18 +58,6 @@ def functions(path):
     for line, kind, trait, _ in owned_lines(path):
         if match := FUNCTION.match(line):
             yield kind, trait, match[2]
-
-
-def clauses(path):
-    """Each clause of a function that isn't private: the type, the trait, the function, the clause."""
-    public, function = False, ""
-    for line, kind, trait, in_trait in owned_lines(path):
-        if match := FUNCTION.match(line):
-            public, function = bool(match[1] or trait or in_trait), match[2]
-        if (match := GHOST.match(line)) and match[1] not in LEFT_OUT:
-            yield kind, trait, "", match[1]
-        elif (match := CLAUSE.match(line)) and public:
-            yield kind, trait, function, match[2] or match[1]
 
 
 def public_modules(crate):
