@@ -57,8 +57,7 @@ install: can_link proved
 dist: can_link proved
 	@scripts/package "$(FOLDER)"
 
-# Each program in tests/ is a goal, which leaves a file in the folder `passed` if it passes. `./test` runs the gate, and then
-# all of them, side by side.
+# Each program in tests/ is a goal. If it passes, it leaves a file in the folder `passed`, by which ./test knows.
 tests: $(tests)
 tests/link tests/package: $(archive)
 $(tests): $(programs)
