@@ -1,4 +1,4 @@
-// What README.md shows.
+// A struct inside another.
 const COUNT = 4u;
 alias Color = vec3f;
 
