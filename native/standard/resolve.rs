@@ -4,7 +4,7 @@ use super::{with_operands, Called, NoOverload, Operand, Resolution};
 use crate::proved::wgsl_core::error::Fail;
 use crate::proved::wgsl_standard::instance::built;
 use crate::proved::wgsl_standard::operand::Operand as Asked;
-use crate::proved::wgsl_standard::{answer, call};
+use crate::proved::wgsl_standard::{answer, resolved};
 use crate::shim::always;
 use crate::shim::settled;
 use crate::shim::std::alloc::Global;
@@ -168,7 +168,7 @@ fn resolution(
     template: Option<&Type>,
     operands: &[Asked<'_>],
 ) -> Answer<Resolution> {
-    let call = call::resolve_callee(Global, called, template, operands)?;
+    let call = resolved::resolve_callee(Global, called, template, operands)?;
     Ok(Resolution { overload: call.index, parameters: call.parameters, result: call.result })
 }
 
@@ -177,7 +177,7 @@ fn result(
     template: Option<&Type>,
     operands: &[Asked<'_>],
 ) -> Answer<Option<Type>> {
-    let found = call::type_of_call(Global, called, template, operands)?;
+    let found = answer::type_of_call(Global, called, template, operands)?;
     Ok(always(built(Global, found)))
 }
 

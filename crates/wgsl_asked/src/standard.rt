@@ -16,11 +16,10 @@ use std::alloc::{AllocError, Global};
 use wgsl_core::error::Fail;
 use wgsl_core::signature::TpltParam;
 use wgsl_core::ty::Type;
-use wgsl_standard::answer::NoOverload;
-use wgsl_standard::call::{resolve_callee, type_of_call};
+use wgsl_standard::answer::{NoOverload, type_of_call};
 use wgsl_standard::explanation::{Note, explain};
 use wgsl_standard::instance::ResultType;
-use wgsl_standard::resolved::ResolvedCall;
+use wgsl_standard::resolved::{ResolvedCall, resolve_callee};
 
 /// The type that a template is; None if it is something else.
 #[inline(always)]

@@ -1,6 +1,5 @@
 pub mod Scalars
 pub mod Parts
-pub mod Values
 pub mod Letters
 pub mod Boxes
 pub mod Ranks

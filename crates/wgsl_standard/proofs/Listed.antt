@@ -1,5 +1,8 @@
 -- The parameters of an overload, looked at or written one after another.
-use Rattle.std.proofs.lemmas.Option.{slice_get-get_or}
+use Rattle.std.proofs.lemmas.Option.{get_or_from_slice_get, slice_get-get_or}
+use Rattle.std.proofs.Math.Seq.{drop-cons}
+use Rattle.std.specs.Borrow.{Bor}
+use Rattle.std.specs.Prelude.{min, option_map}
 use Rattle.wgsl_syntax.specs.declared.overload.Overload.{Overload}
 use Rattle.std.proofs.Common.{get_or, length, ◌≡◌, ℕ, zero, suc, ◌+◌, ◌<◌, ◌≤◌, List, [], ◌∷◌, ◌++◌, Option, Some, None, Bool, true, false, ◌||◌, replicate, drop, slice_get, refl, ap, sym, subst, ◌∙◌, arith, append_assoc}
 use Rattle.std.specs.Fmt.{HasWritten, IsPlainFormatter}
@@ -14,6 +17,7 @@ use Rattle.wgsl_syntax.specs.declared.overload.Pattern.TheVariants as patterns
 use Rattle.wgsl_syntax.specs.declared.overload.Resource.{Resource}
 use Rattle.wgsl_rules.specs.standard.Signatures.{first_resource, patterns_text, after_comma, pattern_text}
 use Rattle.wgsl_standard.specs.internal.Binding.{first_pattern}
+use Rattle.wgsl_standard.specs.internal.Listed.{AreListed}
 
 pub repeated : {X : Type 0} (n i : ℕ) (x : X) → i < n → slice_get (replicate n x) i ≡ Some x
 repeated zero i x h = absurd (omega (arith, h))
@@ -70,6 +74,19 @@ resource_later (patterns.Texture t ∷ xs) ys e = resource_later xs ys e
 resource_later (patterns.Resource q ∷ xs) ys e = cc
 
 -- the element at an index, and those behind it
+
+pub operand_at : {X : Type 0} (xs : List X) (n : ℕ) (x : X) → n < length xs → x ≡ get_or xs n x → drop n xs ≡ x ∷ drop (n + 1) xs
+operand_at xs n x h e = drop-cons xs n x h ∙ (ap (λ y. y ∷ drop (suc n) xs) (sym e) ∙ ap (λ m. x ∷ drop m xs) (next n))
+
+pub pattern_there : (ps : List Pattern) (n : ℕ) (p : Pattern) → slice_get ps n ≡ Some p → drop n ps ≡ p ∷ drop (n + 1) ps
+pattern_there ps n p e = drop_next ps n ∙ ap (λ o. option_to_list o ++ drop (n + 1) ps) e
+
+pub listed_at : (ps : List Pattern) (qs : List (Bor Pattern)) (i k : ℕ) (d : Bor Pattern) → AreListed ps qs → i < length ps → k ≡ min i 6 → slice_get ps i ≡ Some (get_or qs k d).now
+listed_at ps qs i k d l h e = turn (slice_get qs k) refl (l i h ∙ ap (λ k. option_map (λ q. q.now) (slice_get qs k)) (sym e))
+  where
+    turn : (r : Option (Bor Pattern)) → slice_get qs k ≡ r → slice_get ps i ≡ option_map (λ q. q.now) r → slice_get ps i ≡ Some (get_or qs k d).now
+    turn None f g = let w : Some (get_or ps i d.now) ≡ None = sym (slice_get-get_or ps i d.now h) ∙ g in absurd (cc w)
+    turn (Some q) f g = g ∙ ap (λ q. Some q.now) (sym (get_or_from_slice_get qs k q d f))
 
 pub stands : (os ls : List Overload) (i : ℕ) (d : Overload) → ls ≡ os → i < length ls → slice_get os i ≡ Some (get_or ls i d)
 stands os ls i d e h = subst (λ os. slice_get os i ≡ Some (get_or ls i d)) e (slice_get-get_or ls i d h)

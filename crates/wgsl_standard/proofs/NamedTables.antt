@@ -1,4 +1,4 @@
--- The tables of functions and constructors are unambiguous.
+-- The overloads of what is called are unambiguous.
 use Rattle.std.proofs.Common.{◌≡◌, ℕ, List, [], ◌∷◌, Option, Some, None, refl, sym, subst}
 use Rattle.std.specs.Prelude.{IfSome, IsTrue, option_map, bytes_eq, Bool, true, false, if◌then◌else◌}
 use Rattle.std.specs.Borrow.{Bor}
@@ -7,6 +7,9 @@ use Rattle.wgsl_rules.specs.standard.Names.{function_table, template_function_ta
 use Rattle.wgsl_rules.specs.standard.ConstructorNames.{constructor_table, template_constructor_table}
 use Rattle.wgsl_rules.specs.standard.Tables.{IsUnambiguous}
 use Rattle.wgsl_standard.specs.internal.Ambiguity.{is_unambiguous, rows_unambiguous}
+use Rattle.wgsl_standard.specs.Callees.{WgslCallee, a_binary, a_constructor, a_function, a_unary, callee_view, overloads_listed, overloads_of}
+use Rattle.wgsl_standard.specs.declared.callee.Callee.{Callee}
+use Rattle.wgsl_standard.proofs.OperatorTables.{binary_unambiguous, unary_unambiguous}
 use Rattle.wgsl_standard.proofs.Unambiguous.{both, unambiguous_is}
 
 abbrev IfUnambiguous : Option (List Overload) → Type 0
@@ -28,17 +31,27 @@ seen r s e h = turn r (subst IfUnambiguous (sym e) h)
     turn None h = tt
     turn (Some o) h = h
 
-pub function_unambiguous : (name : List ℕ) (r : Option (Bor (List Overload))) → option_map (λ o. o.now) r ≡ overloads_named name function_table → IfSome r (λ o. IsUnambiguous o.now)
+functions_unambiguous : (name : List ℕ) → IfUnambiguous (overloads_named name function_table)
 unfolding function_table
-function_unambiguous name r e = seen r (overloads_named name function_table) e (named_unambiguous name function_table refl)
+functions_unambiguous name = named_unambiguous name function_table refl
 
-pub constructor_unambiguous : (name : List ℕ) (r : Option (Bor (List Overload))) → option_map (λ o. o.now) r ≡ overloads_named name constructor_table → IfSome r (λ o. IsUnambiguous o.now)
+constructors_unambiguous : (name : List ℕ) → IfUnambiguous (overloads_named name constructor_table)
 unfolding constructor_table
-constructor_unambiguous name r e = seen r (overloads_named name constructor_table) e (named_unambiguous name constructor_table refl)
+constructors_unambiguous name = named_unambiguous name constructor_table refl
 
-pub template_function_unambiguous : (name : List ℕ) (r : Option (Bor (List Overload))) → option_map (λ o. o.now) r ≡ overloads_named name template_function_table → IfSome r (λ o. IsUnambiguous o.now)
-template_function_unambiguous name r e = seen r (overloads_named name template_function_table) e (named_unambiguous name template_function_table refl)
-
-pub template_constructor_unambiguous : (name : List ℕ) (r : Option (Bor (List Overload))) → option_map (λ o. o.now) r ≡ overloads_named name template_constructor_table → IfSome r (λ o. IsUnambiguous o.now)
+templates_unambiguous : (name : List ℕ) → IfUnambiguous (overloads_named name template_constructor_table)
 unfolding template_constructor_table
-template_constructor_unambiguous name r e = seen r (overloads_named name template_constructor_table) e (named_unambiguous name template_constructor_table refl)
+templates_unambiguous name = named_unambiguous name template_constructor_table refl
+
+listed_unambiguous : (callee : WgslCallee) (t : Bool) → IfUnambiguous (overloads_listed callee t)
+listed_unambiguous (a_unary o) false = unary_unambiguous o
+listed_unambiguous (a_unary o) true = tt
+listed_unambiguous (a_binary o) false = binary_unambiguous o
+listed_unambiguous (a_binary o) true = tt
+listed_unambiguous (a_function name) false = functions_unambiguous name
+listed_unambiguous (a_function name) true = named_unambiguous name template_function_table refl
+listed_unambiguous (a_constructor name) false = constructors_unambiguous name
+listed_unambiguous (a_constructor name) true = templates_unambiguous name
+
+pub overloads_unambiguous : (callee : Callee) (t : Bool) (r : Option (Bor (List Overload))) → option_map (λ o. o.now) r ≡ overloads_of callee t → IfSome r (λ o. IsUnambiguous o.now)
+overloads_unambiguous callee t r e = seen r (overloads_of callee t) e (listed_unambiguous (callee_view callee) t)

@@ -1,7 +1,6 @@
 pub mod Operands
 pub mod Resolved
 pub mod Results
-pub mod Values
 pub mod Answered
 pub mod Callees
 pub mod Mismatches

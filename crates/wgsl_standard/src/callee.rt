@@ -4,12 +4,11 @@ ghost use Rattle.wgsl_rules.specs.standard.Tables.{IsUnambiguous};
 ghost use Rattle.wgsl_standard.specs.Callees.{overloads_of};
 ghost use Rattle.wgsl_standard.specs.Explained.{or_none};
 
-use crate::names::{
-    constructor_named, function_named, template_constructor_named, template_function_named,
-};
+use crate::names::{constructors, find, find_function, templates};
 use crate::operators::{binary_overloads, unary_overloads};
 use wgsl_syntax::operator::{BinaryOperator, UnaryOperator};
 use wgsl_syntax::overload::Overload;
+use wgsl_tables::names::TEMPLATE_FUNCTIONS;
 
 /// What is called: an operator, a built-in function or a constructor.
 #[derive(Clone, Copy)]
@@ -26,14 +25,21 @@ pub fn overloads(callee: Callee<'_>, has_template: bool) -> Option<&'static [Ove
     ensures row { option_map (λ o. o.now) result ≡ overloads_of callee.entry has_template }
     ensures unambiguous { IfSome result (λ o. IsUnambiguous o.now) }
 {
+    table(callee, has_template)
+}
+
+#[inline(always)]
+fn table(callee: Callee<'_>, has_template: bool) -> Option<&'static [Overload]>
+    ensures { option_map (λ o. o.now) result ≡ overloads_of callee.entry has_template }
+{
     match (callee, has_template) {
         (Callee::Unary(operator), false) => Some(unary_overloads(operator)),
         (Callee::Binary(operator), false) => Some(binary_overloads(operator)),
         (Callee::Unary(_) | Callee::Binary(_), true) => None,
-        (Callee::Function(name), false) => function_named(name),
-        (Callee::Function(name), true) => template_function_named(name),
-        (Callee::Constructor(name), false) => constructor_named(name),
-        (Callee::Constructor(name), true) => template_constructor_named(name),
+        (Callee::Function(name), false) => find_function(name),
+        (Callee::Function(name), true) => find(name, TEMPLATE_FUNCTIONS),
+        (Callee::Constructor(name), false) => find(name, constructors()),
+        (Callee::Constructor(name), true) => find(name, templates()),
     }
 }
 

@@ -1,6 +1,6 @@
 // The parts of an overload.
 ghost use Rattle.std.specs.Prelude.{◌≡◌};
-ghost use Rattle.wgsl_rules.specs.standard.Overloads.{parameters_of as parameters_there, result_of as result_there, kind_of_t as kind_of_t_there, kind_of_u as kind_of_u_there, kind_of_v as kind_of_v_there, kind_of_w as kind_of_w_there};
+ghost use Rattle.wgsl_rules.specs.standard.Overloads.{parameters_of as parameters_there, result_of as result_there, kind_of_t, kind_of_u, kind_of_v, kind_of_w};
 
 use wgsl_syntax::overload::{Kind, Overload, Parameters, Returns};
 
@@ -28,54 +28,17 @@ pub fn result_of(overload: &Overload) -> &Returns
     }
 }
 
-/// The kind of the letter T.
-pub fn kind_of_t(overload: &Overload) -> Kind
-    ensures { result ≡ kind_of_t_there overload.now }
+/// The kinds of the letters T, U, V and W.
+#[inline(always)]
+pub fn kinds_of(overload: &Overload) -> (Kind, Kind, Kind, Kind)
+    ensures { result ≡ (kind_of_t overload.now, kind_of_u overload.now, kind_of_v overload.now, kind_of_w overload.now) }
 {
+    let any = Kind::AnyScalar;
     match overload {
-        Overload::Plain(_, _) => Kind::AnyScalar,
-        Overload::WithT(_, _, t) => *t,
-        Overload::WithTAndU(_, _, t, _) => *t,
-        Overload::WithThree(_, _, t, _, _) => *t,
-        Overload::WithFour(_, _, t, _, _, _) => *t,
-    }
-}
-
-/// The kind of the letter U.
-pub fn kind_of_u(overload: &Overload) -> Kind
-    ensures { result ≡ kind_of_u_there overload.now }
-{
-    match overload {
-        Overload::Plain(_, _) => Kind::AnyScalar,
-        Overload::WithT(_, _, _) => Kind::AnyScalar,
-        Overload::WithTAndU(_, _, _, u) => *u,
-        Overload::WithThree(_, _, _, u, _) => *u,
-        Overload::WithFour(_, _, _, u, _, _) => *u,
-    }
-}
-
-/// The kind of the letter V.
-pub fn kind_of_v(overload: &Overload) -> Kind
-    ensures { result ≡ kind_of_v_there overload.now }
-{
-    match overload {
-        Overload::Plain(_, _) => Kind::AnyScalar,
-        Overload::WithT(_, _, _) => Kind::AnyScalar,
-        Overload::WithTAndU(_, _, _, _) => Kind::AnyScalar,
-        Overload::WithThree(_, _, _, _, v) => *v,
-        Overload::WithFour(_, _, _, _, v, _) => *v,
-    }
-}
-
-/// The kind of the letter W.
-pub fn kind_of_w(overload: &Overload) -> Kind
-    ensures { result ≡ kind_of_w_there overload.now }
-{
-    match overload {
-        Overload::Plain(_, _) => Kind::AnyScalar,
-        Overload::WithT(_, _, _) => Kind::AnyScalar,
-        Overload::WithTAndU(_, _, _, _) => Kind::AnyScalar,
-        Overload::WithThree(_, _, _, _, _) => Kind::AnyScalar,
-        Overload::WithFour(_, _, _, _, _, w) => *w,
+        Overload::Plain(_, _) => (any, any, any, any),
+        Overload::WithT(_, _, t) => (*t, any, any, any),
+        Overload::WithTAndU(_, _, t, u) => (*t, *u, any, any),
+        Overload::WithThree(_, _, t, u, v) => (*t, *u, *v, any),
+        Overload::WithFour(_, _, t, u, v, w) => (*t, *u, *v, *w),
     }
 }

@@ -10,7 +10,7 @@ use crate::binding::{Binding, FREE};
 use crate::fitting::bind_all;
 use crate::letter::pick;
 use crate::operand::Operand;
-use crate::overload::{kind_of_t, kind_of_u, kind_of_v, kind_of_w, parameters_of};
+use crate::overload::{kinds_of, parameters_of};
 use wgsl_syntax::overload::{Instance, Overload};
 use wgsl_syntax::scalar::Scalar;
 
@@ -73,10 +73,10 @@ fn instance_of(concrete: bool, overload: &Overload, operands: &[Operand]) -> Opt
 pub fn settle(concrete: bool, overload: &Overload, binding: &Binding) -> Option<Instance>
     ensures { result ≡ settled concrete overload.now binding.now }
 {
-    let t = pick(concrete, kind_of_t(overload), binding.t)?;
-    let u = pick(concrete, kind_of_u(overload), binding.u)?;
-    let v = pick(concrete, kind_of_v(overload), binding.v)?;
-    let w = pick(concrete, kind_of_w(overload), binding.w)?;
+    let t = pick(concrete, kinds_of(overload).0, binding.t)?;
+    let u = pick(concrete, kinds_of(overload).1, binding.u)?;
+    let v = pick(concrete, kinds_of(overload).2, binding.v)?;
+    let w = pick(concrete, kinds_of(overload).3, binding.w)?;
     Some(instance_at(binding, t, u, v, w))
 }
 

@@ -4,6 +4,7 @@ ghost use Rattle.std.specs.Fmt.{WritesOnOk};
 ghost use Rattle.std.specs.List.{flat_map, list_any};
 ghost use Rattle.std.specs.Option.{option_to_list};
 ghost use Rattle.wgsl_rules.specs.standard.Overloads.{in_order};
+ghost use Rattle.wgsl_standard.specs.internal.Listed.{AreListed};
 ghost use Rattle.wgsl_rules.specs.standard.Signatures.{after_comma, component_text, count_text, is_scalar_or_vector, parameters_text, pattern_text, patterns_text, resource_text as resource_written, result_text, template_text, value_text, vector_text};
 
 use std::fmt;
@@ -33,36 +34,29 @@ pub fn parameter_count(parameters: &Parameters) -> usize
 pub fn pattern_at(parameters: &Parameters, index: usize) -> Option<Pattern>
     ensures { result ≡ slice_get (in_order parameters.now) index }
 {
-    match parameters {
-        Parameters::Nothing => None,
-        Parameters::One(a) => at(&[*a], index),
-        Parameters::Two(a, b) => at(&[*a, *b], index),
-        Parameters::Three(a, b, c) => at(&[*a, *b, *c], index),
-        Parameters::Four(a, b, c, d) => at(&[*a, *b, *c, *d], index),
-        Parameters::Five(a, b, c, d, e) => at(&[*a, *b, *c, *d, *e], index),
-        Parameters::Six(a, b, c, d, e, f) => at(&[*a, *b, *c, *d, *e, *f], index),
-        Parameters::Seven(a, b, c, d, e, f, g) => at(&[*a, *b, *c, *d, *e, *f, *g], index),
-        Parameters::Times(count, a) => if index < *count as usize {
-            Some(*a)
-        } else {
-            None
-        },
-        Parameters::AndTimes(a, count, b) => {
-            if index == 0 {
-                Some(*a)
-            } else if index <= *count as usize {
-                Some(*b)
-            } else {
-                None
-            }
-        }
+    if index < parameter_count(parameters) {
+        Some(*patterns_of(parameters)[index.min(6)])
+    } else {
+        None
     }
 }
 
-fn at(patterns: &[Pattern], index: usize) -> Option<Pattern>
-    ensures { result ≡ slice_get patterns.now index }
+/// The first seven parameters; the last stands for all that are missing.
+pub fn patterns_of(parameters: &Parameters) -> [&Pattern; 7]
+    ensures { AreListed (in_order parameters.now) result }
 {
-    patterns.get(index).copied()
+    match parameters {
+        Parameters::Nothing => [&Pattern::Value(Shape::One, Component::T); 7],
+        Parameters::One(a) => [a; 7],
+        Parameters::Two(a, b) => [a, b, b, b, b, b, b],
+        Parameters::Three(a, b, c) => [a, b, c, c, c, c, c],
+        Parameters::Four(a, b, c, d) => [a, b, c, d, d, d, d],
+        Parameters::Five(a, b, c, d, e) => [a, b, c, d, e, e, e],
+        Parameters::Six(a, b, c, d, e, f) => [a, b, c, d, e, f, f],
+        Parameters::Seven(a, b, c, d, e, f, g) => [a, b, c, d, e, f, g],
+        Parameters::Times(_, a) => [a; 7],
+        Parameters::AndTimes(a, _, b) => [a, b, b, b, b, b, b],
+    }
 }
 
 /// Whether a parameter is a scalar or a vector.

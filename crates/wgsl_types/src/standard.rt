@@ -1,15 +1,144 @@
 //! WGSL's own overloads, beside the rules of wgsl-types: what operators, calls of built-in functions and constructors
 //! return by WGSL's overload resolution, what they resolve to, which overloads there are, and why none takes the operands
 //! (WGSL, "Overload Resolution"). Constructors of arrays and structs, `&`, `*` and ray queries have no overloads.
-pub use wgsl_standard::answer::{
-    NoOverload, type_binary_op, type_builtin_fn, type_ctor, type_unary_op,
-};
+ghost use Rattle.std.specs.Prelude.{[], ◌∷◌, option_map};
+ghost use Rattle.wgsl_core.specs.View.{view};
+ghost use Rattle.wgsl_rules.specs.standard.Answers.{IsCallAnswer, IsResolution, IsStandardAnswer};
+ghost use Rattle.wgsl_rules.specs.standard.Operators.{binary_overloads, unary_overloads};
+ghost use Rattle.wgsl_rules.specs.standard.Names.{function_table, template_function_table, overloads_named};
+ghost use Rattle.wgsl_rules.specs.standard.ConstructorNames.{constructor_table, template_constructor_table};
+ghost use Rattle.wgsl_standard.specs.Answered.{Answers, AnswersType};
+ghost use Rattle.wgsl_standard.specs.Callees.{overloads_of};
+ghost use Rattle.wgsl_standard.specs.Operands.{operand_view, operands_view};
+ghost use Rattle.wgsl_standard.specs.Resolved.{resolved_view, IsCallResolution};
+
+use std::alloc::Global;
+use wgsl_core::error::Fail;
+use wgsl_core::ty::Type;
+pub use wgsl_standard::answer::NoOverload;
+use wgsl_standard::answer::type_of_call;
 pub use wgsl_standard::callee::{Callee, overloads};
 pub use wgsl_standard::explanation::{Note, explain};
+use wgsl_standard::instance::built;
 pub use wgsl_standard::operand::{Operand, OperandType};
 pub use wgsl_standard::refusal::{Mismatch, refused_by};
-pub use wgsl_standard::resolved::{
-    ResolvedCall, resolve_binary_op, resolve_builtin_fn, resolve_ctor, resolve_unary_op,
-};
+pub use wgsl_standard::resolved::ResolvedCall;
+use wgsl_standard::resolved::resolve_callee;
 pub use wgsl_standard::signature::{Signature, signatures};
+use wgsl_syntax::operator::{BinaryOperator, UnaryOperator};
 pub use wgsl_syntax::overload::{Dimensions, Overload};
+
+/// The type of a binary expression (WGSL, "Logical Expressions" to "Bit Expressions").
+pub fn type_binary_op(
+    alloc: Global,
+    operator: BinaryOperator,
+    lhs: Operand<'_>,
+    rhs: Operand<'_>,
+) -> Result<Option<Type>, Fail<NoOverload>>
+    ensures { AnswersType (IsStandardAnswer (binary_overloads operator)
+        (operand_view lhs.entry ∷ operand_view rhs.entry ∷ [])) result }
+{
+    type_of(alloc, Callee::Binary(operator), None, &[lhs, rhs])
+}
+
+/// The type of a unary expression. `&` and `*` have no candidates.
+pub fn type_unary_op(
+    alloc: Global,
+    operator: UnaryOperator,
+    operand: Operand<'_>,
+) -> Result<Option<Type>, Fail<NoOverload>>
+    ensures { AnswersType (IsStandardAnswer (unary_overloads operator) (operand_view operand.entry ∷ [])) result }
+{
+    type_of(alloc, Callee::Unary(operator), None, &[operand])
+}
+
+/// The type of a call of a built-in function, or None if it has no value (WGSL, "Built-in Functions").
+pub fn type_builtin_fn(
+    alloc: Global,
+    name: &str,
+    template: Option<&Type>,
+    arguments: &[Operand<'_>],
+) -> Result<Option<Type>, Fail<NoOverload>>
+    ensures { AnswersType (IsCallAnswer (overloads_named name.now function_table) (overloads_named name.now template_function_table)
+        (option_map (λ t. view t.now) template.entry) (operands_view arguments.now)) result }
+{
+    type_of(alloc, Callee::Function(name), template, arguments)
+}
+
+/// The type that a constructor makes (WGSL, "Constructor Built-in Functions"). Those of arrays and structs have no
+/// overloads.
+pub fn type_ctor(
+    alloc: Global,
+    name: &str,
+    template: Option<&Type>,
+    arguments: &[Operand<'_>],
+) -> Result<Option<Type>, Fail<NoOverload>>
+    ensures { AnswersType (IsCallAnswer (overloads_named name.now constructor_table) (overloads_named name.now template_constructor_table)
+        (option_map (λ t. view t.now) template.entry) (operands_view arguments.now)) result }
+{
+    type_of(alloc, Callee::Constructor(name), template, arguments)
+}
+
+#[inline(always)]
+fn type_of(
+    alloc: Global,
+    callee: Callee<'_>,
+    template: Option<&Type>,
+    operands: &[Operand<'_>],
+) -> Result<Option<Type>, Fail<NoOverload>>
+    ensures { AnswersType (IsCallAnswer (overloads_of callee.entry false) (overloads_of callee.entry true)
+        (option_map (λ t. view t.now) template.entry) (operands_view operands.now)) result }
+{
+    let found = type_of_call(alloc, callee, template, operands)?;
+    Ok(built(alloc, found)?)
+}
+
+/// What a binary expression resolves to.
+pub fn resolve_binary_op(
+    alloc: Global,
+    operator: BinaryOperator,
+    lhs: Operand<'_>,
+    rhs: Operand<'_>,
+) -> Result<ResolvedCall, Fail<NoOverload>>
+    ensures { Answers resolved_view (IsResolution (binary_overloads operator)
+        (operand_view lhs.entry ∷ operand_view rhs.entry ∷ [])) result }
+{
+    resolve_callee(alloc, Callee::Binary(operator), None, &[lhs, rhs])
+}
+
+/// What a unary expression resolves to.
+pub fn resolve_unary_op(
+    alloc: Global,
+    operator: UnaryOperator,
+    operand: Operand<'_>,
+) -> Result<ResolvedCall, Fail<NoOverload>>
+    ensures { Answers resolved_view (IsResolution (unary_overloads operator) (operand_view operand.entry ∷ [])) result }
+{
+    resolve_callee(alloc, Callee::Unary(operator), None, &[operand])
+}
+
+/// What a call of a built-in function resolves to. With a template, its type stands first among the parameters.
+pub fn resolve_builtin_fn(
+    alloc: Global,
+    name: &str,
+    template: Option<&Type>,
+    arguments: &[Operand<'_>],
+) -> Result<ResolvedCall, Fail<NoOverload>>
+    ensures { Answers resolved_view (IsCallResolution (overloads_named name.now function_table)
+        (overloads_named name.now template_function_table) (option_map (λ t. view t.now) template.entry) (operands_view arguments.now)) result }
+{
+    resolve_callee(alloc, Callee::Function(name), template, arguments)
+}
+
+/// What a constructor's call resolves to. With a template, its type stands first among the parameters.
+pub fn resolve_ctor(
+    alloc: Global,
+    name: &str,
+    template: Option<&Type>,
+    arguments: &[Operand<'_>],
+) -> Result<ResolvedCall, Fail<NoOverload>>
+    ensures { Answers resolved_view (IsCallResolution (overloads_named name.now constructor_table)
+        (overloads_named name.now template_constructor_table) (option_map (λ t. view t.now) template.entry) (operands_view arguments.now)) result }
+{
+    resolve_callee(alloc, Callee::Constructor(name), template, arguments)
+}

@@ -145,11 +145,6 @@ abbrev pub bind_same : Bool → Binding → Pattern → List Operand → Option 
 bind_same c b p [] = Some b
 bind_same c b p (x ∷ xs) = option_and_then (λ b. bind_same c b p xs) (bind c b p x)
 
--- a parameter of one type, and the others of another
-abbrev pub bind_then_same : Bool → Binding → Pattern → Pattern → List Operand → Option Binding
-bind_then_same c b p q [] = None
-bind_then_same c b p q (x ∷ xs) = option_and_then (λ b. bind_same c b q xs) (bind c b p x)
-
 -- nothing is required
 abbrev pub free : Binding
 free = record { t = None; u = None; v = None; w = None; width = None; n = None; m = None; k = None }

@@ -1,8 +1,12 @@
-use Rattle.std.proofs.Common.{◌∙◌, ap, sym}
+use Rattle.std.proofs.Common.{sym, ◌∙◌}
+use Rattle.std.proofs.lemmas.List.{length-map}
 use Rattle.wgsl_rules.specs.standard.Overloads.{in_order}
-use Rattle.wgsl_standard.specs.internal.Binding.{bind_all}
-use Rattle.wgsl_standard.specs.Operands.{operands_view}
+use Rattle.wgsl_standard.proofs.Lengths.{as_many, unequal_lengths}
+use Rattle.wgsl_standard.specs.Operands.{operand_view, operands_view}
 use Rattle.wgsl_standard.proofs.fitting.bind_all.Goals as goal
 
-pub returns-in-Three : goal.returns-in-Three
-returns-in-Three c = c.bind_three.ensures ∙ ap (λ q. bind_all c.args.concrete c.args.binding.now (in_order q) (operands_view c.args.operands.now)) (sym c.in-Three.is)
+pub returns-then-parameter_count-operands : goal.returns-then-parameter_count-operands
+returns-then-parameter_count-operands c = sym (unequal_lengths c.args.concrete c.args.binding.now (in_order c.args.parameters.now) (operands_view c.args.operands.now) (λ e. c.if-parameter_count-operands.true (c.parameter_count.ensures ∙ e ∙ length-map c.args.operands.now operand_view)))
+
+pub returns : goal.returns
+returns c = c.bind_each.ensures ∙ as_many c.args.concrete c.args.binding.now (in_order c.args.parameters.now) (operands_view c.args.operands.now) (sym c.parameter_count.ensures ∙ c.if-parameter_count-operands.false ∙ sym (length-map c.args.operands.now operand_view))

@@ -1,9 +1,9 @@
-use Rattle.std.proofs.Common.{◌≡◌, ℕ, suc, ◌+◌, ◌<◌, List, [], ◌∷◌, ◌++◌, Option, Some, drop, length, get_or, slice_get, sym, ◌∙◌, ap, refl, arith, append_assoc, rules}
-use Rattle.std.specs.Option.{option_to_list}
-use Rattle.std.proofs.Math.Seq.{drop-cons}
+use Rattle.std.proofs.Common.{◌≡◌, ◌+◌, List, [], ◌∷◌, ◌++◌, drop, length, sym, ◌∙◌, ap, refl, arith, append_assoc, rules}
+use native.Mathlib.Decide.{dec_lt}
 use Rattle.std.proofs.lemmas.List.{append-nil, map-append}
 use Rattle.std.proofs.Math.ListN.{drop_of_length-le}
 use Rattle.wgsl_core.specs.View.{view}
+use Rattle.wgsl_core.specs.declared.ty.Type.{«Type»}
 use Rattle.std.specs.Prelude.{map}
 use Rattle.wgsl_syntax.specs.declared.overload.Pattern.{Pattern}
 use Rattle.wgsl_syntax.specs.declared.overload.Instance.{Instance}
@@ -11,8 +11,7 @@ use Rattle.wgsl_rules.specs.types.Types.{WgslType}
 use Rattle.wgsl_rules.specs.standard.Choice.{Operand, parameter_for, parameters_for}
 use Rattle.wgsl_rules.specs.standard.Overloads.{in_order}
 use Rattle.wgsl_standard.specs.Operands.{operand_view, operands_view}
-use Rattle.wgsl_standard.specs.declared.operand.Operand.{Operand as CodeOperand}
-use Rattle.wgsl_standard.proofs.Listed.{drop_next, drop_none}
+use Rattle.wgsl_standard.proofs.Listed.{listed_at, operand_at, pattern_there}
 use Rattle.wgsl_standard.proofs.resolved.parameter_types.Goals as goal
 
 -- without operands there are no parameters
@@ -32,27 +31,25 @@ one_more i p ps qs x xs ys ts us vs e f g h =
     ap (λ vs. vs ++ parameters_for i ps xs) g ∙ append_assoc ts (parameter_for i p x.of_type ∷ []) (parameters_for i ps xs)
     ∙ (ap (λ qs. ts ++ parameters_for i qs (x ∷ xs)) (sym e) ∙ (ap (λ ys. ts ++ parameters_for i qs ys) (sym f) ∙ h))
 
-next : (n : ℕ) → suc n ≡ n + 1
-next n = omega arith
-
-operand_at : (xs : List CodeOperand) (n : ℕ) (x : CodeOperand) → n < length xs → x ≡ get_or xs n x → drop n xs ≡ x ∷ drop (n + 1) xs
-operand_at xs n x h e = drop-cons xs n x h ∙ (ap (λ y. y ∷ drop (suc n) xs) (sym e) ∙ ap (λ m. x ∷ drop m xs) (next n))
-
-pattern_there : (ps : List Pattern) (n : ℕ) (o : Option Pattern) (p : Pattern) → o ≡ slice_get ps n → o ≡ Some p → drop n ps ≡ p ∷ drop (n + 1) ps
-pattern_there ps n o p e f = drop_next ps n ∙ ap (λ o. option_to_list o ++ drop (n + 1) ps) (sym e ∙ f)
-
-pub returns-in-None : goal.returns-in-None
-returns-in-None c = no_more c.args.instance.now (drop c.loop-index.index (in_order c.args.parameters.now)) (operands_view (drop c.loop-index.index c.args.operands.now)) _ _
-    (drop_none (in_order c.args.parameters.now) c.loop-index.index (sym c.pattern_at.ensures ∙ c.in-None.is)) c.loop-index.invariant
+made : (ts : List «Type») (t : «Type») (vs : List «Type») (u : WgslType) → vs ≡ ts ++ t ∷ [] → view t ≡ u → map view vs ≡ map view ts ++ u ∷ []
+made ts t vs u e f =
+    let both : map view (ts ++ t ∷ []) ≡ map view ts ++ view t ∷ [] = search (rules, map-append) in
+    ap (map view) e ∙ (both ∙ ap (λ u. map view ts ++ u ∷ []) f)
 
 pub loop-index-preserved : goal.loop-index-preserved
-loop-index-preserved c = one_more c.args.instance.now c.in-Some.pattern (drop (c.loop-index.index + 1) (in_order c.args.parameters.now)) (drop c.loop-index.index (in_order c.args.parameters.now))
+loop-index-preserved c = one_more c.args.instance.now _ (drop (c.loop-index.index + 1) (in_order c.args.parameters.now)) (drop c.loop-index.index (in_order c.args.parameters.now))
     (operand_view c.index-operands-index.result) (operands_view (drop (c.loop-index.index + 1) c.args.operands.now)) (operands_view (drop c.loop-index.index c.args.operands.now)) _ _ _
-    (pattern_there (in_order c.args.parameters.now) c.loop-index.index c.pattern_at.result c.in-Some.pattern c.pattern_at.ensures c.in-Some.is)
-    (ap operands_view (operand_at c.args.operands.now c.loop-index.index c.index-operands-index.result (omega (arith, c.loop-index-test.true)) c.index-operands-index.is))
-    (ap (λ ts. map view ts) c.in_ok-push-in-Some.ensures.items ∙ search (rules, map-append))
+    (pattern_there (in_order c.args.parameters.now) c.loop-index.index _
+    (listed_at (in_order c.args.parameters.now) c.patterns_of-patterns.result c.loop-index.index c.min.result _ c.patterns_of-patterns.ensures
+    (omega (arith, c.loop-index-test.true, c.min-index-end.ensures, c.parameter_count.ensures)) c.min.ensures))
+    (ap operands_view (operand_at c.args.operands.now c.loop-index.index c.index-operands-index.result (omega (arith, c.loop-index-test.true, c.min-index-end.ensures)) c.index-operands-index.is))
+    (made c.loop-index.types.items c.in_ok-parameter_for.field-0 c.push.new.self.items _ c.in_ok-push.ensures.items c.in_ok-parameter_for.ensures)
     c.loop-index.invariant
 
 pub returns : goal.returns
-returns c = all_made c.args.instance.now (drop c.loop-index.index (in_order c.args.parameters.now)) (operands_view (drop c.loop-index.index c.args.operands.now)) _ _
-    (ap operands_view (drop_of_length-le c.args.operands.now c.loop-index-test.false)) c.loop-index.invariant
+returns c = elim (dec_lt c.loop-index.index (length c.args.operands.now)) [
+  | yes h ↦ no_more c.args.instance.now (drop c.loop-index.index (in_order c.args.parameters.now)) (operands_view (drop c.loop-index.index c.args.operands.now)) _ _
+      (drop_of_length-le (in_order c.args.parameters.now) (omega (arith, h, c.loop-index-test.false, c.min-index-end.ensures, c.parameter_count.ensures))) c.loop-index.invariant
+  | no n ↦ all_made c.args.instance.now (drop c.loop-index.index (in_order c.args.parameters.now)) (operands_view (drop c.loop-index.index c.args.operands.now)) _ _
+      (ap operands_view (drop_of_length-le c.args.operands.now (omega (arith, n)))) c.loop-index.invariant
+]

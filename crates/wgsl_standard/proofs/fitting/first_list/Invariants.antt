@@ -1,7 +1,0 @@
-use Rattle.std.proofs.Common.{◌≡◌, drop}
-use Rattle.wgsl_standard.specs.internal.Binding.{bind_first}
-use Rattle.wgsl_standard.specs.Operands.{operands_view}
-use Rattle.wgsl_standard.proofs.fitting.first_list.Given as goal
-
-abbrev pub invariant-loop-i : goal.invariant-loop-i
-invariant-loop-i l = bind_first l.concrete l.binding (drop l.i l.patterns) (operands_view (drop l.i l.operands)) ≡ bind_first l.concrete l.fn.binding l.patterns (operands_view l.operands)
