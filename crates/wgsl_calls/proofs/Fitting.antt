@@ -1,31 +1,11 @@
 -- Shapes and arguments, side by side.
-use Rattle.std.proofs.Common.{◌≡◌, ℕ, ◌+◌, ◌<◌, ◌≤◌, List, [], ◌∷◌, drop, length, get_or, map, Bool, true, Option, Some, None, is_some, option_map, refl, sym, ◌∙◌, subst, arith, drop-cons, add-one, ◌↔◌, IsTrue, drop_of_length-le}
+use Rattle.std.proofs.Common.{◌≡◌, List, [], ◌∷◌, length, map, Bool, true, Option, Some, None, is_some, option_map, refl, sym, ◌∙◌, arith, ◌↔◌, IsTrue}
 use Rattle.std.proofs.lemmas.List.{length-map}
 use Rattle.wgsl_rules.specs.types.Types.{WgslType}
-use Rattle.wgsl_rules.specs.calls.Shapes.{Is}
 use Rattle.wgsl_rules.specs.calls.Rows.{AllAre, BeginAs}
 use Rattle.wgsl_core.specs.View.{view}
 use Rattle.wgsl_core.specs.declared.ty.Type.{«Type»}
 use Rattle.wgsl_syntax.specs.declared.call.Shape.{Shape}
-
-pub too_many : (ss : List Shape) (ts : List «Type») → length ts < length ss → BeginAs ss (map view ts) → ⊥
-too_many [] ts l h = absurd (omega arith)
-too_many (s ∷ ss) [] l h = h
-too_many (s ∷ ss) (t ∷ ts) l h = too_many ss ts (omega arith) h.1
-
-pub one_more : (ss : List Shape) (ts : List «Type») (i : ℕ) (s : Shape) (t : «Type») → i < length ss → i < length ts → s ≡ get_or ss i s → t ≡ get_or ts i t
-    → BeginAs (drop i ss) (map view (drop i ts)) ≡ (Is s (view t) × BeginAs (drop (i + 1) ss) (map view (drop (i + 1) ts)))
-one_more ss ts i s t hs ht es et =
-    let ds : drop i ss ≡ s ∷ drop (i + 1) ss = rw (add-one, drop-cons ss i s, ← es) refl in
-    let dt : drop i ts ≡ t ∷ drop (i + 1) ts = rw (add-one, drop-cons ts i t, ← et) refl in
-    rw (ds, dt) refl
-
-begun : (ss : List Shape) (ts : List «Type») (i : ℕ) → length ss ≤ i → BeginAs (drop i ss) (map view (drop i ts))
-begun ss ts i h = subst (λ (l : List Shape). BeginAs l (map view (drop i ts))) (sym (drop_of_length-le ss h)) tt
-
-pub ended : (ss : List Shape) (ts : List «Type») (i : ℕ) → length ss ≤ i → BeginAs ss (map view ts) ↔ BeginAs (drop i ss) (map view (drop i ts)) →
-    BeginAs ss (map view ts)
-ended ss ts i h inv = inv.1 (begun ss ts i h)
 
 begins_whole : (ss : List Shape) (ts : List WgslType) → length ts ≡ length ss → BeginAs ss ts → AllAre ss ts
 begins_whole [] [] e h = tt

@@ -69,28 +69,25 @@ fn begin_as(arguments: &Arguments, args: &[Type]) -> bool
 {
     match arguments {
         Arguments::Nothing => true,
-        Arguments::One(first) => first_are(&[*first], args),
-        Arguments::Two(first, second) => first_are(&[*first, *second], args),
-        Arguments::Three(first, second, third) => first_are(&[*first, *second, *third], args),
-        Arguments::Four(first, second, third, fourth) => {
-            first_are(&[*first, *second, *third, *fourth], args)
-        }
+        Arguments::One(first) => match args {
+            [a, ..] => is(*first, a),
+            _ => false,
+        },
+        Arguments::Two(first, second) => match args {
+            [a, b, ..] => is(*first, a) && is(*second, b),
+            _ => false,
+        },
+        Arguments::Three(first, second, third) => match args {
+            [a, b, c, ..] => is(*first, a) && is(*second, b) && is(*third, c),
+            _ => false,
+        },
+        Arguments::Four(first, second, third, fourth) => match args {
+            [a, b, c, d, ..] => {
+                is(*first, a) && is(*second, b) && is(*third, c) && is(*fourth, d)
+            }
+            _ => false,
+        },
     }
-}
-
-#[inline(always)]
-fn first_are(shapes: &[Shape], args: &[Type]) -> bool
-    ensures { IsTrue result ↔ BeginAs shapes.now (map view args.now) }
-{
-    if shapes.len() > args.len() {
-        return false;
-    }
-    for i in 0..shapes.len() {
-        if !is(shapes[i], &args[i]) {
-            return false;
-        }
-    }
-    true
 }
 
 fn holds(condition: Condition, args: &[Type]) -> bool
