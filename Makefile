@@ -3,7 +3,7 @@
 # `make check` runs all tests.
 SHELL := bash
 MAKEFLAGS += -rR
-unexport MAKEFLAGS MFLAGS MAKELEVEL
+unexport MAKEFLAGS MFLAGS passed
 .SECONDEXPANSION:
 .DELETE_ON_ERROR:
 
@@ -14,8 +14,8 @@ archive := crates/wgsl_c/out/libwgsl_c.a
 tests := $(shell for it in tests/*; do [ ! -f "$$it" ] || [ ! -x "$$it" ] || echo "$$it"; done)
 
 .PHONY: programs proved library install dist check can_link tests $(tests) again
-programs: $(programs)
 proved: $(programs) $(archive)
+programs: $(programs)
 
 # The rows of crates.txt, each a word: `NAME:` and what the crate stands on, with commas between.
 comma := ,
