@@ -5,3 +5,4 @@ pub mod Expressions
 pub mod Refusals
 pub mod Views
 pub mod Load
+pub mod internal

@@ -1,13 +1,13 @@
 // Abstract types, and the concrete type for each.
 ghost use Rattle.std.specs.Prelude.{◌≡◌, IfOk};
-ghost use Rattle.wgsl_syntax.specs.declared.result_struct.ResultFunction.{ResultFunction as Function};
-ghost use Rattle.wgsl_rules.specs.types.Types.{scalar as scalar_type};
+ghost use Rattle.wgsl_rules.specs.types.Types.{mat, scalar as scalar_type};
 ghost use Rattle.wgsl_rules.specs.standard.Overloads.{type_with};
 ghost use Rattle.wgsl_core.specs.View.{view, struct_view};
 ghost use Rattle.wgsl_core.specs.ResultStruct.{struct_type};
 ghost use Rattle.wgsl_standard.specs.Operands.{given_type};
 ghost use Rattle.wgsl_forms.specs.Concrete.{abstract_result as abstract_there, has_abstract_type as abstract_type, concrete_of};
 ghost use Rattle.wgsl_forms.specs.Views.{element_view};
+ghost use Rattle.wgsl_forms.specs.internal.Results.{abstract_name, in_f32};
 
 use crate::form::Element;
 use std::alloc::{AllocError, Global};
@@ -27,8 +27,18 @@ fn abstract_result(s: &StructType) -> Option<(ResultFunction, ResultShape)>
     ensures { result ≡ abstract_there (struct_type (struct_view s.now)) }
 {
     match s.result_struct() {
-        Some(found) => of_abstract(found),
+        Some(found) => abstract_name(found),
         None => None,
+    }
+}
+
+/// The function and the shape, if the precision is that of an abstract float.
+fn abstract_name(of: ResultStruct) -> Option<(ResultFunction, ResultShape)>
+    ensures { result ≡ abstract_name of }
+{
+    match of.precision {
+        ResultPrecision::Abstract => Some((of.function, of.shape)),
+        ResultPrecision::F32 | ResultPrecision::F16 => None,
     }
 }
 
@@ -86,5 +96,102 @@ fn concrete_component(dimensions: Dimensions, scalar: Scalar) -> Scalar
             }
         }
         Dimensions::Single | Dimensions::Vector(_) => concrete_scalar(scalar),
+    }
+}
+
+/// The concrete type for a type, which isn't built.
+#[derive(Clone, Copy)]
+pub struct ConcreteType<'a> {
+    pub of: &'a Type,
+}
+
+impl ConcreteType<'_> {
+    /// Builds the type in memory.
+    pub fn build(self, alloc: Global) -> Result<Type, AllocError>
+        ensures { IfOk result (λ t. view t ≡ concrete_of (view self.entry.of.now)) }
+    {
+        let ty = concrete(alloc, self.of)?;
+        Ok(ty)
+    }
+}
+
+fn concrete(alloc: Global, ty: &Type) -> Result<Type, AllocError>
+    ensures { IfOk result (λ t. view t ≡ concrete_of (view ty.now)) }
+{
+    match ty.form() {
+        Form::Scalar(scalar) => Ok(Type::from(concrete_scalar(scalar))),
+        Form::Array(n, t) => {
+            let element = concrete(alloc, t)?;
+            Type::array(alloc, n, element)
+        }
+        Form::Vector(n, t) => {
+            let element = concrete(alloc, t)?;
+            Type::vector(alloc, n, element)
+        }
+        Form::Matrix(c, r, t) => concrete_matrix(alloc, c, r, t),
+        Form::Struct(s) => concrete_struct(alloc, ty, s),
+        _ => ty.clone(alloc),
+    }
+}
+
+fn concrete_matrix(alloc: Global, c: u8, r: u8, t: &Type) -> Result<Type, AllocError>
+    ensures { IfOk result (λ m. view m ≡ concrete_of (mat c r (view t.now))) }
+{
+    if has_abstract_type(t) {
+        Type::matrix(alloc, c, r, Type::F32)
+    } else {
+        let component = t.clone(alloc)?;
+        Type::matrix(alloc, c, r, component)
+    }
+}
+
+fn concrete_struct(alloc: Global, ty: &Type, s: &StructType) -> Result<Type, AllocError>
+    requires { view ty.now ≡ struct_type (struct_view s.now) }
+    ensures { IfOk result (λ t. view t ≡ concrete_of (view ty.now)) }
+{
+    match abstract_result(s) {
+        Some(of) => result_struct(alloc, in_f32(of)),
+        None => ty.clone(alloc),
+    }
+}
+
+/// The result struct of that function and shape for `f32`.
+fn in_f32(of: (ResultFunction, ResultShape)) -> ResultStruct
+    ensures { result ≡ in_f32 of }
+{
+    ResultStruct {
+        function: of.0,
+        shape: of.1,
+        precision: ResultPrecision::F32,
+    }
+}
+
+impl fmt::Display for ConcreteType<'_> {
+    ghost use Rattle.std.specs.Prelude.{Some};
+    ghost use Rattle.wgsl_rules.specs.types.Spelling.{spelling};
+    ghost use Rattle.wgsl_core.specs.View.{view};
+    ghost use Rattle.wgsl_forms.specs.Concrete.{concrete_of};
+
+    ghost output = { λ t. Some (spelling (concrete_of (view t.of.now))) };
+
+    fn fmt<W: Write>(&self, f: &mut fmt::Formatter<W>) -> fmt::Result {
+        match self.of.form() {
+            Form::Scalar(scalar) => write!(f, "{}", concrete_scalar(scalar)),
+            Form::Array(None, of) => write!(f, "array<{}>", ConcreteType { of }),
+            Form::Array(Some(n), of) => write!(f, "array<{}, {n}>", ConcreteType { of }),
+            Form::Vector(n, of) => write!(f, "vec{n}<{}>", ConcreteType { of }),
+            Form::Matrix(c, r, t) => {
+                if has_abstract_type(t) {
+                    write!(f, "mat{c}x{r}<f32>")
+                } else {
+                    write!(f, "mat{c}x{r}<{t}>")
+                }
+            }
+            Form::Struct(s) => match abstract_result(s) {
+                Some(of) => f.write_str(in_f32(of).name()),
+                None => write!(f, "{}", s.name),
+            },
+            _ => write!(f, "{}", self.of),
+        }
     }
 }

@@ -1,9 +1,11 @@
 // What a form is: its type, which isn't built.
 ghost use Rattle.std.specs.Prelude.{◌≡◌, IfOk};
 ghost use Rattle.wgsl_core.specs.View.{view};
+ghost use Rattle.wgsl_rules.specs.standard.Overloads.{type_with};
 ghost use Rattle.wgsl_standard.specs.Operands.{given_type};
 ghost use Rattle.wgsl_forms.specs.Views.{element_view, form_type_view, unbuilt_view};
 
+use crate::concrete::ConcreteType;
 use std::alloc::{AllocError, Global};
 use std::fmt;
 use std::fmt::Write;
@@ -80,6 +82,124 @@ impl<'a> UnbuiltType<'a> {
         UnbuiltType {
             layer: None,
             element: Element::Any(ty),
+        }
+    }
+}
+
+impl<'a> UnbuiltType<'a> {
+    /// Builds the type in memory.
+    pub fn build(self, alloc: Global) -> Result<Type, AllocError>
+        ensures { IfOk result (λ t. view t ≡ unbuilt_view self.entry) }
+    {
+        let element = self.element.build(alloc)?;
+        match self.layer {
+            None => Ok(element),
+            Some(Layer::Array(count)) => Type::array(alloc, count, element),
+            Some(Layer::Vec(components)) => Type::vector(alloc, components, element),
+            Some(Layer::Mat(columns, rows)) => Type::matrix(alloc, columns, rows, element),
+        }
+    }
+}
+
+impl<'a> Element<'a> {
+    /// Builds the type in memory.
+    pub fn build(self, alloc: Global) -> Result<Type, AllocError>
+        ensures { IfOk result (λ t. view t ≡ element_view self.entry) }
+    {
+        match self {
+            Element::Value(dimensions, scalar) => built_value(alloc, dimensions, scalar),
+            Element::Any(ty) => ty.clone(alloc),
+            Element::Concrete(of) => ConcreteType { of }.build(alloc),
+        }
+    }
+}
+
+fn built_value(alloc: Global, dimensions: Dimensions, scalar: Scalar) -> Result<Type, AllocError>
+    ensures { IfOk result (λ t. view t ≡ type_with dimensions scalar) }
+{
+    match dimensions {
+        Dimensions::Single => Ok(Type::from(scalar)),
+        Dimensions::Vector(n) => Type::vector(alloc, n, Type::from(scalar)),
+        Dimensions::Matrix(c, r) => Type::matrix(alloc, c, r, Type::from(scalar)),
+    }
+}
+
+impl<'a> FormType<'a> {
+    /// A type that is no reference or pointer to another.
+    #[inline(always)]
+    pub fn of(of: UnbuiltType<'a>) -> FormType<'a>
+        ensures { form_type_view result ≡ unbuilt_view of.entry }
+    {
+        FormType { memory: None, of }
+    }
+
+    /// Builds the type in memory.
+    pub fn build(self, alloc: Global) -> Result<Type, AllocError>
+        ensures { IfOk result (λ t. view t ≡ form_type_view self.entry) }
+    {
+        let of = self.of.build(alloc)?;
+        match self.memory {
+            None => Ok(of),
+            Some(MemoryView::Reference(space, access)) => {
+                Ok(Type::Ref(space, Box::new(alloc, of)?, access))
+            }
+            Some(MemoryView::Pointer(space, access)) => {
+                Ok(Type::Ptr(space, Box::new(alloc, of)?, access))
+            }
+        }
+    }
+}
+
+impl fmt::Display for Element<'_> {
+    ghost use Rattle.std.specs.Prelude.{Some};
+    ghost use Rattle.wgsl_rules.specs.types.Spelling.{spelling};
+    ghost use Rattle.wgsl_forms.specs.Views.{element_view};
+
+    ghost output = { λ e. Some (spelling (element_view e)) };
+
+    fn fmt<W: Write>(&self, f: &mut fmt::Formatter<W>) -> fmt::Result {
+        match self {
+            Element::Value(dimensions, scalar) => {
+                write!(f, "{}", OperandType::Value(*dimensions, *scalar))
+            }
+            Element::Any(ty) => write!(f, "{ty}"),
+            Element::Concrete(of) => write!(f, "{}", ConcreteType { of: *of }),
+        }
+    }
+}
+
+impl fmt::Display for UnbuiltType<'_> {
+    ghost use Rattle.std.specs.Prelude.{Some};
+    ghost use Rattle.wgsl_rules.specs.types.Spelling.{spelling};
+    ghost use Rattle.wgsl_forms.specs.Views.{unbuilt_view};
+
+    ghost output = { λ t. Some (spelling (unbuilt_view t)) };
+
+    fn fmt<W: Write>(&self, f: &mut fmt::Formatter<W>) -> fmt::Result {
+        let of = self.element;
+        match self.layer {
+            None => write!(f, "{of}"),
+            Some(Layer::Array(None)) => write!(f, "array<{of}>"),
+            Some(Layer::Array(Some(n))) => write!(f, "array<{of}, {n}>"),
+            Some(Layer::Vec(n)) => write!(f, "vec{n}<{of}>"),
+            Some(Layer::Mat(c, r)) => write!(f, "mat{c}x{r}<{of}>"),
+        }
+    }
+}
+
+impl fmt::Display for FormType<'_> {
+    ghost use Rattle.std.specs.Prelude.{Some};
+    ghost use Rattle.wgsl_rules.specs.types.Spelling.{spelling};
+    ghost use Rattle.wgsl_forms.specs.Views.{form_type_view};
+
+    ghost output = { λ t. Some (spelling (form_type_view t)) };
+
+    fn fmt<W: Write>(&self, f: &mut fmt::Formatter<W>) -> fmt::Result {
+        let of = self.of;
+        match self.memory {
+            None => write!(f, "{of}"),
+            Some(MemoryView::Reference(space, access)) => write!(f, "ref<{space}, {of}, {access}>"),
+            Some(MemoryView::Pointer(space, access)) => write!(f, "ptr<{space}, {of}, {access}>"),
         }
     }
 }

@@ -2,6 +2,7 @@
 //! assignments and lists of values.
 #![tactic(auto)]
 
+pub mod concrete;
 pub mod form;
 pub mod kinds;
 pub mod load;

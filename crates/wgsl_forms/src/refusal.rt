@@ -53,3 +53,66 @@ pub enum Refusal<'a> {
     /// A pointer to a component of a vector.
     PtrVecComp,
 }
+
+impl fmt::Display for Refusal<'_> {
+    ghost use Rattle.std.specs.Prelude.{Some};
+    ghost use Rattle.wgsl_forms.specs.Refusals.{refusal_text};
+    ghost use Rattle.wgsl_forms.specs.Views.{refusal_view};
+
+    ghost output = { λ e. Some (refusal_text (refusal_view e)) };
+
+    fn fmt<W: Write>(&self, f: &mut fmt::Formatter<W>) -> fmt::Result {
+        match self {
+            Refusal::Component(t, name) => write!(f, "`{t}` has no component `{name}`"),
+            Refusal::NotIndexable(t) => write!(f, "`{t}` cannot be indexed"),
+            Refusal::NotInteger(t) => write!(f, "expected `i32` or `u32`, got `{t}`"),
+            Refusal::NotConst => f.write_str("expected a const-expression"),
+            Refusal::NotRead => f.write_str("attempt to read a write-only reference"),
+            Refusal::NotWrite => f.write_str("attempt to write to a read-only reference"),
+            Refusal::NotReadWrite => f.write_str("reference is not read-write"),
+            Refusal::NotConstructible(t) => write!(f, "`{t}` is not constructible"),
+            Refusal::NotScalar(t) => write!(f, "expected a scalar type, got `{t}`"),
+            Refusal::NotReference(t) => write!(f, "`{t}` is not a reference"),
+            Refusal::NotInSpace(space, t) => {
+                write!(
+                    f,
+                    "a variable in the address space `{space}` cannot hold a `{t}`"
+                )
+            }
+            Refusal::Initialized(space) => {
+                write!(
+                    f,
+                    "a variable in the address space `{space}` has no initializer"
+                )
+            }
+            Refusal::AccessMode(space, access) => {
+                write!(
+                    f,
+                    "access mode `{access}` is not valid in the address space `{space}`"
+                )
+            }
+            Refusal::Conversion(a, b) => write!(f, "cannot convert from `{a}` to `{b}`"),
+            Refusal::WriteRefType(n, t) => {
+                write!(f, "cannot write a `{n}` to a reference to `{t}`")
+            }
+            Refusal::Unary(o, t) => write!(f, "cannot use unary operator `{o}` on type `{t}`"),
+            Refusal::Binary(o, a, b) => write!(
+                f,
+                "cannot use binary operator `{o}` with operands `{a}` and `{b}`"
+            ),
+            Refusal::ParamCount(name, expected, n) => {
+                write!(
+                    f,
+                    "incorrect number of arguments to `{name}`, expected `{expected}`, got `{n}`"
+                )
+            }
+            Refusal::ParamType(expected, t) => write!(
+                f,
+                "invalid parameter type, expected `{expected}`, got `{t}`"
+            ),
+            Refusal::Builtin(text) => f.write_str(text),
+            Refusal::PtrHandle => f.write_str("cannot create a pointer in `handle` address space"),
+            Refusal::PtrVecComp => f.write_str("cannot create a pointer to a vector component"),
+        }
+    }
+}
