@@ -5,4 +5,7 @@ pub mod Expressions
 pub mod Refusals
 pub mod Views
 pub mod Load
+pub mod Member
+pub mod Index
+pub mod Address
 pub mod internal

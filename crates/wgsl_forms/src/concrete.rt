@@ -66,7 +66,7 @@ pub fn concrete_scalar(scalar: Scalar) -> Scalar
     }
 }
 
-fn is_abstract_scalar(scalar: Scalar) -> bool
+pub(crate) fn is_abstract_scalar(scalar: Scalar) -> bool
     ensures { result ≡ abstract_type (scalar_type scalar) }
 {
     matches!(scalar, Scalar::AbstractInt | Scalar::AbstractFloat)
@@ -84,7 +84,7 @@ pub fn made_concrete(ty: OperandType<'_>) -> Element<'_>
     }
 }
 
-fn concrete_component(dimensions: Dimensions, scalar: Scalar) -> Scalar
+pub(crate) fn concrete_component(dimensions: Dimensions, scalar: Scalar) -> Scalar
     ensures { type_with dimensions result ≡ concrete_of (type_with dimensions scalar) }
 {
     match dimensions {

@@ -1,6 +1,7 @@
 // What a form is: its type, which isn't built.
 ghost use Rattle.std.specs.Prelude.{◌≡◌, IfOk};
 ghost use Rattle.wgsl_core.specs.View.{view};
+ghost use Rattle.wgsl_rules.specs.types.Types.{within};
 ghost use Rattle.wgsl_rules.specs.standard.Overloads.{type_with};
 ghost use Rattle.wgsl_standard.specs.Operands.{given_type};
 ghost use Rattle.wgsl_forms.specs.Views.{element_view, form_type_view, unbuilt_view};
@@ -70,6 +71,28 @@ impl<'a> UnbuiltType<'a> {
         };
         UnbuiltType {
             layer: None,
+            element,
+        }
+    }
+
+    /// The element itself.
+    #[inline(always)]
+    pub fn single(element: Element<'a>) -> UnbuiltType<'a>
+        ensures { unbuilt_view result ≡ element_view element.entry }
+    {
+        UnbuiltType {
+            layer: None,
+            element,
+        }
+    }
+
+    /// The element within a layer.
+    #[inline(always)]
+    pub fn within(layer: Layer, element: Element<'a>) -> UnbuiltType<'a>
+        ensures { unbuilt_view result ≡ within layer (element_view element.entry) }
+    {
+        UnbuiltType {
+            layer: Some(layer),
             element,
         }
     }

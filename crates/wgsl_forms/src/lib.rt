@@ -2,8 +2,13 @@
 //! assignments and lists of values.
 #![tactic(auto)]
 
+pub mod address;
 pub mod concrete;
+pub mod expression;
 pub mod form;
+pub mod index;
 pub mod kinds;
 pub mod load;
+pub mod member;
+pub mod memory;
 pub mod refusal;
