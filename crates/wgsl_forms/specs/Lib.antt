@@ -8,4 +8,5 @@ pub mod Load
 pub mod Member
 pub mod Index
 pub mod Address
+pub mod Layout
 pub mod internal

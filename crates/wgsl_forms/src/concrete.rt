@@ -1,5 +1,7 @@
 // Abstract types, and the concrete type for each.
 ghost use Rattle.std.specs.Prelude.{◌≡◌, IfOk};
+ghost use Rattle.std.specs.Fmt.{WritesOnOk};
+ghost use Rattle.wgsl_rules.specs.types.Spelling.{spelling};
 ghost use Rattle.wgsl_rules.specs.types.Types.{mat, scalar as scalar_type};
 ghost use Rattle.wgsl_rules.specs.standard.Overloads.{type_with};
 ghost use Rattle.wgsl_core.specs.View.{view, struct_view};
@@ -7,7 +9,7 @@ ghost use Rattle.wgsl_core.specs.ResultStruct.{struct_type};
 ghost use Rattle.wgsl_standard.specs.Operands.{given_type};
 ghost use Rattle.wgsl_forms.specs.Concrete.{abstract_result as abstract_there, has_abstract_type as abstract_type, concrete_of};
 ghost use Rattle.wgsl_forms.specs.Views.{element_view};
-ghost use Rattle.wgsl_forms.specs.internal.Results.{abstract_name, in_f32};
+ghost use Rattle.wgsl_forms.specs.internal.Results.{abstract_name, count_end, in_f32};
 
 use crate::form::Element;
 use std::alloc::{AllocError, Global};
@@ -175,23 +177,63 @@ impl fmt::Display for ConcreteType<'_> {
     ghost output = { λ t. Some (spelling (concrete_of (view t.of.now))) };
 
     fn fmt<W: Write>(&self, f: &mut fmt::Formatter<W>) -> fmt::Result {
-        match self.of.form() {
-            Form::Scalar(scalar) => write!(f, "{}", concrete_scalar(scalar)),
-            Form::Array(None, of) => write!(f, "array<{}>", ConcreteType { of }),
-            Form::Array(Some(n), of) => write!(f, "array<{}, {n}>", ConcreteType { of }),
-            Form::Vector(n, of) => write!(f, "vec{n}<{}>", ConcreteType { of }),
-            Form::Matrix(c, r, t) => {
-                if has_abstract_type(t) {
-                    write!(f, "mat{c}x{r}<f32>")
-                } else {
-                    write!(f, "mat{c}x{r}<{t}>")
-                }
-            }
-            Form::Struct(s) => match abstract_result(s) {
-                Some(of) => f.write_str(in_f32(of).name()),
-                None => write!(f, "{}", s.name),
-            },
-            _ => write!(f, "{}", self.of),
+        write_concrete(f, self.of)
+    }
+}
+
+/// Writes the concrete type for a type.
+fn write_concrete<W: Write>(f: &mut fmt::Formatter<W>, ty: &Type) -> fmt::Result
+    ensures { WritesOnOk W.write_str_gives f.old result (spelling (concrete_of (view ty.now))) f.new }
+{
+    match ty.form() {
+        Form::Scalar(scalar) => write!(f, "{}", concrete_scalar(scalar)),
+        Form::Array(n, t) => {
+            f.write_str("array<")?;
+            write_concrete(f, t)?;
+            write_count(f, n)
         }
+        Form::Vector(n, t) => {
+            write!(f, "vec{n}<")?;
+            write_concrete(f, t)?;
+            f.write_str(">")
+        }
+        Form::Matrix(c, r, t) => write_concrete_matrix(f, c, r, t),
+        Form::Struct(s) => write_concrete_struct(f, s),
+        _ => write!(f, "{ty}"),
+    }
+}
+
+/// Writes the end of an array's type.
+fn write_count<W: Write>(f: &mut fmt::Formatter<W>, count: Option<usize>) -> fmt::Result
+    ensures { WritesOnOk W.write_str_gives f.old result (count_end count) f.new }
+{
+    match count {
+        None => f.write_str(">"),
+        Some(n) => write!(f, ", {n}>"),
+    }
+}
+
+fn write_concrete_matrix<W: Write>(
+    f: &mut fmt::Formatter<W>,
+    c: u8,
+    r: u8,
+    t: &Type,
+) -> fmt::Result
+    ensures { WritesOnOk W.write_str_gives f.old result (spelling (concrete_of (mat c r (view t.now)))) f.new }
+{
+    if has_abstract_type(t) {
+        write!(f, "mat{c}x{r}<f32>")
+    } else {
+        write!(f, "mat{c}x{r}<{t}>")
+    }
+}
+
+fn write_concrete_struct<W: Write>(f: &mut fmt::Formatter<W>, s: &StructType) -> fmt::Result
+    ensures { WritesOnOk W.write_str_gives f.old result
+        (spelling (concrete_of (struct_type (struct_view s.now)))) f.new }
+{
+    match abstract_result(s) {
+        Some(of) => f.write_str(in_f32(of).name()),
+        None => write!(f, "{}", s.name),
     }
 }

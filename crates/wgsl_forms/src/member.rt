@@ -13,7 +13,7 @@ ghost use Rattle.wgsl_forms.specs.internal.Parts.{part_view};
 use crate::expression::is_const_expression;
 use crate::form::{Element, Form, FormType, UnbuiltType};
 use crate::load::load_in;
-use crate::memory::{Behind, behind, in_memory};
+use crate::memory::{behind, in_memory};
 use crate::refusal::Refusal;
 use wgsl_core::ty::form::Form as TypeForm;
 use wgsl_core::ty::{StructMemberType, Type};

@@ -13,7 +13,7 @@ use wgsl_syntax::address::{AccessMode, AddressSpace};
 
 /// The type behind a reference or a pointer, or any other type itself.
 #[derive(Clone, Copy)]
-pub struct Behind<'a> {
+pub struct Whole<'a> {
     /// The address space and the access mode of the reference or the pointer.
     pub memory: Option<(AddressSpace, AccessMode)>,
     pub ty: OperandType<'a>,
@@ -21,27 +21,27 @@ pub struct Behind<'a> {
 
 /// What lies behind the type of an operand.
 #[inline(always)]
-pub fn behind(ty: OperandType<'_>) -> Behind<'_>
+pub fn behind(ty: OperandType<'_>) -> Whole<'_>
     ensures memory { result.memory ≡ memory_of (given_type ty.entry) }
     ensures ty { given_type result.ty ≡ lies_behind (given_type ty.entry) }
 {
     match ty {
-        OperandType::Value(_, _) => Behind { memory: None, ty },
+        OperandType::Value(_, _) => Whole { memory: None, ty },
         OperandType::Any(of) => behind_type(of),
     }
 }
 
 #[inline(always)]
-fn behind_type(ty: &Type) -> Behind<'_>
+fn behind_type(ty: &Type) -> Whole<'_>
     ensures memory { result.memory ≡ memory_of (view ty.now) }
     ensures ty { given_type result.ty ≡ lies_behind (view ty.now) }
 {
     match ty.form() {
-        Form::Reference(space, stored, access) | Form::Pointer(space, stored, access) => Behind {
+        Form::Reference(space, stored, access) | Form::Pointer(space, stored, access) => Whole {
             memory: Some((space, access)),
             ty: OperandType::Any(stored),
         },
-        _ => Behind {
+        _ => Whole {
             memory: None,
             ty: OperandType::Any(ty),
         },
