@@ -1,1 +1,3 @@
 pub mod AbstractResults
+pub mod Elements
+pub mod ResultTexts

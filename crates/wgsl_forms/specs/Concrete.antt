@@ -29,7 +29,7 @@ abbrev is_result : Option (ResultFunction × ResultShape) → Bool
 is_result (Some r) = true
 is_result None = false
 
-abbrev concrete_result : WgslType → Option (ResultFunction × ResultShape) → WgslType
+abbrev pub concrete_result : WgslType → Option (ResultFunction × ResultShape) → WgslType
 concrete_result t (Some r) = result_struct r.0 r.1 precision.F32
 concrete_result t None = t
 

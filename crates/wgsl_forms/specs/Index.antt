@@ -1,5 +1,5 @@
 -- Indexes into vectors, matrices and arrays (WGSL, "Vector Access", "Matrix Access" and "Array Access").
-use Rattle.std.specs.Prelude.{Option, Some, None, Result, Ok, Err, Bool, true, false, ◌&&◌, cond}
+use Rattle.std.specs.Prelude.{Option, Some, None, Result, Ok, Err, Bool, true, false, ◌&&◌, ◌||◌, cond}
 use Rattle.wgsl_syntax.specs.declared.scalar.Scalar.TheVariants.{AbstractInt, I32, U32}
 use Rattle.wgsl_rules.specs.types.Types.{WgslType, scalar, array, vec, mat, binding_array}
 use Rattle.wgsl_rules.specs.errors.Refusals.{not_indexable}
@@ -31,9 +31,9 @@ is_index (scalar I32) = true
 is_index (scalar U32) = true
 is_index t = false
 
--- the type that is indexed: made concrete, unless the index is a const-expression
+-- the type that is indexed: that of a value is made concrete first, unless the index is a const-expression
 abbrev pub indexed_type : Operand → Operand → WgslType
-indexed_type x i = cond (is_const_expression i) x.of_type (concrete_of x.of_type)
+indexed_type x i = cond (is_memory x.of_type || is_const_expression i) (behind x.of_type) (concrete_of (behind x.of_type))
 
 -- the element in an operand
 abbrev pub element_in : Operand → Operand → WgslType → Expression
@@ -43,7 +43,7 @@ element_in x i e = record {
   is_component = is_memory x.of_type && is_vector (behind x.of_type);
 }
 
-abbrev indexed_by : Operand → Operand → WgslType → Result WgslType Refusal → Result Expression Refusal
+abbrev pub indexed_by : Operand → Operand → WgslType → Result WgslType Refusal → Result Expression Refusal
 indexed_by x i e (Ok t) = cond (is_index t) (Ok (element_in x i e)) (Err (not_integer t))
 indexed_by x i e (Err r) = Err r
 
@@ -56,4 +56,4 @@ expression_of_element x i None = Err (error (not_indexable (behind x.of_type)))
 
 -- what `x[i]` is
 abbrev pub index_answer : Operand → Operand → Result Expression Refusal
-index_answer x i = expression_of_element x i (element_of (behind (indexed_type x i)))
+index_answer x i = expression_of_element x i (element_of (indexed_type x i))

@@ -1,14 +1,16 @@
 // Indexes into vectors, matrices and arrays.
-ghost use Rattle.std.specs.Prelude.{◌≡◌, cond, option_map};
+ghost use Rattle.std.specs.Prelude.{◌≡◌, ◌&&◌, ◌||◌, cond, is_some, option_map};
 ghost use Rattle.wgsl_rules.specs.types.Types.{mat, scalar as scalar_type};
 ghost use Rattle.wgsl_rules.specs.standard.Overloads.{type_with};
 ghost use Rattle.wgsl_core.specs.View.{view};
 ghost use Rattle.wgsl_standard.specs.Operands.{given_type};
 ghost use Rattle.wgsl_forms.specs.Concrete.{concrete_of};
-ghost use Rattle.wgsl_forms.specs.Index.{element_of as element_there, index_answer, is_index as index_type, is_vector as vector_type};
+ghost use Rattle.wgsl_forms.specs.Index.{element_in, element_of as element_there, index_answer, indexed_by, is_index as index_type, is_vector as vector_type};
+ghost use Rattle.wgsl_forms.specs.Expressions.{is_const_expression as const_expression};
+ghost use Rattle.wgsl_forms.specs.Load.{loaded};
 ghost use Rattle.wgsl_forms.specs.Views.{answer_view, element_view, form_view, given, unbuilt_view};
 
-use crate::concrete::{concrete_component, has_abstract_type, made_concrete};
+use crate::concrete::{concrete_component, has_abstract_type};
 use crate::expression::is_const_expression;
 use crate::form::{Element, Form, UnbuiltType};
 use crate::load::load_type;
@@ -17,6 +19,7 @@ use crate::refusal::Refusal;
 use wgsl_core::ty::Type;
 use wgsl_core::ty::form::Form as TypeForm;
 use wgsl_standard::operand::{Operand, OperandType};
+use wgsl_syntax::address::{AccessMode, AddressSpace};
 use wgsl_syntax::layer::Layer;
 use wgsl_syntax::overload::Dimensions;
 use wgsl_syntax::scalar::Scalar;
@@ -28,36 +31,81 @@ pub fn type_of_index<'a>(x: &Operand<'a>, index: &Operand<'a>) -> Result<Form<'a
     ensures { answer_view form_view result ≡ index_answer (given x.now) (given index.now) }
 {
     let whole = behind(x.ty);
-    let is_constant = is_const_expression(index);
-    let Some(element) = element_of(whole.ty, !is_constant && whole.memory.is_none()) else {
-        return Err(Refusal::NotIndexable(UnbuiltType::of(whole.ty)));
-    };
-    let found = load_type(index.ty)?;
-    if !is_index(found) {
-        return Err(Refusal::NotInteger(UnbuiltType::of(found)));
+    match element_of(whole.ty, is_indexed_as_given(whole.memory, index)) {
+        Some(element) => indexed_by(x, index, element),
+        None => Err(Refusal::NotIndexable(UnbuiltType::of(whole.ty))),
     }
-    Ok(Form {
-        ty: in_memory(whole.memory, element),
-        is_constant: is_const_expression(x) && is_constant,
-        is_component: whole.memory.is_some() && is_vector(whole.ty),
-    })
 }
 
-/// The type of the elements, made concrete if that is said.
-fn element_of(ty: OperandType<'_>, concrete: bool) -> Option<UnbuiltType<'_>>
+/// Whether the type that is indexed stays as it is: in memory, or if the index is a const-expression.
+fn is_indexed_as_given(
+    memory: Option<(AddressSpace, AccessMode)>,
+    index: &Operand<'_>,
+) -> bool
+    ensures { result ≡ (is_some memory || const_expression (given index.now)) }
+{
+    memory.is_some() || is_const_expression(index)
+}
+
+/// The element of that type, if the index is an integer.
+fn indexed_by<'a>(
+    x: &Operand<'a>,
+    index: &Operand<'a>,
+    element: UnbuiltType<'a>,
+) -> Result<Form<'a>, Refusal<'a>>
+    ensures { answer_view form_view result
+        ≡ indexed_by (given x.now) (given index.now) (unbuilt_view element.entry) (loaded (given_type index.now.ty)) }
+{
+    match load_type(index.ty) {
+        Ok(found) => {
+            if is_index(found) {
+                Ok(element_in(x, index, element))
+            } else {
+                Err(Refusal::NotInteger(UnbuiltType::of(found)))
+            }
+        }
+        Err(refusal) => Err(refusal),
+    }
+}
+
+fn element_in<'a>(x: &Operand<'a>, index: &Operand<'a>, element: UnbuiltType<'a>) -> Form<'a>
+    ensures { form_view result ≡ element_in (given x.now) (given index.now) (unbuilt_view element.entry) }
+{
+    let whole = behind(x.ty);
+    Form {
+        ty: in_memory(whole.memory, element),
+        is_constant: are_const_expressions(x, index),
+        is_component: is_component(whole.memory, whole.ty),
+    }
+}
+
+fn are_const_expressions(x: &Operand<'_>, y: &Operand<'_>) -> bool
+    ensures { result ≡ (const_expression (given x.now) && const_expression (given y.now)) }
+{
+    is_const_expression(x) && is_const_expression(y)
+}
+
+/// Whether an element there is a reference to a component of a vector.
+fn is_component(memory: Option<(AddressSpace, AccessMode)>, ty: OperandType<'_>) -> bool
+    ensures { result ≡ (is_some memory && vector_type (given_type ty.entry)) }
+{
+    memory.is_some() && is_vector(ty)
+}
+
+/// The type of the elements, made concrete unless it is to stay.
+fn element_of(ty: OperandType<'_>, stays: bool) -> Option<UnbuiltType<'_>>
     ensures { option_map unbuilt_view result
-        ≡ element_there (cond concrete (concrete_of (given_type ty.entry)) (given_type ty.entry)) }
+        ≡ element_there (cond stays (given_type ty.entry) (concrete_of (given_type ty.entry))) }
 {
     match ty {
         OperandType::Value(dimensions, scalar) => {
-            let component = if concrete {
-                concrete_component(dimensions, scalar)
+            if stays {
+                element_of_value(dimensions, scalar)
             } else {
-                scalar
-            };
-            element_of_value(dimensions, component)
+                element_of_value(dimensions, concrete_component(dimensions, scalar))
+            }
         }
-        OperandType::Any(of) => element_of_type(of, concrete),
+        OperandType::Any(of) => element_of_type(of, stays),
     }
 }
 
@@ -79,37 +127,46 @@ fn element_of_value<'a>(dimensions: Dimensions, scalar: Scalar) -> Option<Unbuil
     }
 }
 
-fn element_of_type(ty: &Type, concrete: bool) -> Option<UnbuiltType<'_>>
+#[tactic(auto, using(crate::proofs::Elements::none_stays))]
+fn element_of_type(ty: &Type, stays: bool) -> Option<UnbuiltType<'_>>
     ensures { option_map unbuilt_view result
-        ≡ element_there (cond concrete (concrete_of (view ty.now)) (view ty.now)) }
+        ≡ element_there (cond stays (view ty.now) (concrete_of (view ty.now))) }
 {
     match ty.form() {
         TypeForm::Vector(_, of) | TypeForm::Array(_, of) => {
-            Some(UnbuiltType::single(concrete_if(of, concrete)))
+            Some(UnbuiltType::single(as_it_stays(of, stays)))
         }
-        TypeForm::Matrix(c, rows, of) => Some(column(c, rows, of, concrete)),
+        TypeForm::Matrix(c, rows, of) => Some(column(c, rows, of, stays)),
         TypeForm::BindingArray(_, of) => Some(UnbuiltType::of_type(of)),
-        _ => None,
+        TypeForm::Scalar(_) => None,
+        TypeForm::Struct(_) => None,
+        TypeForm::Atomic(_) => None,
+        TypeForm::Pointer(_, _, _) => None,
+        TypeForm::Reference(_, _, _) => None,
+        TypeForm::Texture(_) => None,
+        TypeForm::Sampler(_) => None,
+        TypeForm::RayQuery(_) => None,
+        TypeForm::AccelerationStructure(_) => None,
     }
 }
 
-/// The type, made concrete if that is said.
-fn concrete_if(ty: &Type, concrete: bool) -> Element<'_>
-    ensures { element_view result ≡ cond concrete (concrete_of (view ty.now)) (view ty.now) }
+/// The type, made concrete unless it is to stay.
+fn as_it_stays(ty: &Type, stays: bool) -> Element<'_>
+    ensures { element_view result ≡ cond stays (view ty.now) (concrete_of (view ty.now)) }
 {
-    if concrete {
-        Element::Concrete(ty)
-    } else {
+    if stays {
         Element::Any(ty)
+    } else {
+        Element::Concrete(ty)
     }
 }
 
 /// A column of a matrix.
-fn column(columns: u8, rows: u8, of: &Type, concrete: bool) -> UnbuiltType<'_>
+fn column(columns: u8, rows: u8, of: &Type, stays: bool) -> UnbuiltType<'_>
     ensures { Some (unbuilt_view result)
-        ≡ element_there (cond concrete (concrete_of (mat columns rows (view of.now))) (mat columns rows (view of.now))) }
+        ≡ element_there (cond stays (mat columns rows (view of.now)) (concrete_of (mat columns rows (view of.now)))) }
 {
-    if concrete && has_abstract_type(of) {
+    if !stays && has_abstract_type(of) {
         UnbuiltType::single(Element::Value(Dimensions::Vector(rows), Scalar::F32))
     } else {
         UnbuiltType::within(Layer::Vec(rows), Element::Any(of))
