@@ -6,7 +6,7 @@ use Rattle.wgsl_syntax.specs.declared.result_struct.ResultFunction.TheVariants.{
 use Rattle.wgsl_syntax.specs.declared.result_struct.ResultShape.{ResultShape}
 use Rattle.wgsl_syntax.specs.declared.result_struct.ResultShape.TheVariants as shape
 use Rattle.wgsl_syntax.specs.declared.result_struct.ResultPrecision.TheVariants as precision
-use Rattle.wgsl_rules.specs.types.Types.{WgslType, Members, struct}
+use Rattle.wgsl_rules.specs.types.Types.{Members, struct}
 use Rattle.wgsl_rules.specs.types.ResultStructs.{result_struct}
 use Rattle.wgsl_rules.specs.types.Spelling.{spelling}
 use Rattle.wgsl_forms.specs.Concrete.{concrete_of, concrete_result, abstract_result}

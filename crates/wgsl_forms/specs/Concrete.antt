@@ -1,5 +1,5 @@
 -- Abstract types with the result structs of abstract floats, and the concrete type for each (WGSL, "Abstract Numeric Types").
-use Rattle.std.specs.Prelude.{List, [], ◌∷◌, Option, Some, None, Bool, true, false, cond, IsTrue}
+use Rattle.std.specs.Prelude.{List, [], ◌∷◌, Option, Some, None, Bool, true, false, cond}
 use Rattle.wgsl_syntax.specs.declared.scalar.Scalar.TheVariants.{AbstractInt, AbstractFloat, I32, F32}
 use Rattle.wgsl_syntax.specs.declared.result_struct.ResultFunction.{ResultFunction}
 use Rattle.wgsl_syntax.specs.declared.result_struct.ResultFunction.TheVariants.{Frexp, Modf}
@@ -40,9 +40,6 @@ has_abstract_type (scalar AbstractFloat) = true
 has_abstract_type (within l t) = has_abstract_type t
 has_abstract_type (struct name ms) = is_result (abstract_result (struct name ms))
 has_abstract_type t = false
-
-abbrev pub HasAbstractType : WgslType → Type 0
-HasAbstractType t = IsTrue (has_abstract_type t)
 
 -- the type, made concrete
 abbrev pub concrete_of : WgslType → WgslType

@@ -1,6 +1,6 @@
 -- Constructible types, handles, and types that can be shared with the host (WGSL, "Constructible Types" and
 -- "Host-shareable Types").
-use Rattle.std.specs.Prelude.{Bool, true, false, not, ◌&&◌, ◌||◌, None, IsTrue}
+use Rattle.std.specs.Prelude.{Bool, true, false, ◌&&◌, None}
 use Rattle.wgsl_syntax.specs.declared.scalar.Scalar.{Scalar}
 use Rattle.wgsl_syntax.specs.declared.scalar.Scalar.TheVariants as scalars
 use Rattle.wgsl_rules.specs.types.Types.{array_of, WgslType, Members, no_members, member, scalar, within, struct, atomic, texture, sampler}
@@ -18,17 +18,11 @@ abbrev mutual
   are_constructible no_members = true
   are_constructible (member name t size align ms) = is_constructible t && are_constructible ms
 
-abbrev pub IsConstructible : WgslType → Type 0
-IsConstructible t = IsTrue (is_constructible t)
-
 -- a texture or a sampler
 abbrev pub is_handle : WgslType → Bool
 is_handle (texture x) = true
 is_handle (sampler s) = true
 is_handle t = false
-
-abbrev pub IsHandle : WgslType → Type 0
-IsHandle t = IsTrue (is_handle t)
 
 -- a concrete number
 abbrev pub is_concrete_number : Scalar → Bool
@@ -49,6 +43,3 @@ abbrev mutual
   pub are_host_shareable : Members → Bool
   are_host_shareable no_members = true
   are_host_shareable (member name t size align ms) = is_host_shareable t && are_host_shareable ms
-
-abbrev pub IsHostShareable : WgslType → Type 0
-IsHostShareable t = IsTrue (is_host_shareable t)

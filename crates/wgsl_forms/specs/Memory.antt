@@ -1,5 +1,5 @@
 -- Memory: references and pointers, and what is formed from them (WGSL, "Memory Views").
-use Rattle.std.specs.Prelude.{Option, Some, None, Bool, is_some, IsTrue}
+use Rattle.std.specs.Prelude.{Option, Some, None, Bool, is_some}
 use Rattle.wgsl_syntax.specs.declared.address.AddressSpace.{AddressSpace}
 use Rattle.wgsl_syntax.specs.declared.address.AccessMode.{AccessMode}
 use Rattle.wgsl_rules.specs.types.Types.{WgslType, pointer, reference}
@@ -18,9 +18,6 @@ memory_of t = None
 
 abbrev pub is_memory : WgslType → Bool
 is_memory t = is_some (memory_of t)
-
-abbrev pub IsMemory : WgslType → Type 0
-IsMemory t = IsTrue (is_memory t)
 
 -- the reference to the type in memory; without memory the type itself
 abbrev pub in_memory : Option (AddressSpace × AccessMode) → WgslType → WgslType

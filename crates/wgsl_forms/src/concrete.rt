@@ -213,12 +213,7 @@ fn write_count<W: Write>(f: &mut fmt::Formatter<W>, count: Option<usize>) -> fmt
     }
 }
 
-fn write_concrete_matrix<W: Write>(
-    f: &mut fmt::Formatter<W>,
-    c: u8,
-    r: u8,
-    t: &Type,
-) -> fmt::Result
+fn write_concrete_matrix<W: Write>(f: &mut fmt::Formatter<W>, c: u8, r: u8, t: &Type) -> fmt::Result
     ensures { WritesOnOk W.write_str_gives f.old result (spelling (concrete_of (mat c r (view t.now)))) f.new }
 {
     if has_abstract_type(t) {

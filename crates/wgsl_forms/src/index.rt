@@ -38,10 +38,7 @@ pub fn type_of_index<'a>(x: &Operand<'a>, index: &Operand<'a>) -> Result<Form<'a
 }
 
 /// Whether the type that is indexed stays as it is: in memory, or if the index is a const-expression.
-fn is_indexed_as_given(
-    memory: Option<(AddressSpace, AccessMode)>,
-    index: &Operand<'_>,
-) -> bool
+fn is_indexed_as_given(memory: Option<(AddressSpace, AccessMode)>, index: &Operand<'_>) -> bool
     ensures { result ≡ (is_some memory || const_expression (given index.now)) }
 {
     memory.is_some() || is_const_expression(index)
@@ -119,10 +116,7 @@ fn element_of_value<'a>(dimensions: Dimensions, scalar: Scalar) -> Option<Unbuil
             Some(UnbuiltType::single(Element::Value(Dimensions::Single, scalar)))
         }
         Dimensions::Matrix(_, rows) => {
-            Some(UnbuiltType::single(Element::Value(
-                Dimensions::Vector(rows),
-                scalar,
-            )))
+            Some(UnbuiltType::single(Element::Value(Dimensions::Vector(rows), scalar)))
         }
     }
 }

@@ -83,13 +83,7 @@ pub fn is_host_shareable(ty: &Type) -> bool
     ensures { result ≡ host_shareable (view ty.now) }
 {
     match ty {
-        Type::I32
-        | Type::U32
-        | Type::F32
-        | Type::F16
-        | Type::I64
-        | Type::U64
-        | Type::F64 => true,
+        Type::I32 | Type::U32 | Type::F32 | Type::F16 | Type::I64 | Type::U64 | Type::F64 => true,
         Type::Array(t, _) => is_host_shareable(t),
         Type::Vec(_, t) => is_host_shareable(t),
         Type::Mat(_, _, t) => is_host_shareable(t),
