@@ -19,7 +19,7 @@ use Rattle.wgsl_forms.specs.internal.Results.{abstract_name}
 abbrev Name : Type 0
 Name = ResultFunction × ResultShape
 
-abbrev struct_of : Name → WgslType
+abbrev pub struct_of : Name → WgslType
 struct_of p = result_struct p.0 p.1 precision.Abstract
 
 among_step : (b : Bool) (r : Name) (o : Option Name) (t : WgslType) (p : Name) → Decides b (t ≡ struct_of r) → (o ≡ Some p → t ≡ struct_of p) → cond b (Some r) o ≡ Some p → t ≡ struct_of p
@@ -27,7 +27,7 @@ among_step true r o t p d h e = let q : r ≡ p = cc e in subst (λ r. t ≡ str
 among_step false r o t p d h e = h e
 
 -- what is found among them is one that the type is
-among_is : (rs : List Name) (t : WgslType) (p : Name) → result_among rs t ≡ Some p → t ≡ struct_of p
+pub among_is : (rs : List Name) (t : WgslType) (p : Name) → result_among rs t ≡ Some p → t ≡ struct_of p
 among_is [] t p e = absurd (cc e)
 among_is (r ∷ rs) t p e = among_step (type_eq t (struct_of r)) r (result_among rs t) t p (type_eq_decides t (struct_of r)) (among_is rs t p) e
 

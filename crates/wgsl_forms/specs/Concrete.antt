@@ -25,7 +25,7 @@ result_among (r ∷ rs) t = cond (type_eq t (result_struct r.0 r.1 precision.Abs
 unfoldable pub abstract_result : WgslType → Option (ResultFunction × ResultShape)
 abstract_result t = result_among abstract_results t
 
-abbrev is_result : Option (ResultFunction × ResultShape) → Bool
+abbrev pub is_result : Option (ResultFunction × ResultShape) → Bool
 is_result (Some r) = true
 is_result None = false
 

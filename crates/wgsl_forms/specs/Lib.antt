@@ -9,4 +9,5 @@ pub mod Member
 pub mod Index
 pub mod Address
 pub mod Layout
+pub mod Laws
 pub mod internal

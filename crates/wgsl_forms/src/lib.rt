@@ -8,6 +8,7 @@ pub mod expression;
 pub mod form;
 pub mod index;
 pub mod kinds;
+pub mod laws;
 pub mod layout;
 pub mod load;
 pub mod member;
