@@ -183,7 +183,8 @@ impl fmt::Display for ConcreteType<'_> {
 
 /// Writes the concrete type for a type.
 fn write_concrete<W: Write>(f: &mut fmt::Formatter<W>, ty: &Type) -> fmt::Result
-    ensures { WritesOnOk W.write_str_gives f.old result (spelling (concrete_of (view ty.now))) f.new }
+    ensures { WritesOnOk W.write_str_gives f.old result
+        (spelling (concrete_of (view ty.now))) f.new }
 {
     match ty.form() {
         Form::Scalar(scalar) => write!(f, "{}", concrete_scalar(scalar)),
@@ -214,7 +215,8 @@ fn write_count<W: Write>(f: &mut fmt::Formatter<W>, count: Option<usize>) -> fmt
 }
 
 fn write_concrete_matrix<W: Write>(f: &mut fmt::Formatter<W>, c: u8, r: u8, t: &Type) -> fmt::Result
-    ensures { WritesOnOk W.write_str_gives f.old result (spelling (concrete_of (mat c r (view t.now)))) f.new }
+    ensures { WritesOnOk W.write_str_gives f.old result
+        (spelling (concrete_of (mat c r (view t.now)))) f.new }
 {
     if has_abstract_type(t) {
         write!(f, "mat{c}x{r}<f32>")

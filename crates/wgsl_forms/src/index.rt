@@ -66,7 +66,8 @@ fn indexed_by<'a>(
 }
 
 fn element_in<'a>(x: &Operand<'a>, index: &Operand<'a>, element: UnbuiltType<'a>) -> Form<'a>
-    ensures { form_view result ≡ element_in (given x.now) (given index.now) (unbuilt_view element.entry) }
+    ensures { form_view result
+        ≡ element_in (given x.now) (given index.now) (unbuilt_view element.entry) }
 {
     let whole = behind(x.ty);
     Form {

@@ -22,7 +22,8 @@ pub fn min_layout(alloc: Global, s: &StructType) -> Result<Option<StructLayout>,
 }
 
 fn smallest_struct(alloc: Global, s: &StructType) -> Result<StructType, AllocError>
-    ensures { IfOk result (λ r. (struct_view r).members ≡ smallest_members (struct_view s.now).members) }
+    ensures { IfOk result (λ r. (struct_view r).members
+        ≡ smallest_members (struct_view s.now).members) }
 {
     let name = String::from_str(alloc, s.name.as_str())?;
     let members = smallest_copies(alloc, &s.members)?;
@@ -33,7 +34,8 @@ fn smallest_copies(
     alloc: Global,
     members: &Vec<StructMemberType>,
 ) -> Result<Vec<StructMemberType>, AllocError>
-    ensures { IfOk result (λ v. members_view v.items ≡ smallest_members (members_view members.now.items)) }
+    ensures { IfOk result (λ v. members_view v.items
+        ≡ smallest_members (members_view members.now.items)) }
 {
     match members.split_last() {
         Some((last, rest)) => {

@@ -85,7 +85,8 @@ fn part_named<'a>(ty: OperandType<'a>, name: &str) -> Option<Part<'a>>
 
 /// The type of the first member with the name.
 fn member_named<'a>(members: &'a Vec<StructMemberType>, name: &str) -> Option<&'a Type>
-    ensures { option_map (λ t. view t.now) result ≡ named_there (members_view members.now.items) name.now }
+    ensures { option_map (λ t. view t.now) result
+        ≡ named_there (members_view members.now.items) name.now }
 {
     for member in members {
         if member.name.as_str() == name {
@@ -97,7 +98,8 @@ fn member_named<'a>(members: &'a Vec<StructMemberType>, name: &str) -> Option<&'
 
 /// What the name stands for in a vector.
 fn component_named<'a>(n: u8, element: Element<'a>, name: &str) -> Option<Part<'a>>
-    ensures { option_map part_view result ≡ part_there (vec n (element_view element.entry)) name.now }
+    ensures { option_map part_view result
+        ≡ part_there (vec n (element_view element.entry)) name.now }
 {
     if are_components(n, name.as_bytes()) {
         part_of_letters(name.as_bytes(), element)
