@@ -1,1 +1,4 @@
 pub mod AbstractResults
+pub mod Layers
+pub mod Values
+pub mod Overrides

@@ -9,4 +9,8 @@ pub mod Member
 pub mod Index
 pub mod Address
 pub mod Layout
+pub mod Questions
+pub mod Convert
+pub mod Declare
+pub mod Assign
 pub mod internal

@@ -3,7 +3,10 @@
 #![tactic(auto)]
 
 pub mod address;
+pub mod assign;
 pub mod concrete;
+pub mod convert;
+pub mod declare;
 pub mod expression;
 pub mod form;
 pub mod index;
