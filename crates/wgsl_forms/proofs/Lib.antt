@@ -2,3 +2,4 @@ pub mod AbstractResults
 pub mod Layers
 pub mod Values
 pub mod Overrides
+pub mod Footprints

@@ -13,4 +13,5 @@ pub mod Questions
 pub mod Convert
 pub mod Declare
 pub mod Assign
+pub mod Variable
 pub mod internal

@@ -78,7 +78,7 @@ fn let_of<'a>(
 }
 
 /// The type, if that of a value converts to it.
-fn convert_to<'a>(
+pub(crate) fn convert_to<'a>(
     value: OperandType<'a>,
     ty: &'a Type,
 ) -> Result<UnbuiltType<'a>, Refusal<'a>>
@@ -111,7 +111,7 @@ fn take<'a>(value: OperandType<'a>) -> Result<UnbuiltType<'a>, Refusal<'a>>
 }
 
 /// The type of an operand, made concrete.
-fn concrete<'a>(ty: OperandType<'a>) -> UnbuiltType<'a>
+pub(crate) fn concrete<'a>(ty: OperandType<'a>) -> UnbuiltType<'a>
     ensures { unbuilt_view result ≡ concrete_of (given_type ty.entry) }
 {
     UnbuiltType::single(made_concrete(ty))

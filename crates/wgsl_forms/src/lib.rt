@@ -15,3 +15,4 @@ pub mod load;
 pub mod member;
 pub mod memory;
 pub mod refusal;
+pub mod variable;
