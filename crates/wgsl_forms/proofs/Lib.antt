@@ -3,3 +3,4 @@ pub mod Layers
 pub mod Values
 pub mod Overrides
 pub mod Footprints
+pub mod MemberTypes

@@ -14,4 +14,6 @@ pub mod Convert
 pub mod Declare
 pub mod Assign
 pub mod Variable
+pub mod Lists
+pub mod Switch
 pub mod internal
