@@ -4,3 +4,8 @@ pub mod ResultTexts
 pub mod Smallest
 pub mod Composition
 pub mod ConcreteTypes
+pub mod Layers
+pub mod Values
+pub mod Overrides
+pub mod Footprints
+pub mod MemberTypes

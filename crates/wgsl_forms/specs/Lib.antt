@@ -10,4 +10,11 @@ pub mod Index
 pub mod Address
 pub mod Layout
 pub mod Laws
+pub mod Questions
+pub mod Convert
+pub mod Declare
+pub mod Assign
+pub mod Variable
+pub mod Lists
+pub mod Switch
 pub mod internal

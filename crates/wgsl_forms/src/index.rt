@@ -179,7 +179,7 @@ fn is_vector(ty: OperandType<'_>) -> bool
 }
 
 /// Whether it is `i32`, `u32` or the abstract integer.
-fn is_index(ty: OperandType<'_>) -> bool
+pub(crate) fn is_index(ty: OperandType<'_>) -> bool
     ensures { result ≡ index_type (given_type ty.entry) }
 {
     match ty {

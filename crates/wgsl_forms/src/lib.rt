@@ -3,14 +3,20 @@
 #![tactic(auto)]
 
 pub mod address;
+pub mod assign;
 pub mod concrete;
+pub mod convert;
+pub mod declare;
 pub mod expression;
 pub mod form;
 pub mod index;
 pub mod kinds;
 pub mod laws;
 pub mod layout;
+pub mod lists;
 pub mod load;
 pub mod member;
 pub mod memory;
 pub mod refusal;
+pub mod switch;
+pub mod variable;
