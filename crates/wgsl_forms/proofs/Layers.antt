@@ -8,11 +8,11 @@ use Rattle.wgsl_rules.proofs.conversion.Equations.{converts_from_scalar, convert
 use Rattle.wgsl_core.specs.Forms.{layer_of, scalar_of}
 use Rattle.wgsl_core.proofs.Scalars.{scalar_is}
 
-layered : (t : WgslType) (l : Layer) (e : WgslType) → layer_of t ≡ Some (l, e) → t ≡ within l e
+pub layered : (t : WgslType) (l : Layer) (e : WgslType) → layer_of t ≡ Some (l, e) → t ≡ within l e
 layered (within k f) l e h = let p : (k, f) ≡ (l, e) = cc h in ap (λ (q : Layer × WgslType). within q.0 q.1) p
 layered t l e h = absurd (cc h)
 
-false_for : {P : Type 0} (b : Bool) → b ≡ false → ¬ P → IsTrue b ↔ P
+pub false_for : {P : Type 0} (b : Bool) → b ≡ false → ¬ P → IsTrue b ↔ P
 false_for b e no_p = (λ h. absurd (cc (sym h ∙ e)), λ p. absurd (no_p p))
 
 pub to_scalar : (t u : WgslType) (r : Scalar) (b : Bool) → scalar_of u ≡ Some r → IsTrue b ↔ ConvertsTo t (scalar r) → IsTrue b ↔ ConvertsTo t u

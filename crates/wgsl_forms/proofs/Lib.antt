@@ -9,3 +9,5 @@ pub mod Values
 pub mod Overrides
 pub mod Footprints
 pub mod MemberTypes
+pub mod Loads
+pub mod CommonElements

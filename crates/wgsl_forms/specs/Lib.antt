@@ -17,4 +17,5 @@ pub mod Assign
 pub mod Variable
 pub mod Lists
 pub mod Switch
+pub mod Array
 pub mod internal

@@ -13,7 +13,7 @@ ghost use Rattle.wgsl_forms.specs.Assign.{IsAssigned, IsAssignedBy, IsCompound, 
 ghost use Rattle.wgsl_forms.specs.Load.{loaded};
 ghost use Rattle.wgsl_forms.specs.Views.{answer_view, given};
 
-use crate::convert::converts;
+use crate::convert::{converts, has_layer, has_scalar};
 use crate::form::UnbuiltType;
 use crate::kinds::is_constructible;
 use crate::load::load_type;
@@ -283,23 +283,5 @@ fn has_parts(dimensions: Dimensions, scalar: Scalar, ty: &Type) -> bool
         Dimensions::Single => has_scalar(scalar, ty),
         Dimensions::Vector(n) => has_layer(Layer::Vec(n), scalar, ty),
         Dimensions::Matrix(c, r) => has_layer(Layer::Mat(c, r), scalar, ty),
-    }
-}
-
-fn has_scalar(scalar: Scalar, ty: &Type) -> bool
-    ensures { IsTrue result ↔ (scalar_type scalar ≡ view ty.now) }
-{
-    match ty.form() {
-        Form::Scalar(found) => found == scalar,
-        _ => false,
-    }
-}
-
-fn has_layer(layer: Layer, scalar: Scalar, ty: &Type) -> bool
-    ensures { IsTrue result ↔ (within layer (scalar_type scalar) ≡ view ty.now) }
-{
-    match ty.layer() {
-        Some((found, element)) => found.is(layer) && has_scalar(scalar, element),
-        None => false,
     }
 }

@@ -3,6 +3,7 @@
 #![tactic(auto)]
 
 pub mod address;
+pub mod array;
 pub mod assign;
 pub mod concrete;
 pub mod convert;
