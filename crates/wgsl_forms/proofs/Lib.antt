@@ -11,3 +11,4 @@ pub mod Footprints
 pub mod MemberTypes
 pub mod Loads
 pub mod CommonElements
+pub mod OnlyAnswers

@@ -33,7 +33,7 @@ IsArrayOf (x ∷ xs) r = (c : Option WgslType) × IsLeftCommon (map referred (x 
 -- `array()` is refused
 IsArrayOf [] r = r ≡ Err (error (builtin (codes "array constructor expects at least 1 argument")))
 
-abbrev IsAfter : Fits → (Result WgslType Refusal → Type 0) → Result WgslType Refusal → Type 0
+abbrev pub IsAfter : Fits → (Result WgslType Refusal → Type 0) → Result WgslType Refusal → Type 0
 IsAfter (Ok u) Answer r = Answer r
 IsAfter (Err e) Answer r = r ≡ Err e
 

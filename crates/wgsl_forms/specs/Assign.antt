@@ -14,6 +14,7 @@ use Rattle.wgsl_rules.specs.standard.Answers.{IsStandardAnswer}
 use Rattle.wgsl_rules.specs.standard.Choice.{Operand, value_of}
 use Rattle.wgsl_rules.specs.standard.Operators.{binary_overloads}
 use Rattle.wgsl_core.specs.Equality.{type_eq}
+use Rattle.wgsl_forms.specs.Concrete.{has_abstract_type}
 use Rattle.wgsl_forms.specs.Convert.{converts}
 use Rattle.wgsl_forms.specs.Kinds.{is_constructible}
 use Rattle.wgsl_forms.specs.Load.{loaded}
@@ -58,9 +59,9 @@ operator_of assignments.ShiftLeftAssign = Some operators.ShiftLeft
 abbrev pub operator_operand : Operand → Operand
 operator_operand x = record { of_type = value_of x.of_type; is_constant = x.is_constant }
 
--- a value that is read from memory is no const-expression
+-- a value that is read from memory, which is no const-expression unless its type is abstract
 abbrev pub stored_operand : WgslType → Operand
-stored_operand t = record { of_type = t; is_constant = false }
+stored_operand t = record { of_type = t; is_constant = has_abstract_type t }
 
 -- T, if the operator takes a value of type T and Y, and its result is T
 -- `v += 1;`, where `v` is a variable of `f32` : f32. `v += 1i;` is refused, and so is `f *= vec2f();`

@@ -18,4 +18,5 @@ pub mod Variable
 pub mod Lists
 pub mod Switch
 pub mod Array
+pub mod OneAnswer
 pub mod internal

@@ -13,6 +13,7 @@ ghost use Rattle.wgsl_forms.specs.Assign.{IsAssigned, IsAssignedBy, IsCompound, 
 ghost use Rattle.wgsl_forms.specs.Load.{loaded};
 ghost use Rattle.wgsl_forms.specs.Views.{answer_view, given};
 
+use crate::concrete::has_abstract_type;
 use crate::convert::{converts, has_layer, has_scalar};
 use crate::form::UnbuiltType;
 use crate::kinds::is_constructible;
@@ -208,8 +209,8 @@ fn assign_result<'a>(
 ) -> Result<&'a Type, Refusal<'a>>
     ensures { IsCompound operator (view stored.now) (given y.now) (answer_view (λ t. view t.now) result) }
 {
-    let found = result_by(operator, Operand::of(stored, false), *y);
-    compound(operator, stored, y.ty, found)
+    let value = Operand::of(stored, has_abstract_type(stored));
+    compound(operator, stored, y.ty, result_by(operator, value, *y))
 }
 
 /// The result of an operator, which is a scalar, a vector or a matrix; None if no overload takes the operands.

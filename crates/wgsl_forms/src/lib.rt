@@ -18,6 +18,7 @@ pub mod lists;
 pub mod load;
 pub mod member;
 pub mod memory;
+pub mod one_answer;
 pub mod refusal;
 pub mod switch;
 pub mod variable;
