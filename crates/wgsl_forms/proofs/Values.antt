@@ -17,7 +17,7 @@ use Rattle.wgsl_rules.specs.standard.Answers.{IsStandardAnswer}
 use Rattle.wgsl_rules.specs.standard.Choice.{Operand, IsChosen, result_for}
 use Rattle.wgsl_rules.specs.standard.Operators.{binary_overloads}
 use Rattle.wgsl_rules.specs.standard.Overloads.{result_of, result_in, type_with}
-use Rattle.wgsl_standard.specs.Values.{result_value, value_returned}
+use Rattle.wgsl_forms.specs.internal.Values.{result_value, value_returned}
 use Rattle.wgsl_standard.proofs.StandardAnswers.{answer_at}
 
 abbrev is_value : Returns → Bool

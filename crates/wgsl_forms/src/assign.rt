@@ -12,6 +12,7 @@ ghost use Rattle.wgsl_standard.specs.Operands.{given_type, operand_view};
 ghost use Rattle.wgsl_forms.specs.Assign.{IsAssigned, IsAssignedBy, IsCompound, IsCompoundTo, assigned, assigned_to, compound as compound_there, incremented, incremented_in, is_counter as counter, operator_of, written};
 ghost use Rattle.wgsl_forms.specs.Load.{loaded};
 ghost use Rattle.wgsl_forms.specs.Views.{answer_view, given};
+ghost use Rattle.wgsl_forms.specs.internal.Values.{result_value as value_there};
 
 use crate::concrete::has_abstract_type;
 use crate::convert::{converts, has_layer, has_scalar};
@@ -21,14 +22,15 @@ use crate::load::load_type;
 use crate::refusal::Refusal;
 use wgsl_core::ty::Type;
 use wgsl_core::ty::form::Form;
-use wgsl_standard::instance::result_value;
+use wgsl_standard::instance::{component_in, dimensions_in};
 use wgsl_standard::operand::{Operand, OperandType};
 use wgsl_standard::operators::binary_overloads;
+use wgsl_standard::overload::result_of;
 use wgsl_standard::resolve::resolve;
 use wgsl_syntax::address::AccessMode;
 use wgsl_syntax::layer::Layer;
 use wgsl_syntax::operator::{AssignmentOperator, BinaryOperator};
-use wgsl_syntax::overload::Dimensions;
+use wgsl_syntax::overload::{Dimensions, Instance, Overload, Pattern, Returns};
 use wgsl_syntax::scalar::Scalar;
 
 /// The type to which `x = y` writes: that of what `x` refers to (WGSL, "Simple Assignment"). Refused, in this order, by
@@ -226,6 +228,19 @@ fn result_by(
     match resolve(overloads, &[lhs, rhs]) {
         Some(choice) => result_value(&choice.instance, &overloads[choice.index]),
         None => None,
+    }
+}
+
+/// The dimensions and the components of the result, if it is a scalar, a vector or a matrix.
+fn result_value(instance: &Instance, overload: &Overload) -> Option<(Dimensions, Scalar)>
+    ensures { result ≡ value_there instance.now overload.now }
+{
+    match result_of(overload) {
+        Returns::Gives(Pattern::Value(shape, component)) => {
+            let dimensions = dimensions_in(instance, *shape);
+            Some((dimensions, component_in(instance, *component)))
+        }
+        _ => None,
     }
 }
 
