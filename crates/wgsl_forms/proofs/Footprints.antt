@@ -1,5 +1,5 @@
 -- What a struct ends in, by its last member.
-use Rattle.std.proofs.Common.{◌≡◌, List, [], ◌∷◌, ◌++◌, Bool, true, false, refl, sym, ap, ◌∙◌, subst}
+use Rattle.std.proofs.Common.{◌≡◌, List, [], ◌∷◌, ◌++◌, Bool, true, false, refl, sym, ap, ◌∙◌}
 use Rattle.std.specs.Prelude.{◌&&◌}
 use Rattle.wgsl_core.specs.View.{member_view}
 use Rattle.wgsl_core.specs.internal.View.{members_view}

@@ -3,9 +3,8 @@ use Rattle.std.proofs.Common.{◌≡◌, ◌↔◌, ℕ, Bool, true, false, IsTr
 use Rattle.std.specs.Borrow.{Bor}
 use Rattle.wgsl_syntax.specs.declared.address.AddressSpace.{AddressSpace}
 use Rattle.wgsl_syntax.specs.declared.address.AccessMode.{AccessMode}
-use Rattle.wgsl_syntax.specs.declared.scalar.Scalar.{Scalar}
 use Rattle.wgsl_syntax.specs.Address.{MayRead}
-use Rattle.wgsl_rules.specs.types.Types.{Layer, WgslType, scalar, within, reference}
+use Rattle.wgsl_rules.specs.types.Types.{Layer, WgslType, within, reference}
 use Rattle.wgsl_rules.specs.conversion.Conversion.{Load, load, Converts, ConvertsTo}
 use Rattle.wgsl_rules.proofs.conversion.Order.{along_above, above_to_within, load_readable}
 use Rattle.wgsl_rules.proofs.conversion.Equations.{converts_within}

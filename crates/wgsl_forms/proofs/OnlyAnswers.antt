@@ -1,5 +1,5 @@
 -- Assignments and array constructors have exactly one answer.
-use Rattle.std.proofs.Common.{◌≡◌, ℕ, List, [], ◌∷◌, Option, Some, None, Result, Ok, Err, length, map, refl, sym, ap, subst, ◌∙◌}
+use Rattle.std.proofs.Common.{◌≡◌, ℕ, List, [], ◌∷◌, Option, Some, None, Result, Ok, Err, length, map, refl, ap, ◌∙◌}
 use Rattle.wgsl_syntax.specs.declared.address.AccessMode.{AccessMode}
 use Rattle.wgsl_syntax.specs.declared.address.AccessMode.TheVariants.{ReadWrite}
 use Rattle.wgsl_syntax.specs.declared.operator.BinaryOperator.{BinaryOperator}
@@ -11,12 +11,11 @@ use Rattle.wgsl_rules.specs.standard.Answers.{IsStandardAnswer}
 use Rattle.wgsl_rules.specs.standard.Choice.{Operand, IsChosen}
 use Rattle.wgsl_rules.specs.standard.Operators.{binary_overloads}
 use Rattle.wgsl_rules.proofs.conversion.Commons.{left_common_once, some_left_common}
-use Rattle.wgsl_standard.specs.internal.Binding.{first_of, must_be_concrete}
 use Rattle.wgsl_standard.proofs.Choices.{found}
 use Rattle.wgsl_standard.proofs.OperatorTables.{binary_unambiguous}
 use Rattle.wgsl_standard.proofs.StandardAnswers.{answer_none, answer_some}
-use Rattle.wgsl_forms.specs.Array.{IsAfter, IsArrayOf, IsInferredArray, all_load, array_of, referred}
-use Rattle.wgsl_forms.specs.Assign.{IsAssigned, IsAssignedBy, IsCompound, IsCompoundTo, assigned, compound, operator_operand, stored_operand}
+use Rattle.wgsl_forms.specs.Array.{IsAfter, IsArrayOf, all_load, array_of, referred}
+use Rattle.wgsl_forms.specs.Assign.{IsAssignedBy, IsCompound, IsCompoundTo, compound, operator_operand, stored_operand}
 use Rattle.wgsl_forms.specs.Lists.{Fits}
 use Rattle.wgsl_forms.specs.OneAnswer.{HasOneAnswer, ArraysHaveOneAnswer, AssignmentsHaveOneAnswer}
 use Rattle.wgsl_forms.specs.Refusals.{Refusal}

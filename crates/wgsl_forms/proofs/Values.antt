@@ -1,5 +1,5 @@
 -- The result of an operator is a scalar, a vector or a matrix.
-use Rattle.std.proofs.Common.{◌≡◌, ℕ, List, [], ◌∷◌, Option, Some, None, Bool, true, false, refl, sym, ap, subst, ◌∙◌, zero, suc}
+use Rattle.std.proofs.Common.{◌≡◌, ℕ, List, [], ◌∷◌, Option, Some, Bool, true, false, refl, sym, subst, zero, suc}
 use Rattle.std.specs.Prelude.{option_map, slice_get, slice_index_or, ◌&&◌}
 use Rattle.std.proofs.lemmas.Option.{get_or_from_slice_get}
 use Rattle.wgsl_syntax.specs.declared.operator.BinaryOperator.{BinaryOperator}
@@ -8,13 +8,12 @@ use Rattle.wgsl_syntax.specs.declared.overload.Dimensions.{Dimensions}
 use Rattle.wgsl_syntax.specs.declared.scalar.Scalar.{Scalar}
 use Rattle.wgsl_syntax.specs.declared.overload.Instance.{Instance}
 use Rattle.wgsl_syntax.specs.declared.overload.Overload.{Overload}
-use Rattle.wgsl_syntax.specs.declared.overload.Pattern.{Pattern}
 use Rattle.wgsl_syntax.specs.declared.overload.Pattern.TheVariants as patterns
 use Rattle.wgsl_syntax.specs.declared.overload.Returns.{Returns}
 use Rattle.wgsl_syntax.specs.declared.overload.Returns.TheVariants.{Gives}
 use Rattle.wgsl_rules.specs.types.Types.{WgslType}
 use Rattle.wgsl_rules.specs.standard.Answers.{IsStandardAnswer}
-use Rattle.wgsl_rules.specs.standard.Choice.{Operand, IsChosen, result_for}
+use Rattle.wgsl_rules.specs.standard.Choice.{Operand, IsChosen}
 use Rattle.wgsl_rules.specs.standard.Operators.{binary_overloads}
 use Rattle.wgsl_rules.specs.standard.Overloads.{result_of, result_in, type_with}
 use Rattle.wgsl_forms.specs.internal.Values.{result_value, value_returned}

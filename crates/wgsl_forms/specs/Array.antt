@@ -51,6 +51,7 @@ elements_fit n t xs = if length xs == 0 then Ok tt else counted_elements_fit n t
 -- What `array<T, N>(X, ..)` makes.
 abbrev pub typed_array : WgslType → Option ℕ → List WgslType → Result WgslType Refusal
 -- `array<f32, 2>(1, 2)` : array<f32, 2>. `array<f32, 2>()` too; `array<f32, 3>(1, 2)` is refused
-typed_array t (Some n) xs = asks (is_const_type t) (error (not_constructible (array (Some n) t))) (after (elements_fit n t xs) (λ u. Ok (array (Some n) t)))
+typed_array t (Some n) xs =
+    asks (is_const_type t) (error (not_constructible (array (Some n) t))) (after (elements_fit n t xs) (λ u. Ok (array (Some n) t)))
 -- `array<f32>(1)` is refused
 typed_array t None xs = Err (error (not_constructible (array None t)))

@@ -32,7 +32,8 @@ written t v = asks (converts v t) (error (write_ref_type v t)) (Ok t)
 
 -- what a reference to T, with that access, and Y make
 abbrev pub assigned_to : WgslType → AccessMode → WgslType → Result WgslType Refusal
-assigned_to t a y = asks (may_write a) (error not_write) (asks (is_constructible t) (error (not_constructible t)) (after (loaded y) (written t)))
+assigned_to t a y =
+    asks (may_write a) (error not_write) (asks (is_constructible t) (error (not_constructible t)) (after (loaded y) (written t)))
 
 -- The type to which X = Y writes.
 -- `v = 1;`, where `v` is a variable of `f32` : f32. `v = 1i;` is refused

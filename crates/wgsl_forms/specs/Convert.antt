@@ -6,8 +6,7 @@ use Rattle.wgsl_rules.specs.conversion.Conversion.{ConvertsTo}
 use Rattle.wgsl_rules.specs.errors.Refusals.{conversion}
 use Rattle.wgsl_rules.proofs.conversion.Order.{dec_converts}
 use Rattle.wgsl_core.specs.Equality.{is_yes, yes_decides}
-use Rattle.wgsl_forms.specs.Load.{loaded}
-use Rattle.wgsl_forms.specs.Questions.{asks, after}
+use Rattle.wgsl_forms.specs.Questions.{asks}
 use Rattle.wgsl_forms.specs.Refusals.{Refusal, error}
 
 unfoldable pub converts : WgslType → WgslType → Bool

@@ -36,11 +36,11 @@ abbrev pub are_parameters : List WgslType → Fits
 are_parameters (t ∷ ts) = asks (is_let_type t) (error (not_constructible t)) (are_parameters ts)
 are_parameters [] = Ok tt
 
--- so many values are taken
+-- the number of values is the number that is taken
 abbrev pub counted : List ℕ → ℕ → ℕ → Fits
 counted name n k = asks (n == k) (error (param_count name n k)) (Ok tt)
 
--- so many values as types, and each fits
+-- as many values as types, and each fits
 abbrev pub values_fit : List ℕ → List WgslType → List WgslType → Fits
 values_fit name ts xs = after (counted name (length ts) (length xs)) (λ u. each_fits ts xs)
 

@@ -1,7 +1,7 @@
 -- `switch` (WGSL, "Switch Statement").
-use Rattle.std.specs.Prelude.{List, [], ◌∷◌, Bool, true, false, ◌&&◌, Option, Some, None, Result, Ok, Err}
+use Rattle.std.specs.Prelude.{List, [], ◌∷◌, Bool, true, false, ◌&&◌, Option, Some, None, Result, Ok}
 use Rattle.wgsl_syntax.specs.declared.scalar.Scalar.{Scalar}
-use Rattle.wgsl_syntax.specs.declared.scalar.Scalar.TheVariants.{AbstractInt, I32, U32}
+use Rattle.wgsl_syntax.specs.declared.scalar.Scalar.TheVariants.{I32, U32}
 use Rattle.wgsl_rules.specs.types.Types.{WgslType, scalar}
 use Rattle.wgsl_rules.specs.errors.Refusals.{conversion}
 use Rattle.wgsl_rules.specs.standard.Choice.{Operand}
@@ -67,4 +67,5 @@ switched (Some s) xs = asks (all_agree s xs) (error (conversion (scalar (other_i
 
 -- The type of a `switch`: of its selector and its cases.
 abbrev pub switch_type : Operand → List Operand → Result Scalar Refusal
-switch_type x ys = after (are_integers (x ∷ ys)) (λ u. asks (are_constant ys) not_const (switched (first_concrete (x ∷ ys)) (x ∷ ys)))
+switch_type x ys =
+    after (are_integers (x ∷ ys)) (λ u. asks (are_constant ys) not_const (switched (first_concrete (x ∷ ys)) (x ∷ ys)))

@@ -20,8 +20,8 @@ use wgsl_core::ty::form::Form;
 use wgsl_standard::operand::{Operand, OperandType};
 use wgsl_syntax::layer::Layer;
 
-/// The type of an array of values, `array(v, ..)` (WGSL, "array"): its elements have the common type of the values, which may be
-/// abstract. Refused, in this order, by the load of a value, by `Builtin` without a value or without a common type, by
+/// The type of an array of values, `array(v, ..)` (WGSL, "array"): its elements have the common type of the values, which may
+/// be abstract. Refused, in this order, by the load of a value, by `Builtin` without a value or without a common type, by
 /// `NotConstructible` of the common type.
 pub fn construct_array<'a>(values: &[Operand<'a>]) -> Result<UnbuiltType<'a>, Refusal<'a>>
     ensures { IsInferredArray (types_given values.now) (answer_view unbuilt_view result) }
@@ -46,9 +46,7 @@ fn array_of_values<'a>(values: &[Operand<'a>]) -> Result<UnbuiltType<'a>, Refusa
 {
     match values.split_first() {
         Some((first, rest)) => array_of(values.len(), common_element(referred(first.ty), rest)),
-        None => Err(Refusal::Builtin(
-            "array constructor expects at least 1 argument",
-        )),
+        None => Err(Refusal::Builtin("array constructor expects at least 1 argument")),
     }
 }
 
@@ -57,7 +55,8 @@ fn array_of<'a>(
     count: usize,
     element: Option<OperandType<'a>>,
 ) -> Result<UnbuiltType<'a>, Refusal<'a>>
-    ensures { answer_view unbuilt_view result ≡ array_there count (option_map given_type element.entry) }
+    ensures { answer_view unbuilt_view result
+        ≡ array_there count (option_map given_type element.entry) }
 {
     match element {
         Some(ty) => {
@@ -84,11 +83,9 @@ fn array_type(count: usize, element: OperandType<'_>) -> UnbuiltType<'_>
 }
 
 /// The common type of values once they are loaded, of which the first is loaded already; None if they have none.
-fn common_element<'a>(
-    first: OperandType<'a>,
-    rest: &[Operand<'a>],
-) -> Option<OperandType<'a>>
-    ensures { IsLeftCommon (given_type first.entry ∷ map referred_there (types_given rest.now)) (option_map given_type result) }
+fn common_element<'a>(first: OperandType<'a>, rest: &[Operand<'a>]) -> Option<OperandType<'a>>
+    ensures { IsLeftCommon (given_type first.entry ∷ map referred_there (types_given rest.now))
+        (option_map given_type result) }
 {
     let mut common = first;
     for value in rest {
@@ -140,7 +137,8 @@ pub fn construct_array_of<'a>(
     count: Option<usize>,
     values: &[Operand<'a>],
 ) -> Result<UnbuiltType<'a>, Refusal<'a>>
-    ensures { answer_view unbuilt_view result ≡ typed_array (view element.now) count (types_given values.now) }
+    ensures { answer_view unbuilt_view result
+        ≡ typed_array (view element.now) count (types_given values.now) }
 {
     let ty = UnbuiltType::within(Layer::Array(count), Element::Any(element));
     match count {
@@ -160,7 +158,8 @@ fn elements_fit<'a>(
     element: &'a Type,
     values: &[Operand<'a>],
 ) -> Result<(), Refusal<'a>>
-    ensures { answer_view (λ u. tt) result ≡ elements_fit_there count (view element.now) (types_given values.now) }
+    ensures { answer_view (λ u. tt) result
+        ≡ elements_fit_there count (view element.now) (types_given values.now) }
 {
     if values.is_empty() {
         Ok(())
@@ -174,7 +173,8 @@ fn counted_elements_fit<'a>(
     element: &'a Type,
     values: &[Operand<'a>],
 ) -> Result<(), Refusal<'a>>
-    ensures { answer_view (λ u. tt) result ≡ counted_there count (view element.now) (types_given values.now) }
+    ensures { answer_view (λ u. tt) result
+        ≡ counted_there count (view element.now) (types_given values.now) }
 {
     count_is("array", count, values.len())?;
     all_fit(element, values)

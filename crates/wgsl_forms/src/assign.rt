@@ -36,7 +36,8 @@ use wgsl_syntax::scalar::Scalar;
 /// The type to which `x = y` writes: that of what `x` refers to (WGSL, "Simple Assignment"). Refused, in this order, by
 /// `NotReference`, `NotWrite`, `NotConstructible`, the load of `y`, `WriteRefType`.
 pub fn assign<'a>(x: &Operand<'a>, y: &Operand<'a>) -> Result<&'a Type, Refusal<'a>>
-    ensures { answer_view (λ t. view t.now) result ≡ assigned (given_type x.now.ty) (given_type y.now.ty) }
+    ensures { answer_view (λ t. view t.now) result
+        ≡ assigned (given_type x.now.ty) (given_type y.now.ty) }
 {
     match x.ty {
         OperandType::Value(_, _) => Err(Refusal::NotReference(UnbuiltType::of(x.ty))),
@@ -58,7 +59,8 @@ fn assign_to<'a>(
     access: AccessMode,
     y: OperandType<'a>,
 ) -> Result<&'a Type, Refusal<'a>>
-    ensures { answer_view (λ t. view t.now) result ≡ assigned_to (view stored.now) access (given_type y.entry) }
+    ensures { answer_view (λ t. view t.now) result
+        ≡ assigned_to (view stored.now) access (given_type y.entry) }
 {
     if !access.is_write() {
         return Err(Refusal::NotWrite);
@@ -71,15 +73,13 @@ fn assign_to<'a>(
 }
 
 fn write_to<'a>(stored: &'a Type, value: OperandType<'a>) -> Result<&'a Type, Refusal<'a>>
-    ensures { answer_view (λ t. view t.now) result ≡ written (view stored.now) (given_type value.entry) }
+    ensures { answer_view (λ t. view t.now) result
+        ≡ written (view stored.now) (given_type value.entry) }
 {
     if converts(value, stored) {
         Ok(stored)
     } else {
-        Err(Refusal::WriteRefType(
-            UnbuiltType::of(value),
-            UnbuiltType::of_type(stored),
-        ))
+        Err(Refusal::WriteRefType(UnbuiltType::of(value), UnbuiltType::of_type(stored)))
     }
 }
 
@@ -169,7 +169,8 @@ fn assign_with<'a>(
     x: OperandType<'a>,
     y: &Operand<'a>,
 ) -> Result<&'a Type, Refusal<'a>>
-    ensures { IsAssignedBy operator (given_type x.entry) (given y.now) (answer_view (λ t. view t.now) result) }
+    ensures { IsAssignedBy operator (given_type x.entry) (given y.now)
+        (answer_view (λ t. view t.now) result) }
 {
     match x {
         OperandType::Value(_, _) => Err(Refusal::NotReference(UnbuiltType::of(x))),
@@ -182,7 +183,8 @@ fn assign_type_with<'a>(
     x: &'a Type,
     y: &Operand<'a>,
 ) -> Result<&'a Type, Refusal<'a>>
-    ensures { IsAssignedBy operator (view x.now) (given y.now) (answer_view (λ t. view t.now) result) }
+    ensures { IsAssignedBy operator (view x.now) (given y.now)
+        (answer_view (λ t. view t.now) result) }
 {
     match x.form() {
         Form::Reference(_, stored, access) => assign_in(operator, stored, access, y),
@@ -196,7 +198,8 @@ fn assign_in<'a>(
     access: AccessMode,
     y: &Operand<'a>,
 ) -> Result<&'a Type, Refusal<'a>>
-    ensures { IsCompoundTo operator (view stored.now) access (given y.now) (answer_view (λ t. view t.now) result) }
+    ensures { IsCompoundTo operator (view stored.now) access (given y.now)
+        (answer_view (λ t. view t.now) result) }
 {
     match access {
         AccessMode::ReadWrite => assign_result(operator, stored, y),
@@ -209,7 +212,8 @@ fn assign_result<'a>(
     stored: &'a Type,
     y: &Operand<'a>,
 ) -> Result<&'a Type, Refusal<'a>>
-    ensures { IsCompound operator (view stored.now) (given y.now) (answer_view (λ t. view t.now) result) }
+    ensures { IsCompound operator (view stored.now) (given y.now)
+        (answer_view (λ t. view t.now) result) }
 {
     let value = Operand::of(stored, has_abstract_type(stored));
     compound(operator, stored, y.ty, result_by(operator, value, *y))
@@ -221,7 +225,8 @@ fn result_by(
     lhs: Operand<'_>,
     rhs: Operand<'_>,
 ) -> Option<(Dimensions, Scalar)>
-    ensures { IsStandardAnswer (binary_there operator) (operand_view lhs.entry ∷ operand_view rhs.entry ∷ [])
+    ensures { IsStandardAnswer (binary_there operator)
+        (operand_view lhs.entry ∷ operand_view rhs.entry ∷ [])
         (option_map (λ v. Some (type_with v.0 v.1)) result) }
 {
     let overloads = binary_overloads(operator);
@@ -251,7 +256,8 @@ fn compound<'a>(
     y: OperandType<'a>,
     found: Option<(Dimensions, Scalar)>,
 ) -> Result<&'a Type, Refusal<'a>>
-    ensures { answer_view (λ t. view t.now) result ≡ compound_there operator (view stored.now) (given_type y.entry)
+    ensures { answer_view (λ t. view t.now) result
+        ≡ compound_there operator (view stored.now) (given_type y.entry)
         (option_map (λ v. Some (type_with v.0 v.1)) found) }
 {
     match found {
@@ -260,10 +266,7 @@ fn compound<'a>(
             if is_type(dimensions, scalar, stored) {
                 Ok(stored)
             } else {
-                Err(Refusal::WriteRefType(
-                    UnbuiltType::of(value),
-                    UnbuiltType::of_type(stored),
-                ))
+                Err(Refusal::WriteRefType(UnbuiltType::of(value), UnbuiltType::of_type(stored)))
             }
         }
         None => Err(Refusal::Binary(
@@ -276,7 +279,8 @@ fn compound<'a>(
 
 /// The type of an operand once it is loaded; as it is if it doesn't load.
 fn loaded_or_given(ty: OperandType<'_>) -> OperandType<'_>
-    ensures { given_type result ≡ result_unwrap_or (loaded (given_type ty.entry)) (given_type ty.entry) }
+    ensures { given_type result
+        ≡ result_unwrap_or (loaded (given_type ty.entry)) (given_type ty.entry) }
 {
     match load_type(ty) {
         Ok(loaded) => loaded,

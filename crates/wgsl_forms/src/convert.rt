@@ -95,7 +95,8 @@ fn converts_to_scalar(from: OperandType<'_>, scalar: Scalar) -> bool
 }
 
 fn converts_to_layer(from: OperandType<'_>, layer: Layer, scalar: Scalar) -> bool
-    ensures { IsTrue result ↔ ConvertsTo (given_type from.entry) (within layer (scalar_type scalar)) }
+    ensures { IsTrue result
+        ↔ ConvertsTo (given_type from.entry) (within layer (scalar_type scalar)) }
 {
     match from {
         OperandType::Value(dimensions, source) => {
@@ -111,7 +112,8 @@ fn value_converts_to_layer(
     layer: Layer,
     target: Scalar,
 ) -> bool
-    ensures { IsTrue result ↔ ConvertsTo (type_with dimensions source) (within layer (scalar_type target)) }
+    ensures { IsTrue result
+        ↔ ConvertsTo (type_with dimensions source) (within layer (scalar_type target)) }
 {
     match dimensions {
         Dimensions::Single => false,
@@ -121,7 +123,8 @@ fn value_converts_to_layer(
 }
 
 fn layers_convert(from: Layer, source: Scalar, to: Layer, target: Scalar) -> bool
-    ensures { IsTrue result ↔ ConvertsTo (within from (scalar_type source)) (within to (scalar_type target)) }
+    ensures { IsTrue result
+        ↔ ConvertsTo (within from (scalar_type source)) (within to (scalar_type target)) }
 {
     to.is(from) && scalars_convert(source, target)
 }

@@ -10,8 +10,8 @@ ghost use Rattle.wgsl_forms.specs.Declare.{declared, is_const_type as may_be_con
 ghost use Rattle.wgsl_forms.specs.Views.{answer_view, given, unbuilt_view};
 
 use crate::concrete::{concrete_scalar, has_abstract_type, made_concrete};
-use crate::expression::is_const_expression;
 use crate::convert::converts;
+use crate::expression::is_const_expression;
 use crate::form::UnbuiltType;
 use crate::kinds::{is_constructible, is_handle, operand_is_constructible};
 use crate::load::load_type;
@@ -64,11 +64,9 @@ fn declare_let<'a>(
     }
 }
 
-fn let_of<'a>(
-    value: OperandType<'a>,
-    ty: &'a Type,
-) -> Result<UnbuiltType<'a>, Refusal<'a>>
-    ensures { answer_view unbuilt_view result ≡ named_by_let (given_type value.entry) (view ty.now) }
+fn let_of<'a>(value: OperandType<'a>, ty: &'a Type) -> Result<UnbuiltType<'a>, Refusal<'a>>
+    ensures { answer_view unbuilt_view result
+        ≡ named_by_let (given_type value.entry) (view ty.now) }
 {
     if !is_let_type(ty) {
         return Err(Refusal::NotConstructible(UnbuiltType::of_type(ty)));

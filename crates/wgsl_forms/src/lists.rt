@@ -17,11 +17,12 @@ use wgsl_core::ty::form::Form;
 use wgsl_core::ty::{StructMemberType, Type};
 use wgsl_standard::operand::{Operand, OperandType};
 
-/// Whether values are taken by parameters of these types (WGSL, "Function Calls"); with one type, by `return`, or as a condition.
+/// Whether parameters of these types take the values (WGSL, "Function Calls"); with one type also `return`, or a condition.
 /// Refused, in this order, by `NotConstructible` of a parameter that is abstract or neither constructible nor a pointer nor a
 /// handle, by `ParamCount`, and for the first value that doesn't fit by its load or `ParamType`.
 pub fn fit<'a>(values: &[Operand<'a>], types: &'a [Type]) -> Result<(), Refusal<'a>>
-    ensures { answer_view (λ u. tt) result ≡ list_fits (map view types.now) (types_given values.now) }
+    ensures { answer_view (λ u. tt) result
+        ≡ list_fits (map view types.now) (types_given values.now) }
 {
     are_parameters(types)?;
     count_is("fit", types.len(), values.len())?;
@@ -39,7 +40,7 @@ fn are_parameters<'a>(types: &'a [Type]) -> Result<(), Refusal<'a>>
     Ok(())
 }
 
-/// So many values are taken by what has the name.
+/// Whether what has the name takes that many values.
 pub(crate) fn count_is<'a>(name: &'a str, expected: usize, found: usize) -> Result<(), Refusal<'a>>
     ensures { answer_view (λ u. tt) result ≡ counted name.now expected found }
 {
@@ -52,7 +53,8 @@ pub(crate) fn count_is<'a>(name: &'a str, expected: usize, found: usize) -> Resu
 
 fn each_fits<'a>(types: &'a [Type], values: &[Operand<'a>]) -> Result<(), Refusal<'a>>
     requires { length types.now ≡ length values.now }
-    ensures { answer_view (λ u. tt) result ≡ each_fits_there (map view types.now) (types_given values.now) }
+    ensures { answer_view (λ u. tt) result
+        ≡ each_fits_there (map view types.now) (types_given values.now) }
 {
     for i in 0..types.len() {
         fits(&types[i], values[i].ty)?;
@@ -60,7 +62,7 @@ fn each_fits<'a>(types: &'a [Type], values: &[Operand<'a>]) -> Result<(), Refusa
     Ok(())
 }
 
-/// A value is taken by a parameter of the type.
+/// Whether a parameter of the type takes a value.
 pub(crate) fn fits<'a>(ty: &'a Type, value: OperandType<'a>) -> Result<(), Refusal<'a>>
     ensures { answer_view (λ u. tt) result ≡ fits_there (view ty.now) (given_type value.entry) }
 {
@@ -81,11 +83,9 @@ fn loaded_fits<'a>(ty: &'a Type, value: OperandType<'a>) -> Result<(), Refusal<'
 /// The type that a struct's constructor makes: the struct (WGSL, "Structure Value Constructors"). Refused, in this order, by
 /// `NotConstructible`, also of what is no struct, by `ParamCount` unless there are no values, and for the first value that
 /// doesn't fit its member by its load or `ParamType`.
-pub fn construct_struct<'a>(
-    ty: &'a Type,
-    values: &[Operand<'a>],
-) -> Result<&'a Type, Refusal<'a>>
-    ensures { answer_view (λ t. view t.now) result ≡ constructed (view ty.now) (types_given values.now) }
+pub fn construct_struct<'a>(ty: &'a Type, values: &[Operand<'a>]) -> Result<&'a Type, Refusal<'a>>
+    ensures { answer_view (λ t. view t.now) result
+        ≡ constructed (view ty.now) (types_given values.now) }
 {
     match ty.form() {
         Form::Struct(s) => {
@@ -105,7 +105,8 @@ fn members_fit<'a>(
     values: &[Operand<'a>],
 ) -> Result<(), Refusal<'a>>
     ensures { answer_view (λ u. tt) result
-        ≡ members_fit_there name.now (member_types (members_view members.now)) (types_given values.now) }
+        ≡ members_fit_there name.now (member_types (members_view members.now))
+        (types_given values.now) }
 {
     if values.is_empty() {
         Ok(())
@@ -148,7 +149,7 @@ fn each_member_fits<'a>(
     Ok(())
 }
 
-/// Each value is taken by a parameter of the type.
+/// Whether a parameter of the type takes each of the values.
 pub(crate) fn all_fit<'a>(ty: &'a Type, values: &[Operand<'a>]) -> Result<(), Refusal<'a>>
     ensures { answer_view (λ u. tt) result ≡ all_fit_there (view ty.now) (types_given values.now) }
 {

@@ -15,14 +15,12 @@ use wgsl_standard::operand::{Operand, OperandType};
 use wgsl_syntax::overload::Dimensions;
 use wgsl_syntax::scalar::Scalar;
 
-/// The type of a `switch` with that selector and these cases, `i32` or `u32` (WGSL, "Switch Statement"). Refused, in this order,
-/// by the load of the selector or a case, or `NotInteger`; by `NotConst` if a case is no const-expression; by `Conversion` if
-/// both types are there.
-pub fn switch_type<'a>(
-    selector: &Operand<'a>,
-    cases: &[Operand<'a>],
-) -> Result<Scalar, Refusal<'a>>
-    ensures { answer_view (λ s. s) result ≡ switch_there (given selector.now) (map given cases.now) }
+/// The type of a `switch` with that selector and these cases, `i32` or `u32` (WGSL, "Switch Statement"). Refused, in this
+/// order, by the load of the selector or a case, or `NotInteger`; by `NotConst` if a case is no const-expression; by
+/// `Conversion` if both types are there.
+pub fn switch_type<'a>(selector: &Operand<'a>, cases: &[Operand<'a>]) -> Result<Scalar, Refusal<'a>>
+    ensures { answer_view (λ s. s) result
+        ≡ switch_there (given selector.now) (map given cases.now) }
 {
     is_integer(selector.ty)?;
     are_integers(cases)?;
@@ -64,12 +62,10 @@ fn are_constant(values: &[Operand<'_>]) -> bool
 }
 
 /// The integer type on which all values agree: that of the first that isn't abstract, else `i32`.
-fn common_integer<'a>(
-    selector: &Operand<'a>,
-    cases: &[Operand<'a>],
-) -> Result<Scalar, Refusal<'a>>
+fn common_integer<'a>(selector: &Operand<'a>, cases: &[Operand<'a>]) -> Result<Scalar, Refusal<'a>>
     ensures { answer_view (λ s. s) result
-        ≡ switched (first_there (given selector.now ∷ map given cases.now)) (given selector.now ∷ map given cases.now) }
+        ≡ switched (first_there (given selector.now ∷ map given cases.now))
+        (given selector.now ∷ map given cases.now) }
 {
     match first_of(selector, cases) {
         Some(integer) => {

@@ -262,10 +262,7 @@ fn may_initialize(space: AddressSpace, value: &Operand<'_>) -> bool
 }
 
 /// The store type of a variable with a value.
-fn stored<'a>(
-    value: OperandType<'a>,
-    ty: Option<&'a Type>,
-) -> Result<UnbuiltType<'a>, Refusal<'a>>
+fn stored<'a>(value: OperandType<'a>, ty: Option<&'a Type>) -> Result<UnbuiltType<'a>, Refusal<'a>>
     ensures { answer_view unbuilt_view result
         ≡ stored (given_type value.entry) (option_map (λ t. view t.now) ty.entry) }
 {
@@ -276,7 +273,8 @@ fn stored<'a>(
 }
 
 fn stored_as<'a>(value: OperandType<'a>, ty: &'a Type) -> Result<UnbuiltType<'a>, Refusal<'a>>
-    ensures { answer_view unbuilt_view result ≡ stored (given_type value.entry) (Some (view ty.now)) }
+    ensures { answer_view unbuilt_view result
+        ≡ stored (given_type value.entry) (Some (view ty.now)) }
 {
     if !is_const_type(ty) {
         return Err(Refusal::NotConstructible(UnbuiltType::of_type(ty)));
