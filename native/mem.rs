@@ -42,6 +42,7 @@
 //! ```
 
 pub use crate::proved::wgsl_core::layout::{PlacedMember, StructLayout};
+use crate::proved::wgsl_forms::layout::min_layout;
 use crate::shim::always;
 use crate::shim::std::alloc::Global;
 use crate::ty::StructType;
@@ -63,6 +64,22 @@ impl StructType {
     /// ```
     pub fn layout(&self) -> Option<StructLayout> {
         always(self.rattle_layout(Global))
+    }
+
+    /// The smallest layout of the struct if its last member may be a runtime-sized array, which counts as one element (WGSL,
+    /// "Minimum Binding Size"). As [`layout`](StructType::layout) of any other struct, and None for the same causes.
+    ///
+    /// ```
+    /// use wgsl_types_proved::ty::StructType;
+    /// use wgsl_types_proved::Type;
+    ///
+    /// let items = Type::array(None, Type::vector(3, Type::F32));
+    /// let list = StructType::new("List", [("count", Type::U32), ("items", items)]);
+    /// let layout = list.min_layout().unwrap();
+    /// assert_eq!((list.layout(), layout.members[1].offset, layout.size), (None, 16, 32));
+    /// ```
+    pub fn min_layout(&self) -> Option<StructLayout> {
+        always(min_layout(Global, self))
     }
 
     /// The offset of each member in bytes: no placement has a smaller one. None if [`layout`](StructType::layout) is None.

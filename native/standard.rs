@@ -1,12 +1,13 @@
-//! WGSL's own overloads: which overload an operator, a call or a constructor resolves to, what its operands convert to, what
-//! it returns, and why no overload takes the operands (WGSL, "Overload Resolution").
+//! The types of expressions and statements by WGSL's own rules. First its overloads: which one an operator, a call or a
+//! constructor resolves to, what its operands convert to, what it returns, and why no overload takes the operands (WGSL,
+//! "Overload Resolution"). Then what has none: members, indexes, loads, `&` and `*`, declarations, assignments, lists of values.
 //!
-//! The calls of [`builtin`](crate::builtin) answer by the rules of wgsl-types 0.3.2 instead, which differ from WGSL's.
-//! Constructors of arrays and structs, `&`, `*` and naga's ray queries have no overloads: ask `builtin`.
+//! The calls of [`builtin`](crate::builtin) answer by the rules of wgsl-types 0.3.2 instead, which differ from WGSL's. naga's
+//! ray queries have no overloads: ask `builtin`.
 //!
 //! A compiler asks with what it knows of an expression: its type and whether it is a const-expression. It loads nothing and
-//! makes nothing concrete before it asks. The type of a variable is a reference: one that can be read stands for what it
-//! loads as.
+//! makes nothing concrete before it asks. The type of a variable is a reference: for an operator or a call one that can be
+//! read stands for what it loads as.
 //!
 //! ```
 //! use wgsl_types_proved::standard::{resolve_builtin_fn, type_unary_op, Operand};
@@ -26,10 +27,30 @@
 //! assert_eq!(refused.explanations(), [format!("{dot}: argument 2 is AbstractInt")]);
 //! # Ok::<(), wgsl_types_proved::ty::SpellingError>(())
 //! ```
+//!
+//! `let x = s.v[i];`, where `s` is a variable of a storage buffer:
+//!
+//! ```
+//! use wgsl_types_proved::standard::{declare, type_of_index, type_of_member, Declaration, Operand, Refusal};
+//! use wgsl_types_proved::syntax::{AccessMode, AddressSpace};
+//! use wgsl_types_proved::ty::StructType;
+//! use wgsl_types_proved::Type;
+//!
+//! let s = StructType::new("S", [("v", Type::vector(3, Type::F32))]);
+//! let s = Type::Ref(AddressSpace::Storage, Box::new(Type::from(s)), AccessMode::Read);
+//! let v = type_of_member(&Operand::new(s), "v")?;
+//! let element = type_of_index(&v, &Operand::new(Type::U32))?;
+//! assert_eq!(element.ty.to_string(), "ref<storage, f32, read>");
+//! assert_eq!(declare(Declaration::Let, &element, None), Ok(Type::F32));
+//! # Ok::<(), Refusal>(())
+//! ```
 
+mod expressions;
+mod form_refusal;
 mod overload;
 mod refusal;
 mod resolve;
+mod statements;
 
 use crate::proved::wgsl_standard as proved;
 use crate::syntax::{BinaryOperator, UnaryOperator};
@@ -37,10 +58,16 @@ use crate::ty::Type;
 use alloc::string::String;
 use alloc::vec::Vec;
 use core::fmt;
+pub use expressions::{address_of, indirection, load, type_of_index, type_of_member};
+use form_refusal::built;
+pub use form_refusal::Refusal;
 pub use overload::{overloads, Overload};
 pub use refusal::{explain, NoOverload};
 pub use resolve::{resolve_binary_op, resolve_builtin_fn, resolve_ctor, resolve_unary_op};
 pub use resolve::{type_binary_op, type_builtin_fn, type_ctor, type_unary_op};
+pub use statements::{assign, assign_by, construct_array, construct_array_of, construct_struct};
+pub use statements::{declare, discard, fit, increment, initialized_variable};
+pub use statements::{override_without_value, switch_type, variable, Declaration};
 
 /// An operand of an operator, or an argument of a call.
 #[derive(Clone, Debug, PartialEq, Eq, Hash)]
@@ -49,6 +76,8 @@ pub struct Operand {
     pub ty: Type,
     /// Whether it is a const-expression. If one operand isn't, no operand converts to an abstract type.
     pub is_constant: bool,
+    /// Whether it is a reference to a component of a vector, of which there is no pointer. Its type doesn't say so.
+    pub is_component: bool,
 }
 
 impl Operand {
@@ -62,7 +91,7 @@ impl Operand {
     /// ```
     pub fn new(ty: Type) -> Operand {
         let is_constant = ty.is_abstract();
-        Operand { ty, is_constant }
+        Operand { ty, is_constant, is_component: false }
     }
 
     /// A const-expression of that type, such as a literal, a constant, or what is computed from these alone.
@@ -78,7 +107,12 @@ impl Operand {
     /// assert_eq!(shifted(Operand::new(Type::U32)), Ok(Type::I32));
     /// ```
     pub fn constant(ty: Type) -> Operand {
-        Operand { ty, is_constant: true }
+        Operand { ty, is_constant: true, is_component: false }
+    }
+
+    #[inline(always)]
+    fn proved(&self) -> proved::operand::Operand<'_> {
+        proved::operand::Operand::of(&self.ty, self.is_constant)
     }
 }
 
@@ -143,16 +177,14 @@ fn with_operands<'a, T>(
     operands: impl ExactSizeIterator<Item = &'a Operand>,
     ask: impl FnOnce(&[proved::operand::Operand<'a>]) -> T,
 ) -> T {
-    let asked =
-        |operand: &'a Operand| proved::operand::Operand::of(&operand.ty, operand.is_constant);
     let count = operands.len();
     let mut few = [proved::operand::Operand::of(&Type::Bool, false); 4];
     match few.get_mut(..count) {
         Some(few) => {
-            few.iter_mut().zip(operands).for_each(|(to, operand)| *to = asked(operand));
+            few.iter_mut().zip(operands).for_each(|(to, operand)| *to = operand.proved());
             ask(few)
         }
-        None => ask(&operands.map(asked).collect::<Vec<_>>()),
+        None => ask(&operands.map(Operand::proved).collect::<Vec<_>>()),
     }
 }
 

@@ -43,7 +43,7 @@ def words(t):
         return f"mat {name[3]} {name[5]} {words(parts[0])}"
     if name in ("ray_query", "acceleration_structure"):
         return f"{name} {parts[0] if parts else '-'}"
-    if name[0].isupper() and name not in SCALARS:
+    if name in STRUCTS or name[0].isupper() and name not in SCALARS:
         members = STRUCTS.get(name, [])
         return f"struct {name} {len(members)}" + "".join(f" {member} - - {words(of)}" for member, of in members)
     return " ".join([name, *map(words, parts)])

@@ -65,7 +65,7 @@ impl Scope {
         };
         let is_constant = operands.iter().all(|operand| operand.is_constant);
         match ty.map_err(|refused| refused_at(expr, &refused))? {
-            Some(ty) => Ok(Operand { ty, is_constant }),
+            Some(ty) => Ok(Operand { is_constant, ..Operand::new(ty) }),
             None => Err(diagnostic(expr, "the call has no value".to_string())),
         }
     }

@@ -34,7 +34,8 @@ pub fn resolve_binary_op(
     ask_for(Called::Binary(operator), None, [lhs, rhs].into_iter(), resolution)
 }
 
-/// What a unary expression resolves to. `&` and `*` have no overloads.
+/// What a unary expression resolves to. `&` and `*` have no overloads: see [`address_of`](super::address_of) and
+/// [`indirection`](super::indirection).
 ///
 /// ```
 /// use wgsl_types_proved::standard::{resolve_unary_op, Operand};
@@ -69,7 +70,9 @@ pub fn resolve_builtin_fn(
     ask_for(Called::Function(name), template, arguments.iter(), resolution)
 }
 
-/// What a constructor's call resolves to: `vec3(..)`, or with a template `vec3<f32>(..)`.
+/// What a constructor's call resolves to: `vec3(..)`, or with a template `vec3<f32>(..)`. Those of arrays and structs have no
+/// overloads: see [`construct_array`](super::construct_array), [`construct_array_of`](super::construct_array_of) and
+/// [`construct_struct`](super::construct_struct).
 ///
 /// ```
 /// use wgsl_types_proved::standard::{resolve_ctor, Operand};
@@ -110,7 +113,8 @@ pub fn type_binary_op(
     ask_for(Called::Binary(operator), None, [lhs, rhs].into_iter(), value)
 }
 
-/// The type of a unary expression. `&` and `*` have no overloads.
+/// The type of a unary expression. `&` and `*` have no overloads: see [`address_of`](super::address_of) and
+/// [`indirection`](super::indirection).
 ///
 /// ```
 /// use wgsl_types_proved::standard::{type_unary_op, Operand};
@@ -145,7 +149,9 @@ pub fn type_builtin_fn(
     ask_for(Called::Function(name), template, arguments.iter(), result)
 }
 
-/// The type that a constructor makes. Those of arrays and structs have no overloads.
+/// The type that a constructor makes. Those of arrays and structs have no overloads: see
+/// [`construct_array`](super::construct_array), [`construct_array_of`](super::construct_array_of) and
+/// [`construct_struct`](super::construct_struct).
 ///
 /// ```
 /// use wgsl_types_proved::standard::{type_ctor, Operand};

@@ -1,5 +1,5 @@
 -- How the rules see requests and answers.
-use Rattle.std.specs.Prelude.{Option, Some, None, Result, Ok, Err, map, option_map}
+use Rattle.std.specs.Prelude.{Result, Ok, Err, map, option_map}
 use Rattle.wgsl_rules.specs.errors.Refusals.{Refusal, binary as refused_operands}
 use Rattle.wgsl_rules.specs.types.Signatures.{Signature}
 use Rattle.wgsl_rules.specs.types.Types.{WgslType}
@@ -11,9 +11,8 @@ use Rattle.wgsl_core.specs.declared.error.Error.{Error}
 use Rattle.wgsl_core.specs.declared.error.Fail.{Fail}
 use Rattle.wgsl_core.specs.declared.error.Fail.TheVariants as fails
 use Rattle.wgsl_core.specs.declared.layout.StructLayout.{StructLayout}
-use Rattle.wgsl_core.specs.declared.operators.resolve.Resolution.{Resolution}
 use Rattle.wgsl_core.specs.declared.operators.resolve.ResolvedType.{ResolvedType}
-use Rattle.wgsl_core.specs.internal.Resolution.{resolution_view, resolved_view}
+use Rattle.wgsl_core.specs.internal.Resolution.{resolved_view}
 use Rattle.wgsl_asked.specs.declared.requests.Callee.{Callee}
 use Rattle.wgsl_asked.specs.declared.requests.Request.{Request}
 use Rattle.wgsl_asked.specs.declared.requests.Request.TheVariants as requests

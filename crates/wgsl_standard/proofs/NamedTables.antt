@@ -12,7 +12,7 @@ use Rattle.wgsl_standard.specs.declared.callee.Callee.{Callee}
 use Rattle.wgsl_standard.proofs.OperatorTables.{binary_unambiguous, unary_unambiguous}
 use Rattle.wgsl_standard.proofs.Unambiguous.{both, unambiguous_is}
 
-abbrev IfUnambiguous : Option (List Overload) → Type 0
+abbrev pub IfUnambiguous : Option (List Overload) → Type 0
 IfUnambiguous None = Unit {0}
 IfUnambiguous (Some os) = IsUnambiguous os
 
@@ -43,7 +43,7 @@ templates_unambiguous : (name : List ℕ) → IfUnambiguous (overloads_named nam
 unfolding template_constructor_table
 templates_unambiguous name = named_unambiguous name template_constructor_table refl
 
-listed_unambiguous : (callee : WgslCallee) (t : Bool) → IfUnambiguous (overloads_listed callee t)
+pub listed_unambiguous : (callee : WgslCallee) (t : Bool) → IfUnambiguous (overloads_listed callee t)
 listed_unambiguous (a_unary o) false = unary_unambiguous o
 listed_unambiguous (a_unary o) true = tt
 listed_unambiguous (a_binary o) false = binary_unambiguous o

@@ -37,7 +37,7 @@ pub fn type_of_call(
         (option_map (λ t. view t.now) template.entry) (operands_view operands.now)) result }
 {
     match template {
-        Some(template) => type_with_template(alloc, overloads(callee, true), template, operands),
+        Some(template) => type_with_template(alloc, callee, template, operands),
         None => type_by(alloc, overloads(callee, false), operands),
     }
 }
@@ -46,18 +46,17 @@ pub fn type_of_call(
 #[inline(never)]
 fn type_with_template(
     alloc: Global,
-    overloads: Option<&[Overload]>,
+    callee: Callee<'_>,
     template: &Type,
     operands: &[Operand<'_>],
 ) -> Result<Option<ResultType>, Fail<NoOverload>>
-    requires { IfSome overloads (λ o. IsUnambiguous o.now) }
-    ensures { Answers (option_map result_view) (IsTemplateAnswer (option_map (λ o. o.now) overloads.entry) (view template.now) (operands_view operands.now)) result }
+    ensures { Answers (option_map result_view) (IsTemplateAnswer (overloads_of callee.entry true) (view template.now) (operands_view operands.now)) result }
 {
     if !is_template(template) {
         return Err(Fail::Error(NoOverload));
     }
     let all = operands_with(alloc, template, operands)?;
-    type_by(alloc, overloads, &all)
+    type_by(alloc, overloads(callee, true), &all)
 }
 
 /// Whether the type may be a template: it is concrete, and no reference.

@@ -210,8 +210,9 @@ fn value_in(instance: &Instance, shape: Shape, component: Component) -> ResultTy
     )
 }
 
+/// The dimensions of a shape, for what the letters stand for.
 #[inline(always)]
-fn dimensions_in(instance: &Instance, shape: Shape) -> Dimensions
+pub fn dimensions_in(instance: &Instance, shape: Shape) -> Dimensions
     ensures { result ≡ dimensions_there instance.now shape }
 {
     match shape {
@@ -237,8 +238,9 @@ fn count_in(instance: &Instance, count: Count) -> u8
     }
 }
 
+/// The scalar that a component is, for what the letters stand for.
 #[inline(always)]
-fn component_in(instance: &Instance, component: Component) -> Scalar
+pub fn component_in(instance: &Instance, component: Component) -> Scalar
     ensures { result ≡ component_there instance.now component }
 {
     match component {

@@ -73,6 +73,7 @@ fn instance_of(concrete: bool, overload: &Overload, operands: &[Operand]) -> Opt
 pub fn settle(concrete: bool, overload: &Overload, binding: &Binding) -> Option<Instance>
     ensures { result ≡ settled concrete overload.now binding.now }
 {
+    // Each letter's kind is read for itself: that of a letter which the overload doesn't have is then known.
     let t = pick(concrete, kinds_of(overload).0, binding.t)?;
     let u = pick(concrete, kinds_of(overload).1, binding.u)?;
     let v = pick(concrete, kinds_of(overload).2, binding.v)?;

@@ -7,7 +7,7 @@ ghost use Rattle.wgsl_rules.specs.standard.Tables.{IsUnambiguous};
 ghost use Rattle.wgsl_standard.specs.Answered.{Answers};
 ghost use Rattle.wgsl_standard.specs.Callees.{overloads_of};
 ghost use Rattle.wgsl_standard.specs.Operands.{operands_view};
-ghost use Rattle.wgsl_standard.specs.Resolved.{resolved_view, IsNamedResolution, IsTemplateResolution, IsCallResolution};
+ghost use Rattle.wgsl_standard.specs.Resolved.{resolved_view, IsNamedResolution, IsCallResolution};
 
 use crate::answer::{NoOverload, is_template, operands_with};
 use crate::callee::{Callee, overloads};
@@ -42,26 +42,15 @@ pub fn resolve_callee(
         (option_map (λ t. view t.now) template.entry) (operands_view operands.now)) result }
 {
     match template {
-        Some(template) => resolve_with_template(alloc, overloads(callee, true), template, operands),
+        Some(template) => {
+            if !is_template(template) {
+                return Err(Fail::Error(NoOverload));
+            }
+            let all = operands_with(alloc, template, operands)?;
+            resolve_by(alloc, overloads(callee, true), &all)
+        }
         None => resolve_by(alloc, overloads(callee, false), operands),
     }
-}
-
-/// The same with a template, which is the first operand.
-fn resolve_with_template(
-    alloc: Global,
-    overloads: Option<&[Overload]>,
-    template: &Type,
-    operands: &[Operand<'_>],
-) -> Result<ResolvedCall, Fail<NoOverload>>
-    requires { IfSome overloads (λ o. IsUnambiguous o.now) }
-    ensures { Answers resolved_view (IsTemplateResolution (option_map (λ o. o.now) overloads.entry) (view template.now) (operands_view operands.now)) result }
-{
-    if !is_template(template) {
-        return Err(Fail::Error(NoOverload));
-    }
-    let all = operands_with(alloc, template, operands)?;
-    resolve_by(alloc, overloads, &all)
 }
 
 /// The overload that is preferred for the operands, if there are overloads, with its types.

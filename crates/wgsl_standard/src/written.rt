@@ -41,7 +41,7 @@ pub fn pattern_at(parameters: &Parameters, index: usize) -> Option<Pattern>
     }
 }
 
-/// The first seven parameters; the last stands for all that are missing.
+/// The first seven parameters, of which the last stands for all after it: the one at an index is that at the index or at 6.
 pub fn patterns_of(parameters: &Parameters) -> [&Pattern; 7]
     ensures { AreListed (in_order parameters.now) result }
 {

@@ -1,7 +1,7 @@
 //! WGSL's own overloads, beside the rules of wgsl-types: what operators, calls of built-in functions and constructors
 //! return by WGSL's overload resolution, what they resolve to, which overloads there are, and why none takes the operands
 //! (WGSL, "Overload Resolution"). Constructors of arrays and structs, `&`, `*` and ray queries have no overloads.
-ghost use Rattle.std.specs.Prelude.{[], ◌∷◌, option_map};
+ghost use Rattle.std.specs.Prelude.{[], ◌∷◌, false, option_map, true};
 ghost use Rattle.wgsl_core.specs.View.{view};
 ghost use Rattle.wgsl_rules.specs.standard.Answers.{IsCallAnswer, IsResolution, IsStandardAnswer};
 ghost use Rattle.wgsl_rules.specs.standard.Operators.{binary_overloads, unary_overloads};

@@ -1,0 +1,14 @@
+pub mod AbstractResults
+pub mod Elements
+pub mod ResultTexts
+pub mod Smallest
+pub mod Composition
+pub mod ConcreteTypes
+pub mod Layers
+pub mod Values
+pub mod Overrides
+pub mod Footprints
+pub mod MemberTypes
+pub mod Loads
+pub mod CommonElements
+pub mod OnlyAnswers

@@ -1,0 +1,7 @@
+use Rattle.std.proofs.Common.{◌≡◌, drop}
+use Rattle.wgsl_standard.specs.Texts.{types_given}
+use Rattle.wgsl_forms.specs.Array.{all_load}
+use Rattle.wgsl_forms.proofs.array.all_load.Given as goal
+
+abbrev pub invariant-loop-value : goal.invariant-loop-value
+invariant-loop-value l = all_load (types_given (drop l.value-index l.values)) ≡ all_load (types_given l.values)

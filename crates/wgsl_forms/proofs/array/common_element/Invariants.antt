@@ -1,0 +1,13 @@
+use Rattle.std.proofs.Common.{Option, Some, drop, map}
+use Rattle.wgsl_rules.specs.types.Types.{WgslType}
+use Rattle.wgsl_rules.proofs.conversion.Folds.{IsFoldedFrom}
+use Rattle.wgsl_standard.specs.Operands.{given_type}
+use Rattle.wgsl_standard.specs.Texts.{types_given}
+use Rattle.wgsl_forms.specs.Array.{referred}
+use Rattle.wgsl_forms.proofs.array.common_element.Given as goal
+
+-- what the rest gives from here is what the whole gives
+abbrev pub invariant-loop-value : goal.invariant-loop-value
+invariant-loop-value l = (r : Option WgslType) →
+    IsFoldedFrom (Some (given_type l.common)) (map referred (types_given (drop l.value-index l.rest))) r →
+    IsFoldedFrom (Some (given_type l.initial.common)) (map referred (types_given l.rest)) r

@@ -1,0 +1,23 @@
+use Rattle.std.proofs.Common.{[], ◌∷◌, None, subst}
+use Rattle.std.specs.Prelude.{option_map}
+use Rattle.wgsl_rules.specs.standard.Choice.{IsChosen}
+use Rattle.wgsl_rules.specs.standard.Operators.{binary_overloads}
+use Rattle.wgsl_standard.specs.Operands.{operand_view}
+use Rattle.wgsl_standard.specs.internal.Choices.{choice_view}
+use Rattle.wgsl_standard.proofs.StandardAnswers.{answer_none}
+use Rattle.wgsl_forms.proofs.Values.{value_answer}
+use Rattle.wgsl_forms.proofs.assign.result_by.Goals as goal
+
+pub returns-in-Some : goal.returns-in-Some
+returns-in-Some c =
+    let os = c.binary_overloads-overloads.result.now in
+    let xs = operand_view c.args.lhs ∷ operand_view c.args.rhs ∷ [] in
+    let chosen = subst (λ r. IsChosen os xs (option_map choice_view r)) c.in-Some.is c.resolve.ensures in
+    value_answer c.args.operator os xs (c.in-Some.choice.index, c.in-Some.choice.instance) _ _ c.binary_overloads-overloads.ensures chosen c.result_value.ensures
+
+pub returns-in-None : goal.returns-in-None
+returns-in-None c =
+    let os = c.binary_overloads-overloads.result.now in
+    let xs = operand_view c.args.lhs ∷ operand_view c.args.rhs ∷ [] in
+    let none = subst (λ r. IsChosen os xs (option_map choice_view r)) c.in-None.is c.resolve.ensures in
+    answer_none (binary_overloads c.args.operator) xs (subst (λ os. IsChosen os xs None) c.binary_overloads-overloads.ensures none)

@@ -1,0 +1,7 @@
+use Rattle.std.proofs.Common.{◌≡◌, drop, map}
+use Rattle.wgsl_forms.specs.Switch.{are_integers}
+use Rattle.wgsl_forms.specs.Views.{given}
+use Rattle.wgsl_forms.proofs.switch.are_integers.Given as goal
+
+abbrev pub invariant-loop-value : goal.invariant-loop-value
+invariant-loop-value l = are_integers (map given (drop l.value-index l.values)) ≡ are_integers (map given l.values)

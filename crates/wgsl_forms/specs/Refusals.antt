@@ -1,0 +1,29 @@
+-- Why a form has no type, and the message that says so.
+use Rattle.std.specs.Prelude.{ℕ, List, ◌++◌, codes}
+use Rattle.wgsl_syntax.specs.Address.{space_text, access_text}
+use Rattle.wgsl_syntax.specs.declared.address.AddressSpace.{AddressSpace}
+use Rattle.wgsl_syntax.specs.declared.address.AccessMode.{AccessMode}
+use Rattle.wgsl_rules.specs.types.Types.{WgslType}
+use Rattle.wgsl_rules.specs.types.Spelling.{spelling}
+use Rattle.wgsl_rules.specs.errors.Refusals.{Refusal as Error, message}
+
+pub data Refusal : Type 0 where
+  -- one that the ported rules have too
+  error : Error → Refusal
+  not_reference : WgslType → Refusal
+  not_integer : WgslType → Refusal
+  not_const : Refusal
+  not_in_space : AddressSpace → WgslType → Refusal
+  initialized : AddressSpace → Refusal
+  access_mode : AddressSpace → AccessMode → Refusal
+
+abbrev pub refusal_text : Refusal → List ℕ
+refusal_text (error e) = message e
+refusal_text (not_reference t) = codes "`" ++ spelling t ++ codes "` is not a reference"
+refusal_text (not_integer t) = codes "expected `i32` or `u32`, got `" ++ spelling t ++ codes "`"
+refusal_text not_const = codes "expected a const-expression"
+refusal_text (not_in_space s t) =
+    codes "a variable in the address space `" ++ space_text s ++ codes "` cannot hold a `" ++ spelling t ++ codes "`"
+refusal_text (initialized s) = codes "a variable in the address space `" ++ space_text s ++ codes "` has no initializer"
+refusal_text (access_mode s a) =
+    codes "access mode `" ++ access_text a ++ codes "` is not valid in the address space `" ++ space_text s ++ codes "`"

@@ -1,0 +1,132 @@
+-- Variables (WGSL, "Variable Declarations" and "Address Spaces").
+use Rattle.std.specs.Prelude.{Bool, true, false, not, ◌&&◌, Option, Some, None, Result, Ok}
+use Rattle.wgsl_syntax.specs.Address.{default_access}
+use Rattle.wgsl_syntax.specs.declared.address.AddressSpace.{AddressSpace}
+use Rattle.wgsl_syntax.specs.declared.address.AddressSpace.TheVariants.{Function, Private, Workgroup, Uniform, Storage, Handle, PushConstant}
+use Rattle.wgsl_syntax.specs.declared.address.AccessMode.{AccessMode}
+use Rattle.wgsl_syntax.specs.declared.address.AccessMode.TheVariants.{Read, ReadWrite}
+use Rattle.wgsl_rules.specs.types.Types.{array_of, WgslType, Members, no_members, member, scalar, within, struct, atomic, reference, binding_array}
+use Rattle.wgsl_rules.specs.errors.Refusals.{not_constructible}
+use Rattle.wgsl_rules.specs.standard.Choice.{Operand}
+use Rattle.wgsl_forms.specs.Concrete.{concrete_of, has_abstract_type}
+use Rattle.wgsl_forms.specs.Convert.{converted}
+use Rattle.wgsl_forms.specs.Declare.{is_const_type}
+use Rattle.wgsl_forms.specs.Expressions.{is_const_expression}
+use Rattle.wgsl_forms.specs.Kinds.{is_constructible, is_handle, is_host_shareable}
+use Rattle.wgsl_forms.specs.Load.{loaded}
+use Rattle.wgsl_forms.specs.Questions.{asks, after}
+use Rattle.wgsl_forms.specs.Refusals.{Refusal, error, not_const, not_in_space, initialized, access_mode}
+
+-- A scalar, a vector, a matrix, an array with a count or a struct, of such types, and perhaps atomics.
+abbrev mutual
+  pub has_fixed_footprint : Bool → WgslType → Bool
+  has_fixed_footprint atomics (scalar s) = true
+  has_fixed_footprint atomics (within (array_of None) t) = false
+  has_fixed_footprint atomics (within l t) = has_fixed_footprint atomics t
+  has_fixed_footprint atomics (struct name ms) = have_fixed_footprint atomics ms
+  has_fixed_footprint atomics (atomic t) = atomics
+  has_fixed_footprint atomics t = false
+
+  pub have_fixed_footprint : Bool → Members → Bool
+  have_fixed_footprint atomics no_members = true
+  have_fixed_footprint atomics (member name t size align ms) = has_fixed_footprint atomics t && have_fixed_footprint atomics ms
+
+-- such a type, or a runtime-sized array of one
+abbrev pub may_end : Bool → WgslType → Bool
+may_end atomics (within (array_of None) t) = has_fixed_footprint atomics t
+may_end atomics t = has_fixed_footprint atomics t
+
+-- members of such types; the last may be a runtime-sized array
+abbrev pub may_end_members : Bool → Members → Bool
+may_end_members atomics no_members = true
+may_end_members atomics (member name t size align no_members) = may_end atomics t
+may_end_members atomics (member name t size align ms) = has_fixed_footprint atomics t && may_end_members atomics ms
+
+-- what ends in a runtime-sized array, or in none: `array<f32>`, `struct { n: u32, d: array<f32> }`, `f32`
+abbrev pub ends_in_array : Bool → WgslType → Bool
+ends_in_array atomics (struct name ms) = may_end_members atomics ms
+ends_in_array atomics t = may_end atomics t
+
+-- the access mode of a variable, said or not
+abbrev pub access_of : AddressSpace → Option AccessMode → AccessMode
+access_of s None = default_access s
+access_of s (Some a) = a
+
+-- `read_write` may be said for `storage`, and elsewhere only what would be there anyway
+abbrev pub may_have_access : AddressSpace → AccessMode → Bool
+may_have_access Function ReadWrite = true
+may_have_access Private ReadWrite = true
+may_have_access Workgroup ReadWrite = true
+may_have_access Uniform Read = true
+may_have_access Storage Read = true
+may_have_access Storage ReadWrite = true
+may_have_access Handle Read = true
+may_have_access PushConstant Read = true
+may_have_access s a = false
+
+abbrev pub is_read_write : AccessMode → Bool
+is_read_write ReadWrite = true
+is_read_write a = false
+
+-- handles, and naga's arrays of them
+abbrev pub is_handle_or_array : WgslType → Bool
+is_handle_or_array (binding_array n t) = true
+is_handle_or_array t = is_handle t
+
+-- what a variable of a space holds
+abbrev pub holds : AddressSpace → AccessMode → WgslType → Bool
+-- `var v: vec3<f32>;`, `var<private> v: array<bool, 2>;`
+holds Function a t = is_const_type t
+holds Private a t = is_const_type t
+-- `var<workgroup> v: atomic<i32>;`
+holds Workgroup a t = has_fixed_footprint true t && not (has_abstract_type t)
+-- `var<uniform> v: mat4x4<f32>;`
+holds Uniform a t = is_host_shareable t && is_constructible t
+holds PushConstant a t = is_host_shareable t && is_constructible t
+-- `var<storage> v: array<f32>;`, `var<storage, read_write> v: array<atomic<u32>>;`
+holds Storage a t = is_host_shareable t && ends_in_array (is_read_write a) t
+-- `var v: sampler;`
+holds Handle a t = is_handle_or_array t
+
+-- why a variable doesn't hold a type
+abbrev pub not_held : AddressSpace → WgslType → Refusal
+not_held Function t = error (not_constructible t)
+not_held Private t = error (not_constructible t)
+not_held s t = not_in_space s t
+
+-- `var<storage> v: f32;` : ref<storage, f32, read>. `var<uniform, read_write> v: f32;` is refused, and so is
+-- `var<uniform> v: bool;`
+abbrev pub variable_in : AddressSpace → AccessMode → WgslType → Result WgslType Refusal
+variable_in s a t = asks (may_have_access s a) (access_mode s a) (asks (holds s a t) (not_held s t) (Ok (reference s t a)))
+
+-- The type of the name of a variable.
+abbrev pub variable : AddressSpace → Option AccessMode → WgslType → Result WgslType Refusal
+variable s a t = variable_in s (access_of s a) t
+
+-- `var<workgroup> v = 1;` is refused
+abbrev pub has_initializer : AddressSpace → Bool
+has_initializer Function = true
+has_initializer Private = true
+has_initializer s = false
+
+-- `var<private> v = i;`, where `i` is no const-expression, is refused
+abbrev pub may_initialize : AddressSpace → Operand → Bool
+may_initialize Private x = is_const_expression x
+may_initialize s x = true
+
+-- the store type of a variable with a value, in the spaces where it may have one
+abbrev pub stored : WgslType → Option WgslType → Result WgslType Refusal
+-- `var v = 1;` : i32
+stored x None = after (loaded x) (λ v. asks (is_constructible v) (error (not_constructible (concrete_of v))) (Ok (concrete_of v)))
+-- `var v: f32 = 1;` : f32. `var v: u32 = 1i;` is refused
+stored x (Some t) = asks (is_const_type t) (error (not_constructible t)) (after (loaded x) (λ v. converted v t))
+
+-- `var<private> v = 1;` : ref<private, i32, read_write>
+abbrev pub initialized_in : AddressSpace → AccessMode → Operand → Option WgslType → Result WgslType Refusal
+initialized_in s a x t =
+    asks (may_have_access s a) (access_mode s a) (asks (has_initializer s) (initialized s) (asks (may_initialize s x) not_const
+    (after (stored x.of_type t) (λ t. Ok (reference s t a)))))
+
+-- The type of the name of a variable with a value.
+abbrev pub initialized_variable : AddressSpace → Option AccessMode → Operand → Option WgslType → Result WgslType Refusal
+initialized_variable s a x t = initialized_in s (access_of s a) x t

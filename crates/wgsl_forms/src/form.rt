@@ -1,0 +1,228 @@
+// What a form is: its type, which isn't built.
+ghost use Rattle.std.specs.Prelude.{◌≡◌, IfOk};
+ghost use Rattle.wgsl_core.specs.View.{view};
+ghost use Rattle.wgsl_rules.specs.types.Types.{within};
+ghost use Rattle.wgsl_rules.specs.standard.Overloads.{type_with};
+ghost use Rattle.wgsl_standard.specs.Operands.{given_type};
+ghost use Rattle.wgsl_forms.specs.Views.{element_view, form_type_view, unbuilt_view};
+
+use crate::concrete::ConcreteType;
+use std::alloc::{AllocError, Global};
+use std::fmt;
+use std::fmt::Write;
+use wgsl_core::ty::Type;
+use wgsl_standard::operand::OperandType;
+use wgsl_syntax::address::{AccessMode, AddressSpace};
+use wgsl_syntax::layer::Layer;
+use wgsl_syntax::overload::Dimensions;
+use wgsl_syntax::scalar::Scalar;
+
+/// A type that isn't built, or that is another type made concrete.
+#[derive(Clone, Copy)]
+pub enum Element<'a> {
+    /// A scalar, or a vector or a matrix of scalars.
+    Value(Dimensions, Scalar),
+    /// A type of any form.
+    Any(&'a Type),
+    /// The concrete type for that type.
+    Concrete(&'a Type),
+}
+
+/// A type that isn't built yet: an element, or an array, a vector or a matrix of it.
+#[derive(Clone, Copy)]
+pub struct UnbuiltType<'a> {
+    pub layer: Option<Layer>,
+    pub element: Element<'a>,
+}
+
+/// A reference or a pointer (WGSL, "Memory Views"), without its store type.
+#[derive(Clone, Copy, PartialEq, Eq, Debug)]
+pub enum MemoryView {
+    Reference(AddressSpace, AccessMode),
+    Pointer(AddressSpace, AccessMode),
+}
+
+/// The type of a form: a reference or a pointer to a type, or that type itself.
+#[derive(Clone, Copy)]
+pub struct FormType<'a> {
+    pub memory: Option<MemoryView>,
+    pub of: UnbuiltType<'a>,
+}
+
+/// What an expression is.
+#[derive(Clone, Copy)]
+pub struct Form<'a> {
+    pub ty: FormType<'a>,
+    /// Whether it is a const-expression.
+    pub is_constant: bool,
+    /// Whether it is a reference to a component of a vector, of which there is no pointer.
+    pub is_component: bool,
+}
+
+impl<'a> UnbuiltType<'a> {
+    /// The type of an operand.
+    #[inline(always)]
+    pub fn of(ty: OperandType<'a>) -> UnbuiltType<'a>
+        ensures { unbuilt_view result ≡ given_type ty.entry }
+    {
+        let element = match ty {
+            OperandType::Value(dimensions, scalar) => Element::Value(dimensions, scalar),
+            OperandType::Any(ty) => Element::Any(ty),
+        };
+        UnbuiltType {
+            layer: None,
+            element,
+        }
+    }
+
+    /// The element itself.
+    #[inline(always)]
+    pub fn single(element: Element<'a>) -> UnbuiltType<'a>
+        ensures { unbuilt_view result ≡ element_view element.entry }
+    {
+        UnbuiltType {
+            layer: None,
+            element,
+        }
+    }
+
+    /// The element within a layer.
+    #[inline(always)]
+    pub fn within(layer: Layer, element: Element<'a>) -> UnbuiltType<'a>
+        ensures { unbuilt_view result ≡ within layer (element_view element.entry) }
+    {
+        UnbuiltType {
+            layer: Some(layer),
+            element,
+        }
+    }
+
+    /// The type itself.
+    #[inline(always)]
+    pub fn of_type(ty: &'a Type) -> UnbuiltType<'a>
+        ensures { unbuilt_view result ≡ view ty.now }
+    {
+        UnbuiltType {
+            layer: None,
+            element: Element::Any(ty),
+        }
+    }
+}
+
+impl<'a> UnbuiltType<'a> {
+    /// Builds the type in memory.
+    pub fn build(self, alloc: Global) -> Result<Type, AllocError>
+        ensures { IfOk result (λ t. view t ≡ unbuilt_view self.entry) }
+    {
+        let element = self.element.build(alloc)?;
+        match self.layer {
+            None => Ok(element),
+            Some(Layer::Array(count)) => Type::array(alloc, count, element),
+            Some(Layer::Vec(components)) => Type::vector(alloc, components, element),
+            Some(Layer::Mat(columns, rows)) => Type::matrix(alloc, columns, rows, element),
+        }
+    }
+}
+
+impl<'a> Element<'a> {
+    /// Builds the type in memory.
+    pub fn build(self, alloc: Global) -> Result<Type, AllocError>
+        ensures { IfOk result (λ t. view t ≡ element_view self.entry) }
+    {
+        match self {
+            Element::Value(dimensions, scalar) => built_value(alloc, dimensions, scalar),
+            Element::Any(ty) => ty.clone(alloc),
+            Element::Concrete(of) => ConcreteType { of }.build(alloc),
+        }
+    }
+}
+
+fn built_value(alloc: Global, dimensions: Dimensions, scalar: Scalar) -> Result<Type, AllocError>
+    ensures { IfOk result (λ t. view t ≡ type_with dimensions scalar) }
+{
+    match dimensions {
+        Dimensions::Single => Ok(Type::from(scalar)),
+        Dimensions::Vector(n) => Type::vector(alloc, n, Type::from(scalar)),
+        Dimensions::Matrix(c, r) => Type::matrix(alloc, c, r, Type::from(scalar)),
+    }
+}
+
+impl<'a> FormType<'a> {
+    /// A type that is no reference or pointer to another.
+    #[inline(always)]
+    pub fn of(of: UnbuiltType<'a>) -> FormType<'a>
+        ensures { form_type_view result ≡ unbuilt_view of.entry }
+    {
+        FormType { memory: None, of }
+    }
+
+    /// Builds the type in memory.
+    pub fn build(self, alloc: Global) -> Result<Type, AllocError>
+        ensures { IfOk result (λ t. view t ≡ form_type_view self.entry) }
+    {
+        let of = self.of.build(alloc)?;
+        match self.memory {
+            None => Ok(of),
+            Some(MemoryView::Reference(space, access)) => {
+                Ok(Type::Ref(space, Box::new(alloc, of)?, access))
+            }
+            Some(MemoryView::Pointer(space, access)) => {
+                Ok(Type::Ptr(space, Box::new(alloc, of)?, access))
+            }
+        }
+    }
+}
+
+impl fmt::Display for Element<'_> {
+    ghost use Rattle.std.specs.Prelude.{Some};
+    ghost use Rattle.wgsl_rules.specs.types.Spelling.{spelling};
+    ghost use Rattle.wgsl_forms.specs.Views.{element_view};
+
+    ghost output = { λ e. Some (spelling (element_view e)) };
+
+    fn fmt<W: Write>(&self, f: &mut fmt::Formatter<W>) -> fmt::Result {
+        match self {
+            Element::Value(dimensions, scalar) => {
+                write!(f, "{}", OperandType::Value(*dimensions, *scalar))
+            }
+            Element::Any(ty) => write!(f, "{ty}"),
+            Element::Concrete(of) => write!(f, "{}", ConcreteType { of: *of }),
+        }
+    }
+}
+
+impl fmt::Display for UnbuiltType<'_> {
+    ghost use Rattle.std.specs.Prelude.{Some};
+    ghost use Rattle.wgsl_rules.specs.types.Spelling.{spelling};
+    ghost use Rattle.wgsl_forms.specs.Views.{unbuilt_view};
+
+    ghost output = { λ t. Some (spelling (unbuilt_view t)) };
+
+    fn fmt<W: Write>(&self, f: &mut fmt::Formatter<W>) -> fmt::Result {
+        let of = self.element;
+        match self.layer {
+            None => write!(f, "{of}"),
+            Some(Layer::Array(None)) => write!(f, "array<{of}>"),
+            Some(Layer::Array(Some(n))) => write!(f, "array<{of}, {n}>"),
+            Some(Layer::Vec(n)) => write!(f, "vec{n}<{of}>"),
+            Some(Layer::Mat(c, r)) => write!(f, "mat{c}x{r}<{of}>"),
+        }
+    }
+}
+
+impl fmt::Display for FormType<'_> {
+    ghost use Rattle.std.specs.Prelude.{Some};
+    ghost use Rattle.wgsl_rules.specs.types.Spelling.{spelling};
+    ghost use Rattle.wgsl_forms.specs.Views.{form_type_view};
+
+    ghost output = { λ t. Some (spelling (form_type_view t)) };
+
+    fn fmt<W: Write>(&self, f: &mut fmt::Formatter<W>) -> fmt::Result {
+        let of = self.of;
+        match self.memory {
+            None => write!(f, "{of}"),
+            Some(MemoryView::Reference(space, access)) => write!(f, "ref<{space}, {of}, {access}>"),
+            Some(MemoryView::Pointer(space, access)) => write!(f, "ptr<{space}, {of}, {access}>"),
+        }
+    }
+}

@@ -1,0 +1,199 @@
+// Indexes into vectors, matrices and arrays.
+ghost use Rattle.std.specs.Prelude.{◌≡◌, ◌&&◌, ◌||◌, cond, is_some, option_map};
+ghost use Rattle.wgsl_rules.specs.types.Types.{mat, scalar as scalar_type};
+ghost use Rattle.wgsl_rules.specs.standard.Overloads.{type_with};
+ghost use Rattle.wgsl_core.specs.View.{view};
+ghost use Rattle.wgsl_standard.specs.Operands.{given_type};
+ghost use Rattle.wgsl_forms.specs.Concrete.{concrete_of};
+ghost use Rattle.wgsl_forms.specs.Index.{element_in, element_of as element_there, index_answer, indexed_by, is_index as index_type, is_vector as vector_type};
+ghost use Rattle.wgsl_forms.specs.Expressions.{is_const_expression as const_expression};
+ghost use Rattle.wgsl_forms.specs.Load.{loaded};
+ghost use Rattle.wgsl_forms.specs.Views.{answer_view, element_view, form_view, given, unbuilt_view};
+
+use crate::concrete::{concrete_component, has_abstract_type};
+use crate::expression::is_const_expression;
+use crate::form::{Element, Form, UnbuiltType};
+use crate::load::load_type;
+use crate::memory::{behind, in_memory};
+use crate::refusal::Refusal;
+use wgsl_core::ty::Type;
+use wgsl_core::ty::form::Form as TypeForm;
+use wgsl_standard::operand::{Operand, OperandType};
+use wgsl_syntax::address::{AccessMode, AddressSpace};
+use wgsl_syntax::layer::Layer;
+use wgsl_syntax::overload::Dimensions;
+use wgsl_syntax::scalar::Scalar;
+
+/// What `x[index]` is (WGSL, "Vector Access", "Matrix Access" and "Array Access"): a component, a column or an element; a
+/// reference to it in memory. An abstract value is made concrete first, unless the index is a const-expression.
+/// `NotIndexable` of another type, then what the index's load refuses, and `NotInteger`.
+pub fn type_of_index<'a>(x: &Operand<'a>, index: &Operand<'a>) -> Result<Form<'a>, Refusal<'a>>
+    ensures { answer_view form_view result ≡ index_answer (given x.now) (given index.now) }
+{
+    let whole = behind(x.ty);
+    match element_of(whole.ty, is_indexed_as_given(whole.memory, index)) {
+        Some(element) => indexed_by(x, index, element),
+        None => Err(Refusal::NotIndexable(UnbuiltType::of(whole.ty))),
+    }
+}
+
+/// Whether the type that is indexed stays as it is: in memory, or if the index is a const-expression.
+fn is_indexed_as_given(memory: Option<(AddressSpace, AccessMode)>, index: &Operand<'_>) -> bool
+    ensures { result ≡ (is_some memory || const_expression (given index.now)) }
+{
+    memory.is_some() || is_const_expression(index)
+}
+
+/// The element of that type, if the index is an integer.
+fn indexed_by<'a>(
+    x: &Operand<'a>,
+    index: &Operand<'a>,
+    element: UnbuiltType<'a>,
+) -> Result<Form<'a>, Refusal<'a>>
+    ensures { answer_view form_view result
+        ≡ indexed_by (given x.now) (given index.now) (unbuilt_view element.entry) (loaded (given_type index.now.ty)) }
+{
+    match load_type(index.ty) {
+        Ok(found) => {
+            if is_index(found) {
+                Ok(element_in(x, index, element))
+            } else {
+                Err(Refusal::NotInteger(UnbuiltType::of(found)))
+            }
+        }
+        Err(refusal) => Err(refusal),
+    }
+}
+
+fn element_in<'a>(x: &Operand<'a>, index: &Operand<'a>, element: UnbuiltType<'a>) -> Form<'a>
+    ensures { form_view result
+        ≡ element_in (given x.now) (given index.now) (unbuilt_view element.entry) }
+{
+    let whole = behind(x.ty);
+    Form {
+        ty: in_memory(whole.memory, element),
+        is_constant: are_const_expressions(x, index),
+        is_component: is_component(whole.memory, whole.ty),
+    }
+}
+
+fn are_const_expressions(x: &Operand<'_>, y: &Operand<'_>) -> bool
+    ensures { result ≡ (const_expression (given x.now) && const_expression (given y.now)) }
+{
+    is_const_expression(x) && is_const_expression(y)
+}
+
+/// Whether an element there is a reference to a component of a vector.
+fn is_component(memory: Option<(AddressSpace, AccessMode)>, ty: OperandType<'_>) -> bool
+    ensures { result ≡ (is_some memory && vector_type (given_type ty.entry)) }
+{
+    memory.is_some() && is_vector(ty)
+}
+
+/// The type of the elements, made concrete unless it is to stay.
+fn element_of(ty: OperandType<'_>, stays: bool) -> Option<UnbuiltType<'_>>
+    ensures { option_map unbuilt_view result
+        ≡ element_there (cond stays (given_type ty.entry) (concrete_of (given_type ty.entry))) }
+{
+    match ty {
+        OperandType::Value(dimensions, scalar) => {
+            if stays {
+                element_of_value(dimensions, scalar)
+            } else {
+                element_of_value(dimensions, concrete_component(dimensions, scalar))
+            }
+        }
+        OperandType::Any(of) => element_of_type(of, stays),
+    }
+}
+
+/// The elements of a vector or a matrix of scalars.
+fn element_of_value<'a>(dimensions: Dimensions, scalar: Scalar) -> Option<UnbuiltType<'a>>
+    ensures { option_map unbuilt_view result ≡ element_there (type_with dimensions scalar) }
+{
+    match dimensions {
+        Dimensions::Single => None,
+        Dimensions::Vector(_) => {
+            Some(UnbuiltType::single(Element::Value(Dimensions::Single, scalar)))
+        }
+        Dimensions::Matrix(_, rows) => {
+            Some(UnbuiltType::single(Element::Value(Dimensions::Vector(rows), scalar)))
+        }
+    }
+}
+
+#[tactic(auto, using(crate::proofs::Elements::none_stays))]
+fn element_of_type(ty: &Type, stays: bool) -> Option<UnbuiltType<'_>>
+    ensures { option_map unbuilt_view result
+        ≡ element_there (cond stays (view ty.now) (concrete_of (view ty.now))) }
+{
+    match ty.form() {
+        TypeForm::Vector(_, of) | TypeForm::Array(_, of) => {
+            Some(UnbuiltType::single(as_it_stays(of, stays)))
+        }
+        TypeForm::Matrix(c, rows, of) => Some(column(c, rows, of, stays)),
+        TypeForm::BindingArray(_, of) => Some(UnbuiltType::of_type(of)),
+        TypeForm::Scalar(_) => None,
+        TypeForm::Struct(_) => None,
+        TypeForm::Atomic(_) => None,
+        TypeForm::Pointer(_, _, _) => None,
+        TypeForm::Reference(_, _, _) => None,
+        TypeForm::Texture(_) => None,
+        TypeForm::Sampler(_) => None,
+        TypeForm::RayQuery(_) => None,
+        TypeForm::AccelerationStructure(_) => None,
+    }
+}
+
+/// The type, made concrete unless it is to stay.
+fn as_it_stays(ty: &Type, stays: bool) -> Element<'_>
+    ensures { element_view result ≡ cond stays (view ty.now) (concrete_of (view ty.now)) }
+{
+    if stays {
+        Element::Any(ty)
+    } else {
+        Element::Concrete(ty)
+    }
+}
+
+/// A column of a matrix.
+fn column(columns: u8, rows: u8, of: &Type, stays: bool) -> UnbuiltType<'_>
+    ensures { Some (unbuilt_view result)
+        ≡ element_there (cond stays (mat columns rows (view of.now)) (concrete_of (mat columns rows (view of.now)))) }
+{
+    if !stays && has_abstract_type(of) {
+        UnbuiltType::single(Element::Value(Dimensions::Vector(rows), Scalar::F32))
+    } else {
+        UnbuiltType::within(Layer::Vec(rows), Element::Any(of))
+    }
+}
+
+fn is_vector(ty: OperandType<'_>) -> bool
+    ensures { result ≡ vector_type (given_type ty.entry) }
+{
+    match ty {
+        OperandType::Value(Dimensions::Vector(_), _) => true,
+        OperandType::Value(_, _) => false,
+        OperandType::Any(ty) => ty.is_vec(),
+    }
+}
+
+/// Whether it is `i32`, `u32` or the abstract integer.
+pub(crate) fn is_index(ty: OperandType<'_>) -> bool
+    ensures { result ≡ index_type (given_type ty.entry) }
+{
+    match ty {
+        OperandType::Value(Dimensions::Single, scalar) => is_index_scalar(scalar),
+        OperandType::Value(_, _) => false,
+        OperandType::Any(ty) => match ty.scalar() {
+            Some(scalar) => is_index_scalar(scalar),
+            None => false,
+        },
+    }
+}
+
+fn is_index_scalar(scalar: Scalar) -> bool
+    ensures { result ≡ index_type (scalar_type scalar) }
+{
+    matches!(scalar, Scalar::AbstractInt | Scalar::I32 | Scalar::U32)
+}

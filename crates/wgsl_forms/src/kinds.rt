@@ -1,0 +1,122 @@
+// Kinds of types that loads and declarations ask about.
+ghost use Rattle.std.specs.Prelude.{◌≡◌};
+ghost use Rattle.wgsl_core.specs.View.{view, member_view};
+ghost use Rattle.wgsl_core.specs.internal.View.{members_view};
+ghost use Rattle.wgsl_standard.specs.Operands.{given_type};
+ghost use Rattle.wgsl_forms.specs.Kinds.{is_constructible as constructible, are_constructible as all_constructible, is_handle as handle, is_host_shareable as host_shareable, are_host_shareable as all_host_shareable};
+
+use wgsl_core::ty::form::Form;
+use wgsl_core::ty::{StructMemberType, Type};
+use wgsl_standard::operand::OperandType;
+
+/// Whether values of the type can be made (WGSL, "Constructible Types"). It may be abstract.
+#[cycle(constructible)]
+pub fn is_constructible(ty: &Type) -> bool
+    ensures { result ≡ constructible (view ty.now) }
+{
+    match ty {
+        Type::Bool
+        | Type::AbstractInt
+        | Type::AbstractFloat
+        | Type::I32
+        | Type::U32
+        | Type::F32
+        | Type::F16
+        | Type::I64
+        | Type::U64
+        | Type::F64 => true,
+        Type::Array(t, n) => n.is_some() && is_constructible(t),
+        Type::Vec(_, t) => is_constructible(t),
+        Type::Mat(_, _, t) => is_constructible(t),
+        Type::Struct(s) => are_constructible(&s.members),
+        Type::Atomic(_)
+        | Type::Ptr(_, _, _)
+        | Type::Ref(_, _, _)
+        | Type::Texture(_)
+        | Type::Sampler(_)
+        | Type::BindingArray(_, _)
+        | Type::RayQuery(_)
+        | Type::AccelerationStructure(_) => false,
+    }
+}
+
+#[cycle(constructible)]
+fn are_constructible(members: &Vec<StructMemberType>) -> bool
+    ensures { result ≡ all_constructible (members_view members.now.items) }
+{
+    for member in members {
+        if !member_is_constructible(member) {
+            return false;
+        }
+    }
+    true
+}
+
+#[cycle(constructible)]
+fn member_is_constructible(member: &StructMemberType) -> bool
+    ensures { result ≡ constructible (member_view member.now).ty }
+{
+    is_constructible(&member.ty)
+}
+
+/// Whether the type is a texture or a sampler.
+pub fn is_handle(ty: &Type) -> bool
+    ensures { result ≡ handle (view ty.now) }
+{
+    matches!(ty.form(), Form::Texture(_) | Form::Sampler(_))
+}
+
+/// Whether the type of an operand is constructible.
+#[inline(always)]
+pub fn operand_is_constructible(ty: OperandType<'_>) -> bool
+    ensures { result ≡ constructible (given_type ty.entry) }
+{
+    match ty {
+        OperandType::Value(_, _) => true,
+        OperandType::Any(ty) => is_constructible(ty),
+    }
+}
+
+/// Whether the host can share memory with that type (WGSL, "Host-shareable Types").
+#[cycle(host_shareable)]
+pub fn is_host_shareable(ty: &Type) -> bool
+    ensures { result ≡ host_shareable (view ty.now) }
+{
+    match ty {
+        Type::I32 | Type::U32 | Type::F32 | Type::F16 | Type::I64 | Type::U64 | Type::F64 => true,
+        Type::Array(t, _) => is_host_shareable(t),
+        Type::Vec(_, t) => is_host_shareable(t),
+        Type::Mat(_, _, t) => is_host_shareable(t),
+        Type::Atomic(t) => is_host_shareable(t),
+        Type::Struct(s) => are_host_shareable(&s.members),
+        Type::Bool
+        | Type::AbstractInt
+        | Type::AbstractFloat
+        | Type::Ptr(_, _, _)
+        | Type::Ref(_, _, _)
+        | Type::Texture(_)
+        | Type::Sampler(_)
+        | Type::BindingArray(_, _)
+        | Type::RayQuery(_)
+        | Type::AccelerationStructure(_) => false,
+    }
+}
+
+#[cycle(host_shareable)]
+fn are_host_shareable(members: &Vec<StructMemberType>) -> bool
+    ensures { result ≡ all_host_shareable (members_view members.now.items) }
+{
+    for member in members {
+        if !member_is_host_shareable(member) {
+            return false;
+        }
+    }
+    true
+}
+
+#[cycle(host_shareable)]
+fn member_is_host_shareable(member: &StructMemberType) -> bool
+    ensures { result ≡ host_shareable (member_view member.now).ty }
+{
+    is_host_shareable(&member.ty)
+}

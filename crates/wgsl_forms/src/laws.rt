@@ -1,0 +1,31 @@
+// Laws of forms: each function returns nothing, and its contract is the law.
+ghost use Rattle.wgsl_core.specs.View.{view};
+ghost use Rattle.wgsl_forms.specs.Laws.{AddressesInvert, MakesConcrete, PointersCompose};
+ghost use Rattle.wgsl_forms.specs.Views.{given};
+
+use wgsl_core::ty::Type;
+use wgsl_standard::operand::Operand;
+use wgsl_syntax::address::{AccessMode, AddressSpace};
+
+/// A pointer and the reference to the same memory have the same members and elements (WGSL, "Memory View Expressions").
+#[tactic(auto, using(crate::proofs::Composition::compose))]
+pub fn pointers_compose(
+    space: AddressSpace,
+    store: &Type,
+    access: AccessMode,
+    name: &str,
+    index: &Operand<'_>,
+)
+    ensures { PointersCompose space (view store.now) access name.now (given index.now) }
+{}
+
+/// The address of a reference leads back to it.
+#[tactic(auto, using(crate::proofs::Composition::invert))]
+pub fn addresses_invert(ty: &Type)
+    ensures { AddressesInvert (view ty.now) }
+{}
+
+/// What is made concrete has no abstract type, and what has none stays (WGSL, "Abstract Numeric Types").
+pub fn makes_concrete(ty: &Type)
+    ensures { MakesConcrete (view ty.now) }
+{}

@@ -1,0 +1,24 @@
+//! The forms of WGSL that aren't operators, constructors or calls: members, indexes, loads, `&` and `*`, declarations,
+//! assignments and lists of values.
+#![tactic(auto)]
+
+pub mod address;
+pub mod array;
+pub mod assign;
+pub mod concrete;
+pub mod convert;
+pub mod declare;
+pub mod expression;
+pub mod form;
+pub mod index;
+pub mod kinds;
+pub mod laws;
+pub mod layout;
+pub mod lists;
+pub mod load;
+pub mod member;
+pub mod memory;
+pub mod one_answer;
+pub mod refusal;
+pub mod switch;
+pub mod variable;

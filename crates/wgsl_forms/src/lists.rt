@@ -1,0 +1,160 @@
+// Values of a list: arguments of functions and of constructors.
+ghost use Rattle.std.specs.Prelude.{◌≡◌, length, map};
+ghost use Rattle.wgsl_core.specs.View.{view};
+ghost use Rattle.wgsl_core.specs.internal.View.{members_view};
+ghost use Rattle.wgsl_standard.specs.Operands.{given_type};
+ghost use Rattle.wgsl_standard.specs.Texts.{types_given};
+ghost use Rattle.wgsl_forms.specs.Lists.{all_fit as all_fit_there, are_parameters as parameters_there, constructed, counted, each_fits as each_fits_there, fits as fits_there, list_fits, member_types, members_fit as members_fit_there, value_fits, values_fit};
+ghost use Rattle.wgsl_forms.specs.Views.{answer_view};
+
+use crate::convert::converts;
+use crate::declare::is_let_type;
+use crate::form::UnbuiltType;
+use crate::kinds::is_constructible;
+use crate::load::load_type;
+use crate::refusal::Refusal;
+use wgsl_core::ty::form::Form;
+use wgsl_core::ty::{StructMemberType, Type};
+use wgsl_standard::operand::{Operand, OperandType};
+
+/// Whether parameters of these types take the values (WGSL, "Function Calls"); with one type also `return`, or a condition.
+/// Refused, in this order, by `NotConstructible` of a parameter that is abstract or neither constructible nor a pointer nor a
+/// handle, by `ParamCount`, and for the first value that doesn't fit by its load or `ParamType`.
+pub fn fit<'a>(values: &[Operand<'a>], types: &'a [Type]) -> Result<(), Refusal<'a>>
+    ensures { answer_view (λ u. tt) result
+        ≡ list_fits (map view types.now) (types_given values.now) }
+{
+    are_parameters(types)?;
+    count_is("fit", types.len(), values.len())?;
+    each_fits(types, values)
+}
+
+fn are_parameters<'a>(types: &'a [Type]) -> Result<(), Refusal<'a>>
+    ensures { answer_view (λ u. tt) result ≡ parameters_there (map view types.now) }
+{
+    for ty in types {
+        if !is_let_type(ty) {
+            return Err(Refusal::NotConstructible(UnbuiltType::of_type(ty)));
+        }
+    }
+    Ok(())
+}
+
+/// Whether what has the name takes that many values.
+pub(crate) fn count_is<'a>(name: &'a str, expected: usize, found: usize) -> Result<(), Refusal<'a>>
+    ensures { answer_view (λ u. tt) result ≡ counted name.now expected found }
+{
+    if expected == found {
+        Ok(())
+    } else {
+        Err(Refusal::ParamCount(name, expected, found))
+    }
+}
+
+fn each_fits<'a>(types: &'a [Type], values: &[Operand<'a>]) -> Result<(), Refusal<'a>>
+    requires { length types.now ≡ length values.now }
+    ensures { answer_view (λ u. tt) result
+        ≡ each_fits_there (map view types.now) (types_given values.now) }
+{
+    for i in 0..types.len() {
+        fits(&types[i], values[i].ty)?;
+    }
+    Ok(())
+}
+
+/// Whether a parameter of the type takes a value.
+pub(crate) fn fits<'a>(ty: &'a Type, value: OperandType<'a>) -> Result<(), Refusal<'a>>
+    ensures { answer_view (λ u. tt) result ≡ fits_there (view ty.now) (given_type value.entry) }
+{
+    let loaded = load_type(value)?;
+    loaded_fits(ty, loaded)
+}
+
+fn loaded_fits<'a>(ty: &'a Type, value: OperandType<'a>) -> Result<(), Refusal<'a>>
+    ensures { answer_view (λ u. tt) result ≡ value_fits (view ty.now) (given_type value.entry) }
+{
+    if converts(value, ty) {
+        Ok(())
+    } else {
+        Err(Refusal::ParamType(UnbuiltType::of_type(ty), UnbuiltType::of(value)))
+    }
+}
+
+/// The type that a struct's constructor makes: the struct (WGSL, "Structure Value Constructors"). Refused, in this order, by
+/// `NotConstructible`, also of what is no struct, by `ParamCount` unless there are no values, and for the first value that
+/// doesn't fit its member by its load or `ParamType`.
+pub fn construct_struct<'a>(ty: &'a Type, values: &[Operand<'a>]) -> Result<&'a Type, Refusal<'a>>
+    ensures { answer_view (λ t. view t.now) result
+        ≡ constructed (view ty.now) (types_given values.now) }
+{
+    match ty.form() {
+        Form::Struct(s) => {
+            if !is_constructible(ty) {
+                return Err(Refusal::NotConstructible(UnbuiltType::of_type(ty)));
+            }
+            members_fit(s.name.as_str(), &s.members, values)?;
+            Ok(ty)
+        }
+        _ => Err(Refusal::NotConstructible(UnbuiltType::of_type(ty))),
+    }
+}
+
+fn members_fit<'a>(
+    name: &'a str,
+    members: &'a [StructMemberType],
+    values: &[Operand<'a>],
+) -> Result<(), Refusal<'a>>
+    ensures { answer_view (λ u. tt) result
+        ≡ members_fit_there name.now (member_types (members_view members.now))
+        (types_given values.now) }
+{
+    if values.is_empty() {
+        Ok(())
+    } else {
+        member_values_fit(name, members, values)
+    }
+}
+
+#[tactic(auto, using(crate::proofs::MemberTypes::as_many))]
+fn member_values_fit<'a>(
+    name: &'a str,
+    members: &'a [StructMemberType],
+    values: &[Operand<'a>],
+) -> Result<(), Refusal<'a>>
+    ensures { answer_view (λ u. tt) result
+        ≡ values_fit name.now (member_types (members_view members.now)) (types_given values.now) }
+{
+    count_is(name, number_of(members), values.len())?;
+    each_member_fits(members, values)
+}
+
+#[tactic(auto, using(crate::proofs::MemberTypes::as_many))]
+fn number_of(members: &[StructMemberType]) -> usize
+    ensures { result ≡ length (member_types (members_view members.now)) }
+{
+    members.len()
+}
+
+fn each_member_fits<'a>(
+    members: &'a [StructMemberType],
+    values: &[Operand<'a>],
+) -> Result<(), Refusal<'a>>
+    requires { length members.now ≡ length values.now }
+    ensures { answer_view (λ u. tt) result
+        ≡ each_fits_there (member_types (members_view members.now)) (types_given values.now) }
+{
+    for i in 0..members.len() {
+        fits(&members[i].ty, values[i].ty)?;
+    }
+    Ok(())
+}
+
+/// Whether a parameter of the type takes each of the values.
+pub(crate) fn all_fit<'a>(ty: &'a Type, values: &[Operand<'a>]) -> Result<(), Refusal<'a>>
+    ensures { answer_view (λ u. tt) result ≡ all_fit_there (view ty.now) (types_given values.now) }
+{
+    for value in values {
+        fits(ty, value.ty)?;
+    }
+    Ok(())
+}

@@ -1,0 +1,85 @@
+// The load of a reference.
+ghost use Rattle.std.specs.Prelude.{◌≡◌};
+ghost use Rattle.wgsl_core.specs.View.{view};
+ghost use Rattle.wgsl_standard.specs.Operands.{given_type};
+ghost use Rattle.wgsl_forms.specs.Load.{is_loadable as loadable, load_answer, loaded, stored_loaded};
+ghost use Rattle.wgsl_forms.specs.Memory.{in_memory};
+ghost use Rattle.wgsl_forms.specs.Views.{answer_view, given};
+
+use crate::expression::is_const_expression;
+use crate::form::UnbuiltType;
+use crate::kinds::{is_constructible, is_handle};
+use crate::refusal::Refusal;
+use wgsl_core::ty::Type;
+use wgsl_core::ty::form::Form;
+use wgsl_standard::operand::{Operand, OperandType};
+use wgsl_syntax::address::{AccessMode, AddressSpace};
+
+/// An operand, loaded (WGSL, "Load Rule"): what is no reference stays. `NotRead` if the reference can't be read,
+/// `NotConstructible` if it holds something else than a constructible type or a handle.
+pub fn load<'a>(x: &Operand<'a>) -> Result<Operand<'a>, Refusal<'a>>
+    ensures { answer_view given result ≡ load_answer (given x.now) }
+{
+    let ty = load_type(x.ty)?;
+    Ok(Operand {
+        ty,
+        is_constant: is_const_expression(x),
+    })
+}
+
+/// The type of an operand, loaded.
+pub fn load_type<'a>(ty: OperandType<'a>) -> Result<OperandType<'a>, Refusal<'a>>
+    ensures { answer_view given_type result ≡ loaded (given_type ty.entry) }
+{
+    match ty {
+        OperandType::Value(_, _) => Ok(ty),
+        OperandType::Any(of) => load_any(of),
+    }
+}
+
+/// What lies in memory, loaded; without memory the type of an operand, loaded.
+pub(crate) fn load_in<'a>(
+    memory: Option<(AddressSpace, AccessMode)>,
+    ty: OperandType<'a>,
+) -> Result<OperandType<'a>, Refusal<'a>>
+    ensures { answer_view given_type result ≡ loaded (in_memory memory (given_type ty.entry)) }
+{
+    match memory {
+        Some((_, access)) => load_stored(ty, access),
+        None => load_type(ty),
+    }
+}
+
+fn load_any<'a>(ty: &'a Type) -> Result<OperandType<'a>, Refusal<'a>>
+    ensures { answer_view given_type result ≡ loaded (view ty.now) }
+{
+    match ty.form() {
+        Form::Reference(_, stored, access) => load_stored(OperandType::of(stored), access),
+        _ => Ok(OperandType::Any(ty)),
+    }
+}
+
+fn load_stored<'a>(
+    stored: OperandType<'a>,
+    access: AccessMode,
+) -> Result<OperandType<'a>, Refusal<'a>>
+    ensures { answer_view given_type result ≡ stored_loaded access (given_type stored.entry) }
+{
+    if !access.is_read() {
+        return Err(Refusal::NotRead);
+    }
+    if is_loadable(stored) {
+        Ok(stored)
+    } else {
+        Err(Refusal::NotConstructible(UnbuiltType::of(stored)))
+    }
+}
+
+fn is_loadable(ty: OperandType<'_>) -> bool
+    ensures { result ≡ loadable (given_type ty.entry) }
+{
+    match ty {
+        OperandType::Value(_, _) => true,
+        OperandType::Any(ty) => is_constructible(ty) || is_handle(ty),
+    }
+}

@@ -1,0 +1,150 @@
+// Members of structs and components of vectors.
+ghost use Rattle.std.specs.Prelude.{◌≡◌, take, option_map};
+ghost use Rattle.wgsl_rules.specs.types.Types.{struct, vec};
+ghost use Rattle.wgsl_core.specs.View.{view, struct_view};
+ghost use Rattle.wgsl_core.specs.internal.View.{members_view};
+ghost use Rattle.wgsl_standard.specs.Operands.{given_type};
+ghost use Rattle.wgsl_forms.specs.Load.{loaded};
+ghost use Rattle.wgsl_forms.specs.Memory.{in_memory as reference_in};
+ghost use Rattle.wgsl_forms.specs.Member.{are_among as all_among, are_components as all_components, member_answer, member_named as named_there, part_named as part_there, part_of_letters as letters_name};
+ghost use Rattle.wgsl_forms.specs.Views.{answer_view, element_view, form_view, given};
+ghost use Rattle.wgsl_forms.specs.internal.Parts.{part_view};
+
+use crate::expression::is_const_expression;
+use crate::form::{Element, Form, FormType, UnbuiltType};
+use crate::load::load_in;
+use crate::memory::{behind, in_memory};
+use crate::refusal::Refusal;
+use wgsl_core::ty::form::Form as TypeForm;
+use wgsl_core::ty::{StructMemberType, Type};
+use wgsl_standard::operand::{Operand, OperandType};
+use wgsl_syntax::layer::Layer;
+use wgsl_syntax::overload::Dimensions;
+
+/// What a name stands for in a type.
+#[derive(Clone, Copy)]
+enum Part<'a> {
+    /// The type of a member.
+    Member(&'a Type),
+    /// The type of a component.
+    Component(Element<'a>),
+    /// The number of components, and their type.
+    Components(u8, Element<'a>),
+}
+
+/// What `x.name` is (WGSL, "Structure Access" and "Vector Access"): a member, a component, or several components. In
+/// memory the first two are references, and several components are loaded. `Component` if there is no such part, and what a
+/// load refuses.
+pub fn type_of_member<'a>(x: &Operand<'a>, name: &'a str) -> Result<Form<'a>, Refusal<'a>>
+    ensures { answer_view form_view result ≡ member_answer (given x.now) name.now }
+{
+    let whole = behind(x.ty);
+    let is_constant = is_const_expression(x);
+    match part_named(whole.ty, name) {
+        Some(Part::Member(ty)) => Ok(Form {
+            ty: in_memory(whole.memory, UnbuiltType::of_type(ty)),
+            is_constant,
+            is_component: false,
+        }),
+        Some(Part::Component(element)) => Ok(Form {
+            ty: in_memory(whole.memory, UnbuiltType::single(element)),
+            is_constant,
+            is_component: whole.memory.is_some(),
+        }),
+        Some(Part::Components(count, element)) => {
+            load_in(whole.memory, whole.ty)?;
+            Ok(Form {
+                ty: FormType::of(UnbuiltType::within(Layer::Vec(count), element)),
+                is_constant,
+                is_component: false,
+            })
+        }
+        None => Err(Refusal::Component(UnbuiltType::of(whole.ty), name)),
+    }
+}
+
+/// What the name stands for in the type.
+fn part_named<'a>(ty: OperandType<'a>, name: &str) -> Option<Part<'a>>
+    ensures { option_map part_view result ≡ part_there (given_type ty.entry) name.now }
+{
+    match ty {
+        OperandType::Value(Dimensions::Vector(n), scalar) => {
+            component_named(n, Element::Value(Dimensions::Single, scalar), name)
+        }
+        OperandType::Value(_, _) => None,
+        OperandType::Any(of) => match of.form() {
+            TypeForm::Struct(s) => {
+                let ty = member_named(&s.members, name)?;
+                Some(Part::Member(ty))
+            }
+            TypeForm::Vector(n, element) => component_named(n, Element::Any(element), name),
+            _ => None,
+        },
+    }
+}
+
+/// The type of the first member with the name.
+fn member_named<'a>(members: &'a Vec<StructMemberType>, name: &str) -> Option<&'a Type>
+    ensures { option_map (λ t. view t.now) result
+        ≡ named_there (members_view members.now.items) name.now }
+{
+    for member in members {
+        if member.name.as_str() == name {
+            return Some(&member.ty);
+        }
+    }
+    None
+}
+
+/// What the name stands for in a vector.
+fn component_named<'a>(n: u8, element: Element<'a>, name: &str) -> Option<Part<'a>>
+    ensures { option_map part_view result
+        ≡ part_there (vec n (element_view element.entry)) name.now }
+{
+    if are_components(n, name.as_bytes()) {
+        part_of_letters(name.as_bytes(), element)
+    } else {
+        None
+    }
+}
+
+fn part_of_letters<'a>(letters: &[u8], element: Element<'a>) -> Option<Part<'a>>
+    ensures { option_map part_view result ≡ letters_name letters.now (element_view element.entry) }
+{
+    match letters {
+        [_] => Some(Part::Component(element)),
+        [_, _] => Some(Part::Components(2, element)),
+        [_, _, _] => Some(Part::Components(3, element)),
+        [_, _, _, _] => Some(Part::Components(4, element)),
+        _ => None,
+    }
+}
+
+/// Whether all letters are among the first n of `xyzw`, or all among the first n of `rgba`.
+fn are_components(n: u8, name: &[u8]) -> bool
+    ensures { result ≡ all_components n name.now }
+{
+    are_among(first(n, b"xyzw"), name) || are_among(first(n, b"rgba"), name)
+}
+
+fn first(n: u8, letters: &[u8]) -> &[u8]
+    ensures { result.now ≡ take n letters.now }
+{
+    let n = n as usize;
+    if n < letters.len() {
+        &letters[..n]
+    } else {
+        letters
+    }
+}
+
+fn are_among(letters: &[u8], name: &[u8]) -> bool
+    ensures { result ≡ all_among letters.now name.now }
+{
+    for letter in name {
+        if !letters.contains(letter) {
+            return false;
+        }
+    }
+    true
+}

@@ -1,0 +1,287 @@
+//! Declarations, assignments and lists of values.
+
+use super::expressions::built_form;
+use super::{built, with_operands, Operand, Refusal};
+use crate::proved::wgsl_forms as proved;
+use crate::syntax::{AccessMode, AddressSpace, AssignmentOperator};
+use crate::ty::Type;
+pub use proved::declare::Declaration;
+
+/// The type of what `let`, `const` or `override` declares with a value, and perhaps with a type (WGSL, "Value Declarations").
+///
+/// Without a type it is that of the value: of `let` and `override` made concrete, of `const` as it is. The first of these
+/// refuses:
+///
+/// | | |
+/// |---|---|
+/// | `let x = v;` | the load; [`NotConstructible`](Refusal::NotConstructible), unless it is a pointer or a handle |
+/// | `let x: T = v;` | `NotConstructible` if `T` is abstract, or nothing that a `let` can be; the load; [`Conversion`](Refusal::Conversion) |
+/// | `const x = v;` | [`NotConst`](Refusal::NotConst); `NotConstructible` |
+/// | `const x: T = v;` | `NotConst`; `NotConstructible` of `T`; `Conversion` |
+/// | `override x = v;`, `override x: T = v;` | `NotConst`; [`NotScalar`](Refusal::NotScalar); `Conversion` |
+///
+/// ```
+/// use wgsl_types_proved::standard::{declare, Declaration, Operand, Refusal};
+/// use wgsl_types_proved::Type;
+///
+/// let ones = Operand::new(Type::array(Some(3), Type::AbstractInt));
+/// assert_eq!(declare(Declaration::Let, &ones, None), Ok(Type::array(Some(3), Type::I32)));
+/// let x = Operand::new(Type::I32);
+/// let refused = declare(Declaration::Let, &x, Some(&Type::F32));
+/// assert_eq!(refused, Err(Refusal::Conversion(Type::I32, Type::F32)));
+/// assert_eq!(declare(Declaration::Const, &x, None), Err(Refusal::NotConst));
+/// ```
+pub fn declare(
+    declaration: Declaration,
+    value: &Operand,
+    ty: Option<&Type>,
+) -> Result<Type, Refusal> {
+    Ok(built(proved::declare::declare(declaration, &value.proved(), ty)?))
+}
+
+/// The type of `override x: T;`, which has no value: [`Refusal::NotScalar`] if it is not `bool`, `i32`, `u32`, `f32` or
+/// `f16`.
+///
+/// ```
+/// use wgsl_types_proved::standard::override_without_value;
+/// use wgsl_types_proved::Type;
+///
+/// assert_eq!(override_without_value(&Type::F16), Ok(Type::F16));
+/// assert!(override_without_value(&Type::vector(3, Type::F32)).is_err());
+/// ```
+pub fn override_without_value(ty: &Type) -> Result<Type, Refusal> {
+    Ok(built(proved::declare::override_without_value(ty)?))
+}
+
+/// The type of a variable without a value, `var<storage> x: T;` (WGSL, "Variable and Value Declarations"): the reference that
+/// its name is.
+///
+/// Without an access mode it is that of WGSL: `read_write` in `function`, `private` and `workgroup`, else `read`. The first of
+/// these refuses: [`Refusal::AccessMode`]; [`Refusal::NotConstructible`] in `function` and `private`, elsewhere
+/// [`Refusal::NotInSpace`], if no variable of the space holds the type.
+///
+/// ```
+/// use wgsl_types_proved::standard::{variable, Refusal};
+/// use wgsl_types_proved::syntax::{AccessMode, AddressSpace};
+/// use wgsl_types_proved::Type;
+///
+/// let counter: Type = "atomic<u32>".parse()?;
+/// let stored = variable(AddressSpace::Storage, Some(AccessMode::ReadWrite), &counter);
+/// assert_eq!(stored, Ok("ref<storage, atomic<u32>, read_write>".parse()?));
+/// let refused = variable(AddressSpace::Storage, None, &counter);
+/// assert_eq!(refused, Err(Refusal::NotInSpace(AddressSpace::Storage, counter)));
+/// # Ok::<(), wgsl_types_proved::ty::SpellingError>(())
+/// ```
+pub fn variable(
+    space: AddressSpace,
+    access: Option<AccessMode>,
+    ty: &Type,
+) -> Result<Type, Refusal> {
+    Ok(built_form(proved::variable::variable(space, access, ty)?))
+}
+
+/// The type of a variable with a value, and perhaps with a type, `var x: T = v;` (WGSL, "Variable and Value Declarations"): the
+/// reference that its name is.
+///
+/// The first of these refuses: [`Refusal::AccessMode`]; [`Refusal::Initialized`] outside of `function` and `private`;
+/// [`Refusal::NotConst`] in `private`; [`Refusal::NotConstructible`] of the type; the load of the value; `NotConstructible` of
+/// what was loaded, if there is no type; [`Refusal::Conversion`].
+///
+/// ```
+/// use wgsl_types_proved::standard::{initialized_variable, Operand, Refusal};
+/// use wgsl_types_proved::syntax::AddressSpace::{Function, Private};
+/// use wgsl_types_proved::Type;
+///
+/// let one = Operand::new(Type::AbstractInt);
+/// let x = initialized_variable(Function, None, &one, None);
+/// assert_eq!(x, Ok("ref<function, i32, read_write>".parse()?));
+/// let x = initialized_variable(Private, None, &one, Some(&Type::F32));
+/// assert_eq!(x, Ok("ref<private, f32, read_write>".parse()?));
+/// let refused = initialized_variable(Private, None, &Operand::new(Type::I32), None);
+/// assert_eq!(refused, Err(Refusal::NotConst));
+/// # Ok::<(), wgsl_types_proved::ty::SpellingError>(())
+/// ```
+pub fn initialized_variable(
+    space: AddressSpace,
+    access: Option<AccessMode>,
+    value: &Operand,
+    ty: Option<&Type>,
+) -> Result<Type, Refusal> {
+    let found = proved::variable::initialized_variable(space, access, &value.proved(), ty)?;
+    Ok(built_form(found))
+}
+
+/// The type of the value that `_ = x;` takes (WGSL, "Phony Assignment"), as of `let y = x;`.
+///
+/// ```
+/// use wgsl_types_proved::standard::{discard, Operand};
+/// use wgsl_types_proved::Type;
+///
+/// assert_eq!(discard(&Operand::new(Type::AbstractFloat)), Ok(Type::F32));
+/// ```
+pub fn discard(x: &Operand) -> Result<Type, Refusal> {
+    Ok(built(proved::declare::discard(&x.proved())?))
+}
+
+/// The type to which `x = y;` writes (WGSL, "Simple Assignment"), that of what `x` refers to.
+///
+/// The first of these refuses: [`Refusal::NotReference`]; [`Refusal::NotWrite`]; [`Refusal::NotConstructible`] of what `x`
+/// refers to; the load of `y`; [`Refusal::WriteRefType`].
+///
+/// ```
+/// use wgsl_types_proved::standard::{assign, Operand, Refusal};
+/// use wgsl_types_proved::Type;
+///
+/// let x = Operand::new("ref<private, f32, read_write>".parse()?);
+/// assert_eq!(assign(&x, &Operand::new(Type::AbstractInt)), Ok(Type::F32));
+/// let refused = assign(&x, &Operand::new(Type::I32));
+/// assert_eq!(refused, Err(Refusal::WriteRefType(Type::I32, Type::F32)));
+/// # Ok::<(), wgsl_types_proved::ty::SpellingError>(())
+/// ```
+pub fn assign(x: &Operand, y: &Operand) -> Result<Type, Refusal> {
+    Ok(proved::assign::assign(&x.proved(), &y.proved())?.clone())
+}
+
+/// The type to which `x += y;` and its like write (WGSL, "Compound Assignment"); with `=` as [`assign`].
+///
+/// The first of these refuses: [`Refusal::NotReference`]; [`Refusal::NotReadWrite`]; [`Refusal::Binary`] if no overload of
+/// the operator takes a value of what `x` refers to and `y`; [`Refusal::WriteRefType`] with the result, if it is another type.
+///
+/// ```
+/// use wgsl_types_proved::standard::{assign_by, Operand, Refusal};
+/// use wgsl_types_proved::syntax::AssignmentOperator::{PlusEqual, TimesEqual};
+/// use wgsl_types_proved::Type;
+///
+/// let v = Operand::new("ref<function, vec3<f32>, read_write>".parse()?);
+/// assert_eq!(assign_by(PlusEqual, &v, &Operand::new(Type::AbstractInt)), Ok(Type::vector(3, Type::F32)));
+/// let refused = assign_by(TimesEqual, &v, &Operand::new(Type::matrix(2, 3, Type::F32)));
+/// let (vec2, vec3) = (Type::vector(2, Type::F32), Type::vector(3, Type::F32));
+/// assert_eq!(refused, Err(Refusal::WriteRefType(vec2, vec3)));
+/// # Ok::<(), wgsl_types_proved::ty::SpellingError>(())
+/// ```
+pub fn assign_by(operator: AssignmentOperator, x: &Operand, y: &Operand) -> Result<Type, Refusal> {
+    Ok(proved::assign::assign_by(operator, &x.proved(), &y.proved())?.clone())
+}
+
+/// The type of what `x++;` and `x--;` count (WGSL, "Increment and Decrement Statements").
+///
+/// The first of these refuses: [`Refusal::NotReference`]; [`Refusal::NotReadWrite`]; [`Refusal::NotInteger`] if `x` refers
+/// to something else than `i32` and `u32`.
+///
+/// ```
+/// use wgsl_types_proved::standard::{increment, Operand, Refusal};
+/// use wgsl_types_proved::Type;
+///
+/// let count = Operand::new("ref<function, u32, read_write>".parse()?);
+/// assert_eq!(increment(&count), Ok(Type::U32));
+/// assert_eq!(increment(&Operand::new(Type::U32)), Err(Refusal::NotReference(Type::U32)));
+/// # Ok::<(), wgsl_types_proved::ty::SpellingError>(())
+/// ```
+pub fn increment(x: &Operand) -> Result<Type, Refusal> {
+    Ok(proved::assign::increment(&x.proved())?.clone())
+}
+
+/// Whether values are taken by parameters of these types (WGSL, "Function Call Expression"); with one type by `return`, and
+/// with `bool` as the condition of `if`, `for`, `while` and `break if`.
+///
+/// The first of these refuses: [`Refusal::NotConstructible`] of a parameter's type that is abstract, or neither constructible
+/// nor a pointer nor a handle; [`Refusal::ParamCount`]; for the first value that isn't taken its load, or
+/// [`Refusal::ParamType`].
+///
+/// ```
+/// use wgsl_types_proved::standard::{fit, Operand, Refusal};
+/// use wgsl_types_proved::Type;
+///
+/// let (one, x) = (Operand::new(Type::AbstractInt), Operand::new("ref<private, i32, read_write>".parse()?));
+/// assert_eq!(fit(&[one, x.clone()], &[Type::F32, Type::I32]), Ok(()));
+/// assert_eq!(fit(&[x], &[Type::Bool]), Err(Refusal::ParamType(Type::Bool, Type::I32)));
+/// # Ok::<(), wgsl_types_proved::ty::SpellingError>(())
+/// ```
+pub fn fit(values: &[Operand], types: &[Type]) -> Result<(), Refusal> {
+    with_operands(values.iter(), |values| Ok(proved::lists::fit(values, types)?))
+}
+
+/// The type that the constructor of a struct makes: the struct (WGSL, "Value Constructor Built-in Functions"). Without values
+/// it is the zero value.
+///
+/// The first of these refuses: [`Refusal::NotConstructible`], also of a type that is no struct; [`Refusal::ParamCount`]; for
+/// the first value that its member doesn't take its load, or [`Refusal::ParamType`].
+///
+/// ```
+/// use wgsl_types_proved::standard::{construct_struct, Operand, Refusal};
+/// use wgsl_types_proved::ty::StructType;
+/// use wgsl_types_proved::Type;
+///
+/// let light = Type::from(StructType::new("Light", [("power", Type::F32), ("on", Type::Bool)]));
+/// let values = [Type::AbstractInt, Type::Bool].map(Operand::new);
+/// assert_eq!(construct_struct(&light, &values), Ok(light.clone()));
+/// let refused = construct_struct(&light, &values[..1]);
+/// assert_eq!(refused, Err(Refusal::ParamCount("Light".to_string(), 2, 1)));
+/// ```
+pub fn construct_struct(ty: &Type, values: &[Operand]) -> Result<Type, Refusal> {
+    with_operands(values.iter(), |values| Ok(proved::lists::construct_struct(ty, values)?.clone()))
+}
+
+/// The type that `array(x, y)` makes (WGSL, "Value Constructor Built-in Functions"): its elements have the common type of the
+/// values, which is abstract if each of theirs is.
+///
+/// The first of these refuses: the load of a value; [`Refusal::Builtin`] without values, or if they have no common type;
+/// [`Refusal::NotConstructible`] of the common type.
+///
+/// ```
+/// use wgsl_types_proved::standard::{construct_array, Operand};
+/// use wgsl_types_proved::Type;
+///
+/// let values = [Type::AbstractInt, Type::U32].map(Operand::new);
+/// assert_eq!(construct_array(&values), Ok(Type::array(Some(2), Type::U32)));
+/// let refused = construct_array(&[Type::I32, Type::U32].map(Operand::new)).unwrap_err();
+/// assert_eq!(refused.to_string(), "array elements are incompatible");
+/// ```
+pub fn construct_array(values: &[Operand]) -> Result<Type, Refusal> {
+    with_operands(values.iter(), |values| Ok(built(proved::array::construct_array(values)?)))
+}
+
+/// The type that `array<T, N>(x, y)` makes (WGSL, "Value Constructor Built-in Functions"). Without values it is the zero value.
+///
+/// The first of these refuses: [`Refusal::NotConstructible`] of the array, also without a count; [`Refusal::ParamCount`]; for
+/// the first value that `T` doesn't take its load, or [`Refusal::ParamType`].
+///
+/// ```
+/// use wgsl_types_proved::standard::{construct_array_of, Operand, Refusal};
+/// use wgsl_types_proved::Type;
+///
+/// let one = [Operand::new(Type::AbstractInt)];
+/// assert_eq!(construct_array_of(&Type::F16, Some(1), &one), Ok(Type::array(Some(1), Type::F16)));
+/// let refused = construct_array_of(&Type::F16, Some(2), &one);
+/// assert_eq!(refused, Err(Refusal::ParamCount("array".to_string(), 2, 1)));
+/// ```
+pub fn construct_array_of(
+    element: &Type,
+    count: Option<usize>,
+    values: &[Operand],
+) -> Result<Type, Refusal> {
+    with_operands(values.iter(), |values| {
+        Ok(built(proved::array::construct_array_of(element, count, values)?))
+    })
+}
+
+/// The type of `switch x { case y: .. }` (WGSL, "Switch Statement"), `i32` or `u32`, to which the selector and the cases
+/// convert.
+///
+/// The first of these refuses: for the selector and then each case its load, or [`Refusal::NotInteger`] if it is not `i32`,
+/// `u32` or AbstractInt; [`Refusal::NotConst`] of a case; [`Refusal::Conversion`] if both types are there.
+///
+/// ```
+/// use wgsl_types_proved::standard::{switch_type, Operand, Refusal};
+/// use wgsl_types_proved::Type;
+///
+/// let (one, two) = (Operand::new(Type::AbstractInt), Operand::constant(Type::U32));
+/// assert_eq!(switch_type(&one, &[two.clone()]), Ok(Type::U32));
+/// let refused = switch_type(&Operand::new(Type::I32), &[one, two]);
+/// assert_eq!(refused, Err(Refusal::Conversion(Type::U32, Type::I32)));
+/// ```
+pub fn switch_type(selector: &Operand, cases: &[Operand]) -> Result<Type, Refusal> {
+    with_operands(cases.iter(), |cases| {
+        Ok(Type::from(proved::switch::switch_type(&selector.proved(), cases)?))
+    })
+}

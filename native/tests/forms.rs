@@ -1,0 +1,192 @@
+//! Members, indexes, loads, declarations, assignments and lists of values: each question of `tests/forms/questions.txt`, or of
+//! the file that the variable `QUESTIONS` names, has its answer.
+
+mod words;
+
+use std::{env, fs};
+use wgsl_types_proved::mem::StructLayout;
+use wgsl_types_proved::standard::*;
+use wgsl_types_proved::syntax::{AddressSpace, AssignmentOperator, UnaryOperator};
+use wgsl_types_proved::Type;
+use words::Words;
+
+const ASSIGNMENTS: [AssignmentOperator; 11] = [
+    AssignmentOperator::Equal,
+    AssignmentOperator::PlusEqual,
+    AssignmentOperator::MinusEqual,
+    AssignmentOperator::TimesEqual,
+    AssignmentOperator::DivisionEqual,
+    AssignmentOperator::ModuloEqual,
+    AssignmentOperator::AndEqual,
+    AssignmentOperator::OrEqual,
+    AssignmentOperator::XorEqual,
+    AssignmentOperator::ShiftRightAssign,
+    AssignmentOperator::ShiftLeftAssign,
+];
+
+#[test]
+fn questions_are_answered() {
+    let path = env::var("QUESTIONS").unwrap_or("tests/forms/questions.txt".to_string());
+    let text = fs::read_to_string(&path).expect(&path);
+    let rows = text.lines().filter(|line| !line.starts_with('#'));
+    let mut count = 0;
+    for (question, expected) in rows.filter_map(|row| row.split_once('\t')) {
+        let mut words = Words::new(question);
+        let found =
+            answer(&mut words).unwrap_or_else(|refusal| format!("refused\t{}", variant(&refusal)));
+        assert_eq!(found, expected, "{question}");
+        assert!(words.is_empty(), "{question}");
+        count += 1;
+    }
+    assert!(count > 600, "there are only {count} questions");
+}
+
+#[test]
+fn parts_are_operands() {
+    let part = |found: Result<Operand, Refusal>| found.unwrap();
+    let (one, i) = (Operand::new(Type::AbstractInt), Operand::new(Type::U32));
+    for constant in [true, false] {
+        let vector = Type::vector(3, Type::F32);
+        let vector = if constant { Operand::constant(vector) } else { Operand::new(vector) };
+        assert_eq!(part(type_of_member(&vector, "x")).is_constant, constant);
+        assert_eq!(part(type_of_member(&vector, "zx")).is_constant, constant);
+        assert_eq!(part(type_of_index(&vector, &one)).is_constant, constant);
+        assert_eq!(part(load(&vector)).is_constant, constant);
+        let element = part(type_of_index(&vector, &i));
+        assert_eq!((element.is_constant, element.is_component), (false, false));
+    }
+
+    let matrix = Operand::new("ref<function, mat2x3<f32>, read_write>".parse().unwrap());
+    let column = part(type_of_index(&matrix, &i));
+    let component = part(type_of_index(&column, &i));
+    assert_eq!((column.is_component, component.is_component), (false, true));
+    let pointer = part(address_of(&column));
+    assert_eq!(part(indirection(&pointer)), column);
+    assert_eq!(part(type_of_member(&pointer, "y")), component);
+    assert!(!part(type_of_member(&pointer, "yx")).is_component);
+    assert_eq!(address_of(&component), Err(Refusal::PtrVecComp));
+    assert!(!part(load(&component)).is_component);
+}
+
+/// The answer to a question.
+fn answer(words: &mut Words) -> Result<String, Refusal> {
+    let found = match words.next() {
+        "load" => typed(load(&words.operand())),
+        "member" => typed(type_of_member(&words.operand(), words.next())),
+        "index" => typed(type_of_index(&words.operand(), &words.operand())),
+        "unary" => typed(memory_operator(words)),
+        "let" => declared(Declaration::Let, words),
+        "const" => declared(Declaration::Const, words),
+        "override" => declared(Declaration::Override, words),
+        "var" => stored(words),
+        "assign" => assigned(words),
+        "increment" | "decrement" => increment(&words.operand()),
+        "construct" => construct_struct(&words.ty(), &words.operands()),
+        "ctor" => constructed_array(words),
+        "switch" => switch_type(&words.operand(), &words.operands()),
+        "fit" => {
+            let values = words.operands();
+            return fit(&values, &words.types()).map(|()| "fits".to_string());
+        }
+        "layout" => return Ok(layout_text(words.ty())),
+        form => panic!("`{form}` is no form"),
+    };
+    found.map(|ty| ty.to_string())
+}
+
+fn typed(found: Result<Operand, Refusal>) -> Result<Type, Refusal> {
+    found.map(|operand| operand.ty)
+}
+
+fn memory_operator(words: &mut Words) -> Result<Operand, Refusal> {
+    match words.name() {
+        Some(UnaryOperator::AddressOf) => {
+            let is_component = words.take("component");
+            address_of(&Operand { is_component, ..words.operand() })
+        }
+        _ => indirection(&words.operand()),
+    }
+}
+
+fn declared(declaration: Declaration, words: &mut Words) -> Result<Type, Refusal> {
+    if let Some(ty) = words.declared() {
+        return override_without_value(&ty);
+    }
+    let value = words.operand();
+    declare(declaration, &value, words.declared().as_ref())
+}
+
+fn stored(words: &mut Words) -> Result<Type, Refusal> {
+    let space = words.space().unwrap_or(AddressSpace::Function);
+    let access = words.name();
+    if let Some(ty) = words.declared() {
+        return variable(space, access, &ty);
+    }
+    let value = words.operand();
+    initialized_variable(space, access, &value, words.declared().as_ref())
+}
+
+fn assigned(words: &mut Words) -> Result<Type, Refusal> {
+    let word = words.next();
+    let x = words.operand();
+    let Some(operator) = ASSIGNMENTS.iter().find(|operator| operator.to_string() == word) else {
+        return discard(&x);
+    };
+    let y = words.operand();
+    let found = assign_by(*operator, &x, &y);
+    if *operator == AssignmentOperator::Equal {
+        assert_eq!(assign(&x, &y), found);
+    }
+    found
+}
+
+/// What `array - X..` or `array < t T n N > X..` makes.
+fn constructed_array(words: &mut Words) -> Result<Type, Refusal> {
+    assert!(words.take("array"));
+    if words.take("-") {
+        return construct_array(&words.operands());
+    }
+    assert!(words.take("<") && words.take("t"));
+    let element = words.ty();
+    let count = if words.take("n") { words.name() } else { None };
+    assert!(words.take(">"));
+    construct_array_of(&element, count, &words.operands())
+}
+
+/// The layout, as it stands in the file: the stride of the array at the end is the size of its one element.
+fn layout_text(ty: Type) -> String {
+    let layout = match ty {
+        Type::Struct(of) => of.min_layout(),
+        _ => None,
+    };
+    let Some(StructLayout { members, size, align }) = layout else {
+        return "none".to_string();
+    };
+    let offsets: Vec<String> = members.iter().map(|member| member.offset.to_string()).collect();
+    let stride = members.last().map_or(0, |member| member.size);
+    let offsets = offsets.join(" ");
+    format!("offsets {offsets}; size {size}; alignment {align}; stride {stride}")
+}
+
+/// A refusal, as it stands in the file.
+fn variant(refusal: &Refusal) -> String {
+    match refusal {
+        Refusal::Component(t, name) => format!("Component({t}, {name})"),
+        Refusal::NotIndexable(t) => format!("NotIndexable({t})"),
+        Refusal::NotInteger(t) => format!("NotInteger({t})"),
+        Refusal::NotConstructible(t) => format!("NotConstructible({t})"),
+        Refusal::NotScalar(t) => format!("NotScalar({t})"),
+        Refusal::NotReference(t) => format!("NotReference({t})"),
+        Refusal::NotInSpace(space, t) => format!("NotInSpace({space}, {t})"),
+        Refusal::Initialized(space) => format!("Initialized({space})"),
+        Refusal::AccessMode(space, access) => format!("AccessMode({space}, {access})"),
+        Refusal::Conversion(t, to) => format!("Conversion({t}, {to})"),
+        Refusal::WriteRefType(t, to) => format!("WriteRefType({t}, {to})"),
+        Refusal::Unary(operator, t) => format!("Unary({operator}, {t})"),
+        Refusal::Binary(operator, a, b) => format!("Binary({operator}, {a}, {b})"),
+        Refusal::ParamCount(name, takes, count) => format!("ParamCount({name}, {takes}, {count})"),
+        Refusal::ParamType(expected, t) => format!("ParamType({expected}, {t})"),
+        Refusal::Builtin(text) => format!("Builtin({text})"),
+        without_fields => format!("{without_fields:?}"),
+    }
+}

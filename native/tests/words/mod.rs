@@ -1,0 +1,146 @@
+//! Reads the words of a request.
+
+use std::iter::Peekable;
+use std::str::{FromStr, Split};
+use wgsl_types_proved::standard::Operand;
+use wgsl_types_proved::syntax::{AccessMode, AddressSpace};
+use wgsl_types_proved::ty::{StructMemberType, StructType};
+use wgsl_types_proved::Type;
+
+/// The words that aren't read yet.
+pub struct Words<'a>(Peekable<Split<'a, char>>);
+
+impl<'a> Words<'a> {
+    pub fn new(request: &'a str) -> Words<'a> {
+        Words(request.split(' ').peekable())
+    }
+
+    pub fn is_empty(&mut self) -> bool {
+        self.0.peek().is_none()
+    }
+
+    pub fn next(&mut self) -> &'a str {
+        self.0.next().expect("a word")
+    }
+
+    /// Whether the next word is this one, which is taken then.
+    pub fn take(&mut self, word: &str) -> bool {
+        self.0.next_if_eq(&word).is_some()
+    }
+
+    /// What the next word names, which is taken then.
+    pub fn name<T: FromStr>(&mut self) -> Option<T> {
+        let named = self.0.peek()?.parse().ok()?;
+        self.0.next();
+        Some(named)
+    }
+
+    pub fn operand(&mut self) -> Operand {
+        let says_const = self.take("const");
+        let ty = self.ty();
+        if says_const {
+            Operand::constant(ty)
+        } else {
+            Operand::new(ty)
+        }
+    }
+
+    /// The operands up to the end, or to `>`, which is taken.
+    pub fn operands(&mut self) -> Vec<Operand> {
+        let mut operands = Vec::new();
+        while !self.is_empty() && !self.take(">") {
+            operands.push(self.operand());
+        }
+        operands
+    }
+
+    pub fn types(&mut self) -> Vec<Type> {
+        self.operands().into_iter().map(|operand| operand.ty).collect()
+    }
+
+    /// An address space. WGSL has no name for `handle`.
+    pub fn space(&mut self) -> Option<AddressSpace> {
+        if self.take("handle") {
+            Some(AddressSpace::Handle)
+        } else {
+            self.name()
+        }
+    }
+
+    /// The type behind a colon, if there is one.
+    pub fn declared(&mut self) -> Option<Type> {
+        self.take(":").then(|| self.ty())
+    }
+
+    pub fn ty(&mut self) -> Type {
+        match self.next() {
+            "array" => Type::array(self.count(), self.ty()),
+            "binding_array" => {
+                let count = self.count();
+                Type::BindingArray(self.boxed(), count)
+            }
+            "vec" => Type::vector(self.required(), self.ty()),
+            "mat" => Type::matrix(self.required(), self.required(), self.ty()),
+            "atomic" => Type::Atomic(self.boxed()),
+            "ptr" => self.memory(Type::Ptr),
+            "ref" => self.memory(Type::Ref),
+            "struct" => self.structure(),
+            leaf => self.leaf(leaf),
+        }
+    }
+
+    fn required<T: FromStr>(&mut self) -> T {
+        self.name().expect("a name or a number")
+    }
+
+    /// The number of elements, or None for `*`.
+    fn count(&mut self) -> Option<usize> {
+        if self.take("*") {
+            None
+        } else {
+            Some(self.required())
+        }
+    }
+
+    fn boxed(&mut self) -> Box<Type> {
+        Box::new(self.ty())
+    }
+
+    fn memory(&mut self, make: fn(AddressSpace, Box<Type>, AccessMode) -> Type) -> Type {
+        let (space, access) = (self.space().expect("an address space"), self.required());
+        make(space, self.boxed(), access)
+    }
+
+    fn structure(&mut self) -> Type {
+        let (name, count) = (self.next().to_string(), self.required::<usize>());
+        let members = (0..count).map(|_| StructMemberType {
+            name: self.next().to_string(),
+            size: self.attribute(),
+            align: self.attribute(),
+            ty: self.ty(),
+        });
+        let members = members.collect();
+        Type::from(StructType { name, members })
+    }
+
+    fn attribute(&mut self) -> Option<u32> {
+        if self.take("-") {
+            None
+        } else {
+            Some(self.required())
+        }
+    }
+
+    /// A type that is spelled with its words in brackets.
+    fn leaf(&mut self, head: &str) -> Type {
+        let unsampled = ["texture_depth", "texture_external", "sampler"];
+        let spelled = if head.starts_with("texture_storage") {
+            format!("{head}<{}, {}>", self.next(), self.next())
+        } else if head.starts_with("texture") && !unsampled.iter().any(|of| head.starts_with(of)) {
+            format!("{head}<{}>", self.next())
+        } else {
+            head.to_string()
+        };
+        spelled.parse().expect(&spelled)
+    }
+}
