@@ -27,6 +27,7 @@ use Rattle.wgsl_requests.proofs.Forms.{form, leaf_form}
 use Rattle.wgsl_requests.proofs.Meanings.{Made, OneMeaning, OneThing, both_bool, not_eq, one_made, one_then, one_word, past, text_one}
 use Rattle.wgsl_requests.proofs.OneType.{one_type}
 use Rattle.wgsl_requests.proofs.TemplateReads.{one_template}
+use Rattle.wgsl_requests.specs.declared.rules.RuleSet.TheVariants.{Standard}
 
 abbrev Head : Type 0
 Head = WgslCallee × Option (List Parameter)
@@ -62,11 +63,11 @@ head_form (call_at {name} {words} {rest} {p} d) = ((name, p), (words, (name, ref
 itself_one : OneMeaning (λ (word : List ℕ) (name : List ℕ). word ≡ name)
 itself_one word x y f g = sym f ∙ g
 
-template_one : OneThing TemplateAt
+template_one : OneThing (TemplateAt Standard)
 template_one words t u rest more f g = one_template f u more g
 
 named_one : OneThing NamedAt
-named_one = one_then (OneWord (λ word name. word ≡ name)) TemplateAt (one_word (λ word name. word ≡ name) itself_one) template_one
+named_one = one_then (OneWord (λ word name. word ≡ name)) (TemplateAt Standard) (one_word (λ word name. word ≡ name) itself_one) template_one
 
 one_head_form : OneThing HeadForm
 one_head_form [] h k rest more f g = absurd f
@@ -120,17 +121,17 @@ module _ (word : List ℕ) (words : List (List ℕ)) where
   no_head u b k c h rest d = past _ _ _ (not_eq word _ c) (past _ _ _ (not_eq word _ k) (past _ _ _ (not_eq word _ b) (past _ _ _ (not_eq word _ u) (head_form d))))
 
 -- a name and a template
-pub named_read : (words after rest : List (List ℕ)) (name : List ℕ) (p : Option (List Parameter)) → words ≡ name ∷ after → TemplateAt after p rest → NamedAt words (name, p) rest
+pub named_read : (words after rest : List (List ℕ)) (name : List ℕ) (p : Option (List Parameter)) → words ≡ name ∷ after → TemplateAt Standard after p rest → NamedAt words (name, p) rest
 named_read words after rest name p is d = (after, (name, is, refl), d)
 
 pub no_name : (words : List (List ℕ)) → words ≡ [] → NoneAt NamedAt words
 no_name words none p rest d = let e : [] ≡ d.1.0 ∷ d.0 = sym none ∙ d.1.1 in cc e
 
-pub no_template : (words after : List (List ℕ)) (name : List ℕ) → words ≡ name ∷ after → NoneAt TemplateAt after → NoneAt NamedAt words
+pub no_template : (words after : List (List ℕ)) (name : List ℕ) → words ≡ name ∷ after → NoneAt (TemplateAt Standard) after → NoneAt NamedAt words
 no_template words after name is none p rest d =
     let e : name ∷ after ≡ d.1.0 ∷ d.0 = sym is ∙ d.1.1 in
     let same : d.0 ≡ after = sym (cc e) in
-    none p.1 rest (subst (λ ws. TemplateAt ws p.1 rest) same d.2)
+    none p.1 rest (subst (λ ws. TemplateAt Standard ws p.1 rest) same d.2)
 
 -- one word that is read as an operator
 pub word_read : {A : Type 0} (Is : List ℕ → A → Type 0) (words after : List (List ℕ)) (word : List ℕ) (x : A) → words ≡ word ∷ after → Is word x → OneWord Is words x after
@@ -153,47 +154,47 @@ constant t = record { of_type = t; is_constant = true }
 abbrev pub OperandForm : List (List ℕ) → Operand → List (List ℕ) → Type 0
 OperandForm [] x rest = ⊥
 OperandForm (word ∷ words) x rest =
-    MatchBool (bytes_eq word (codes "const")) (Made TypeAt constant words x rest) (Made TypeAt plain_there (word ∷ words) x rest)
+    MatchBool (bytes_eq word (codes "const")) (Made (TypeAt Standard) constant words x rest) (Made (TypeAt Standard) plain_there (word ∷ words) x rest)
 
 not_const : (x : TextureType) → texture_name x ≡ codes "const" → ⊥
 not_const External e = cc e
 not_const x e = cc e
 
 -- no type begins with `const`
-no_const_type : (words : List (List ℕ)) (t : WgslType) (rest : List (List ℕ)) → TypeAt (codes "const" ∷ words) t rest → ⊥
+no_const_type : (words : List (List ℕ)) (t : WgslType) (rest : List (List ℕ)) → TypeAt Standard (codes "const" ∷ words) t rest → ⊥
 no_const_type words t rest d = let f = leaf_form (form d) in not_const f.0 (sym (cc f.1))
 
-plain_form : (words : List (List ℕ)) (t : WgslType) (rest : List (List ℕ)) → TypeAt words t rest → OperandForm words (plain_there t) rest
+plain_form : (words : List (List ℕ)) (t : WgslType) (rest : List (List ℕ)) → TypeAt Standard words t rest → OperandForm words (plain_there t) rest
 plain_form [] t rest d = form d
 plain_form (word ∷ words) t rest d = step (bytes_eq word (codes "const")) refl
   where
-    step : (is : Bool) → bytes_eq word (codes "const") ≡ is → MatchBool is (Made TypeAt constant words (plain_there t) rest) (Made TypeAt plain_there (word ∷ words) (plain_there t) rest)
-    step true e = absurd (no_const_type words t rest (subst (λ w. TypeAt (w ∷ words) t rest) ((bytes_eq-Decides word (codes "const")).0 e) d))
+    step : (is : Bool) → bytes_eq word (codes "const") ≡ is → MatchBool is (Made (TypeAt Standard) constant words (plain_there t) rest) (Made (TypeAt Standard) plain_there (word ∷ words) (plain_there t) rest)
+    step true e = absurd (no_const_type words t rest (subst (λ w. TypeAt Standard (w ∷ words) t rest) ((bytes_eq-Decides word (codes "const")).0 e) d))
     step false e = (t, d, refl)
 
 operand_form : {words rest : List (List ℕ)} {x : Operand} → OperandAt words x rest → OperandForm words x rest
 operand_form (constant_at {words} {rest} {t} d) = (t, d, refl)
 operand_form (plain_at {words} {rest} {t} d) = plain_form words t rest d
 
-type_one : OneThing TypeAt
+type_one : OneThing (TypeAt Standard)
 type_one words t u rest more f g = one_type f u more g
 
 one_operand_form : OneThing OperandForm
 one_operand_form [] x y rest more f g = absurd f
 one_operand_form (word ∷ words) x y rest more f g =
-    both_bool _ _ _ _ _ _ (one_made TypeAt constant type_one words x y rest more) (one_made TypeAt plain_there type_one (word ∷ words) x y rest more) f g
+    both_bool _ _ _ _ _ _ (one_made (TypeAt Standard) constant type_one words x y rest more) (one_made (TypeAt Standard) plain_there type_one (word ∷ words) x y rest more) f g
 
 pub one_operand : OneThing OperandAt
 one_operand words x y rest more f g = one_operand_form words x y rest more (operand_form f) (operand_form g)
 
 module _ (word : List ℕ) (words : List (List ℕ)) where
-  pub constant_read : (t : WgslType) (rest : List (List ℕ)) → word ≡ codes "const" → TypeAt words t rest → OperandAt (word ∷ words) (constant t) rest
+  pub constant_read : (t : WgslType) (rest : List (List ℕ)) → word ≡ codes "const" → TypeAt Standard words t rest → OperandAt (word ∷ words) (constant t) rest
   constant_read t rest is d = subst (λ w. OperandAt (w ∷ words) (constant t) rest) (sym is) (constant_at d)
 
-  pub no_constant : word ≡ codes "const" → NoneAt TypeAt words → NoneAt OperandAt (word ∷ words)
-  no_constant is none x rest d = let f : Made TypeAt constant words x rest = subst (λ w. OperandForm (w ∷ words) x rest) is (operand_form d) in none f.0 rest f.1
+  pub no_constant : word ≡ codes "const" → NoneAt (TypeAt Standard) words → NoneAt OperandAt (word ∷ words)
+  no_constant is none x rest d = let f : Made (TypeAt Standard) constant words x rest = subst (λ w. OperandForm (w ∷ words) x rest) is (operand_form d) in none f.0 rest f.1
 
-  pub no_plain : word ≢ codes "const" → NoneAt TypeAt (word ∷ words) → NoneAt OperandAt (word ∷ words)
+  pub no_plain : word ≢ codes "const" → NoneAt (TypeAt Standard) (word ∷ words) → NoneAt OperandAt (word ∷ words)
   no_plain other none x rest d = let f = past _ _ _ (not_eq word _ other) (operand_form d) in none f.0 rest f.1
 
 -- an operand and others, or nothing

@@ -16,7 +16,7 @@ use Rattle.wgsl_rules.specs.types.Around.{around}
 use Rattle.wgsl_requests.specs.Grammar.{LayerAt, array_at, atomic_at, binding_array_at, mat_at, ptr_at, ref_at, vec_at}
 use Rattle.wgsl_requests.specs.Numbers.{IsCount, IsSmall}
 use Rattle.wgsl_requests.specs.Reading.{Beginning, NoneAt, OneWord, Refuses, Then}
-use Rattle.wgsl_requests.specs.internal.Layers.{ReadsLayer, is_layer_word, wrapped}
+use Rattle.wgsl_requests.specs.internal.Layers.{ReadsLayer, is_layer_word}
 use Rattle.wgsl_requests.proofs.Readers.{refuses}
 use Rattle.wgsl_requests.proofs.Meanings.{Made}
 use Rattle.wgsl_requests.proofs.Forms.{LayerForm, MemoryAt, layer_form}
@@ -74,16 +74,3 @@ module _ (word : List ℕ) (words after : List (List ℕ)) where
 
   pub ref_read : (s : AddressSpace) (m : AccessMode) → word ≡ codes "ref" → MemoryAt words (s, m) after → LayerAt (word ∷ words) (arounds.Ref s m) after
   ref_read s m is h = layer_keyed (codes "ref") (space_text s ∷ access_text m ∷ after) (arounds.Ref s m) is (memory_words s m h) (ref_at s m)
-
--- one more layer inside
-pub wrapped-last : (layers : List Around) (layer : Around) (t : WgslType) → wrapped (layers ++ layer ∷ []) t ≡ wrapped layers (around layer t)
-wrapped-last [] layer t = refl
-wrapped-last (first ∷ layers) layer t = ap (around first) (wrapped-last layers layer t)
-
--- the last of the layers around the type
-pub wrapped-take : (layers : List Around) (n : ℕ) (default : Around) (t : WgslType) → 0 < n → n ≤ length layers → wrapped (take n layers) t ≡ wrapped (take (n - 1) layers) (around (get_or layers (n - 1) default) t)
-wrapped-take layers zero default t some within = absurd (omega (arith, some))
-wrapped-take layers (suc k) default t some within =
-    let before : suc k - 1 ≡ k = omega arith in
-    let last : take (suc k) layers ≡ take k layers ++ get_or layers k default ∷ [] = take-suc layers k default (omega (arith, within)) in
-    rw before (ap (λ ls. wrapped ls t) last ∙ wrapped-last (take k layers) (get_or layers k default) t)

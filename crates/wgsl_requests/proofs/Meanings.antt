@@ -122,6 +122,10 @@ pub past_option : {A : Type 0} (o : Option A) (P : Type 0) (Q : A → Type 0) �
 past_option None P Q e p = p
 past_option (Some a) P Q e p = absurd (cc e)
 
+pub into_option : {A : Type 0} (o : Option A) (P : Type 0) (Q : A → Type 0) → o ≡ None → P → MatchOption o P Q
+into_option None P Q e p = p
+into_option (Some a) P Q e p = absurd (cc e)
+
 -- a value that is found in a table has the text
 text_first : {A : Type 0} (text : A → List ℕ) (rest : Option A) (s : List ℕ) (v x : A) (found : Bool) → (found ≡ true → s ≡ text v) → (rest ≡ Some x → s ≡ text x)
     → cond found (Some v) rest ≡ Some x → s ≡ text x

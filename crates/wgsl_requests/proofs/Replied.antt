@@ -24,7 +24,7 @@ use Rattle.wgsl_requests.specs.declared.wanted.Misfit.{Misfit}
 use Rattle.wgsl_requests.specs.declared.write.TextKind.{TextKind}
 use Rattle.wgsl_requests.specs.declared.write.TextKind.TheVariants as kinds
 use Rattle.wgsl_core.specs.declared.error.Fail.TheVariants.{Error, Memory}
-use Rattle.wgsl_requests.proofs.Requested.{IsShared, no_offsets, no_layout, other_struct}
+use Rattle.wgsl_requests.proofs.Requested.{no_offsets, no_layout, other_struct}
 use Rattle.wgsl_requests.specs.internal.Replied.{callee_view, Replies, WritesOfStruct}
 use Rattle.wgsl_requests.specs.internal.Written.{Adds}
 
@@ -45,28 +45,28 @@ kind_of_type c seen (Some x) kind is = is
 pub replied : {rules : RuleSet} {words : List (List ℕ)} {request : Request} (kind : TextKind) (old new : List ℕ) → IsRequest rules words request → Adds (IsAnswer request kind) old new → Adds (IsReply rules words kind) old new
 replied {words} {request} kind old new d a = (a.0, (request, d, a.1), a.2)
 
-pub rank_spelled : (words : List (List ℕ)) (types : List WgslType) (t u : WgslType) → TypesAt words types → types ≡ t ∷ u ∷ [] → IsRequest Ported (codes "rank" ∷ words) (rank t u)
-rank_spelled words types t u d pair = rank_words (subst (TypesAt words) pair d)
+pub rank_spelled : (rules : RuleSet) (words : List (List ℕ)) (types : List WgslType) (t u : WgslType) → TypesAt rules words types → types ≡ t ∷ u ∷ [] → IsRequest rules (codes "rank" ∷ words) (rank t u)
+rank_spelled rules words types t u d pair = rank_words (subst (TypesAt rules words) pair d)
 
-pub unary_spelled : (words after : List (List ℕ)) (word : List ℕ) (o : UnaryOperator) (t : WgslType) → words ≡ word ∷ after → word ≡ unary_text o → TypeAt after t [] →
+pub unary_spelled : (words after : List (List ℕ)) (word : List ℕ) (o : UnaryOperator) (t : WgslType) → words ≡ word ∷ after → word ≡ unary_text o → TypeAt Ported after t [] →
     IsRequest Ported (codes "unary" ∷ words) (unary o t)
 unary_spelled words after word o t e f d = subst (λ ws. IsRequest Ported (codes "unary" ∷ ws) (unary o t)) (sym (e ∙ ap (λ w. w ∷ after) f)) (unary_words o d)
 
-pub binary_spelled : (words after : List (List ℕ)) (word : List ℕ) (o : BinaryOperator) (types : List WgslType) (t u : WgslType) → words ≡ word ∷ after → word ≡ binary_text o → TypesAt after types →
+pub binary_spelled : (words after : List (List ℕ)) (word : List ℕ) (o : BinaryOperator) (types : List WgslType) (t u : WgslType) → words ≡ word ∷ after → word ≡ binary_text o → TypesAt Ported after types →
     types ≡ t ∷ u ∷ [] → IsRequest Ported (codes "binary" ∷ words) (binary o t u)
 binary_spelled words after word o types t u e f d pair =
-    subst (λ ws. IsRequest Ported (codes "binary" ∷ ws) (binary o t u)) (sym (e ∙ ap (λ w. w ∷ after) f)) (binary_words o (subst (TypesAt after) pair d))
+    subst (λ ws. IsRequest Ported (codes "binary" ∷ ws) (binary o t u)) (sym (e ∙ ap (λ w. w ∷ after) f)) (binary_words o (subst (TypesAt Ported after) pair d))
 
 -- what is written of a struct
-pub offsets_replied : (words : List (List ℕ)) (t : WgslType) (old new : List ℕ) (r : Result TextKind (Fail Misfit)) → TypeAt words t [] → WritesOfStruct offsets t old new r → Replies Ported (codes "offsets" ∷ words) old new r
-offsets_replied words t old new (Ok kind) d w = replied kind old new (offsets_words (subst (λ t. TypeAt words t []) w.2 d)) w.3
-offsets_replied words t old new (Err (Error misfit)) d none = no_offsets words (other_struct words t d none)
-offsets_replied words t old new (Err (Memory e)) d none = tt
+pub offsets_replied : (rules : RuleSet) (words : List (List ℕ)) (t : WgslType) (old new : List ℕ) (r : Result TextKind (Fail Misfit)) → TypeAt rules words t [] → WritesOfStruct offsets t old new r → Replies rules (codes "offsets" ∷ words) old new r
+offsets_replied rules words t old new (Ok kind) d w = replied kind old new (offsets_words (subst (λ t. TypeAt rules words t []) w.2 d)) w.3
+offsets_replied rules words t old new (Err (Error misfit)) d none = no_offsets rules words (other_struct words t d none)
+offsets_replied rules words t old new (Err (Memory e)) d none = tt
 
-pub layout_replied : (words : List (List ℕ)) (t : WgslType) (old new : List ℕ) (r : Result TextKind (Fail Misfit)) → TypeAt words t [] → WritesOfStruct layout t old new r → Replies Ported (codes "layout" ∷ words) old new r
-layout_replied words t old new (Ok kind) d w = replied kind old new (layout_words (subst (λ t. TypeAt words t []) w.2 d)) w.3
-layout_replied words t old new (Err (Error misfit)) d none = no_layout words (other_struct words t d none)
-layout_replied words t old new (Err (Memory e)) d none = tt
+pub layout_replied : (rules : RuleSet) (words : List (List ℕ)) (t : WgslType) (old new : List ℕ) (r : Result TextKind (Fail Misfit)) → TypeAt rules words t [] → WritesOfStruct layout t old new r → Replies rules (codes "layout" ∷ words) old new r
+layout_replied rules words t old new (Ok kind) d w = replied kind old new (layout_words (subst (λ t. TypeAt rules words t []) w.2 d)) w.3
+layout_replied rules words t old new (Err (Error misfit)) d none = no_layout rules words (other_struct words t d none)
+layout_replied rules words t old new (Err (Memory e)) d none = tt
 
 -- two options of the same values, as a function shows these
 pub same_shown : {A B V C : Type 0} (now : B → A) (items : V → A) (f : A → C) (r : Option B) (t : Option V) → option_map now r ≡ option_map items t → option_map (λ x. f (now x)) r ≡ option_map (λ x. f (items x)) t
@@ -81,9 +81,3 @@ call_seen callee r args e f =
     let template = same_shown (λ (y : Bor (List TpltParam)). y.now) vec_items (λ ps. map parameter_view ps) r callee.template e in
     let arguments = ap (map view) f in
     λ i. record { name = callee.name.now; template = template i; arguments = arguments i }
-
--- what is written of a command that both sets of rules read alike
-pub shared : (key : List ℕ) (words : List (List ℕ)) (old new : List ℕ) (r : Result TextKind (Fail Misfit)) → IsShared key → Replies Ported (key ∷ words) old new r → Replies Standard (key ∷ words) old new r
-shared key words old new (Ok x) same w = (w.0, (w.1.0, same.forth words w.1.0 w.1.1, w.1.2), w.2)
-shared key words old new (Err (Error misfit)) same none = λ request d. none request (same.back words request d)
-shared key words old new (Err (Memory e)) same none = tt

@@ -1,5 +1,5 @@
 -- What request words spell, by the first word.
-use Rattle.std.proofs.Common.{◌≡◌, ◌≢◌, ℕ, Bool, true, false, List, [], ◌∷◌, Option, codes, refl, sym, subst, ◌∙◌}
+use Rattle.std.proofs.Common.{◌≡◌, ◌≢◌, ◌↔◌, ℕ, Bool, true, false, List, [], ◌∷◌, Option, codes, refl, sym, subst, ◌∙◌}
 use Rattle.std.specs.Bool.{MatchBool}
 use Rattle.std.specs.Str.{bytes_eq}
 use Rattle.std.proofs.lemmas.Slice.Eq.{bytes_eq-Decides}
@@ -17,23 +17,23 @@ use Rattle.wgsl_requests.specs.declared.rules.RuleSet.TheVariants.{Ported, Stand
 use Rattle.wgsl_requests.proofs.OneType.{one_type}
 use Rattle.wgsl_requests.specs.Requests.{Request, rank, common, unary, binary, size, offsets, layout, ctor, call, IsRequest, rank_words, common_words, unary_words, binary_words, size_words, offsets_words, layout_words, ctor_words, call_words, type_words, resolve_words, why_words, overloads_words, type_of, resolution_of, explanation_of, overloads_of, IsCallee, NoRequest}
 
-abbrev pub RankForm : List (List ℕ) → Request → Type 0
-RankForm words request = (t : WgslType) × (u : WgslType) × TypesAt words (t ∷ u ∷ []) × (request ≡ rank t u)
+abbrev pub RankForm : RuleSet → List (List ℕ) → Request → Type 0
+RankForm rules words request = (t : WgslType) × (u : WgslType) × TypesAt rules words (t ∷ u ∷ []) × (request ≡ rank t u)
 
-abbrev pub CommonForm : List (List ℕ) → Request → Type 0
-CommonForm words request = (ts : List WgslType) × TypesAt words ts × (request ≡ common ts)
+abbrev pub CommonForm : RuleSet → List (List ℕ) → Request → Type 0
+CommonForm rules words request = (ts : List WgslType) × TypesAt rules words ts × (request ≡ common ts)
 
 abbrev pub UnaryForm : List (List ℕ) → Request → Type 0
-UnaryForm words request = (o : UnaryOperator) × (t : WgslType) × (after : List (List ℕ)) × (words ≡ unary_text o ∷ after) × TypeAt after t [] × (request ≡ unary o t)
+UnaryForm words request = (o : UnaryOperator) × (t : WgslType) × (after : List (List ℕ)) × (words ≡ unary_text o ∷ after) × TypeAt Ported after t [] × (request ≡ unary o t)
 
 abbrev pub BinaryForm : List (List ℕ) → Request → Type 0
-BinaryForm words request = (o : BinaryOperator) × (t : WgslType) × (u : WgslType) × (after : List (List ℕ)) × (words ≡ binary_text o ∷ after) × TypesAt after (t ∷ u ∷ []) × (request ≡ binary o t u)
+BinaryForm words request = (o : BinaryOperator) × (t : WgslType) × (u : WgslType) × (after : List (List ℕ)) × (words ≡ binary_text o ∷ after) × TypesAt Ported after (t ∷ u ∷ []) × (request ≡ binary o t u)
 
-abbrev pub SizeForm : List (List ℕ) → Request → Type 0
-SizeForm words request = (t : WgslType) × TypeAt words t [] × (request ≡ size t)
+abbrev pub SizeForm : RuleSet → List (List ℕ) → Request → Type 0
+SizeForm rules words request = (t : WgslType) × TypeAt rules words t [] × (request ≡ size t)
 
-abbrev pub StructForm : (List ℕ → Members → Request) → List (List ℕ) → Request → Type 0
-StructForm ask words request = (name : List ℕ) × (ms : Members) × TypeAt words (struct name ms) [] × (request ≡ ask name ms)
+abbrev pub StructForm : RuleSet → (List ℕ → Members → Request) → List (List ℕ) → Request → Type 0
+StructForm rules ask words request = (name : List ℕ) × (ms : Members) × TypeAt rules words (struct name ms) [] × (request ≡ ask name ms)
 
 abbrev pub CalleeForm : (Signature → Request) → List (List ℕ) → Request → Type 0
 CalleeForm ask words request = (c : Signature) × IsCallee words c × (request ≡ ask c)
@@ -52,13 +52,13 @@ If word key P Q = MatchBool (bytes_eq word key) P Q
 abbrev pub PortedForm : List (List ℕ) → Request → Type 0
 PortedForm [] request = ⊥
 PortedForm (word ∷ words) request =
-    If word (codes "rank") (RankForm words request)
-    (If word (codes "common") (CommonForm words request)
+    If word (codes "rank") (RankForm Ported words request)
+    (If word (codes "common") (CommonForm Ported words request)
     (If word (codes "unary") (UnaryForm words request)
     (If word (codes "binary") (BinaryForm words request)
-    (If word (codes "size") (SizeForm words request)
-    (If word (codes "offsets") (StructForm offsets words request)
-    (If word (codes "layout") (StructForm layout words request)
+    (If word (codes "size") (SizeForm Ported words request)
+    (If word (codes "offsets") (StructForm Ported offsets words request)
+    (If word (codes "layout") (StructForm Ported layout words request)
     (If word (codes "ctor") (CalleeForm ctor words request)
     (If word (codes "call") (CalleeForm call words request) ⊥))))))))
 
@@ -66,11 +66,11 @@ PortedForm (word ∷ words) request =
 abbrev pub StandardForm : List (List ℕ) → Request → Type 0
 StandardForm [] request = ⊥
 StandardForm (word ∷ words) request =
-    If word (codes "rank") (RankForm words request)
-    (If word (codes "common") (CommonForm words request)
-    (If word (codes "size") (SizeForm words request)
-    (If word (codes "offsets") (StructForm offsets words request)
-    (If word (codes "layout") (StructForm layout words request)
+    If word (codes "rank") (RankForm Standard words request)
+    (If word (codes "common") (CommonForm Standard words request)
+    (If word (codes "size") (SizeForm Standard words request)
+    (If word (codes "offsets") (StructForm Standard offsets words request)
+    (If word (codes "layout") (StructForm Standard layout words request)
     (If word (codes "resolve") (CallForm resolution_of words request)
     (If word (codes "why") (CallForm explanation_of words request)
     (If word (codes "overloads") (OverloadsForm words request)
@@ -89,32 +89,32 @@ call_form request (call_at d) f = f
 
 -- a form that both sets of rules read alike
 
-rank_form : (rules : RuleSet) (words : List (List ℕ)) (request : Request) → RankForm words request → RequestForm rules (codes "rank" ∷ words) request
-rank_form Ported words request f = f
-rank_form Standard words request f = f
+rank_both : (rules : RuleSet) (words : List (List ℕ)) (request : Request) → RequestForm rules (codes "rank" ∷ words) request ↔ RankForm rules words request
+rank_both Ported words request = ((λ f. f), (λ f. f))
+rank_both Standard words request = ((λ f. f), (λ f. f))
 
-common_form : (rules : RuleSet) (words : List (List ℕ)) (request : Request) → CommonForm words request → RequestForm rules (codes "common" ∷ words) request
-common_form Ported words request f = f
-common_form Standard words request f = f
+common_both : (rules : RuleSet) (words : List (List ℕ)) (request : Request) → RequestForm rules (codes "common" ∷ words) request ↔ CommonForm rules words request
+common_both Ported words request = ((λ f. f), (λ f. f))
+common_both Standard words request = ((λ f. f), (λ f. f))
 
-size_form : (rules : RuleSet) (words : List (List ℕ)) (request : Request) → SizeForm words request → RequestForm rules (codes "size" ∷ words) request
-size_form Ported words request f = f
-size_form Standard words request f = f
+size_both : (rules : RuleSet) (words : List (List ℕ)) (request : Request) → RequestForm rules (codes "size" ∷ words) request ↔ SizeForm rules words request
+size_both Ported words request = ((λ f. f), (λ f. f))
+size_both Standard words request = ((λ f. f), (λ f. f))
 
-offsets_form : (rules : RuleSet) (words : List (List ℕ)) (request : Request) → StructForm offsets words request → RequestForm rules (codes "offsets" ∷ words) request
-offsets_form Ported words request f = f
-offsets_form Standard words request f = f
+offsets_both : (rules : RuleSet) (words : List (List ℕ)) (request : Request) → RequestForm rules (codes "offsets" ∷ words) request ↔ StructForm rules offsets words request
+offsets_both Ported words request = ((λ f. f), (λ f. f))
+offsets_both Standard words request = ((λ f. f), (λ f. f))
 
-layout_form : (rules : RuleSet) (words : List (List ℕ)) (request : Request) → StructForm layout words request → RequestForm rules (codes "layout" ∷ words) request
-layout_form Ported words request f = f
-layout_form Standard words request f = f
+layout_both : (rules : RuleSet) (words : List (List ℕ)) (request : Request) → RequestForm rules (codes "layout" ∷ words) request ↔ StructForm rules layout words request
+layout_both Ported words request = ((λ f. f), (λ f. f))
+layout_both Standard words request = ((λ f. f), (λ f. f))
 
 pub request_form : {rules : RuleSet} {words : List (List ℕ)} {request : Request} → IsRequest rules words request → RequestForm rules words request
-request_form (rank_words {rules} {words} {t} {u} d) = rank_form rules words (rank t u) (t, u, d, refl)
-request_form (common_words {rules} {words} {ts} d) = common_form rules words (common ts) (ts, d, refl)
-request_form (size_words {rules} {words} {t} d) = size_form rules words (size t) (t, d, refl)
-request_form (offsets_words {rules} {words} {name} {ms} d) = offsets_form rules words (offsets name ms) (name, ms, d, refl)
-request_form (layout_words {rules} {words} {name} {ms} d) = layout_form rules words (layout name ms) (name, ms, d, refl)
+request_form (rank_words {rules} {words} {t} {u} d) = (rank_both rules words (rank t u)).1 (t, u, d, refl)
+request_form (common_words {rules} {words} {ts} d) = (common_both rules words (common ts)).1 (ts, d, refl)
+request_form (size_words {rules} {words} {t} d) = (size_both rules words (size t)).1 (t, d, refl)
+request_form (offsets_words {rules} {words} {name} {ms} d) = (offsets_both rules words (offsets name ms)).1 (name, ms, d, refl)
+request_form (layout_words {rules} {words} {name} {ms} d) = (layout_both rules words (layout name ms)).1 (name, ms, d, refl)
 request_form (unary_words {words} {t} o d) = (o, t, words, refl, d, refl)
 request_form (binary_words {words} {t} {u} o d) = (o, t, u, words, refl, d, refl)
 request_form (ctor_words {words} {c} d) = (c, d, refl)
@@ -131,20 +131,20 @@ no_words_no_form Standard request f = f
 pub no_words_no_request : (rules : RuleSet) (words : List (List ℕ)) → words ≡ [] → NoRequest rules words
 no_words_no_request rules words none request d = no_words_no_form rules request (subst (λ ws. RequestForm rules ws request) none (request_form d))
 
-pub no_rank : (words : List (List ℕ)) → ((t u : WgslType) → TypesAt words (t ∷ u ∷ []) → ⊥) → NoRequest Ported (codes "rank" ∷ words)
-no_rank words none request d = let f : RankForm words request = request_form d in none f.0 f.1 f.2
+pub no_rank : (rules : RuleSet) (words : List (List ℕ)) → ((t u : WgslType) → TypesAt rules words (t ∷ u ∷ []) → ⊥) → NoRequest rules (codes "rank" ∷ words)
+no_rank rules words none request d = let f = (rank_both rules words request).0 (request_form d) in none f.0 f.1 f.2
 
-pub no_common : (words : List (List ℕ)) → ((ts : List WgslType) → TypesAt words ts → ⊥) → NoRequest Ported (codes "common" ∷ words)
-no_common words none request d = let f : CommonForm words request = request_form d in none f.0 f.1
+pub no_common : (rules : RuleSet) (words : List (List ℕ)) → ((ts : List WgslType) → TypesAt rules words ts → ⊥) → NoRequest rules (codes "common" ∷ words)
+no_common rules words none request d = let f = (common_both rules words request).0 (request_form d) in none f.0 f.1
 
-pub no_size : (words : List (List ℕ)) → ((t : WgslType) → TypeAt words t [] → ⊥) → NoRequest Ported (codes "size" ∷ words)
-no_size words none request d = let f : SizeForm words request = request_form d in none f.0 f.1
+pub no_size : (rules : RuleSet) (words : List (List ℕ)) → ((t : WgslType) → TypeAt rules words t [] → ⊥) → NoRequest rules (codes "size" ∷ words)
+no_size rules words none request d = let f = (size_both rules words request).0 (request_form d) in none f.0 f.1
 
-pub no_offsets : (words : List (List ℕ)) → ((name : List ℕ) (ms : Members) → TypeAt words (struct name ms) [] → ⊥) → NoRequest Ported (codes "offsets" ∷ words)
-no_offsets words none request d = let f : StructForm offsets words request = request_form d in none f.0 f.1 f.2
+pub no_offsets : (rules : RuleSet) (words : List (List ℕ)) → ((name : List ℕ) (ms : Members) → TypeAt rules words (struct name ms) [] → ⊥) → NoRequest rules (codes "offsets" ∷ words)
+no_offsets rules words none request d = let f = (offsets_both rules words request).0 (request_form d) in none f.0 f.1 f.2
 
-pub no_layout : (words : List (List ℕ)) → ((name : List ℕ) (ms : Members) → TypeAt words (struct name ms) [] → ⊥) → NoRequest Ported (codes "layout" ∷ words)
-no_layout words none request d = let f : StructForm layout words request = request_form d in none f.0 f.1 f.2
+pub no_layout : (rules : RuleSet) (words : List (List ℕ)) → ((name : List ℕ) (ms : Members) → TypeAt rules words (struct name ms) [] → ⊥) → NoRequest rules (codes "layout" ∷ words)
+no_layout rules words none request d = let f = (layout_both rules words request).0 (request_form d) in none f.0 f.1 f.2
 
 pub no_ctor : (words : List (List ℕ)) → ((c : Signature) → ¬ IsCallee words c) → NoRequest Ported (codes "ctor" ∷ words)
 no_ctor words none request d = let f : CalleeForm ctor words request = request_form d in none f.0 f.1
@@ -177,19 +177,19 @@ no_binary_operator words after word is none request d =
     none f.0 (cc e)
 
 -- no operands
-pub no_unary_operand : (words after : List (List ℕ)) (word : List ℕ) → words ≡ word ∷ after → ((t : WgslType) → TypeAt after t [] → ⊥) → NoRequest Ported (codes "unary" ∷ words)
+pub no_unary_operand : (words after : List (List ℕ)) (word : List ℕ) → words ≡ word ∷ after → ((t : WgslType) → TypeAt Ported after t [] → ⊥) → NoRequest Ported (codes "unary" ∷ words)
 no_unary_operand words after word is none request d =
     let f : UnaryForm words request = request_form d in
     let e : word ∷ after ≡ unary_text f.0 ∷ f.2 = sym is ∙ f.3 in
     let same : f.2 ≡ after = cc e in
-    none f.1 (subst (λ ws. TypeAt ws f.1 []) same f.4)
+    none f.1 (subst (λ ws. TypeAt Ported ws f.1 []) same f.4)
 
-pub no_binary_operands : (words after : List (List ℕ)) (word : List ℕ) → words ≡ word ∷ after → ((t u : WgslType) → TypesAt after (t ∷ u ∷ []) → ⊥) → NoRequest Ported (codes "binary" ∷ words)
+pub no_binary_operands : (words after : List (List ℕ)) (word : List ℕ) → words ≡ word ∷ after → ((t u : WgslType) → TypesAt Ported after (t ∷ u ∷ []) → ⊥) → NoRequest Ported (codes "binary" ∷ words)
 no_binary_operands words after word is none request d =
     let f : BinaryForm words request = request_form d in
     let e : word ∷ after ≡ binary_text f.0 ∷ f.3 = sym is ∙ f.4 in
     let same : f.3 ≡ after = cc e in
-    none f.1 f.2 (subst (λ ws. TypesAt ws (f.1 ∷ f.2 ∷ [])) same f.5)
+    none f.1 f.2 (subst (λ ws. TypesAt Ported ws (f.1 ∷ f.2 ∷ [])) same f.5)
 
 -- no command
 not_eq : (word key : List ℕ) → word ≢ key → bytes_eq word key ≡ false
@@ -208,7 +208,7 @@ no_command word words a b c d e f g h i request q =
     past _ _ _ (not_eq word _ i) (past _ _ _ (not_eq word _ h) (past _ _ _ (not_eq word _ g) (past _ _ _ (not_eq word _ f) (past _ _ _ (not_eq word _ e) (past _ _ _ (not_eq word _ d) (past _ _ _ (not_eq word _ c) (past _ _ _ (not_eq word _ b) (past _ _ _ (not_eq word _ a) (request_form q)))))))))
 
 -- no struct
-pub other_struct : (words : List (List ℕ)) (t : WgslType) → TypeAt words t [] → ((name : List ℕ) (ms : Members) → ¬ t ≡ struct name ms) → (name : List ℕ) (ms : Members) → TypeAt words (struct name ms) [] → ⊥
+pub other_struct : {rules : RuleSet} (words : List (List ℕ)) (t : WgslType) → TypeAt rules words t [] → ((name : List ℕ) (ms : Members) → ¬ t ≡ struct name ms) → (name : List ℕ) (ms : Members) → TypeAt rules words (struct name ms) [] → ⊥
 other_struct words t d none name ms e = none name ms (one_type d (struct name ms) [] e).0
 
 -- by WGSL's own overloads
@@ -228,55 +228,3 @@ no_type word words a b c d e f g h none request q =
     let k : CallForm type_of (word ∷ words) request =
     past _ _ _ (not_eq word _ h) (past _ _ _ (not_eq word _ g) (past _ _ _ (not_eq word _ f) (past _ _ _ (not_eq word _ e) (past _ _ _ (not_eq word _ d) (past _ _ _ (not_eq word _ c) (past _ _ _ (not_eq word _ b) (past _ _ _ (not_eq word _ a) (request_form q)))))))) in
     none k.0 k.1
-
--- what is asked about types alone is the same by both sets of rules
-
--- a command that is read alike
-pub record IsShared (key : List ℕ) : Type 0 where
-  pub forth : (words : List (List ℕ)) (request : Request) → IsRequest Ported (key ∷ words) request → IsRequest Standard (key ∷ words) request
-  pub back : (words : List (List ℕ)) (request : Request) → IsRequest Standard (key ∷ words) request → IsRequest Ported (key ∷ words) request
-
-in_rank : (rules : RuleSet) (words : List (List ℕ)) (request : Request) → RankForm words request → IsRequest rules (codes "rank" ∷ words) request
-in_rank rules words request f = subst (IsRequest rules (codes "rank" ∷ words)) (sym f.3) (rank_words f.2)
-
-in_common : (rules : RuleSet) (words : List (List ℕ)) (request : Request) → CommonForm words request → IsRequest rules (codes "common" ∷ words) request
-in_common rules words request f = subst (IsRequest rules (codes "common" ∷ words)) (sym f.2) (common_words f.1)
-
-in_size : (rules : RuleSet) (words : List (List ℕ)) (request : Request) → SizeForm words request → IsRequest rules (codes "size" ∷ words) request
-in_size rules words request f = subst (IsRequest rules (codes "size" ∷ words)) (sym f.2) (size_words f.1)
-
-in_offsets : (rules : RuleSet) (words : List (List ℕ)) (request : Request) → StructForm offsets words request → IsRequest rules (codes "offsets" ∷ words) request
-in_offsets rules words request f = subst (IsRequest rules (codes "offsets" ∷ words)) (sym f.3) (offsets_words f.2)
-
-in_layout : (rules : RuleSet) (words : List (List ℕ)) (request : Request) → StructForm layout words request → IsRequest rules (codes "layout" ∷ words) request
-in_layout rules words request f = subst (IsRequest rules (codes "layout" ∷ words)) (sym f.3) (layout_words f.2)
-
-pub rank_shared : IsShared (codes "rank")
-rank_shared = record {
-  forth = λ ws r d. in_rank Standard ws r (request_form d);
-  back = λ ws r d. in_rank Ported ws r (request_form d);
-}
-
-pub common_shared : IsShared (codes "common")
-common_shared = record {
-  forth = λ ws r d. in_common Standard ws r (request_form d);
-  back = λ ws r d. in_common Ported ws r (request_form d);
-}
-
-pub size_shared : IsShared (codes "size")
-size_shared = record {
-  forth = λ ws r d. in_size Standard ws r (request_form d);
-  back = λ ws r d. in_size Ported ws r (request_form d);
-}
-
-pub offsets_shared : IsShared (codes "offsets")
-offsets_shared = record {
-  forth = λ ws r d. in_offsets Standard ws r (request_form d);
-  back = λ ws r d. in_offsets Ported ws r (request_form d);
-}
-
-pub layout_shared : IsShared (codes "layout")
-layout_shared = record {
-  forth = λ ws r d. in_layout Standard ws r (request_form d);
-  back = λ ws r d. in_layout Ported ws r (request_form d);
-}

@@ -17,13 +17,7 @@ use Rattle.wgsl_core.specs.declared.error.Fail.TheVariants.{Error, Memory}
 use Rattle.wgsl_requests.specs.internal.Asked.{WritesOfCall, called, operand_view}
 use Rattle.wgsl_requests.specs.internal.Replied.{Replies}
 use Rattle.wgsl_requests.proofs.Replied.{replied, same_shown}
-use Rattle.wgsl_requests.proofs.Requested.{IsShared, no_resolve, no_why}
-
--- what is written of a command that both sets of rules read alike
-pub shared : (key : List ℕ) (words : List (List ℕ)) (old new : List ℕ) (r : Result TextKind (Fail Misfit)) → IsShared key → Replies Ported (key ∷ words) old new r → Replies Standard (key ∷ words) old new r
-shared key words old new (Ok x) same w = (w.0, (w.1.0, same.forth words w.1.0 w.1.1, w.1.2), w.2)
-shared key words old new (Err (Error misfit)) same none = λ request d. none request (same.back words request d)
-shared key words old new (Err (Memory e)) same none = tt
+use Rattle.wgsl_requests.proofs.Requested.{no_resolve, no_why}
 
 -- what is written of a call
 pub resolve_replied : (words : List (List ℕ)) (old new : List ℕ) (r : Result TextKind (Fail Misfit)) → WritesOfCall resolution_of words old new r → Replies Standard (codes "resolve" ∷ words) old new r

@@ -11,14 +11,15 @@ use Rattle.wgsl_standard.specs.Callees.{WgslCallee, a_binary, a_constructor, a_f
 use Rattle.wgsl_asked.specs.Calls.{WgslCall}
 use Rattle.wgsl_requests.specs.Grammar.{TypeAt}
 use Rattle.wgsl_requests.specs.Templates.{TemplateAt}
+use Rattle.wgsl_requests.specs.declared.rules.RuleSet.TheVariants.{Standard}
 
 -- The words begin with an operand, and the rest comes after it.
 pub data OperandAt : List (List ℕ) → Operand → List (List ℕ) → Type 0 where
   -- `const vec 3 f32`
-  constant_at : {words rest : List (List ℕ)} {t : WgslType} → TypeAt words t rest →
+  constant_at : {words rest : List (List ℕ)} {t : WgslType} → TypeAt Standard words t rest →
       OperandAt (codes "const" ∷ words) (record { of_type = t; is_constant = true }) rest
   -- `vec 3 f32`; what has an abstract type is a const-expression
-  plain_at : {words rest : List (List ℕ)} {t : WgslType} → TypeAt words t rest →
+  plain_at : {words rest : List (List ℕ)} {t : WgslType} → TypeAt Standard words t rest →
       OperandAt words (record { of_type = t; is_constant = is_abstract t }) rest
 
 -- All words are operands, one after another.
@@ -37,10 +38,10 @@ pub data HeadAt : List (List ℕ) → WgslCallee × Option (List Parameter) → 
   binary_at : {rest : List (List ℕ)} (o : BinaryOperator) →
       HeadAt (codes "binary" ∷ binary_text o ∷ rest) (a_binary o, None) rest
   -- `ctor vec3 < t f32 >`
-  ctor_at : {name : List ℕ} {words rest : List (List ℕ)} {p : Option (List Parameter)} → TemplateAt words p rest →
+  ctor_at : {name : List ℕ} {words rest : List (List ℕ)} {p : Option (List Parameter)} → TemplateAt Standard words p rest →
       HeadAt (codes "ctor" ∷ name ∷ words) (a_constructor name, p) rest
   -- `call clamp -`
-  call_at : {name : List ℕ} {words rest : List (List ℕ)} {p : Option (List Parameter)} → TemplateAt words p rest →
+  call_at : {name : List ℕ} {words rest : List (List ℕ)} {p : Option (List Parameter)} → TemplateAt Standard words p rest →
       HeadAt (codes "call" ∷ name ∷ words) (a_function name, p) rest
 
 -- the number of operands that an operator takes; a name takes any

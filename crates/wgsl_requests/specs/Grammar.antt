@@ -1,5 +1,5 @@
--- Types in words.
-use Rattle.std.specs.Prelude.{◌≡◌, ◌++◌, ℕ, suc, List, [], ◌∷◌, Option, Some, None, codes}
+-- Types in words, by the set of rules.
+use Rattle.std.specs.Prelude.{◌≡◌, ◌++◌, ℕ, suc, true, List, [], ◌∷◌, Option, Some, None, codes}
 use Rattle.wgsl_syntax.specs.Address.{access_text, space_text}
 use Rattle.wgsl_syntax.specs.Attribute.{flag_text}
 use Rattle.wgsl_syntax.specs.Scalar.{scalar_text}
@@ -18,12 +18,24 @@ use Rattle.wgsl_rules.specs.types.Around.{around}
 use Rattle.wgsl_rules.specs.types.Types.{WgslType, scalar, struct, texture, sampler, ray_query, acceleration_structure, Members, no_members, member}
 use Rattle.wgsl_syntax.specs.declared.around.Around.{Around}
 use Rattle.wgsl_syntax.specs.declared.around.Around.TheVariants as arounds
+use Rattle.wgsl_spelled.specs.Spells.{Spells}
 use Rattle.wgsl_requests.specs.Numbers.{IsSmall, IsLong, IsCount, IsAttribute}
+use Rattle.wgsl_requests.specs.Reading.{NoneAt, OneWord}
+use Rattle.wgsl_requests.specs.Spelled.{after_run, is_spelled, run, spaced}
+use Rattle.wgsl_requests.specs.declared.rules.RuleSet.{RuleSet}
+use Rattle.wgsl_requests.specs.declared.rules.RuleSet.TheVariants.{Standard}
 
 -- the name of a flag, or `-` for none
 abbrev pub IsFlag : List ℕ → Option AccelerationStructureFlags → Type 0
 IsFlag word None = word ≡ codes "-"
 IsFlag word (Some flag) = word ≡ flag_text flag
+
+-- The words begin with a flag, or `-` for none, and the rest comes after it.
+pub data FlagAt : RuleSet → List (List ℕ) → Option AccelerationStructureFlags → List (List ℕ) → Type 0 where
+  flag_at : {rules : RuleSet} {flag : List ℕ} {f : Option AccelerationStructureFlags}
+      {rest : List (List ℕ)} → IsFlag flag f → FlagAt rules (flag ∷ rest) f rest
+  -- by WGSL's own overloads nothing stands for none, where neither comes next
+  no_flag_at : {words : List (List ℕ)} → NoneAt (OneWord IsFlag) words → FlagAt Standard words None words
 
 -- the words for the parameters of a texture: its sampled type, or its texel format and its access mode
 abbrev pub parameter_words : TextureParameters → List (List ℕ)
@@ -35,21 +47,25 @@ parameter_words (parameters.Storage format access) = texel_text format ∷ acces
 abbrev pub texture_words : TextureType → List (List ℕ)
 texture_words x = parameter_words (parameters_of x)
 
--- The words begin with a leaf type that is no scalar, and the rest comes after it.
-pub data LeafAt : List (List ℕ) → WgslType → List (List ℕ) → Type 0 where
+-- The words begin with a type that has no layer and no members in words, and is no scalar. The rest comes after it.
+pub data LeafAt : RuleSet → List (List ℕ) → WgslType → List (List ℕ) → Type 0 where
   -- `ray_query -`
-  ray_query_at : {flag : List ℕ} {f : Option AccelerationStructureFlags} {rest : List (List ℕ)} →
-      IsFlag flag f → LeafAt (codes "ray_query" ∷ flag ∷ rest) (ray_query f) rest
+  ray_query_at : {rules : RuleSet} {words rest : List (List ℕ)} {f : Option AccelerationStructureFlags} →
+      FlagAt rules words f rest → LeafAt rules (codes "ray_query" ∷ words) (ray_query f) rest
   -- `acceleration_structure vertex_return`
-  acceleration_structure_at : {flag : List ℕ} {f : Option AccelerationStructureFlags}
-      {rest : List (List ℕ)} → IsFlag flag f →
-      LeafAt (codes "acceleration_structure" ∷ flag ∷ rest) (acceleration_structure f) rest
+  acceleration_structure_at : {rules : RuleSet} {words rest : List (List ℕ)}
+      {f : Option AccelerationStructureFlags} → FlagAt rules words f rest →
+      LeafAt rules (codes "acceleration_structure" ∷ words) (acceleration_structure f) rest
   -- `sampler_comparison`
-  sampler_at : {rest : List (List ℕ)} (s : SamplerType) →
-      LeafAt (sampler_text s ∷ rest) (sampler s) rest
+  sampler_at : {rules : RuleSet} {rest : List (List ℕ)} (s : SamplerType) →
+      LeafAt rules (sampler_text s ∷ rest) (sampler s) rest
   -- `texture_storage_2d rgba8unorm write`
-  texture_at : {rest : List (List ℕ)} (x : TextureType) →
-      LeafAt (texture_name x ∷ (texture_words x ++ rest)) (texture x) rest
+  texture_at : {rules : RuleSet} {rest : List (List ℕ)} (x : TextureType) →
+      LeafAt rules (texture_name x ∷ (texture_words x ++ rest)) (texture x) rest
+  -- by WGSL's own overloads also `vec3<f32>`, `vec3f`, `array<mat4x3f, 4>`
+  spelled_at : {word : List ℕ} {words : List (List ℕ)} {t : WgslType} → is_spelled word ≡ true →
+      Spells (spaced (run (word ∷ words))) t →
+      LeafAt Standard (word ∷ words) t (after_run (word ∷ words))
 
 -- The words begin with a layer around a type, and the rest comes after it.
 pub data LayerAt : List (List ℕ) → Around → List (List ℕ) → Type 0 where
@@ -77,34 +93,34 @@ pub data LayerAt : List (List ℕ) → Around → List (List ℕ) → Type 0 whe
 
 mutual
   -- The words begin with a type, and the rest comes after it.
-  pub data TypeAt : List (List ℕ) → WgslType → List (List ℕ) → Type 0 where
+  pub data TypeAt : RuleSet → List (List ℕ) → WgslType → List (List ℕ) → Type 0 where
     -- `f32`
-    scalar_at : {rest : List (List ℕ)} (s : Scalar) → TypeAt (scalar_text s ∷ rest) (scalar s) rest
+    scalar_at : {rules : RuleSet} {rest : List (List ℕ)} (s : Scalar) → TypeAt rules (scalar_text s ∷ rest) (scalar s) rest
     -- `sampler`, `texture_2d f32`
-    leaf_at : {words rest : List (List ℕ)} {t : WgslType} → LeafAt words t rest →
-        TypeAt words t rest
+    leaf_at : {rules : RuleSet} {words rest : List (List ℕ)} {t : WgslType} → LeafAt rules words t rest →
+        TypeAt rules words t rest
     -- `vec 3 f32`
-    layer_at : {words after rest : List (List ℕ)} {layer : Around} {t : WgslType} →
+    layer_at : {rules : RuleSet} {words after rest : List (List ℕ)} {layer : Around} {t : WgslType} →
         LayerAt words layer after →
-        TypeAt after t rest → TypeAt words (around layer t) rest
+        TypeAt rules after t rest → TypeAt rules words (around layer t) rest
     -- `struct Light 2 color 16 - vec 3 f32 power - 8 f32`
-    struct_at : {name count : List ℕ} {n : ℕ} {words rest : List (List ℕ)} {ms : Members} →
-        IsLong count n → MembersAt n words ms rest →
-        TypeAt (codes "struct" ∷ name ∷ count ∷ words) (struct name ms) rest
+    struct_at : {rules : RuleSet} {name count : List ℕ} {n : ℕ} {words rest : List (List ℕ)} {ms : Members} →
+        IsLong count n → MembersAt rules n words ms rest →
+        TypeAt rules (codes "struct" ∷ name ∷ count ∷ words) (struct name ms) rest
 
   -- The words begin with this number of members, and the rest comes after them.
-  pub data MembersAt : ℕ → List (List ℕ) → Members → List (List ℕ) → Type 0 where
-    no_members_at : {rest : List (List ℕ)} → MembersAt 0 rest no_members rest
+  pub data MembersAt : RuleSet → ℕ → List (List ℕ) → Members → List (List ℕ) → Type 0 where
+    no_members_at : {rules : RuleSet} {rest : List (List ℕ)} → MembersAt rules 0 rest no_members rest
     -- the name, the attributes size and align, and the type: `color 16 - vec 3 f32`
-    member_at : {name size align : List ℕ} {s a : Option ℕ} {n : ℕ}
+    member_at : {rules : RuleSet} {name size align : List ℕ} {s a : Option ℕ} {n : ℕ}
         {words more rest : List (List ℕ)} {t : WgslType} {ms : Members} → IsAttribute size s →
-        IsAttribute align a → TypeAt words t more → MembersAt n more ms rest →
-        MembersAt (suc n) (name ∷ size ∷ align ∷ words) (member name t s a ms) rest
+        IsAttribute align a → TypeAt rules words t more → MembersAt rules n more ms rest →
+        MembersAt rules (suc n) (name ∷ size ∷ align ∷ words) (member name t s a ms) rest
 
 -- All words are types, one after another.
-pub data TypesAt : List (List ℕ) → List WgslType → Type 0 where
-  no_types_at : TypesAt [] []
+pub data TypesAt : RuleSet → List (List ℕ) → List WgslType → Type 0 where
+  no_types_at : {rules : RuleSet} → TypesAt rules [] []
   -- `f32 vec 3 f32`
-  type_at : {words rest : List (List ℕ)} {t : WgslType} {ts : List WgslType} →
-      TypeAt words t rest → TypesAt rest ts →
-      TypesAt words (t ∷ ts)
+  type_at : {rules : RuleSet} {words rest : List (List ℕ)} {t : WgslType} {ts : List WgslType} →
+      TypeAt rules words t rest → TypesAt rules rest ts →
+      TypesAt rules words (t ∷ ts)

@@ -7,6 +7,7 @@ pub mod Numbers
 pub mod Reading
 pub mod Replies
 pub mod Requests
+pub mod Spelled
 pub mod Templates
 pub mod Texts
 pub mod Words

@@ -18,37 +18,37 @@ abbrev pub IsCallee : List (List ℕ) → Signature → Type 0
 IsCallee [] c = ⊥
 IsCallee (name ∷ words) c =
     (name ≡ c.name) × (after : List (List ℕ))
-    × TemplateAt words c.template after × TypesAt after c.arguments
+    × TemplateAt Ported words c.template after × TypesAt Ported after c.arguments
 
 -- The words spell the request.
 pub data IsRequest : RuleSet → List (List ℕ) → Request → Type 0 where
   -- about types alone, for either set of rules
 
   -- `rank AbstractInt f32`
-  rank_words : {rules : RuleSet} {words : List (List ℕ)} {t u : WgslType} → TypesAt words (t ∷ u ∷ []) →
+  rank_words : {rules : RuleSet} {words : List (List ℕ)} {t u : WgslType} → TypesAt rules words (t ∷ u ∷ []) →
       IsRequest rules (codes "rank" ∷ words) (rank t u)
   -- `common AbstractInt f32 f16`
-  common_words : {rules : RuleSet} {words : List (List ℕ)} {ts : List WgslType} → TypesAt words ts →
+  common_words : {rules : RuleSet} {words : List (List ℕ)} {ts : List WgslType} → TypesAt rules words ts →
       IsRequest rules (codes "common" ∷ words) (common ts)
   -- `size vec 3 f32`
-  size_words : {rules : RuleSet} {words : List (List ℕ)} {t : WgslType} → TypeAt words t [] →
+  size_words : {rules : RuleSet} {words : List (List ℕ)} {t : WgslType} → TypeAt rules words t [] →
       IsRequest rules (codes "size" ∷ words) (size t)
   -- `offsets struct S 2 a - - f32 b 16 - vec 3 f32`
   offsets_words : {rules : RuleSet} {words : List (List ℕ)} {name : List ℕ} {ms : Members} →
-      TypeAt words (struct name ms) [] →
+      TypeAt rules words (struct name ms) [] →
       IsRequest rules (codes "offsets" ∷ words) (offsets name ms)
   -- `layout struct S 2 a - - f32 b 16 - vec 3 f32`
   layout_words : {rules : RuleSet} {words : List (List ℕ)} {name : List ℕ} {ms : Members} →
-      TypeAt words (struct name ms) [] →
+      TypeAt rules words (struct name ms) [] →
       IsRequest rules (codes "layout" ∷ words) (layout name ms)
   -- by the rules of wgsl-types
 
   -- `unary - vec 3 f32`
-  unary_words : {words : List (List ℕ)} {t : WgslType} (o : UnaryOperator) → TypeAt words t [] →
+  unary_words : {words : List (List ℕ)} {t : WgslType} (o : UnaryOperator) → TypeAt Ported words t [] →
       IsRequest Ported (codes "unary" ∷ unary_text o ∷ words) (unary o t)
   -- `binary + AbstractInt vec 3 f32`
   binary_words : {words : List (List ℕ)} {t u : WgslType} (o : BinaryOperator) →
-      TypesAt words (t ∷ u ∷ []) →
+      TypesAt Ported words (t ∷ u ∷ []) →
       IsRequest Ported (codes "binary" ∷ binary_text o ∷ words) (binary o t u)
   -- `ctor array < t f32 n 2 > AbstractInt f32`
   ctor_words : {words : List (List ℕ)} {c : Signature} → IsCallee words c →

@@ -9,6 +9,7 @@ use Rattle.wgsl_rules.specs.types.Literals.{Literal, bool, abstract_int, i32, u3
 use Rattle.wgsl_rules.specs.types.Signatures.{Parameter, of_type, of_literal, of_enumerant}
 use Rattle.wgsl_requests.specs.Numbers.{IsMedium, IsLong, IsI32, IsI64}
 use Rattle.wgsl_requests.specs.Grammar.{TypeAt}
+use Rattle.wgsl_requests.specs.declared.rules.RuleSet.{RuleSet}
 
 -- The word is a literal: a number has the suffix of its type, or none if it is abstract.
 pub data IsLiteral : List ℕ → Literal → Type 0 where
@@ -30,27 +31,27 @@ abbrev pub IsEnumerant : List ℕ → Enumerant → Type 0
 IsEnumerant word e = (word ≡ enumerant_text e) × (e ≢ AddressSpace Handle)
 
 -- The words begin with a template parameter, and the rest comes after it.
-pub data ParameterAt : List (List ℕ) → Parameter → List (List ℕ) → Type 0 where
+pub data ParameterAt : RuleSet → List (List ℕ) → Parameter → List (List ℕ) → Type 0 where
   -- `t vec 3 f32`
-  of_type_at : {words rest : List (List ℕ)} {t : WgslType} → TypeAt words t rest →
-      ParameterAt (codes "t" ∷ words) (of_type t) rest
+  of_type_at : {rules : RuleSet} {words rest : List (List ℕ)} {t : WgslType} → TypeAt rules words t rest →
+      ParameterAt rules (codes "t" ∷ words) (of_type t) rest
   -- `n 7u`
-  of_literal_at : {word : List ℕ} {rest : List (List ℕ)} {l : Literal} → IsLiteral word l →
-      ParameterAt (codes "n" ∷ word ∷ rest) (of_literal l) rest
+  of_literal_at : {rules : RuleSet} {word : List ℕ} {rest : List (List ℕ)} {l : Literal} → IsLiteral word l →
+      ParameterAt rules (codes "n" ∷ word ∷ rest) (of_literal l) rest
   -- `e read_write`
-  of_enumerant_at : {word : List ℕ} {rest : List (List ℕ)} {e : Enumerant} → IsEnumerant word e →
-      ParameterAt (codes "e" ∷ word ∷ rest) (of_enumerant e) rest
+  of_enumerant_at : {rules : RuleSet} {word : List ℕ} {rest : List (List ℕ)} {e : Enumerant} → IsEnumerant word e →
+      ParameterAt rules (codes "e" ∷ word ∷ rest) (of_enumerant e) rest
 
 -- The words begin with template parameters up to `>`, and the rest comes after it.
-pub data ParametersAt : List (List ℕ) → List Parameter → List (List ℕ) → Type 0 where
-  end_at : {rest : List (List ℕ)} → ParametersAt (codes ">" ∷ rest) [] rest
-  parameter_at : {words more rest : List (List ℕ)} {p : Parameter} {ps : List Parameter} →
-      ParameterAt words p more →
-      ParametersAt more ps rest → ParametersAt words (p ∷ ps) rest
+pub data ParametersAt : RuleSet → List (List ℕ) → List Parameter → List (List ℕ) → Type 0 where
+  end_at : {rules : RuleSet} {rest : List (List ℕ)} → ParametersAt rules (codes ">" ∷ rest) [] rest
+  parameter_at : {rules : RuleSet} {words more rest : List (List ℕ)} {p : Parameter} {ps : List Parameter} →
+      ParameterAt rules words p more →
+      ParametersAt rules more ps rest → ParametersAt rules words (p ∷ ps) rest
 
 -- The words begin with a template or `-` for none, and the rest comes after it.
-pub data TemplateAt : List (List ℕ) → Option (List Parameter) → List (List ℕ) → Type 0 where
-  no_template_at : {rest : List (List ℕ)} → TemplateAt (codes "-" ∷ rest) None rest
+pub data TemplateAt : RuleSet → List (List ℕ) → Option (List Parameter) → List (List ℕ) → Type 0 where
+  no_template_at : {rules : RuleSet} {rest : List (List ℕ)} → TemplateAt rules (codes "-" ∷ rest) None rest
   -- `< t f32 n 4 >`
-  template_at : {words rest : List (List ℕ)} {ps : List Parameter} → ParametersAt words ps rest →
-      TemplateAt (codes "<" ∷ words) (Some ps) rest
+  template_at : {rules : RuleSet} {words rest : List (List ℕ)} {ps : List Parameter} → ParametersAt rules words ps rest →
+      TemplateAt rules (codes "<" ∷ words) (Some ps) rest

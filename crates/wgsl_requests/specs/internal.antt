@@ -3,6 +3,7 @@ pub mod Layers
 pub mod Lines
 pub mod Leaves
 pub mod Replied
+pub mod Spelled
 pub mod Structs
 pub mod Taken
 pub mod Typed

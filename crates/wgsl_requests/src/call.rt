@@ -14,6 +14,7 @@ ghost use Rattle.wgsl_requests.specs.internal.Written.{Adds};
 use crate::command::{binary_operator, unary_operator, write_answer_to};
 use crate::operand::{WrittenOperand, read_last_operand, read_operand_pair, read_operands};
 use crate::overloaded::write_type_of;
+use crate::rules::RuleSet;
 use crate::template::read_template;
 use crate::wanted::{Misfit, Wanted};
 use crate::words::Words;
@@ -176,7 +177,7 @@ fn read_named<'t>(
         (left words.old) (left words.new) result }
 {
     let name = words.next(Wanted::Name)?;
-    let template = read_template(alloc, words)?;
+    let template = read_template(alloc, RuleSet::Standard, words)?;
     Ok((name, template))
 }
 

@@ -78,13 +78,13 @@ fn answer_command(
         (string_bytes text.old) (string_bytes text.new) result }
 {
     match command {
-        "rank" => rank(alloc, words, text),
-        "common" => common(alloc, words, text),
+        "rank" => rank(alloc, RuleSet::Ported, words, text),
+        "common" => common(alloc, RuleSet::Ported, words, text),
         "unary" => unary(alloc, words, text),
         "binary" => binary(alloc, words, text),
-        "size" => size(alloc, words, text),
-        "offsets" => offsets(alloc, words, text),
-        "layout" => layout(alloc, words, text),
+        "size" => size(alloc, RuleSet::Ported, words, text),
+        "offsets" => offsets(alloc, RuleSet::Ported, words, text),
+        "layout" => layout(alloc, RuleSet::Ported, words, text),
         "ctor" => ctor(alloc, words, text),
         "call" => call(alloc, words, text),
         _ => Err(Fail::Error(Misfit::Wrong(Wanted::Command))),
@@ -108,13 +108,14 @@ pub(crate) fn write_answer_to(
 /// `rank T U`: the rank of the conversion.
 pub(crate) fn rank(
     alloc: Global,
+    rules: RuleSet,
     words: &mut Words,
     text: &mut String,
 ) -> Result<TextKind, Fail<Misfit>>
-    ensures { Replies RuleSet.Ported (codes "rank" ∷ left words.old)
+    ensures { Replies rules (codes "rank" ∷ left words.old)
         (string_bytes text.old) (string_bytes text.new) result }
 {
-    let types = read_pair(alloc, words)?;
+    let types = read_pair(alloc, rules, words)?;
     let written = write_answer_to(alloc, Request::Rank(&types[0], &types[1]), text);
     let [_source, _target] = types;
     Ok(written?)
@@ -123,13 +124,14 @@ pub(crate) fn rank(
 /// `common T..`: the type that all types have after they were converted together, each on its line.
 pub(crate) fn common(
     alloc: Global,
+    rules: RuleSet,
     words: &mut Words,
     text: &mut String,
 ) -> Result<TextKind, Fail<Misfit>>
-    ensures { Replies RuleSet.Ported (codes "common" ∷ left words.old)
+    ensures { Replies rules (codes "common" ∷ left words.old)
         (string_bytes text.old) (string_bytes text.new) result }
 {
-    let values = typed_on(alloc, words.line, read_types(alloc, words)?)?;
+    let values = typed_on(alloc, words.line, read_types(alloc, rules, words)?)?;
     let written = write_common(alloc, &values, text);
     drop(values);
     Ok(written?)
@@ -160,7 +162,7 @@ fn unary(alloc: Global, words: &mut Words, text: &mut String) -> Result<TextKind
         (string_bytes text.old) (string_bytes text.new) result }
 {
     let operator = unary_operator(words.next(Wanted::UnaryOperator)?)?;
-    let operand = read_last_type(alloc, words)?;
+    let operand = read_last_type(alloc, RuleSet::Ported, words)?;
     let written = write_answer_to(alloc, Request::Unary(operator, &operand), text);
     drop(operand);
     Ok(written?)
@@ -178,7 +180,7 @@ fn binary(alloc: Global, words: &mut Words, text: &mut String) -> Result<TextKin
         (string_bytes text.old) (string_bytes text.new) result }
 {
     let operator = binary_operator(words.next(Wanted::BinaryOperator)?)?;
-    let types = read_pair(alloc, words)?;
+    let types = read_pair(alloc, RuleSet::Ported, words)?;
     let written = write_answer_to(alloc, Request::Binary(operator, &types[0], &types[1]), text);
     let [_left, _right] = types;
     Ok(written?)
@@ -193,13 +195,14 @@ pub(crate) fn binary_operator(word: &str) -> Result<BinaryOperator, Fail<Misfit>
 /// `size T`: the size and the alignment.
 pub(crate) fn size(
     alloc: Global,
+    rules: RuleSet,
     words: &mut Words,
     text: &mut String,
 ) -> Result<TextKind, Fail<Misfit>>
-    ensures { Replies RuleSet.Ported (codes "size" ∷ left words.old)
+    ensures { Replies rules (codes "size" ∷ left words.old)
         (string_bytes text.old) (string_bytes text.new) result }
 {
-    let ty = read_last_type(alloc, words)?;
+    let ty = read_last_type(alloc, rules, words)?;
     let written = write_answer_to(alloc, Request::Size(&ty), text);
     drop(ty);
     Ok(written?)
@@ -208,13 +211,14 @@ pub(crate) fn size(
 /// `offsets T` for a struct T: the offset of each member.
 pub(crate) fn offsets(
     alloc: Global,
+    rules: RuleSet,
     words: &mut Words,
     text: &mut String,
 ) -> Result<TextKind, Fail<Misfit>>
-    ensures { Replies RuleSet.Ported (codes "offsets" ∷ left words.old)
+    ensures { Replies rules (codes "offsets" ∷ left words.old)
         (string_bytes text.old) (string_bytes text.new) result }
 {
-    let ty = read_last_type(alloc, words)?;
+    let ty = read_last_type(alloc, rules, words)?;
     let written = write_offsets_of(alloc, &ty, text);
     drop(ty);
     written
@@ -233,13 +237,14 @@ fn write_offsets_of(alloc: Global, ty: &Type, text: &mut String) -> Result<TextK
 /// `layout T` for a struct T: a report of its members and of the whole.
 pub(crate) fn layout(
     alloc: Global,
+    rules: RuleSet,
     words: &mut Words,
     text: &mut String,
 ) -> Result<TextKind, Fail<Misfit>>
-    ensures { Replies RuleSet.Ported (codes "layout" ∷ left words.old)
+    ensures { Replies rules (codes "layout" ∷ left words.old)
         (string_bytes text.old) (string_bytes text.new) result }
 {
-    let ty = read_last_type(alloc, words)?;
+    let ty = read_last_type(alloc, rules, words)?;
     let written = write_layout_of(alloc, &ty, text);
     drop(ty);
     written
@@ -282,8 +287,8 @@ fn read_callee<'t>(alloc: Global, words: &mut Words<'t>) -> Result<Callee<'t>, F
         ((call : Signature) → ¬ IsCallee (left words.old) call) result }
 {
     let name = words.next(Wanted::Name)?;
-    let template = read_template(alloc, words)?;
-    let types = read_types(alloc, words)?;
+    let template = read_template(alloc, RuleSet::Ported, words)?;
+    let types = read_types(alloc, RuleSet::Ported, words)?;
     Ok(Callee {
         name,
         template,

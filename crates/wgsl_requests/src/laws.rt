@@ -1,10 +1,14 @@
 // Laws of the requests: each function returns nothing, and its contract is the law.
-ghost use Rattle.std.specs.Prelude.{◌≡◌, ℕ, List};
+ghost use Rattle.std.specs.Prelude.{◌≡◌, [], ℕ, List};
+ghost use Rattle.wgsl_rules.specs.types.Spelling.{spelling};
 ghost use Rattle.wgsl_rules.specs.types.Types.{WgslType};
+ghost use Rattle.wgsl_spelled.specs.Spells.{Spells};
+ghost use Rattle.wgsl_spelled.specs.Written.{IsWritable};
 ghost use Rattle.wgsl_requests.specs.Grammar.{TypeAt};
 ghost use Rattle.wgsl_requests.specs.Laws.{OneAnswer};
 ghost use Rattle.wgsl_requests.specs.Replies.{ReplyText, IsReplyTo};
 ghost use Rattle.wgsl_requests.specs.Requests.{Request, IsRequest};
+ghost use Rattle.wgsl_requests.specs.Words.{words_of};
 ghost use Rattle.wgsl_requests.specs.declared.rules.RuleSet.{RuleSet};
 
 /// By a set of rules, words spell at most one request.
@@ -14,11 +18,29 @@ pub fn one_request()
         → IsRequest rules words a → IsRequest rules words b → a ≡ b }
 {}
 
-/// Words begin with at most one type, and no type's words begin another's.
+/// By a set of rules, words begin with at most one type, and no type's words begin another's.
 #[tactic(auto, using(crate::proofs::OneType::one_type))]
 pub fn one_type()
-    ensures { (words rest others : List (List ℕ)) (t u : WgslType)
-        → TypeAt words t rest → TypeAt words u others → (t ≡ u) × (rest ≡ others) }
+    ensures { (rules : RuleSet) (words rest others : List (List ℕ)) (t u : WgslType)
+        → TypeAt rules words t rest → TypeAt rules words u others → (t ≡ u) × (rest ≡ others) }
+{}
+
+/// By WGSL's own overloads, what spells a type is read as that type, and as no other.
+#[tactic(auto, using(crate::proofs::SpelledWords::words_read, crate::proofs::SpelledWords::only_read))]
+pub fn spelled_is_read()
+    ensures read { (text : List ℕ) (t : WgslType) → Spells text t
+        → TypeAt RuleSet.Standard (words_of text) t [] }
+    ensures alone { (text : List ℕ) (t u : WgslType) (rest : List (List ℕ)) → Spells text t
+        → TypeAt RuleSet.Standard (words_of text) u rest → (u ≡ t) × (rest ≡ []) }
+{}
+
+/// By WGSL's own overloads, a type without a struct is read from what it is written as in an answer, and no other type is.
+#[tactic(auto, using(crate::proofs::SpelledWords::written_read, crate::proofs::SpelledWords::only_written))]
+pub fn answered_is_read()
+    ensures read { (t : WgslType) → IsWritable t
+        → TypeAt RuleSet.Standard (words_of (spelling t)) t [] }
+    ensures alone { (t u : WgslType) (rest : List (List ℕ)) → IsWritable t
+        → TypeAt RuleSet.Standard (words_of (spelling t)) u rest → (u ≡ t) × (rest ≡ []) }
 {}
 
 /// A request has at most one answer.

@@ -1,18 +1,22 @@
 // The leaf types that words stand for, but scalars.
-ghost use Rattle.std.specs.Prelude.{◌∷◌};
+ghost use Rattle.std.specs.Prelude.{◌≡◌, ◌∷◌, MatchOption, Option};
 ghost use Rattle.wgsl_core.specs.View.{view};
 ghost use Rattle.wgsl_syntax.specs.Address.{access_text};
 ghost use Rattle.wgsl_syntax.specs.Texel.{texel_text};
 ghost use Rattle.wgsl_syntax.specs.Texture.{sampled_text};
 ghost use Rattle.wgsl_syntax.specs.TextureName.{texture_name_text};
-ghost use Rattle.wgsl_requests.specs.Grammar.{IsFlag, LeafAt};
+ghost use Rattle.wgsl_syntax.specs.declared.attribute.AccelerationStructureFlags.{AccelerationStructureFlags};
+ghost use Rattle.wgsl_requests.specs.Grammar.{FlagAt, IsFlag, LeafAt};
 ghost use Rattle.wgsl_requests.specs.Reading.{IsText, OneWord, Reads, ReadsWord, Then};
-ghost use Rattle.wgsl_requests.specs.internal.Leaves.{ParametersAt, TextureAt};
+ghost use Rattle.wgsl_requests.specs.internal.Leaves.{ParametersAt, SpelledOrTextureAt, TextureAt, begins_spelling};
 ghost use Rattle.wgsl_requests.specs.internal.Taken.{GoesOn, left};
 
 use crate::outer::access;
+use crate::rules::RuleSet;
+use crate::spelled::{is_spelled, read_spelled};
 use crate::wanted::{Misfit, Wanted};
 use crate::words::{Words, parsed};
+use std::alloc::Global;
 use std::str::FromStr;
 use wgsl_types::error::Fail;
 use wgsl_types::syntax::{AccelerationStructureFlags, AccessMode, SampledType, TexelFormat};
@@ -20,23 +24,69 @@ use wgsl_types::ty::{
     SamplerType, TextureName, TextureParameterKind, TextureParameters, TextureType, Type,
 };
 
-/// A leaf type that is no scalar: a type of rays, a sampler or a texture.
+/// A type without a layer and members in words, that is no scalar: a type of rays, a sampler or a texture, and by WGSL's own
+/// overloads a type as WGSL spells it.
 #[inline(never)]
-pub fn read_leaf(word: &str, words: &mut Words) -> Result<Type, Fail<Misfit>>
+pub fn read_leaf(
+    alloc: Global,
+    rules: RuleSet,
+    word: &str,
+    words: &mut Words,
+) -> Result<Type, Fail<Misfit>>
     ensures goes_on { GoesOn words.old words.new }
-    ensures read { Reads LeafAt view (word.now ∷ left words.old) (left words.new) result }
+    ensures read { Reads (LeafAt rules) view (word.now ∷ left words.old) (left words.new) result }
 {
     match word {
-        "ray_query" => Ok(Type::RayQuery(read_flag(words)?)),
-        "acceleration_structure" => Ok(Type::AccelerationStructure(read_flag(words)?)),
+        "ray_query" => Ok(Type::RayQuery(read_flag(rules, words)?)),
+        "acceleration_structure" => Ok(Type::AccelerationStructure(read_flag(rules, words)?)),
         _ => match SamplerType::from_str(word) {
             Ok(sampler) => Ok(Type::Sampler(sampler)),
-            Err(_) => Ok(Type::Texture(read_texture(word, words)?)),
+            Err(_) => read_spelled_or_texture(alloc, rules, word, words),
         },
     }
 }
 
-fn read_flag(words: &mut Words) -> Result<Option<AccelerationStructureFlags>, Fail<Misfit>>
+fn read_spelled_or_texture(
+    alloc: Global,
+    rules: RuleSet,
+    word: &str,
+    words: &mut Words,
+) -> Result<Type, Fail<Misfit>>
+    ensures goes_on { GoesOn words.old words.new }
+    ensures read { Reads (SpelledOrTextureAt rules) view
+        (word.now ∷ left words.old) (left words.new) result }
+{
+    if begins_spelling(rules, word) {
+        read_spelled(alloc, word, words)
+    } else {
+        Ok(Type::Texture(read_texture(word, words)?))
+    }
+}
+
+fn begins_spelling(rules: RuleSet, word: &str) -> bool
+    ensures { result ≡ begins_spelling rules word.now }
+{
+    match rules {
+        RuleSet::Ported => false,
+        RuleSet::Standard => is_spelled(word),
+    }
+}
+
+/// A flag, or `-` for none; by WGSL's own overloads nothing, where neither comes next.
+fn read_flag(
+    rules: RuleSet,
+    words: &mut Words,
+) -> Result<Option<AccelerationStructureFlags>, Fail<Misfit>>
+    ensures goes_on { GoesOn words.old words.new }
+    ensures read { Reads (FlagAt rules) (λ flag. flag) (left words.old) (left words.new) result }
+{
+    match rules {
+        RuleSet::Ported => read_flag_word(words),
+        RuleSet::Standard => Ok(read_flag_if_any(words)),
+    }
+}
+
+fn read_flag_word(words: &mut Words) -> Result<Option<AccelerationStructureFlags>, Fail<Misfit>>
     ensures goes_on { GoesOn words.old words.new }
     ensures read { Reads (OneWord IsFlag) (λ flag. flag) (left words.old) (left words.new) result }
 {
@@ -46,9 +96,34 @@ fn read_flag(words: &mut Words) -> Result<Option<AccelerationStructureFlags>, Fa
 fn flag(word: &str) -> Result<Option<AccelerationStructureFlags>, Fail<Misfit>>
     ensures { ReadsWord IsFlag word.now result }
 {
+    match flag_named(word) {
+        Some(flag) => Ok(flag),
+        None => Err(Fail::Error(Misfit::Wrong(Wanted::Flag))),
+    }
+}
+
+fn read_flag_if_any(words: &mut Words) -> Option<AccelerationStructureFlags>
+    ensures goes_on { GoesOn words.old words.new }
+    ensures read { FlagAt RuleSet.Standard (left words.old) result (left words.new) }
+{
+    let before = *words;
+    if let Ok(word) = words.next(Wanted::Flag) {
+        if let Some(flag) = flag_named(word) {
+            return flag;
+        }
+    }
+    *words = before;
+    None
+}
+
+/// The flag of this name, or none for `-`.
+fn flag_named(word: &str) -> Option<Option<AccelerationStructureFlags>>
+    ensures { MatchOption result
+        ((f : Option AccelerationStructureFlags) → ¬ IsFlag word.now f) (λ f. IsFlag word.now f) }
+{
     match word {
-        "-" => Ok(None),
-        _ => Ok(Some(parsed(word, Wanted::Flag)?)),
+        "-" => Some(None),
+        _ => Some(Some(AccelerationStructureFlags::from_str(word).ok()?)),
     }
 }
 

@@ -14,6 +14,7 @@ pub mod read;
 mod report;
 pub mod request;
 pub mod rules;
+mod spelled;
 pub mod split;
 mod standard;
 pub mod template;

@@ -20,6 +20,7 @@ ghost use Rattle.wgsl_requests.specs.internal.Taken.{GoesOn, left};
 use crate::leaf::read_leaf;
 use crate::outer::read_outer;
 use crate::read::{read_layers, read_struct};
+use crate::rules::RuleSet;
 use crate::wanted::{Misfit, Wanted};
 use crate::words::Words;
 use std::alloc::Global;
@@ -205,7 +206,7 @@ fn plain_operand(ty: WrittenType) -> WrittenOperand
 /// The type that the next words stand for.
 fn read_type(alloc: Global, words: &mut Words) -> Result<WrittenType, Fail<Misfit>>
     ensures goes_on { GoesOn words.old words.new }
-    ensures read { Reads TypeAt type_view (left words.old) (left words.new) result }
+    ensures read { Reads (TypeAt RuleSet.Standard) type_view (left words.old) (left words.new) result }
 {
     let word = words.next(Wanted::Type)?;
     match Scalar::from_str(word) {
@@ -223,10 +224,10 @@ fn read_other_type(
 ) -> Result<WrittenType, Fail<Misfit>>
     requires { IsNoScalar word.now }
     ensures goes_on { GoesOn words.old words.new }
-    ensures read { Reads TypeAt type_view (word.now ∷ left words.old) (left words.new) result }
+    ensures read { Reads (TypeAt RuleSet.Standard) type_view (word.now ∷ left words.old) (left words.new) result }
 {
     match word {
-        "struct" => built(alloc, read_struct(alloc, words)),
+        "struct" => built(alloc, read_struct(alloc, RuleSet::Standard, words)),
         _ => read_other(alloc, word, words),
     }
 }
@@ -234,11 +235,11 @@ fn read_other_type(
 /// The type that begins with this word, which is neither a scalar nor a struct.
 fn read_other(alloc: Global, word: &str, words: &mut Words) -> Result<WrittenType, Fail<Misfit>>
     ensures goes_on { GoesOn words.old words.new }
-    ensures read { Reads OtherAt type_view (word.now ∷ left words.old) (left words.new) result }
+    ensures read { Reads (OtherAt RuleSet.Standard) type_view (word.now ∷ left words.old) (left words.new) result }
 {
     match read_outer(word, words)? {
         Some(outer) => read_inside(alloc, outer, words),
-        None => built(alloc, read_leaf(word, words)),
+        None => built(alloc, read_leaf(alloc, RuleSet::Standard, word, words)),
     }
 }
 
@@ -246,12 +247,12 @@ fn read_other(alloc: Global, word: &str, words: &mut Words) -> Result<WrittenTyp
 #[inline(always)]
 fn read_inside(alloc: Global, outer: Around, words: &mut Words) -> Result<WrittenType, Fail<Misfit>>
     ensures goes_on { GoesOn words.old words.new }
-    ensures read { Reads (InsideAt outer) type_view (left words.old) (left words.new) result }
+    ensures read { Reads (InsideAt RuleSet.Standard outer) type_view (left words.old) (left words.new) result }
 {
     let word = words.next(Wanted::Type)?;
     match value_of(outer, word) {
         Some(value) => Ok(value),
-        None => built(alloc, read_layers(alloc, outer, word, words)),
+        None => built(alloc, read_layers(alloc, RuleSet::Standard, outer, word, words)),
     }
 }
 

@@ -1,31 +1,13 @@
 // The layers around a type that words stand for.
-ghost use Rattle.std.specs.Prelude.{◌≡◌, IfOk};
-ghost use Rattle.wgsl_core.specs.View.{view};
 ghost use Rattle.wgsl_syntax.specs.Address.{access_text, space_text};
 ghost use Rattle.wgsl_requests.specs.Reading.{IsText, OneWord, Reads, ReadsWord, Then};
-ghost use Rattle.wgsl_requests.specs.internal.Layers.{ReadsLayer, wrapped};
+ghost use Rattle.wgsl_requests.specs.internal.Layers.{ReadsLayer};
 ghost use Rattle.wgsl_requests.specs.internal.Taken.{GoesOn, left};
 
 use crate::wanted::{Misfit, Wanted};
 use crate::words::{Words, parsed};
-use std::alloc::{AllocError, Global};
 use wgsl_types::error::Fail;
 use wgsl_types::syntax::{AccessMode, AddressSpace, Around};
-use wgsl_types::ty::Type;
-
-/// The type inside these layers, of which the last is the innermost.
-pub fn wrap(alloc: Global, layers: &[Around], innermost: Type) -> Result<Type, AllocError>
-    ensures { IfOk result (λ t. view t ≡ wrapped layers.now (view innermost)) }
-{
-    let mut ty = innermost;
-    let mut left = layers.len();
-    while left > 0 {
-        left -= 1;
-        let inner = Box::new(alloc, ty)?;
-        ty = Type::around(layers[left], inner);
-    }
-    Ok(ty)
-}
 
 /// The layer that begins with this word; `None` if none does. It is not inlined, so that words are compared as numbers.
 #[inline(never)]

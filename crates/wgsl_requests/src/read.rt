@@ -11,11 +11,13 @@ ghost use Rattle.wgsl_requests.specs.internal.Structs.{MemberAt, StructAt};
 ghost use Rattle.wgsl_requests.specs.internal.Taken.{GoesOn, left};
 
 use crate::leaf::read_leaf;
-use crate::outer::{read_outer, wrap};
+use crate::outer::read_outer;
+use crate::rules::RuleSet;
 use crate::wanted::{Misfit, Wanted};
 use crate::words::Words;
 use std::alloc::Global;
 use std::str::FromStr;
+use wgsl_spelled::spelled::wrap;
 use wgsl_types::error::Fail;
 use wgsl_types::syntax::{Around, Scalar};
 use wgsl_types::ty::{StructMemberType, StructType, Type};
@@ -25,27 +27,27 @@ use wgsl_types::ty::{StructMemberType, StructType, Type};
 /// Layers are read in a loop, and what a struct and a layer need is not inlined, so that deep types take little stack.
 #[cycle(reading)]
 #[inline(always)]
-pub fn read_type(alloc: Global, words: &mut Words) -> Result<Type, Fail<Misfit>>
+pub fn read_type(alloc: Global, rules: RuleSet, words: &mut Words) -> Result<Type, Fail<Misfit>>
     ensures goes_on { GoesOn words.old words.new }
     ensures one { OnOk result (words.old.taken < words.new.taken) }
-    ensures read { Reads TypeAt view (left words.old) (left words.new) result }
+    ensures read { Reads (TypeAt rules) view (left words.old) (left words.new) result }
 {
     let word = words.next(Wanted::Type)?;
-    read_type_at(alloc, word, words)
+    read_type_at(alloc, rules, word, words)
 }
 
 /// The type that begins with this word.
 #[cycle(reading)]
 #[inline(always)]
-pub fn read_type_at(alloc: Global, word: &str, words: &mut Words) -> Result<Type, Fail<Misfit>>
+pub fn read_type_at(alloc: Global, rules: RuleSet, word: &str, words: &mut Words) -> Result<Type, Fail<Misfit>>
     ensures goes_on { GoesOn words.old words.new }
-    ensures read { Reads TypeAt view (word.now ∷ left words.old) (left words.new) result }
+    ensures read { Reads (TypeAt rules) view (word.now ∷ left words.old) (left words.new) result }
 {
     match read_scalar(word) {
         Some(ty) => Ok(ty),
         None => match word {
-            "struct" => read_struct(alloc, words),
-            _ => read_other(alloc, word, words),
+            "struct" => read_struct(alloc, rules, words),
+            _ => read_other(alloc, rules, word, words),
         },
     }
 }
@@ -65,22 +67,22 @@ fn read_scalar(word: &str) -> Option<Type>
 /// The type that begins with this word, which is neither a scalar nor a struct.
 #[cycle(reading)]
 #[inline(never)]
-fn read_other(alloc: Global, word: &str, words: &mut Words) -> Result<Type, Fail<Misfit>>
+fn read_other(alloc: Global, rules: RuleSet, word: &str, words: &mut Words) -> Result<Type, Fail<Misfit>>
     ensures goes_on { GoesOn words.old words.new }
-    ensures read { Reads OtherAt view (word.now ∷ left words.old) (left words.new) result }
+    ensures read { Reads (OtherAt rules) view (word.now ∷ left words.old) (left words.new) result }
 {
     match read_outer(word, words)? {
-        Some(outer) => read_inside(alloc, outer, words),
-        None => read_leaf(word, words),
+        Some(outer) => read_inside(alloc, rules, outer, words),
+        None => read_leaf(alloc, rules, word, words),
     }
 }
 
 /// The type with this layer around what the next words stand for.
 #[cycle(reading)]
 #[inline(never)]
-fn read_inside(alloc: Global, outer: Around, words: &mut Words) -> Result<Type, Fail<Misfit>>
+fn read_inside(alloc: Global, rules: RuleSet, outer: Around, words: &mut Words) -> Result<Type, Fail<Misfit>>
     ensures goes_on { GoesOn words.old words.new }
-    ensures read { Reads (InsideAt outer) view (left words.old) (left words.new) result }
+    ensures read { Reads (InsideAt rules outer) view (left words.old) (left words.new) result }
 {
     let word = words.next(Wanted::Type)?;
     match read_scalar(word) {
@@ -88,7 +90,7 @@ fn read_inside(alloc: Global, outer: Around, words: &mut Words) -> Result<Type, 
             let inner = Box::new(alloc, ty)?;
             Ok(Type::around(outer, inner))
         }
-        None => read_layers(alloc, outer, word, words),
+        None => read_layers(alloc, rules, outer, word, words),
     }
 }
 
@@ -99,12 +101,13 @@ fn read_inside(alloc: Global, outer: Around, words: &mut Words) -> Result<Type, 
 #[inline(always)]
 pub(crate) fn read_layers(
     alloc: Global,
+    rules: RuleSet,
     outermost: Around,
     first: &str,
     words: &mut Words,
 ) -> Result<Type, Fail<Misfit>>
     ensures goes_on { GoesOn words.old words.new }
-    ensures read { Reads (InsideAt outermost) view
+    ensures read { Reads (InsideAt rules outermost) view
         (first.now ∷ left words.old) (left words.new) result }
 {
     let mut layers = [outermost; 4];
@@ -115,7 +118,7 @@ pub(crate) fn read_layers(
         count += 1;
         word = words.next(Wanted::Type)?;
     }
-    let innermost = read_type_at(alloc, word, words)?;
+    let innermost = read_type_at(alloc, rules, word, words)?;
     Ok(wrap(alloc, &layers[..count], innermost)?)
 }
 
@@ -135,34 +138,34 @@ fn read_next(count: usize, word: &str, words: &mut Words) -> Result<Option<Aroun
 
 /// The types that all words that are left stand for.
 #[inline(always)]
-pub fn read_types(alloc: Global, words: &mut Words) -> Result<Vec<Type>, Fail<Misfit>>
-    ensures { Answers (λ types. TypesAt (left words.old) (map view types.items))
-        ((ts : List WgslType) → TypesAt (left words.old) ts → ⊥) result }
+pub fn read_types(alloc: Global, rules: RuleSet, words: &mut Words) -> Result<Vec<Type>, Fail<Misfit>>
+    ensures { Answers (λ types. TypesAt rules (left words.old) (map view types.items))
+        ((ts : List WgslType) → TypesAt rules (left words.old) ts → ⊥) result }
 {
     let mut types = Vec::with_capacity(alloc, 4)?;
     while let Ok(word) = words.next(Wanted::Type) {
-        types.push(read_type_at(alloc, word, words)?)?;
+        types.push(read_type_at(alloc, rules, word, words)?)?;
     }
     Ok(types)
 }
 
 /// The two types that the words that are left stand for.
 #[inline(always)]
-pub fn read_pair(alloc: Global, words: &mut Words) -> Result<[Type; 2], Fail<Misfit>>
-    ensures { Answers (λ types. TypesAt (left words.old) (map view types))
-        ((t u : WgslType) → TypesAt (left words.old) (t ∷ u ∷ []) → ⊥) result }
+pub fn read_pair(alloc: Global, rules: RuleSet, words: &mut Words) -> Result<[Type; 2], Fail<Misfit>>
+    ensures { Answers (λ types. TypesAt rules (left words.old) (map view types))
+        ((t u : WgslType) → TypesAt rules (left words.old) (t ∷ u ∷ []) → ⊥) result }
 {
-    let first = read_type(alloc, words)?;
-    Ok([first, read_last_type(alloc, words)?])
+    let first = read_type(alloc, rules, words)?;
+    Ok([first, read_last_type(alloc, rules, words)?])
 }
 
 /// The type that the words that are left stand for.
 #[inline(always)]
-pub fn read_last_type(alloc: Global, words: &mut Words) -> Result<Type, Fail<Misfit>>
-    ensures { Answers (λ ty. TypeAt (left words.old) (view ty) [])
-        ((t : WgslType) → TypeAt (left words.old) t [] → ⊥) result }
+pub fn read_last_type(alloc: Global, rules: RuleSet, words: &mut Words) -> Result<Type, Fail<Misfit>>
+    ensures { Answers (λ ty. TypeAt rules (left words.old) (view ty) [])
+        ((t : WgslType) → TypeAt rules (left words.old) t [] → ⊥) result }
 {
-    let ty = read_type(alloc, words)?;
+    let ty = read_type(alloc, rules, words)?;
     if words.is_empty() {
         Ok(ty)
     } else {
@@ -174,29 +177,29 @@ pub fn read_last_type(alloc: Global, words: &mut Words) -> Result<Type, Fail<Mis
 /// A struct: its name, the number of its members, and the members.
 #[cycle(reading)]
 #[inline(never)]
-pub(crate) fn read_struct(alloc: Global, words: &mut Words) -> Result<Type, Fail<Misfit>>
+pub(crate) fn read_struct(alloc: Global, rules: RuleSet, words: &mut Words) -> Result<Type, Fail<Misfit>>
     ensures goes_on { GoesOn words.old words.new }
-    ensures read { Reads StructAt view (left words.old) (left words.new) result }
+    ensures read { Reads (StructAt rules) view (left words.old) (left words.new) result }
 {
     let name = String::from_str(alloc, words.next(Wanted::Name)?)?;
     let count = words.next_number()?;
     let mut members = Vec::new(alloc);
     for _ in 0..count {
-        members.push(read_member(alloc, words)?)?;
+        members.push(read_member(alloc, rules, words)?)?;
     }
     Ok(Type::from_struct(alloc, StructType { name, members })?)
 }
 
 /// A member: its name, its attributes size and align, and its type.
 #[cycle(reading)]
-fn read_member(alloc: Global, words: &mut Words) -> Result<StructMemberType, Fail<Misfit>>
+fn read_member(alloc: Global, rules: RuleSet, words: &mut Words) -> Result<StructMemberType, Fail<Misfit>>
     ensures goes_on { GoesOn words.old words.new }
-    ensures read { Reads MemberAt member_view (left words.old) (left words.new) result }
+    ensures read { Reads (MemberAt rules) member_view (left words.old) (left words.new) result }
 {
     let name = String::from_str(alloc, words.next(Wanted::Name)?)?;
     let size = words.next_attribute(Wanted::SizeAttribute)?;
     let align = words.next_attribute(Wanted::AlignAttribute)?;
-    let ty = read_type(alloc, words)?;
+    let ty = read_type(alloc, rules, words)?;
     Ok(StructMemberType {
         name,
         ty,

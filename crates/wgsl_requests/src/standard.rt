@@ -25,11 +25,11 @@ pub(crate) fn answer_standard(
         (string_bytes text.old) (string_bytes text.new) result }
 {
     match command {
-        "rank" => rank(alloc, words, text),
-        "common" => common(alloc, words, text),
-        "size" => size(alloc, words, text),
-        "offsets" => offsets(alloc, words, text),
-        "layout" => layout(alloc, words, text),
+        "rank" => rank(alloc, RuleSet::Standard, words, text),
+        "common" => common(alloc, RuleSet::Standard, words, text),
+        "size" => size(alloc, RuleSet::Standard, words, text),
+        "offsets" => offsets(alloc, RuleSet::Standard, words, text),
+        "layout" => layout(alloc, RuleSet::Standard, words, text),
         "resolve" => answer_next_call(alloc, Question::Resolution, words, text),
         "why" => answer_next_call(alloc, Question::Explanation, words, text),
         "overloads" => overloads(alloc, words, text),

@@ -8,6 +8,7 @@ ghost use Rattle.wgsl_requests.specs.Templates.{IsEnumerant, IsLiteral, Paramete
 ghost use Rattle.wgsl_requests.specs.internal.Taken.{GoesOn, left};
 
 use crate::read::read_type;
+use crate::rules::RuleSet;
 use crate::wanted::{Misfit, Wanted};
 use crate::words::{Words, begins_with_plus, medium, number, parsed};
 use std::alloc::Global;
@@ -19,21 +20,22 @@ use wgsl_types::tplt::TpltParam;
 /// The template of a call: `-` for none, or `<`, parameters and `>`.
 pub fn read_template(
     alloc: Global,
+    rules: RuleSet,
     words: &mut Words,
 ) -> Result<Option<Vec<TpltParam>>, Fail<Misfit>>
-    ensures { Reads TemplateAt (option_map (λ ps. map parameter_view ps.items))
+    ensures { Reads (TemplateAt rules) (option_map (λ ps. map parameter_view ps.items))
         (left words.old) (left words.new) result }
 {
     match words.next(Wanted::Template)? {
         "-" => Ok(None),
-        "<" => Ok(Some(read_parameters(alloc, words)?)),
+        "<" => Ok(Some(read_parameters(alloc, rules, words)?)),
         _ => Err(Fail::Error(Misfit::Wrong(Wanted::Template))),
     }
 }
 
 /// Parameters up to `>`.
-fn read_parameters(alloc: Global, words: &mut Words) -> Result<Vec<TpltParam>, Fail<Misfit>>
-    ensures { Reads ParametersAt (λ ps. map parameter_view ps.items)
+fn read_parameters(alloc: Global, rules: RuleSet, words: &mut Words) -> Result<Vec<TpltParam>, Fail<Misfit>>
+    ensures { Reads (ParametersAt rules) (λ ps. map parameter_view ps.items)
         (left words.old) (left words.new) result }
 {
     let mut parameters = Vec::new(alloc);
@@ -41,19 +43,19 @@ fn read_parameters(alloc: Global, words: &mut Words) -> Result<Vec<TpltParam>, F
         if word == ">" {
             return Ok(parameters);
         }
-        parameters.push(read_parameter(alloc, word, words)?)?;
+        parameters.push(read_parameter(alloc, rules, word, words)?)?;
     }
     Err(Fail::Error(Misfit::Missing(Wanted::Parameter)))
 }
 
 /// A parameter: `t` and a type, `n` and a literal, or `e` and an enumerant.
-fn read_parameter(alloc: Global, kind: &str, words: &mut Words) -> Result<TpltParam, Fail<Misfit>>
+fn read_parameter(alloc: Global, rules: RuleSet, kind: &str, words: &mut Words) -> Result<TpltParam, Fail<Misfit>>
     ensures goes_on { GoesOn words.old words.new }
-    ensures read { Reads ParameterAt parameter_view
+    ensures read { Reads (ParameterAt rules) parameter_view
         (kind.now ∷ left words.old) (left words.new) result }
 {
     match kind {
-        "t" => Ok(TpltParam::Ty(read_type(alloc, words)?)),
+        "t" => Ok(TpltParam::Ty(read_type(alloc, rules, words)?)),
         "n" => Ok(TpltParam::Instance(Instance::Literal(read_literal(words)?))),
         "e" => Ok(TpltParam::Enumerant(read_enumerant(words)?)),
         _ => Err(Fail::Error(Misfit::Wrong(Wanted::Parameter))),

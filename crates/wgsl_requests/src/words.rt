@@ -11,7 +11,7 @@ use std::str::FromStr;
 use wgsl_types::error::Fail;
 
 /// The text of a request, and how many of its bytes were taken.
-#[derive(Drop)]
+#[derive(Clone, Copy)]
 pub struct Words<'t> {
     text: &'t str,
     /// The number of the line that the request is.

@@ -1,8 +1,8 @@
 // The type that a text spells.
-ghost use Rattle.std.specs.Prelude.{◌≡◌, ◌<◌, IfOk, MatchOption, IfSome, length};
+ghost use Rattle.std.specs.Prelude.{◌≡◌, ◌<◌, IfOk, MatchOption, IfSome, is_some, length};
 ghost use Rattle.wgsl_rules.specs.types.Types.{WgslType};
 ghost use Rattle.wgsl_core.specs.View.{view};
-ghost use Rattle.wgsl_spelled.specs.Spells.{Spells};
+ghost use Rattle.wgsl_spelled.specs.Spells.{Spells, alias_of};
 ghost use Rattle.wgsl_spelled.specs.internal.{LeafOf, OuterOf, wrapped};
 
 use crate::list::{cut, layer_around, leaf_with};
@@ -30,8 +30,15 @@ pub fn read(alloc: Global, text: &str) -> Result<Option<Type>, AllocError>
     }
 }
 
+/// Whether WGSL predeclares an alias of this name.
+pub fn is_alias(name: &str) -> bool
+    ensures { result ≡ is_some (alias_of name.now) }
+{
+    alias(name).is_some()
+}
+
 /// The type inside these layers, of which the last is the innermost.
-fn wrap(alloc: Global, layers: &[Around], innermost: Type) -> Result<Type, AllocError>
+pub fn wrap(alloc: Global, layers: &[Around], innermost: Type) -> Result<Type, AllocError>
     ensures { IfOk result (λ ty. view ty ≡ wrapped layers.now (view innermost)) }
 {
     let mut ty = innermost;

@@ -104,7 +104,7 @@ pub fn types(alloc: Global, text: &str) -> Result<Vec<Type>, Fail> {
     let Some(mut words) = Words::of(text.as_bytes()) else {
         return Err("no text".into());
     };
-    match read_types(alloc, &mut words) {
+    match read_types(alloc, RuleSet::Ported, &mut words) {
         Ok(types) => Ok(types),
         Err(e) => Err(failure(e)),
     }
@@ -123,7 +123,7 @@ pub fn one_type(alloc: Global, text: &str) -> Result<Type, Fail> {
 
 /// A type that no word is left after.
 fn read_whole(alloc: Global, words: &mut Words) -> Result<Type, error::Fail<Misfit>> {
-    let read = read_type(alloc, words);
+    let read = read_type(alloc, RuleSet::Ported, words);
     if words.is_empty() {
         return read;
     }
@@ -136,7 +136,7 @@ pub fn template(alloc: Global, text: &str) -> Result<Vec<TpltParam>, Fail> {
     let Some(mut words) = Words::of(text.as_bytes()) else {
         return Err("no text".into());
     };
-    match read_template(alloc, &mut words) {
+    match read_template(alloc, RuleSet::Ported, &mut words) {
         Ok(Some(parameters)) => Ok(parameters),
         Ok(None) => Err("no template".into()),
         Err(e) => Err(failure(e)),

@@ -26,6 +26,7 @@ use Rattle.wgsl_core.specs.declared.error.Fail.{Fail}
 use Rattle.wgsl_requests.specs.declared.wanted.Misfit.{Misfit}
 use Rattle.wgsl_requests.specs.declared.write.TextKind.{TextKind}
 use Rattle.wgsl_requests.specs.internal.Written.{Adds}
+use Rattle.wgsl_requests.specs.declared.rules.RuleSet.TheVariants.{Standard}
 
 abbrev pub type_view : WrittenType → WgslType
 type_view (Value d s) = type_with d s
@@ -44,7 +45,7 @@ IsNoScalar word = (s : Scalar) → word ≡ scalar_text s → ⊥
 
 -- the words begin with a name and a template
 abbrev pub NamedAt : Beginning (List ℕ × Option (List Parameter))
-NamedAt = Then (OneWord (λ word name. word ≡ name)) TemplateAt
+NamedAt = Then (OneWord (λ word name. word ≡ name)) (TemplateAt Standard)
 
 abbrev pub called : WgslCallee → Option (List Parameter) → List Operand → WgslCall
 called callee template operands = record { callee = callee; template = template; operands = operands }

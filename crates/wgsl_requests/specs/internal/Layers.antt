@@ -10,6 +10,7 @@ use Rattle.wgsl_requests.specs.declared.wanted.Misfit.{Misfit}
 use Rattle.wgsl_requests.specs.Reading.{NoneAt, Refuses}
 use Rattle.wgsl_rules.specs.types.Around.{around}
 use Rattle.wgsl_requests.specs.Grammar.{LayerAt, LeafAt, TypeAt}
+use Rattle.wgsl_requests.specs.declared.rules.RuleSet.{RuleSet}
 
 -- the words that layers begin with
 abbrev pub layer_words : List (List ℕ)
@@ -38,22 +39,17 @@ ReadsNext word before after (Err e) = Refuses ((is_layer_word word ≡ true)
     × NoneAt LayerAt (word ∷ before)) e
 
 -- the words begin with what the layer stands around
-abbrev pub InsideAt : Around → List (List ℕ) → WgslType → List (List ℕ) → Type 0
-InsideAt layer words t rest = (inner : WgslType) × TypeAt words inner rest
+abbrev pub InsideAt : RuleSet → Around → List (List ℕ) → WgslType → List (List ℕ) → Type 0
+InsideAt rules layer words t rest = (inner : WgslType) × TypeAt rules words inner rest
     × (t ≡ around layer inner)
 
 -- the words begin with a layer around a type
-abbrev pub InLayerAt : List (List ℕ) → WgslType → List (List ℕ) → Type 0
-InLayerAt words t rest = (layer : Around) × (after : List (List ℕ)) × LayerAt words layer after
-    × InsideAt layer after t rest
+abbrev pub InLayerAt : RuleSet → List (List ℕ) → WgslType → List (List ℕ) → Type 0
+InLayerAt rules words t rest = (layer : Around) × (after : List (List ℕ)) × LayerAt words layer after
+    × InsideAt rules layer after t rest
 
 -- the words begin with a type that is neither a scalar nor a struct
-abbrev pub OtherAt : List (List ℕ) → WgslType → List (List ℕ) → Type 0
-OtherAt [] t rest = ⊥
-OtherAt (word ∷ words) t rest =
-    MatchBool (is_layer_word word) (InLayerAt (word ∷ words) t rest) (LeafAt (word ∷ words) t rest)
-
--- the type with the layers around it, of which the first is the outermost
-abbrev pub wrapped : List Around → WgslType → WgslType
-wrapped [] t = t
-wrapped (layer ∷ layers) t = around layer (wrapped layers t)
+abbrev pub OtherAt : RuleSet → List (List ℕ) → WgslType → List (List ℕ) → Type 0
+OtherAt rules [] t rest = ⊥
+OtherAt rules (word ∷ words) t rest =
+    MatchBool (is_layer_word word) (InLayerAt rules (word ∷ words) t rest) (LeafAt rules (word ∷ words) t rest)

@@ -10,7 +10,7 @@ use Rattle.wgsl_requests.proofs.Replied.{replied}
 use Rattle.wgsl_requests.proofs.command.common.Goals as goal
 
 pub returns-in_err-read_types : goal.returns-in_err-read_types
-returns-in_err-read_types c = fails _ _ _ _ _ (no_common _) c.from_residual.ensures.1 c.in_err-read_types.ensures
+returns-in_err-read_types c = fails _ _ _ _ _ (no_common _ _) c.from_residual.ensures.1 c.in_err-read_types.ensures
 
 pub returns : goal.returns
 returns c =

@@ -5,7 +5,7 @@ use Rattle.wgsl_requests.specs.Requests.{size_words}
 use Rattle.wgsl_requests.proofs.command.size.Goals as goal
 
 pub returns-in_err-ty : goal.returns-in_err-ty
-returns-in_err-ty c = fails _ _ _ _ _ (no_size _) c.from_residual.ensures.1 c.in_err-ty.ensures
+returns-in_err-ty c = fails _ _ _ _ _ (no_size _ _) c.from_residual.ensures.1 c.in_err-ty.ensures
 
 pub returns : goal.returns
 returns c = replied _ _ _ (size_words c.in_ok-ty.ensures) c.in_ok-written.ensures

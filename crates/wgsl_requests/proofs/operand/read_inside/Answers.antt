@@ -4,6 +4,7 @@ use Rattle.wgsl_core.specs.View.{view}
 use Rattle.wgsl_requests.specs.internal.Asked.{type_view}
 use Rattle.wgsl_requests.specs.internal.Layers.{InsideAt}
 use Rattle.wgsl_requests.specs.internal.Taken.{left}
+use Rattle.wgsl_requests.specs.declared.rules.RuleSet.TheVariants.{Standard}
 use Rattle.wgsl_requests.proofs.Nested.{read_on, scalar_inside}
 use Rattle.wgsl_requests.proofs.Readers.{built_read}
 use Rattle.wgsl_requests.proofs.operand.read_inside.Goals as goal
@@ -15,5 +16,5 @@ returns-in-Some-clause-read c =
 
 pub returns-in-None-clause-read : goal.returns-in-None-clause-read
 returns-in-None-clause-read c =
-    read_on (InsideAt c.args.outer) type_view (left c.args.words.now) _ _ _ _ c.in_ok-word.ensures.word
-    (built_read (InsideAt c.args.outer) view type_view _ _ _ _ c.read_layers.ensures.read c.built.ensures)
+    read_on (InsideAt Standard c.args.outer) type_view (left c.args.words.now) _ _ _ _ c.in_ok-word.ensures.word
+    (built_read (InsideAt Standard c.args.outer) view type_view _ _ _ _ c.read_layers.ensures.read c.built.ensures)

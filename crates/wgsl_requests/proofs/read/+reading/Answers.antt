@@ -18,15 +18,15 @@ read_type_at-returns-in-Some-clause-read t c =
 
 pub read_type_at-returns-in-struct-clause-read : goal.read_type_at-returns-in-struct-clause-read
 read_type_at-returns-in-struct-clause-read t c =
-    struct_read c.args.word.now (left c.args.words.now) view _ _ c.in-struct.is c.read_struct.ensures.read
+    struct_read c.args.word.now (left c.args.words.now) c.args.rules view _ _ c.in-struct.is c.read_struct.ensures.read
 
 pub read_type_at-returns-in_default-clause-read : goal.read_type_at-returns-in_default-clause-read
 read_type_at-returns-in_default-clause-read t c =
-    other_read c.args.word.now (left c.args.words.now) view _ _ c.in-None.ensures c.in_default.not-struct c.read_other.ensures.read
+    other_read c.args.word.now (left c.args.words.now) c.args.rules view _ _ c.in-None.ensures c.in_default.not-struct c.read_other.ensures.read
 
 pub read_other-returns-in-Some-clause-read : goal.read_other-returns-in-Some-clause-read
 read_other-returns-in-Some-clause-read t c =
-    inside_read view c.args.word.now (left c.args.words.now) (left c.read_outer.new.words) _ c.in-Some.outer _ (layer_of c.args.word.now (left c.args.words.now) (left c.read_outer.new.words) c.in_ok-outer.field-0 c.in-Some.outer c.in-Some.is c.in_ok-outer.ensures.read) c.read_inside.ensures.read
+    inside_read c.args.rules view c.args.word.now (left c.args.words.now) (left c.read_outer.new.words) _ c.in-Some.outer _ (layer_of c.args.word.now (left c.args.words.now) (left c.read_outer.new.words) c.in_ok-outer.field-0 c.in-Some.outer c.in-Some.is c.in_ok-outer.ensures.read) c.read_inside.ensures.read
 
 pub read_inside-returns-in_ok-inner-in-Some-clause-read : goal.read_inside-returns-in_ok-inner-in-Some-clause-read
 read_inside-returns-in_ok-inner-in-Some-clause-read t c =
@@ -37,7 +37,7 @@ read_inside-returns-in_ok-inner-in-Some-clause-read t c =
 
 pub read_inside-returns-in-None-clause-read : goal.read_inside-returns-in-None-clause-read
 read_inside-returns-in-None-clause-read t c =
-    read_on (InsideAt c.args.outer) view (left c.args.words.now) _ _ _ _ c.in_ok-word.ensures.word c.read_layers.ensures.read
+    read_on (InsideAt c.args.rules c.args.outer) view (left c.args.words.now) _ _ _ _ c.in_ok-word.ensures.word c.read_layers.ensures.read
 
 pub read_layers-loop-layer-init : goal.read_layers-loop-layer-init
 read_layers-loop-layer-init t c =
@@ -61,19 +61,19 @@ read_layers-loop-layer-preserved t c =
       (c.in_ok-word.ensures.goes_on.0 ∙ (c.in_ok-layer.ensures.goes_on.0 ∙ c.loop-layer.invariant.1.0), omega (arith, c.in_ok-word.ensures.goes_on.1, c.in_ok-layer.ensures.goes_on.1, c.loop-layer.invariant.1.1)),
       omega (arith, room),
       simp length-set c.loop-layer.invariant.3,
-      subst (λ ws. Nested c.args.outermost (c.args.first.now ∷ left c.args.words.now) (take (c.loop-layer.count + 1) (set c.loop-layer.layers c.loop-layer.count c.in-Some.layer)) ws) c.in_ok-word.ensures.word
+      subst (λ ws. Nested c.args.rules c.args.outermost (c.args.first.now ∷ left c.args.words.now) (take (c.loop-layer.count + 1) (set c.loop-layer.layers c.loop-layer.count c.in-Some.layer)) ws) c.in_ok-word.ensures.word
           (nested_more c.args.outermost (c.args.first.now ∷ left c.args.words.now) (take c.loop-layer.count c.loop-layer.layers) (c.loop-layer.word.now ∷ left c.loop-layer.words) c.loop-layer.invariant.4 c.in-Some.layer (left c.read_next.new.words) _ (next_of c.loop-layer.word.now (left c.loop-layer.words) (left c.read_next.new.words) c.in_ok-layer.field-0 c.in-Some.layer c.in-Some.is c.in_ok-layer.ensures.read)
           (take_set c.loop-layer.layers c.loop-layer.count c.in-Some.layer (omega (arith, room, c.loop-layer.invariant.3)))),
     )
 
 pub read_layers-returns-in_err-innermost-clause-read : goal.read_layers-returns-in_err-innermost-clause-read
 read_layers-returns-in_err-innermost-clause-read t c =
-    fails _ _ _ _ _ (nested_none c.args.outermost (c.args.first.now ∷ left c.args.words.now) (take c.loop-layer.count c.loop-layer.layers) (c.loop-layer.word.now ∷ left c.read_next.new.words) (subst (λ ws. Nested c.args.outermost (c.args.first.now ∷ left c.args.words.now) (take c.loop-layer.count c.loop-layer.layers) (c.loop-layer.word.now ∷ ws)) (sym (no_next_of c.loop-layer.word.now (left c.loop-layer.words) (left c.read_next.new.words) c.in_ok-layer.field-0 c.in_default.not-Some c.in_ok-layer.ensures.read)) c.loop-layer.invariant.4))
+    fails _ _ _ _ _ (nested_none c.args.outermost (c.args.first.now ∷ left c.args.words.now) (take c.loop-layer.count c.loop-layer.layers) (c.loop-layer.word.now ∷ left c.read_next.new.words) (subst (λ ws. Nested c.args.rules c.args.outermost (c.args.first.now ∷ left c.args.words.now) (take c.loop-layer.count c.loop-layer.layers) (c.loop-layer.word.now ∷ ws)) (sym (no_next_of c.loop-layer.word.now (left c.loop-layer.words) (left c.read_next.new.words) c.in_ok-layer.field-0 c.in_default.not-Some c.in_ok-layer.ensures.read)) c.loop-layer.invariant.4))
     c.from_residual-in_err-innermost.ensures.1 c.in_err-innermost.ensures.read
 
 pub read_layers-returns-clause-read : goal.read_layers-returns-clause-read
 read_layers-returns-clause-read t c =
-    nested_end c.args.outermost (c.args.first.now ∷ left c.args.words.now) (take c.loop-layer.count c.loop-layer.layers) (c.loop-layer.word.now ∷ left c.read_next.new.words) (subst (λ ws. Nested c.args.outermost (c.args.first.now ∷ left c.args.words.now) (take c.loop-layer.count c.loop-layer.layers) (c.loop-layer.word.now ∷ ws)) (sym (no_next_of c.loop-layer.word.now (left c.loop-layer.words) (left c.read_next.new.words) c.in_ok-layer.field-0 c.in_default.not-Some c.in_ok-layer.ensures.read)) c.loop-layer.invariant.4)
+    nested_end c.args.outermost (c.args.first.now ∷ left c.args.words.now) (take c.loop-layer.count c.loop-layer.layers) (c.loop-layer.word.now ∷ left c.read_next.new.words) (subst (λ ws. Nested c.args.rules c.args.outermost (c.args.first.now ∷ left c.args.words.now) (take c.loop-layer.count c.loop-layer.layers) (c.loop-layer.word.now ∷ ws)) (sym (no_next_of c.loop-layer.word.now (left c.loop-layer.words) (left c.read_next.new.words) c.in_ok-layer.field-0 c.in_default.not-Some c.in_ok-layer.ensures.read)) c.loop-layer.invariant.4)
     _ _ (view c.in_ok-innermost.innermost) c.in_ok-innermost.ensures.read c.in_ok-wrap.ensures
 
 pub read_member-returns-in_err-size-clause-read : goal.read_member-returns-in_err-size-clause-read

@@ -31,13 +31,13 @@ decreases-read_member l = 8 * (length l.words.now.text.now - l.words.now.taken) 
 
 -- the members that were read, and those that are to be
 abbrev pub invariant-read_struct-loop : goal.invariant-read_struct-loop
-invariant-read_struct-loop l = GoesOn l.fn.words l.words × Half (left l.initial.words) l.count (map member_view l.members.items) (left l.words) (l.count - l.counter)
+invariant-read_struct-loop l = GoesOn l.fn.words l.words × Half l.fn.rules (left l.initial.words) l.count (map member_view l.members.items) (left l.words) (l.count - l.counter)
 
 -- the layers that were read, and the word after them
 abbrev pub invariant-read_layers-loop-layer : goal.invariant-read_layers-loop-layer
 invariant-read_layers-loop-layer l =
     shadow (Utf8 l.word) × GoesOn l.fn.words l.words × (l.count ≤ 4) × (length l.layers ≡ 4)
-    × Nested l.fn.outermost (l.first ∷ left l.fn.words) (take l.count l.layers) (l.word ∷ left l.words)
+    × Nested l.fn.rules l.fn.outermost (l.first ∷ left l.fn.words) (take l.count l.layers) (l.word ∷ left l.words)
 
 abbrev pub decreases-read_layers-loop-layer : goal.decreases-read_layers-loop-layer
 decreases-read_layers-loop-layer l = length l.words.text.now - l.words.taken

@@ -1,35 +1,30 @@
-use Rattle.std.proofs.Common.{◌∷◌, codes, string_bytes, subst, sym}
+use Rattle.std.proofs.Common.{◌∷◌, string_bytes, subst, sym}
 use Rattle.wgsl_requests.specs.declared.rules.RuleSet.TheVariants.{Standard}
 use Rattle.wgsl_requests.specs.internal.Replied.{Replies}
 use Rattle.wgsl_requests.specs.internal.Taken.{left}
-use Rattle.wgsl_requests.proofs.Requested.{common_shared, layout_shared, offsets_shared, rank_shared, size_shared, no_type}
-use Rattle.wgsl_requests.proofs.StandardReplied.{resolve_replied, shared, type_replied, why_replied}
+use Rattle.wgsl_requests.proofs.Requested.{no_type}
+use Rattle.wgsl_requests.proofs.StandardReplied.{resolve_replied, type_replied, why_replied}
 use Rattle.wgsl_requests.proofs.standard.answer_standard.Goals as goal
 
 pub returns-in-rank : goal.returns-in-rank
 returns-in-rank c =
-    subst (λ w. Replies Standard (w ∷ left c.args.words.now) (string_bytes c.args.text.now) (string_bytes c.rank.new.text) c.rank.result) (sym c.in-rank.is)
-    (shared (codes "rank") (left c.args.words.now) _ _ c.rank.result rank_shared c.rank.ensures)
+    subst (λ w. Replies Standard (w ∷ left c.args.words.now) (string_bytes c.args.text.now) (string_bytes c.rank.new.text) c.rank.result) (sym c.in-rank.is) c.rank.ensures
 
 pub returns-in-common : goal.returns-in-common
 returns-in-common c =
-    subst (λ w. Replies Standard (w ∷ left c.args.words.now) (string_bytes c.args.text.now) (string_bytes c.common.new.text) c.common.result) (sym c.in-common.is)
-    (shared (codes "common") (left c.args.words.now) _ _ c.common.result common_shared c.common.ensures)
+    subst (λ w. Replies Standard (w ∷ left c.args.words.now) (string_bytes c.args.text.now) (string_bytes c.common.new.text) c.common.result) (sym c.in-common.is) c.common.ensures
 
 pub returns-in-size : goal.returns-in-size
 returns-in-size c =
-    subst (λ w. Replies Standard (w ∷ left c.args.words.now) (string_bytes c.args.text.now) (string_bytes c.size.new.text) c.size.result) (sym c.in-size.is)
-    (shared (codes "size") (left c.args.words.now) _ _ c.size.result size_shared c.size.ensures)
+    subst (λ w. Replies Standard (w ∷ left c.args.words.now) (string_bytes c.args.text.now) (string_bytes c.size.new.text) c.size.result) (sym c.in-size.is) c.size.ensures
 
 pub returns-in-offsets : goal.returns-in-offsets
 returns-in-offsets c =
-    subst (λ w. Replies Standard (w ∷ left c.args.words.now) (string_bytes c.args.text.now) (string_bytes c.offsets.new.text) c.offsets.result) (sym c.in-offsets.is)
-    (shared (codes "offsets") (left c.args.words.now) _ _ c.offsets.result offsets_shared c.offsets.ensures)
+    subst (λ w. Replies Standard (w ∷ left c.args.words.now) (string_bytes c.args.text.now) (string_bytes c.offsets.new.text) c.offsets.result) (sym c.in-offsets.is) c.offsets.ensures
 
 pub returns-in-layout : goal.returns-in-layout
 returns-in-layout c =
-    subst (λ w. Replies Standard (w ∷ left c.args.words.now) (string_bytes c.args.text.now) (string_bytes c.layout.new.text) c.layout.result) (sym c.in-layout.is)
-    (shared (codes "layout") (left c.args.words.now) _ _ c.layout.result layout_shared c.layout.ensures)
+    subst (λ w. Replies Standard (w ∷ left c.args.words.now) (string_bytes c.args.text.now) (string_bytes c.layout.new.text) c.layout.result) (sym c.in-layout.is) c.layout.ensures
 
 pub returns-in-resolve : goal.returns-in-resolve
 returns-in-resolve c =

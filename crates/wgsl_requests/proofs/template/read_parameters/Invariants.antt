@@ -6,7 +6,7 @@ use Rattle.wgsl_requests.proofs.template.read_parameters.Given as goal
 
 -- the parameters that were read, and the words after them
 abbrev pub invariant-loop-word : goal.invariant-loop-word
-invariant-loop-word l = Gathered (left l.fn.words) (map parameter_view l.parameters.items) (left l.words)
+invariant-loop-word l = Gathered l.fn.rules (left l.fn.words) (map parameter_view l.parameters.items) (left l.words)
 
 abbrev pub decreases-loop-word : goal.decreases-loop-word
 decreases-loop-word l = length l.words.text.now - l.words.taken
