@@ -32,8 +32,8 @@ def lines_of(*folders):
 
 
 def requests():
-    """The requests of tests/lines, some that can't be read, and a long answer."""
-    lines = lines_of("lines")
+    """The requests of tests/lines, some that can't be read or only by WGSL's own overloads, and a long answer."""
+    lines = lines_of("lines") + ["unary - const f32", "overloads cross", "why unary - f32"]
     lines += ["", " \t\r", "\0", " \0 ", "foo", "binary + i32", "unary - " + "atomic " * 500 + "f32"]
     lines += ["size struct a\0b 1 x - - f32", "layout struct S\0 2 \0 - - f32 a\0\0b - - vec 3 f32", "call a\0 - f32"]
     lines += ["rank f32 f32" + " " * 4085, "rank f32 f32" + " " * 4084, " " * 4096, " " * 4097]

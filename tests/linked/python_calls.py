@@ -55,9 +55,11 @@ def compare_call(call):
 
 
 def compare_resolution(call, given):
-    """A resolution is what the text says."""
+    """A resolution is what the text says, with a parameter for each operand, and one for the template."""
     found = outcome(wgsl.resolve_call, call[0], given, call[1])
     if isinstance(found, wgsl.Resolution):
+        if len(found.parameters) != len(given) + (call[1] is not None):
+            wrong(f"{call[0]} of {given} is {found}")
         result = "" if found.result is None else f" -> {found.result}"
         found = f"{found.overload} ({', '.join(found.parameters)}){result}"
     expect_same(f"resolve {in_words(call)}", found)
@@ -115,16 +117,29 @@ def compare_source():
         told = wgsl.source_layout(text)
         if told["structs"][0]["name"] != text.split()[1] or told != wgsl.source_layout(text.encode()):
             wrong(f"{text} has the structs {told['structs']}")
-    if not wgsl.source_layout(b"struct a { b: f32 }\xff")["errors"] or not wgsl.source_layout("\ud800")["errors"]:
-        wrong("a text that isn't UTF-8 has no error")
+    for text in (b"struct a { b: f32 }\xff", "\ud800"):
+        if "UTF-8" not in wgsl.source_layout(text)["errors"][0]["message"]:
+            wrong(f"{text!r} has the errors {wgsl.source_layout(text)['errors']}")
 
 
 def compare_notes():
-    try:
-        wgsl.call("cross", ["f32", "vec3f"])
-    except wgsl.Refused as refused:
-        if "\n".join(refused.notes) != wgsl.answer("why call cross - f32 vec 3 f32"):
-            wrong(f"the notes are {refused.notes}")
+    """A refusal and what can't be read have their request, and a refusal its notes."""
+    request = "call cross - f32 vec 3 f32"
+    for kind, asked in ((wgsl.Refused, request), (wgsl.Unreadable, f"{request} f33")):
+        try:
+            wrong(f"{asked} is {wgsl.answer(asked)}")
+        except kind as raised:
+            if raised.request != asked or str(raised) == asked:
+                wrong(f"{asked} raises {raised!r} of {raised.request!r}")
+            if kind is wgsl.Refused and "\n".join(raised.notes) != wgsl.answer(f"why {request}"):
+                wrong(f"the notes are {raised.notes}")
+
+
+def compare_empty():
+    """A call without operands and without a value, and a name without overloads."""
+    found = wgsl.call("storageBarrier", iter([])), wgsl.resolve_call("storageBarrier", iter([])), wgsl.overloads("barrier")
+    if found != (None, wgsl.Resolution(0, (), None), []):
+        wrong(f"storageBarrier is {found[:2]}, and barrier has the overloads {found[2]}")
 
 
 compare_calls()
@@ -132,4 +147,5 @@ compare_types()
 compare_aliases()
 compare_source()
 compare_notes()
+compare_empty()
 print(f"{CALLED} calls, {PAIRS} ranks, {LISTS} common types, as requests in words answer")

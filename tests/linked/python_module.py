@@ -1,8 +1,10 @@
 """The Python package over the linked library, and over a stub in its place."""
+import json
 import os
 import sys
 
-from tools import BINDINGS, LINKED, answers_and_notes, compare_both, expect_shown, failure, run, write_shown
+from source_calls import MODULES, program_json, read
+from tools import BINDINGS, LINKED, TOP, answers_and_notes, compare_both, end, expect_shown, failure, run, write_shown
 
 FOLDER = os.path.join(BINDINGS, "python")
 PROGRAM = [sys.executable, "-B", "-m", "wgsl"]
@@ -26,12 +28,33 @@ def check_python(top, folder, asked, wanted, standard_asked, standard_wanted):
     print(f"link: Python: {threads.decode().strip()}")
     calls = run(sys.executable, os.path.join(LINKED, "python_calls.py"), where=top, WGSL_LIB=name, **FOUND)
     print(f"link: Python: {calls.decode().strip()}")
+    check_json(where)
+
+
+def check_json(where):
+    """With `--json` the package prints the layouts of a file and what is wrong with it, as the program does, and its status."""
+    for path in MODULES:
+        told = json.loads(program_json(read(path)))
+        faults = [(kind, fault) for kind in ("error", "finding") for fault in told[f"{kind}s"]]
+        for name, asked in ((path, b""), ("-", read(path))):
+            notes = [f"{name}:{fault['line']}:{fault['column']}: {kind}: {fault['message']}\n" for kind, fault in faults]
+            done = end(*PROGRAM, "--json", name, asked=asked, statuses=(1 if faults else 0,), **where)
+            if json.loads(done.stdout) != told or done.stderr.decode() != "".join(notes):
+                sys.exit(f"link: in Python the layouts of {path} are {done.stdout}, and {done.stderr}")
+    if "No such file" not in failure(*PROGRAM, "--json", "none", status=2, **where):
+        sys.exit("link: python -m wgsl doesn't say that a file isn't there")
+    with open(os.path.join(TOP, "VERSION"), encoding="utf-8") as file:
+        if run(*PROGRAM, "--version", **where).decode() != f"wgsl {file.read()}":
+            sys.exit("link: python -m wgsl says another version")
+    print(f"link: Python prints the layouts of {len(MODULES)} files")
 
 
 def check_python_statuses(top):
     program = os.path.join(LINKED, "python_statuses.py")
     printed = run(sys.executable, program, where=top, WGSL_LIB="stub", **FOUND)
     print(f"link: Python: {printed.decode().strip()}")
+    if run(*PROGRAM, "--json", "-", asked=b"memory", statuses=(3,), where=top, WGSL_LIB="stub", **FOUND):
+        sys.exit("link: python -m wgsl prints layouts when memory runs out")
 
 
 def write_wrong_libraries(top):

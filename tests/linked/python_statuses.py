@@ -11,9 +11,9 @@ def expect(condition, what):
         raise SystemExit(f"link: in Python {what}")
 
 
-def expect_raised(kind, request, message=None):
+def expect_raised(kind, request, message=None, **rules):
     try:
-        found = wgsl.answer(request)
+        found = wgsl.answer(request, **rules)
     except Exception as error:
         expect(type(error) is kind, f"{request!r:.60} raises {error!r:.200}")
         expect(message in (None, str(error)), f"{request!r:.60} raises {error!r:.200}")
@@ -32,6 +32,8 @@ def check_statuses():
         expect_raised(wgsl.Refused, f"refuse {text}", text)
     for wrong in (b"say a", bytearray(b"say a"), None, 3, ["say a"]):
         expect_raised(TypeError, wrong, f"a request is a str, not {type(wrong).__name__}")
+    expect_raised(ValueError, "say a", "'naga' is none of the rules wgsl, wgsl-types", rules="naga")
+    expect_raised(MemoryError, "unexplained")
 
 
 def check_refused():

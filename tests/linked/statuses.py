@@ -9,13 +9,13 @@ from tools import BINDINGS, LINKED, WARNINGS, compare, compile_c, compile_cpp, e
 UNREADABLE, OUT_OF_MEMORY = 2, 3
 
 
-def write_stub(top):
-    """The stub as both libraries, in the folder `stub`."""
-    folder = os.path.join(top, "stub")
+def write_stub(top, version=None):
+    """The stub as both libraries, in the folder `stub`, or in one that is named after its version."""
+    folder = os.path.join(top, f"version {version}" if version else "stub")
     os.mkdir(folder)
     built = os.path.join(folder, "stub.o")
-    headers = os.path.join(BINDINGS, "c")
-    run("cc", *WARNINGS, "-fPIC", "-I", headers, "-c", os.path.join(LINKED, "stub.c"), "-o", built)
+    flags = ["-I", os.path.join(BINDINGS, "c"), *([f'-DOTHER_VERSION="{version}"'] if version else [])]
+    run("cc", *WARNINGS, "-fPIC", *flags, "-c", os.path.join(LINKED, "stub.c"), "-o", built)
     run("ar", "rc", os.path.join(folder, "libwgsl.a"), built)
     run("cc", "-shared", "-o", os.path.join(folder, "libwgsl.so"), built)
     return folder
@@ -35,14 +35,16 @@ def check_program(language, program, folder, **more):
             sys.exit(f"link: {language}, out of memory, prints {printed}")
 
 
-def check_versions(top):
+def check_cpp_statuses(folder, headers):
+    """A program in C++ over each status, and over two threads."""
+    run(compile_cpp(folder, os.path.join(LINKED, "statuses.cpp"), "statuses", "-pthread", *headers))
+    print("link: C++ has the status, the text and the version of a stub, beside a thread")
+
+
+def check_versions(folders):
     """Python refuses a library of another major version, and before 1.0.0 of another minor one."""
-    for version, is_taken in (("0.2.7", True), ("0.1.0", False), ("0.3.0", False), ("1.2.0", False), ("10.0.0", False)):
-        folder = os.path.join(top, f"version {version}")
-        os.mkdir(folder)
-        other = f'-DOTHER_VERSION="{version}"'
-        shared = os.path.join(folder, "libwgsl.so")
-        run("cc", "-shared", "-fPIC", other, "-I", os.path.join(BINDINGS, "c"), "-o", shared, os.path.join(LINKED, "stub.c"))
+    for version, folder in folders.items():
+        is_taken, shared = version.startswith("0.2."), os.path.join(folder, "libwgsl.so")
         done = end(sys.executable, "-c", "import wgsl", statuses=(0, 1), WGSL_LIB=folder, **FOUND)
         said = done.stderr.decode().splitlines()[-1:]
         if is_taken != (done.returncode == 0) or not is_taken and f"{shared} has the version {version}" not in said[0]:
@@ -51,11 +53,13 @@ def check_versions(top):
 
 
 def check_statuses(top):
+    folders = {version: write_stub(top, version) for version in ("0.2.7", "0.1.0", "0.3.0", "1.2.0", "10.0.0")}
     folder, headers = write_stub(top), ["-I", os.path.join(BINDINGS, "c"), "-I", os.path.join(BINDINGS, "cpp")]
     lines = os.path.join(BINDINGS, "c", "lines.c")
     check_program("C", [compile_c(folder, lines, "lines", *headers)], folder)
     if is_there("c++"):
         check_program("C++", [compile_cpp(folder, os.path.join(LINKED, "lines.cpp"), "lines_cpp", *headers)], folder)
+        check_cpp_statuses(folders["0.2.7"], headers)
     check_program("Python", PROGRAM, folder, **FOUND)
     check_python_statuses(top)
-    check_versions(top)
+    check_versions(folders)

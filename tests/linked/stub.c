@@ -8,8 +8,9 @@
  *   memory N    out of memory, once there is room for N bytes
  *   status N    the status N
  *
- * Any other request is unreadable, which is explained by the request itself. Requests of WGSL's own overloads are answered
- * in the same way. A WGSL text is answered as a request is. The version is that of wgsl.h, or OTHER_VERSION. */
+ * Any other request is unreadable, which is explained by the request itself, but for `unexplained`: that runs out of memory.
+ * A request at NULL has a status that wgsl.h doesn't name. Requests of WGSL's own overloads are answered in the same way. A
+ * WGSL text is answered as a request is. The version is that of wgsl.h, or OTHER_VERSION. */
 #include "wgsl.h"
 #include <sched.h>
 #include <stdatomic.h>
@@ -53,6 +54,7 @@ static void meet(void) {
 uint8_t wgsl_answer(const uint8_t *bytes, size_t len, uint8_t *room, size_t room_len, size_t *text_len) {
     const char *request = (const char *)bytes, *end = request + len, *rest;
     *text_len = 0;
+    if (!request) return 255;
     if ((rest = after("say", request, len))) return say(rest, end, room, room_len, text_len);
     if ((rest = after("refuse", request, len))) return write(WGSL_RULED_OUT, rest, end, room, room_len, text_len);
     if ((rest = after("meet", request, len))) {
@@ -72,6 +74,8 @@ uint8_t wgsl_answer(const uint8_t *bytes, size_t len, uint8_t *room, size_t room
 
 uint8_t wgsl_explain(const uint8_t *bytes, size_t len, uint8_t *room, size_t room_len, size_t *text_len) {
     const char *request = (const char *)bytes;
+    *text_len = 0;
+    if (after("unexplained", request, len)) return WGSL_OUT_OF_MEMORY;
     return say(request, request + len, room, room_len, text_len);
 }
 

@@ -45,8 +45,6 @@ def print_layouts(name: str) -> int:
     except OSError as wrong:
         print(f"wgsl: {wrong}", file=sys.stderr)
         return 2
-    except NotImplementedError as wrong:
-        sys.exit(f"wgsl: {wrong}")
     except MemoryError:
         return 3
     with text_of(sys.stdout, "w") as output:

@@ -9,6 +9,8 @@ VERSION = "0.2.0"
 _TO_DO = f"set it to the folder where `make library FOLDER=..` wrote {LIBRARY}"
 _AGAIN = "write the library again with `make library FOLDER=..`"
 
+_CALLS = ("wgsl_answer", "wgsl_explain", "wgsl_standard_answer", "wgsl_standard_explain", "wgsl_source_layout")
+
 # The statuses of wgsl.h. Most answers have fewer than 256 bytes.
 ANSWERED, REFUSED, UNREADABLE, OUT_OF_MEMORY, NO_ROOM = range(5)
 _USUAL = 256
@@ -48,38 +50,30 @@ def _serves(version: str) -> Tuple[str, ...]:
     return (major, minor) if major == "0" else (major,)
 
 
-def _load() -> Tuple[ctypes.CDLL, str, str]:
-    """The library, which answers and explains, and is of a version that serves this package."""
+def _typed(library: ctypes.CDLL, name: str) -> Any:
+    """A call of the library."""
+    call, size = getattr(library, name), ctypes.c_size_t
+    call.restype = ctypes.c_uint8
+    call.argtypes = [ctypes.c_char_p, size, ctypes.c_char_p, size, ctypes.POINTER(size)]
+    return call
+
+
+def _load() -> Dict[str, Any]:
+    """The calls of the library, which is of a version that serves this package."""
     path = _find()
     try:
         library = ctypes.CDLL(path)
-        for name in ("wgsl_answer", "wgsl_explain"):
-            getattr(library, name)
+        calls = {name: _typed(library, name) for name in _CALLS}
         library.wgsl_version.restype = ctypes.c_char_p
         version: str = library.wgsl_version().decode()
     except (OSError, AttributeError) as error:
         raise ImportError(f"{error}: {_AGAIN}") from None
     if _serves(version) != _serves(VERSION):
         raise ImportError(f"{path} has the version {version}, and the package wgsl the version {VERSION}: {_AGAIN}")
-    return library, path, version
+    return calls
 
 
-_library, _path, version = _load()
-_known: Dict[str, Any] = {}
-
-
-def _call(name: str) -> Any:
-    """A call by its name. Raises NotImplementedError if the library is an older one that lacks it."""
-    if name not in _known:
-        try:
-            found = getattr(_library, name)
-        except AttributeError:
-            raise NotImplementedError(f"{_path} has no {name}: {_AGAIN}") from None
-        size = ctypes.c_size_t
-        found.restype = ctypes.c_uint8
-        found.argtypes = [ctypes.c_char_p, size, ctypes.c_char_p, size, ctypes.POINTER(size)]
-        _known[name] = found
-    return _known[name]
+_calls = _load()
 
 
 def _ask_once(call: Any, request: bytes, buffer: Any) -> Tuple[int, int]:
@@ -90,7 +84,7 @@ def _ask_once(call: Any, request: bytes, buffer: Any) -> Tuple[int, int]:
 
 def ask(name: str, request: bytes) -> Tuple[int, str]:
     """The status of a call, and the text that it writes. Asks again with a larger buffer if that doesn't fit."""
-    call, buffer = _call(name), ctypes.create_string_buffer(_USUAL)
+    call, buffer = _calls[name], ctypes.create_string_buffer(_USUAL)
     status, length = _ask_once(call, request, buffer)
     if status == NO_ROOM:
         buffer = ctypes.create_string_buffer(length)

@@ -57,6 +57,14 @@ def _lines(text: str) -> List[str]:
     return [] if text == "none" else text.split("\n")
 
 
+def _value(text: str) -> Optional[str]:
+    return None if text in ("none", "no value") else text
+
+
+def _number(text: str) -> Optional[int]:
+    return None if text == "none" else int(text)
+
+
 def answer(request: str, rules: str = "wgsl") -> str:
     """Answers one request, by WGSL's own overloads or by the rules of the Rust crate `wgsl-types`. Names in requests and answers
     may have NULs.
@@ -114,10 +122,6 @@ def call(name: str, arguments: Iterable[str], template: Optional[str] = None) ->
     return _value(answer(_named("call", name, arguments, template)))
 
 
-def _value(text: str) -> Optional[str]:
-    return None if text == "no value" else text
-
-
 def construct(name: str, arguments: Iterable[str], template: Optional[str] = None) -> str:
     """The type that a constructor makes.
 
@@ -167,8 +171,7 @@ def rank(source: str, target: str) -> Optional[int]:
     >>> rank("AbstractInt", "f32"), rank("f32", "i32")
     (6, None)
     """
-    text = answer(f"rank {type_words(source)} {type_words(target)}")
-    return None if text == "none" else int(text)
+    return _number(answer(f"rank {type_words(source)} {type_words(target)}"))
 
 
 def common(types: Iterable[str]) -> Optional[str]:
@@ -177,8 +180,7 @@ def common(types: Iterable[str]) -> Optional[str]:
     >>> common(["AbstractInt", "f16", "AbstractFloat"]), common(["i32", "u32"])
     ('f16', None)
     """
-    text = answer(" ".join(["common", *map(type_words, types)]))
-    return None if text == "none" else text
+    return _value(answer(" ".join(["common", *map(type_words, types)])))
 
 
 class Size(NamedTuple):
@@ -198,7 +200,7 @@ def size(ty: str) -> Size:
     >>> size("array<mat4x3f, 4>"), size("array<vec3<f32>>")
     (Size(size=256, align=16), Size(size=None, align=16))
     """
-    return Size(*(None if text == "none" else int(text) for text in answer(f"size {type_words(ty)}").split(" ")))
+    return Size(*map(_number, answer(f"size {type_words(ty)}").split(" ")))
 
 
 def answer_lines(lines: Any, output: TextIO, rules: str) -> int:
