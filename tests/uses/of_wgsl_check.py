@@ -12,11 +12,11 @@ from use import ANSWERS, BELOW, PROGRAM, STAND_IN, add, end_of, equal, expect, h
 
 def first_run(use):
     ended = use.run("./wgsl_check")
-    expect(ended, 0, ANSWERS, "proving wgsl_check and the 11 crates that it stands on", "30 to 65 minutes of processor time")
+    expect(ended, 0, ANSWERS, "proving wgsl_check and the 10 crates that it stands on", "30 to 65 minutes of processor time")
     lines = ended[2].splitlines()
-    equal(len(lines), 13)
+    equal(len(lines), 12)
     for at, crate in enumerate(BELOW + ["wgsl_check"], 1):
-        assert re.fullmatch(rf"wgsl_check: {at} of 12: {crate} is proved \(\d+ s\)", lines[at]), lines[at]
+        assert re.fullmatch(rf"wgsl_check: {at} of 11: {crate} is proved \(\d+ s\)", lines[at]), lines[at]
     equal(use.calls(), PROGRAM)
 
 
@@ -33,14 +33,14 @@ def first_run_on_a_terminal(use):
     begun = use.start("./wgsl_check", stderr=theirs)
     os.close(theirs)
     said = ""
-    while not re.search(r"\r\x1b\[Kwgsl_check: 4 of 12: wgsl_core, 3 of 9 functions, [1-9]\d* s", said):
+    while not re.search(r"\r\x1b\[Kwgsl_check: 4 of 11: wgsl_core, 3 of 9 functions, [1-9]\d* s", said):
         assert select.select([ours], [], [], 120)[0], said
         said += os.read(ours, 65536).decode()
     use.unsay("slow-wgsl_core")
     equal(end_of(begun)[:2], (0, ""))
     said = os.read(ours, 65536).decode()
     os.close(ours)
-    assert re.search(r"\r\x1b\[Kwgsl_check: 12 of 12: wgsl_check is proved \(\d+ s\)\r\n$", said), said
+    assert re.search(r"\r\x1b\[Kwgsl_check: 11 of 11: wgsl_check is proved \(\d+ s\)\r\n$", said), said
 
 
 def first_run_elsewhere_than_on_a_terminal(use):
@@ -122,7 +122,7 @@ def another_toolchain(use):
     use.unsay("version")
     use.say("version", "rattle-kit-99 logic 0123456789abcdef\n")
     warning = "warning: the toolchain is `rattle-kit-99 logic 0123456789abcdef`"
-    expect(use.run("./wgsl_check"), 0, ANSWERS, warning, "rattle-kit-13f", "12 of 12")
+    expect(use.run("./wgsl_check"), 0, ANSWERS, warning, "rattle-kit-13f", "11 of 11")
     expect(use.run("./wgsl_check"), 0, ANSWERS)
 
 
@@ -182,7 +182,7 @@ def answers_end_with_status_3(use):
 def proof_that_fails(use):
     use.say("fails-wgsl_core")
     why = f"wgsl_core could not be proved and built: what the toolchain printed is in {use.log}\n"
-    expect(use.run("./wgsl_check"), 4, "", "3 of 12: wgsl_rules is proved", why)
+    expect(use.run("./wgsl_check"), 4, "", "3 of 11: wgsl_rules is proved", why)
     assert "fn wgsl_core::f: not proved" in read(use.log)
     equal(use.calls(), PROGRAM[:4])
 
@@ -201,7 +201,7 @@ def proof_that_fails_and_is_mended(use):
     use.say("fails-wgsl_check")
     expect(use.run("./wgsl_check"), 4, "", "wgsl_check could not be proved and built")
     use.unsay("fails-wgsl_check")
-    expect(use.run("./wgsl_check"), 0, ANSWERS, "12 of 12")
+    expect(use.run("./wgsl_check"), 0, ANSWERS, "11 of 11")
 
 
 def _interrupted(use, end):
@@ -212,10 +212,10 @@ def _interrupted(use, end):
     begun, hanging = use.start_and_hang("./wgsl_check")
     assert not has_ended(hanging)
     status = end(begun.pid)
-    expect(end_of(begun), -status, "", "3 of 12", "wgsl_check: interrupted", "another run")
+    expect(end_of(begun), -status, "", "3 of 11", "wgsl_check: interrupted", "another run")
     wait_for_end(hanging)
     equal(read(use.program), before)
-    expect(use.run("./wgsl_check"), 0, ANSWERS, "12 of 12")
+    expect(use.run("./wgsl_check"), 0, ANSWERS, "11 of 11")
 
 
 def _end_group(process, number):
@@ -244,45 +244,45 @@ def terminated_alone(use):
 def first_run_interrupted_and_again(use):
     begun, hanging = use.start_and_hang("./wgsl_check", crate="wgsl_check")
     os.killpg(begun.pid, signal.SIGINT)
-    expect(end_of(begun), -signal.SIGINT, "", "11 of 12", "interrupted")
+    expect(end_of(begun), -signal.SIGINT, "", "10 of 11", "interrupted")
     wait_for_end(hanging)
     assert not os.path.exists(use.program)
-    expect(use.run("./wgsl_check"), 0, ANSWERS, "12 of 12")
+    expect(use.run("./wgsl_check"), 0, ANSWERS, "11 of 11")
 
 
 def two_first_runs_at_once(use):
     """The second may begin when the first has ended, and then it says nothing."""
     ended = [end_of(begun) for begun in [use.start("./wgsl_check") for _ in range(2)]]
-    assert all(end[:2] == (0, "") and ("12 of 12" in end[2] or not end[2]) for end in ended), ended
+    assert all(end[:2] == (0, "") and ("11 of 11" in end[2] or not end[2]) for end in ended), ended
     assert any(said for _, _, said in ended), ended
 
 
 def run_from_elsewhere(use):
-    expect(use.run(use.path("wgsl_check"), at="/"), 0, ANSWERS, "12 of 12")
+    expect(use.run(use.path("wgsl_check"), at="/"), 0, ANSWERS, "11 of 11")
     expect(use.run("../wgsl_check", at=use.path("crates")), 0, ANSWERS)
 
 
 def run_through_a_link(use):
     link = os.path.join(use.folder, "a link")
     os.symlink(use.path("wgsl_check"), link)
-    expect(use.run(link, at=use.folder), 0, ANSWERS, "12 of 12")
+    expect(use.run(link, at=use.folder), 0, ANSWERS, "11 of 11")
 
 
 def run_in_a_linked_repository(use):
     link = os.path.join(use.folder, "linked")
     os.symlink(use.top, link)
-    expect(use.run("./wgsl_check", at=link), 0, ANSWERS, "12 of 12")
+    expect(use.run("./wgsl_check", at=link), 0, ANSWERS, "11 of 11")
 
 
 def run_with_a_path_for_cd(use):
     use.env["CDPATH"] = f"{use.top}:/"
-    expect(use.run("./wgsl_check"), 0, ANSWERS, "12 of 12")
+    expect(use.run("./wgsl_check"), 0, ANSWERS, "11 of 11")
 
 
 def closed_standard_input(use):
     """It is closed for the program too, and not what a build leaves open."""
     closed = ("bash", "-c", "./wgsl_check <&-")
-    expect(use.run(*closed), 0, "standard input is closed\n", "12 of 12")
+    expect(use.run(*closed), 0, "standard input is closed\n", "11 of 11")
     expect(use.run(*closed), 0, "standard input is closed\n")
 
 
@@ -301,7 +301,7 @@ def closed_standard_output(use):
 def program_without_bytes(use):
     use.build()
     os.truncate(use.program, 0)
-    expect(use.run("./wgsl_check"), 0, ANSWERS, "12 of 12")
+    expect(use.run("./wgsl_check"), 0, ANSWERS, "11 of 11")
 
 
 def program_that_was_copied(use):

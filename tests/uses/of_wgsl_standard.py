@@ -7,7 +7,7 @@ CALLS = [f"rt lib {crate}" for crate in BELOW] + ["rt run wgsl_standard_check"]
 
 
 def first_run(use):
-    expect(use.run("./wgsl_standard"), 0, ANSWERS, "proving wgsl_standard_check and the 11 crates that it stands on")
+    expect(use.run("./wgsl_standard"), 0, ANSWERS, "proving wgsl_standard_check and the 10 crates that it stands on")
     equal(use.calls(), CALLS)
 
 

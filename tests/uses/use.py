@@ -11,7 +11,7 @@ TOP = os.path.dirname(os.path.dirname(HERE))
 STAND_IN = os.path.join(HERE, "stand_in")
 # The crates that the program stands on, in the order of their proofs; and what the toolchain is asked if all are proved.
 REQUESTS = ["wgsl_syntax", "wgsl_tables", "wgsl_rules", "wgsl_core", "wgsl_calls", "wgsl_standard"]
-REQUESTS += ["wgsl_types", "wgsl_typed", "wgsl_asked", "wgsl_requests"]
+REQUESTS += ["wgsl_types", "wgsl_asked", "wgsl_requests"]
 BELOW = REQUESTS + ["wgsl_lines"]
 PROGRAM = [f"rt lib {crate}" for crate in BELOW] + ["rt run wgsl_check"]
 BELOW_C = REQUESTS + ["wgsl_tokens", "wgsl_constants", "wgsl_source", "wgsl_spaces", "wgsl_report"]

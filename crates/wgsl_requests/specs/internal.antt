@@ -5,5 +5,4 @@ pub mod Leaves
 pub mod Replied
 pub mod Structs
 pub mod Taken
-pub mod Typed
 pub mod Written
