@@ -3,8 +3,8 @@ use Rattle.std.proofs.Common.{◌≡◌, ◌∙◌, ℕ, Bool, List, [], ◌∷�
 use Rattle.std.proofs.Math.Seq.{take-append_seam}
 use Rattle.std.specs.Io.{StartsWith}
 use Rattle.std.specs.List.{AllZip, list_all}
-use Rattle.wgsl_requests.specs.Replies.{ReplyText, IsReplyTo}
-use Rattle.wgsl_requests.proofs.OneReply.{one_reply}
+use Rattle.wgsl_requests.specs.Replies.{ReplyText, IsReplyToLine}
+use Rattle.wgsl_requests.proofs.OneReply.{one_line_reply}
 use Rattle.wgsl_lines.specs.declared.run.RunError.{RunError}
 use Rattle.wgsl_lines.specs.declared.run.RunError.TheVariants.{Read, Write, Memory}
 use Rattle.wgsl_lines.specs.Output.{is_readable, lines_of, printed_from, Prints, PrintsFirst, PrintsUntil, PrintsUpTo}
@@ -14,22 +14,22 @@ use Rattle.wgsl_requests.specs.declared.rules.RuleSet.{RuleSet}
 
 module _ (rules : RuleSet) where
   -- the replies to some lines, and to these and more
-  more_replies : (first others : List (List ℕ)) (rs ss : List ReplyText) → AllZip (IsReplyTo rules) first rs → AllZip (IsReplyTo rules) (first ++ others) ss → (rest : List ReplyText) × (ss ≡ rs ++ rest)
+  more_replies : (first others : List (List ℕ)) (rs ss : List ReplyText) → AllZip (IsReplyToLine rules) first rs → AllZip (IsReplyToLine rules) (first ++ others) ss → (rest : List ReplyText) × (ss ≡ rs ++ rest)
   more_replies [] others [] ss p q = (ss, refl)
   more_replies [] others (r ∷ rs) ss p q = absurd p
   more_replies (line ∷ first) others [] ss p q = absurd p
   more_replies (line ∷ first) others (r ∷ rs) [] p q = absurd q
   more_replies (line ∷ first) others (r ∷ rs) (s ∷ ss) p q =
       let after = more_replies first others rs ss p.1 q.1 in
-      (after.0, ap (λ x. x ∷ ss) (one_reply rules line s r q.0 p.0) ∙ ap (λ xs. r ∷ xs) after.1)
+      (after.0, ap (λ x. x ∷ ss) (one_line_reply rules line s r q.0 p.0) ∙ ap (λ xs. r ∷ xs) after.1)
 
-  one_replies : (lines : List (List ℕ)) (rs ss : List ReplyText) → AllZip (IsReplyTo rules) lines rs → AllZip (IsReplyTo rules) lines ss → rs ≡ ss
+  one_replies : (lines : List (List ℕ)) (rs ss : List ReplyText) → AllZip (IsReplyToLine rules) lines rs → AllZip (IsReplyToLine rules) lines ss → rs ≡ ss
   one_replies [] [] [] p q = refl
   one_replies [] [] (s ∷ ss) p q = absurd q
   one_replies [] (r ∷ rs) ss p q = absurd p
   one_replies (line ∷ lines) [] ss p q = absurd p
   one_replies (line ∷ lines) (r ∷ rs) [] p q = absurd q
-  one_replies (line ∷ lines) (r ∷ rs) (s ∷ ss) p q = ap (λ x. x ∷ rs) (one_reply rules line r s p.0 q.0) ∙ ap (λ xs. s ∷ xs) (one_replies lines rs ss p.1 q.1)
+  one_replies (line ∷ lines) (r ∷ rs) (s ∷ ss) p q = ap (λ x. x ∷ rs) (one_line_reply rules line r s p.0 q.0) ∙ ap (λ xs. s ∷ xs) (one_replies lines rs ss p.1 q.1)
 
   pub one_text : (input a b : List ℕ) (x y : Bool) → Prints rules input a x → Prints rules input b y → (a ≡ b) × (x ≡ y)
   one_text input a b x y p q =
@@ -48,7 +48,7 @@ module _ (rules : RuleSet) where
   up_to_begins : (input text whole : List ℕ) (others : List (List ℕ)) (readable : Bool) → PrintsUpTo rules input others text → Prints rules input whole readable → Begins text whole
   up_to_begins input text whole others readable up_to prints =
       let first = up_to.prints in
-      let after = more_replies up_to.first others first.replies prints.replies first.each (subst (λ lines. AllZip (IsReplyTo rules) lines prints.replies) up_to.lines prints.each) in
+      let after = more_replies up_to.first others first.replies prints.replies first.each (subst (λ lines. AllZip (IsReplyToLine rules) lines prints.replies) up_to.lines prints.each) in
       let rest = printed_from (number_after 1 first.replies) after.0 in
       (rest, prints.text_is ∙ (ap (printed_from 1) after.1 ∙ (printed-append 1 first.replies after.0 ∙ ap (λ t. t ++ rest) (sym first.text_is))))
 

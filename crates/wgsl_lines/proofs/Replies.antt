@@ -5,32 +5,32 @@ use Rattle.std.proofs.lemmas.Bool.{leb-true, leb-false}
 use Rattle.std.proofs.lemmas.List.{append-nil, take_all}
 use Rattle.std.proofs.lemmas.List.Folds.{list_all-append}
 use Rattle.std.specs.List.{list_all}
-use Rattle.wgsl_requests.proofs.OneReply.{one_reply}
-use Rattle.wgsl_requests.specs.Replies.{ReplyText, unreadable, IsReplyTo, too_long}
+use Rattle.wgsl_requests.proofs.OneReply.{one_line_reply}
+use Rattle.wgsl_requests.specs.Replies.{ReplyText, unreadable, IsReplyToLine, too_long}
 use Rattle.wgsl_lines.specs.Output.{is_readable, next_number, printed, printed_from}
 use Rattle.wgsl_lines.specs.Session.{number_after}
 use Rattle.wgsl_requests.specs.declared.rules.RuleSet.{RuleSet}
 
 module _ (rules : RuleSet) where
   -- of the first bytes of a line 4097 decide the reply, whatever comes after them
-  pub of_cut_first : (line more : List ℕ) (reply : ReplyText) → IsReplyTo rules (take 4097 line ++ more) reply → IsReplyTo rules (line ++ more) reply
+  pub of_cut_first : (line more : List ℕ) (reply : ReplyText) → IsReplyToLine rules (take 4097 line ++ more) reply → IsReplyToLine rules (line ++ more) reply
   of_cut_first line more reply is = test (nat_le (length line) 4096) refl
     where
-      test : (v : Bool) → nat_le (length line) 4096 ≡ v → IsReplyTo rules (line ++ more) reply
+      test : (v : Bool) → nat_le (length line) 4096 ≡ v → IsReplyToLine rules (line ++ more) reply
       test true e =
           let short : length line ≤ 4096 = leb-true (length line) 4096 e in
-          subst (λ bytes. IsReplyTo rules (bytes ++ more) reply) (take_all 4097 line (omega (arith, short))) is
+          subst (λ bytes. IsReplyToLine rules (bytes ++ more) reply) (take_all 4097 line (omega (arith, short))) is
       test false e =
           let long : 4096 < length line = leb-false (length line) 4096 e in
           let whole : 4096 < length (line ++ more) = omega (arith, long, length-append line more) in
           let cut : 4096 < length (take 4097 line ++ more) = omega (arith, long, length-take 4097 line, length-append (take 4097 line) more) in
-          subst (IsReplyTo rules (line ++ more)) (sym (one_reply rules (take 4097 line ++ more) reply unreadable is (too_long cut))) (too_long whole)
+          subst (IsReplyToLine rules (line ++ more)) (sym (one_line_reply rules (take 4097 line ++ more) reply unreadable is (too_long cut))) (too_long whole)
 
   -- of a line the first 4097 bytes decide the reply
-  pub of_cut : (line : List ℕ) (reply : ReplyText) → IsReplyTo rules (take 4097 line) reply → IsReplyTo rules line reply
+  pub of_cut : (line : List ℕ) (reply : ReplyText) → IsReplyToLine rules (take 4097 line) reply → IsReplyToLine rules line reply
   of_cut line reply is =
-      subst (λ bytes. IsReplyTo rules bytes reply) (append-nil line)
-      (of_cut_first line [] reply (subst (λ bytes. IsReplyTo rules bytes reply) (sym (append-nil (take 4097 line))) is))
+      subst (λ bytes. IsReplyToLine rules bytes reply) (append-nil line)
+      (of_cut_first line [] reply (subst (λ bytes. IsReplyToLine rules bytes reply) (sym (append-nil (take 4097 line))) is))
 
 -- a beginning of a line that is cut, and more of it
 pub take-cut : (n : ℕ) (xs ys : List ℕ) → take n (take n xs ++ ys) ≡ take n (xs ++ ys)

@@ -4,7 +4,7 @@ use Rattle.std.proofs.lemmas.List.{append-nil, take_all}
 use Rattle.std.proofs.lemmas.List.Elements.{All-append, All-nil}
 use Rattle.std.proofs.lemmas.Slice.Zip.{all_zipped_more}
 use Rattle.std.specs.List.{AllZip, list_all}
-use Rattle.wgsl_requests.specs.Replies.{IsReplyTo}
+use Rattle.wgsl_requests.specs.Replies.{IsReplyToLine}
 use Rattle.wgsl_lines.specs.declared.run.RunError.TheVariants.{Write, Memory}
 use Rattle.wgsl_lines.specs.declared.run.Session.{Session}
 use Rattle.wgsl_lines.specs.Output.{is_readable, lines_of, next_number, printed, printed_from, Prints, PrintsLines, PrintsUntil, PrintsUpTo}
@@ -61,11 +61,11 @@ module _ (rules : RuleSet) where
 
   -- the line that has begun ends with these bytes, and is answered
   module _ (bytes before : List ℕ) (old new : Session) (taken : HasTaken rules bytes before old) (end : List ℕ) (a : AnswersLine rules (old.line.bytes.items ++ end) old new) where
-    is_reply : IsReplyTo rules (taken.begun ++ end) a.reply
-    is_reply = of_cut_first rules taken.begun end a.reply (subst (λ begun. IsReplyTo rules (begun ++ end) a.reply) taken.kept a.is_reply)
+    is_reply : IsReplyToLine rules (taken.begun ++ end) a.reply
+    is_reply = of_cut_first rules taken.begun end a.reply (subst (λ begun. IsReplyToLine rules (begun ++ end) a.reply) taken.kept a.is_reply)
 
-    each_more : AllZip (IsReplyTo rules) (taken.ended ++ (taken.begun ++ end) ∷ []) (taken.replies ++ a.reply ∷ [])
-    each_more = all_zipped_more (IsReplyTo rules) taken.ended taken.replies (taken.begun ++ end) a.reply taken.each is_reply
+    each_more : AllZip (IsReplyToLine rules) (taken.ended ++ (taken.begun ++ end) ∷ []) (taken.replies ++ a.reply ∷ [])
+    each_more = all_zipped_more (IsReplyToLine rules) taken.ended taken.replies (taken.begun ++ end) a.reply taken.each is_reply
 
     no_feed : NoLineFeed end → NoLineFeed (taken.begun ++ end)
     no_feed all = All-append (λ byte. byte ≢ 10) taken.begun end taken.no_line_feed all
@@ -98,7 +98,7 @@ module _ (rules : RuleSet) where
     pub taken_last : NoLineFeed end → Prints rules (bytes ++ end) (before ++ string_bytes new.answers) new.all_readable
     taken_last all = record {
       replies = taken.replies ++ a.reply ∷ [];
-      each = subst (λ lines. AllZip (IsReplyTo rules) lines (taken.replies ++ a.reply ∷ []))
+      each = subst (λ lines. AllZip (IsReplyToLine rules) lines (taken.replies ++ a.reply ∷ []))
           (sym (ends_last (bytes ++ end) (taken.begun ++ end) taken.ended (ends_more bytes taken.begun end taken.ended taken.lines) (no_feed all))) each_more;
       text_is = text_more;
       readable_is = readable_more;

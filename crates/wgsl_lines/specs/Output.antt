@@ -3,7 +3,7 @@ use Rattle.std.specs.Prelude.{◌≡◌, ◌≢◌, ◌+◌, ◌-◌, ◌^◌, �
 use Rattle.std.specs.Prelude.{Bool, true, false, List, [], ◌∷◌}
 use Rattle.std.specs.Io.{StartsWith}
 use Rattle.std.specs.List.{AllZip, list_all}
-use Rattle.wgsl_requests.specs.Replies.{ReplyText, nothing, answer, unreadable, IsReplyTo}
+use Rattle.wgsl_requests.specs.Replies.{ReplyText, nothing, answer, unreadable, IsReplyToLine}
 use Rattle.wgsl_requests.specs.Words.{pieces}
 use Rattle.wgsl_requests.specs.declared.rules.RuleSet.{RuleSet}
 use Rattle.wgsl_lines.specs.declared.run.RunError.{RunError}
@@ -41,7 +41,7 @@ is_readable unreadable = false
 -- the text is the replies to the lines, in their order; `readable` tells whether each can be read
 pub record PrintsLines (rules : RuleSet) (lines : List (List ℕ)) (text : List ℕ) (readable : Bool) : Type 0 where
   pub replies : List ReplyText
-  pub each : AllZip (IsReplyTo rules) lines replies
+  pub each : AllZip (IsReplyToLine rules) lines replies
   pub text_is : text ≡ printed_from 1 replies
   pub readable_is : readable ≡ list_all is_readable replies
 

@@ -3,7 +3,7 @@ use Rattle.std.specs.Prelude.{◌≡◌, ◌≢◌, ◌++◌, ◌&&◌, ℕ, Boo
 use Rattle.std.specs.Prelude.{string_bytes}
 use Rattle.std.specs.Io.KnownBytes.{Appends}
 use Rattle.std.specs.List.{AllZip, list_all}
-use Rattle.wgsl_requests.specs.Replies.{ReplyText, nothing, answer, unreadable, IsReplyTo}
+use Rattle.wgsl_requests.specs.Replies.{ReplyText, nothing, answer, unreadable, IsReplyToLine}
 use Rattle.wgsl_requests.specs.declared.request.ReplyKind.{ReplyKind}
 use Rattle.wgsl_requests.specs.declared.rules.RuleSet.{RuleSet}
 use Rattle.wgsl_requests.specs.declared.request.ReplyKind.TheVariants as k
@@ -28,7 +28,7 @@ pub record IsAtStart (session : Session) : Type 0 where
 -- the line is answered by the reply to it, and it is remembered if it can't be read
 pub record AnswersLine (rules : RuleSet) (line : List ℕ) (old new : Session) : Type 0 where
   pub reply : ReplyText
-  pub is_reply : IsReplyTo rules line reply
+  pub is_reply : IsReplyToLine rules line reply
   pub answers :
       string_bytes new.answers ≡ string_bytes old.answers ++ printed old.line.number reply
   pub all_readable : new.all_readable ≡ (old.all_readable && is_readable reply)
@@ -51,7 +51,7 @@ pub record HasTaken (rules : RuleSet) (bytes before : List ℕ) (session : Sessi
   pub lines : Ends bytes ended begun
   pub no_line_feed : All (λ byte. byte ≢ 10) begun
   pub replies : List ReplyText
-  pub each : AllZip (IsReplyTo rules) ended replies
+  pub each : AllZip (IsReplyToLine rules) ended replies
   pub answers : before ++ string_bytes session.answers ≡ printed_from 1 replies
   pub all_readable : session.all_readable ≡ list_all is_readable replies
   pub kept : session.line.bytes.items ≡ take 4097 begun

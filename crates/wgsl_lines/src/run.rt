@@ -5,7 +5,7 @@ ghost use Rattle.wgsl_lines.specs.Output.{Prints, PrintsFirst, PrintsUntil, bad_
 ghost use Rattle.wgsl_lines.specs.Status.{status_of};
 ghost use Rattle.wgsl_lines.specs.declared.run.RunError.TheVariants.{Memory};
 ghost use Rattle.wgsl_lines.specs.Session.{reply_of_kind};
-ghost use Rattle.wgsl_requests.specs.Replies.{IsReplyTo};
+ghost use Rattle.wgsl_requests.specs.Replies.{IsReplyToLine};
 
 use crate::line::{Line, split_line};
 use std::alloc::{AllocError, Global};
@@ -304,14 +304,14 @@ fn write_reply_to(
     text: &mut String,
 ) -> Result<ReplyKind, AllocError>
     ensures reply { string_bytes text.old ≡ [] → IfOk result (λ kind.
-        IsReplyTo rules (line.old.bytes.items ++ end.now) (reply_of_kind kind (string_bytes text.new))) }
+        IsReplyToLine rules (line.old.bytes.items ++ end.now) (reply_of_kind kind (string_bytes text.new))) }
     ensures number { line.new.number ≡ line.old.number }
 {
     if line.bytes.is_empty() {
-        return write_reply(alloc, rules, end, line.number, text);
+        return write_reply(alloc, rules, end, text);
     }
     line.extend(end);
-    write_reply(alloc, rules, &line.bytes, line.number, text)
+    write_reply(alloc, rules, &line.bytes, text)
 }
 
 /// What is printed for a line that can't be read.

@@ -1,23 +1,22 @@
--- The bytes of a request have at most one reply.
-use Rattle.std.proofs.Common.{◌≡◌, ◌≢◌, ◌⊎◌, ◌∙◌, ℕ, List, [], arith, inl, inr, refl, subst, sym}
+-- The bytes of a line have at most one reply, and so have those of a request.
+use Rattle.std.proofs.Common.{◌≡◌, ◌≢◌, ◌⊎◌, ◌∙◌, ℕ, List, [], arith, false, inl, inr, refl, subst, sym, true}
 use Rattle.wgsl_requests.specs.Answers.{IsAnswer, IsReply}
-use Rattle.wgsl_requests.specs.Replies.{IsLineOfText, IsReplyTo, ReplyText, nothing, answer, unreadable, too_long, forbidden, no_text, no_request, no_words, answered}
+use Rattle.wgsl_requests.specs.Replies.{IsLineOfText, IsReplyTo, IsReplyToLine, ReplyText, nothing, answer, unreadable, too_long, forbidden, no_text, no_request, no_words, answered, one_line}
 use Rattle.wgsl_requests.specs.Requests.{NoRequest}
-use Rattle.wgsl_requests.specs.Words.{words_of}
+use Rattle.wgsl_requests.specs.Words.{has_line_feed, words_of}
 use Rattle.wgsl_requests.specs.declared.rules.RuleSet.{RuleSet}
 use Rattle.wgsl_requests.specs.declared.write.TextKind.{TextKind}
 use Rattle.wgsl_requests.proofs.OneAnswer.{one_answer}
 use Rattle.wgsl_requests.proofs.OneRequest.{one_request}
 
--- when the bytes have each reply
+-- when the bytes of a line have each reply
 abbrev ReplyForm : RuleSet → List ℕ → ReplyText → Type 0
 ReplyForm rules bytes nothing = IsLineOfText bytes × (words_of bytes ≡ [])
 ReplyForm rules bytes (answer kind text) = IsLineOfText bytes × (words_of bytes ≢ []) × IsReply rules (words_of bytes) kind text
 ReplyForm rules bytes unreadable = (¬ IsLineOfText bytes) ⊎ ((words_of bytes ≢ []) × NoRequest rules (words_of bytes))
 
-reply_form : {rules : RuleSet} {bytes : List ℕ} {reply : ReplyText} → IsReplyTo rules bytes reply → ReplyForm rules bytes reply
+reply_form : {rules : RuleSet} {bytes : List ℕ} {reply : ReplyText} → IsReplyToLine rules bytes reply → ReplyForm rules bytes reply
 reply_form (too_long long) = inl (λ line. absurd (omega (arith, long, line.short)))
-reply_form (forbidden found) = inl (λ line. absurd (cc (sym found ∙ line.allowed)))
 reply_form (no_text other) = inl (λ line. other line.is_text)
 reply_form (no_request line some none) = inr (some, none)
 reply_form (no_words line none) = (line, none)
@@ -43,5 +42,23 @@ one_form rules bytes unreadable (answer l b) (inl no_line) g = absurd (no_line g
 one_form rules bytes unreadable (answer l b) (inr f) g = absurd (f.1 g.2.0 g.2.1)
 one_form rules bytes unreadable unreadable f g = refl
 
+pub one_line_reply : (rules : RuleSet) (bytes : List ℕ) (r s : ReplyText) → IsReplyToLine rules bytes r → IsReplyToLine rules bytes s → r ≡ s
+one_line_reply rules bytes r s f g = one_form rules bytes r s (reply_form f) (reply_form g)
+
+-- when the bytes of a request have a reply
+abbrev RequestForm : RuleSet → List ℕ → ReplyText → Type 0
+RequestForm rules bytes reply =
+    ((has_line_feed bytes ≡ true) × (reply ≡ unreadable)) ⊎ ((has_line_feed bytes ≡ false) × IsReplyToLine rules bytes reply)
+
+request_form : {rules : RuleSet} {bytes : List ℕ} {reply : ReplyText} → IsReplyTo rules bytes reply → RequestForm rules bytes reply
+request_form (forbidden found) = inl (found, refl)
+request_form (one_line reply none is) = inr (none, is)
+
+one_request_form : (rules : RuleSet) (bytes : List ℕ) (r s : ReplyText) → RequestForm rules bytes r → RequestForm rules bytes s → r ≡ s
+one_request_form rules bytes r s (inl f) (inl g) = f.1 ∙ sym g.1
+one_request_form rules bytes r s (inl f) (inr g) = absurd (cc (sym f.0 ∙ g.0))
+one_request_form rules bytes r s (inr f) (inl g) = absurd (cc (sym f.0 ∙ g.0))
+one_request_form rules bytes r s (inr f) (inr g) = one_line_reply rules bytes r s f.1 g.1
+
 pub one_reply : (rules : RuleSet) (bytes : List ℕ) (r s : ReplyText) → IsReplyTo rules bytes r → IsReplyTo rules bytes s → r ≡ s
-one_reply rules bytes r s f g = one_form rules bytes r s (reply_form f) (reply_form g)
+one_reply rules bytes r s f g = one_request_form rules bytes r s (request_form f) (request_form g)

@@ -17,21 +17,25 @@ pub data ReplyText : Type 0 where
   answer : TextKind → List ℕ → ReplyText
   unreadable : ReplyText
 
--- at most 4096 bytes of UTF-8, without a line feed
+-- at most 4096 bytes of UTF-8
 pub record IsLineOfText (bytes : List ℕ) : Type 0 where
   pub short : length bytes ≤ 4096
-  pub allowed : has_line_feed bytes ≡ false
   pub is_text : All IsUtf8 (words_of bytes)
 
--- the reply to the bytes of a request, by a set of rules
-pub data IsReplyTo (rules : RuleSet) (bytes : List ℕ) : ReplyText → Type 0 where
-  too_long : 4096 < length bytes → IsReplyTo rules bytes unreadable
-  forbidden : has_line_feed bytes ≡ true → IsReplyTo rules bytes unreadable
-  no_text : ¬ All IsUtf8 (words_of bytes) → IsReplyTo rules bytes unreadable
-  no_request : IsLineOfText bytes → words_of bytes ≢ [] → NoRequest rules (words_of bytes) → IsReplyTo rules bytes unreadable
-  no_words : IsLineOfText bytes → words_of bytes ≡ [] → IsReplyTo rules bytes nothing
+-- the reply to the bytes of a line, by a set of rules
+pub data IsReplyToLine (rules : RuleSet) (bytes : List ℕ) : ReplyText → Type 0 where
+  too_long : 4096 < length bytes → IsReplyToLine rules bytes unreadable
+  no_text : ¬ All IsUtf8 (words_of bytes) → IsReplyToLine rules bytes unreadable
+  no_request : IsLineOfText bytes → words_of bytes ≢ [] → NoRequest rules (words_of bytes) → IsReplyToLine rules bytes unreadable
+  no_words : IsLineOfText bytes → words_of bytes ≡ [] → IsReplyToLine rules bytes nothing
   answered : (kind : TextKind) (text : List ℕ) → IsLineOfText bytes → words_of bytes ≢ [] →
-      IsReply rules (words_of bytes) kind text → IsReplyTo rules bytes (answer kind text)
+      IsReply rules (words_of bytes) kind text → IsReplyToLine rules bytes (answer kind text)
+
+-- the reply to the bytes of a request: it is one line, so a line feed makes it unreadable
+pub data IsReplyTo (rules : RuleSet) (bytes : List ℕ) : ReplyText → Type 0 where
+  forbidden : has_line_feed bytes ≡ true → IsReplyTo rules bytes unreadable
+  one_line : (reply : ReplyText) → has_line_feed bytes ≡ false → IsReplyToLine rules bytes reply →
+      IsReplyTo rules bytes reply
 
 -- a request of this kind can't be read
 abbrev pub IsUnreadable : ReplyKind → Type 0
@@ -39,12 +43,12 @@ IsUnreadable k.Nothing = ⊥
 IsUnreadable (k.Answer kind) = ⊥
 IsUnreadable (k.Unreadable why) = Unit {0}
 
--- the reply is of this kind, and an answer is written at the end of the text
-abbrev pub WritesReply : RuleSet → List ℕ → ReplyKind → List ℕ → List ℕ → Type 0
-WritesReply rules bytes k.Nothing old new = IsReplyTo rules bytes nothing
-WritesReply rules bytes (k.Answer kind) old new =
-    (text : List ℕ) × IsReplyTo rules bytes (answer kind text) × (new ≡ old ++ text)
-WritesReply rules bytes (k.Unreadable why) old new = IsReplyTo rules bytes unreadable
+-- the reply for which this holds is of this kind, and an answer is written at the end of the text
+abbrev pub WritesReply : (ReplyText → Type 0) → ReplyKind → List ℕ → List ℕ → Type 0
+WritesReply Holds k.Nothing old new = Holds nothing
+WritesReply Holds (k.Answer kind) old new =
+    (text : List ℕ) × Holds (answer kind text) × (new ≡ old ++ text)
+WritesReply Holds (k.Unreadable why) old new = Holds unreadable
 
 -- a reply, without the memory that holds its text
 abbrev pub reply_text : Reply → ReplyText

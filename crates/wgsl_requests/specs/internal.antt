@@ -6,5 +6,4 @@ pub mod Replied
 pub mod Spelled
 pub mod Structs
 pub mod Taken
-pub mod Typed
 pub mod Written

@@ -1,8 +1,10 @@
 // What the program answers to a command.
-ghost use Rattle.std.specs.Prelude.{◌≡◌, ◌∷◌, IfOk, MatchResult, codes, map, option_map, string_bytes};
+ghost use Rattle.std.specs.Prelude.{◌≡◌, ◌↔◌, ◌∷◌, IfOk, IsTrue, MatchResult, codes, map, option_map, string_bytes};
 ghost use Rattle.wgsl_syntax.specs.Operator.{binary_text, unary_text};
 ghost use Rattle.wgsl_rules.specs.types.Signatures.{Signature};
 ghost use Rattle.wgsl_core.specs.View.{view};
+ghost use Rattle.wgsl_rules.specs.Headline.{Receives};
+ghost use Rattle.wgsl_asked.specs.Answers.{IsReceivedCommon};
 ghost use Rattle.wgsl_asked.specs.Requests.{common as common_request, layout as layout_request, offsets as offsets_request};
 ghost use Rattle.wgsl_asked.specs.Views.{callee_view as asked_view, request_view};
 ghost use Rattle.wgsl_requests.specs.Answers.{IsAnswer, IsReply};
@@ -10,7 +12,6 @@ ghost use Rattle.wgsl_requests.specs.Reading.{Answers, ReadsWord};
 ghost use Rattle.wgsl_requests.specs.Requests.{IsCallee, NoRequest};
 ghost use Rattle.wgsl_requests.specs.internal.Replied.{Replies, WritesOfStruct, callee_view};
 ghost use Rattle.wgsl_requests.specs.internal.Taken.{left};
-ghost use Rattle.wgsl_requests.specs.internal.Typed.{first_type_of};
 ghost use Rattle.wgsl_requests.specs.internal.Written.{Adds};
 
 use crate::read::{read_last_type, read_pair, read_types};
@@ -23,7 +24,7 @@ use crate::write::{TextKind, write, write_type_or_none};
 use std::alloc::{AllocError, Global};
 use wgsl_asked::ask::answer;
 use wgsl_asked::requests::{Callee as AskedCallee, Request};
-use wgsl_typed::typed::{Typed, convert_to_common, typed_on};
+use wgsl_core::conversion::lists::common_of;
 use wgsl_types::error::Fail;
 use wgsl_types::syntax::{BinaryOperator, UnaryOperator};
 use wgsl_types::tplt::TpltParam;
@@ -121,7 +122,7 @@ pub(crate) fn rank(
     Ok(written?)
 }
 
-/// `common T..`: the type that all types have after they were converted together, each on its line.
+/// `common T..`: the common type of all types, or `none` if there is none, or if one of them doesn't convert to it.
 pub(crate) fn common(
     alloc: Global,
     rules: RuleSet,
@@ -131,29 +132,42 @@ pub(crate) fn common(
     ensures { Replies rules (codes "common" ∷ left words.old)
         (string_bytes text.old) (string_bytes text.new) result }
 {
-    let values = typed_on(alloc, words.line, read_types(alloc, rules, words)?)?;
-    let written = write_common(alloc, &values, text);
-    drop(values);
+    let types = read_types(alloc, rules, words)?;
+    let written = write_common(&types, text);
+    drop(types);
     Ok(written?)
 }
 
-/// Writes the type that the values have after they were converted together, or `none`.
-fn write_common(alloc: Global, values: &[Typed], text: &mut String) -> Result<TextKind, AllocError>
-    ensures { IfOk result (λ kind. Adds (IsAnswer (common_request (map (λ x. view x.ty) values.now)) kind)
+fn write_common(types: &[Type], text: &mut String) -> Result<TextKind, AllocError>
+    ensures { IfOk result (λ kind. Adds (IsAnswer (common_request (map view types.now)) kind)
         (string_bytes text.old) (string_bytes text.new)) }
 {
-    let converted = convert_to_common(alloc, values)?;
-    let written = write_type_or_none(text, first_type(&converted));
-    drop(converted);
-    written?;
+    write_type_or_none(text, received_common(types))?;
     Ok(TextKind::Answer)
 }
 
-fn first_type(values: &Option<Vec<Typed>>) -> Option<&Type>
-    ensures { option_map (λ t. view t.now) result ≡ first_type_of (option_map (λ v. v.items) values.now) }
+/// The common type of the types, from left to right, if each of them converts to it.
+#[tactic(auto, using(crate::proofs::Commons::uncommon))]
+fn received_common(types: &[Type]) -> Option<&Type>
+    ensures { IsReceivedCommon (map view types.now) (option_map (λ t. view t.now) result) }
 {
-    let first = values.as_ref()?.first()?;
-    Some(&first.ty)
+    let common = common_of(types)?;
+    if all_convert_to(types, common) {
+        Some(common)
+    } else {
+        None
+    }
+}
+
+fn all_convert_to(types: &[Type], ty: &Type) -> bool
+    ensures { IsTrue result ↔ Receives (view ty.now) (map view types.now) }
+{
+    for source in types {
+        if !source.is_convertible_to(ty) {
+            return false;
+        }
+    }
+    true
 }
 
 /// `unary OP T`: the type of the expression, or why it has none.

@@ -1,6 +1,6 @@
 // One request, from its bytes to its reply.
 ghost use Rattle.std.specs.Prelude.{◌≡◌, ◌<◌, ◌≤◌, [], All, IfOk, IsOkAnd, IsUtf8, Ok, length, string_bytes, true};
-ghost use Rattle.wgsl_requests.specs.Replies.{IsExplanation, IsReplyTo, IsUnreadable, WritesReply, reply_text};
+ghost use Rattle.wgsl_requests.specs.Replies.{IsExplanation, IsReplyTo, IsReplyToLine, IsUnreadable, WritesReply, reply_text};
 ghost use Rattle.wgsl_requests.specs.Words.{has_line_feed, words_of};
 
 use crate::command::write_answer;
@@ -34,7 +34,7 @@ pub enum ReplyKind {
     Unreadable(Why),
 }
 
-/// The reply to the request, by a set of rules, as to a first line.
+/// The reply to the request, by a set of rules.
 pub fn reply_to(alloc: Global, rules: RuleSet, request: &[u8]) -> Result<Reply, AllocError>
     ensures too_long { LONGEST < length request.now → result ≡ Ok Reply.Unreadable }
     ensures forbidden { has_line_feed request.now ≡ true → result ≡ Ok Reply.Unreadable }
@@ -45,42 +45,56 @@ pub fn reply_to(alloc: Global, rules: RuleSet, request: &[u8]) -> Result<Reply, 
     ensures reply { IfOk result (λ reply. IsReplyTo rules request.now (reply_text reply)) }
 {
     let mut text = String::new(alloc);
-    match write_reply(alloc, rules, request, 1, &mut text)? {
+    match write_reply_to_request(alloc, rules, request, &mut text)? {
         ReplyKind::Nothing => Ok(Reply::Nothing),
         ReplyKind::Answer(kind) => Ok(Reply::Answer(kind, text)),
         ReplyKind::Unreadable(_) => Ok(Reply::Unreadable),
     }
 }
 
-/// The kind of the reply to the request on a line of this number, by a set of rules. An answer is written at the end of
-/// the text.
+/// The kind of the reply to a request, by a set of rules. An answer is written at the end of the text.
+fn write_reply_to_request(
+    alloc: Global,
+    rules: RuleSet,
+    request: &[u8],
+    text: &mut String,
+) -> Result<ReplyKind, AllocError>
+    ensures too_long { LONGEST < length request.now → IsOkAnd result IsUnreadable }
+    ensures forbidden { has_line_feed request.now ≡ true → IsOkAnd result IsUnreadable }
+    ensures no_text { ¬ All IsUtf8 (words_of request.now) → IsOkAnd result IsUnreadable }
+    ensures no_words { length request.now ≤ LONGEST → words_of request.now ≡ []
+        → result ≡ Ok ReplyKind.Nothing }
+    ensures reply { IfOk result (λ kind. WritesReply (IsReplyTo rules request.now) kind
+        (string_bytes text.old) (string_bytes text.new)) }
+{
+    if request.len() <= LONGEST && has_line_feed(request) {
+        return Ok(ReplyKind::Unreadable(Why::LineFeed));
+    }
+    write_reply(alloc, rules, request, text)
+}
+
+/// The kind of the reply to a line, by a set of rules. An answer is written at the end of the text.
 #[inline(always)]
 pub fn write_reply(
     alloc: Global,
     rules: RuleSet,
     request: &[u8],
-    line: u64,
     text: &mut String,
 ) -> Result<ReplyKind, AllocError>
     ensures too_long { LONGEST < length request.now
         → result ≡ Ok (ReplyKind.Unreadable Why.TooLong) }
-    ensures forbidden { has_line_feed request.now ≡ true → IsOkAnd result IsUnreadable }
     ensures no_text { ¬ All IsUtf8 (words_of request.now) → IsOkAnd result IsUnreadable }
     ensures no_words { length request.now ≤ LONGEST → words_of request.now ≡ []
         → result ≡ Ok ReplyKind.Nothing }
-    ensures reply { IfOk result (λ kind.
-        WritesReply rules request.now kind (string_bytes text.old) (string_bytes text.new)) }
+    ensures reply { IfOk result (λ kind. WritesReply (IsReplyToLine rules request.now) kind
+        (string_bytes text.old) (string_bytes text.new)) }
 {
     if request.len() > LONGEST {
         return Ok(ReplyKind::Unreadable(Why::TooLong));
     }
-    if has_line_feed(request) {
-        return Ok(ReplyKind::Unreadable(Why::LineFeed));
-    }
     let Some(mut words) = Words::of(request) else {
         return Ok(ReplyKind::Unreadable(Why::NotUtf8));
     };
-    words.line = line;
     let Ok(command) = words.next(Wanted::Command) else {
         return Ok(ReplyKind::Nothing);
     };
@@ -95,7 +109,7 @@ pub fn explain(alloc: Global, rules: RuleSet, request: &[u8]) -> Result<Reply, A
     ensures { IfOk result (λ reply. IsExplanation rules request.now reply) }
 {
     let mut text = String::new(alloc);
-    let kind = write_reply(alloc, rules, request, 1, &mut text);
+    let kind = write_reply_to_request(alloc, rules, request, &mut text);
     drop(text);
     match kind? {
         ReplyKind::Answer(_) => Ok(Reply::Nothing),

@@ -14,8 +14,6 @@ use wgsl_types::error::Fail;
 #[derive(Clone, Copy)]
 pub struct Words<'t> {
     text: &'t str,
-    /// The number of the line that the request is.
-    pub line: u64,
     taken: usize,
     ghost within: { taken ≤ length text.now },
     ghost boundary: { IsCharBoundary text.now taken },
@@ -24,7 +22,7 @@ pub struct Words<'t> {
 impl<'t> Words<'t> {
     ghost use Rattle.wgsl_requests.specs.internal.Taken.{GoesOn, left};
 
-    /// The words of a request on a first line, or `None` if it is not UTF-8.
+    /// The words of a request, or `None` if it is not UTF-8.
     ///
     /// Only ASCII separates words, so a request is UTF-8 if each of its words is.
     #[inline(always)]
@@ -35,11 +33,7 @@ impl<'t> Words<'t> {
         ensures text { OnSome result (All IsUtf8 (words_of request.now)) }
     {
         match std::str::from_utf8(request) {
-            Ok(text) => Some(Words {
-                text,
-                line: 1,
-                taken: 0,
-            }),
+            Ok(text) => Some(Words { text, taken: 0 }),
             Err(_) => None,
         }
     }

@@ -3,13 +3,13 @@ use Rattle.std.proofs.Common.{◌≡◌, ℕ, Bool, List, [], ◌∷◌, refl}
 use Rattle.std.specs.List.{AllZip, list_all}
 use Rattle.wgsl_lines.specs.Output.{Prints, is_readable, lines_of, printed_from}
 use Rattle.wgsl_lines.proofs.OneText.{one_text}
-use Rattle.wgsl_requests.specs.Replies.{IsReplyTo, ReplyText}
+use Rattle.wgsl_requests.specs.Replies.{IsReplyToLine, ReplyText}
 use Rattle.wgsl_requests.specs.declared.rules.RuleSet.{RuleSet}
-use Rattle.wgsl_total.proofs.Replied.{some_reply}
+use Rattle.wgsl_total.proofs.Replied.{some_line_reply}
 
-some_replies : (rules : RuleSet) (lines : List (List ℕ)) → (replies : List ReplyText) × AllZip (IsReplyTo rules) lines replies
+some_replies : (rules : RuleSet) (lines : List (List ℕ)) → (replies : List ReplyText) × AllZip (IsReplyToLine rules) lines replies
 some_replies rules [] = ([], tt)
-some_replies rules (line ∷ lines) = let r = some_reply rules line in let rs = some_replies rules lines in (r.0 ∷ rs.0, (r.1, rs.1))
+some_replies rules (line ∷ lines) = let r = some_line_reply rules line in let rs = some_replies rules lines in (r.0 ∷ rs.0, (r.1, rs.1))
 
 -- exactly one text, with one answer to whether every line is readable
 pub only_text : (rules : RuleSet) (input : List ℕ) → (text : List ℕ) × (readable : Bool) × Prints rules input text readable

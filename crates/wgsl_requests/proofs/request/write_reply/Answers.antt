@@ -1,39 +1,31 @@
-use Rattle.std.proofs.Common.{◌≡◌, ◌≢◌, ◌≤◌, ◌∙◌, ℕ, Bool, false, List, [], ◌∷◌, All, IsUtf8, arith, length, rules, subst, sym}
+use Rattle.std.proofs.Common.{◌≡◌, ◌≢◌, ◌≤◌, ◌∙◌, ℕ, List, [], ◌∷◌, All, IsUtf8, arith, length, rules, subst, sym}
 use Rattle.std.specs.Prelude.{MatchResult, Result, Ok, Err}
 use Rattle.wgsl_requests.specs.Answers.{IsReply}
 use Rattle.wgsl_requests.specs.Requests.{NoRequest}
 use Rattle.wgsl_requests.specs.internal.Written.{Adds}
-use Rattle.wgsl_requests.specs.Replies.{IsLineOfText, too_long, forbidden, no_text, no_request, no_words, answered}
-use Rattle.wgsl_requests.specs.Words.{has_line_feed, words_of}
+use Rattle.wgsl_requests.specs.Replies.{IsLineOfText, too_long, no_text, no_request, no_words, answered}
+use Rattle.wgsl_requests.specs.Words.{words_of}
 use Rattle.wgsl_requests.specs.declared.rules.RuleSet.{RuleSet}
 use Rattle.wgsl_requests.specs.declared.write.TextKind.{TextKind}
-use Rattle.wgsl_requests.proofs.FirstWord.{blank-no_line_feed}
 use Rattle.wgsl_requests.proofs.request.write_reply.Goals as goal
 
--- bytes that passed the three tests
-line : (bytes : List ℕ) (found : Bool) → length bytes ≤ 4096 → found ≡ has_line_feed bytes → found ≡ false → All IsUtf8 (words_of bytes) → IsLineOfText bytes
-line bytes found short is none text = record { short = short; allowed = sym is ∙ none; is_text = text }
+-- bytes that passed both tests
+line : (bytes : List ℕ) → length bytes ≤ 4096 → All IsUtf8 (words_of bytes) → IsLineOfText bytes
+line bytes short text = record { short = short; is_text = text }
 
 -- a list with a first word
 begins : (word : List ℕ) (words rest : List (List ℕ)) → words ≡ word ∷ rest → words ≢ []
 begins word words rest is none = let never : ⊥ = cc (sym is ∙ none) in never
 
-pub returns-then-has_line_feed-clause-no_words : goal.returns-then-has_line_feed-clause-no_words
-returns-then-has_line_feed-clause-no_words c = λ _ none.
-    absurd (cc (sym c.if-has_line_feed.true ∙ (c.has_line_feed.ensures ∙ blank-no_line_feed c.args.request.now none)))
-
 pub returns-then-request-gt-LONGEST-clause-reply : goal.returns-then-request-gt-LONGEST-clause-reply
 returns-then-request-gt-LONGEST-clause-reply c = too_long (first_of (search rules, omega arith))
-
-pub returns-then-has_line_feed-clause-reply : goal.returns-then-has_line_feed-clause-reply
-returns-then-has_line_feed-clause-reply c = forbidden (sym c.has_line_feed.ensures ∙ c.if-has_line_feed.true)
 
 pub returns-in_default-clause-reply : goal.returns-in_default-clause-reply
 returns-in_default-clause-reply c = no_text c.in_default.ensures.words
 
 pub returns-in_default-next-clause-reply : goal.returns-in_default-next-clause-reply
 returns-in_default-next-clause-reply c =
-    no_words (line _ _ (first_of (search rules, omega arith)) c.has_line_feed.ensures c.if-has_line_feed.false c.in-Some.ensures.text)
+    no_words (line _ (first_of (search rules, omega arith)) c.in-Some.ensures.text)
     (sym c.in-Some.ensures.words ∙ c.in_default-next.ensures.word)
 
 -- what was written for all of the words
@@ -53,10 +45,10 @@ pub returns-in-Ok-2-clause-reply : goal.returns-in-Ok-2-clause-reply
 returns-in-Ok-2-clause-reply c =
     let first = sym c.in-Some.ensures.words ∙ c.in-Ok.ensures.word in
     let w = written c.args.rules _ _ _ _ _ (sym first) (told_ok _ _ _ _ c.in-Ok-2.is c.in_ok-kind.ensures) in
-    (w.0, answered _ _ (line _ _ (first_of (search rules, omega arith)) c.has_line_feed.ensures c.if-has_line_feed.false c.in-Some.ensures.text) (begins _ _ _ first) w.1, w.2)
+    (w.0, answered _ _ (line _ (first_of (search rules, omega arith)) c.in-Some.ensures.text) (begins _ _ _ first) w.1, w.2)
 
 pub returns-in-Err-clause-reply : goal.returns-in-Err-clause-reply
 returns-in-Err-clause-reply c =
     let first = sym c.in-Some.ensures.words ∙ c.in-Ok.ensures.word in
-    no_request (line _ _ (first_of (search rules, omega arith)) c.has_line_feed.ensures c.if-has_line_feed.false c.in-Some.ensures.text)
+    no_request (line _ (first_of (search rules, omega arith)) c.in-Some.ensures.text)
     (begins _ _ _ first) (subst (NoRequest c.args.rules) (sym first) (told_err _ _ _ _ c.in-Err.is c.in_ok-kind.ensures))
