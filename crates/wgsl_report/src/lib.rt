@@ -2,6 +2,7 @@
 #![tactic(auto)]
 
 pub mod choice;
+pub mod extent;
 pub mod finding;
 mod forms;
 mod json;

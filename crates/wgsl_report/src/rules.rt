@@ -1,5 +1,11 @@
 // The rules of address spaces, for the variables of a module and the structs in their types.
+ghost use Rattle.std.specs.Prelude.{◌↔◌, IsTrue};
+ghost use Rattle.wgsl_spaces.specs.Spaces.{IsAlignAttribute};
+ghost use Rattle.wgsl_report.specs.Extent.{extent_of};
 
+use crate::extent::{
+    content_of, extent_of, innermost, is_runtime_sized, position_of, stride_too_close,
+};
 use crate::finding::{Finding, Trouble};
 use crate::place::Place;
 use std::alloc::{AllocError, Global};
@@ -9,11 +15,9 @@ use wgsl_source::structure::{Member, Struct};
 use wgsl_source::variable::Variable;
 use wgsl_spaces::content::{Content, may_be_innermost};
 use wgsl_spaces::spaces::{
-    Extent, Position, Rule, Shape, broken_rule, is_align_attribute, is_lifted, may_lie_apart,
-    required_align, up_to_16,
+    Position, Rule, broken_rule, is_align_attribute, is_lifted, required_align, up_to_16,
 };
 use wgsl_syntax::address::AddressSpace;
-use wgsl_syntax::scalar::Scalar;
 
 /// What checks the variables of a module.
 #[derive(Drop)]
@@ -108,30 +112,13 @@ impl<'a> Checker<'a> {
 
     /// Marks the struct in a type.
     fn reach(&self, ty: &MeasuredType, reached: &mut [bool]) {
-        if let TypeKind::Struct(index) = self.innermost(ty).kind {
+        let Some(inner) = innermost(&self.module.elements, ty) else {
+            return;
+        };
+        if let TypeKind::Struct(index) = inner.kind {
             if let Some(is_reached) = reached.get_mut(index) {
                 *is_reached = true;
             }
-        }
-    }
-
-    /// The type that is innermost in arrays.
-    fn innermost(&self, ty: &MeasuredType) -> MeasuredType {
-        let mut inner = *ty;
-        for _ in 0..ty.levels {
-            match self.element(&inner) {
-                Some(element) => inner = element,
-                None => break,
-            }
-        }
-        inner
-    }
-
-    /// The type of an array's elements.
-    fn element(&self, ty: &MeasuredType) -> Option<MeasuredType> {
-        match ty.kind {
-            TypeKind::Array(index, _) => self.module.elements.get(index).copied(),
-            _ => None,
         }
     }
 
@@ -154,7 +141,7 @@ impl<'a> Checker<'a> {
             (Place::Handle, true) => self.find(subject, Trouble::NoHandle),
             (_, false) => self.find(subject, Trouble::NoData),
             (_, true) => {
-                if !place.takes_runtime_sized() && self.is_runtime_sized(&variable.ty) {
+                if !place.takes_runtime_sized() && is_runtime_sized(&variable.ty) {
                     self.find(subject, Trouble::RuntimeSized)?;
                 }
                 self.check_content(subject, place, &variable.ty)
@@ -164,13 +151,6 @@ impl<'a> Checker<'a> {
 
     fn find(&mut self, subject: Subject<'a>, trouble: Trouble) -> Result<(), AllocError> {
         Ok(self.findings.push(subject.finding(trouble, false))?)
-    }
-
-    fn is_runtime_sized(&self, ty: &MeasuredType) -> bool {
-        match ty.kind {
-            TypeKind::Struct(_) => ty.size.is_none(),
-            _ => ty.is_runtime_sized_array(),
-        }
     }
 
     fn check_struct(
@@ -201,13 +181,7 @@ impl<'a> Checker<'a> {
         member: &Member<'a>,
         next: Option<u32>,
     ) -> Result<(), AllocError> {
-        let position = Position {
-            extent: extent_of(&member.ty),
-            size: member.size_attribute,
-            align: member.align_attribute,
-            offset: member.offset,
-            next,
-        };
+        let position = position_of(member, next);
         let space = self.rules(place);
         let Some(rule) = broken_rule(space, position) else {
             return Ok(());
@@ -235,8 +209,15 @@ impl<'a> Checker<'a> {
         place: Place,
         ty: &MeasuredType,
     ) -> Result<(), AllocError> {
-        self.check_strides(subject, place, ty)?;
-        let content = content_of(&self.innermost(ty));
+        let elements = &self.module.elements;
+        if let Some(stride) = stride_too_close(self.rules(place), elements, ty) {
+            let trouble = Trouble::Stride { stride };
+            self.findings.push(subject.finding(trouble, true))?;
+        }
+        let Some(inner) = innermost(elements, ty) else {
+            return Ok(());
+        };
+        let content = content_of(inner.kind);
         if may_be_innermost(place.space(), place.access(), content) {
             return Ok(());
         }
@@ -245,61 +226,17 @@ impl<'a> Checker<'a> {
             Content::Atomic | Content::Other => self.find(subject, Trouble::Atomic),
         }
     }
-
-    /// Checks how far elements of arrays lie apart; the first that lie too close are told.
-    fn check_strides(
-        &mut self,
-        subject: Subject<'a>,
-        place: Place,
-        ty: &MeasuredType,
-    ) -> Result<(), AllocError> {
-        let space = self.rules(place);
-        let mut inner = *ty;
-        for _ in 0..ty.levels {
-            let Some(element) = self.element(&inner) else {
-                break;
-            };
-            let stride = element.stride().unwrap_or(0);
-            if !may_lie_apart(space, extent_of(&element), stride) {
-                let trouble = Trouble::Stride { stride };
-                return Ok(self.findings.push(subject.finding(trouble, true))?);
-            }
-            inner = element;
-        }
-        Ok(())
-    }
 }
 
 /// Whether the attribute `align` of a member suits the member's type.
-fn suits_type(member: &Member) -> bool {
+fn suits_type(member: &Member) -> bool
+    ensures { IsTrue result ↔ IsAlignAttribute AddressSpace.Storage (extent_of member.now.ty) member.now.align_attribute }
+{
     is_align_attribute(
         AddressSpace::Storage,
         extent_of(&member.ty),
         member.align_attribute,
     )
-}
-
-/// What the rules see of a type.
-fn extent_of(ty: &MeasuredType) -> Extent {
-    let shape = match ty.kind {
-        TypeKind::Array(_, _) => Shape::Array,
-        TypeKind::Struct(_) => Shape::Struct,
-        _ => Shape::Other,
-    };
-    Extent {
-        shape,
-        size: ty.size.unwrap_or(0),
-        align: ty.align.unwrap_or(1),
-    }
-}
-
-/// What the rules see of an innermost type.
-fn content_of(ty: &MeasuredType) -> Content {
-    match ty.kind {
-        TypeKind::Scalar(Scalar::Bool) | TypeKind::Vector(_, Scalar::Bool) => Content::Bool,
-        TypeKind::Atomic(_) => Content::Atomic,
-        _ => Content::Other,
-    }
 }
 
 /// What is told of a rule that a member breaks.
