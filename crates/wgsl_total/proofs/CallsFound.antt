@@ -14,6 +14,7 @@ use Rattle.wgsl_requests.specs.Templates.{TemplateAt}
 use Rattle.wgsl_requests.specs.internal.Asked.{NamedAt}
 use Rattle.wgsl_requests.proofs.CallReads.{binary_head, binary_read, call_read, constant_read, ctor_read, no_binary, no_call, no_constant, no_ctor, no_head, no_head_no_call, no_operands_no_call, no_plain, no_unary, one_operand, one_operands, unary_head, unary_read}
 use Rattle.wgsl_requests.proofs.Meanings.{OneMeaning, one_word}
+use Rattle.wgsl_requests.specs.declared.rules.RuleSet.TheVariants.{Standard}
 use Rattle.wgsl_total.proofs.CalleesFound.{a_template}
 use Rattle.wgsl_total.proofs.Found.{Found, IsListOf, ListForm, Means, a_word, all_of, and_then}
 use Rattle.wgsl_total.proofs.ListsFound.{a_type}
@@ -33,11 +34,11 @@ no_operand (plain_at d) e = omega (arith, type_shorter d, ap length e)
 an_operand : (words : List (List ℕ)) → Found (OperandAt words)
 an_operand [] = inr (λ x rest d. no_operand d refl)
 an_operand (word ∷ words) = elim (same_word word (codes "const")) [
-  | yes is ↦ elim (a_type words) [
+  | yes is ↦ elim (a_type {rules = Standard} words) [
     | inl t ↦ inl (record { of_type = t.0; is_constant = true }, t.1, constant_read word words t.0 t.1 is t.2)
     | inr none ↦ inr (no_constant word words is none)
   ]
-  | no other ↦ elim (a_type (word ∷ words)) [
+  | no other ↦ elim (a_type {rules = Standard} (word ∷ words)) [
     | inl t ↦ inl (record { of_type = t.0; is_constant = is_abstract t.0 }, t.1, plain_at t.2)
     | inr none ↦ inr (no_plain word words other none)
   ]
@@ -75,7 +76,7 @@ itself_one : OneMeaning (λ (word name : List ℕ). word ≡ name)
 itself_one word x y f g = subst (λ w. w ≡ y) f g
 
 a_named : (words : List (List ℕ)) → Found (NamedAt words)
-a_named words = and_then (OneWord (λ word name. word ≡ name)) TemplateAt (one_word (λ word name. word ≡ name) itself_one) words
+a_named words = and_then (OneWord (λ word name. word ≡ name)) (TemplateAt Standard) (one_word (λ word name. word ≡ name) itself_one) words
     (a_word (λ word name. word ≡ name) (λ word. inl (word, refl)) words) a_template
 
 a_head : (words : List (List ℕ)) → Found (HeadAt words)

@@ -12,6 +12,7 @@ pub mod Standard
 pub mod Answered
 pub mod Found
 pub mod WordMeanings
+pub mod SpelledFound
 pub mod TypesFound
 pub mod ListsFound
 pub mod CalleesFound

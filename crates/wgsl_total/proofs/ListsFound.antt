@@ -16,31 +16,32 @@ use Rattle.wgsl_requests.proofs.Meanings.{named_text}
 use Rattle.wgsl_requests.proofs.Members.{no_member_align, no_member_size, no_struct_count, one_member, struct_made, struct_members}
 use Rattle.wgsl_requests.proofs.Nested.{scalar_read}
 use Rattle.wgsl_requests.proofs.OneType.{MoreAt, members_form, one_type, types_form}
+use Rattle.wgsl_requests.specs.declared.rules.RuleSet.{RuleSet}
 use Rattle.wgsl_total.proofs.Found.{Found, IsListOf, ListForm, Means, a_word, all_of, by_bool, by_option, from_bool, from_option, same_as}
 use Rattle.wgsl_total.proofs.TypesFound.{a_layer, a_leaf, equal, layer_shorter, type_shorter}
 use Rattle.wgsl_total.proofs.WordMeanings.{a_long, an_attribute}
 
-type_of : (word : List ℕ) (words : List (List ℕ)) (t : WgslType) (rest : List (List ℕ)) → Form (word ∷ words) t rest → TypeAt (word ∷ words) t rest
-type_of word words t rest =
+type_of : {rules : RuleSet} (word : List ℕ) (words : List (List ℕ)) (t : WgslType) (rest : List (List ℕ)) → Form rules (word ∷ words) t rest → TypeAt rules (word ∷ words) t rest
+type_of {rules} word words t rest =
     from_option (named (table scalar_text scalars) word)
     (from_bool (bytes_eq word (codes "struct")) (λ e f. of_struct (equal e) f) (from_bool (is_layer_word word) (λ e f. of_layer f) (λ d. leaf_at d)))
-    (λ s e f. subst (λ ws. TypeAt (word ∷ words) t ws) f.1 (scalar_read word words s t (named_text scalar_text scalars word s e) f.0))
+    (λ s e f. subst (λ ws. TypeAt rules (word ∷ words) t ws) f.1 (scalar_read word words s t (named_text scalar_text scalars word s e) f.0))
   where
-    of_struct : word ≡ codes "struct" → StructAt words t rest → TypeAt (word ∷ words) t rest
+    of_struct : word ≡ codes "struct" → StructAt rules words t rest → TypeAt rules (word ∷ words) t rest
     of_struct is f =
-        subst (λ t. TypeAt (word ∷ words) t rest) (sym f.type_is)
-        (subst (λ w. TypeAt (w ∷ words) (struct f.name f.members) rest) (sym is)
-        (subst (λ ws. TypeAt (codes "struct" ∷ ws) (struct f.name f.members) rest) (sym f.words_are) (struct_at f.is_count f.members_at)))
+        subst (λ t. TypeAt rules (word ∷ words) t rest) (sym f.type_is)
+        (subst (λ w. TypeAt rules (w ∷ words) (struct f.name f.members) rest) (sym is)
+        (subst (λ ws. TypeAt rules (codes "struct" ∷ ws) (struct f.name f.members) rest) (sym f.words_are) (struct_at f.is_count f.members_at)))
 
-    of_layer : InLayerAt (word ∷ words) t rest → TypeAt (word ∷ words) t rest
-    of_layer f = subst (λ t. TypeAt (word ∷ words) t rest) (sym f.3.2) (layer_at f.2 f.3.1)
+    of_layer : InLayerAt rules (word ∷ words) t rest → TypeAt rules (word ∷ words) t rest
+    of_layer f = subst (λ t. TypeAt rules (word ∷ words) t rest) (sym f.3.2) (layer_at f.2 f.3.1)
 
 -- at the front of any words that are not longer, a type is found, or none stands there
-abbrev pub TypesUpTo : ℕ → Type 0
-TypesUpTo n = (words : List (List ℕ)) → length words ≤ n → Found (TypeAt words)
+abbrev pub TypesUpTo : RuleSet → ℕ → Type 0
+TypesUpTo rules n = (words : List (List ℕ)) → length words ≤ n → Found (TypeAt rules words)
 
-module _ (n : ℕ) (types : TypesUpTo n) where
-  a_member : (words : List (List ℕ)) → length words ≤ n → Found (MemberAt words)
+module _ {rules : RuleSet} (n : ℕ) (types : TypesUpTo rules n) where
+  a_member : (words : List (List ℕ)) → length words ≤ n → Found (MemberAt rules words)
   a_member [] h = inr (λ m rest d. let e : [] ≡ m.name ∷ d.size ∷ d.align ∷ d.after = d.words_are in absurd (cc e))
   a_member (name ∷ words) h = elim (a_word IsAttribute an_attribute words) [
     | inr none ↦ inr (no_member_size (name ∷ words) name words refl none)
@@ -50,7 +51,7 @@ module _ (n : ℕ) (types : TypesUpTo n) where
     ]
   ]
     where
-      after_attributes : (s : Option ℕ) (more : List (List ℕ)) → OneWord IsAttribute words s more → (a : Option ℕ) (after : List (List ℕ)) → OneWord IsAttribute more a after → Found (MemberAt (name ∷ words))
+      after_attributes : (s : Option ℕ) (more : List (List ℕ)) → OneWord IsAttribute words s more → (a : Option ℕ) (after : List (List ℕ)) → OneWord IsAttribute more a after → Found (MemberAt rules (name ∷ words))
       after_attributes s more f a after g =
           let are : words ≡ f.0 ∷ g.0 ∷ after = f.1 ∙ ap (λ ws. f.0 ∷ ws) g.1 in
           elim (types after (omega (arith, h, ap length are))) [
@@ -70,28 +71,28 @@ module _ (n : ℕ) (types : TypesUpTo n) where
             | inr none ↦ inr (λ m rest d.
                 let e : name ∷ f.0 ∷ g.0 ∷ after ≡ m.name ∷ d.size ∷ d.align ∷ d.after = ap (λ ws. name ∷ ws) (sym are) ∙ d.words_are in
                 let same : d.after ≡ after = sym (cc e) in
-                none m.ty rest (subst (λ ws. TypeAt ws m.ty rest) same d.type_at))
+                none m.ty rest (subst (λ ws. TypeAt rules ws m.ty rest) same d.type_at))
           ]
 
-  member_shorter : {words rest : List (List ℕ)} {m : Member} → MemberAt words m rest → length rest ≤ length words
+  member_shorter : {words rest : List (List ℕ)} {m : Member} → MemberAt rules words m rest → length rest ≤ length words
   member_shorter d = omega (arith, type_shorter d.type_at, ap length d.words_are)
 
-  some_members : (k : ℕ) (words : List (List ℕ)) → length words ≤ n → Found (MembersAt k words)
+  some_members : (k : ℕ) (words : List (List ℕ)) → length words ≤ n → Found (MembersAt rules k words)
   some_members zero words h = inl (no_members, words, no_members_at)
   some_members (suc k) words h = elim (a_member words h) [
-    | inr none ↦ inr (λ ms rest d. let f : MoreAt k words ms rest = members_form d in none f.first f.after f.first_at)
+    | inr none ↦ inr (λ ms rest d. let f : MoreAt rules k words ms rest = members_form d in none f.first f.after f.first_at)
     | inl m ↦ elim (some_members k m.1 (omega (arith, h, member_shorter m.2))) [
       | inl g ↦ inl (member m.0.name m.0.ty m.0.size m.0.align g.0, g.1, first m.0 m.1 m.2 g.0 g.1 g.2)
       | inr none ↦ inr (λ ms rest d.
-          let f : MoreAt k words ms rest = members_form d in
-          none f.others rest (subst (λ ws. MembersAt k ws f.others rest) (one_member words f.first m.0 f.after m.1 f.first_at m.2) f.others_at))
+          let f : MoreAt rules k words ms rest = members_form d in
+          none f.others rest (subst (λ ws. MembersAt rules k ws f.others rest) (one_member words f.first m.0 f.after m.1 f.first_at m.2) f.others_at))
     ]
   ]
     where
-      first : (m : Member) (after : List (List ℕ)) → MemberAt words m after → (ms : Members) (rest : List (List ℕ)) → MembersAt k after ms rest → MembersAt (suc k) words (member m.name m.ty m.size m.align ms) rest
-      first m after d ms rest ds = subst (λ ws. MembersAt (suc k) ws (member m.name m.ty m.size m.align ms) rest) (sym d.words_are) (member_at d.is_size d.is_align d.type_at ds)
+      first : (m : Member) (after : List (List ℕ)) → MemberAt rules words m after → (ms : Members) (rest : List (List ℕ)) → MembersAt rules k after ms rest → MembersAt rules (suc k) words (member m.name m.ty m.size m.align ms) rest
+      first m after d ms rest ds = subst (λ ws. MembersAt rules (suc k) ws (member m.name m.ty m.size m.align ms) rest) (sym d.words_are) (member_at d.is_size d.is_align d.type_at ds)
 
-  a_struct : (words : List (List ℕ)) → length words ≤ n → Found (StructAt words)
+  a_struct : (words : List (List ℕ)) → length words ≤ n → Found (StructAt rules words)
   a_struct [] h = inr (λ t rest d. let e : [] ≡ d.name ∷ d.count ∷ d.after = d.words_are in absurd (cc e))
   a_struct (name ∷ words) h = elim (a_word IsLong a_long words) [
     | inr none ↦ inr (no_struct_count (name ∷ words) name words refl none)
@@ -101,34 +102,34 @@ module _ (n : ℕ) (types : TypesUpTo n) where
     ]
   ]
 
-  in_layer : (words : List (List ℕ)) → length words ≤ suc n → Found (InLayerAt words)
+  in_layer : (words : List (List ℕ)) → length words ≤ suc n → Found (InLayerAt rules words)
   in_layer words h = elim (a_layer words) [
     | inr none ↦ inr (λ t rest d. none d.0 d.1 d.2)
     | inl l ↦ elim (types l.1 (omega (arith, h, layer_shorter l.2))) [
       | inl t ↦ inl (around l.0 t.0, t.1, (l.0, l.1, l.2, (t.0, t.2, refl)))
-      | inr none ↦ inr (λ t rest d. none d.3.0 rest (subst (λ ws. TypeAt ws d.3.0 rest) (one_layer words d.0 l.0 d.1 l.1 d.2 l.2).1 d.3.1))
+      | inr none ↦ inr (λ t rest d. none d.3.0 rest (subst (λ ws. TypeAt rules ws d.3.0 rest) (one_layer words d.0 l.0 d.1 l.1 d.2 l.2).1 d.3.1))
     ]
   ]
 
-pub types_up_to : (n : ℕ) → TypesUpTo n
+pub types_up_to : {rules : RuleSet} (n : ℕ) → TypesUpTo rules n
 types_up_to n [] h = inr (λ t rest d. form d)
 types_up_to zero (word ∷ words) h = absurd (omega (arith, h))
-types_up_to (suc n) (word ∷ words) h = same_as (Form (word ∷ words)) (TypeAt (word ∷ words)) (type_of word words) (λ t rest d. form d)
+types_up_to {rules} (suc n) (word ∷ words) h = same_as (Form rules (word ∷ words)) (TypeAt rules (word ∷ words)) (type_of word words) (λ t rest d. form d)
     (by_option (named (table scalar_text scalars) word)
     (by_bool (bytes_eq word (codes "struct")) (a_struct n (types_up_to n) words (omega (arith, h)))
     (by_bool (is_layer_word word) (in_layer n (types_up_to n) (word ∷ words) (omega (arith, h))) (a_leaf (word ∷ words))))
     (λ s. inl (scalar s, words, (refl, refl))))
 
-pub a_type : (words : List (List ℕ)) → Found (TypeAt words)
+pub a_type : {rules : RuleSet} (words : List (List ℕ)) → Found (TypeAt rules words)
 a_type words = types_up_to (length words) words (le_refl _)
 
 -- All words
 
-types_listed : (words : List (List ℕ)) (ts : List WgslType) → TypesAt words ts → ListForm TypeAt TypesAt words ts
+types_listed : {rules : RuleSet} (words : List (List ℕ)) (ts : List WgslType) → TypesAt rules words ts → ListForm (TypeAt rules) (TypesAt rules) words ts
 types_listed words [] d = types_form d
 types_listed words (t ∷ ts) d = types_form d
 
-a_list : IsListOf TypeAt TypesAt
+a_list : {rules : RuleSet} → IsListOf (TypeAt rules) (TypesAt rules)
 a_list = record {
   none = no_types_at;
   more = λ words rest t ts d ds. type_at d ds;
@@ -137,5 +138,5 @@ a_list = record {
   shorter = λ words rest t d. type_shorter d;
 }
 
-pub some_types : (words : List (List ℕ)) → Means (TypesAt words)
-some_types = all_of TypeAt TypesAt a_list a_type
+pub some_types : {rules : RuleSet} (words : List (List ℕ)) → Means (TypesAt rules words)
+some_types {rules} = all_of (TypeAt rules) (TypesAt rules) a_list a_type

@@ -23,60 +23,60 @@ use Rattle.wgsl_total.proofs.WordMeanings.{a_name}
 
 -- One type, two types
 
-only_type : {words : List (List ℕ)} → Found (TypeAt words) → Means (λ t. TypeAt words t [])
+only_type : {rules : RuleSet} {words : List (List ℕ)} → Found (TypeAt rules words) → Means (λ t. TypeAt rules words t [])
 only_type (inr none) = inr (λ t d. none t [] d)
 only_type (inl (t, [], d)) = inl (t, d)
 only_type (inl (t, w ∷ ws, d)) = inr (λ u e. let same : w ∷ ws ≡ [] = (one_type d u [] e).1 in cc same)
 
-whole_type : (words : List (List ℕ)) → Means (λ t. TypeAt words t [])
+whole_type : {rules : RuleSet} (words : List (List ℕ)) → Means (λ t. TypeAt rules words t [])
 whole_type words = only_type (a_type words)
 
-only_two : {words : List (List ℕ)} → Means (TypesAt words) → Means (λ (p : WgslType × WgslType). TypesAt words (p.0 ∷ p.1 ∷ []))
+only_two : {rules : RuleSet} {words : List (List ℕ)} → Means (TypesAt rules words) → Means (λ (p : WgslType × WgslType). TypesAt rules words (p.0 ∷ p.1 ∷ []))
 only_two (inr none) = inr (λ p d. none (p.0 ∷ p.1 ∷ []) d)
 only_two (inl (t ∷ u ∷ [], d)) = inl ((t, u), d)
 only_two (inl ([], d)) = inr (λ p e. let same : [] ≡ p.0 ∷ p.1 ∷ [] = one_list d (p.0 ∷ p.1 ∷ []) e in cc same)
 only_two (inl (t ∷ [], d)) = inr (λ p e. let same : t ∷ [] ≡ p.0 ∷ p.1 ∷ [] = one_list d (p.0 ∷ p.1 ∷ []) e in cc same)
 only_two (inl (t ∷ u ∷ v ∷ ts, d)) = inr (λ p e. let same : t ∷ u ∷ v ∷ ts ≡ p.0 ∷ p.1 ∷ [] = one_list d (p.0 ∷ p.1 ∷ []) e in cc same)
 
-two_types : (words : List (List ℕ)) → Means (λ (p : WgslType × WgslType). TypesAt words (p.0 ∷ p.1 ∷ []))
+two_types : {rules : RuleSet} (words : List (List ℕ)) → Means (λ (p : WgslType × WgslType). TypesAt rules words (p.0 ∷ p.1 ∷ []))
 two_types words = only_two (some_types words)
 
 -- The words after the command
 
-a_rank : (words : List (List ℕ)) → Means (RankForm words)
-a_rank words = elim (two_types words) [
+a_rank : {rules : RuleSet} (words : List (List ℕ)) → Means (RankForm rules words)
+a_rank {rules} words = elim (two_types {rules = rules} words) [
   | inl p ↦ inl (rank p.0.0 p.0.1, (p.0.0, p.0.1, p.1, refl))
   | inr none ↦ inr (λ r f. none (f.0, f.1) f.2)
 ]
 
-a_common : (words : List (List ℕ)) → Means (CommonForm words)
-a_common words = elim (some_types words) [ inl ts ↦ inl (common ts.0, (ts.0, ts.1, refl)) | inr none ↦ inr (λ r f. none f.0 f.1) ]
+a_common : {rules : RuleSet} (words : List (List ℕ)) → Means (CommonForm rules words)
+a_common {rules} words = elim (some_types {rules = rules} words) [ inl ts ↦ inl (common ts.0, (ts.0, ts.1, refl)) | inr none ↦ inr (λ r f. none f.0 f.1) ]
 
 a_unary : (words : List (List ℕ)) → Means (UnaryForm words)
 a_unary words = elim (a_word (IsText unary_text) (a_name unary_text unary_operators unary_naming) words) [
   | inr none ↦ inr (λ r f. none f.0 f.2 (unary_text f.0, f.3, refl))
-  | inl o ↦ elim (whole_type o.1) [
+  | inl o ↦ elim (whole_type {rules = Ported} o.1) [
     | inl t ↦ inl (unary o.0 t.0, (o.0, t.0, o.1, o.2.1 ∙ ap (λ w. w ∷ o.1) o.2.2, t.1, refl))
-    | inr none ↦ inr (λ r f. let e : o.2.0 ∷ o.1 ≡ unary_text f.0 ∷ f.2 = sym o.2.1 ∙ f.3 in let same : f.2 ≡ o.1 = sym (cc e) in none f.1 (subst (λ ws. TypeAt ws f.1 []) same f.4))
+    | inr none ↦ inr (λ r f. let e : o.2.0 ∷ o.1 ≡ unary_text f.0 ∷ f.2 = sym o.2.1 ∙ f.3 in let same : f.2 ≡ o.1 = sym (cc e) in none f.1 (subst (λ ws. TypeAt Ported ws f.1 []) same f.4))
   ]
 ]
 
 a_binary : (words : List (List ℕ)) → Means (BinaryForm words)
 a_binary words = elim (a_word (IsText binary_text) (a_name binary_text binary_operators binary_naming) words) [
   | inr none ↦ inr (λ r f. none f.0 f.3 (binary_text f.0, f.4, refl))
-  | inl o ↦ elim (two_types o.1) [
+  | inl o ↦ elim (two_types {rules = Ported} o.1) [
     | inl p ↦ inl (binary o.0 p.0.0 p.0.1, (o.0, p.0.0, p.0.1, o.1, o.2.1 ∙ ap (λ w. w ∷ o.1) o.2.2, p.1, refl))
     | inr none ↦ inr (λ r f.
         let e : o.2.0 ∷ o.1 ≡ binary_text f.0 ∷ f.3 = sym o.2.1 ∙ f.4 in
         let same : f.3 ≡ o.1 = sym (cc e) in
-        none (f.1, f.2) (subst (λ ws. TypesAt ws (f.1 ∷ f.2 ∷ [])) same f.5))
+        none (f.1, f.2) (subst (λ ws. TypesAt Ported ws (f.1 ∷ f.2 ∷ [])) same f.5))
   ]
 ]
 
-a_size : (words : List (List ℕ)) → Means (SizeForm words)
-a_size words = elim (whole_type words) [ inl t ↦ inl (size t.0, (t.0, t.1, refl)) | inr none ↦ inr (λ r f. none f.0 f.1) ]
+a_size : {rules : RuleSet} (words : List (List ℕ)) → Means (SizeForm rules words)
+a_size {rules} words = elim (whole_type {rules = rules} words) [ inl t ↦ inl (size t.0, (t.0, t.1, refl)) | inr none ↦ inr (λ r f. none f.0 f.1) ]
 
-only_struct : (ask : List ℕ → Members → Request) {words : List (List ℕ)} → Means (λ t. TypeAt words t []) → Means (StructForm ask words)
+only_struct : {rules : RuleSet} (ask : List ℕ → Members → Request) {words : List (List ℕ)} → Means (λ t. TypeAt rules words t []) → Means (StructForm rules ask words)
 only_struct ask (inr none) = inr (λ r f. none (struct f.0 f.1) f.2)
 only_struct ask (inl (struct name ms, d)) = inl (ask name ms, (name, ms, d, refl))
 only_struct ask (inl (t, d)) = inr (λ r f. let same = (one_type d (struct f.0 f.1) [] f.2).0 in absurd (cc same))

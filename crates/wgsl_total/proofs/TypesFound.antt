@@ -1,5 +1,5 @@
 -- A type at the front of words is found, or none stands there.
-use Rattle.std.proofs.Common.{◌≡◌, ◌<◌, ◌≤◌, ℕ, true, List, [], ◌∷◌, length, Option, Some, None, codes, refl, sym, ap, ◌∙◌, subst, inl, inr, arith}
+use Rattle.std.proofs.Common.{◌≡◌, ◌<◌, ◌≤◌, ℕ, suc, Bool, true, false, if◌then◌else◌, List, [], ◌∷◌, length, Option, Some, None, codes, refl, sym, ap, ◌∙◌, subst, inl, inr, arith}
 use Rattle.std.specs.Str.{bytes_eq}
 use Rattle.std.proofs.lemmas.List.{length-append}
 use Rattle.std.proofs.lemmas.Slice.Eq.{bytes_eq-Decides}
@@ -10,6 +10,7 @@ use Rattle.wgsl_syntax.specs.Texture.{sampled_text, sampled_types, sampler_text,
 use Rattle.wgsl_syntax.specs.TextureName.{parameter_kind, texture_name_text, texture_names, texture_with}
 use Rattle.wgsl_syntax.specs.declared.around.Around.{Around}
 use Rattle.wgsl_syntax.specs.declared.around.Around.TheVariants as arounds
+use Rattle.wgsl_syntax.specs.declared.attribute.AccelerationStructureFlags.{AccelerationStructureFlags}
 use Rattle.wgsl_syntax.specs.declared.texture.TextureType.{TextureType}
 use Rattle.wgsl_syntax.specs.declared.texture_name.TextureName.{TextureName}
 use Rattle.wgsl_syntax.specs.declared.texture_name.TextureParameterKind.{TextureParameterKind}
@@ -18,16 +19,20 @@ use Rattle.wgsl_syntax.specs.declared.texture_name.TextureParameterKind.TheVaria
 use Rattle.wgsl_syntax.specs.declared.texture_name.TextureParameters.TheVariants as parameters
 use Rattle.wgsl_syntax.proofs.Naming.{access_naming, sampled_naming, space_naming, texel_naming, texture_naming}
 use Rattle.wgsl_rules.specs.types.Types.{WgslType, texture, sampler, ray_query, acceleration_structure, Members}
-use Rattle.wgsl_requests.specs.Grammar.{IsFlag, LayerAt, LeafAt, MembersAt, TypeAt, acceleration_structure_at, array_at, atomic_at, binding_array_at, layer_at, leaf_at, mat_at, member_at, no_members_at, ptr_at, ray_query_at, ref_at, sampler_at, scalar_at, struct_at, texture_at, texture_words, vec_at}
+use Rattle.wgsl_requests.specs.Grammar.{FlagAt, IsFlag, LayerAt, LeafAt, MembersAt, TypeAt, acceleration_structure_at, array_at, atomic_at, binding_array_at, flag_at, layer_at, leaf_at, mat_at, member_at, no_flag_at, no_members_at, ptr_at, ray_query_at, ref_at, sampler_at, scalar_at, spelled_at, struct_at, texture_at, texture_words, vec_at}
 use Rattle.wgsl_requests.specs.Numbers.{IsCount, IsSmall}
 use Rattle.wgsl_requests.specs.Reading.{IsText, OneWord}
-use Rattle.wgsl_requests.specs.internal.Leaves.{ParametersAt, TextureAt}
+use Rattle.wgsl_requests.specs.Spelled.{after_run, ends_in_comma, run, spaced}
+use Rattle.wgsl_requests.specs.internal.Leaves.{ParametersAt, SpelledAt, TextureAt, begins_spelling}
+use Rattle.wgsl_requests.specs.declared.rules.RuleSet.{RuleSet}
+use Rattle.wgsl_requests.specs.declared.rules.RuleSet.TheVariants.{Ported, Standard}
 use Rattle.wgsl_requests.proofs.Forms.{LayerForm, LeafForm, MemoryAt, TwoSmall, layer_form, leaf_form}
 use Rattle.wgsl_requests.proofs.LayerReads.{array_read, atomic_read, binding_array_read, mat_read, ptr_read, ref_read, vec_read}
-use Rattle.wgsl_requests.proofs.LeafReads.{query_read, sampler_read, structure_read, texture_read}
+use Rattle.wgsl_requests.proofs.LeafReads.{flag_read, no_flag, query_read, sampler_read, spelled_or_texture_by, structure_read}
 use Rattle.wgsl_requests.proofs.Meanings.{named_text, one_word, small_one, text_one}
 use Rattle.wgsl_requests.proofs.Textures.{no_name, no_parameters, no_sampled, no_texels, none_with, texture_there}
 use Rattle.wgsl_total.proofs.Found.{Found, a_word, and_then, by_bool, by_option, from_bool, from_option, made, nothing, same_as}
+use Rattle.wgsl_total.proofs.SpelledFound.{a_spelling}
 use Rattle.wgsl_total.proofs.WordMeanings.{a_count, a_flag, a_name, a_small}
 
 pub equal : {a b : List ℕ} → bytes_eq a b ≡ true → a ≡ b
@@ -68,19 +73,37 @@ a_texture name words = elim (a_name texture_name_text texture_names texture_nami
 
 -- Leaves
 
-leaf_of : (word : List ℕ) (words : List (List ℕ)) (t : WgslType) (rest : List (List ℕ)) → LeafForm (word ∷ words) t rest → LeafAt (word ∷ words) t rest
-leaf_of word words t rest =
+a_spelled : (words : List (List ℕ)) → Found (SpelledAt words)
+a_spelled words = elim (a_spelling (spaced (run words))) [
+  | inl t ↦ inl (t.0, after_run words, (t.1, refl))
+  | inr none ↦ inr (λ t rest d. none t d.0)
+]
+
+flag_found : (rules : RuleSet) (words : List (List ℕ)) → Found (FlagAt rules words)
+flag_found Ported words = elim (a_word IsFlag a_flag words) [
+  | inl f ↦ inl (f.0, f.1, flag_read words f.1 f.0 f.2)
+  | inr none ↦ inr (no_flag words none)
+]
+flag_found Standard words = elim (a_word IsFlag a_flag words) [
+  | inl f ↦ inl (f.0, f.1, flag_read words f.1 f.0 f.2)
+  | inr none ↦ inl (None, words, no_flag_at none)
+]
+
+leaf_of : {rules : RuleSet} (word : List ℕ) (words : List (List ℕ)) (t : WgslType) (rest : List (List ℕ)) → LeafForm rules (word ∷ words) t rest → LeafAt rules (word ∷ words) t rest
+leaf_of {rules} word words t rest =
     from_bool (bytes_eq word (codes "ray_query")) (λ e f. query_read word words f.0 t rest (equal e) f.2 f.1)
     (from_bool (bytes_eq word (codes "acceleration_structure")) (λ e f. structure_read word words f.0 t rest (equal e) f.2 f.1)
-    (from_option (named (table sampler_text samplers) word) (λ f. texture_read word words f.0 t rest f.2 f.1)
-    (λ s e f. subst (λ ws. LeafAt (word ∷ words) t ws) f.1 (sampler_read word words s t (named_text sampler_text samplers word s e) f.0))))
+    (from_option (named (table sampler_text samplers) word) (λ f. spelled_or_texture_by word words rules t rest f)
+    (λ s e f. subst (λ ws. LeafAt rules (word ∷ words) t ws) f.1 (sampler_read word words s t (named_text sampler_text samplers word s e) f.0))))
 
-pub a_leaf : (words : List (List ℕ)) → Found (LeafAt words)
+pub a_leaf : {rules : RuleSet} (words : List (List ℕ)) → Found (LeafAt rules words)
 a_leaf [] = inr (λ t rest d. leaf_form d)
-a_leaf (word ∷ words) = same_as (LeafForm (word ∷ words)) (LeafAt (word ∷ words)) (leaf_of word words) (λ t rest d. leaf_form d)
-    (by_bool (bytes_eq word (codes "ray_query")) (made (OneWord IsFlag) ray_query words (a_word IsFlag a_flag words))
-    (by_bool (bytes_eq word (codes "acceleration_structure")) (made (OneWord IsFlag) acceleration_structure words (a_word IsFlag a_flag words))
-    (by_option (named (table sampler_text samplers) word) (made TextureAt texture (word ∷ words) (a_texture word words)) (λ s. inl (sampler s, words, (refl, refl))))))
+a_leaf {rules} (word ∷ words) = same_as (LeafForm rules (word ∷ words)) (LeafAt rules (word ∷ words)) (leaf_of word words) (λ t rest d. leaf_form d)
+    (by_bool (bytes_eq word (codes "ray_query")) (made (FlagAt rules) ray_query words (flag_found rules words))
+    (by_bool (bytes_eq word (codes "acceleration_structure")) (made (FlagAt rules) acceleration_structure words (flag_found rules words))
+    (by_option (named (table sampler_text samplers) word)
+    (by_bool (begins_spelling rules word) (a_spelled (word ∷ words)) (made TextureAt texture (word ∷ words) (a_texture word words)))
+    (λ s. inl (sampler s, words, (refl, refl))))))
 
 -- Layers
 
@@ -126,19 +149,40 @@ layer_shorter atomic_at = omega arith
 layer_shorter (ptr_at s m) = omega arith
 layer_shorter (ref_at s m) = omega arith
 
-leaf_shorter : {words rest : List (List ℕ)} {t : WgslType} → LeafAt words t rest → length rest < length words
-leaf_shorter (ray_query_at h) = omega arith
-leaf_shorter (acceleration_structure_at h) = omega arith
+flag_shorter : {rules : RuleSet} {words rest : List (List ℕ)} {f : Option AccelerationStructureFlags} → FlagAt rules words f rest → length rest ≤ length words
+flag_shorter (flag_at h) = omega arith
+flag_shorter (no_flag_at none) = omega arith
+
+run_shorter : (words : List (List ℕ)) → length (after_run words) ≤ length words
+run_shorter [] = omega arith
+run_shorter (word ∷ words) = by (ends_in_comma word) (run_shorter words)
+  where
+    by : (b : Bool) → length (after_run words) ≤ length words → length (if b then after_run words else words) ≤ suc (length words)
+    by true h = omega (arith, h)
+    by false h = omega arith
+
+-- a word is taken at least
+spelled_shorter : (word : List ℕ) (words : List (List ℕ)) → length (after_run (word ∷ words)) < length (word ∷ words)
+spelled_shorter word words = by (ends_in_comma word) (run_shorter words)
+  where
+    by : (b : Bool) → length (after_run words) ≤ length words → length (if b then after_run words else words) < suc (length words)
+    by true h = omega (arith, h)
+    by false h = omega arith
+
+leaf_shorter : {rules : RuleSet} {words rest : List (List ℕ)} {t : WgslType} → LeafAt rules words t rest → length rest < length words
+leaf_shorter (ray_query_at d) = omega (arith, flag_shorter d)
+leaf_shorter (acceleration_structure_at d) = omega (arith, flag_shorter d)
 leaf_shorter (sampler_at s) = omega arith
 leaf_shorter (texture_at {rest} x) = omega (arith, length-append (texture_words x) rest)
+leaf_shorter (spelled_at {word} {words} e s) = spelled_shorter word words
 
 mutual
-  pub type_shorter : {words rest : List (List ℕ)} {t : WgslType} → TypeAt words t rest → length rest < length words
+  pub type_shorter : {rules : RuleSet} {words rest : List (List ℕ)} {t : WgslType} → TypeAt rules words t rest → length rest < length words
   type_shorter (scalar_at s) = omega arith
   type_shorter (leaf_at d) = leaf_shorter d
   type_shorter (layer_at d inner) = omega (arith, layer_shorter d, type_shorter inner)
   type_shorter (struct_at is d) = omega (arith, members_shorter d)
 
-  members_shorter : {n : ℕ} {words rest : List (List ℕ)} {ms : Members} → MembersAt n words ms rest → length rest ≤ length words
+  members_shorter : {rules : RuleSet} {n : ℕ} {words rest : List (List ℕ)} {ms : Members} → MembersAt rules n words ms rest → length rest ≤ length words
   members_shorter no_members_at = omega arith
   members_shorter (member_at i j d ds) = omega (arith, type_shorter d, members_shorter ds)

@@ -171,7 +171,7 @@ a_signed_number w word = elim (a_signed word) [
 
 -- Literals
 
-before : (suffix word : List ℕ) → ((digits : List ℕ) × (word ≡ digits ++ suffix)) ⊎ ((digits : List ℕ) → word ≢ digits ++ suffix)
+pub before : (suffix word : List ℕ) → ((digits : List ℕ) × (word ≡ digits ++ suffix)) ⊎ ((digits : List ℕ) → word ≢ digits ++ suffix)
 before suffix [] = elim (same_word [] suffix) [
   | yes e ↦ inl ([], e)
   | no other ↦ inr (none_of other)
