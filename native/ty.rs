@@ -4,7 +4,8 @@ use crate::error::Error;
 use crate::proved::wgsl_core::conversion::typed::Ty as _;
 pub use crate::proved::wgsl_core::ty::{StructMemberType, StructType, Type};
 use crate::proved::wgsl_source::fault::{Cause, Expected, Fault, Stop};
-use crate::proved::wgsl_source::spelled::{read_type, spelling_of};
+use crate::proved::wgsl_source::spelled::spelling_of;
+use crate::proved::wgsl_spelled::spelled::read;
 pub use crate::proved::wgsl_syntax::texture::{SamplerType, TextureDimensions, TextureType};
 use crate::shim::std::alloc::Global;
 use crate::shim::{always, settled};
@@ -115,35 +116,34 @@ pub struct SpellingError {
 impl FromStr for Type {
     type Err = SpellingError;
 
-    /// The type that displays as exactly that text. A struct's name says nothing of its members, so no struct is read.
+    /// The type that displays as exactly that text, with WGSL's predeclared aliases too. A struct's name says nothing of its
+    /// members, so no struct is read.
     ///
     /// ```
     /// use wgsl_types_proved::Type;
     ///
     /// let ty: Type = "array<vec3<f32>, 4>".parse()?;
     /// assert_eq!(ty, Type::array(Some(4), Type::vector(3, Type::F32)));
+    /// assert_eq!("array<vec3f, 4>".parse(), Ok(ty));
     /// assert_eq!("vec3<float>".parse::<Type>().unwrap_err().offset, 5);
     /// # Ok::<(), wgsl_types_proved::ty::SpellingError>(())
     /// ```
     fn from_str(text: &str) -> Result<Type, SpellingError> {
-        read_type(Global, text).map_err(|stop| why_not(text, stop))
+        always(read(Global, text)).ok_or_else(|| why_not(text))
     }
 }
 
 #[cold]
-fn why_not(text: &str, stop: Stop) -> SpellingError {
-    let fault = match stop {
-        Stop::Fault(fault) => fault,
-        Stop::Elsewhere => Fault { at: 0, cause: Cause::Expected(Expected::Type) },
-        Stop::Memory(never) => match never {},
-    };
-    let message = match spelling_of(Global, text) {
-        Ok(spelling) if fault.cause == Cause::OtherSpelling => {
-            format!("the type is spelled `{spelling}`")
+fn why_not(text: &str) -> SpellingError {
+    let fault = match spelling_of(Global, text) {
+        Ok(spelling) => {
+            return SpellingError { offset: 0, message: format!("the type is spelled `{spelling}`") }
         }
-        _ => fault_text(text, fault),
+        Err(Stop::Fault(fault)) => fault,
+        Err(Stop::Elsewhere) => Fault { at: 0, cause: Cause::Expected(Expected::Type) },
+        Err(Stop::Memory(never)) => match never {},
     };
-    SpellingError { offset: fault.at, message }
+    SpellingError { offset: fault.at, message: fault_text(text, fault) }
 }
 
 impl fmt::Display for SpellingError {

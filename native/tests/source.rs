@@ -18,33 +18,39 @@ fn what_displays_is_read() {
         let text = ty.to_string();
         match text.parse::<Type>() {
             Ok(read) => assert_eq!(read, ty),
-            Err(error) => assert!(has_no_spelling(&ty), "{text}: {error}"),
+            Err(error) => assert!(has_struct(&ty), "{text}: {error}"),
         }
     }
 }
 
-/// Whether a struct is in the type, or `handle`, or a number of components, none of which WGSL spells.
-fn has_no_spelling(ty: &Type) -> bool {
-    let is_count = |count: &u8| (2..=4).contains(count);
+/// Whether a struct is in the type, whose name says nothing of its members.
+fn has_struct(ty: &Type) -> bool {
     match ty {
         Type::Struct(_) => true,
-        Type::Vec(count, _) if !is_count(count) => true,
-        Type::Mat(columns, rows, _) if !is_count(columns) || !is_count(rows) => true,
-        Type::Ptr(space, inner, _) | Type::Ref(space, inner, _) => {
-            *space == AddressSpace::Handle || has_no_spelling(inner)
-        }
         Type::Array(inner, _)
         | Type::Vec(_, inner)
         | Type::Mat(_, _, inner)
         | Type::Atomic(inner)
-        | Type::BindingArray(inner, _) => has_no_spelling(inner),
+        | Type::Ptr(_, inner, _)
+        | Type::Ref(_, inner, _)
+        | Type::BindingArray(inner, _) => has_struct(inner),
         _ => false,
     }
 }
 
 #[test]
+fn an_alias_is_read() {
+    for (alias, text) in [("vec3f", "vec3<f32>"), ("mat4x2h", "mat4x2<f16>"), ("vec2u", "vec2<u32>")] {
+        assert_eq!(alias.parse::<Type>(), text.parse::<Type>());
+    }
+    assert!("vec5f".parse::<Type>().is_err());
+}
+
+#[test]
 fn what_is_no_spelling_has_a_place() {
-    for (text, offset) in [("", 0), ("vec3<float>", 5), ("array<f32, 4", 12), ("S", 0)] {
+    let spelled_otherwise = [("array<f32,4>", 0), ("f32 f32", 0), ("ptr<function, i32>", 0)];
+    let faulty = [("", 0), ("vec3<float>", 5), ("array<f32, 4", 12), ("S", 0)];
+    for (text, offset) in faulty.into_iter().chain(spelled_otherwise) {
         let error = text.parse::<Type>().unwrap_err();
         assert_eq!(error.offset, offset, "{text}: {error}");
         assert_eq!(error.to_string(), format!("column {}: {}", offset + 1, error.message));

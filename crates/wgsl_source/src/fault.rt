@@ -40,8 +40,6 @@ pub enum Cause {
     NotUtf8,
     ByteOrderMark,
     OpenComment,
-    /// A type, in another spelling than its own.
-    OtherSpelling,
     /// What stands there has no integer value that is known.
     NotInteger,
     /// A value that is known only when the pipeline is made.
@@ -156,7 +154,6 @@ impl Cause {
             Cause::ByteOrderMark => "a byte order mark, which WGSL does not have",
             Cause::OpenComment => "a comment has no end",
             Cause::NotUtf8 => "the text is not UTF-8 from here on",
-            Cause::OtherSpelling => "the type is spelled otherwise",
             Cause::NotInteger => "this has no integer value",
             Cause::KnownLater => "an override has a value only when the pipeline is made",
             Cause::Overflow => "an integer overflows",
