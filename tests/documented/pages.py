@@ -47,17 +47,17 @@ def counts():
     errors = variants("crates/wgsl_core/src/error.rt", "Error")
     return (
         ("README.md", r"the (\d+) signatures", signatures),
-        ("CONTRIBUTING.md", r"the (\d+) signatures", signatures),
+        ("docs/TESTS.md", r"the (\d+) signatures", signatures),
         ("docs/USING.md", r"the (\d+) named errors", errors),
     )
 
 
 def compare_programs():
-    """CONTRIBUTING.md has a row for each program in tests/."""
+    """docs/TESTS.md has a heading for each program in tests/."""
     folder = os.path.join(TOP, "tests")
     there = {f"tests/{name}" for name in os.listdir(folder) if is_program(os.path.join(folder, name))}
-    said = re.findall(r"^\| `(tests/\w+)` \|", read("CONTRIBUTING.md"), re.MULTILINE)
-    faults = [f"CONTRIBUTING.md: {sorted(set(said) ^ there)} is there or has a row, not both"] if set(said) != there else []
+    said = re.findall(r"^### `(tests/\w+)`$", read("docs", "TESTS.md"), re.MULTILINE)
+    faults = [f"docs/TESTS.md: {sorted(set(said) ^ there)} is there or has a heading, not both"] if set(said) != there else []
     return faults
 
 
