@@ -3,7 +3,9 @@ use std::hint::black_box;
 use wgsl_types_proved::builtin::{type_binary_op, type_builtin_fn, type_ctor, type_unary_op};
 use wgsl_types_proved::conv::{conversion_rank, convert_all_ty};
 use wgsl_types_proved::inst::LiteralInstance;
+use wgsl_types_proved::standard::{assign, load, type_of_index, type_of_member, Operand};
 use wgsl_types_proved::syntax::BinaryOperator::{self, Addition, Multiplication, ShiftLeft};
+use wgsl_types_proved::syntax::{AccessMode::ReadWrite, AddressSpace::Function};
 use wgsl_types_proved::syntax::{SampledType, UnaryOperator::Negation};
 use wgsl_types_proved::tplt::TpltParam;
 use wgsl_types_proved::ty::{StructType, TextureType, Type};
@@ -95,6 +97,29 @@ impl Call {
             }
             "call foo - f32" => self.function("foo", &[Type::F32]),
             "call abs - bool" => self.function("abs", &[Type::Bool]),
+            _ => return self.make_form(),
+        }
+        true
+    }
+}
+
+/// Forms of expressions and statements, by WGSL's rules.
+impl Call {
+    fn make_form(&self) -> bool {
+        let vector = Type::vector(3, Type::F32);
+        let behind = |ty| Operand::new(Type::Ref(Function, Box::new(ty), ReadWrite));
+        let (variable, number) = (behind(vector.clone()), behind(Type::F32));
+        let (vector, i, one) = (Operand::new(vector), Operand::new(Type::U32), Operand::new(INT));
+        match self.line.as_str() {
+            "member vec 3 f32 y" => self.repeat(|| type_of_member(black_box(&vector), "y")),
+            "member ref function read_write vec 3 f32 y" => {
+                self.repeat(|| type_of_member(black_box(&variable), "y"))
+            }
+            "index vec 3 f32 u32" => self.repeat(|| type_of_index(black_box(&vector), black_box(&i))),
+            "load ref function read_write f32" => self.repeat(|| load(black_box(&number))),
+            "assign = ref function read_write f32 AbstractInt" => {
+                self.repeat(|| assign(black_box(&number), black_box(&one)))
+            }
             _ => return false,
         }
         true
