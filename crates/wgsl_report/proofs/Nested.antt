@@ -39,6 +39,7 @@ innermost_in elements t e i r at is h u = (λ s. into ((h u).0 s), λ k. (h u).1
   where
     into : IsInnermost (take i elements) e u → IsInnermost elements t u
     into k = (e ∷ k.0, (i, at, is, k.1), k.2, k.3)
+
     out : (es : List MeasuredType) → AreNested elements t es → u ≡ last_of t es → element_index u.kind ≡ None → IsInnermost (take i elements) e u
     out [] s l n = let both : Some i ≡ None = sym at ∙ (sym (ap (λ (v : MeasuredType). element_index v.kind) l) ∙ n) in cc
     out (f ∷ es) s l n = let k = first_nested elements t e f i s.0 es at is s.1 s.2 s.3 in (es, k.1, l ∙ ap (λ v. last_of v es) k.0, n)
@@ -56,6 +57,7 @@ innermost_itself elements t none u = (λ s. into (same_Some t u s), λ k. out k.
   where
     into : t ≡ u → IsInnermost elements t u
     into e = ([], tt, sym e, subst (λ (v : MeasuredType). element_index v.kind ≡ None) e none)
+
     out : (es : List MeasuredType) → AreNested elements t es → u ≡ last_of t es → Some t ≡ Some u
     out [] s l = ap Some (sym l)
     out (f ∷ es) s l = let both : None ≡ Some s.0 = sym none ∙ s.1 in cc
@@ -97,8 +99,10 @@ outermost_in space elements t e i here r at is close none h n = (λ s. into ((h 
   where
     apart : NotTooClose space e
     apart m c = let both : None ≡ Some m = sym none ∙ (close m).1 c in cc
+
     into : IsOutermostTooClose space (take i elements) e n → IsOutermostTooClose space elements t n
     into k = (e ∷ k.0, k.1, (i, at, is, k.2), All-cons (NotTooClose space) e k.0 apart k.3, k.4)
+
     out : (outer : List MeasuredType) (f : MeasuredType) → AreNested elements t (outer ++ f ∷ []) → All (NotTooClose space) outer → IsTooClose space f n
         → IsOutermostTooClose space (take i elements) e n
     out [] f s all c = absurd (apart n (subst (λ v. IsTooClose space v n) (first_nested elements t e f i s.0 [] at is s.1 s.2 s.3).0 c))

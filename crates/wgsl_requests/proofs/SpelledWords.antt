@@ -277,9 +277,9 @@ run_alone word l = rw (ends_no_comma word l) (ap spaced (append-nil word) ∙ sp
 
 run_more : (word : List ℕ) (words : List (List ℕ)) (text : List ℕ) → Lacks 44 word → spaced (run words) ≡ text → spaced (run ((word ++ codes ",") ∷ words)) ≡ word ++ (codes ", " ++ text)
 run_more word words text l is = rw (ends_comma word) (
-  flat_map-append spaced_byte (word ++ codes ",") (run words)
-  ∙ (ap (λ front. front ++ spaced (run words)) (flat_map-append spaced_byte word (codes ",") ∙ ap (λ front. front ++ codes ", ") (spaced_plain word l))
-  ∙ (append_assoc word (codes ", ") (spaced (run words)) ∙ ap (λ rest. word ++ (codes ", " ++ rest)) is)))
+    flat_map-append spaced_byte (word ++ codes ",") (run words)
+    ∙ (ap (λ front. front ++ spaced (run words)) (flat_map-append spaced_byte word (codes ",") ∙ ap (λ front. front ++ codes ", ") (spaced_plain word l))
+    ∙ (append_assoc word (codes ", ") (spaced (run words)) ∙ ap (λ rest. word ++ (codes ", " ++ rest)) is)))
 
 after_alone : (word : List ℕ) → Lacks 44 word → after_run (word ∷ []) ≡ []
 after_alone word l = rw (ends_no_comma word l) refl

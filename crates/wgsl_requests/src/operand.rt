@@ -252,7 +252,10 @@ fn read_inside(alloc: Global, outer: Around, words: &mut Words) -> Result<Writte
     let word = words.next(Wanted::Type)?;
     match value_of(outer, word) {
         Some(value) => Ok(value),
-        None => built(alloc, read_layers(alloc, RuleSet::Standard, outer, word, words)),
+        None => built(
+            alloc,
+            read_layers(alloc, RuleSet::Standard, outer, word, words),
+        ),
     }
 }
 

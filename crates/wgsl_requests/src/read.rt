@@ -39,7 +39,12 @@ pub fn read_type(alloc: Global, rules: RuleSet, words: &mut Words) -> Result<Typ
 /// The type that begins with this word.
 #[cycle(reading)]
 #[inline(always)]
-pub fn read_type_at(alloc: Global, rules: RuleSet, word: &str, words: &mut Words) -> Result<Type, Fail<Misfit>>
+pub fn read_type_at(
+    alloc: Global,
+    rules: RuleSet,
+    word: &str,
+    words: &mut Words,
+) -> Result<Type, Fail<Misfit>>
     ensures goes_on { GoesOn words.old words.new }
     ensures read { Reads (TypeAt rules) view (word.now ∷ left words.old) (left words.new) result }
 {
@@ -67,7 +72,12 @@ fn read_scalar(word: &str) -> Option<Type>
 /// The type that begins with this word, which is neither a scalar nor a struct.
 #[cycle(reading)]
 #[inline(never)]
-fn read_other(alloc: Global, rules: RuleSet, word: &str, words: &mut Words) -> Result<Type, Fail<Misfit>>
+fn read_other(
+    alloc: Global,
+    rules: RuleSet,
+    word: &str,
+    words: &mut Words,
+) -> Result<Type, Fail<Misfit>>
     ensures goes_on { GoesOn words.old words.new }
     ensures read { Reads (OtherAt rules) view (word.now ∷ left words.old) (left words.new) result }
 {
@@ -80,7 +90,12 @@ fn read_other(alloc: Global, rules: RuleSet, word: &str, words: &mut Words) -> R
 /// The type with this layer around what the next words stand for.
 #[cycle(reading)]
 #[inline(never)]
-fn read_inside(alloc: Global, rules: RuleSet, outer: Around, words: &mut Words) -> Result<Type, Fail<Misfit>>
+fn read_inside(
+    alloc: Global,
+    rules: RuleSet,
+    outer: Around,
+    words: &mut Words,
+) -> Result<Type, Fail<Misfit>>
     ensures goes_on { GoesOn words.old words.new }
     ensures read { Reads (InsideAt rules outer) view (left words.old) (left words.new) result }
 {
@@ -138,7 +153,11 @@ fn read_next(count: usize, word: &str, words: &mut Words) -> Result<Option<Aroun
 
 /// The types that all words that are left stand for.
 #[inline(always)]
-pub fn read_types(alloc: Global, rules: RuleSet, words: &mut Words) -> Result<Vec<Type>, Fail<Misfit>>
+pub fn read_types(
+    alloc: Global,
+    rules: RuleSet,
+    words: &mut Words,
+) -> Result<Vec<Type>, Fail<Misfit>>
     ensures { Answers (λ types. TypesAt rules (left words.old) (map view types.items))
         ((ts : List WgslType) → TypesAt rules (left words.old) ts → ⊥) result }
 {
@@ -151,7 +170,11 @@ pub fn read_types(alloc: Global, rules: RuleSet, words: &mut Words) -> Result<Ve
 
 /// The two types that the words that are left stand for.
 #[inline(always)]
-pub fn read_pair(alloc: Global, rules: RuleSet, words: &mut Words) -> Result<[Type; 2], Fail<Misfit>>
+pub fn read_pair(
+    alloc: Global,
+    rules: RuleSet,
+    words: &mut Words,
+) -> Result<[Type; 2], Fail<Misfit>>
     ensures { Answers (λ types. TypesAt rules (left words.old) (map view types))
         ((t u : WgslType) → TypesAt rules (left words.old) (t ∷ u ∷ []) → ⊥) result }
 {
@@ -161,7 +184,11 @@ pub fn read_pair(alloc: Global, rules: RuleSet, words: &mut Words) -> Result<[Ty
 
 /// The type that the words that are left stand for.
 #[inline(always)]
-pub fn read_last_type(alloc: Global, rules: RuleSet, words: &mut Words) -> Result<Type, Fail<Misfit>>
+pub fn read_last_type(
+    alloc: Global,
+    rules: RuleSet,
+    words: &mut Words,
+) -> Result<Type, Fail<Misfit>>
     ensures { Answers (λ ty. TypeAt rules (left words.old) (view ty) [])
         ((t : WgslType) → TypeAt rules (left words.old) t [] → ⊥) result }
 {
@@ -177,7 +204,11 @@ pub fn read_last_type(alloc: Global, rules: RuleSet, words: &mut Words) -> Resul
 /// A struct: its name, the number of its members, and the members.
 #[cycle(reading)]
 #[inline(never)]
-pub(crate) fn read_struct(alloc: Global, rules: RuleSet, words: &mut Words) -> Result<Type, Fail<Misfit>>
+pub(crate) fn read_struct(
+    alloc: Global,
+    rules: RuleSet,
+    words: &mut Words,
+) -> Result<Type, Fail<Misfit>>
     ensures goes_on { GoesOn words.old words.new }
     ensures read { Reads (StructAt rules) view (left words.old) (left words.new) result }
 {
@@ -192,7 +223,11 @@ pub(crate) fn read_struct(alloc: Global, rules: RuleSet, words: &mut Words) -> R
 
 /// A member: its name, its attributes size and align, and its type.
 #[cycle(reading)]
-fn read_member(alloc: Global, rules: RuleSet, words: &mut Words) -> Result<StructMemberType, Fail<Misfit>>
+fn read_member(
+    alloc: Global,
+    rules: RuleSet,
+    words: &mut Words,
+) -> Result<StructMemberType, Fail<Misfit>>
     ensures goes_on { GoesOn words.old words.new }
     ensures read { Reads (MemberAt rules) member_view (left words.old) (left words.new) result }
 {

@@ -69,7 +69,7 @@ fn next_in_run<'t>(last: &str, words: &mut Words<'t>) -> Option<&'t str>
     ensures next { MatchOption result
         ((behind last.now (left words.old) ≡ []) × (after_run (last.now ∷ left words.old) ≡ left words.new))
         (λ next. (behind last.now (left words.old) ≡ run (next.now ∷ left words.new))
-            × (after_run (last.now ∷ left words.old) ≡ after_run (next.now ∷ left words.new))) }
+        × (after_run (last.now ∷ left words.old) ≡ after_run (next.now ∷ left words.new))) }
 {
     if !ends_in_comma(last) {
         return None;

@@ -34,7 +34,11 @@ pub fn read_template(
 }
 
 /// Parameters up to `>`.
-fn read_parameters(alloc: Global, rules: RuleSet, words: &mut Words) -> Result<Vec<TpltParam>, Fail<Misfit>>
+fn read_parameters(
+    alloc: Global,
+    rules: RuleSet,
+    words: &mut Words,
+) -> Result<Vec<TpltParam>, Fail<Misfit>>
     ensures { Reads (ParametersAt rules) (λ ps. map parameter_view ps.items)
         (left words.old) (left words.new) result }
 {
@@ -49,7 +53,12 @@ fn read_parameters(alloc: Global, rules: RuleSet, words: &mut Words) -> Result<V
 }
 
 /// A parameter: `t` and a type, `n` and a literal, or `e` and an enumerant.
-fn read_parameter(alloc: Global, rules: RuleSet, kind: &str, words: &mut Words) -> Result<TpltParam, Fail<Misfit>>
+fn read_parameter(
+    alloc: Global,
+    rules: RuleSet,
+    kind: &str,
+    words: &mut Words,
+) -> Result<TpltParam, Fail<Misfit>>
     ensures goes_on { GoesOn words.old words.new }
     ensures read { Reads (ParameterAt rules) parameter_view
         (kind.now ∷ left words.old) (left words.new) result }
