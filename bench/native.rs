@@ -115,7 +115,9 @@ impl Call {
             "member ref function read_write vec 3 f32 y" => {
                 self.repeat(|| type_of_member(black_box(&variable), "y"))
             }
-            "index vec 3 f32 u32" => self.repeat(|| type_of_index(black_box(&vector), black_box(&i))),
+            "index vec 3 f32 u32" => {
+                self.repeat(|| type_of_index(black_box(&vector), black_box(&i)))
+            }
             "load ref function read_write f32" => self.repeat(|| load(black_box(&number))),
             "assign = ref function read_write f32 AbstractInt" => {
                 self.repeat(|| assign(black_box(&number), black_box(&one)))
