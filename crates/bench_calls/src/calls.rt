@@ -4,6 +4,7 @@
 use crate::standard::{choices, standard_calls};
 use std::alloc::Global;
 use wgsl_requests::read::{read_last_type, read_pair, read_types};
+use wgsl_requests::rules::RuleSet;
 use wgsl_requests::template::read_template;
 use wgsl_requests::wanted::{Misfit, Wanted};
 use wgsl_requests::words::{Words, medium};
@@ -41,7 +42,7 @@ fn count<T: Drop>(answer: Result<T, Fail<Error>>) -> u64 {
 }
 
 fn ranks(alloc: Global, times: u32, words: &mut Words) -> Result<u64, Fail<Misfit>> {
-    let types = read_pair(alloc, words)?;
+    let types = read_pair(alloc, RuleSet::Ported, words)?;
     let mut given: u64 = 0;
     for _ in 0..times {
         let to = if given == u64::MAX {
@@ -56,7 +57,7 @@ fn ranks(alloc: Global, times: u32, words: &mut Words) -> Result<u64, Fail<Misfi
 }
 
 fn common_types(alloc: Global, times: u32, words: &mut Words) -> Result<u64, Fail<Misfit>> {
-    let types = read_types(alloc, words)?;
+    let types = read_types(alloc, RuleSet::Ported, words)?;
     let mut given: u64 = 0;
     for _ in 0..times {
         let list: &[Type] = if given == u64::MAX { &[] } else { &types };
@@ -71,7 +72,7 @@ fn unaries(alloc: Global, times: u32, words: &mut Words) -> Result<u64, Fail<Mis
         "-" => UnaryOperator::Negation,
         _ => return Err(Fail::Error(Misfit::Wrong(Wanted::UnaryOperator))),
     };
-    let operand = read_last_type(alloc, words)?;
+    let operand = read_last_type(alloc, RuleSet::Ported, words)?;
     let mut given: u64 = 0;
     for _ in 0..times {
         let answer = type_unary_op(alloc, operator, &operand);
@@ -88,7 +89,7 @@ fn binaries(alloc: Global, times: u32, words: &mut Words) -> Result<u64, Fail<Mi
         "<<" => BinaryOperator::ShiftLeft,
         _ => return Err(Fail::Error(Misfit::Wrong(Wanted::BinaryOperator))),
     };
-    let types = read_pair(alloc, words)?;
+    let types = read_pair(alloc, RuleSet::Ported, words)?;
     let mut given: u64 = 0;
     for _ in 0..times {
         let answer = type_binary_op(alloc, operator, &types[0], &types[1]);
@@ -100,7 +101,7 @@ fn binaries(alloc: Global, times: u32, words: &mut Words) -> Result<u64, Fail<Mi
 
 fn sizes(alloc: Global, times: u32, words: &mut Words) -> Result<u64, Fail<Misfit>> {
     let other = Type::F32;
-    let ty = read_last_type(alloc, words)?;
+    let ty = read_last_type(alloc, RuleSet::Ported, words)?;
     let mut given: u64 = 0;
     for _ in 0..times {
         let of = if given == u64::MAX { &other } else { &ty };
@@ -113,8 +114,8 @@ fn sizes(alloc: Global, times: u32, words: &mut Words) -> Result<u64, Fail<Misfi
 
 fn constructors(alloc: Global, times: u32, words: &mut Words) -> Result<u64, Fail<Misfit>> {
     let name = words.next(Wanted::Name)?;
-    let template = read_template(alloc, words)?;
-    let types = read_types(alloc, words)?;
+    let template = read_template(alloc, RuleSet::Ported, words)?;
+    let types = read_types(alloc, RuleSet::Ported, words)?;
     let mut given: u64 = 0;
     for _ in 0..times {
         let answer = type_ctor(alloc, name, template.as_deref(), &types);
@@ -127,8 +128,8 @@ fn constructors(alloc: Global, times: u32, words: &mut Words) -> Result<u64, Fai
 
 fn calls(alloc: Global, times: u32, words: &mut Words) -> Result<u64, Fail<Misfit>> {
     let name = words.next(Wanted::Name)?;
-    let template = read_template(alloc, words)?;
-    let types = read_types(alloc, words)?;
+    let template = read_template(alloc, RuleSet::Ported, words)?;
+    let types = read_types(alloc, RuleSet::Ported, words)?;
     let mut given: u64 = 0;
     for _ in 0..times {
         let answer = type_builtin_fn(alloc, name, template.as_deref(), &types);

@@ -3,6 +3,7 @@ ghost use Rattle.wgsl_rules.specs.standard.Tables.{IsUnambiguous};
 
 use std::alloc::{AllocError, Global};
 use wgsl_requests::read::read_types;
+use wgsl_requests::rules::RuleSet;
 use wgsl_requests::wanted::{Misfit, Wanted};
 use wgsl_requests::words::Words;
 use wgsl_standard::resolve::resolve;
@@ -14,7 +15,7 @@ use wgsl_types::ty::Type;
 /// Makes the choice alone for an operator or a function, and counts the choices that find an overload.
 pub fn choices(alloc: Global, times: u32, words: &mut Words) -> Result<u64, Fail<Misfit>> {
     let name = words.next(Wanted::Name)?;
-    let types = read_types(alloc, words)?;
+    let types = read_types(alloc, RuleSet::Standard, words)?;
     let operands = operands_of(alloc, &types)?;
     let given = match overloads(callee(name), false) {
         Some(overloads) => count(times, overloads, &operands),
@@ -43,7 +44,7 @@ fn count(times: u32, overloads: &[Overload], operands: &[Operand<'_>]) -> u64
 /// Makes the call of a function, and counts the calls that have a result.
 pub fn standard_calls(alloc: Global, times: u32, words: &mut Words) -> Result<u64, Fail<Misfit>> {
     let name = words.next(Wanted::Name)?;
-    let types = read_types(alloc, words)?;
+    let types = read_types(alloc, RuleSet::Standard, words)?;
     let operands = operands_of(alloc, &types)?;
     let mut given: u64 = 0;
     for _ in 0..times {
