@@ -137,7 +137,10 @@ impl FromStr for Type {
 fn why_not(text: &str) -> SpellingError {
     let fault = match spelling_of(Global, text) {
         Ok(spelling) => {
-            return SpellingError { offset: 0, message: format!("the type is spelled `{spelling}`") }
+            return SpellingError {
+                offset: 0,
+                message: format!("the type is spelled `{spelling}`"),
+            }
         }
         Err(Stop::Fault(fault)) => fault,
         Err(Stop::Elsewhere) => Fault { at: 0, cause: Cause::Expected(Expected::Type) },

@@ -40,7 +40,9 @@ fn has_struct(ty: &Type) -> bool {
 
 #[test]
 fn an_alias_is_read() {
-    for (alias, text) in [("vec3f", "vec3<f32>"), ("mat4x2h", "mat4x2<f16>"), ("vec2u", "vec2<u32>")] {
+    for (alias, text) in
+        [("vec3f", "vec3<f32>"), ("mat4x2h", "mat4x2<f16>"), ("vec2u", "vec2<u32>")]
+    {
         assert_eq!(alias.parse::<Type>(), text.parse::<Type>());
     }
     assert!("vec5f".parse::<Type>().is_err());
