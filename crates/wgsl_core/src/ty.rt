@@ -15,7 +15,7 @@ pub mod form;
 mod kinds;
 pub mod result_struct;
 pub mod result_type;
-mod show;
+pub mod show;
 
 use crate::error::{Error, Fail};
 use crate::ty::form::Form;

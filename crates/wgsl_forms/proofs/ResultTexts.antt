@@ -8,11 +8,11 @@ use Rattle.wgsl_syntax.specs.declared.result_struct.ResultShape.TheVariants as s
 use Rattle.wgsl_syntax.specs.declared.result_struct.ResultPrecision.TheVariants as precision
 use Rattle.wgsl_rules.specs.types.Types.{Members, struct}
 use Rattle.wgsl_rules.specs.types.ResultStructs.{result_struct}
-use Rattle.wgsl_rules.specs.types.Spelling.{spelling}
+use Rattle.wgsl_rules.specs.types.Spelling.{wgsl_spelling}
 use Rattle.wgsl_forms.specs.Concrete.{concrete_of, concrete_result, abstract_result}
 use Rattle.wgsl_forms.specs.internal.Results.{in_f32}
 
-by_cases : (f : ResultFunction) (s : ResultShape) → result_name (in_f32 (f, s)) ≡ spelling (result_struct f s precision.F32)
+by_cases : (f : ResultFunction) (s : ResultShape) → result_name (in_f32 (f, s)) ≡ wgsl_spelling (result_struct f s precision.F32)
 unfolding result_struct
 by_cases Frexp shape.Scalar = refl
 by_cases Frexp shape.Vec2 = refl
@@ -24,5 +24,5 @@ by_cases Modf shape.Vec3 = refl
 by_cases Modf shape.Vec4 = refl
 
 -- the text of the concrete struct for the result struct of an abstract float
-pub concrete_text : (name : List ℕ) (ms : Members) (r : ResultFunction × ResultShape) → abstract_result (struct name ms) ≡ Some r → result_name (in_f32 r) ≡ spelling (concrete_of (struct name ms))
-concrete_text name ms r e = by_cases r.0 r.1 ∙ ap (λ o. spelling (concrete_result (struct name ms) o)) (sym e)
+pub concrete_text : (name : List ℕ) (ms : Members) (r : ResultFunction × ResultShape) → abstract_result (struct name ms) ≡ Some r → result_name (in_f32 r) ≡ wgsl_spelling (concrete_of (struct name ms))
+concrete_text name ms r e = by_cases r.0 r.1 ∙ ap (λ o. wgsl_spelling (concrete_result (struct name ms) o)) (sym e)

@@ -1,7 +1,7 @@
 // Abstract types, and the concrete type for each.
 ghost use Rattle.std.specs.Prelude.{◌≡◌, IfOk};
 ghost use Rattle.std.specs.Fmt.{WritesOnOk};
-ghost use Rattle.wgsl_rules.specs.types.Spelling.{spelling};
+ghost use Rattle.wgsl_rules.specs.types.Spelling.{wgsl_spelling};
 ghost use Rattle.wgsl_rules.specs.types.Types.{mat, scalar as scalar_type};
 ghost use Rattle.wgsl_rules.specs.standard.Overloads.{type_with};
 ghost use Rattle.wgsl_core.specs.View.{view, struct_view};
@@ -9,7 +9,7 @@ ghost use Rattle.wgsl_core.specs.ResultStruct.{struct_type};
 ghost use Rattle.wgsl_standard.specs.Operands.{given_type};
 ghost use Rattle.wgsl_forms.specs.Concrete.{abstract_result as abstract_there, has_abstract_type as abstract_type, concrete_of};
 ghost use Rattle.wgsl_forms.specs.Views.{element_view};
-ghost use Rattle.wgsl_forms.specs.internal.Results.{abstract_name, count_end, in_f32};
+ghost use Rattle.wgsl_forms.specs.internal.Results.{abstract_name, in_f32};
 
 use crate::form::Element;
 use std::alloc::{AllocError, Global};
@@ -17,11 +17,13 @@ use std::fmt;
 use std::fmt::Write;
 use wgsl_core::ty::form::Form;
 use wgsl_core::ty::result_type::result_struct;
+use wgsl_core::ty::show::{write_count, write_type};
 use wgsl_core::ty::{StructType, Type};
 use wgsl_standard::operand::OperandType;
 use wgsl_syntax::overload::Dimensions;
 use wgsl_syntax::result_struct::{ResultFunction, ResultPrecision, ResultShape, ResultStruct};
 use wgsl_syntax::scalar::Scalar;
+use wgsl_syntax::texel::FormatNames;
 
 /// The function and the shape of the result struct of an abstract float.
 #[tactic(auto, using(crate::proofs::AbstractResults::recognised))]
@@ -170,11 +172,11 @@ fn in_f32(of: (ResultFunction, ResultShape)) -> ResultStruct
 
 impl fmt::Display for ConcreteType<'_> {
     ghost use Rattle.std.specs.Prelude.{Some};
-    ghost use Rattle.wgsl_rules.specs.types.Spelling.{spelling};
+    ghost use Rattle.wgsl_rules.specs.types.Spelling.{wgsl_spelling};
     ghost use Rattle.wgsl_core.specs.View.{view};
     ghost use Rattle.wgsl_forms.specs.Concrete.{concrete_of};
 
-    ghost output = { λ t. Some (spelling (concrete_of (view t.of.now))) };
+    ghost output = { λ t. Some (wgsl_spelling (concrete_of (view t.of.now))) };
 
     fn fmt<W: Write>(&self, f: &mut fmt::Formatter<W>) -> fmt::Result {
         write_concrete(f, self.of)
@@ -184,7 +186,7 @@ impl fmt::Display for ConcreteType<'_> {
 /// Writes the concrete type for a type.
 fn write_concrete<W: Write>(f: &mut fmt::Formatter<W>, ty: &Type) -> fmt::Result
     ensures { WritesOnOk W.write_str_gives f.old result
-        (spelling (concrete_of (view ty.now))) f.new }
+        (wgsl_spelling (concrete_of (view ty.now))) f.new }
 {
     match ty.form() {
         Form::Scalar(scalar) => write!(f, "{}", concrete_scalar(scalar)),
@@ -200,34 +202,26 @@ fn write_concrete<W: Write>(f: &mut fmt::Formatter<W>, ty: &Type) -> fmt::Result
         }
         Form::Matrix(c, r, t) => write_concrete_matrix(f, c, r, t),
         Form::Struct(s) => write_concrete_struct(f, s),
-        _ => write!(f, "{ty}"),
-    }
-}
-
-/// Writes the end of an array's type.
-fn write_count<W: Write>(f: &mut fmt::Formatter<W>, count: Option<usize>) -> fmt::Result
-    ensures { WritesOnOk W.write_str_gives f.old result (count_end count) f.new }
-{
-    match count {
-        None => f.write_str(">"),
-        Some(n) => write!(f, ", {n}>"),
+        _ => write_type(f, FormatNames::Wgsl, ty),
     }
 }
 
 fn write_concrete_matrix<W: Write>(f: &mut fmt::Formatter<W>, c: u8, r: u8, t: &Type) -> fmt::Result
     ensures { WritesOnOk W.write_str_gives f.old result
-        (spelling (concrete_of (mat c r (view t.now)))) f.new }
+        (wgsl_spelling (concrete_of (mat c r (view t.now)))) f.new }
 {
     if has_abstract_type(t) {
         write!(f, "mat{c}x{r}<f32>")
     } else {
-        write!(f, "mat{c}x{r}<{t}>")
+        write!(f, "mat{c}x{r}<")?;
+        write_type(f, FormatNames::Wgsl, t)?;
+        f.write_str(">")
     }
 }
 
 fn write_concrete_struct<W: Write>(f: &mut fmt::Formatter<W>, s: &StructType) -> fmt::Result
     ensures { WritesOnOk W.write_str_gives f.old result
-        (spelling (concrete_of (struct_type (struct_view s.now)))) f.new }
+        (wgsl_spelling (concrete_of (struct_type (struct_view s.now)))) f.new }
 {
     match abstract_result(s) {
         Some(of) => f.write_str(in_f32(of).name()),

@@ -11,11 +11,13 @@ use std::alloc::{AllocError, Global};
 use std::fmt;
 use std::fmt::Write;
 use wgsl_core::ty::Type;
+use wgsl_core::ty::show::write_type;
 use wgsl_standard::operand::OperandType;
 use wgsl_syntax::address::{AccessMode, AddressSpace};
 use wgsl_syntax::layer::Layer;
 use wgsl_syntax::overload::Dimensions;
 use wgsl_syntax::scalar::Scalar;
+use wgsl_syntax::texel::FormatNames;
 
 /// A type that isn't built, or that is another type made concrete.
 #[derive(Clone, Copy)]
@@ -175,17 +177,17 @@ impl<'a> FormType<'a> {
 
 impl fmt::Display for Element<'_> {
     ghost use Rattle.std.specs.Prelude.{Some};
-    ghost use Rattle.wgsl_rules.specs.types.Spelling.{spelling};
+    ghost use Rattle.wgsl_rules.specs.types.Spelling.{wgsl_spelling};
     ghost use Rattle.wgsl_forms.specs.Views.{element_view};
 
-    ghost output = { λ e. Some (spelling (element_view e)) };
+    ghost output = { λ e. Some (wgsl_spelling (element_view e)) };
 
     fn fmt<W: Write>(&self, f: &mut fmt::Formatter<W>) -> fmt::Result {
         match self {
             Element::Value(dimensions, scalar) => {
                 write!(f, "{}", OperandType::Value(*dimensions, *scalar))
             }
-            Element::Any(ty) => write!(f, "{ty}"),
+            Element::Any(ty) => write_type(f, FormatNames::Wgsl, ty),
             Element::Concrete(of) => write!(f, "{}", ConcreteType { of: *of }),
         }
     }
@@ -193,10 +195,10 @@ impl fmt::Display for Element<'_> {
 
 impl fmt::Display for UnbuiltType<'_> {
     ghost use Rattle.std.specs.Prelude.{Some};
-    ghost use Rattle.wgsl_rules.specs.types.Spelling.{spelling};
+    ghost use Rattle.wgsl_rules.specs.types.Spelling.{wgsl_spelling};
     ghost use Rattle.wgsl_forms.specs.Views.{unbuilt_view};
 
-    ghost output = { λ t. Some (spelling (unbuilt_view t)) };
+    ghost output = { λ t. Some (wgsl_spelling (unbuilt_view t)) };
 
     fn fmt<W: Write>(&self, f: &mut fmt::Formatter<W>) -> fmt::Result {
         let of = self.element;
@@ -212,10 +214,10 @@ impl fmt::Display for UnbuiltType<'_> {
 
 impl fmt::Display for FormType<'_> {
     ghost use Rattle.std.specs.Prelude.{Some};
-    ghost use Rattle.wgsl_rules.specs.types.Spelling.{spelling};
+    ghost use Rattle.wgsl_rules.specs.types.Spelling.{wgsl_spelling};
     ghost use Rattle.wgsl_forms.specs.Views.{form_type_view};
 
-    ghost output = { λ t. Some (spelling (form_type_view t)) };
+    ghost output = { λ t. Some (wgsl_spelling (form_type_view t)) };
 
     fn fmt<W: Write>(&self, f: &mut fmt::Formatter<W>) -> fmt::Result {
         let of = self.of;

@@ -5,9 +5,8 @@ use std::alloc::{AllocError, Global};
 use wgsl_source::measured::{Count, MeasuredType, TypeKind};
 use wgsl_source::module::Module;
 use wgsl_syntax::attribute::AccelerationStructureFlags;
-use wgsl_syntax::texel::TexelFormat;
-use wgsl_syntax::texture::TextureType;
-use wgsl_syntax::texture_name::TextureParameters;
+use wgsl_syntax::texel::FormatNames;
+use wgsl_syntax::texture::ShownTexture;
 
 /// The spelling of a type.
 pub fn type_text(alloc: Global, module: &Module, ty: MeasuredType) -> Result<String, AllocError> {
@@ -62,32 +61,18 @@ fn write_leaf(text: &mut String, module: &Module, kind: TypeKind) -> Result<(), 
             None => Ok(()),
         },
         TypeKind::Sampler(sampler) => write!(text, "{sampler}"),
-        TypeKind::Texture(texture) => write_texture(text, texture),
+        TypeKind::Texture(texture) => {
+            let shown = ShownTexture {
+                texture,
+                names: FormatNames::Wgsl,
+            };
+            write!(text, "{shown}")
+        }
         TypeKind::RayQuery(flag) => write_flagged(text, "ray_query", flag),
         TypeKind::AccelerationStructure(flag) => {
             write_flagged(text, "acceleration_structure", flag)
         }
         TypeKind::Array(_, _) | TypeKind::BindingArray(_, _) | TypeKind::Pointer(_, _, _) => Ok(()),
-    }
-}
-
-fn write_texture(text: &mut String, texture: TextureType) -> Result<(), AllocError> {
-    match texture.parameters() {
-        TextureParameters::Storage(format, access) => {
-            let name = texture.name();
-            write!(text, "{name}<")?;
-            write_format(text, format)?;
-            write!(text, ", {access}>")
-        }
-        _ => write!(text, "{texture}"),
-    }
-}
-
-/// Writes WGSL's name of a texel format, which is not naga's for one of them.
-pub fn write_format(text: &mut String, format: TexelFormat) -> Result<(), AllocError> {
-    match format {
-        TexelFormat::Rg11b10Float => text.push_str("rg11b10ufloat"),
-        _ => write!(text, "{format}"),
     }
 }
 

@@ -7,6 +7,7 @@ use Rattle.wgsl_syntax.specs.Address.{access_text, space_text}
 use Rattle.wgsl_syntax.specs.Names.{named, table}
 use Rattle.wgsl_syntax.specs.Scalar.{scalar_text, scalars}
 use Rattle.wgsl_syntax.specs.Texture.{sampler_text, samplers, texture_name}
+use Rattle.wgsl_syntax.specs.TextureName.{parameters_of}
 use Rattle.wgsl_syntax.specs.declared.address.AccessMode.{AccessMode}
 use Rattle.wgsl_syntax.specs.declared.address.AddressSpace.{AddressSpace}
 use Rattle.wgsl_syntax.specs.declared.scalar.Scalar.{Scalar}
@@ -23,7 +24,7 @@ use Rattle.wgsl_rules.specs.types.Around.{around}
 use Rattle.wgsl_syntax.specs.declared.attribute.AccelerationStructureFlags.{AccelerationStructureFlags}
 use Rattle.wgsl_spelled.specs.Spells.{Spells}
 use Rattle.wgsl_spelled.proofs.Single.{one_spelled}
-use Rattle.wgsl_requests.specs.Grammar.{FlagAt, IsFlag, LayerAt, LeafAt, TypeAt, acceleration_structure_at, array_at, atomic_at, binding_array_at, flag_at, layer_at, leaf_at, mat_at, no_flag_at, ptr_at, ray_query_at, ref_at, sampler_at, scalar_at, spelled_at, struct_at, texture_at, texture_words, vec_at}
+use Rattle.wgsl_requests.specs.Grammar.{FlagAt, IsFlag, LayerAt, LeafAt, TypeAt, acceleration_structure_at, array_at, atomic_at, binding_array_at, flag_at, layer_at, leaf_at, mat_at, no_flag_at, ptr_at, ray_query_at, ref_at, sampler_at, scalar_at, spelled_at, struct_at, TextureListAt, texture_at, vec_at}
 use Rattle.wgsl_requests.specs.Numbers.{IsCount, IsSmall}
 use Rattle.wgsl_requests.specs.Reading.{Beginning, IsText, NoneAt, OneWord, Then}
 use Rattle.wgsl_requests.specs.internal.Layers.{InLayerAt, OtherAt}
@@ -45,11 +46,11 @@ LeafForm rules (word ∷ words) t rest =
     (MatchOption (named (table sampler_text samplers) word) (SpelledOrTextureAt rules (word ∷ words) t rest) (λ s. (t ≡ sampler s) × (words ≡ rest))))
 
 -- a name of a texture begins no spelling
-texture_leaf : (rules : RuleSet) (x : TextureType) (rest : List (List ℕ)) → LeafForm rules (texture_name x ∷ (texture_words x ++ rest)) (texture x) rest
-texture_leaf Ported External rest = (External, refl, refl)
-texture_leaf Ported x rest = (x, refl, refl)
-texture_leaf Standard External rest = (External, refl, refl)
-texture_leaf Standard x rest = (x, refl, refl)
+texture_leaf : (rules : RuleSet) (x : TextureType) (words rest : List (List ℕ)) → TextureListAt rules words (parameters_of x) rest → LeafForm rules (texture_name x ∷ words) (texture x) rest
+texture_leaf Ported External words rest d = (External, (words, refl, d), refl)
+texture_leaf Ported x words rest d = (x, (words, refl, d), refl)
+texture_leaf Standard External words rest d = (External, (words, refl, d), refl)
+texture_leaf Standard x words rest d = (x, (words, refl, d), refl)
 
 spelled_leaf : (word : List ℕ) (words : List (List ℕ)) (t : WgslType) → is_spelled word ≡ true → Spells (spaced (run (word ∷ words))) t → LeafForm Standard (word ∷ words) t (after_run (word ∷ words))
 spelled_leaf word words t e s =
@@ -62,7 +63,7 @@ leaf_form (ray_query_at {f} d) = (f, d, refl)
 leaf_form (acceleration_structure_at {f} d) = (f, d, refl)
 leaf_form (sampler_at Sampler) = (refl, refl)
 leaf_form (sampler_at _) = (refl, refl)
-leaf_form (texture_at {rules} {rest} x) = texture_leaf rules x rest
+leaf_form (texture_at {rules} {words} {rest} x d) = texture_leaf rules x words rest d
 leaf_form (spelled_at {word} {words} {t} e s) = spelled_leaf word words t e s
 
 one_sampler : (words : List (List ℕ)) (t u : WgslType) (rest more : List (List ℕ)) (s : SamplerType) → (t ≡ sampler s) × (words ≡ rest) → (u ≡ sampler s) × (words ≡ more) → (t ≡ u) × (rest ≡ more)
@@ -74,7 +75,7 @@ one_spelled_at words t u rest more f g = (one_spelled f.0 u g.0, f.1 ∙ sym g.1
 one_spelled_or_texture : (rules : RuleSet) → OneThing (SpelledOrTextureAt rules)
 one_spelled_or_texture rules [] t u rest more f g = absurd f
 one_spelled_or_texture rules (word ∷ words) t u rest more f g =
-    both_bool _ _ _ _ _ _ (one_spelled_at (word ∷ words) t u rest more) (one_made TextureAt texture one_texture (word ∷ words) t u rest more) f g
+    both_bool _ _ _ _ _ _ (one_spelled_at (word ∷ words) t u rest more) (one_made (TextureAt rules) texture (one_texture rules) (word ∷ words) t u rest more) f g
 
 -- what a flag is: a word for one, or nothing
 abbrev FlagForm : RuleSet → List (List ℕ) → Option AccelerationStructureFlags → List (List ℕ) → Type 0
@@ -173,11 +174,10 @@ pub scalar_both : (rules : RuleSet) (s : Scalar) (words : List (List ℕ)) (u : 
 scalar_both rules BoolScalar words u more = (λ x. x, λ x. x)
 scalar_both rules _ words u more = (λ x. x, λ x. x)
 
-texture_both : (rules : RuleSet) (x : TextureType) (rest : List (List ℕ)) (u : WgslType) (more : List (List ℕ)) →
-    (LeafAt rules (texture_name x ∷ (texture_words x ++ rest)) u more → Form rules (texture_name x ∷ (texture_words x ++ rest)) u more)
-    × (Form rules (texture_name x ∷ (texture_words x ++ rest)) u more → LeafAt rules (texture_name x ∷ (texture_words x ++ rest)) u more)
-texture_both rules External rest u more = (λ x. x, λ x. x)
-texture_both rules _ rest u more = (λ x. x, λ x. x)
+texture_both : (rules : RuleSet) (x : TextureType) (words : List (List ℕ)) (u : WgslType) (more : List (List ℕ)) →
+    (LeafAt rules (texture_name x ∷ words) u more → Form rules (texture_name x ∷ words) u more) × (Form rules (texture_name x ∷ words) u more → LeafAt rules (texture_name x ∷ words) u more)
+texture_both rules External words u more = (λ x. x, λ x. x)
+texture_both rules _ words u more = (λ x. x, λ x. x)
 
 spelled_both : (word : List ℕ) (words : List (List ℕ)) (u : WgslType) (more : List (List ℕ)) → is_spelled word ≡ true →
     (LeafAt Standard (word ∷ words) u more → Form Standard (word ∷ words) u more) × (Form Standard (word ∷ words) u more → LeafAt Standard (word ∷ words) u more)
@@ -193,7 +193,7 @@ leaf_both (ray_query_at f) u more = (λ x. x, λ x. x)
 leaf_both (acceleration_structure_at f) u more = (λ x. x, λ x. x)
 leaf_both (sampler_at Sampler) u more = (λ x. x, λ x. x)
 leaf_both (sampler_at _) u more = (λ x. x, λ x. x)
-leaf_both (texture_at {rules} {rest} x) u more = texture_both rules x rest u more
+leaf_both (texture_at {rules} {words} x d) u more = texture_both rules x words u more
 leaf_both (spelled_at {word} {words} e s) u more = spelled_both word words u more e
 
 pub layer_both : {rules : RuleSet} {words rest : List (List ℕ)} {layer : Around} → LayerAt words layer rest → (u : WgslType) (more : List (List ℕ)) →

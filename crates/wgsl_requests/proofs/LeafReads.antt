@@ -42,14 +42,14 @@ module _ (word : List ℕ) (words : List (List ℕ)) where
   pub sampler_read : {rules : RuleSet} (s : SamplerType) (t : WgslType) → word ≡ sampler_text s → t ≡ sampler s → LeafAt rules (word ∷ words) t words
   sampler_read {rules} s t is seen = subst (λ t. LeafAt rules (word ∷ words) t words) (sym seen) (leaf_keyed (sampler_text s) (sampler s) words is (sampler_at s))
 
-  of_texture : {rules : RuleSet} (x : TextureType) (t : WgslType) (rest : List (List ℕ)) → t ≡ texture x → TextureAt (word ∷ words) x rest → LeafAt rules (word ∷ words) t rest
-  of_texture {rules} x t rest seen d = subst (λ t. LeafAt rules (word ∷ words) t rest) (sym seen) (subst (λ ws. LeafAt rules ws (texture x) rest) (sym d) (texture_at x))
+  of_texture : {rules : RuleSet} (x : TextureType) (t : WgslType) (rest : List (List ℕ)) → t ≡ texture x → TextureAt rules (word ∷ words) x rest → LeafAt rules (word ∷ words) t rest
+  of_texture {rules} x t rest seen d = subst (λ t. LeafAt rules (word ∷ words) t rest) (sym seen) (subst (λ ws. LeafAt rules ws (texture x) rest) (sym d.1) (texture_at x d.2))
 
   pub spelled_or_texture_by : (rules : RuleSet) (t : WgslType) (rest : List (List ℕ)) → SpelledOrTextureAt rules (word ∷ words) t rest → LeafAt rules (word ∷ words) t rest
   spelled_or_texture_by Ported t rest f = of_texture f.0 t rest f.2 f.1
   spelled_or_texture_by Standard t rest f = by (is_spelled word) refl f
     where
-      by : (b : Bool) → is_spelled word ≡ b → MatchBool b (SpelledAt (word ∷ words) t rest) (Made TextureAt texture (word ∷ words) t rest) → LeafAt Standard (word ∷ words) t rest
+      by : (b : Bool) → is_spelled word ≡ b → MatchBool b (SpelledAt (word ∷ words) t rest) (Made (TextureAt Standard) texture (word ∷ words) t rest) → LeafAt Standard (word ∷ words) t rest
       by true e f = subst (λ ws. LeafAt Standard (word ∷ words) t ws) (sym f.1) (spelled_at e f.0)
       by false e f = of_texture f.0 t rest f.2 f.1
 
@@ -68,10 +68,10 @@ module _ (rules : RuleSet) (word : List ℕ) (words : List (List ℕ)) where
       answers_by (λ x. SpelledAt (word ∷ words) (view x) after) (λ x. SpelledOrTextureAt rules (word ∷ words) (view x) after) (NoneAt SpelledAt (word ∷ words)) (NoneAt (SpelledOrTextureAt rules) (word ∷ words))
       (λ x d. into_here _ _ _ e d) (λ none t rest d. none t rest (here _ _ _ e d)) r h
 
-  pub texture_read : (x : TextureType) (t : WgslType) (rest : List (List ℕ)) → begins_spelling rules word ≡ false → t ≡ texture x → TextureAt (word ∷ words) x rest → SpelledOrTextureAt rules (word ∷ words) t rest
+  pub texture_read : (x : TextureType) (t : WgslType) (rest : List (List ℕ)) → begins_spelling rules word ≡ false → t ≡ texture x → TextureAt rules (word ∷ words) x rest → SpelledOrTextureAt rules (word ∷ words) t rest
   texture_read x t rest e seen d = into_past _ _ _ e (x, d, seen)
 
-  pub no_texture : begins_spelling rules word ≡ false → NoneAt TextureAt (word ∷ words) → NoneAt (SpelledOrTextureAt rules) (word ∷ words)
+  pub no_texture : begins_spelling rules word ≡ false → NoneAt (TextureAt rules) (word ∷ words) → NoneAt (SpelledOrTextureAt rules) (word ∷ words)
   no_texture e none t rest d = let f = past _ _ _ e d in none f.0 rest f.1
 
 -- a flag, or nothing where none comes next

@@ -54,7 +54,7 @@ leaf_no_layer (ray_query_at f) e = cc e
 leaf_no_layer (acceleration_structure_at f) e = cc e
 leaf_no_layer (sampler_at Sampler) e = cc e
 leaf_no_layer (sampler_at _) e = cc e
-leaf_no_layer (texture_at x) e = texture_no_layer x e
+leaf_no_layer (texture_at x d) e = texture_no_layer x e
 leaf_no_layer (spelled_at {word} spelled s) e = let no : true ≡ false = sym e ∙ no_layer_word word spelled in cc no
 
 -- a type that begins with the word of a layer is inside one

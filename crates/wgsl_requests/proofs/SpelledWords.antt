@@ -7,8 +7,8 @@ use Rattle.std.proofs.lemmas.List.{append_assoc, append-nil}
 use Rattle.wgsl_syntax.specs.Address.{access_text, space_text}
 use Rattle.wgsl_syntax.specs.Attribute.{flag_text}
 use Rattle.wgsl_syntax.specs.Scalar.{scalar_text}
-use Rattle.wgsl_syntax.specs.Texel.{texel_text}
-use Rattle.wgsl_syntax.specs.Texture.{sampled_text, sampler_text, texture_name, texture_text}
+use Rattle.wgsl_syntax.specs.Texel.{texel_text_by}
+use Rattle.wgsl_syntax.specs.Texture.{sampled_text, sampler_text, texture_name, texture_text_by}
 use Rattle.wgsl_syntax.specs.TextureName.{parameters_of}
 use Rattle.wgsl_syntax.specs.declared.address.AccessMode.{AccessMode}
 use Rattle.wgsl_syntax.specs.declared.address.AccessMode.TheVariants as access
@@ -20,6 +20,8 @@ use Rattle.wgsl_syntax.specs.declared.attribute.AccelerationStructureFlags.{Acce
 use Rattle.wgsl_syntax.specs.declared.attribute.AccelerationStructureFlags.TheVariants.{VertexReturn}
 use Rattle.wgsl_syntax.specs.declared.scalar.Scalar.{Scalar}
 use Rattle.wgsl_syntax.specs.declared.scalar.Scalar.TheVariants as scalars
+use Rattle.wgsl_syntax.specs.declared.texel.FormatNames.{FormatNames}
+use Rattle.wgsl_syntax.specs.declared.texel.FormatNames.TheVariants as names
 use Rattle.wgsl_syntax.specs.declared.texel.TexelFormat.{TexelFormat}
 use Rattle.wgsl_syntax.specs.declared.texel.TexelFormat.TheVariants as texels
 use Rattle.wgsl_syntax.specs.declared.texture.SampledType.{SampledType}
@@ -31,18 +33,18 @@ use Rattle.wgsl_syntax.specs.declared.texture.TextureType.TheVariants as texture
 use Rattle.wgsl_syntax.specs.declared.texture_name.TextureParameters.{TextureParameters}
 use Rattle.wgsl_syntax.specs.declared.texture_name.TextureParameters.TheVariants as parameters
 use Rattle.wgsl_rules.specs.types.Around.{around}
-use Rattle.wgsl_rules.specs.types.Spelling.{flagged, spelling}
+use Rattle.wgsl_rules.specs.types.Spelling.{flagged, spelling_by}
 use Rattle.wgsl_rules.specs.types.Types.{WgslType, scalar, sampler, texture, ray_query, acceleration_structure}
 use Rattle.wgsl_spelled.specs.Spells.{IsInRange, Spells, acceleration_structure_is, alias_is, alias_of, around_is, list_of, name_of, ray_query_is, sampler_is, scalar_is, texture_is, with_list}
 use Rattle.wgsl_spelled.specs.Written.{IsWritable}
-use Rattle.wgsl_spelled.specs.internal.{AreListed, Lacks}
+use Rattle.wgsl_spelled.specs.internal.{AreListedBy, Lacks}
 use Rattle.wgsl_spelled.proofs.Cuts.{has, lacks_append, lacks_by}
 use Rattle.wgsl_spelled.proofs.Inverted.{flag_spelled}
 use Rattle.wgsl_spelled.proofs.Lists.{alias_lacks}
 use Rattle.wgsl_spelled.proofs.Spellings.{spells_spelling}
 use Rattle.wgsl_spelled.proofs.Textures.{texture_alone, texture_listed}
 use Rattle.wgsl_spelled.proofs.Written.{lacks_decimal}
-use Rattle.wgsl_requests.specs.Grammar.{IsFlag, TypeAt, acceleration_structure_at, leaf_at, no_flag_at, parameter_words, ray_query_at, sampler_at, scalar_at, spelled_at, texture_at, texture_words}
+use Rattle.wgsl_requests.specs.Grammar.{IsFlag, TextureListAt, TypeAt, acceleration_structure_at, leaf_at, no_flag_at, ray_query_at, sampler_at, scalar_at, spelled_at, texture_at}
 use Rattle.wgsl_requests.specs.Reading.{NoneAt, OneWord}
 use Rattle.wgsl_requests.specs.Spelled.{after_run, ends_in_comma, has_list, is_alias, is_spelled, run, spaced, spaced_byte}
 use Rattle.wgsl_requests.specs.Words.{has_bytes, into_first, is_separator, pieces, words_of}
@@ -136,9 +138,11 @@ clean_sampled : (s : SampledType) → unclean (sampled_text s) ≡ false
 clean_sampled sampleds.F32 = refl
 clean_sampled _ = refl
 
-clean_texel : (f : TexelFormat) → unclean (texel_text f) ≡ false
-clean_texel texels.Rgba8Unorm = refl
-clean_texel _ = refl
+clean_texel : (by : FormatNames) (f : TexelFormat) → unclean (texel_text_by by f) ≡ false
+clean_texel names.Wgsl texels.Rg11b10Float = refl
+clean_texel names.Wgsl _ = refl
+clean_texel names.Naga texels.Rg11b10Float = refl
+clean_texel names.Naga _ = refl
 
 clean_texture : (x : TextureType) → unclean (texture_name x) ≡ false
 clean_texture textures.External = refl
@@ -167,9 +171,11 @@ some_bytes_sampled : (s : SampledType) → 0 < length (sampled_text s)
 some_bytes_sampled sampleds.F32 = omega arith
 some_bytes_sampled _ = omega arith
 
-some_bytes_texel : (f : TexelFormat) → 0 < length (texel_text f)
-some_bytes_texel texels.Rgba8Unorm = omega arith
-some_bytes_texel _ = omega arith
+some_bytes_texel : (by : FormatNames) (f : TexelFormat) → 0 < length (texel_text_by by f)
+some_bytes_texel names.Wgsl texels.Rg11b10Float = omega arith
+some_bytes_texel names.Wgsl _ = omega arith
+some_bytes_texel names.Naga texels.Rg11b10Float = omega arith
+some_bytes_texel names.Naga _ = omega arith
 
 some_bytes_texture : (x : TextureType) → 0 < length (texture_name x)
 some_bytes_texture textures.External = omega arith
@@ -209,19 +215,20 @@ neat_inside (Ptr s m) fits n = neat_memory s m n
 neat_inside (Ref s m) fits n = neat_memory s m n
 
 -- what stands in the list behind the name of a texture
-abbrev ListOf : TextureType → TextureParameters → Type 0
-ListOf x parameters.None = texture_text x ≡ texture_name x
-ListOf x p = (list : List ℕ) × Neat list × (texture_text x ≡ with_list (texture_name x) list)
+abbrev ListOf : FormatNames → TextureType → TextureParameters → Type 0
+ListOf by x parameters.None = texture_text_by by x ≡ texture_name x
+ListOf by x p = (list : List ℕ) × Neat list × (texture_text_by by x ≡ with_list (texture_name x) list)
 
-texture_list : (x : TextureType) (p : TextureParameters) → parameters_of x ≡ p → ListOf x p
-texture_list x parameters.None e = texture_alone x e
-texture_list x (parameters.Sampled s) e =
-    (sampled_text s, one_word (plain_by (sampled_text s) (clean_sampled s)) (some_bytes_sampled s), texture_listed x (sampled_text s) (subst (λ p. AreListed p (sampled_text s)) (sym e) refl))
-texture_list x (parameters.Storage f m) e =
-    let list = texel_text f ++ (codes ", " ++ access_text m) in (
+texture_list : (by : FormatNames) (x : TextureType) (p : TextureParameters) → parameters_of x ≡ p → ListOf by x p
+texture_list by x parameters.None e = texture_alone by x e
+texture_list by x (parameters.Sampled s) e =
+    (sampled_text s, one_word (plain_by (sampled_text s) (clean_sampled s)) (some_bytes_sampled s), texture_listed by x (sampled_text s) (subst (λ p. AreListedBy by p (sampled_text s)) (sym e) refl))
+texture_list by x (parameters.Storage f m) e =
+    let format = texel_text_by by f in
+    let list = format ++ (codes ", " ++ access_text m) in (
       list,
-      and_more (plain_by (texel_text f) (clean_texel f)) (some_bytes_texel f) (one_word (plain_by (access_text m) (clean_access m)) (some_bytes_access m)),
-      texture_listed x list (subst (λ p. AreListed p list) (sym e) refl),
+      and_more (plain_by format (clean_texel by f)) (some_bytes_texel by f) (one_word (plain_by (access_text m) (clean_access m)) (some_bytes_access m)),
+      texture_listed by x list (subst (λ p. AreListedBy by p list) (sym e) refl),
     )
 
 neat_flagged : (base : List ℕ) (f : AccelerationStructureFlags) → Plain base → Neat (with_list base (flag_text f))
@@ -334,23 +341,22 @@ listed_read name list t p n s =
 plain_read : (text : List ℕ) (t : WgslType) → Plain text → 0 < length text → TypeAt Standard (text ∷ []) t [] → Reads text t
 plain_read text t p more d = subst (λ ws. TypeAt Standard ws t []) (sym (word_alone text p more)) d
 
-texture_listed_read : (x : TextureType) → (list : List ℕ) × Neat list × (texture_text x ≡ with_list (texture_name x) list) → Reads (texture_text x) (texture x)
-texture_listed_read x at =
+texture_listed_read : (by : FormatNames) (x : TextureType) → (list : List ℕ) × Neat list × (texture_text_by by x ≡ with_list (texture_name x) list) → Reads (texture_text_by by x) (texture x)
+texture_listed_read by x at =
     let same = at.2 in
-    subst (λ text. Reads text (texture x)) (sym same) (listed_read (texture_name x) at.0 (texture x) (plain_by (texture_name x) (clean_texture x)) at.1 (subst (λ text. Spells text (texture x)) same (texture_is x)))
+    subst (λ text. Reads text (texture x)) (sym same) (listed_read (texture_name x) at.0 (texture x) (plain_by (texture_name x) (clean_texture x)) at.1 (subst (λ text. Spells text (texture x)) same (texture_is by x)))
 
-neat_texture : (x : TextureType) (p : TextureParameters) → ListOf x p → Neat (texture_text x)
-neat_texture x parameters.None alone = subst Neat (sym alone) (one_word (plain_by (texture_name x) (clean_texture x)) (some_bytes_texture x))
-neat_texture x (parameters.Sampled s) at = subst Neat (sym at.2) (neat_list (plain_by (texture_name x) (clean_texture x)) at.1)
-neat_texture x (parameters.Storage f m) at = subst Neat (sym at.2) (neat_list (plain_by (texture_name x) (clean_texture x)) at.1)
+neat_texture : (by : FormatNames) (x : TextureType) (p : TextureParameters) → ListOf by x p → Neat (texture_text_by by x)
+neat_texture by x parameters.None alone = subst Neat (sym alone) (one_word (plain_by (texture_name x) (clean_texture x)) (some_bytes_texture x))
+neat_texture by x (parameters.Sampled s) at = subst Neat (sym at.2) (neat_list (plain_by (texture_name x) (clean_texture x)) at.1)
+neat_texture by x (parameters.Storage f m) at = subst Neat (sym at.2) (neat_list (plain_by (texture_name x) (clean_texture x)) at.1)
 
-texture_read : (x : TextureType) (p : TextureParameters) → parameters_of x ≡ p → ListOf x p → Reads (texture_text x) (texture x)
-texture_read x parameters.None e alone =
-    let no_words : texture_words x ≡ [] = ap parameter_words e in
-    let d : TypeAt Standard (texture_name x ∷ []) (texture x) [] = subst (λ ws. TypeAt Standard (texture_name x ∷ ws) (texture x) []) (append-nil (texture_words x) ∙ no_words) (leaf_at (texture_at x)) in
+texture_read : (by : FormatNames) (x : TextureType) (p : TextureParameters) → parameters_of x ≡ p → ListOf by x p → Reads (texture_text_by by x) (texture x)
+texture_read by x parameters.None e alone =
+    let d : TypeAt Standard (texture_name x ∷ []) (texture x) [] = leaf_at (texture_at x (subst (λ p. TextureListAt Standard [] p []) (sym e) refl)) in
     subst (λ text. Reads text (texture x)) (sym alone) (plain_read (texture_name x) (texture x) (plain_by (texture_name x) (clean_texture x)) (some_bytes_texture x) d)
-texture_read x (parameters.Sampled s) e at = texture_listed_read x at
-texture_read x (parameters.Storage f m) e at = texture_listed_read x at
+texture_read by x (parameters.Sampled s) e at = texture_listed_read by x at
+texture_read by x (parameters.Storage f m) e at = texture_listed_read by x at
 
 no_flag_of_nothing : NoneAt (OneWord IsFlag) []
 no_flag_of_nothing f rest d = let e : [] ≡ d.0 ∷ rest = d.1 in cc e
@@ -383,7 +389,7 @@ alias_read text layer s e =
 neat : {text : List ℕ} {t : WgslType} → Spells text t → Neat text
 neat (scalar_is s) = one_word (plain_by (scalar_text s) (clean_scalar s)) (some_bytes_scalar s)
 neat (sampler_is s) = one_word (plain_by (sampler_text s) (clean_sampler s)) (some_bytes_sampler s)
-neat (texture_is x) = neat_texture x (parameters_of x) (texture_list x (parameters_of x) refl)
+neat (texture_is by x) = neat_texture by x (parameters_of x) (texture_list by x (parameters_of x) refl)
 neat (ray_query_is None) = one_word (plain_by (codes "ray_query") refl) (omega arith)
 neat (ray_query_is (Some f)) = subst Neat (flag_spelled (codes "ray_query") f) (neat_flagged (codes "ray_query") f (plain_by (codes "ray_query") refl))
 neat (acceleration_structure_is None) = one_word (plain_by (codes "acceleration_structure") refl) (omega arith)
@@ -394,7 +400,7 @@ neat (around_is layer fits d) = neat_list (plain_name layer fits) (neat_inside l
 pub words_read : {text : List ℕ} {t : WgslType} → Spells text t → TypeAt Standard (words_of text) t []
 words_read (scalar_is s) = plain_read (scalar_text s) (scalar s) (plain_by (scalar_text s) (clean_scalar s)) (some_bytes_scalar s) (scalar_at s)
 words_read (sampler_is s) = plain_read (sampler_text s) (sampler s) (plain_by (sampler_text s) (clean_sampler s)) (some_bytes_sampler s) (leaf_at (sampler_at s))
-words_read (texture_is x) = texture_read x (parameters_of x) refl (texture_list x (parameters_of x) refl)
+words_read (texture_is by x) = texture_read by x (parameters_of x) refl (texture_list by x (parameters_of x) refl)
 words_read (ray_query_is None) = plain_read (codes "ray_query") (ray_query None) (plain_by (codes "ray_query") refl) (omega arith) (leaf_at (ray_query_at (no_flag_at no_flag_of_nothing)))
 words_read (ray_query_is (Some f)) = flagged_read (codes "ray_query") f (ray_query (Some f)) (plain_by (codes "ray_query") refl) (ray_query_is (Some f))
 words_read (acceleration_structure_is None) =
@@ -407,8 +413,8 @@ words_read (around_is {inner} {t} layer fits d) = listed_read (name_of layer) (l
 pub only_read : {text : List ℕ} {t : WgslType} → Spells text t → (u : WgslType) (rest : List (List ℕ)) → TypeAt Standard (words_of text) u rest → (u ≡ t) × (rest ≡ [])
 only_read s u rest d = let same = one_type (words_read s) u rest d in (sym same.0, sym same.1)
 
-pub written_read : (t : WgslType) → IsWritable t → TypeAt Standard (words_of (spelling t)) t []
-written_read t w = words_read (spells_spelling t w)
+pub written_read : (by : FormatNames) (t : WgslType) → IsWritable t → TypeAt Standard (words_of (spelling_by by t)) t []
+written_read by t w = words_read (spells_spelling by t w)
 
-pub only_written : (t u : WgslType) (rest : List (List ℕ)) → IsWritable t → TypeAt Standard (words_of (spelling t)) u rest → (u ≡ t) × (rest ≡ [])
-only_written t u rest w d = only_read (spells_spelling t w) u rest d
+pub only_written : (by : FormatNames) (t u : WgslType) (rest : List (List ℕ)) → IsWritable t → TypeAt Standard (words_of (spelling_by by t)) u rest → (u ≡ t) × (rest ≡ [])
+only_written by t u rest w d = only_read (spells_spelling by t w) u rest d

@@ -1,14 +1,16 @@
 -- Types in words, by the set of rules.
-use Rattle.std.specs.Prelude.{◌≡◌, ◌++◌, ℕ, suc, true, List, [], ◌∷◌, Option, Some, None, codes}
+use Rattle.std.specs.Prelude.{◌≡◌, ℕ, suc, true, List, [], ◌∷◌, Option, Some, None, codes}
 use Rattle.wgsl_syntax.specs.Address.{access_text, space_text}
 use Rattle.wgsl_syntax.specs.Attribute.{flag_text}
 use Rattle.wgsl_syntax.specs.Scalar.{scalar_text}
-use Rattle.wgsl_syntax.specs.Texel.{texel_text}
+use Rattle.wgsl_syntax.specs.Texel.{IsTexel}
 use Rattle.wgsl_syntax.specs.Texture.{sampled_text, sampler_text, texture_name}
 use Rattle.wgsl_syntax.specs.declared.address.AccessMode.{AccessMode}
 use Rattle.wgsl_syntax.specs.declared.address.AddressSpace.{AddressSpace}
 use Rattle.wgsl_syntax.specs.declared.attribute.AccelerationStructureFlags.{AccelerationStructureFlags}
 use Rattle.wgsl_syntax.specs.declared.scalar.Scalar.{Scalar}
+use Rattle.wgsl_syntax.specs.declared.texel.FormatNames.{FormatNames}
+use Rattle.wgsl_syntax.specs.declared.texel.FormatNames.TheVariants.{Naga, Wgsl}
 use Rattle.wgsl_syntax.specs.declared.texture.SamplerType.{SamplerType}
 use Rattle.wgsl_syntax.specs.declared.texture.TextureType.{TextureType}
 use Rattle.wgsl_syntax.specs.declared.texture_name.TextureParameters.{TextureParameters}
@@ -23,7 +25,7 @@ use Rattle.wgsl_requests.specs.Numbers.{IsSmall, IsLong, IsCount, IsAttribute}
 use Rattle.wgsl_requests.specs.Reading.{NoneAt, OneWord}
 use Rattle.wgsl_requests.specs.Spelled.{after_run, is_spelled, run, spaced}
 use Rattle.wgsl_requests.specs.declared.rules.RuleSet.{RuleSet}
-use Rattle.wgsl_requests.specs.declared.rules.RuleSet.TheVariants.{Standard}
+use Rattle.wgsl_requests.specs.declared.rules.RuleSet.TheVariants.{Ported, Standard}
 
 -- the name of a flag, or `-` for none
 abbrev pub IsFlag : List ℕ → Option AccelerationStructureFlags → Type 0
@@ -37,15 +39,17 @@ pub data FlagAt : RuleSet → List (List ℕ) → Option AccelerationStructureFl
   -- by WGSL's own overloads nothing stands for none, where neither comes next
   no_flag_at : {words : List (List ℕ)} → NoneAt (OneWord IsFlag) words → FlagAt Standard words None words
 
--- the words for the parameters of a texture: its sampled type, or its texel format and its access mode
-abbrev pub parameter_words : TextureParameters → List (List ℕ)
-parameter_words parameters.None = []
-parameter_words (parameters.Sampled sampled) = sampled_text sampled ∷ []
-parameter_words (parameters.Storage format access) = texel_text format ∷ access_text access ∷ []
+-- whose names texel formats have
+abbrev pub format_names : RuleSet → FormatNames
+format_names Ported = Naga
+format_names Standard = Wgsl
 
--- the words after a texture's name
-abbrev pub texture_words : TextureType → List (List ℕ)
-texture_words x = parameter_words (parameters_of x)
+-- the words begin with the parameters of a texture: its sampled type, or its texel format and its access mode
+abbrev pub TextureListAt : RuleSet → List (List ℕ) → TextureParameters → List (List ℕ) → Type 0
+TextureListAt rules words parameters.None rest = words ≡ rest
+TextureListAt rules words (parameters.Sampled sampled) rest = words ≡ sampled_text sampled ∷ rest
+TextureListAt rules words (parameters.Storage format access) rest =
+    (word : List ℕ) × IsTexel (format_names rules) word format × (words ≡ word ∷ access_text access ∷ rest)
 
 -- The words begin with a type that has no layer and no members in words, and is no scalar. The rest comes after it.
 pub data LeafAt : RuleSet → List (List ℕ) → WgslType → List (List ℕ) → Type 0 where
@@ -60,8 +64,8 @@ pub data LeafAt : RuleSet → List (List ℕ) → WgslType → List (List ℕ) �
   sampler_at : {rules : RuleSet} {rest : List (List ℕ)} (s : SamplerType) →
       LeafAt rules (sampler_text s ∷ rest) (sampler s) rest
   -- `texture_storage_2d rgba8unorm write`
-  texture_at : {rules : RuleSet} {rest : List (List ℕ)} (x : TextureType) →
-      LeafAt rules (texture_name x ∷ (texture_words x ++ rest)) (texture x) rest
+  texture_at : {rules : RuleSet} {words rest : List (List ℕ)} (x : TextureType) →
+      TextureListAt rules words (parameters_of x) rest → LeafAt rules (texture_name x ∷ words) (texture x) rest
   -- by WGSL's own overloads also `vec3<f32>`, `vec3f`, `array<mat4x3f, 4>`
   spelled_at : {word : List ℕ} {words : List (List ℕ)} {t : WgslType} → is_spelled word ≡ true →
       Spells (spaced (run (word ∷ words))) t →

@@ -1,8 +1,9 @@
 -- How answers are written.
 use Rattle.std.specs.Prelude.{◌++◌, ℕ, List, [], ◌∷◌, Option, Some, None, Result, Ok, Err, codes, decimal}
 use Rattle.std.specs.List.{flat_map}
+use Rattle.wgsl_syntax.specs.declared.texel.FormatNames.{FormatNames}
 use Rattle.wgsl_rules.specs.types.Types.{WgslType}
-use Rattle.wgsl_rules.specs.types.Spelling.{spelling}
+use Rattle.wgsl_rules.specs.types.Spelling.{spelling, spelling_by, wgsl_spelling}
 use Rattle.wgsl_rules.specs.errors.Refusals.{Refusal, message}
 use Rattle.wgsl_rules.specs.standard.Choice.{types_of}
 use Rattle.wgsl_rules.specs.types.Signatures.{listed, template_text}
@@ -36,7 +37,7 @@ lines_text (line ∷ lines) = line ++ flat_map (λ line. codes "\n" ++ line) lin
 -- ``no overload of `vec3<f32>` takes (bool, i32)``
 abbrev pub no_overload_text : WgslCall → List ℕ
 no_overload_text c = codes "no overload of `" ++ name_of c.callee ++ template_text c.template ++ codes "` takes ("
-    ++ listed spelling (types_of c.operands) ++ codes ")"
+    ++ listed wgsl_spelling (types_of c.operands) ++ codes ")"
 
 -- the text of a value, or that no overload takes the operands
 abbrev pub or_no_overload : {A : Type 0} → (A → List ℕ) → WgslCall → Option A → List ℕ
@@ -44,12 +45,12 @@ or_no_overload text c (Some x) = text x
 or_no_overload text c None = no_overload_text c
 
 abbrev pub result_text : Option WgslType → List ℕ
-result_text (Some t) = codes " -> " ++ spelling t
+result_text (Some t) = codes " -> " ++ wgsl_spelling t
 result_text None = []
 
 -- the index of the overload, the types of its parameters, and its result: `1 (vec3<f32>, f32) -> vec3<f32>`
 abbrev pub resolution_text : WgslResolution → List ℕ
-resolution_text r = decimal r.0 ++ codes " (" ++ listed spelling r.1 ++ codes ")" ++ result_text r.2
+resolution_text r = decimal r.0 ++ codes " (" ++ listed wgsl_spelling r.1 ++ codes ")" ++ result_text r.2
 
 -- the rules refuse an expression, or anything else is answered; no request is answered by out of memory
 abbrev pub text_kind : WgslAnswer → TextKind
@@ -60,23 +61,23 @@ text_kind (a_resolution_of c None) = kinds.Refusal
 text_kind out_of_memory = kinds.Refusal
 text_kind a = kinds.Answer
 
--- the text of an answer
-abbrev pub answer_text : WgslAnswer → List ℕ
+-- the text of an answer, where texel formats have these names
+abbrev pub answer_text : FormatNames → WgslAnswer → List ℕ
 -- `6`
-answer_text (a_number w) = or_none decimal w
+answer_text names (a_number w) = or_none decimal w
 -- `12 16`, `none 4`
-answer_text (a_size s a) = or_none decimal s ++ codes " " ++ or_none decimal a
+answer_text names (a_size s a) = or_none decimal s ++ codes " " ++ or_none decimal a
 -- `f32`
-answer_text (a_common_type c) = or_none spelling c
+answer_text names (a_common_type c) = or_none (spelling_by names) c
 -- `vec3<f32>`, ``cannot use unary operator `-` on type `bool` ``
-answer_text (a_type r) = or_message spelling r
+answer_text names (a_type r) = or_message spelling r
 -- `f32`, `no value`
-answer_text (a_value r) = or_message value_text r
+answer_text names (a_value r) = or_message value_text r
 -- `0 16 32`
-answer_text (some_offsets o) = or_none spaced o
-answer_text (a_layout name ms l) = or_none (layout_text name ms) l
+answer_text names (some_offsets o) = or_none spaced o
+answer_text names (a_layout name ms l) = or_none (layout_text names name ms) l
 -- `f32`, `no value`, ``no overload of `+` takes (bool, i32)``
-answer_text (a_type_of c r) = or_no_overload value_text c r
-answer_text (a_resolution_of c r) = or_no_overload resolution_text c r
-answer_text (some_lines lines) = lines_text lines
-answer_text out_of_memory = []
+answer_text names (a_type_of c r) = or_no_overload value_text c r
+answer_text names (a_resolution_of c r) = or_no_overload resolution_text c r
+answer_text names (some_lines lines) = lines_text lines
+answer_text names out_of_memory = []

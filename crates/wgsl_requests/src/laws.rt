@@ -1,6 +1,7 @@
 // Laws of the requests: each function returns nothing, and its contract is the law.
 ghost use Rattle.std.specs.Prelude.{◌≡◌, [], ℕ, List};
-ghost use Rattle.wgsl_rules.specs.types.Spelling.{spelling};
+ghost use Rattle.wgsl_syntax.specs.declared.texel.FormatNames.{FormatNames};
+ghost use Rattle.wgsl_rules.specs.types.Spelling.{spelling_by};
 ghost use Rattle.wgsl_rules.specs.types.Types.{WgslType};
 ghost use Rattle.wgsl_spelled.specs.Spells.{Spells};
 ghost use Rattle.wgsl_spelled.specs.Written.{IsWritable};
@@ -34,18 +35,19 @@ pub fn spelled_is_read()
         → TypeAt RuleSet.Standard (words_of text) u rest → (u ≡ t) × (rest ≡ []) }
 {}
 
-/// By WGSL's own overloads, a type without a struct is read from what it is written as in an answer, and no other type is.
+/// By WGSL's own overloads, a type without a struct is read from what it is written as in an answer, by either set of rules,
+/// and no other type is.
 #[tactic(auto, using(crate::proofs::SpelledWords::written_read, crate::proofs::SpelledWords::only_written))]
 pub fn answered_is_read()
-    ensures read { (t : WgslType) → IsWritable t
-        → TypeAt RuleSet.Standard (words_of (spelling t)) t [] }
-    ensures alone { (t u : WgslType) (rest : List (List ℕ)) → IsWritable t
-        → TypeAt RuleSet.Standard (words_of (spelling t)) u rest → (u ≡ t) × (rest ≡ []) }
+    ensures read { (names : FormatNames) (t : WgslType) → IsWritable t
+        → TypeAt RuleSet.Standard (words_of (spelling_by names t)) t [] }
+    ensures alone { (names : FormatNames) (t u : WgslType) (rest : List (List ℕ)) → IsWritable t
+        → TypeAt RuleSet.Standard (words_of (spelling_by names t)) u rest → (u ≡ t) × (rest ≡ []) }
 {}
 
-/// A request has at most one answer.
+/// A request has at most one answer by a set of rules.
 pub fn one_answer()
-    ensures { (request : Request) → OneAnswer request }
+    ensures { (rules : RuleSet) (request : Request) → OneAnswer rules request }
 {}
 
 /// By a set of rules, the bytes of a request have at most one reply.

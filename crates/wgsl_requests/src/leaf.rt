@@ -2,11 +2,11 @@
 ghost use Rattle.std.specs.Prelude.{◌≡◌, ◌∷◌, MatchOption, Option};
 ghost use Rattle.wgsl_core.specs.View.{view};
 ghost use Rattle.wgsl_syntax.specs.Address.{access_text};
-ghost use Rattle.wgsl_syntax.specs.Texel.{texel_text};
+ghost use Rattle.wgsl_syntax.specs.Texel.{IsTexel};
 ghost use Rattle.wgsl_syntax.specs.Texture.{sampled_text};
 ghost use Rattle.wgsl_syntax.specs.TextureName.{texture_name_text};
 ghost use Rattle.wgsl_syntax.specs.declared.attribute.AccelerationStructureFlags.{AccelerationStructureFlags};
-ghost use Rattle.wgsl_requests.specs.Grammar.{FlagAt, IsFlag, LeafAt};
+ghost use Rattle.wgsl_requests.specs.Grammar.{FlagAt, IsFlag, LeafAt, format_names};
 ghost use Rattle.wgsl_requests.specs.Reading.{IsText, OneWord, Reads, ReadsWord, Then};
 ghost use Rattle.wgsl_requests.specs.internal.Leaves.{ParametersAt, SpelledOrTextureAt, TextureAt, begins_spelling};
 ghost use Rattle.wgsl_requests.specs.internal.Taken.{GoesOn, left};
@@ -59,7 +59,7 @@ fn read_spelled_or_texture(
     if begins_spelling(rules, word) {
         read_spelled(alloc, word, words)
     } else {
-        Ok(Type::Texture(read_texture(word, words)?))
+        Ok(Type::Texture(read_texture(rules, word, words)?))
     }
 }
 
@@ -128,13 +128,13 @@ fn flag_named(word: &str) -> Option<Option<AccelerationStructureFlags>>
 }
 
 /// A texture: its name, and its sampled type, or its texel format and access mode.
-fn read_texture(name: &str, words: &mut Words) -> Result<TextureType, Fail<Misfit>>
+fn read_texture(rules: RuleSet, name: &str, words: &mut Words) -> Result<TextureType, Fail<Misfit>>
     ensures goes_on { GoesOn words.old words.new }
-    ensures read { Reads TextureAt (λ texture. texture)
+    ensures read { Reads (TextureAt rules) (λ texture. texture)
         (name.now ∷ left words.old) (left words.new) result }
 {
     let name = texture_name(name)?;
-    let parameters = read_parameters(name.parameter_kind(), words)?;
+    let parameters = read_parameters(rules, name.parameter_kind(), words)?;
     match name.with(parameters) {
         Some(texture) => Ok(texture),
         None => Err(Fail::Error(Misfit::Wrong(Wanted::Type))),
@@ -149,18 +149,19 @@ fn texture_name(word: &str) -> Result<TextureName, Fail<Misfit>>
 
 /// The parameters of a texture, of which the kind is known.
 fn read_parameters(
+    rules: RuleSet,
     kind: TextureParameterKind,
     words: &mut Words,
 ) -> Result<TextureParameters, Fail<Misfit>>
     ensures goes_on { GoesOn words.old words.new }
-    ensures read { Reads (ParametersAt kind) (λ parameters. parameters)
+    ensures read { Reads (ParametersAt rules kind) (λ parameters. parameters)
         (left words.old) (left words.new) result }
 {
     match kind {
         TextureParameterKind::None => Ok(TextureParameters::None),
         TextureParameterKind::Sampled => Ok(TextureParameters::Sampled(read_sampled(words)?)),
         TextureParameterKind::Storage => {
-            let (format, access) = read_texels(words)?;
+            let (format, access) = read_texels(rules, words)?;
             Ok(TextureParameters::Storage(format, access))
         }
     }
@@ -181,18 +182,22 @@ fn sampled(word: &str) -> Result<SampledType, Fail<Misfit>>
 }
 
 /// A texel format and an access mode.
-fn read_texels(words: &mut Words) -> Result<(TexelFormat, AccessMode), Fail<Misfit>>
+fn read_texels(rules: RuleSet, words: &mut Words) -> Result<(TexelFormat, AccessMode), Fail<Misfit>>
     ensures goes_on { GoesOn words.old words.new }
-    ensures read { Reads (Then (OneWord (IsText texel_text)) (OneWord (IsText access_text)))
-        (λ texels. texels) (left words.old) (left words.new) result }
+    ensures read { Reads
+        (Then (OneWord (IsTexel (format_names rules))) (OneWord (IsText access_text))) (λ texels. texels)
+        (left words.old) (left words.new) result }
 {
-    let format = texel_format(words.next(Wanted::TexelFormat)?)?;
+    let format = texel_format(rules, words.next(Wanted::TexelFormat)?)?;
     let access = access(words.next(Wanted::AccessMode)?)?;
     Ok((format, access))
 }
 
-fn texel_format(word: &str) -> Result<TexelFormat, Fail<Misfit>>
-    ensures { ReadsWord (IsText texel_text) word.now result }
+fn texel_format(rules: RuleSet, word: &str) -> Result<TexelFormat, Fail<Misfit>>
+    ensures { ReadsWord (IsTexel (format_names rules)) word.now result }
 {
-    parsed(word, Wanted::TexelFormat)
+    match TexelFormat::named_by(rules.format_names(), word) {
+        Some(format) => Ok(format),
+        None => Err(Fail::Error(Misfit::Wrong(Wanted::TexelFormat))),
+    }
 }

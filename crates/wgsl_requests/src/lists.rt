@@ -1,30 +1,33 @@
 // Lists as they are written: types, template parameters, signatures and notes.
 use std::fmt;
 use std::fmt::Write;
+use wgsl_core::ty::show::write_type;
 use wgsl_standard::explanation::Note;
 use wgsl_standard::signature::Signature;
+use wgsl_syntax::texel::FormatNames;
 use wgsl_types::tplt::TpltParam;
 use wgsl_types::ty::Type;
 
-/// Types, with a comma between.
+/// Types, with a comma between, by WGSL's names of texel formats.
 #[derive(Drop)]
 pub(crate) struct Types<'a>(pub &'a [Type]);
 
 impl fmt::Display for Types<'_> {
     ghost use Rattle.std.specs.Prelude.{Some};
     ghost use Rattle.wgsl_rules.specs.types.Signatures.{listed};
-    ghost use Rattle.wgsl_rules.specs.types.Spelling.{spelling};
+    ghost use Rattle.wgsl_rules.specs.types.Spelling.{wgsl_spelling};
     ghost use Rattle.wgsl_core.specs.View.{view};
 
-    ghost output = { λ ts. Some (listed (λ t. spelling (view t)) (ts.0.now)) };
+    ghost output = { λ ts. Some (listed (λ t. wgsl_spelling (view t)) (ts.0.now)) };
 
     fn fmt<W: Write>(&self, f: &mut fmt::Formatter<W>) -> fmt::Result {
         let Some((first, rest)) = self.0.split_first() else {
             return Ok(());
         };
-        write!(f, "{first}")?;
+        write_type(f, FormatNames::Wgsl, first)?;
         for ty in rest {
-            write!(f, ", {ty}")?;
+            f.write_str(", ")?;
+            write_type(f, FormatNames::Wgsl, ty)?;
         }
         Ok(())
     }

@@ -1,7 +1,7 @@
 // How the answers of WGSL's own overloads are written.
 ghost use Rattle.std.specs.Prelude.{◌≡◌, ◌++◌, OnOk, map, option_map, string_bytes};
 ghost use Rattle.wgsl_rules.specs.types.Signatures.{listed, template_text};
-ghost use Rattle.wgsl_rules.specs.types.Spelling.{spelling};
+ghost use Rattle.wgsl_rules.specs.types.Spelling.{spelling, wgsl_spelling};
 ghost use Rattle.wgsl_core.specs.Instances.{parameter_view};
 ghost use Rattle.wgsl_core.specs.View.{view};
 ghost use Rattle.wgsl_standard.specs.Operands.{given_type};
@@ -16,6 +16,7 @@ use crate::write::{write_resolved, write_type};
 use std::alloc::AllocError;
 use wgsl_asked::answers::unbuilt;
 use wgsl_asked::requests::Call;
+use wgsl_core::ty::show::ShownType;
 use wgsl_standard::callee::Callee;
 use wgsl_standard::explanation::Note;
 use wgsl_standard::instance::ResultType;
@@ -23,6 +24,7 @@ use wgsl_standard::operand::{Operand, OperandType};
 use wgsl_standard::resolved::ResolvedCall;
 use wgsl_standard::signature::Signature;
 use wgsl_syntax::overload::Dimensions;
+use wgsl_syntax::texel::FormatNames;
 use wgsl_types::tplt::TpltParam;
 use wgsl_types::ty::Type;
 
@@ -90,7 +92,14 @@ fn write_result(text: &mut String, ty: &Option<Type>) -> Result<(), AllocError>
         ≡ string_bytes text.old ++ result_text (option_map view ty.now)) }
 {
     match ty {
-        Some(ty) => write!(text, " -> {ty}"),
+        Some(ty) => write!(
+            text,
+            " -> {}",
+            ShownType {
+                ty,
+                names: FormatNames::Wgsl
+            }
+        ),
         None => Ok(()),
     }
 }
@@ -113,7 +122,7 @@ fn write_no_overload(text: &mut String, call: &Call<'_>) -> Result<(), AllocErro
 #[inline(always)]
 fn write_operand_types(text: &mut String, operands: &[Operand<'_>]) -> Result<(), AllocError>
     ensures { OnOk result (string_bytes text.new ≡ string_bytes text.old
-        ++ listed (λ x. spelling (given_type x.ty)) operands.now) }
+        ++ listed (λ x. wgsl_spelling (given_type x.ty)) operands.now) }
 {
     let Some((first, rest)) = operands.split_first() else {
         return Ok(());
@@ -130,7 +139,7 @@ fn write_operand_types(text: &mut String, operands: &[Operand<'_>]) -> Result<()
 #[inline(always)]
 fn write_operand_type(text: &mut String, ty: OperandType<'_>) -> Result<(), AllocError>
     ensures { OnOk result (string_bytes text.new
-        ≡ string_bytes text.old ++ spelling (given_type ty.entry)) }
+        ≡ string_bytes text.old ++ wgsl_spelling (given_type ty.entry)) }
 {
     match ty {
         OperandType::Value(Dimensions::Single, scalar) => text.push_str(scalar.name()),

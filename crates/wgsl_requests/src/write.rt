@@ -1,7 +1,7 @@
 // How answers are written.
 ghost use Rattle.std.specs.Prelude.{◌≡◌, ◌++◌, IfOk, OnOk, decimal, option_map, string_bytes};
 ghost use Rattle.wgsl_rules.specs.errors.Refusals.{message};
-ghost use Rattle.wgsl_rules.specs.types.Spelling.{spelling};
+ghost use Rattle.wgsl_rules.specs.types.Spelling.{spelling, spelling_by};
 ghost use Rattle.wgsl_core.specs.View.{view};
 ghost use Rattle.wgsl_asked.specs.Answers.{a_type, a_value};
 ghost use Rattle.wgsl_core.specs.internal.Resolution.{element_view, resolved_view};
@@ -19,7 +19,9 @@ use std::alloc::AllocError;
 use wgsl_asked::answers::{Answer, Operands};
 use wgsl_asked::requests::Call;
 use wgsl_core::operators::resolve::{Element, Extent, ResolvedType};
+use wgsl_core::ty::show::ShownType;
 use wgsl_standard::instance::ResultType;
+use wgsl_syntax::texel::FormatNames;
 use wgsl_types::error::{Error, Fail};
 use wgsl_types::ty::Type;
 
@@ -31,14 +33,18 @@ pub enum TextKind {
     Refusal,
 }
 
-/// Writes an answer at the end of the text, and returns of which kind it is.
+/// Writes an answer at the end of the text, by these names of texel formats, and returns of which kind it is.
 #[inline(always)]
-pub fn write(answer: Answer<'_>, text: &mut String) -> Result<TextKind, AllocError>
+pub fn write(
+    answer: Answer<'_>,
+    names: FormatNames,
+    text: &mut String,
+) -> Result<TextKind, AllocError>
     ensures { IfOk result (λ kind. (kind ≡ text_kind (answer_view answer.entry))
-        × (string_bytes text.new ≡ string_bytes text.old ++ answer_text (answer_view answer.entry))) }
+        × (string_bytes text.new ≡ string_bytes text.old ++ answer_text names (answer_view answer.entry))) }
 {
     let kind = text_kind(&answer);
-    write_text(answer, text)?;
+    write_text(answer, names, text)?;
     Ok(kind)
 }
 
@@ -57,9 +63,9 @@ fn text_kind(answer: &Answer<'_>) -> TextKind
 }
 
 #[inline(always)]
-fn write_text(answer: Answer<'_>, text: &mut String) -> Result<(), AllocError>
+fn write_text(answer: Answer<'_>, names: FormatNames, text: &mut String) -> Result<(), AllocError>
     ensures { OnOk result (string_bytes text.new
-        ≡ string_bytes text.old ++ answer_text (answer_view answer.entry)) }
+        ≡ string_bytes text.old ++ answer_text names (answer_view answer.entry)) }
 {
     match answer {
         Answer::Number(number) => write_number_or_none(text, number),
@@ -73,7 +79,7 @@ fn write_text(answer: Answer<'_>, text: &mut String) -> Result<(), AllocError>
         Answer::Binary(Ok(ty)) => write_resolved(text, ty),
         Answer::Binary(Err(operands)) => write_operands(text, operands),
         Answer::Offsets(offsets) => write_offsets(text, offsets),
-        Answer::Layout(structure, layout) => write_layout(text, structure, layout),
+        Answer::Layout(structure, layout) => write_layout(text, names, structure, layout),
         Answer::TypeOf(call, found) => write_type_of(text, call, found),
         Answer::Resolution(call, found) => write_resolution_of(text, call, found),
         Answer::Overloads(signatures) => write_signatures(text, signatures),
@@ -92,12 +98,16 @@ fn write_number_or_none(text: &mut String, number: Option<u32>) -> Result<(), Al
     }
 }
 
-pub(crate) fn write_type_or_none(text: &mut String, ty: Option<&Type>) -> Result<(), AllocError>
+pub(crate) fn write_type_or_none(
+    text: &mut String,
+    names: FormatNames,
+    ty: Option<&Type>,
+) -> Result<(), AllocError>
     ensures { OnOk result (string_bytes text.new
-        ≡ string_bytes text.old ++ or_none spelling (option_map (λ t. view t.now) ty.entry)) }
+        ≡ string_bytes text.old ++ or_none (spelling_by names) (option_map (λ t. view t.now) ty.entry)) }
 {
     match ty {
-        Some(ty) => write_type(text, ty),
+        Some(ty) => write!(text, "{}", ShownType { ty, names }),
         None => text.push_str("none"),
     }
 }
@@ -144,7 +154,7 @@ fn write_type_or_refusal(
     made: Result<Type, Fail<Error>>,
 ) -> Result<(), AllocError>
     ensures { OnOk result (string_bytes text.new
-        ≡ string_bytes text.old ++ answer_text (outcome a_type view made)) }
+        ≡ string_bytes text.old ++ answer_text FormatNames.Naga (outcome a_type view made)) }
 {
     let written = match &made {
         Ok(ty) => write_type(text, ty),
@@ -160,7 +170,7 @@ fn write_value_or_refusal(
     returned: Result<Option<Type>, Fail<Error>>,
 ) -> Result<(), AllocError>
     ensures { OnOk result (string_bytes text.new
-        ≡ string_bytes text.old ++ answer_text (outcome a_value (option_map view) returned)) }
+        ≡ string_bytes text.old ++ answer_text FormatNames.Naga (outcome a_value (option_map view) returned)) }
 {
     let written = match &returned {
         Ok(value) => write_value(text, value),

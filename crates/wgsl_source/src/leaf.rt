@@ -11,7 +11,7 @@ use std::str::FromStr;
 use wgsl_syntax::address::{AccessMode, AddressSpace};
 use wgsl_syntax::attribute::AccelerationStructureFlags;
 use wgsl_syntax::scalar::Scalar;
-use wgsl_syntax::texel::TexelFormat;
+use wgsl_syntax::texel::{FormatNames, TexelFormat};
 use wgsl_syntax::texture::{SampledType, TextureType};
 use wgsl_syntax::texture_name::{TextureName, TextureParameterKind, TextureParameters};
 
@@ -107,7 +107,8 @@ impl<'t> Scope<'t> {
     {
         cursor.expect(b'<')?;
         let at = cursor.index();
-        let format = format_named(self.take_enumerant(cursor, Expected::TexelFormat)?);
+        let word = self.take_enumerant(cursor, Expected::TexelFormat)?;
+        let format = TexelFormat::named_by(FormatNames::Wgsl, word);
         cursor.expect(b',')?;
         let access = self.read_access(cursor)?;
         cursor.take(b',');
@@ -174,14 +175,6 @@ pub fn space_named(name: &str) -> Option<AddressSpace> {
     match name {
         "immediate" => Some(AddressSpace::PushConstant),
         _ => AddressSpace::from_str(name).ok(),
-    }
-}
-
-/// The texel format with this name, or with naga's.
-pub fn format_named(name: &str) -> Option<TexelFormat> {
-    match name {
-        "rg11b10ufloat" => Some(TexelFormat::Rg11b10Float),
-        _ => TexelFormat::from_str(name).ok(),
     }
 }
 

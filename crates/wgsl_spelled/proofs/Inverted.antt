@@ -9,6 +9,7 @@ use Rattle.wgsl_syntax.specs.declared.around.Around.TheVariants.{Array, Vec, Mat
 use Rattle.wgsl_syntax.specs.declared.attribute.AccelerationStructureFlags.{AccelerationStructureFlags}
 use Rattle.wgsl_syntax.specs.declared.scalar.Scalar.{Scalar}
 use Rattle.wgsl_syntax.specs.declared.scalar.Scalar.TheVariants as scalars
+use Rattle.wgsl_syntax.specs.declared.texel.FormatNames.TheVariants as names
 use Rattle.wgsl_syntax.specs.declared.texture.SamplerType.{SamplerType}
 use Rattle.wgsl_syntax.specs.declared.texture.SamplerType.TheVariants as samplers
 use Rattle.wgsl_syntax.specs.declared.texture.TextureType.{TextureType}
@@ -114,7 +115,7 @@ flag_at base f name list lacks at = list_once base (flag_text f) name list lacks
 pub with_cut : {text : List ℕ} {t : WgslType} → Spells text t → (name list : List ℕ) → AtList text name list → InLayer name list t ⊎ LeafSpells name list t
 with_cut (scalar_is s) name list at = absurd (no_list (scalar_text s) (lacks_by 60 (scalar_text s) (scalar_has s)) name list at)
 with_cut (sampler_is s) name list at = absurd (no_list (sampler_text s) (lacks_by 60 (sampler_text s) (sampler_has s)) name list at)
-with_cut (texture_is x) name list at = inr (texture_cut x name list at)
+with_cut (texture_is by x) name list at = let cut = texture_cut by x name list at in inr (cut.0, (by, cut.1))
 with_cut (ray_query_is None) name list at = absurd (no_list (codes "ray_query") (lacks_by 60 (codes "ray_query") refl) name list at)
 with_cut (ray_query_is (Some f)) name list at = inr (flag_at (codes "ray_query") f name list (lacks_by 60 (codes "ray_query") refl) at)
 with_cut (acceleration_structure_is None) name list at = absurd (no_list (codes "acceleration_structure") (lacks_by 60 (codes "acceleration_structure") refl) name list at)
@@ -134,7 +135,7 @@ pub record IsAlias (text : List ℕ) (t : WgslType) : Type 0 where
 pub without_cut : {text : List ℕ} {t : WgslType} → Spells text t → ((name list : List ℕ) → ¬ AtList text name list) → IsAlias text t ⊎ PlainSpells text t
 without_cut (scalar_is s) none = inr refl
 without_cut (sampler_is s) none = inr refl
-without_cut (texture_is x) none = inr (texture_uncut x none)
+without_cut (texture_is by x) none = inr (texture_uncut by x none)
 without_cut (ray_query_is None) none = inr refl
 without_cut (ray_query_is (Some f)) none = absurd (none (codes "ray_query") (flag_text f) (lacks_by 60 (codes "ray_query") refl, sym (flag_spelled (codes "ray_query") f)))
 without_cut (acceleration_structure_is None) none = inr refl
@@ -211,7 +212,7 @@ leaf_name name list (acceleration_structure None) layer l e = l
 pub plain_spells : (text : List ℕ) (t : WgslType) → PlainSpells text t → Spells text t
 plain_spells text (scalar s) p = subst (λ w. Spells w (scalar s)) (sym p) (scalar_is s)
 plain_spells text (sampler s) p = subst (λ w. Spells w (sampler s)) (sym p) (sampler_is s)
-plain_spells text (texture x) p = subst (λ w. Spells w (texture x)) (texture_alone x p.1 ∙ sym p.0) (texture_is x)
+plain_spells text (texture x) p = subst (λ w. Spells w (texture x)) (texture_alone names.Wgsl x p.1 ∙ sym p.0) (texture_is names.Wgsl x)
 plain_spells text (ray_query None) p = subst (λ w. Spells w (ray_query None)) (sym p) (ray_query_is None)
 plain_spells text (acceleration_structure None) p = subst (λ w. Spells w (acceleration_structure None)) (sym p) (acceleration_structure_is None)
 plain_spells text (within k u) p = absurd p
@@ -226,7 +227,7 @@ plain_spells text (acceleration_structure (Some f)) p = absurd p
 pub leaf_spells : (text name list : List ℕ) → AtList text name list → (t : WgslType) → LeafSpells name list t → Spells text t
 leaf_spells text name list at (texture x) l =
     let named : with_list (texture_name x) list ≡ with_list name list = ap (λ n. with_list n list) (sym l.0) in
-    subst (λ w. Spells w (texture x)) (texture_listed x list l.1 ∙ (named ∙ sym at.1)) (texture_is x)
+    subst (λ w. Spells w (texture x)) (texture_listed l.1.0 x list l.1.1 ∙ (named ∙ sym at.1)) (texture_is l.1.0 x)
 leaf_spells text name list at (ray_query (Some f)) l = subst (λ w. Spells w (ray_query (Some f))) (flagged_text (codes "ray_query") f text name list at l.0 l.1) (ray_query_is (Some f))
 leaf_spells text name list at (acceleration_structure (Some f)) l = subst (λ w. Spells w (acceleration_structure (Some f))) (flagged_text (codes "acceleration_structure") f text name list at l.0 l.1) (acceleration_structure_is (Some f))
 leaf_spells text name list at (scalar s) l = absurd l

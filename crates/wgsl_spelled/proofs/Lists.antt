@@ -5,7 +5,7 @@ use Rattle.std.proofs.lemmas.List.{append_assoc}
 use Rattle.std.proofs.lemmas.Fmt.{decimal_injective}
 use Rattle.wgsl_syntax.specs.Address.{access_text, space_text}
 use Rattle.wgsl_syntax.specs.Scalar.{scalar_text}
-use Rattle.wgsl_syntax.specs.Texture.{sampled_text, sampler_text, texture_text}
+use Rattle.wgsl_syntax.specs.Texture.{sampled_text, sampler_text, texture_text_by}
 use Rattle.wgsl_syntax.specs.declared.address.AccessMode.{AccessMode}
 use Rattle.wgsl_syntax.specs.declared.address.AccessMode.TheVariants as access
 use Rattle.wgsl_syntax.specs.declared.address.AddressSpace.{AddressSpace}
@@ -15,6 +15,7 @@ use Rattle.wgsl_syntax.specs.declared.attribute.AccelerationStructureFlags.{Acce
 use Rattle.wgsl_syntax.specs.declared.attribute.AccelerationStructureFlags.TheVariants.{VertexReturn}
 use Rattle.wgsl_syntax.specs.declared.scalar.Scalar.{Scalar}
 use Rattle.wgsl_syntax.specs.declared.scalar.Scalar.TheVariants as scalars
+use Rattle.wgsl_syntax.specs.declared.texel.FormatNames.{FormatNames}
 use Rattle.wgsl_syntax.specs.declared.texel.TexelFormat.{TexelFormat}
 use Rattle.wgsl_syntax.specs.declared.texture.SampledType.{SampledType}
 use Rattle.wgsl_syntax.specs.declared.texture.SamplerType.{SamplerType}
@@ -22,7 +23,7 @@ use Rattle.wgsl_syntax.specs.declared.texture.SamplerType.TheVariants as sampler
 use Rattle.wgsl_syntax.specs.declared.texture.TextureType.{TextureType}
 use Rattle.wgsl_syntax.specs.declared.texture.TextureType.TheVariants as textures
 use Rattle.wgsl_syntax.specs.Attribute.{flag_text}
-use Rattle.wgsl_syntax.specs.Texel.{texel_text}
+use Rattle.wgsl_syntax.specs.Texel.{texel_text_by}
 use Rattle.std.specs.Str.{bytes_eq}
 use Rattle.std.proofs.lemmas.Slice.Eq.{bytes_eq-Decides}
 use Rattle.wgsl_rules.specs.types.Spelling.{flagged}
@@ -73,31 +74,31 @@ flag_has name e (Some f) =
 sampled_end : (name : List ℕ) (s : SampledType) → NoCount (name ++ ((codes "<" ++ sampled_text s) ++ codes ">"))
 sampled_end name s = with_bracket _ (name ++ (codes "<" ++ sampled_text s)) (sym (append_assoc name (codes "<" ++ sampled_text s) (codes ">")))
 
-storage_end : (name : List ℕ) (f : TexelFormat) (m : AccessMode) → NoCount (name ++ ((((codes "<" ++ texel_text f) ++ codes ", ") ++ access_text m) ++ codes ">"))
-storage_end name f m =
-    with_bracket _ (name ++ (((codes "<" ++ texel_text f) ++ codes ", ") ++ access_text m)) (sym (append_assoc name (((codes "<" ++ texel_text f) ++ codes ", ") ++ access_text m) (codes ">")))
+storage_end : (by : FormatNames) (name : List ℕ) (f : TexelFormat) (m : AccessMode) → NoCount (name ++ ((((codes "<" ++ texel_text_by by f) ++ codes ", ") ++ access_text m) ++ codes ">"))
+storage_end by name f m =
+    with_bracket _ (name ++ (((codes "<" ++ texel_text_by by f) ++ codes ", ") ++ access_text m)) (sym (append_assoc name (((codes "<" ++ texel_text_by by f) ++ codes ", ") ++ access_text m) (codes ">")))
 
-texture_no_count : (x : TextureType) → NoCount (texture_text x)
-texture_no_count (textures.Sampled1D s) = sampled_end (codes "texture_1d") s
-texture_no_count (textures.Sampled2D s) = sampled_end (codes "texture_2d") s
-texture_no_count (textures.Sampled2DArray s) = sampled_end (codes "texture_2d_array") s
-texture_no_count (textures.Sampled3D s) = sampled_end (codes "texture_3d") s
-texture_no_count (textures.SampledCube s) = sampled_end (codes "texture_cube") s
-texture_no_count (textures.SampledCubeArray s) = sampled_end (codes "texture_cube_array") s
-texture_no_count (textures.Sampled1DArray s) = sampled_end (codes "texture_1d_array") s
-texture_no_count (textures.Multisampled2D s) = sampled_end (codes "texture_multisampled_2d") s
-texture_no_count (textures.Multisampled2DArray s) = sampled_end (codes "texture_multisampled_2d_array") s
-texture_no_count (textures.Storage1D f m) = storage_end (codes "texture_storage_1d") f m
-texture_no_count (textures.Storage1DArray f m) = storage_end (codes "texture_storage_1d_array") f m
-texture_no_count (textures.Storage2D f m) = storage_end (codes "texture_storage_2d") f m
-texture_no_count (textures.Storage2DArray f m) = storage_end (codes "texture_storage_2d_array") f m
-texture_no_count (textures.Storage3D f m) = storage_end (codes "texture_storage_3d") f m
-texture_no_count textures.External = without_comma (codes "texture_external") (lacks_by 44 (codes "texture_external") refl)
-texture_no_count textures.Depth2D = without_comma (codes "texture_depth_2d") (lacks_by 44 (codes "texture_depth_2d") refl)
-texture_no_count textures.Depth2DArray = without_comma (codes "texture_depth_2d_array") (lacks_by 44 (codes "texture_depth_2d_array") refl)
-texture_no_count textures.DepthCube = without_comma (codes "texture_depth_cube") (lacks_by 44 (codes "texture_depth_cube") refl)
-texture_no_count textures.DepthCubeArray = without_comma (codes "texture_depth_cube_array") (lacks_by 44 (codes "texture_depth_cube_array") refl)
-texture_no_count textures.DepthMultisampled2D = without_comma (codes "texture_depth_multisampled_2d") (lacks_by 44 (codes "texture_depth_multisampled_2d") refl)
+texture_no_count : (by : FormatNames) (x : TextureType) → NoCount (texture_text_by by x)
+texture_no_count by (textures.Sampled1D s) = sampled_end (codes "texture_1d") s
+texture_no_count by (textures.Sampled2D s) = sampled_end (codes "texture_2d") s
+texture_no_count by (textures.Sampled2DArray s) = sampled_end (codes "texture_2d_array") s
+texture_no_count by (textures.Sampled3D s) = sampled_end (codes "texture_3d") s
+texture_no_count by (textures.SampledCube s) = sampled_end (codes "texture_cube") s
+texture_no_count by (textures.SampledCubeArray s) = sampled_end (codes "texture_cube_array") s
+texture_no_count by (textures.Sampled1DArray s) = sampled_end (codes "texture_1d_array") s
+texture_no_count by (textures.Multisampled2D s) = sampled_end (codes "texture_multisampled_2d") s
+texture_no_count by (textures.Multisampled2DArray s) = sampled_end (codes "texture_multisampled_2d_array") s
+texture_no_count by (textures.Storage1D f m) = storage_end by (codes "texture_storage_1d") f m
+texture_no_count by (textures.Storage1DArray f m) = storage_end by (codes "texture_storage_1d_array") f m
+texture_no_count by (textures.Storage2D f m) = storage_end by (codes "texture_storage_2d") f m
+texture_no_count by (textures.Storage2DArray f m) = storage_end by (codes "texture_storage_2d_array") f m
+texture_no_count by (textures.Storage3D f m) = storage_end by (codes "texture_storage_3d") f m
+texture_no_count by textures.External = without_comma (codes "texture_external") (lacks_by 44 (codes "texture_external") refl)
+texture_no_count by textures.Depth2D = without_comma (codes "texture_depth_2d") (lacks_by 44 (codes "texture_depth_2d") refl)
+texture_no_count by textures.Depth2DArray = without_comma (codes "texture_depth_2d_array") (lacks_by 44 (codes "texture_depth_2d_array") refl)
+texture_no_count by textures.DepthCube = without_comma (codes "texture_depth_cube") (lacks_by 44 (codes "texture_depth_cube") refl)
+texture_no_count by textures.DepthCubeArray = without_comma (codes "texture_depth_cube_array") (lacks_by 44 (codes "texture_depth_cube_array") refl)
+texture_no_count by textures.DepthMultisampled2D = without_comma (codes "texture_depth_multisampled_2d") (lacks_by 44 (codes "texture_depth_multisampled_2d") refl)
 
 abbrev none_has : {A : Type 0} → ℕ → List (List ℕ × A) → Bool
 none_has c [] = false
@@ -120,7 +121,7 @@ alias_lacks c text layer s none e = found_lacks c aliases text (layer, s) none e
 pub no_count : {text : List ℕ} {t : WgslType} → Spells text t → NoCount text
 no_count (scalar_is s) = without_comma (scalar_text s) (lacks_by 44 _ (scalar_has s))
 no_count (sampler_is s) = without_comma (sampler_text s) (lacks_by 44 _ (sampler_has s))
-no_count (texture_is x) = texture_no_count x
+no_count (texture_is by x) = texture_no_count by x
 no_count (ray_query_is f) = flag_has (codes "ray_query") refl f
 no_count (acceleration_structure_is f) = flag_has (codes "acceleration_structure") refl f
 no_count (alias_is {text} {layer} {s} e) = without_comma text (alias_lacks 44 text layer s refl e)

@@ -1,11 +1,12 @@
 -- A text spells one type.
 use Rattle.std.proofs.Common.{◌≡◌, ◌++◌, ◌⊎◌, inl, inr, ℕ, List, ◌∷◌, Option, Some, None, codes, decimal, false, get_or, refl, sym, ap, subst, ◌∙◌, arith}
 use Rattle.wgsl_syntax.specs.Attribute.{flag_text}
-use Rattle.wgsl_syntax.specs.Texture.{sampler_text, texture_name, texture_text}
+use Rattle.wgsl_syntax.specs.Texture.{sampler_text, texture_name, texture_text_by}
 use Rattle.wgsl_syntax.specs.TextureName.{name_of as texture_name_of, parameter_kind, parameters_of}
 use Rattle.wgsl_syntax.specs.declared.around.Around.{Around}
 use Rattle.wgsl_syntax.specs.declared.around.Around.TheVariants.{Array, Vec, Mat, BindingArray, Atomic, Ptr, Ref}
 use Rattle.wgsl_syntax.specs.declared.scalar.Scalar.{Scalar}
+use Rattle.wgsl_syntax.specs.declared.texel.FormatNames.{FormatNames}
 use Rattle.wgsl_syntax.specs.declared.texture.SamplerType.{SamplerType}
 use Rattle.wgsl_syntax.specs.declared.texture.TextureType.{TextureType}
 use Rattle.wgsl_syntax.specs.declared.attribute.AccelerationStructureFlags.{AccelerationStructureFlags}
@@ -14,10 +15,10 @@ use Rattle.wgsl_syntax.proofs.Textures.{made_again, same_kind, texture_is as tex
 use Rattle.wgsl_rules.specs.types.Around.{around}
 use Rattle.wgsl_rules.specs.types.Types.{WgslType, scalar, within, struct, atomic, pointer, reference, texture, sampler, binding_array, ray_query, acceleration_structure}
 use Rattle.wgsl_spelled.specs.Spells.{IsInRange, Spells, acceleration_structure_is, alias_of, alias_is, around_is, list_of, name_of, ray_query_is, sampler_is, scalar_is, texture_is, with_list, counted_list}
-use Rattle.wgsl_spelled.specs.internal.{AreListed, AtList, CountFits, LayerAt, LeafSpells, PlainSpells}
+use Rattle.wgsl_spelled.specs.internal.{AreListedBy, AtList, CountFits, LayerAt, LeafSpells, PlainSpells}
 use Rattle.wgsl_spelled.proofs.Inverted.{InLayer, IsAlias, flag_spelled, leaf_name, name_lacks, sampler_has, pair_same, plain_no_alias, plain_spells, sampler_byte, scalar_only, with_cut, without_cut}
 use Rattle.wgsl_syntax.specs.Address.{access_text}
-use Rattle.wgsl_syntax.specs.Texel.{texel_text}
+use Rattle.wgsl_syntax.specs.Texel.{texel_text_by}
 use Rattle.wgsl_syntax.specs.Texture.{sampled_text}
 use Rattle.wgsl_syntax.specs.declared.texture.TextureType.TheVariants as textures
 use Rattle.wgsl_syntax.specs.declared.texture_name.TextureParameters.{TextureParameters}
@@ -194,18 +195,18 @@ name_has : (x : TextureType) → has 60 (texture_name x) ≡ false
 name_has textures.External = refl
 name_has _ = refl
 
-texture_one : (x : TextureType) (u : WgslType) → Spells (texture_text x) u → texture x ≡ u
-texture_one x u e = step (parameters_of x) refl
+texture_one : (by : FormatNames) (x : TextureType) (u : WgslType) → Spells (texture_text_by by x) u → texture x ≡ u
+texture_one by x u e = step (parameters_of x) refl
   where
-    listed : (list : List ℕ) → AreListed (parameters_of x) list → texture x ≡ u
-    listed list is = cut_one (texture_text x) (texture_name x) list (texture x) u (lacks_by 60 (texture_name x) (name_has x), texture_listed x list is) (refl, is) e
+    listed : (list : List ℕ) → AreListedBy by (parameters_of x) list → texture x ≡ u
+    listed list is = cut_one (texture_text_by by x) (texture_name x) list (texture x) u (lacks_by 60 (texture_name x) (name_has x), texture_listed by x list is) (refl, (by, is)) e
 
     step : (p : TextureParameters) → parameters_of x ≡ p → texture x ≡ u
     step parameters.None is =
-        uncut_one (texture_text x) (texture x) u (λ name list at. subst (λ p. AreListed p list) is (texture_cut x name list at).1) (texture_alone x is, is) e
-    step (parameters.Sampled s) is = listed (sampled_text s) (subst (λ p. AreListed p (sampled_text s)) (sym is) refl)
+        uncut_one (texture_text_by by x) (texture x) u (λ name list at. subst (λ p. AreListedBy by p list) is (texture_cut by x name list at).1) (texture_alone by x is, is) e
+    step (parameters.Sampled s) is = listed (sampled_text s) (subst (λ p. AreListedBy by p (sampled_text s)) (sym is) refl)
     step (parameters.Storage f m) is =
-        listed (texel_text f ++ (codes ", " ++ access_text m)) (subst (λ p. AreListed p (texel_text f ++ (codes ", " ++ access_text m))) (sym is) refl)
+        listed (texel_text_by by f ++ (codes ", " ++ access_text m)) (subst (λ p. AreListedBy by p (texel_text_by by f ++ (codes ", " ++ access_text m))) (sym is) refl)
 
 -- layers
 
@@ -290,7 +291,7 @@ flag_one base f t u none l e = cut_one (flagged base (Some f)) base (flag_text f
 pub one_spelled : {text : List ℕ} {t : WgslType} → Spells text t → (u : WgslType) → Spells text u → t ≡ u
 one_spelled (scalar_is s) u e = sym (scalar_only s u e)
 one_spelled (sampler_is s) u e = uncut_one (sampler_text s) (sampler s) u (no_list (sampler_text s) (lacks_by 60 (sampler_text s) (sampler_has s))) refl e
-one_spelled (texture_is x) u e = texture_one x u e
+one_spelled (texture_is by x) u e = texture_one by x u e
 one_spelled (ray_query_is None) u e = uncut_one (codes "ray_query") (ray_query None) u (no_list (codes "ray_query") (lacks_by 60 (codes "ray_query") refl)) refl e
 one_spelled (ray_query_is (Some f)) u e = flag_one (codes "ray_query") f (ray_query (Some f)) u refl (refl, refl) e
 one_spelled (acceleration_structure_is None) u e =

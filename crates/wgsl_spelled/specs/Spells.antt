@@ -3,12 +3,13 @@ use Rattle.std.specs.Prelude.{◌≡◌, ◌<◌, ◌^◌, ◌++◌, ℕ, List, 
 use Rattle.std.specs.Str.{bytes_eq}
 use Rattle.wgsl_syntax.specs.Address.{access_text, space_text}
 use Rattle.wgsl_syntax.specs.Scalar.{scalar_text}
-use Rattle.wgsl_syntax.specs.Texture.{sampler_text, texture_text}
+use Rattle.wgsl_syntax.specs.Texture.{sampler_text, texture_text_by}
 use Rattle.wgsl_syntax.specs.declared.around.Around.{Around}
 use Rattle.wgsl_syntax.specs.declared.around.Around.TheVariants.{Array, Vec, Mat, BindingArray, Atomic, Ptr, Ref}
 use Rattle.wgsl_syntax.specs.declared.attribute.AccelerationStructureFlags.{AccelerationStructureFlags}
 use Rattle.wgsl_syntax.specs.declared.scalar.Scalar.{Scalar}
 use Rattle.wgsl_syntax.specs.declared.scalar.Scalar.TheVariants.{F16, F32, I32, U32}
+use Rattle.wgsl_syntax.specs.declared.texel.FormatNames.{FormatNames}
 use Rattle.wgsl_syntax.specs.declared.texture.SamplerType.{SamplerType}
 use Rattle.wgsl_syntax.specs.declared.texture.TextureType.{TextureType}
 use Rattle.wgsl_rules.specs.types.Around.{around}
@@ -83,8 +84,8 @@ pub data Spells : List ℕ → WgslType → Type 0 where
   scalar_is : (s : Scalar) → Spells (scalar_text s) (scalar s)
   -- `sampler_comparison`
   sampler_is : (s : SamplerType) → Spells (sampler_text s) (sampler s)
-  -- `texture_2d<f32>`, `texture_storage_2d<rgba8unorm, write>`
-  texture_is : (x : TextureType) → Spells (texture_text x) (texture x)
+  -- `texture_2d<f32>`, `texture_storage_2d<rgba8unorm, write>`: a texel format by WGSL's name or by naga's
+  texture_is : (names : FormatNames) (x : TextureType) → Spells (texture_text_by names x) (texture x)
   -- `ray_query`, `ray_query<vertex_return>`
   ray_query_is : (f : Option AccelerationStructureFlags) → Spells (flagged (codes "ray_query") f) (ray_query f)
   -- `acceleration_structure`

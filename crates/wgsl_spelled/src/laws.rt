@@ -1,14 +1,15 @@
 // Laws of spellings: each function returns nothing, and its contract is the law.
 ghost use Rattle.std.specs.Prelude.{◌≡◌, ℕ, List};
-ghost use Rattle.wgsl_rules.specs.types.Spelling.{spelling};
+ghost use Rattle.wgsl_syntax.specs.declared.texel.FormatNames.{FormatNames};
+ghost use Rattle.wgsl_rules.specs.types.Spelling.{spelling_by};
 ghost use Rattle.wgsl_rules.specs.types.Types.{WgslType};
 ghost use Rattle.wgsl_spelled.specs.Spells.{Spells};
 ghost use Rattle.wgsl_spelled.specs.Written.{IsWritable};
 
-/// What a type without a struct is written as spells it.
+/// What a type without a struct is written as spells it, by WGSL's names of texel formats or by naga's.
 #[tactic(auto, using(crate::proofs::Spellings::spells_spelling))]
 pub fn spelled_as_written()
-    ensures { (t : WgslType) → IsWritable t → Spells (spelling t) t }
+    ensures { (names : FormatNames) (t : WgslType) → IsWritable t → Spells (spelling_by names t) t }
 {}
 
 /// A text spells at most one type.

@@ -18,7 +18,7 @@ use wgsl_core::ty::Type;
 use wgsl_syntax::address::{AccessMode, AddressSpace};
 use wgsl_syntax::around::Around;
 use wgsl_syntax::attribute::AccelerationStructureFlags;
-use wgsl_syntax::texel::TexelFormat;
+use wgsl_syntax::texel::{FormatNames, TexelFormat};
 use wgsl_syntax::texture::{SampledType, TextureType};
 use wgsl_syntax::texture_name::{TextureName, TextureParameterKind, TextureParameters};
 
@@ -190,6 +190,6 @@ fn storage(list: &str) -> Option<(TexelFormat, AccessMode)>
         (λ found. AreListed (parameters.Storage found.0 found.1) list.now) }
 {
     let (format, access) = first(list)?;
-    let format = TexelFormat::from_str(format).ok()?;
+    let format = TexelFormat::named_by(FormatNames::Wgsl, format)?;
     Some((format, AccessMode::from_str(access).ok()?))
 }

@@ -3,7 +3,7 @@ use Rattle.std.specs.Prelude.{ℕ, ◌+◌, ◌-◌, ◌^◌, ◌≡◌, List, [
 use Rattle.wgsl_syntax.specs.Operator.{binary_text, unary_text}
 use Rattle.wgsl_syntax.specs.declared.overload.Overload.{Overload}
 use Rattle.wgsl_rules.specs.types.Types.{WgslType, vec}
-use Rattle.wgsl_rules.specs.types.Spelling.{spelling}
+use Rattle.wgsl_rules.specs.types.Spelling.{wgsl_spelling}
 use Rattle.wgsl_rules.specs.standard.Choice.{value_of}
 use Rattle.wgsl_rules.specs.standard.Signatures.{signature_lines, signature_text}
 use Rattle.wgsl_standard.specs.Operands.{given_type}
@@ -64,7 +64,7 @@ operand_text true i = if i == 0 then codes "the template" else codes "argument "
 -- `argument 2 is f32` if it doesn't take an operand of this type
 abbrev pub reason_text : Bool → ℕ → Option WgslType → Mismatch → List ℕ
 reason_text has_template count found (Count n) = counts_text has_template n count
-reason_text has_template count (Some t) (Argument i) = operand_text has_template i ++ codes " is " ++ spelling t
+reason_text has_template count (Some t) (Argument i) = operand_text has_template i ++ codes " is " ++ wgsl_spelling t
 reason_text has_template count None (Argument i) = []
 
 -- `dot(vecN<T>, vecN<T>) -> T, T: number: argument 2 is f32`

@@ -1,7 +1,7 @@
 // Why a call has no overload, one note per overload.
 ghost use Rattle.std.specs.Prelude.{◌≡◌, ◌++◌, All, IfOk, codes, map, option_map};
 ghost use Rattle.std.specs.Fmt.{WritesOnOk};
-ghost use Rattle.wgsl_rules.specs.types.Spelling.{spelling};
+ghost use Rattle.wgsl_rules.specs.types.Spelling.{wgsl_spelling};
 ghost use Rattle.wgsl_rules.specs.standard.Choice.{value_of};
 ghost use Rattle.wgsl_core.specs.View.{view};
 ghost use Rattle.wgsl_standard.specs.Operands.{given_type, operands_view};
@@ -220,7 +220,7 @@ fn write_argument<W: Write>(
     ty: OperandType<'_>,
 ) -> fmt::Result
     ensures { WritesOnOk W.write_str_gives f.old result
-        (operand_text has_template index ++ codes " is " ++ spelling (given_type ty.entry)) f.new }
+        (operand_text has_template index ++ codes " is " ++ wgsl_spelling (given_type ty.entry)) f.new }
 {
     if !has_template {
         let number = index.saturating_add(1);

@@ -9,9 +9,11 @@ use std::fmt;
 use std::fmt::Write;
 use wgsl_core::ty::Type;
 use wgsl_core::ty::form::Form;
+use wgsl_core::ty::show::write_type;
 use wgsl_syntax::address::AccessMode;
 use wgsl_syntax::overload::Dimensions;
 use wgsl_syntax::scalar::Scalar;
+use wgsl_syntax::texel::FormatNames;
 
 /// An operand of an operator, or an argument of a function.
 #[derive(Clone, Copy)]
@@ -61,14 +63,14 @@ impl<'a> OperandType<'a> {
 
 impl fmt::Display for OperandType<'_> {
     ghost use Rattle.std.specs.Prelude.{Some};
-    ghost use Rattle.wgsl_rules.specs.types.Spelling.{spelling};
+    ghost use Rattle.wgsl_rules.specs.types.Spelling.{wgsl_spelling};
     ghost use Rattle.wgsl_standard.specs.Operands.{given_type};
 
-    ghost output = { λ t. Some (spelling (given_type t)) };
+    ghost output = { λ t. Some (wgsl_spelling (given_type t)) };
 
     fn fmt<W: Write>(&self, f: &mut fmt::Formatter<W>) -> fmt::Result {
         match self {
-            OperandType::Any(ty) => write!(f, "{ty}"),
+            OperandType::Any(ty) => write_type(f, FormatNames::Wgsl, ty),
             OperandType::Value(Dimensions::Single, scalar) => write!(f, "{scalar}"),
             OperandType::Value(Dimensions::Vector(n), scalar) => write!(f, "vec{n}<{scalar}>"),
             OperandType::Value(Dimensions::Matrix(c, r), scalar) => {

@@ -1,4 +1,5 @@
 pub mod Discrete
 pub mod Naming
 pub mod Same
+pub mod Texels
 pub mod Textures

@@ -176,7 +176,7 @@ scalar_back _ = refl
 pub scalar_naming : IsNaming scalar_text (table scalar_text scalars)
 scalar_naming = naming scalar_text scalars scalar_back
 
-texel_back : (x : TexelFormat) → named (table texel_text texel_formats) (texel_text x) ≡ Some x
+pub texel_back : (x : TexelFormat) → named (table texel_text texel_formats) (texel_text x) ≡ Some x
 texel_back texel.Rgba8Unorm = refl
 texel_back _ = refl
 
@@ -185,6 +185,9 @@ texel_naming = naming texel_text texel_formats texel_back
 
 pub texel_reads : (s : List ℕ) → Reads texel_text s (ok_or (named (table texel_text texel_formats) s) (tt {0}))
 texel_reads = reading texel_text texel_formats texel_back
+
+pub texel_text_of : (s : List ℕ) (x : TexelFormat) → named (table texel_text texel_formats) s ≡ Some x → s ≡ texel_text x
+texel_text_of = named_text texel_text texel_formats
 
 sampled_back : (x : SampledType) → named (table sampled_text sampled_types) (sampled_text x) ≡ Some x
 sampled_back sampled.I32 = refl

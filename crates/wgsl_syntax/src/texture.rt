@@ -2,11 +2,11 @@
 ghost use Rattle.std.specs.Prelude.{◌≡◌, ◌↔◌, IsTrue};
 ghost use Rattle.wgsl_syntax.specs.TextureKind.{dimensions, sampled_type, texture_channel, IsArrayed, IsDepth, IsMultisampled, IsSampled, IsStorage};
 ghost use Rattle.wgsl_syntax.specs.Names.{named, table, Reads};
-ghost use Rattle.wgsl_syntax.specs.Texture.{sampled_text, sampled_types, sampler_text, samplers, texture_text};
+ghost use Rattle.wgsl_syntax.specs.Texture.{sampled_text, sampled_types, sampler_text, samplers, texture_text, texture_text_by};
 ghost use Rattle.wgsl_syntax.specs.TextureName.{name_of, parameters_of};
 
 use crate::address::AccessMode;
-use crate::texel::TexelFormat;
+use crate::texel::{FormatNames, TexelFormat};
 use crate::texture_name::{TextureName, TextureParameters};
 use std::fmt;
 use std::fmt::Write;
@@ -323,11 +323,35 @@ impl fmt::Display for TextureType {
     ghost output = { λ x. Some (texture_text x) };
 
     fn fmt<W: Write>(&self, f: &mut fmt::Formatter<W>) -> fmt::Result {
-        let name = self.name();
-        match self.parameters() {
+        let shown = ShownTexture {
+            texture: *self,
+            names: FormatNames::Naga,
+        };
+        write!(f, "{shown}")
+    }
+}
+
+/// A texture as it is printed by these names of texel formats.
+#[derive(Clone, Copy)]
+pub struct ShownTexture {
+    pub texture: TextureType,
+    pub names: FormatNames,
+}
+
+impl fmt::Display for ShownTexture {
+    ghost use Rattle.std.specs.Prelude.{Some};
+
+    ghost output = { λ x. Some (texture_text_by x.names x.texture) };
+
+    fn fmt<W: Write>(&self, f: &mut fmt::Formatter<W>) -> fmt::Result {
+        let name = self.texture.name();
+        match self.texture.parameters() {
             TextureParameters::None => write!(f, "{name}"),
             TextureParameters::Sampled(sampled) => write!(f, "{name}<{sampled}>"),
-            TextureParameters::Storage(format, access) => write!(f, "{name}<{format}, {access}>"),
+            TextureParameters::Storage(format, access) => {
+                let format = format.name_by(self.names);
+                write!(f, "{name}<{format}, {access}>")
+            }
         }
     }
 }

@@ -8,7 +8,7 @@ use Rattle.wgsl_syntax.specs.Attribute.{flag_text, flags}
 use Rattle.wgsl_syntax.specs.Names.{IsNaming, table}
 use Rattle.wgsl_syntax.specs.Scalar.{scalar_text, scalars}
 use Rattle.wgsl_syntax.specs.Texel.{texel_formats, texel_text}
-use Rattle.wgsl_syntax.specs.Texture.{sampled_text, sampled_types, sampler_text, samplers, texture_text}
+use Rattle.wgsl_syntax.specs.Texture.{sampled_text, sampled_types, sampler_text, samplers, texture_text_by}
 use Rattle.wgsl_syntax.specs.TextureName.{name_of as texture_name_of, parameters_of, texture_name_text, texture_names, texture_with}
 use Rattle.wgsl_syntax.specs.declared.address.AccessMode.{AccessMode}
 use Rattle.wgsl_syntax.specs.declared.address.AddressSpace.{AddressSpace}
@@ -16,6 +16,8 @@ use Rattle.wgsl_syntax.specs.declared.around.Around.{Around}
 use Rattle.wgsl_syntax.specs.declared.around.Around.TheVariants.{Array, Vec, Mat, BindingArray, Atomic, Ptr, Ref}
 use Rattle.wgsl_syntax.specs.declared.attribute.AccelerationStructureFlags.{AccelerationStructureFlags}
 use Rattle.wgsl_syntax.specs.declared.scalar.Scalar.{Scalar}
+use Rattle.wgsl_syntax.specs.declared.texel.FormatNames.{FormatNames}
+use Rattle.wgsl_syntax.specs.declared.texel.FormatNames.TheVariants as names
 use Rattle.wgsl_syntax.specs.declared.texel.TexelFormat.{TexelFormat}
 use Rattle.wgsl_syntax.specs.declared.texture.SampledType.{SampledType}
 use Rattle.wgsl_syntax.specs.declared.texture.SamplerType.{SamplerType}
@@ -73,38 +75,38 @@ found_or_not (inr none) = no (λ f. none f.0 f.1)
 
 -- Textures, by their names and parameters
 
-abbrev IsWith : List ℕ → TextureName → TextureParameters → Type 0
-IsWith text n p = (x : TextureType) × (texture_with n p ≡ Some x) × (text ≡ texture_text x)
+abbrev IsWith : FormatNames → List ℕ → TextureName → TextureParameters → Type 0
+IsWith by text n p = (x : TextureType) × (texture_with n p ≡ Some x) × (text ≡ texture_text_by by x)
 
-dec_with : (text : List ℕ) (n : TextureName) (p : TextureParameters) → Dec (IsWith text n p)
-dec_with text n p = by (texture_with n p) refl
+dec_with : (by : FormatNames) (text : List ℕ) (n : TextureName) (p : TextureParameters) → Dec (IsWith by text n p)
+dec_with by text n p = made (texture_with n p) refl
   where
-    by : (o : Option TextureType) → texture_with n p ≡ o → Dec (IsWith text n p)
-    by None e = no (λ w. let same : None ≡ Some w.0 = sym e ∙ w.1 in cc same)
-    by (Some x) e = elim (same_word text (texture_text x)) [
+    made : (o : Option TextureType) → texture_with n p ≡ o → Dec (IsWith by text n p)
+    made None e = no (λ w. let same : None ≡ Some w.0 = sym e ∙ w.1 in cc same)
+    made (Some x) e = elim (same_word text (texture_text_by by x)) [
       | yes is ↦ yes (x, e, is)
-      | no other ↦ no (λ w. let same : Some x ≡ Some w.0 = sym e ∙ w.1 in let one : w.0 ≡ x = sym (cc same) in other (w.2 ∙ ap texture_text one))
+      | no other ↦ no (λ w. let same : Some x ≡ Some w.0 = sym e ∙ w.1 in let one : w.0 ≡ x = sym (cc same) in other (w.2 ∙ ap (texture_text_by by) one))
     ]
 
-some_parameters : (text : List ℕ) (n : TextureName) → Means (IsWith text n)
-some_parameters text n = elim (dec_with text n parameters.None) [
+some_parameters : (by : FormatNames) (text : List ℕ) (n : TextureName) → Means (IsWith by text n)
+some_parameters by text n = elim (dec_with by text n parameters.None) [
   | yes w ↦ inl (parameters.None, w)
-  | no bare ↦ elim (any_named sampled_text sampled_types sampled_naming (λ s. dec_with text n (parameters.Sampled s))) [
+  | no bare ↦ elim (any_named sampled_text sampled_types sampled_naming (λ s. dec_with by text n (parameters.Sampled s))) [
     | inl f ↦ inl (parameters.Sampled f.0, f.1)
-    | inr sampled ↦ elim (any_named texel_text texel_formats texel_naming (λ f. found_or_not (any_named access_text access_modes access_naming (λ m. dec_with text n (parameters.Storage f m))))) [
+    | inr sampled ↦ elim (any_named texel_text texel_formats texel_naming (λ f. found_or_not (any_named access_text access_modes access_naming (λ m. dec_with by text n (parameters.Storage f m))))) [
       | inl f ↦ inl (parameters.Storage f.0 f.1.0, f.1.1)
       | inr storage ↦ inr (none bare sampled storage)
     ]
   ]
 ]
   where
-    none : ¬ IsWith text n parameters.None → ((s : SampledType) → ¬ IsWith text n (parameters.Sampled s)) → ((f : TexelFormat) → ¬ ((m : AccessMode) × IsWith text n (parameters.Storage f m))) → (p : TextureParameters) → ¬ IsWith text n p
+    none : ¬ IsWith by text n parameters.None → ((s : SampledType) → ¬ IsWith by text n (parameters.Sampled s)) → ((f : TexelFormat) → ¬ ((m : AccessMode) × IsWith by text n (parameters.Storage f m))) → (p : TextureParameters) → ¬ IsWith by text n p
     none bare sampled storage parameters.None w = bare w
     none bare sampled storage (parameters.Sampled s) w = sampled s w
     none bare sampled storage (parameters.Storage f m) w = storage f (m, w)
 
-a_texture_text : (text : List ℕ) → Means (λ x. text ≡ texture_text x)
-a_texture_text text = elim (any_named texture_name_text texture_names texture_naming (λ n. found_or_not (some_parameters text n))) [
+a_texture_text : (by : FormatNames) (text : List ℕ) → Means (λ x. text ≡ texture_text_by by x)
+a_texture_text by text = elim (any_named texture_name_text texture_names texture_naming (λ n. found_or_not (some_parameters by text n))) [
   | inl f ↦ inl (f.1.1.0, f.1.1.2)
   | inr none ↦ inr (λ x is. none (texture_name_of x) (parameters_of x, (x, made_again x, is)))
 ]
@@ -265,12 +267,12 @@ spelled_inside : {text : List ℕ} → (layer : Around) → IsInRange layer → 
 spelled_inside layer fits x = subst (λ w. Spells w (around layer x.1)) (spelled_around layer x.0 ∙ sym x.2) (around_is layer fits x.3)
 
 -- a text that is none of these spells nothing
-refused : {text : List ℕ} {t : WgslType} → Spells text t → ((s : Scalar) → text ≢ scalar_text s) → ((s : SamplerType) → text ≢ sampler_text s) → ((x : TextureType) → text ≢ texture_text x)
+refused : {text : List ℕ} {t : WgslType} → Spells text t → ((s : Scalar) → text ≢ scalar_text s) → ((s : SamplerType) → text ≢ sampler_text s) → ((by : FormatNames) (x : TextureType) → text ≢ texture_text_by by x)
     → ((f : Option AccelerationStructureFlags) → text ≢ flagged (codes "ray_query") f) → ((f : Option AccelerationStructureFlags) → text ≢ flagged (codes "acceleration_structure") f)
     → alias_of text ≡ None → ((layer : Around) → IsInRange layer → ¬ Inside text layer) → ⊥
 refused (scalar_is s) a b c d e f g = a s refl
 refused (sampler_is s) a b c d e f g = b s refl
-refused (texture_is x) a b c d e f g = c x refl
+refused (texture_is by x) a b c d e f g = c by x refl
 refused (ray_query_is o) a b c d e f g = d o refl
 refused (acceleration_structure_is o) a b c d e f g = e o refl
 refused (alias_is found) a b c d e f g = let no : Some _ ≡ None = sym found ∙ f in cc no
@@ -281,20 +283,27 @@ spells_by text layered = elim (a_name scalar_text scalars scalar_naming text) [
   | inl s ↦ inl (scalar s.0, subst (λ w. Spells w (scalar s.0)) (sym s.1) (scalar_is s.0))
   | inr a ↦ elim (a_name sampler_text samplers sampler_naming text) [
     | inl s ↦ inl (sampler s.0, subst (λ w. Spells w (sampler s.0)) (sym s.1) (sampler_is s.0))
-    | inr b ↦ elim (a_texture_text text) [
-      | inl x ↦ inl (texture x.0, subst (λ w. Spells w (texture x.0)) (sym x.1) (texture_is x.0))
-      | inr c ↦ elim (a_flagged_text (codes "ray_query") text) [
-        | inl f ↦ inl (ray_query f.0, subst (λ w. Spells w (ray_query f.0)) (sym f.1) (ray_query_is f.0))
-        | inr d ↦ elim (a_flagged_text (codes "acceleration_structure") text) [
-          | inl f ↦ inl (acceleration_structure f.0, subst (λ w. Spells w (acceleration_structure f.0)) (sym f.1) (acceleration_structure_is f.0))
-          | inr e ↦ by_alias a b c d e (alias_of text) refl
+    | inr b ↦ elim (a_texture_text names.Wgsl text) [
+      | inl x ↦ inl (texture x.0, subst (λ w. Spells w (texture x.0)) (sym x.1) (texture_is names.Wgsl x.0))
+      | inr ours ↦ elim (a_texture_text names.Naga text) [
+        | inl x ↦ inl (texture x.0, subst (λ w. Spells w (texture x.0)) (sym x.1) (texture_is names.Naga x.0))
+        | inr theirs ↦ elim (a_flagged_text (codes "ray_query") text) [
+          | inl f ↦ inl (ray_query f.0, subst (λ w. Spells w (ray_query f.0)) (sym f.1) (ray_query_is f.0))
+          | inr d ↦ elim (a_flagged_text (codes "acceleration_structure") text) [
+            | inl f ↦ inl (acceleration_structure f.0, subst (λ w. Spells w (acceleration_structure f.0)) (sym f.1) (acceleration_structure_is f.0))
+            | inr e ↦ by_alias a b (by_names ours theirs) d e (alias_of text) refl
+          ]
         ]
       ]
     ]
   ]
 ]
   where
-    by_alias : ((s : Scalar) → text ≢ scalar_text s) → ((s : SamplerType) → text ≢ sampler_text s) → ((x : TextureType) → text ≢ texture_text x)
+    by_names : ((x : TextureType) → text ≢ texture_text_by names.Wgsl x) → ((x : TextureType) → text ≢ texture_text_by names.Naga x) → (by : FormatNames) (x : TextureType) → text ≢ texture_text_by by x
+    by_names ours theirs names.Wgsl x = ours x
+    by_names ours theirs names.Naga x = theirs x
+
+    by_alias : ((s : Scalar) → text ≢ scalar_text s) → ((s : SamplerType) → text ≢ sampler_text s) → ((by : FormatNames) (x : TextureType) → text ≢ texture_text_by by x)
         → ((f : Option AccelerationStructureFlags) → text ≢ flagged (codes "ray_query") f) → ((f : Option AccelerationStructureFlags) → text ≢ flagged (codes "acceleration_structure") f)
         → (o : Option (Around × Scalar)) → alias_of text ≡ o → Means (Spells text)
     by_alias a b c d e (Some found) is = inl (around found.0 (scalar found.1), alias_is is)

@@ -1,16 +1,19 @@
 -- A type at the front of words is found, or none stands there.
-use Rattle.std.proofs.Common.{◌≡◌, ◌<◌, ◌≤◌, ℕ, suc, Bool, true, false, if◌then◌else◌, List, [], ◌∷◌, length, Option, Some, None, codes, refl, sym, ap, ◌∙◌, subst, inl, inr, arith}
+use Rattle.std.proofs.Common.{◌≡◌, ◌≢◌, ◌⊎◌, ◌<◌, ◌≤◌, ℕ, suc, Bool, true, false, if◌then◌else◌, List, [], ◌∷◌, length, Option, Some, None, codes, refl, sym, ap, ◌∙◌, subst, inl, inr, arith}
 use Rattle.std.specs.Str.{bytes_eq}
 use Rattle.std.proofs.lemmas.List.{length-append}
 use Rattle.std.proofs.lemmas.Slice.Eq.{bytes_eq-Decides}
 use Rattle.wgsl_syntax.specs.Address.{access_modes, access_text, space_text, spaces}
 use Rattle.wgsl_syntax.specs.Names.{named, table}
-use Rattle.wgsl_syntax.specs.Texel.{texel_formats, texel_text}
+use Rattle.wgsl_syntax.specs.Texel.{IsTexel, texel_formats, texel_text, texel_text_by}
 use Rattle.wgsl_syntax.specs.Texture.{sampled_text, sampled_types, sampler_text, samplers}
-use Rattle.wgsl_syntax.specs.TextureName.{parameter_kind, texture_name_text, texture_names, texture_with}
+use Rattle.wgsl_syntax.specs.TextureName.{parameter_kind, parameters_of, texture_name_text, texture_names, texture_with}
 use Rattle.wgsl_syntax.specs.declared.around.Around.{Around}
 use Rattle.wgsl_syntax.specs.declared.around.Around.TheVariants as arounds
 use Rattle.wgsl_syntax.specs.declared.attribute.AccelerationStructureFlags.{AccelerationStructureFlags}
+use Rattle.wgsl_syntax.specs.declared.texel.FormatNames.{FormatNames}
+use Rattle.wgsl_syntax.specs.declared.texel.TexelFormat.{TexelFormat}
+use Rattle.wgsl_syntax.specs.declared.texel.TexelFormat.TheVariants as texels
 use Rattle.wgsl_syntax.specs.declared.texture.TextureType.{TextureType}
 use Rattle.wgsl_syntax.specs.declared.texture_name.TextureName.{TextureName}
 use Rattle.wgsl_syntax.specs.declared.texture_name.TextureParameterKind.{TextureParameterKind}
@@ -18,8 +21,9 @@ use Rattle.wgsl_syntax.specs.declared.texture_name.TextureParameters.{TexturePar
 use Rattle.wgsl_syntax.specs.declared.texture_name.TextureParameterKind.TheVariants as kinds
 use Rattle.wgsl_syntax.specs.declared.texture_name.TextureParameters.TheVariants as parameters
 use Rattle.wgsl_syntax.proofs.Naming.{access_naming, sampled_naming, space_naming, texel_naming, texture_naming}
+use Rattle.wgsl_syntax.proofs.Texels.{naga_or_other, one_texel}
 use Rattle.wgsl_rules.specs.types.Types.{WgslType, texture, sampler, ray_query, acceleration_structure, Members}
-use Rattle.wgsl_requests.specs.Grammar.{FlagAt, IsFlag, LayerAt, LeafAt, MembersAt, TypeAt, acceleration_structure_at, array_at, atomic_at, binding_array_at, flag_at, layer_at, leaf_at, mat_at, member_at, no_flag_at, no_members_at, ptr_at, ray_query_at, ref_at, sampler_at, scalar_at, spelled_at, struct_at, texture_at, texture_words, vec_at}
+use Rattle.wgsl_requests.specs.Grammar.{FlagAt, IsFlag, TextureListAt, format_names, LayerAt, LeafAt, MembersAt, TypeAt, acceleration_structure_at, array_at, atomic_at, binding_array_at, flag_at, layer_at, leaf_at, mat_at, member_at, no_flag_at, no_members_at, ptr_at, ray_query_at, ref_at, sampler_at, scalar_at, spelled_at, struct_at, texture_at, vec_at}
 use Rattle.wgsl_requests.specs.Numbers.{IsCount, IsSmall}
 use Rattle.wgsl_requests.specs.Reading.{IsText, OneWord}
 use Rattle.wgsl_requests.specs.Spelled.{after_run, ends_in_comma, run, spaced}
@@ -31,43 +35,59 @@ use Rattle.wgsl_requests.proofs.LayerReads.{array_read, atomic_read, binding_arr
 use Rattle.wgsl_requests.proofs.LeafReads.{flag_read, no_flag, query_read, sampler_read, spelled_or_texture_by, structure_read}
 use Rattle.wgsl_requests.proofs.Meanings.{named_text, one_word, small_one, text_one}
 use Rattle.wgsl_requests.proofs.Textures.{no_name, no_parameters, no_sampled, no_texels, none_with, texture_there}
-use Rattle.wgsl_total.proofs.Found.{Found, a_word, and_then, by_bool, by_option, from_bool, from_option, made, nothing, same_as}
+use Rattle.wgsl_total.proofs.Found.{Found, Means, a_word, and_then, by_bool, by_option, from_bool, from_option, made, nothing, same_as}
 use Rattle.wgsl_total.proofs.SpelledFound.{a_spelling}
-use Rattle.wgsl_total.proofs.WordMeanings.{a_count, a_flag, a_name, a_small}
+use Rattle.wgsl_total.proofs.WordMeanings.{a_count, a_flag, a_name, a_small, same_word}
 
 pub equal : {a b : List ℕ} → bytes_eq a b ≡ true → a ≡ b
 equal {a} {b} e = (bytes_eq-Decides a b).0 e
 
 -- Textures
 
-some_parameters : (kind : TextureParameterKind) (words : List (List ℕ)) → Found (ParametersAt kind words)
-some_parameters kinds.None words = inl (parameters.None, words, (refl, refl))
-some_parameters kinds.Sampled words = elim (a_word (IsText sampled_text) (a_name sampled_text sampled_types sampled_naming) words) [
-  | inl f ↦ inl (parameters.Sampled f.0, f.1, (refl, f.2.1 ∙ ap (λ w. w ∷ f.1) f.2.2))
-  | inr none ↦ inr (no_sampled kinds.Sampled words refl none)
+-- a format has naga's name, or WGSL's
+a_texel : (by : FormatNames) (word : List ℕ) → Means (IsTexel by word)
+a_texel by word = elim (a_name texel_text texel_formats texel_naming word) [
+  | inl f ↦ inl (f.0, inr f.1)
+  | inr none ↦ elim (same_word word (texel_text_by by texels.Rg11b10Float)) [
+    | yes is ↦ inl (texels.Rg11b10Float, inl is)
+    | no other ↦ inr (λ f is. neither none other f is (naga_or_other by f))
+  ]
 ]
-some_parameters kinds.Storage words =
-    elim (and_then (OneWord (IsText texel_text)) (OneWord (IsText access_text)) (one_word (IsText texel_text) (text_one texel_text texel_naming.distinct)) words
-    (a_word (IsText texel_text) (a_name texel_text texel_formats texel_naming) words) (a_word (IsText access_text) (a_name access_text access_modes access_naming))) [
+  where
+    neither : ((f : TexelFormat) → word ≢ texel_text f) → word ≢ texel_text_by by texels.Rg11b10Float → (f : TexelFormat) → IsTexel by word f → (texel_text_by by f ≡ texel_text f) ⊎ (f ≡ texels.Rg11b10Float) → ⊥
+    neither none other f (inr is) so = none f is
+    neither none other f (inl is) (inl same) = none f (is ∙ same)
+    neither none other f (inl is) (inr one) = other (is ∙ ap (texel_text_by by) one)
+
+some_parameters : (rules : RuleSet) (kind : TextureParameterKind) (words : List (List ℕ)) → Found (ParametersAt rules kind words)
+some_parameters rules kinds.None words = inl (parameters.None, words, (refl, refl))
+some_parameters rules kinds.Sampled words = elim (a_word (IsText sampled_text) (a_name sampled_text sampled_types sampled_naming) words) [
+  | inl f ↦ inl (parameters.Sampled f.0, f.1, (refl, f.2.1 ∙ ap (λ w. w ∷ f.1) f.2.2))
+  | inr none ↦ inr (no_sampled rules kinds.Sampled words refl none)
+]
+some_parameters rules kinds.Storage words =
+    let Is = IsTexel (format_names rules) in
+    elim (and_then (OneWord Is) (OneWord (IsText access_text)) (one_word Is (λ word f g a b. one_texel (format_names rules) word f g a b)) words
+    (a_word Is (a_texel (format_names rules)) words) (a_word (IsText access_text) (a_name access_text access_modes access_naming))) [
       | inl f ↦
           let first = f.2.1 in
           let second = f.2.2 in
-          inl (parameters.Storage f.0.0 f.0.1, f.1, (refl, first.1 ∙ (ap (λ w. w ∷ f.2.0) first.2 ∙ ap (λ ws. texel_text f.0.0 ∷ ws) (second.1 ∙ ap (λ w. w ∷ f.1) second.2))))
-      | inr none ↦ inr (no_texels kinds.Storage words refl none)
+          inl (parameters.Storage f.0.0 f.0.1, f.1, (refl, first.0, first.2, first.1 ∙ ap (λ ws. first.0 ∷ ws) (second.1 ∙ ap (λ w. w ∷ f.1) second.2)))
+      | inr none ↦ inr (no_texels rules kinds.Storage words refl none)
     ]
 
 -- the texture with this name and these parameters, if there is one
-texture_made : (name : List ℕ) (words : List (List ℕ)) (n : TextureName) (p : TextureParameters) (rest : List (List ℕ)) → name ≡ texture_name_text n → ParametersAt (parameter_kind n) words p rest
-    → (o : Option TextureType) → texture_with n p ≡ o → Found (TextureAt (name ∷ words))
-texture_made name words n p rest is there (Some x) e = inl (x, rest, texture_there name words n p x rest is there e)
-texture_made name words n p rest is there None e = inr (none_with name words n p rest is there e)
+texture_made : (rules : RuleSet) (name : List ℕ) (words : List (List ℕ)) (n : TextureName) (p : TextureParameters) (rest : List (List ℕ)) → name ≡ texture_name_text n → ParametersAt rules (parameter_kind n) words p rest
+    → (o : Option TextureType) → texture_with n p ≡ o → Found (TextureAt rules (name ∷ words))
+texture_made rules name words n p rest is there (Some x) e = inl (x, rest, texture_there rules name words n p x rest is there e)
+texture_made rules name words n p rest is there None e = inr (none_with rules name words n p rest is there e)
 
-a_texture : (name : List ℕ) (words : List (List ℕ)) → Found (TextureAt (name ∷ words))
-a_texture name words = elim (a_name texture_name_text texture_names texture_naming name) [
-  | inr none ↦ inr (no_name name words none)
-  | inl n ↦ elim (some_parameters (parameter_kind n.0) words) [
-    | inr none ↦ inr (no_parameters name words n.0 n.1 none)
-    | inl p ↦ texture_made name words n.0 p.0 p.1 n.1 p.2 (texture_with n.0 p.0) refl
+a_texture : (rules : RuleSet) (name : List ℕ) (words : List (List ℕ)) → Found (TextureAt rules (name ∷ words))
+a_texture rules name words = elim (a_name texture_name_text texture_names texture_naming name) [
+  | inr none ↦ inr (no_name rules name words none)
+  | inl n ↦ elim (some_parameters rules (parameter_kind n.0) words) [
+    | inr none ↦ inr (no_parameters rules name words n.0 n.1 none)
+    | inl p ↦ texture_made rules name words n.0 p.0 p.1 n.1 p.2 (texture_with n.0 p.0) refl
   ]
 ]
 
@@ -102,7 +122,7 @@ a_leaf {rules} (word ∷ words) = same_as (LeafForm rules (word ∷ words)) (Lea
     (by_bool (bytes_eq word (codes "ray_query")) (made (FlagAt rules) ray_query words (flag_found rules words))
     (by_bool (bytes_eq word (codes "acceleration_structure")) (made (FlagAt rules) acceleration_structure words (flag_found rules words))
     (by_option (named (table sampler_text samplers) word)
-    (by_bool (begins_spelling rules word) (a_spelled (word ∷ words)) (made TextureAt texture (word ∷ words) (a_texture word words)))
+    (by_bool (begins_spelling rules word) (a_spelled (word ∷ words)) (made (TextureAt rules) texture (word ∷ words) (a_texture rules word words)))
     (λ s. inl (sampler s, words, (refl, refl))))))
 
 -- Layers
@@ -173,7 +193,12 @@ leaf_shorter : {rules : RuleSet} {words rest : List (List ℕ)} {t : WgslType} �
 leaf_shorter (ray_query_at d) = omega (arith, flag_shorter d)
 leaf_shorter (acceleration_structure_at d) = omega (arith, flag_shorter d)
 leaf_shorter (sampler_at s) = omega arith
-leaf_shorter (texture_at {rest} x) = omega (arith, length-append (texture_words x) rest)
+leaf_shorter (texture_at {rules} {words} {rest} x d) = list_shorter (parameters_of x) d
+  where
+    list_shorter : (p : TextureParameters) → TextureListAt rules words p rest → length rest < suc (length words)
+    list_shorter parameters.None d = let same = ap (λ ws. length ws) d in omega (arith, same)
+    list_shorter (parameters.Sampled s) d = let same = ap (λ ws. length ws) d in omega (arith, same)
+    list_shorter (parameters.Storage f m) d = let same = ap (λ ws. length ws) d.2 in omega (arith, same)
 leaf_shorter (spelled_at {word} {words} e s) = spelled_shorter word words
 
 mutual

@@ -1,5 +1,5 @@
--- Which result structs are those of abstract floats, and how the ends of arrays are written.
-use Rattle.std.specs.Prelude.{ℕ, List, ◌++◌, Option, Some, None, codes, decimal}
+-- Which result structs are those of abstract floats.
+use Rattle.std.specs.Prelude.{Option, Some, None}
 use Rattle.wgsl_syntax.specs.declared.result_struct.ResultFunction.{ResultFunction}
 use Rattle.wgsl_syntax.specs.declared.result_struct.ResultShape.{ResultShape}
 use Rattle.wgsl_syntax.specs.declared.result_struct.ResultPrecision.{ResultPrecision}
@@ -17,8 +17,3 @@ abstract_name r = of_precision r.precision (r.function, r.shape)
 -- the result struct of that function and shape for `f32`
 abbrev pub in_f32 : ResultFunction × ResultShape → ResultStruct
 in_f32 r = record { function = r.0; shape = r.1; precision = precision.F32 }
-
--- the end of an array's type
-abbrev pub count_end : Option ℕ → List ℕ
-count_end None = codes ">"
-count_end (Some n) = codes ", " ++ decimal n ++ codes ">"

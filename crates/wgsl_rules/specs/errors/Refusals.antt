@@ -3,11 +3,13 @@ use Rattle.std.specs.Prelude.{ℕ, List, ◌++◌, codes, decimal}
 use Rattle.wgsl_syntax.specs.Operator.{binary_text, unary_text}
 use Rattle.wgsl_syntax.specs.declared.operator.BinaryOperator.{BinaryOperator}
 use Rattle.wgsl_syntax.specs.declared.operator.UnaryOperator.{UnaryOperator}
+use Rattle.wgsl_syntax.specs.declared.texel.FormatNames.{FormatNames}
+use Rattle.wgsl_syntax.specs.declared.texel.FormatNames.TheVariants.{Naga}
 use Rattle.wgsl_rules.specs.types.Types.{WgslType}
 use Rattle.wgsl_rules.specs.types.Kinds.{IsLeaf}
 use Rattle.wgsl_rules.specs.types.Literals.{Literal, literal_text}
 use Rattle.wgsl_rules.specs.types.Signatures.{Signature, signature_text}
-use Rattle.wgsl_rules.specs.types.Spelling.{spelling}
+use Rattle.wgsl_rules.specs.types.Spelling.{spelling_by}
 
 pub data Refusal : Type 0 where
   todo : List ℕ → Refusal
@@ -44,44 +46,49 @@ pub data Refusal : Type 0 where
   param_count : List ℕ → ℕ → ℕ → Refusal
   param_type : WgslType → WgslType → Refusal
 
-abbrev pub message : Refusal → List ℕ
-message (todo v) = codes "not implemented: `" ++ v ++ codes "`"
-message (not_scalar t) = codes "expected a scalar type, got `" ++ spelling t ++ codes "`"
-message (not_constructible t) = codes "`" ++ spelling t ++ codes "` is not constructible"
-message (sampled_type t) = codes "invalid sampled type, expected `i32`, `u32` or `f32`, got `" ++ spelling t ++ codes "`"
-message (unknown_type s) = codes "unknown type `" ++ s ++ codes "`"
-message (unexpected_template s) = codes "type `" ++ s ++ codes "` does not take any template arguments"
-message (missing_template s) = codes "missing template arguments for type `" ++ s ++ codes "`"
-message (write_ref_type n t) = codes "cannot write a `" ++ spelling n ++ codes "` to a reference to `" ++ spelling t ++ codes "`"
-message not_write = codes "attempt to write to a read-only reference"
-message not_read = codes "attempt to read a write-only reference"
-message not_read_write = codes "reference is not read-write"
-message ptr_handle = codes "cannot create a pointer in `handle` address space"
-message ptr_vec_comp = codes "cannot create a pointer to a vector component"
-message (conversion a b) = codes "cannot convert from `" ++ spelling a ++ codes "` to `" ++ spelling b ++ codes "`"
-message (conv_overflow l t) = codes "overflow while converting `" ++ literal_text l ++ codes "` to `" ++ spelling t ++ codes "`"
-message (component t s) = codes "`" ++ spelling t ++ codes "` has no component `" ++ s ++ codes "`"
-message (not_indexable t) = codes "`" ++ spelling t ++ codes "` cannot be indexed"
-message (out_of_bounds i t n) =
-    codes "index `" ++ decimal i ++ codes "` is out-of-bounds for `" ++ spelling t ++ codes "` of `" ++ decimal n ++ codes "` components"
-message (unary o t) = codes "cannot use unary operator `" ++ unary_text o ++ codes "` on type `" ++ spelling t ++ codes "`"
-message (binary o a b) =
-    codes "cannot use binary operator `" ++ binary_text o ++ codes "` with operands `" ++ spelling a ++ codes "` and `" ++ spelling b ++ codes "`"
-message (compwise_binary a b) =
-    codes "cannot apply component-wise binary operation on operands `" ++ spelling a ++ codes "` and `" ++ spelling b ++ codes "`"
-message add_overflow = codes "attempt to add with overflow"
-message sub_overflow = codes "attempt to subtract with overflow"
-message mul_overflow = codes "attempt to multiply with overflow"
-message div_by_zero = codes "attempt to divide by zero"
-message rem_zero_div = codes "attempt to calculate the remainder with a divisor of zero"
-message (shl_overflow n l) = codes "attempt to shift left by `" ++ decimal n ++ codes "`, which would overflow `" ++ literal_text l ++ codes "`"
-message (shr_overflow n l) = codes "attempt to shift right by `" ++ decimal n ++ codes "`, which would overflow `" ++ literal_text l ++ codes "`"
-message (signature c) = codes "invalid function call signature: `" ++ signature_text c ++ codes "`"
-message (builtin s) = s
-message (template_args s) = codes "invalid template arguments to `" ++ s ++ codes "`"
-message (param_count s e n) =
+-- the message, where texel formats have these names
+abbrev pub message_by : FormatNames → Refusal → List ℕ
+message_by names (todo v) = codes "not implemented: `" ++ v ++ codes "`"
+message_by names (not_scalar t) = codes "expected a scalar type, got `" ++ spelling_by names t ++ codes "`"
+message_by names (not_constructible t) = codes "`" ++ spelling_by names t ++ codes "` is not constructible"
+message_by names (sampled_type t) = codes "invalid sampled type, expected `i32`, `u32` or `f32`, got `" ++ spelling_by names t ++ codes "`"
+message_by names (unknown_type s) = codes "unknown type `" ++ s ++ codes "`"
+message_by names (unexpected_template s) = codes "type `" ++ s ++ codes "` does not take any template arguments"
+message_by names (missing_template s) = codes "missing template arguments for type `" ++ s ++ codes "`"
+message_by names (write_ref_type n t) = codes "cannot write a `" ++ spelling_by names n ++ codes "` to a reference to `" ++ spelling_by names t ++ codes "`"
+message_by names not_write = codes "attempt to write to a read-only reference"
+message_by names not_read = codes "attempt to read a write-only reference"
+message_by names not_read_write = codes "reference is not read-write"
+message_by names ptr_handle = codes "cannot create a pointer in `handle` address space"
+message_by names ptr_vec_comp = codes "cannot create a pointer to a vector component"
+message_by names (conversion a b) = codes "cannot convert from `" ++ spelling_by names a ++ codes "` to `" ++ spelling_by names b ++ codes "`"
+message_by names (conv_overflow l t) = codes "overflow while converting `" ++ literal_text l ++ codes "` to `" ++ spelling_by names t ++ codes "`"
+message_by names (component t s) = codes "`" ++ spelling_by names t ++ codes "` has no component `" ++ s ++ codes "`"
+message_by names (not_indexable t) = codes "`" ++ spelling_by names t ++ codes "` cannot be indexed"
+message_by names (out_of_bounds i t n) =
+    codes "index `" ++ decimal i ++ codes "` is out-of-bounds for `" ++ spelling_by names t ++ codes "` of `" ++ decimal n ++ codes "` components"
+message_by names (unary o t) = codes "cannot use unary operator `" ++ unary_text o ++ codes "` on type `" ++ spelling_by names t ++ codes "`"
+message_by names (binary o a b) =
+    codes "cannot use binary operator `" ++ binary_text o ++ codes "` with operands `" ++ spelling_by names a ++ codes "` and `" ++ spelling_by names b ++ codes "`"
+message_by names (compwise_binary a b) =
+    codes "cannot apply component-wise binary operation on operands `" ++ spelling_by names a ++ codes "` and `" ++ spelling_by names b ++ codes "`"
+message_by names add_overflow = codes "attempt to add with overflow"
+message_by names sub_overflow = codes "attempt to subtract with overflow"
+message_by names mul_overflow = codes "attempt to multiply with overflow"
+message_by names div_by_zero = codes "attempt to divide by zero"
+message_by names rem_zero_div = codes "attempt to calculate the remainder with a divisor of zero"
+message_by names (shl_overflow n l) = codes "attempt to shift left by `" ++ decimal n ++ codes "`, which would overflow `" ++ literal_text l ++ codes "`"
+message_by names (shr_overflow n l) = codes "attempt to shift right by `" ++ decimal n ++ codes "`, which would overflow `" ++ literal_text l ++ codes "`"
+message_by names (signature c) = codes "invalid function call signature: `" ++ signature_text c ++ codes "`"
+message_by names (builtin s) = s
+message_by names (template_args s) = codes "invalid template arguments to `" ++ s ++ codes "`"
+message_by names (param_count s e n) =
     codes "incorrect number of arguments to `" ++ s ++ codes "`, expected `" ++ decimal e ++ codes "`, got `" ++ decimal n ++ codes "`"
-message (param_type e t) = codes "invalid parameter type, expected `" ++ spelling e ++ codes "`, got `" ++ spelling t ++ codes "`"
+message_by names (param_type e t) = codes "invalid parameter type, expected `" ++ spelling_by names e ++ codes "`, got `" ++ spelling_by names t ++ codes "`"
+
+-- by naga's, as the ported rules say it
+abbrev pub message : Refusal → List ℕ
+message r = message_by Naga r
 
 -- A refusal that needs no memory: the types that it names are leaf types, and its texts are static.
 abbrev pub IsLeafRefusal : Refusal → Type 0

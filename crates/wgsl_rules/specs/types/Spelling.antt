@@ -3,8 +3,10 @@ use Rattle.std.specs.Prelude.{ℕ, List, ◌++◌, Option, Some, None, codes, de
 use Rattle.wgsl_syntax.specs.Address.{space_text, access_text}
 use Rattle.wgsl_syntax.specs.Attribute.{flag_text}
 use Rattle.wgsl_syntax.specs.Scalar.{scalar_text}
-use Rattle.wgsl_syntax.specs.Texture.{sampler_text, texture_text}
+use Rattle.wgsl_syntax.specs.Texture.{sampler_text, texture_text_by}
 use Rattle.wgsl_syntax.specs.declared.attribute.AccelerationStructureFlags.{AccelerationStructureFlags}
+use Rattle.wgsl_syntax.specs.declared.texel.FormatNames.{FormatNames}
+use Rattle.wgsl_syntax.specs.declared.texel.FormatNames.TheVariants.{Naga, Wgsl}
 use Rattle.wgsl_rules.specs.types.Types.{WgslType, scalar, struct, atomic, pointer, reference, texture, sampler, binding_array, ray_query, acceleration_structure, array, vec, mat}
 
 -- a name, with the flag if there is one
@@ -17,17 +19,31 @@ abbrev pub counted : List ℕ → List ℕ → Option ℕ → List ℕ
 counted name element None = name ++ codes "<" ++ element ++ codes ">"
 counted name element (Some n) = name ++ codes "<" ++ element ++ codes ", " ++ decimal n ++ codes ">"
 
+-- what closes the list of an array, behind its element
+abbrev pub count_end : Option ℕ → List ℕ
+count_end None = codes ">"
+count_end (Some n) = codes ", " ++ decimal n ++ codes ">"
+
+-- a type, where texel formats have these names
+abbrev pub spelling_by : FormatNames → WgslType → List ℕ
+spelling_by names (scalar s) = scalar_text s
+spelling_by names (array n t) = counted (codes "array") (spelling_by names t) n
+spelling_by names (vec n t) = codes "vec" ++ decimal n ++ codes "<" ++ spelling_by names t ++ codes ">"
+spelling_by names (mat c r t) = codes "mat" ++ decimal c ++ codes "x" ++ decimal r ++ codes "<" ++ spelling_by names t ++ codes ">"
+spelling_by names (struct name ms) = name
+spelling_by names (atomic t) = codes "atomic<" ++ spelling_by names t ++ codes ">"
+spelling_by names (pointer s t m) = codes "ptr<" ++ space_text s ++ codes ", " ++ spelling_by names t ++ codes ", " ++ access_text m ++ codes ">"
+spelling_by names (reference s t m) = codes "ref<" ++ space_text s ++ codes ", " ++ spelling_by names t ++ codes ", " ++ access_text m ++ codes ">"
+spelling_by names (texture t) = texture_text_by names t
+spelling_by names (sampler s) = sampler_text s
+spelling_by names (binding_array n t) = counted (codes "binding_array") (spelling_by names t) n
+spelling_by names (ray_query f) = flagged (codes "ray_query") f
+spelling_by names (acceleration_structure f) = flagged (codes "acceleration_structure") f
+
+-- by naga's names, as the ported rules write types
 abbrev pub spelling : WgslType → List ℕ
-spelling (scalar s) = scalar_text s
-spelling (array n t) = counted (codes "array") (spelling t) n
-spelling (vec n t) = codes "vec" ++ decimal n ++ codes "<" ++ spelling t ++ codes ">"
-spelling (mat c r t) = codes "mat" ++ decimal c ++ codes "x" ++ decimal r ++ codes "<" ++ spelling t ++ codes ">"
-spelling (struct name ms) = name
-spelling (atomic t) = codes "atomic<" ++ spelling t ++ codes ">"
-spelling (pointer s t m) = codes "ptr<" ++ space_text s ++ codes ", " ++ spelling t ++ codes ", " ++ access_text m ++ codes ">"
-spelling (reference s t m) = codes "ref<" ++ space_text s ++ codes ", " ++ spelling t ++ codes ", " ++ access_text m ++ codes ">"
-spelling (texture t) = texture_text t
-spelling (sampler s) = sampler_text s
-spelling (binding_array n t) = counted (codes "binding_array") (spelling t) n
-spelling (ray_query f) = flagged (codes "ray_query") f
-spelling (acceleration_structure f) = flagged (codes "acceleration_structure") f
+spelling t = spelling_by Naga t
+
+-- by WGSL's own
+abbrev pub wgsl_spelling : WgslType → List ℕ
+wgsl_spelling t = spelling_by Wgsl t

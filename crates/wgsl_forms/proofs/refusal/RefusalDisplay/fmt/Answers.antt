@@ -1,7 +1,7 @@
 use Rattle.std.proofs.Common.{◌∙◌, sym, ap, codes, decimal}
 use Rattle.std.proofs.Output.{has_written_of_eq}
 use Rattle.wgsl_syntax.specs.Address.{space_text}
-use Rattle.wgsl_rules.specs.types.Spelling.{spelling}
+use Rattle.wgsl_rules.specs.types.Spelling.{wgsl_spelling}
 use Rattle.wgsl_core.proofs.Listed.{two_placed, three_placed}
 use Rattle.wgsl_forms.specs.Refusals.{refusal_text}
 use Rattle.wgsl_forms.specs.Views.{refusal_view, unbuilt_view}
@@ -10,19 +10,19 @@ use Rattle.wgsl_forms.proofs.refusal.RefusalDisplay.fmt.Goals as goal
 pub returns-in-Component-clause-writes : goal.returns-in-Component-clause-writes
 returns-in-Component-clause-writes g c = λ plain ok.
     has_written_of_eq _ _ _ _ _
-    (two_placed (codes "`") (spelling (unbuilt_view c.in-Component.t)) (codes "` has no component `") c.in-Component.name.now (codes "`") ∙ ap (λ e. refusal_text (refusal_view e)) (sym c.in-Component.is))
+    (two_placed (codes "`") (wgsl_spelling (unbuilt_view c.in-Component.t)) (codes "` has no component `") c.in-Component.name.now (codes "`") ∙ ap (λ e. refusal_text (refusal_view e)) (sym c.in-Component.is))
     (c.write.ensures.writes plain ok)
 
 pub returns-in-NotInSpace-clause-writes : goal.returns-in-NotInSpace-clause-writes
 returns-in-NotInSpace-clause-writes g c = λ plain ok.
     has_written_of_eq _ _ _ _ _
-    (two_placed (codes "a variable in the address space `") (space_text c.in-NotInSpace.space) (codes "` cannot hold a `") (spelling (unbuilt_view c.in-NotInSpace.t)) (codes "`") ∙ ap (λ e. refusal_text (refusal_view e)) (sym c.in-NotInSpace.is))
+    (two_placed (codes "a variable in the address space `") (space_text c.in-NotInSpace.space) (codes "` cannot hold a `") (wgsl_spelling (unbuilt_view c.in-NotInSpace.t)) (codes "`") ∙ ap (λ e. refusal_text (refusal_view e)) (sym c.in-NotInSpace.is))
     (c.write-in-NotInSpace.ensures.writes plain ok)
 
 pub returns-in-WriteRefType-clause-writes : goal.returns-in-WriteRefType-clause-writes
 returns-in-WriteRefType-clause-writes g c = λ plain ok.
     has_written_of_eq _ _ _ _ _
-    (two_placed (codes "cannot write a `") (spelling (unbuilt_view c.in-WriteRefType.n)) (codes "` to a reference to `") (spelling (unbuilt_view c.in-WriteRefType.t)) (codes "`") ∙ ap (λ e. refusal_text (refusal_view e)) (sym c.in-WriteRefType.is))
+    (two_placed (codes "cannot write a `") (wgsl_spelling (unbuilt_view c.in-WriteRefType.n)) (codes "` to a reference to `") (wgsl_spelling (unbuilt_view c.in-WriteRefType.t)) (codes "`") ∙ ap (λ e. refusal_text (refusal_view e)) (sym c.in-WriteRefType.is))
     (c.write-in-WriteRefType.ensures.writes plain ok)
 
 pub returns-in-ParamCount-clause-writes : goal.returns-in-ParamCount-clause-writes
