@@ -14,7 +14,7 @@ ITEM = re.compile(r"^\s*pub (?:const )?(struct|enum|trait|const|static|type) (\w
 CLAUSE = re.compile(r"(requires|ensures)\*?\s*(\w*)\s*\{(.*)\}[;,]?$")
 GHOST = re.compile(r"ghost\s+(\w+)\s*[:=]\s*\{(.*)\};$")
 CITED = re.compile(r"ghost use Rattle\.(\w+)\.specs\.([\w.]+)\.\{([^}]*)\};")
-DEFINED = re.compile(r"((?:^--.*\n)*)^(?:[a-z]+ )*pub (?:[a-z]+ )?(\w+)(?= |:|$)", re.MULTILINE)
+DEFINED = re.compile(r"((?:^ *--.*\n)*)^ *(?:[a-z]+ )*pub (?:[a-z]+ )?(\w+)(?= |:|$)", re.MULTILINE)
 HEAD = """\
 # Reference
 
@@ -164,7 +164,7 @@ def definitions(found):
         names = {name for at, name in found if at == file}
         for comment, name in DEFINED.findall(read(file)):
             if name in names:
-                said = re.sub(r"^-- ?", "  ", comment, flags=re.MULTILINE).strip()
+                said = re.sub(r"^ *-- ?", "  ", comment, flags=re.MULTILINE).strip()
                 yield f"- `{name}`" + (f": {said}" if said else "")
 
 

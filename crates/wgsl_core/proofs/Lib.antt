@@ -15,3 +15,4 @@ pub mod Converted
 pub mod Slices
 pub mod Vectors
 pub mod Built
+pub mod Stored

@@ -10,6 +10,7 @@ ghost use Rattle.wgsl_core.specs.Placing.{IsValue};
 ghost use Rattle.wgsl_core.specs.internal.Layout.{IsMeasure, HasSomeSize, ArePlaced};
 
 pub mod placing;
+mod stored;
 
 use crate::layout::placing::{Placing, rounded_up};
 use crate::ty::form::Form;
