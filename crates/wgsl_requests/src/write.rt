@@ -18,8 +18,9 @@ use crate::report::write_layout;
 use std::alloc::AllocError;
 use wgsl_asked::answers::{Answer, Operands};
 use wgsl_asked::requests::Call;
-use wgsl_core::operators::resolve::{Element, Extent, ResolvedType};
+use wgsl_core::operators::resolve::{Element, ResolvedType};
 use wgsl_standard::instance::ResultType;
+use wgsl_syntax::overload::Dimensions;
 use wgsl_types::error::{Error, Fail};
 use wgsl_types::ty::Type;
 
@@ -107,10 +108,10 @@ pub(crate) fn write_resolved(text: &mut String, ty: ResolvedType<'_>) -> Result<
     ensures { OnOk result (string_bytes text.new
         ≡ string_bytes text.old ++ spelling (resolved_view ty.entry)) }
 {
-    match ty.extent {
-        Extent::Single => return write_element(text, ty.element),
-        Extent::Vector(components) => write!(text, "vec{components}<")?,
-        Extent::Matrix(columns, rows) => write!(text, "mat{columns}x{rows}<")?,
+    match ty.dimensions {
+        Dimensions::Single => return write_element(text, ty.element),
+        Dimensions::Vector(components) => write!(text, "vec{components}<")?,
+        Dimensions::Matrix(columns, rows) => write!(text, "mat{columns}x{rows}<")?,
     }
     write_element(text, ty.element)?;
     text.push('>')
