@@ -1,20 +1,14 @@
 // What is answered.
-ghost use Rattle.std.specs.Prelude.{◌≡◌};
-ghost use Rattle.wgsl_rules.specs.standard.Overloads.{type_with};
-ghost use Rattle.wgsl_core.specs.internal.Resolution.{resolved_view};
-
 use crate::requests::Call;
 use wgsl_core::error::{Error, Fail};
 use wgsl_core::layout::StructLayout;
-use wgsl_core::operators::resolve::{Element, Extent, ResolvedType};
+use wgsl_core::operators::resolve::ResolvedType;
 use wgsl_core::ty::{StructType, Type};
 use wgsl_standard::explanation::Note;
 use wgsl_standard::instance::ResultType;
 use wgsl_standard::resolved::ResolvedCall;
 use wgsl_standard::signature::Signature;
 use wgsl_syntax::operator::BinaryOperator;
-use wgsl_syntax::overload::Dimensions;
-use wgsl_syntax::scalar::Scalar;
 
 /// The answer to a request.
 #[derive(Drop)]
@@ -43,20 +37,4 @@ pub struct Operands<'r> {
     pub operator: BinaryOperator,
     pub lhs: &'r Type,
     pub rhs: &'r Type,
-}
-
-/// A scalar, or a vector or a matrix of scalars, which isn't built.
-#[inline(always)]
-pub fn unbuilt<'r>(dimensions: Dimensions, scalar: Scalar) -> ResolvedType<'r>
-    ensures { resolved_view result ≡ type_with dimensions scalar }
-{
-    let extent = match dimensions {
-        Dimensions::Single => Extent::Single,
-        Dimensions::Vector(components) => Extent::Vector(components),
-        Dimensions::Matrix(columns, rows) => Extent::Matrix(columns, rows),
-    };
-    ResolvedType {
-        extent,
-        element: Element::Scalar(scalar),
-    }
 }

@@ -4,7 +4,9 @@ use Rattle.wgsl_syntax.specs.declared.scalar.Scalar.{Scalar}
 use Rattle.wgsl_syntax.specs.declared.scalar.Scalar.TheVariants.{Bool, U32}
 use Rattle.wgsl_syntax.specs.declared.operator.BinaryOperator.{BinaryOperator}
 use Rattle.wgsl_syntax.specs.declared.operator.BinaryOperator.TheVariants.{Multiplication}
-use Rattle.wgsl_rules.specs.types.Types.{Layer, vec_of, mat_of, WgslType, scalar, within, vec, mat}
+use Rattle.wgsl_syntax.specs.declared.overload.Dimensions.{Dimensions}
+use Rattle.wgsl_syntax.specs.declared.overload.Dimensions.TheVariants.{Single, Vector, Matrix}
+use Rattle.wgsl_rules.specs.types.Types.{mat_of, WgslType, scalar, within, vec, mat}
 use Rattle.wgsl_rules.specs.types.Kinds.{IsScalar, IsVector, IsInteger, IsIntegerScalar, IsIntegerOrVector}
 use Rattle.wgsl_rules.specs.conversion.Conversion.{ConvertsTo}
 use Rattle.wgsl_rules.specs.conversion.Common.{IsCommon}
@@ -33,7 +35,7 @@ IsNoOperand t = Unit {0}
 abbrev pub Finds : BinaryOperator → WgslType → WgslType → Option BinaryCandidate → Type 0
 Finds o a b found = IsArithmetic o → HasCandidate o a b found
 
-found_in_layers : {o : BinaryOperator} {a b x y : WgslType} (l m k : Option Layer) (found : Option BinaryCandidate) →
+found_in_layers : {o : BinaryOperator} {a b x y : WgslType} (l m k : Dimensions) (found : Option BinaryCandidate) →
     ((c : WgslType) → IsCommon x y (Some c) → HasCandidate o a b (Some (in_layers l m k c))) → (IsCommon x y None → HasCandidate o a b None) →
     IsInLayers l m k x y found → HasCandidate o a b found
 found_in_layers {o} {a} {b} {x} {y} l m k found some none h = subst (λ f. HasCandidate o a b f) (sym h.2) (at h.0 h.1)
@@ -46,30 +48,30 @@ by_forms : (P : WgslType → WgslType → Type 0) {a b x y : WgslType} → a ≡
 by_forms P p q h = subst₂ P (sym p) (sym q) h
 
 pub both_scalars : (o : BinaryOperator) {a b : WgslType} {s t : Scalar} {found : Option BinaryCandidate} → a ≡ scalar s → b ≡ scalar t →
-    IsInLayers None None None a b found → Finds o a b found
+    IsInLayers Single Single Single a b found → Finds o a b found
 both_scalars o {s = s} {t} {found} p q =
-    by_forms (λ a b. IsInLayers None None None a b found → Finds o a b found) p q
-    (λ k h. found_in_layers None None None found (λ c m. scalar_row o h s t c m) (λ m. elements_apart m h) k)
+    by_forms (λ a b. IsInLayers Single Single Single a b found → Finds o a b found) p q
+    (λ k h. found_in_layers Single Single Single found (λ c m. scalar_row o h s t c m) (λ m. elements_apart m h) k)
 
 pub both_vectors : (o : BinaryOperator) {a b : WgslType} {n m : ℕ} {e f : WgslType} {found : Option BinaryCandidate} → a ≡ vec n e → b ≡ vec m f →
-    IsInLayers None None None a b found → Finds o a b found
+    IsInLayers Single Single Single a b found → Finds o a b found
 both_vectors o {n = n} {m} {e} {f} {found} p q =
-    by_forms (λ a b. IsInLayers None None None a b found → Finds o a b found) p q
-    (λ k h. found_in_layers None None None found (λ c k. vector_row o h n m e f c k) (λ m. elements_apart m h) k)
+    by_forms (λ a b. IsInLayers Single Single Single a b found → Finds o a b found) p q
+    (λ k h. found_in_layers Single Single Single found (λ c k. vector_row o h n m e f c k) (λ m. elements_apart m h) k)
 
 pub scalar_vector : (o : BinaryOperator) {a b : WgslType} {s : Scalar} {n : ℕ} {f : WgslType} {found : Option BinaryCandidate} → a ≡ scalar s → b ≡ vec n f →
-    IsInLayers None (Some (vec_of n)) (Some (vec_of n)) a f found → Finds o a b found
+    IsInLayers Single (Vector n) (Vector n) a f found → Finds o a b found
 scalar_vector o {s = s} {n} {f} {found} p q =
-    let v = Some (vec_of n) in
-    by_forms (λ a b. IsInLayers None v v a f found → Finds o a b found) p q
-    (λ k h. found_in_layers None v v found (λ c m. scalar_vector_row o h s n f c m) (λ m. elements_apart m h) k)
+    let v = Vector n in
+    by_forms (λ a b. IsInLayers Single v v a f found → Finds o a b found) p q
+    (λ k h. found_in_layers Single v v found (λ c m. scalar_vector_row o h s n f c m) (λ m. elements_apart m h) k)
 
 pub vector_scalar : (o : BinaryOperator) {a b : WgslType} {n : ℕ} {e : WgslType} {t : Scalar} {found : Option BinaryCandidate} → a ≡ vec n e → b ≡ scalar t →
-    IsInLayers (Some (vec_of n)) None (Some (vec_of n)) e b found → Finds o a b found
+    IsInLayers (Vector n) Single (Vector n) e b found → Finds o a b found
 vector_scalar o {n = n} {e} {t} {found} p q =
-    let v = Some (vec_of n) in
-    by_forms (λ a b. IsInLayers v None v e b found → Finds o a b found) p q
-    (λ k h. found_in_layers v None v found (λ c m. vector_scalar_row o h n e t c m) (λ m. elements_apart m h) k)
+    let v = Vector n in
+    by_forms (λ a b. IsInLayers v Single v e b found → Finds o a b found) p q
+    (λ k h. found_in_layers v Single v found (λ c m. vector_scalar_row o h n e t c m) (λ m. elements_apart m h) k)
 
 -- products
 
@@ -77,45 +79,45 @@ product : (o : BinaryOperator) (a b : WgslType) (found : Option BinaryCandidate)
 product o a b found e h = subst (λ o. Finds o a b found) (sym e) (λ _. h)
 
 pub scalar_matrix : {o : BinaryOperator} {a b : WgslType} {s : Scalar} {c r : ℕ} {f : WgslType} {found : Option BinaryCandidate} → o ≡ Multiplication →
-    a ≡ scalar s → b ≡ mat c r f → IsInLayers None (Some (mat_of c r)) (Some (mat_of c r)) a f found → Finds o a b found
+    a ≡ scalar s → b ≡ mat c r f → IsInLayers Single (Matrix c r) (Matrix c r) a f found → Finds o a b found
 scalar_matrix {o} {s = s} {c} {r} {f} {found} e p q =
-    let l = Some (mat_of c r) in
-    by_forms (λ a b. IsInLayers None l l a f found → Finds o a b found) p q
-    (λ k. product o _ _ found e (found_in_layers None l l found (λ d m. scalar_matrix_row s c r f d m) (λ m. elements_apart m tt) k))
+    let l = Matrix c r in
+    by_forms (λ a b. IsInLayers Single l l a f found → Finds o a b found) p q
+    (λ k. product o _ _ found e (found_in_layers Single l l found (λ d m. scalar_matrix_row s c r f d m) (λ m. elements_apart m tt) k))
 
 pub vector_matrix : {o : BinaryOperator} {a b : WgslType} {n c r : ℕ} {e f : WgslType} {found : Option BinaryCandidate} → (o ≡ Multiplication) × (n ≡ r) →
-    a ≡ vec n e → b ≡ mat c r f → IsInLayers (Some (vec_of n)) (Some (mat_of c r)) (Some (vec_of c)) e f found → Finds o a b found
+    a ≡ vec n e → b ≡ mat c r f → IsInLayers (Vector n) (Matrix c r) (Vector c) e f found → Finds o a b found
 vector_matrix {o} {a} {b} {n} {c} {r} {e} {f} {found} m p q k =
-    let k' = subst (λ n. IsInLayers (Some (vec_of n)) (Some (mat_of c r)) (Some (vec_of c)) e f found) m.1 k in
+    let k' = subst (λ n. IsInLayers (Vector n) (Matrix c r) (Vector c) e f found) m.1 k in
     let p' = subst (λ n. a ≡ vec n e) m.1 p in
     by_forms (λ a b. Finds o a b found) p' q
-    (product o _ _ found m.0 (found_in_layers (Some (vec_of r)) (Some (mat_of c r)) (Some (vec_of c)) found (λ d k. vector_matrix_row c r e f d k) (λ k. elements_apart k tt) k'))
+    (product o _ _ found m.0 (found_in_layers (Vector r) (Matrix c r) (Vector c) found (λ d k. vector_matrix_row c r e f d k) (λ k. elements_apart k tt) k'))
 
 pub matrix_scalar : {o : BinaryOperator} {b : WgslType} {c r : ℕ} {e : WgslType} {t : Scalar} {found : Option BinaryCandidate} → o ≡ Multiplication →
-    b ≡ scalar t → IsInLayers (Some (mat_of c r)) None (Some (mat_of c r)) e b found → Finds o (mat c r e) b found
+    b ≡ scalar t → IsInLayers (Matrix c r) Single (Matrix c r) e b found → Finds o (mat c r e) b found
 matrix_scalar {o} {b} {c} {r} {e} {t} {found} m q k =
-    let l = Some (mat_of c r) in
-    subst (λ b. IsInLayers l None l e b found → Finds o (mat c r e) b found) (sym q)
-    (λ k. product o _ _ found m (found_in_layers l None l found (λ d k. matrix_scalar_row c r e t d k) (λ k. elements_apart k tt) k)) k
+    let l = Matrix c r in
+    subst (λ b. IsInLayers l Single l e b found → Finds o (mat c r e) b found) (sym q)
+    (λ k. product o _ _ found m (found_in_layers l Single l found (λ d k. matrix_scalar_row c r e t d k) (λ k. elements_apart k tt) k)) k
 
 pub matrix_vector : {o : BinaryOperator} {b : WgslType} {c r n : ℕ} {e f : WgslType} {found : Option BinaryCandidate} → (o ≡ Multiplication) × (c ≡ n) →
-    b ≡ vec n f → IsInLayers (Some (mat_of c r)) (Some (vec_of n)) (Some (vec_of r)) e f found → Finds o (mat c r e) b found
+    b ≡ vec n f → IsInLayers (Matrix c r) (Vector n) (Vector r) e f found → Finds o (mat c r e) b found
 matrix_vector {o} {b} {c} {r} {n} {e} {f} {found} m q k =
-    let k' = subst (λ n. IsInLayers (Some (mat_of c r)) (Some (vec_of n)) (Some (vec_of r)) e f found) (sym m.1) k in
+    let k' = subst (λ n. IsInLayers (Matrix c r) (Vector n) (Vector r) e f found) (sym m.1) k in
     subst (λ b. Finds o (mat c r e) b found) (sym (subst (λ n. b ≡ vec n f) (sym m.1) q))
-    (product o _ _ found m.0 (found_in_layers (Some (mat_of c r)) (Some (vec_of c)) (Some (vec_of r)) found (λ d k. matrix_vector_row c r e f d k) (λ k. elements_apart k tt) k'))
+    (product o _ _ found m.0 (found_in_layers (Matrix c r) (Vector c) (Vector r) found (λ d k. matrix_vector_row c r e f d k) (λ k. elements_apart k tt) k'))
 
 pub matrix_product : {o : BinaryOperator} {b : WgslType} {c r d s : ℕ} {e f : WgslType} {found : Option BinaryCandidate} → (o ≡ Multiplication) × (c ≡ s) →
-    b ≡ mat d s f → IsInLayers (Some (mat_of c r)) (Some (mat_of d s)) (Some (mat_of d r)) e f found → Finds o (mat c r e) b found
+    b ≡ mat d s f → IsInLayers (Matrix c r) (Matrix d s) (Matrix d r) e f found → Finds o (mat c r e) b found
 matrix_product {o} {b} {c} {r} {d} {s} {e} {f} {found} m q k =
-    let k' = subst (λ s. IsInLayers (Some (mat_of c r)) (Some (mat_of d s)) (Some (mat_of d r)) e f found) (sym m.1) k in
+    let k' = subst (λ s. IsInLayers (Matrix c r) (Matrix d s) (Matrix d r) e f found) (sym m.1) k in
     subst (λ b. Finds o (mat c r e) b found) (sym (subst (λ s. b ≡ mat d s f) (sym m.1) q))
-    (product o _ _ found m.0 (found_in_layers (Some (mat_of c r)) (Some (mat_of d c)) (Some (mat_of d r)) found (λ t k. matrix_matrix_row c d r e f t k) (λ k. elements_apart k tt) k'))
+    (product o _ _ found m.0 (found_in_layers (Matrix c r) (Matrix d c) (Matrix d r) found (λ t k. matrix_matrix_row c d r e f t k) (λ k. elements_apart k tt) k'))
 
 pub matrix_sum : (o : BinaryOperator) {b : WgslType} {c r d s : ℕ} {e f : WgslType} {found : Option BinaryCandidate} → IsSum o × (mat_of c r ≡ mat_of d s) →
-    b ≡ mat d s f → IsInLayers (Some (mat_of c r)) (Some (mat_of c r)) (Some (mat_of c r)) e f found → Finds o (mat c r e) b found
+    b ≡ mat d s f → IsInLayers (Matrix c r) (Matrix c r) (Matrix c r) e f found → Finds o (mat c r e) b found
 matrix_sum o {b} {c} {r} {d} {s} {e} {f} {found} m q k h =
-    let l = Some (mat_of c r) in
+    let l = Matrix c r in
     let q' : b ≡ mat c r f = subst (λ l. b ≡ within l f) (sym m.1) q in
     subst (λ b. HasCandidate o (mat c r e) b found) (sym q')
     (found_in_layers l l l found (λ t k. matrix_row o m.0 c r e f t k) (λ k. elements_apart k h) k)
@@ -148,15 +150,15 @@ unfit_right {o} {a} {b} n = unfit (no_right o a b n)
 
 -- comparison, by the common type
 
-pub compared_scalars : {a b c : WgslType} {s : Scalar} {found : BinaryCandidate} → found ≡ compared_at c None → c ≡ scalar s → IsCommon a b (Some c) →
+pub compared_scalars : {a b c : WgslType} {s : Scalar} {found : BinaryCandidate} → found ≡ compared_at c Single → c ≡ scalar s → IsCommon a b (Some c) →
     (o : BinaryOperator) → IsComparison o → HasCandidate o a b (Some found)
 compared_scalars {a} {b} {c} {s} e p k o h =
-    subst (λ f. HasCandidate o a b (Some f)) (sym (e ∙ ap (λ c. compared_at c None) p)) (comparison_row o h a b s (subst (λ c. IsCommon a b (Some c)) p k))
+    subst (λ f. HasCandidate o a b (Some f)) (sym (e ∙ ap (λ c. compared_at c Single) p)) (comparison_row o h a b s (subst (λ c. IsCommon a b (Some c)) p k))
 
-pub compared_vectors : {a b c e : WgslType} {n : ℕ} {found : BinaryCandidate} → found ≡ compared_at c (Some (vec_of n)) → c ≡ vec n e → IsCommon a b (Some c) →
+pub compared_vectors : {a b c e : WgslType} {n : ℕ} {found : BinaryCandidate} → found ≡ compared_at c (Vector n) → c ≡ vec n e → IsCommon a b (Some c) →
     (o : BinaryOperator) → IsComparison o → HasCandidate o a b (Some found)
 compared_vectors {a} {b} {c} {e} {n} q p k o h =
-    subst (λ f. HasCandidate o a b (Some f)) (sym (q ∙ ap (λ c. compared_at c (Some (vec_of n))) p))
+    subst (λ f. HasCandidate o a b (Some f)) (sym (q ∙ ap (λ c. compared_at c (Vector n)) p))
     (comparison_vector_row o h a b n e (subst (λ c. IsCommon a b (Some c)) p k))
 
 pub form_not_compared : {a b c : WgslType} {f : Form} → c ≡ form_view f → ((s : Scalar) → f ≡ forms.Scalar s → ⊥) → ((n : ℕ) (e : Bor «Type») → f ≡ forms.Vector n e → ⊥) →
@@ -192,11 +194,11 @@ bits_found {o} {a} {b} {c} k (inr m) e h =
 
 -- shifts
 
-pub shifted_scalars : {a b : WgslType} {s : Scalar} {found : BinaryCandidate} → found ≡ shifted_at a None → a ≡ scalar s → IsIntegerScalar a × ConvertsTo b (scalar U32) →
+pub shifted_scalars : {a b : WgslType} {s : Scalar} {found : BinaryCandidate} → found ≡ shifted_at a Single → a ≡ scalar s → IsIntegerScalar a × ConvertsTo b (scalar U32) →
     (o : BinaryOperator) → IsShift o → HasCandidate o a b (Some found)
 shifted_scalars {a} {b} {s} e p m o h =
     subst (λ f. HasCandidate o a b (Some f)) (sym e)
-    (subst (λ a. IsIntegerScalar a → HasCandidate o a b (Some (shifted_at a None))) (sym p) (λ i. shift_row o h s i b m.1) m.0)
+    (subst (λ a. IsIntegerScalar a → HasCandidate o a b (Some (shifted_at a Single))) (sym p) (λ i. shift_row o h s i b m.1) m.0)
 
 pub scalars_not_shifted : {a b : WgslType} {s : Scalar} → a ≡ scalar s → ¬ (IsIntegerScalar a × ConvertsTo b (scalar U32)) → (o : BinaryOperator) → IsShift o → HasCandidate o a b None
 scalars_not_shifted {a} {b} {s} p n o h =
@@ -206,13 +208,13 @@ by_integer : (P : WgslType → Type 0) (e : WgslType) → IsIntegerScalar e → 
 by_integer P (scalar i) h p = p i h
 by_integer P e h p = absurd h
 
-pub shifted_vectors : {a b e f : WgslType} {n m : ℕ} {found : BinaryCandidate} → found ≡ shifted_at a (Some (vec_of n)) → a ≡ vec n e → b ≡ vec m f → n ≡ m →
+pub shifted_vectors : {a b e f : WgslType} {n m : ℕ} {found : BinaryCandidate} → found ≡ shifted_at a (Vector n) → a ≡ vec n e → b ≡ vec m f → n ≡ m →
     IsIntegerScalar e × ConvertsTo f (scalar U32) → (o : BinaryOperator) → IsShift o → HasCandidate o a b (Some found)
 shifted_vectors {a} {b} {e} {f} {n} {m} q p r k x o h =
     let r' : b ≡ vec n f = subst (λ m. b ≡ vec m f) (sym k) r in
     subst (λ f. HasCandidate o a b (Some f)) (sym q)
-    (by_forms (λ a b. HasCandidate o a b (Some (shifted_at a (Some (vec_of n))))) p r'
-    (by_integer (λ e. HasCandidate o (vec n e) (vec n f) (Some (shifted_at (vec n e) (Some (vec_of n))))) e x.0 (λ i j. shift_vector_row o h n i j f x.1)))
+    (by_forms (λ a b. HasCandidate o a b (Some (shifted_at a (Vector n)))) p r'
+    (by_integer (λ e. HasCandidate o (vec n e) (vec n f) (Some (shifted_at (vec n e) (Vector n)))) e x.0 (λ i j. shift_vector_row o h n i j f x.1)))
 
 pub vectors_not_shifted : {a b e f : WgslType} {n m : ℕ} → a ≡ vec n e → b ≡ vec m f → ¬ ((n ≡ m) × IsIntegerScalar e × ConvertsTo f (scalar U32)) →
     (o : BinaryOperator) → IsShift o → HasCandidate o a b None

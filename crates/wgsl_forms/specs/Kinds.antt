@@ -1,22 +1,27 @@
--- Constructible types, handles, and types that can be shared with the host (WGSL, "Constructible Types" and
--- "Host-shareable Types").
+-- Types with a fixed footprint, constructible types, handles, and types that can be shared with the host (WGSL,
+-- "Fixed-Footprint Types", "Constructible Types" and "Host-shareable Types").
 use Rattle.std.specs.Prelude.{Bool, true, false, ◌&&◌, None}
 use Rattle.wgsl_syntax.specs.declared.scalar.Scalar.{Scalar}
 use Rattle.wgsl_syntax.specs.declared.scalar.Scalar.TheVariants as scalars
 use Rattle.wgsl_rules.specs.types.Types.{array_of, WgslType, Members, no_members, member, scalar, within, struct, atomic, texture, sampler}
 
--- A scalar, a vector, a matrix, an array with a count or a struct, of constructible types. An abstract type may be one too.
+-- A scalar, a vector, a matrix, an array with a count or a struct, of such types, and perhaps atomics.
 abbrev mutual
-  pub is_constructible : WgslType → Bool
-  is_constructible (scalar s) = true
-  is_constructible (within (array_of None) t) = false
-  is_constructible (within l t) = is_constructible t
-  is_constructible (struct name ms) = are_constructible ms
-  is_constructible t = false
+  pub has_fixed_footprint : Bool → WgslType → Bool
+  has_fixed_footprint atomics (scalar s) = true
+  has_fixed_footprint atomics (within (array_of None) t) = false
+  has_fixed_footprint atomics (within l t) = has_fixed_footprint atomics t
+  has_fixed_footprint atomics (struct name ms) = have_fixed_footprint atomics ms
+  has_fixed_footprint atomics (atomic t) = atomics
+  has_fixed_footprint atomics t = false
 
-  pub are_constructible : Members → Bool
-  are_constructible no_members = true
-  are_constructible (member name t size align ms) = is_constructible t && are_constructible ms
+  pub have_fixed_footprint : Bool → Members → Bool
+  have_fixed_footprint atomics no_members = true
+  have_fixed_footprint atomics (member name t size align ms) = has_fixed_footprint atomics t && have_fixed_footprint atomics ms
+
+-- Values of the type can be made: it has a fixed footprint, and no atomic inside. It may be abstract.
+abbrev pub is_constructible : WgslType → Bool
+is_constructible t = has_fixed_footprint false t
 
 -- a texture or a sampler
 abbrev pub is_handle : WgslType → Bool

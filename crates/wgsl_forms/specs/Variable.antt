@@ -5,33 +5,19 @@ use Rattle.wgsl_syntax.specs.declared.address.AddressSpace.{AddressSpace}
 use Rattle.wgsl_syntax.specs.declared.address.AddressSpace.TheVariants.{Function, Private, Workgroup, Uniform, Storage, Handle, PushConstant}
 use Rattle.wgsl_syntax.specs.declared.address.AccessMode.{AccessMode}
 use Rattle.wgsl_syntax.specs.declared.address.AccessMode.TheVariants.{Read, ReadWrite}
-use Rattle.wgsl_rules.specs.types.Types.{array_of, WgslType, Members, no_members, member, scalar, within, struct, atomic, reference, binding_array}
+use Rattle.wgsl_rules.specs.types.Types.{array_of, WgslType, Members, no_members, member, within, struct, reference, binding_array}
 use Rattle.wgsl_rules.specs.errors.Refusals.{not_constructible}
 use Rattle.wgsl_rules.specs.standard.Choice.{Operand}
 use Rattle.wgsl_forms.specs.Concrete.{concrete_of, has_abstract_type}
 use Rattle.wgsl_forms.specs.Convert.{converted}
 use Rattle.wgsl_forms.specs.Declare.{is_const_type}
 use Rattle.wgsl_forms.specs.Expressions.{is_const_expression}
-use Rattle.wgsl_forms.specs.Kinds.{is_constructible, is_handle, is_host_shareable}
+use Rattle.wgsl_forms.specs.Kinds.{has_fixed_footprint, is_constructible, is_handle, is_host_shareable}
 use Rattle.wgsl_forms.specs.Load.{loaded}
 use Rattle.wgsl_forms.specs.Questions.{asks, after}
 use Rattle.wgsl_forms.specs.Refusals.{Refusal, error, not_const, not_in_space, initialized, access_mode}
 
--- A scalar, a vector, a matrix, an array with a count or a struct, of such types, and perhaps atomics.
-abbrev mutual
-  pub has_fixed_footprint : Bool → WgslType → Bool
-  has_fixed_footprint atomics (scalar s) = true
-  has_fixed_footprint atomics (within (array_of None) t) = false
-  has_fixed_footprint atomics (within l t) = has_fixed_footprint atomics t
-  has_fixed_footprint atomics (struct name ms) = have_fixed_footprint atomics ms
-  has_fixed_footprint atomics (atomic t) = atomics
-  has_fixed_footprint atomics t = false
-
-  pub have_fixed_footprint : Bool → Members → Bool
-  have_fixed_footprint atomics no_members = true
-  have_fixed_footprint atomics (member name t size align ms) = has_fixed_footprint atomics t && have_fixed_footprint atomics ms
-
--- such a type, or a runtime-sized array of one
+-- a type with a fixed footprint, or a runtime-sized array of one
 abbrev pub may_end : Bool → WgslType → Bool
 may_end atomics (within (array_of None) t) = has_fixed_footprint atomics t
 may_end atomics t = has_fixed_footprint atomics t

@@ -5,7 +5,7 @@ ghost use Rattle.wgsl_standard.specs.Operands.{given_type};
 ghost use Rattle.wgsl_rules.specs.types.Types.{scalar as scalar_type};
 ghost use Rattle.wgsl_forms.specs.Concrete.{concrete_of};
 ghost use Rattle.wgsl_forms.specs.Convert.{converted};
-ghost use Rattle.wgsl_forms.specs.declared.declare.Declaration.TheVariants.{Let, Const, Override};
+ghost use Rattle.wgsl_forms.specs.declared.declare.Declaration.TheVariants.{Let};
 ghost use Rattle.wgsl_forms.specs.Declare.{declared, is_const_type as may_be_const, is_let_type as may_be_named, is_override_type as may_be_override, may_be_let as may_be_let_there, named_by_const, named_by_let, named_by_override, overridden, taken, taken_loaded};
 ghost use Rattle.wgsl_forms.specs.Views.{answer_view, given, unbuilt_view};
 
@@ -46,8 +46,9 @@ pub fn declare<'a>(
 {
     match declaration {
         Declaration::Let => declare_let(value, ty),
-        Declaration::Const => declare_const(value, ty),
-        Declaration::Override => declare_override(value, ty),
+        _ if !is_const_expression(value) => Err(Refusal::NotConst),
+        Declaration::Const => const_of(value.ty, ty),
+        Declaration::Override => override_of(value.ty, ty),
     }
 }
 
@@ -147,20 +148,6 @@ pub fn is_const_type(ty: &Type) -> bool
     is_constructible(ty) && !has_abstract_type(ty)
 }
 
-fn declare_const<'a>(
-    value: &Operand<'a>,
-    ty: Option<&'a Type>,
-) -> Result<UnbuiltType<'a>, Refusal<'a>>
-    ensures { answer_view unbuilt_view result
-        ≡ declared Const (given value.now) (option_map (λ t. view t.now) ty.entry) }
-{
-    if is_const_expression(value) {
-        const_of(value.ty, ty)
-    } else {
-        Err(Refusal::NotConst)
-    }
-}
-
 fn const_of<'a>(
     value: OperandType<'a>,
     ty: Option<&'a Type>,
@@ -186,20 +173,6 @@ fn const_of<'a>(
     }
 }
 
-fn declare_override<'a>(
-    value: &Operand<'a>,
-    ty: Option<&'a Type>,
-) -> Result<UnbuiltType<'a>, Refusal<'a>>
-    ensures { answer_view unbuilt_view result
-        ≡ declared Override (given value.now) (option_map (λ t. view t.now) ty.entry) }
-{
-    if is_const_expression(value) {
-        override_of(value.ty, ty)
-    } else {
-        Err(Refusal::NotConst)
-    }
-}
-
 fn override_of<'a>(
     value: OperandType<'a>,
     ty: Option<&'a Type>,
@@ -209,11 +182,8 @@ fn override_of<'a>(
 {
     match ty {
         Some(ty) => {
-            if is_override_type(ty) {
-                convert_to(value, ty)
-            } else {
-                Err(Refusal::NotScalar(UnbuiltType::of_type(ty)))
-            }
+            override_without_value(ty)?;
+            convert_to(value, ty)
         }
         None => {
             if is_override_value(value) {

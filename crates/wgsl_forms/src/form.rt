@@ -2,7 +2,6 @@
 ghost use Rattle.std.specs.Prelude.{◌≡◌, IfOk};
 ghost use Rattle.wgsl_core.specs.View.{view};
 ghost use Rattle.wgsl_rules.specs.types.Types.{within};
-ghost use Rattle.wgsl_rules.specs.standard.Overloads.{type_with};
 ghost use Rattle.wgsl_standard.specs.Operands.{given_type};
 ghost use Rattle.wgsl_forms.specs.Views.{element_view, form_type_view, unbuilt_view};
 
@@ -12,6 +11,7 @@ use std::fmt;
 use std::fmt::Write;
 use wgsl_core::ty::Type;
 use wgsl_core::ty::show::write_type;
+use wgsl_standard::instance::value_type;
 use wgsl_standard::operand::OperandType;
 use wgsl_syntax::address::{AccessMode, AddressSpace};
 use wgsl_syntax::layer::Layer;
@@ -132,20 +132,10 @@ impl<'a> Element<'a> {
         ensures { IfOk result (λ t. view t ≡ element_view self.entry) }
     {
         match self {
-            Element::Value(dimensions, scalar) => built_value(alloc, dimensions, scalar),
+            Element::Value(dimensions, scalar) => value_type(alloc, dimensions, scalar),
             Element::Any(ty) => ty.clone(alloc),
             Element::Concrete(of) => ConcreteType { of }.build(alloc),
         }
-    }
-}
-
-fn built_value(alloc: Global, dimensions: Dimensions, scalar: Scalar) -> Result<Type, AllocError>
-    ensures { IfOk result (λ t. view t ≡ type_with dimensions scalar) }
-{
-    match dimensions {
-        Dimensions::Single => Ok(Type::from(scalar)),
-        Dimensions::Vector(n) => Type::vector(alloc, n, Type::from(scalar)),
-        Dimensions::Matrix(c, r) => Type::matrix(alloc, c, r, Type::from(scalar)),
     }
 }
 

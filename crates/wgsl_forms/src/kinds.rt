@@ -3,16 +3,17 @@ ghost use Rattle.std.specs.Prelude.{◌≡◌};
 ghost use Rattle.wgsl_core.specs.View.{view, member_view};
 ghost use Rattle.wgsl_core.specs.internal.View.{members_view};
 ghost use Rattle.wgsl_standard.specs.Operands.{given_type};
-ghost use Rattle.wgsl_forms.specs.Kinds.{is_constructible as constructible, are_constructible as all_constructible, is_handle as handle, is_host_shareable as host_shareable, are_host_shareable as all_host_shareable};
+ghost use Rattle.wgsl_forms.specs.Kinds.{has_fixed_footprint as fixed_there, have_fixed_footprint as all_fixed_there, is_constructible as constructible, is_handle as handle, is_host_shareable as host_shareable, are_host_shareable as all_host_shareable};
 
 use wgsl_core::ty::form::Form;
 use wgsl_core::ty::{StructMemberType, Type};
 use wgsl_standard::operand::OperandType;
 
-/// Whether values of the type can be made (WGSL, "Constructible Types"). It may be abstract.
-#[cycle(constructible)]
-pub fn is_constructible(ty: &Type) -> bool
-    ensures { result ≡ constructible (view ty.now) }
+/// Whether values of the type have one size: a scalar, a vector, a matrix, an array with a count or a struct, of such types,
+/// and perhaps atomics (WGSL, "Fixed-Footprint Types").
+#[cycle(footprint)]
+pub fn has_fixed_footprint(atomics: bool, ty: &Type) -> bool
+    ensures { result ≡ fixed_there atomics (view ty.now) }
 {
     match ty {
         Type::Bool
@@ -25,12 +26,12 @@ pub fn is_constructible(ty: &Type) -> bool
         | Type::I64
         | Type::U64
         | Type::F64 => true,
-        Type::Array(t, n) => n.is_some() && is_constructible(t),
-        Type::Vec(_, t) => is_constructible(t),
-        Type::Mat(_, _, t) => is_constructible(t),
-        Type::Struct(s) => are_constructible(&s.members),
-        Type::Atomic(_)
-        | Type::Ptr(_, _, _)
+        Type::Array(t, n) => n.is_some() && has_fixed_footprint(atomics, t),
+        Type::Vec(_, t) => has_fixed_footprint(atomics, t),
+        Type::Mat(_, _, t) => has_fixed_footprint(atomics, t),
+        Type::Struct(s) => have_fixed_footprint(atomics, &s.members),
+        Type::Atomic(_) => atomics,
+        Type::Ptr(_, _, _)
         | Type::Ref(_, _, _)
         | Type::Texture(_)
         | Type::Sampler(_)
@@ -40,23 +41,30 @@ pub fn is_constructible(ty: &Type) -> bool
     }
 }
 
-#[cycle(constructible)]
-fn are_constructible(members: &Vec<StructMemberType>) -> bool
-    ensures { result ≡ all_constructible (members_view members.now.items) }
+#[cycle(footprint)]
+pub(crate) fn have_fixed_footprint(atomics: bool, members: &[StructMemberType]) -> bool
+    ensures { result ≡ all_fixed_there atomics (members_view members.now) }
 {
     for member in members {
-        if !member_is_constructible(member) {
+        if !member_has_fixed_footprint(atomics, member) {
             return false;
         }
     }
     true
 }
 
-#[cycle(constructible)]
-fn member_is_constructible(member: &StructMemberType) -> bool
-    ensures { result ≡ constructible (member_view member.now).ty }
+#[cycle(footprint)]
+fn member_has_fixed_footprint(atomics: bool, member: &StructMemberType) -> bool
+    ensures { result ≡ fixed_there atomics (member_view member.now).ty }
 {
-    is_constructible(&member.ty)
+    has_fixed_footprint(atomics, &member.ty)
+}
+
+/// Whether values of the type can be made (WGSL, "Constructible Types"). It may be abstract.
+pub fn is_constructible(ty: &Type) -> bool
+    ensures { result ≡ constructible (view ty.now) }
+{
+    has_fixed_footprint(false, ty)
 }
 
 /// Whether the type is a texture or a sampler.

@@ -4,71 +4,23 @@ ghost use Rattle.wgsl_rules.specs.types.Types.{reference};
 ghost use Rattle.wgsl_core.specs.View.{view, member_view};
 ghost use Rattle.wgsl_core.specs.internal.View.{members_view};
 ghost use Rattle.wgsl_standard.specs.Operands.{given_type};
-ghost use Rattle.wgsl_forms.specs.Variable.{access_of, ends_in_array as ends_there, has_fixed_footprint as fixed_there, has_initializer as initializer_there, have_fixed_footprint as all_fixed_there, holds as holds_there, initialized_in, initialized_variable as initialized_there, is_handle_or_array as handle_there, may_end as may_end_there, may_end_members as members_end_there, may_have_access as access_there, may_initialize as may_initialize_there, not_held as not_held_there, stored, variable as variable_there, variable_in};
+ghost use Rattle.wgsl_forms.specs.Variable.{access_of, ends_in_array as ends_there, has_initializer as initializer_there, holds as holds_there, initialized_in, initialized_variable as initialized_there, is_handle_or_array as handle_there, may_end as may_end_there, may_end_members as members_end_there, may_have_access as access_there, may_initialize as may_initialize_there, not_held as not_held_there, stored, variable as variable_there, variable_in};
 ghost use Rattle.wgsl_forms.specs.Views.{answer_view, form_type_view, given, refusal_view, unbuilt_view};
 
 use crate::concrete::has_abstract_type;
 use crate::declare::{concrete, convert_to, is_const_type};
 use crate::expression::is_const_expression;
 use crate::form::{FormType, MemoryView, UnbuiltType};
-use crate::kinds::{is_constructible, is_handle, is_host_shareable, operand_is_constructible};
+use crate::kinds::{
+    has_fixed_footprint, have_fixed_footprint, is_constructible, is_handle, is_host_shareable,
+    operand_is_constructible,
+};
 use crate::load::load_type;
 use crate::refusal::Refusal;
 use wgsl_core::ty::form::Form;
 use wgsl_core::ty::{StructMemberType, Type};
 use wgsl_standard::operand::{Operand, OperandType};
 use wgsl_syntax::address::{AccessMode, AddressSpace};
-
-/// Whether values of the type have one size: a scalar, a vector, a matrix, an array with a count or a struct, of such types,
-/// and perhaps atomics (WGSL, "Fixed-Footprint Types").
-#[cycle(footprint)]
-pub fn has_fixed_footprint(atomics: bool, ty: &Type) -> bool
-    ensures { result ≡ fixed_there atomics (view ty.now) }
-{
-    match ty {
-        Type::Bool
-        | Type::AbstractInt
-        | Type::AbstractFloat
-        | Type::I32
-        | Type::U32
-        | Type::F32
-        | Type::F16
-        | Type::I64
-        | Type::U64
-        | Type::F64 => true,
-        Type::Array(t, n) => n.is_some() && has_fixed_footprint(atomics, t),
-        Type::Vec(_, t) => has_fixed_footprint(atomics, t),
-        Type::Mat(_, _, t) => has_fixed_footprint(atomics, t),
-        Type::Struct(s) => have_fixed_footprint(atomics, &s.members),
-        Type::Atomic(_) => atomics,
-        Type::Ptr(_, _, _)
-        | Type::Ref(_, _, _)
-        | Type::Texture(_)
-        | Type::Sampler(_)
-        | Type::BindingArray(_, _)
-        | Type::RayQuery(_)
-        | Type::AccelerationStructure(_) => false,
-    }
-}
-
-#[cycle(footprint)]
-fn have_fixed_footprint(atomics: bool, members: &[StructMemberType]) -> bool
-    ensures { result ≡ all_fixed_there atomics (members_view members.now) }
-{
-    for member in members {
-        if !member_has_fixed_footprint(atomics, member) {
-            return false;
-        }
-    }
-    true
-}
-
-#[cycle(footprint)]
-fn member_has_fixed_footprint(atomics: bool, member: &StructMemberType) -> bool
-    ensures { result ≡ fixed_there atomics (member_view member.now).ty }
-{
-    has_fixed_footprint(atomics, &member.ty)
-}
 
 /// Whether the type has a fixed footprint, or ends in a runtime-sized array.
 fn ends_in_array(atomics: bool, ty: &Type) -> bool

@@ -24,7 +24,7 @@ reply_form (answered kind text line some reply) = (line, some, reply)
 
 one_text : {rules : RuleSet} {words : List (List ℕ)} {k l : TextKind} {a b : List ℕ} → IsReply rules words k a → IsReply rules words l b → answer k a ≡ answer l b
 one_text {rules} {words} {k} {l} {a} {b} f g =
-    let same = one_answer rules g.0 k l a b (subst (λ request. IsAnswer rules request k a) (one_request rules words f.0 g.0 f.1 g.1) f.2) g.2 in
+    let same = one_answer g.0 k l a b (subst (λ request. IsAnswer request k a) (one_request rules words f.0 g.0 f.1 g.1) f.2) g.2 in
     λ i. answer (same.0 i) (same.1 i)
 
 one_form : (rules : RuleSet) (bytes : List ℕ) (r s : ReplyText) → ReplyForm rules bytes r → ReplyForm rules bytes s → r ≡ s

@@ -4,7 +4,7 @@ use Rattle.wgsl_syntax.specs.Operator.{binary_text, unary_text}
 use Rattle.wgsl_syntax.proofs.Naming.{binary_naming, unary_naming}
 use Rattle.wgsl_rules.specs.types.Types.{WgslType, struct, Members}
 use Rattle.wgsl_rules.specs.types.Signatures.{Parameter, Signature}
-use Rattle.wgsl_requests.specs.Grammar.{TypeAt, TypesAt}
+use Rattle.wgsl_requests.specs.Grammar.{TypeAt, TypesAt, format_names}
 use Rattle.wgsl_requests.specs.Requests.{Request, rank, common, unary, binary, size, offsets, layout, ctor, call, type_of, resolution_of, explanation_of, overloads_of, IsCallee, IsRequest}
 use Rattle.wgsl_requests.proofs.Meanings.{both_bool}
 use Rattle.wgsl_requests.proofs.OneType.{one_list, one_type}
@@ -28,7 +28,7 @@ one_rank rules words r s f g =
     f.3 ∙ (ap (λ t. rank t f.1) same.0 ∙ (ap (rank g.0) same.1 ∙ sym g.3))
 
 one_common : (rules : RuleSet) → OneForm (CommonForm rules)
-one_common rules words r s f g = f.2 ∙ (ap common (one_list f.1 g.0 g.1) ∙ sym g.2)
+one_common rules words r s f g = f.2 ∙ (ap (common (format_names rules)) (one_list f.1 g.0 g.1) ∙ sym g.2)
 
 one_unary : OneForm UnaryForm
 one_unary words r s f g =

@@ -42,7 +42,7 @@ kind_of_type c seen None kind is = is
 kind_of_type c seen (Some x) kind is = is
 
 -- the answer to a request that words spell
-pub replied : {rules : RuleSet} {words : List (List ℕ)} {request : Request} (kind : TextKind) (old new : List ℕ) → IsRequest rules words request → Adds (IsAnswer rules request kind) old new → Adds (IsReply rules words kind) old new
+pub replied : {rules : RuleSet} {words : List (List ℕ)} {request : Request} (kind : TextKind) (old new : List ℕ) → IsRequest rules words request → Adds (IsAnswer request kind) old new → Adds (IsReply rules words kind) old new
 replied {words} {request} kind old new d a = (a.0, (request, d, a.1), a.2)
 
 pub rank_spelled : (rules : RuleSet) (words : List (List ℕ)) (types : List WgslType) (t u : WgslType) → TypesAt rules words types → types ≡ t ∷ u ∷ [] → IsRequest rules (codes "rank" ∷ words) (rank t u)
@@ -58,12 +58,12 @@ binary_spelled words after word o types t u e f d pair =
     subst (λ ws. IsRequest Ported (codes "binary" ∷ ws) (binary o t u)) (sym (e ∙ ap (λ w. w ∷ after) f)) (binary_words o (subst (TypesAt Ported after) pair d))
 
 -- what is written of a struct
-pub offsets_replied : (rules : RuleSet) (words : List (List ℕ)) (t : WgslType) (old new : List ℕ) (r : Result TextKind (Fail Misfit)) → TypeAt rules words t [] → WritesOfStruct rules offsets t old new r → Replies rules (codes "offsets" ∷ words) old new r
+pub offsets_replied : (rules : RuleSet) (words : List (List ℕ)) (t : WgslType) (old new : List ℕ) (r : Result TextKind (Fail Misfit)) → TypeAt rules words t [] → WritesOfStruct offsets t old new r → Replies rules (codes "offsets" ∷ words) old new r
 offsets_replied rules words t old new (Ok kind) d w = replied kind old new (offsets_words (subst (λ t. TypeAt rules words t []) w.2 d)) w.3
 offsets_replied rules words t old new (Err (Error misfit)) d none = no_offsets rules words (other_struct words t d none)
 offsets_replied rules words t old new (Err (Memory e)) d none = tt
 
-pub layout_replied : (rules : RuleSet) (words : List (List ℕ)) (t : WgslType) (old new : List ℕ) (r : Result TextKind (Fail Misfit)) → TypeAt rules words t [] → WritesOfStruct rules layout t old new r → Replies rules (codes "layout" ∷ words) old new r
+pub layout_replied : (rules : RuleSet) (words : List (List ℕ)) (t : WgslType) (old new : List ℕ) (r : Result TextKind (Fail Misfit)) → TypeAt rules words t [] → WritesOfStruct layout t old new r → Replies rules (codes "layout" ∷ words) old new r
 layout_replied rules words t old new (Ok kind) d w = replied kind old new (layout_words (subst (λ t. TypeAt rules words t []) w.2 d)) w.3
 layout_replied rules words t old new (Err (Error misfit)) d none = no_layout rules words (other_struct words t d none)
 layout_replied rules words t old new (Err (Memory e)) d none = tt

@@ -1,8 +1,7 @@
 -- The lines of a struct's layout.
 use Rattle.std.proofs.Common.{◌≡◌, ◌⊎◌, inl, inr, Box, Global, ℕ, List, [], ◌∷◌, ◌++◌, codes, decimal, string_bytes, refl, sym, ap, ◌∙◌, append_assoc, rules}
-use Rattle.wgsl_syntax.specs.declared.texel.FormatNames.{FormatNames}
 use Rattle.wgsl_rules.specs.types.Types.{WgslType, struct, Members}
-use Rattle.wgsl_rules.specs.types.Spelling.{spelling_by}
+use Rattle.wgsl_rules.specs.types.Spelling.{spelling}
 use Rattle.wgsl_core.specs.View.{member_view, struct_view, view}
 use Rattle.wgsl_core.specs.Layout.{layouts_of, offsets_of}
 use Rattle.wgsl_core.specs.internal.View.{members_view}
@@ -40,32 +39,32 @@ pub in_columns : (a b c x y z rest : List ℕ) → x ≡ column a → y ≡ colu
 in_columns a b c x y z rest p q r = simp (p, q, r, append_assoc)
 
 -- the end of a member's line
-line_ends : (by : FormatNames) (first name : List ℕ) (t : WgslType) → first ++ (name ++ (32 ∷ (spelling_by by t ++ (10 ∷ [])))) ≡ first ++ name ++ codes " " ++ spelling_by by t ++ codes "\n"
-line_ends by first name t = simp append_assoc
+line_ends : (first name : List ℕ) (t : WgslType) → first ++ (name ++ (32 ∷ (spelling t ++ (10 ∷ [])))) ≡ first ++ name ++ codes " " ++ spelling t ++ codes "\n"
+line_ends first name t = simp append_assoc
 
-pub member_laid : (by : FormatNames) (m : StructMemberType) (p : PlacedMember) (x y z : List ℕ) → x ≡ column (decimal p.offset) → y ≡ column (decimal p.size) → z ≡ column (decimal p.align)
-    → x ++ (32 ∷ (y ++ (32 ∷ (z ++ (32 ∷ (string_bytes (out-StructMemberType m).name ++ (32 ∷ (spelling_by by (view (out-StructMemberType m).ty) ++ (10 ∷ []))))))))) ≡ placed_line by m p
-member_laid by m p x y z a b c =
-    in_columns (decimal p.offset) (decimal p.size) (decimal p.align) x y z (string_bytes (out-StructMemberType m).name ++ (32 ∷ (spelling_by by (view (out-StructMemberType m).ty) ++ (10 ∷ [])))) a b c
-    ∙ line_ends by (columns (decimal p.offset) (decimal p.size) (decimal p.align)) (string_bytes (out-StructMemberType m).name) (view (out-StructMemberType m).ty)
-    ∙ ap (λ n. member_line by p.offset p.size p.align n (view (out-StructMemberType m).ty)) (sym (name_seen m))
-    ∙ ap (λ t. member_line by p.offset p.size p.align (member_view m).name t) (sym (type_seen m))
+pub member_laid : (m : StructMemberType) (p : PlacedMember) (x y z : List ℕ) → x ≡ column (decimal p.offset) → y ≡ column (decimal p.size) → z ≡ column (decimal p.align)
+    → x ++ (32 ∷ (y ++ (32 ∷ (z ++ (32 ∷ (string_bytes (out-StructMemberType m).name ++ (32 ∷ (spelling (view (out-StructMemberType m).ty) ++ (10 ∷ []))))))))) ≡ placed_line m p
+member_laid m p x y z a b c =
+    in_columns (decimal p.offset) (decimal p.size) (decimal p.align) x y z (string_bytes (out-StructMemberType m).name ++ (32 ∷ (spelling (view (out-StructMemberType m).ty) ++ (10 ∷ [])))) a b c
+    ∙ line_ends (columns (decimal p.offset) (decimal p.size) (decimal p.align)) (string_bytes (out-StructMemberType m).name) (view (out-StructMemberType m).ty)
+    ∙ ap (λ n. member_line p.offset p.size p.align n (view (out-StructMemberType m).ty)) (sym (name_seen m))
+    ∙ ap (λ t. member_line p.offset p.size p.align (member_view m).name t) (sym (type_seen m))
 
-pub no_lines : (by : FormatNames) (ms : List StructMemberType) (ps : List PlacedMember) → (ms ≡ []) ⊎ (ps ≡ []) → placed_lines by ms ps ≡ []
-no_lines by [] ps e = refl
-no_lines by (m ∷ ms) [] e = refl
-no_lines by (m ∷ ms) (p ∷ ps) (inl e) = cc
-no_lines by (m ∷ ms) (p ∷ ps) (inr e) = cc
+pub no_lines : (ms : List StructMemberType) (ps : List PlacedMember) → (ms ≡ []) ⊎ (ps ≡ []) → placed_lines ms ps ≡ []
+no_lines [] ps e = refl
+no_lines (m ∷ ms) [] e = refl
+no_lines (m ∷ ms) (p ∷ ps) (inl e) = cc
+no_lines (m ∷ ms) (p ∷ ps) (inr e) = cc
 
-lines_seen : (by : FormatNames) (ms : List StructMemberType) (ps : List PlacedMember) → placed_lines by ms ps ≡ member_lines by (members_view ms) (layouts_of ps) (offsets_of ps)
-lines_seen by [] ps = refl
-lines_seen by (m ∷ ms) [] = refl
-lines_seen by (m ∷ ms) (p ∷ ps) = ap (λ r. placed_line by m p ++ r) (lines_seen by ms ps)
+lines_seen : (ms : List StructMemberType) (ps : List PlacedMember) → placed_lines ms ps ≡ member_lines (members_view ms) (layouts_of ps) (offsets_of ps)
+lines_seen [] ps = refl
+lines_seen (m ∷ ms) [] = refl
+lines_seen (m ∷ ms) (p ∷ ps) = ap (λ r. placed_line m p ++ r) (lines_seen ms ps)
 
 -- the whole report
-pub reported : (by : FormatNames) (name : List ℕ) (items : List StructMemberType) (l : StructLayout) (ms : Members) (old mid new : List ℕ) → members_view items ≡ ms → mid ≡ old ++ placed_lines by items l.members.items →
-    new ≡ mid ++ struct_line name l.size l.align → new ≡ old ++ layout_text by name ms (layout_view l)
-reported by name items l ms old mid new seen members last =
-    let lines : placed_lines by items l.members.items ≡ member_lines by ms (layouts_of l.members.items) (offsets_of l.members.items) =
-    lines_seen by items l.members.items ∙ ap (λ ms. member_lines by ms (layouts_of l.members.items) (offsets_of l.members.items)) seen in
+pub reported : (name : List ℕ) (items : List StructMemberType) (l : StructLayout) (ms : Members) (old mid new : List ℕ) → members_view items ≡ ms → mid ≡ old ++ placed_lines items l.members.items →
+    new ≡ mid ++ struct_line name l.size l.align → new ≡ old ++ layout_text name ms (layout_view l)
+reported name items l ms old mid new seen members last =
+    let lines : placed_lines items l.members.items ≡ member_lines ms (layouts_of l.members.items) (offsets_of l.members.items) =
+    lines_seen items l.members.items ∙ ap (λ ms. member_lines ms (layouts_of l.members.items) (offsets_of l.members.items)) seen in
     last ∙ ap (λ x. x ++ struct_line name l.size l.align) (members ∙ ap (λ x. old ++ x) lines) ∙ append_assoc old _ _

@@ -11,7 +11,7 @@ use Rattle.wgsl_rules.specs.types.Signatures.{Parameter, Signature}
 use Rattle.wgsl_standard.specs.Callees.{WgslCallee}
 use Rattle.wgsl_asked.specs.Calls.{WgslCall}
 use Rattle.wgsl_requests.specs.Calls.{HeadAt, IsCall, binary_at, call_at, ctor_at, unary_at}
-use Rattle.wgsl_requests.specs.Grammar.{TypeAt, TypesAt}
+use Rattle.wgsl_requests.specs.Grammar.{TypeAt, TypesAt, format_names}
 use Rattle.wgsl_requests.specs.declared.rules.RuleSet.{RuleSet}
 use Rattle.wgsl_requests.specs.declared.rules.RuleSet.TheVariants.{Ported, Standard}
 use Rattle.wgsl_requests.proofs.OneType.{one_type}
@@ -21,7 +21,7 @@ abbrev pub RankForm : RuleSet → List (List ℕ) → Request → Type 0
 RankForm rules words request = (t : WgslType) × (u : WgslType) × TypesAt rules words (t ∷ u ∷ []) × (request ≡ rank t u)
 
 abbrev pub CommonForm : RuleSet → List (List ℕ) → Request → Type 0
-CommonForm rules words request = (ts : List WgslType) × TypesAt rules words ts × (request ≡ common ts)
+CommonForm rules words request = (ts : List WgslType) × TypesAt rules words ts × (request ≡ common (format_names rules) ts)
 
 abbrev pub UnaryForm : List (List ℕ) → Request → Type 0
 UnaryForm words request = (o : UnaryOperator) × (t : WgslType) × (after : List (List ℕ)) × (words ≡ unary_text o ∷ after) × TypeAt Ported after t [] × (request ≡ unary o t)
@@ -111,7 +111,7 @@ layout_both Standard words request = ((λ f. f), (λ f. f))
 
 pub request_form : {rules : RuleSet} {words : List (List ℕ)} {request : Request} → IsRequest rules words request → RequestForm rules words request
 request_form (rank_words {rules} {words} {t} {u} d) = (rank_both rules words (rank t u)).1 (t, u, d, refl)
-request_form (common_words {rules} {words} {ts} d) = (common_both rules words (common ts)).1 (ts, d, refl)
+request_form (common_words {rules} {words} {ts} d) = (common_both rules words (common (format_names rules) ts)).1 (ts, d, refl)
 request_form (size_words {rules} {words} {t} d) = (size_both rules words (size t)).1 (t, d, refl)
 request_form (offsets_words {rules} {words} {name} {ms} d) = (offsets_both rules words (offsets name ms)).1 (name, ms, d, refl)
 request_form (layout_words {rules} {words} {name} {ms} d) = (layout_both rules words (layout name ms)).1 (name, ms, d, refl)

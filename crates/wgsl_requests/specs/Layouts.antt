@@ -1,8 +1,7 @@
 -- How the offsets and the layout of a struct are written.
 use Rattle.std.specs.Prelude.{ℕ, ◌-◌, List, [], ◌∷◌, ◌++◌, codes, decimal, flat_map, length, replicate}
-use Rattle.wgsl_syntax.specs.declared.texel.FormatNames.{FormatNames}
 use Rattle.wgsl_rules.specs.types.Types.{WgslType, Members, member}
-use Rattle.wgsl_rules.specs.types.Spelling.{spelling_by}
+use Rattle.wgsl_rules.specs.types.Spelling.{spelling}
 use Rattle.wgsl_rules.specs.layout.Placement.{MemberLayout}
 use Rattle.wgsl_asked.specs.Answers.{WgslLayout}
 
@@ -22,16 +21,16 @@ columns first second third =
 
 -- a member's line: its offset, size and alignment, its name and its type
 --         16         12         16 b vec3<f32>
-abbrev pub member_line : FormatNames → ℕ → ℕ → ℕ → List ℕ → WgslType → List ℕ
-member_line names offset size align name t =
+abbrev pub member_line : ℕ → ℕ → ℕ → List ℕ → WgslType → List ℕ
+member_line offset size align name t =
     columns (decimal offset) (decimal size) (decimal align)
-    ++ name ++ codes " " ++ spelling_by names t ++ codes "\n"
+    ++ name ++ codes " " ++ spelling t ++ codes "\n"
 
 -- a line for each member
-abbrev pub member_lines : FormatNames → Members → List MemberLayout → List ℕ → List ℕ
-member_lines names (member name t size align ms) (layout ∷ layouts) (offset ∷ offsets) =
-    member_line names offset layout.size layout.align name t ++ member_lines names ms layouts offsets
-member_lines names ms layouts offsets = []
+abbrev pub member_lines : Members → List MemberLayout → List ℕ → List ℕ
+member_lines (member name t size align ms) (layout ∷ layouts) (offset ∷ offsets) =
+    member_line offset layout.size layout.align name t ++ member_lines ms layouts offsets
+member_lines ms layouts offsets = []
 
 -- the struct's line: its size, a dash, its alignment and its name
 --         32          -         16 S
@@ -39,5 +38,5 @@ abbrev pub struct_line : List ℕ → ℕ → ℕ → List ℕ
 struct_line name size align = columns (decimal size) (codes "-") (decimal align) ++ name
 
 -- a line for each member, and one for the struct
-abbrev pub layout_text : FormatNames → List ℕ → Members → WgslLayout → List ℕ
-layout_text names name ms l = member_lines names ms l.layouts l.offsets ++ struct_line name l.size l.align
+abbrev pub layout_text : List ℕ → Members → WgslLayout → List ℕ
+layout_text name ms l = member_lines ms l.layouts l.offsets ++ struct_line name l.size l.align

@@ -8,7 +8,7 @@ use Rattle.wgsl_rules.specs.types.Signatures.{Signature}
 use Rattle.wgsl_asked.specs.Calls.{WgslCall}
 pub use Rattle.wgsl_asked.specs.Requests.{WgslRequest as Request, rank, common, unary, binary, size, offsets, layout, ctor, call, type_of, resolution_of, explanation_of, overloads_of}
 use Rattle.wgsl_requests.specs.Calls.{IsCall}
-use Rattle.wgsl_requests.specs.Grammar.{TypeAt, TypesAt}
+use Rattle.wgsl_requests.specs.Grammar.{TypeAt, TypesAt, format_names}
 use Rattle.wgsl_requests.specs.Templates.{TemplateAt}
 use Rattle.wgsl_requests.specs.declared.rules.RuleSet.{RuleSet}
 use Rattle.wgsl_requests.specs.declared.rules.RuleSet.TheVariants.{Ported, Standard}
@@ -29,7 +29,7 @@ pub data IsRequest : RuleSet → List (List ℕ) → Request → Type 0 where
       IsRequest rules (codes "rank" ∷ words) (rank t u)
   -- `common AbstractInt f32 f16`
   common_words : {rules : RuleSet} {words : List (List ℕ)} {ts : List WgslType} → TypesAt rules words ts →
-      IsRequest rules (codes "common" ∷ words) (common ts)
+      IsRequest rules (codes "common" ∷ words) (common (format_names rules) ts)
   -- `size vec 3 f32`
   size_words : {rules : RuleSet} {words : List (List ℕ)} {t : WgslType} → TypeAt rules words t [] →
       IsRequest rules (codes "size" ∷ words) (size t)

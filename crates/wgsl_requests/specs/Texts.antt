@@ -1,7 +1,6 @@
 -- How answers are written.
 use Rattle.std.specs.Prelude.{◌++◌, ℕ, List, [], ◌∷◌, Option, Some, None, Result, Ok, Err, codes, decimal}
 use Rattle.std.specs.List.{flat_map}
-use Rattle.wgsl_syntax.specs.declared.texel.FormatNames.{FormatNames}
 use Rattle.wgsl_rules.specs.types.Types.{WgslType}
 use Rattle.wgsl_rules.specs.types.Spelling.{spelling, spelling_by, wgsl_spelling}
 use Rattle.wgsl_rules.specs.errors.Refusals.{Refusal, message}
@@ -61,23 +60,23 @@ text_kind (a_resolution_of c None) = kinds.Refusal
 text_kind out_of_memory = kinds.Refusal
 text_kind a = kinds.Answer
 
--- the text of an answer, where texel formats have these names
-abbrev pub answer_text : FormatNames → WgslAnswer → List ℕ
+-- the text of an answer
+abbrev pub answer_text : WgslAnswer → List ℕ
 -- `6`
-answer_text names (a_number w) = or_none decimal w
+answer_text (a_number w) = or_none decimal w
 -- `12 16`, `none 4`
-answer_text names (a_size s a) = or_none decimal s ++ codes " " ++ or_none decimal a
+answer_text (a_size s a) = or_none decimal s ++ codes " " ++ or_none decimal a
 -- `f32`
-answer_text names (a_common_type c) = or_none (spelling_by names) c
+answer_text (a_common_type names c) = or_none (spelling_by names) c
 -- `vec3<f32>`, ``cannot use unary operator `-` on type `bool` ``
-answer_text names (a_type r) = or_message spelling r
+answer_text (a_type r) = or_message spelling r
 -- `f32`, `no value`
-answer_text names (a_value r) = or_message value_text r
+answer_text (a_value r) = or_message value_text r
 -- `0 16 32`
-answer_text names (some_offsets o) = or_none spaced o
-answer_text names (a_layout name ms l) = or_none (layout_text names name ms) l
+answer_text (some_offsets o) = or_none spaced o
+answer_text (a_layout name ms l) = or_none (layout_text name ms) l
 -- `f32`, `no value`, ``no overload of `+` takes (bool, i32)``
-answer_text names (a_type_of c r) = or_no_overload value_text c r
-answer_text names (a_resolution_of c r) = or_no_overload resolution_text c r
-answer_text names (some_lines lines) = lines_text lines
-answer_text names out_of_memory = []
+answer_text (a_type_of c r) = or_no_overload value_text c r
+answer_text (a_resolution_of c r) = or_no_overload resolution_text c r
+answer_text (some_lines lines) = lines_text lines
+answer_text out_of_memory = []

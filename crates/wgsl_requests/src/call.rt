@@ -25,7 +25,6 @@ use wgsl_asked::ask::answer;
 use wgsl_asked::requests::{Call, Request};
 use wgsl_standard::callee::Callee;
 use wgsl_standard::operand::Operand;
-use wgsl_syntax::texel::FormatNames;
 use wgsl_types::error::Fail;
 use wgsl_types::syntax::{BinaryOperator, UnaryOperator};
 use wgsl_types::tplt::TpltParam;
@@ -191,7 +190,7 @@ fn write_of_named(
     written: &[WrittenOperand],
     text: &mut String,
 ) -> Result<TextKind, AllocError>
-    ensures { IfOk result (λ kind. Adds (IsAnswer RuleSet.Standard (asked question (called (callee_view callee.entry)
+    ensures { IfOk result (λ kind. Adds (IsAnswer (asked question (called (callee_view callee.entry)
         (option_map (λ ps. map parameter_view ps.now) template.entry) (map operand_view written.now))) kind)
         (string_bytes text.old) (string_bytes text.new)) }
 {
@@ -222,7 +221,7 @@ fn write_of(
     operands: &[Operand<'_>],
     text: &mut String,
 ) -> Result<TextKind, AllocError>
-    ensures { IfOk result (λ kind. Adds (IsAnswer RuleSet.Standard (asked question (called (callee_view callee.entry)
+    ensures { IfOk result (λ kind. Adds (IsAnswer (asked question (called (callee_view callee.entry)
         (option_map (λ ps. map parameter_view ps.now) template.entry) (map written_view operands.now))) kind)
         (string_bytes text.old) (string_bytes text.new)) }
 {
@@ -254,7 +253,7 @@ fn write_answer_on(
     operands: &[Operand<'_>],
     text: &mut String,
 ) -> Result<TextKind, AllocError>
-    ensures { IfOk result (λ kind. Adds (IsAnswer RuleSet.Standard (asked question (called (callee_view callee.entry)
+    ensures { IfOk result (λ kind. Adds (IsAnswer (asked question (called (callee_view callee.entry)
         (option_map (λ ps. map parameter_view ps.now) template.entry) (map written_view operands.now))) kind)
         (string_bytes text.old) (string_bytes text.new)) }
 {
@@ -273,7 +272,7 @@ fn write_answer_on(
 /// Writes the type of a call. It is written here, as a part of the caller, and not by `write`, which knows all forms.
 #[inline(always)]
 fn write_type(alloc: Global, call: &Call<'_>, text: &mut String) -> Result<TextKind, AllocError>
-    ensures { IfOk result (λ kind. Adds (IsAnswer RuleSet.Standard (asked Question.Type (call_view call.now)) kind)
+    ensures { IfOk result (λ kind. Adds (IsAnswer (asked Question.Type (call_view call.now)) kind)
         (string_bytes text.old) (string_bytes text.new)) }
 {
     match answer(alloc, Request::Type(call))? {
@@ -282,7 +281,7 @@ fn write_type(alloc: Global, call: &Call<'_>, text: &mut String) -> Result<TextK
             write_type_of(text, call, found)?;
             Ok(kind)
         }
-        other => write(other, FormatNames::Wgsl, text),
+        other => write(other, text),
     }
 }
 
@@ -304,8 +303,8 @@ fn write_other(
     request: Request<'_>,
     text: &mut String,
 ) -> Result<TextKind, AllocError>
-    ensures { IfOk result (λ kind. Adds (IsAnswer RuleSet.Standard (request_view request.entry) kind)
+    ensures { IfOk result (λ kind. Adds (IsAnswer (request_view request.entry) kind)
         (string_bytes text.old) (string_bytes text.new)) }
 {
-    write_answer_to(alloc, RuleSet::Standard, request, text)
+    write_answer_to(alloc, request, text)
 }

@@ -25,6 +25,7 @@ use std::alloc::{AllocError, Global};
 use wgsl_asked::ask::answer;
 use wgsl_asked::requests::{Callee as AskedCallee, Request};
 use wgsl_core::conversion::lists::common_of;
+use wgsl_syntax::texel::FormatNames;
 use wgsl_types::error::Fail;
 use wgsl_types::syntax::{BinaryOperator, UnaryOperator};
 use wgsl_types::tplt::TpltParam;
@@ -96,15 +97,14 @@ fn answer_command(
 #[inline(always)]
 pub(crate) fn write_answer_to(
     alloc: Global,
-    rules: RuleSet,
     request: Request<'_>,
     text: &mut String,
 ) -> Result<TextKind, AllocError>
-    ensures { IfOk result (λ kind. Adds (IsAnswer rules (request_view request.entry) kind)
+    ensures { IfOk result (λ kind. Adds (IsAnswer (request_view request.entry) kind)
         (string_bytes text.old) (string_bytes text.new)) }
 {
     let answer = answer(alloc, request)?;
-    write(answer, rules.format_names(), text)
+    write(answer, text)
 }
 
 /// `rank T U`: the rank of the conversion.
@@ -118,7 +118,7 @@ pub(crate) fn rank(
         (string_bytes text.old) (string_bytes text.new) result }
 {
     let types = read_pair(alloc, rules, words)?;
-    let written = write_answer_to(alloc, rules, Request::Rank(&types[0], &types[1]), text);
+    let written = write_answer_to(alloc, Request::Rank(&types[0], &types[1]), text);
     let [_source, _target] = types;
     Ok(written?)
 }
@@ -134,16 +134,20 @@ pub(crate) fn common(
         (string_bytes text.old) (string_bytes text.new) result }
 {
     let types = read_types(alloc, rules, words)?;
-    let written = write_common(&types, rules, text);
+    let written = write_common(&types, rules.format_names(), text);
     drop(types);
     Ok(written?)
 }
 
-fn write_common(types: &[Type], rules: RuleSet, text: &mut String) -> Result<TextKind, AllocError>
-    ensures { IfOk result (λ kind. Adds (IsAnswer rules (common_request (map view types.now)) kind)
+fn write_common(
+    types: &[Type],
+    names: FormatNames,
+    text: &mut String,
+) -> Result<TextKind, AllocError>
+    ensures { IfOk result (λ kind. Adds (IsAnswer (common_request names (map view types.now)) kind)
         (string_bytes text.old) (string_bytes text.new)) }
 {
-    write_type_or_none(text, rules.format_names(), received_common(types))?;
+    write_type_or_none(text, names, received_common(types))?;
     Ok(TextKind::Answer)
 }
 
@@ -178,12 +182,7 @@ fn unary(alloc: Global, words: &mut Words, text: &mut String) -> Result<TextKind
 {
     let operator = unary_operator(words.next(Wanted::UnaryOperator)?)?;
     let operand = read_last_type(alloc, RuleSet::Ported, words)?;
-    let written = write_answer_to(
-        alloc,
-        RuleSet::Ported,
-        Request::Unary(operator, &operand),
-        text,
-    );
+    let written = write_answer_to(alloc, Request::Unary(operator, &operand), text);
     drop(operand);
     Ok(written?)
 }
@@ -201,12 +200,7 @@ fn binary(alloc: Global, words: &mut Words, text: &mut String) -> Result<TextKin
 {
     let operator = binary_operator(words.next(Wanted::BinaryOperator)?)?;
     let types = read_pair(alloc, RuleSet::Ported, words)?;
-    let written = write_answer_to(
-        alloc,
-        RuleSet::Ported,
-        Request::Binary(operator, &types[0], &types[1]),
-        text,
-    );
+    let written = write_answer_to(alloc, Request::Binary(operator, &types[0], &types[1]), text);
     let [_left, _right] = types;
     Ok(written?)
 }
@@ -228,7 +222,7 @@ pub(crate) fn size(
         (string_bytes text.old) (string_bytes text.new) result }
 {
     let ty = read_last_type(alloc, rules, words)?;
-    let written = write_answer_to(alloc, rules, Request::Size(&ty), text);
+    let written = write_answer_to(alloc, Request::Size(&ty), text);
     drop(ty);
     Ok(written?)
 }
@@ -244,24 +238,19 @@ pub(crate) fn offsets(
         (string_bytes text.old) (string_bytes text.new) result }
 {
     let ty = read_last_type(alloc, rules, words)?;
-    let written = write_offsets_of(alloc, rules, &ty, text);
+    let written = write_offsets_of(alloc, &ty, text);
     drop(ty);
     written
 }
 
-fn write_offsets_of(
-    alloc: Global,
-    rules: RuleSet,
-    ty: &Type,
-    text: &mut String,
-) -> Result<TextKind, Fail<Misfit>>
-    ensures { WritesOfStruct rules offsets_request (view ty.now)
+fn write_offsets_of(alloc: Global, ty: &Type, text: &mut String) -> Result<TextKind, Fail<Misfit>>
+    ensures { WritesOfStruct offsets_request (view ty.now)
         (string_bytes text.old) (string_bytes text.new) result }
 {
     let Type::Struct(structure) = ty else {
         return Err(Fail::Error(Misfit::NoStruct));
     };
-    Ok(write_answer_to(alloc, rules, Request::Offsets(structure), text)?)
+    Ok(write_answer_to(alloc, Request::Offsets(structure), text)?)
 }
 
 /// `layout T` for a struct T: a report of its members and of the whole.
@@ -275,24 +264,19 @@ pub(crate) fn layout(
         (string_bytes text.old) (string_bytes text.new) result }
 {
     let ty = read_last_type(alloc, rules, words)?;
-    let written = write_layout_of(alloc, rules, &ty, text);
+    let written = write_layout_of(alloc, &ty, text);
     drop(ty);
     written
 }
 
-fn write_layout_of(
-    alloc: Global,
-    rules: RuleSet,
-    ty: &Type,
-    text: &mut String,
-) -> Result<TextKind, Fail<Misfit>>
-    ensures { WritesOfStruct rules layout_request (view ty.now)
+fn write_layout_of(alloc: Global, ty: &Type, text: &mut String) -> Result<TextKind, Fail<Misfit>>
+    ensures { WritesOfStruct layout_request (view ty.now)
         (string_bytes text.old) (string_bytes text.new) result }
 {
     let Type::Struct(structure) = ty else {
         return Err(Fail::Error(Misfit::NoStruct));
     };
-    Ok(write_answer_to(alloc, rules, Request::Layout(structure), text)?)
+    Ok(write_answer_to(alloc, Request::Layout(structure), text)?)
 }
 
 /// The name of a constructor or a built-in function, with its template and the types of its arguments.
@@ -337,12 +321,7 @@ fn ctor(alloc: Global, words: &mut Words, text: &mut String) -> Result<TextKind,
         (string_bytes text.old) (string_bytes text.new) result }
 {
     let callee = read_callee(alloc, words)?;
-    let written = write_answer_to(
-        alloc,
-        RuleSet::Ported,
-        Request::Constructor(callee.as_asked()),
-        text,
-    );
+    let written = write_answer_to(alloc, Request::Constructor(callee.as_asked()), text);
     drop(callee);
     Ok(written?)
 }
@@ -353,12 +332,7 @@ fn call(alloc: Global, words: &mut Words, text: &mut String) -> Result<TextKind,
         (string_bytes text.old) (string_bytes text.new) result }
 {
     let callee = read_callee(alloc, words)?;
-    let written = write_answer_to(
-        alloc,
-        RuleSet::Ported,
-        Request::Call(callee.as_asked()),
-        text,
-    );
+    let written = write_answer_to(alloc, Request::Call(callee.as_asked()), text);
     drop(callee);
     Ok(written?)
 }

@@ -45,9 +45,9 @@ pub fn answered_is_read()
         → TypeAt RuleSet.Standard (words_of (spelling_by names t)) u rest → (u ≡ t) × (rest ≡ []) }
 {}
 
-/// A request has at most one answer by a set of rules.
+/// A request has at most one answer.
 pub fn one_answer()
-    ensures { (rules : RuleSet) (request : Request) → OneAnswer rules request }
+    ensures { (request : Request) → OneAnswer request }
 {}
 
 /// By a set of rules, the bytes of a request have at most one reply.

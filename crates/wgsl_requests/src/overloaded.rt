@@ -14,8 +14,8 @@ ghost use Rattle.wgsl_requests.specs.Texts.{lines_text, no_overload_text, or_no_
 use crate::lists::{Notes, Parameters, Signatures, Types};
 use crate::write::{write_resolved, write_type};
 use std::alloc::AllocError;
-use wgsl_asked::answers::unbuilt;
 use wgsl_asked::requests::Call;
+use wgsl_core::operators::resolve::ResolvedType;
 use wgsl_core::ty::show::ShownType;
 use wgsl_standard::callee::Callee;
 use wgsl_standard::explanation::Note;
@@ -40,7 +40,7 @@ pub(crate) fn write_type_of(
 {
     match found {
         Some(Some(ResultType::Value(dimensions, scalar))) => {
-            write_resolved(text, unbuilt(dimensions, scalar))
+            write_resolved(text, ResolvedType::of_scalar(dimensions, scalar))
         }
         Some(Some(ResultType::Built(ty))) => write_built(text, ty),
         Some(None) => text.push_str("no value"),

@@ -7,27 +7,24 @@ ghost use Rattle.wgsl_requests.specs.Texts.{or_none};
 ghost use Rattle.wgsl_requests.specs.internal.Written.{placed_line, placed_lines};
 
 use std::alloc::AllocError;
-use wgsl_core::ty::show::ShownType;
-use wgsl_syntax::texel::FormatNames;
 use wgsl_types::mem::{PlacedMember, StructLayout};
 use wgsl_types::ty::{StructMemberType, StructType};
 
-/// Writes a line for each member and one for the struct, or `none` if it has no layout. Texel formats have these names.
+/// Writes a line for each member and one for the struct, or `none` if it has no layout.
 ///
 /// A line begins with three columns in bytes, a member's with its offset, its size and its alignment, the last with the
 /// size of the whole, a dash and its alignment.
 pub fn write_layout(
     text: &mut String,
-    names: FormatNames,
     structure: &StructType,
     layout: Option<StructLayout>,
 ) -> Result<(), AllocError>
     ensures { let struct = struct_view structure.now in OnOk result (string_bytes text.new
         ≡ string_bytes text.old
-        ++ or_none (layout_text names struct.name struct.members) (option_map layout_view layout)) }
+        ++ or_none (layout_text struct.name struct.members) (option_map layout_view layout)) }
 {
     let written = match &layout {
-        Some(layout) => write_lines(text, names, structure, layout),
+        Some(layout) => write_lines(text, structure, layout),
         None => text.push_str("none"),
     };
     drop(layout);
@@ -36,28 +33,26 @@ pub fn write_layout(
 
 fn write_lines(
     text: &mut String,
-    names: FormatNames,
     structure: &StructType,
     layout: &StructLayout,
 ) -> Result<(), AllocError>
     ensures { let struct = struct_view structure.now in OnOk result (string_bytes text.new
-        ≡ string_bytes text.old ++ layout_text names struct.name struct.members (layout_view layout.now)) }
+        ≡ string_bytes text.old ++ layout_text struct.name struct.members (layout_view layout.now)) }
 {
-    write_members(&structure.members, &layout.members, names, text)?;
+    write_members(&structure.members, &layout.members, text)?;
     write_last(&structure.name, layout, text)
 }
 
 fn write_members(
     members: &[StructMemberType],
     placed: &[PlacedMember],
-    names: FormatNames,
     text: &mut String,
 ) -> Result<(), AllocError>
     ensures { OnOk result
-        (string_bytes text.new ≡ string_bytes text.old ++ placed_lines names members.now placed.now) }
+        (string_bytes text.new ≡ string_bytes text.old ++ placed_lines members.now placed.now) }
 {
     for (member, placed) in members.iter().zip(placed) {
-        write_member(member, placed, names, text)?;
+        write_member(member, placed, text)?;
     }
     Ok(())
 }
@@ -75,11 +70,10 @@ fn write_last(name: &str, layout: &StructLayout, text: &mut String) -> Result<()
 fn write_member(
     member: &StructMemberType,
     placed: &PlacedMember,
-    names: FormatNames,
     text: &mut String,
 ) -> Result<(), AllocError>
     ensures { OnOk result
-        (string_bytes text.new ≡ string_bytes text.old ++ placed_line names member.now placed.now) }
+        (string_bytes text.new ≡ string_bytes text.old ++ placed_line member.now placed.now) }
 {
     let PlacedMember {
         offset,
@@ -87,9 +81,6 @@ fn write_member(
         align,
     } = placed;
     let name = &member.name;
-    let ty = ShownType {
-        ty: &member.ty,
-        names,
-    };
+    let ty = &member.ty;
     write!(text, "{offset:>10} {size:>10} {align:>10} {name} {ty}\n")
 }

@@ -46,7 +46,7 @@ fn overloads(alloc: Global, words: &mut Words, text: &mut String) -> Result<Text
     if !words.is_empty() {
         return Err(Fail::Error(Misfit::LeftOver));
     }
-    Ok(write_answer_to(alloc, RuleSet::Standard, Request::Overloads(name), text)?)
+    Ok(write_answer_to(alloc, Request::Overloads(name), text)?)
 }
 
 /// `binary OP X Y` or another call, after the word that says what is asked of it.

@@ -18,9 +18,10 @@ use crate::report::write_layout;
 use std::alloc::AllocError;
 use wgsl_asked::answers::{Answer, Operands};
 use wgsl_asked::requests::Call;
-use wgsl_core::operators::resolve::{Element, Extent, ResolvedType};
+use wgsl_core::operators::resolve::{Element, ResolvedType};
 use wgsl_core::ty::show::ShownType;
 use wgsl_standard::instance::ResultType;
+use wgsl_syntax::overload::Dimensions;
 use wgsl_syntax::texel::FormatNames;
 use wgsl_types::error::{Error, Fail};
 use wgsl_types::ty::Type;
@@ -33,18 +34,14 @@ pub enum TextKind {
     Refusal,
 }
 
-/// Writes an answer at the end of the text, by these names of texel formats, and returns of which kind it is.
+/// Writes an answer at the end of the text, and returns of which kind it is.
 #[inline(always)]
-pub fn write(
-    answer: Answer<'_>,
-    names: FormatNames,
-    text: &mut String,
-) -> Result<TextKind, AllocError>
+pub fn write(answer: Answer<'_>, text: &mut String) -> Result<TextKind, AllocError>
     ensures { IfOk result (λ kind. (kind ≡ text_kind (answer_view answer.entry))
-        × (string_bytes text.new ≡ string_bytes text.old ++ answer_text names (answer_view answer.entry))) }
+        × (string_bytes text.new ≡ string_bytes text.old ++ answer_text (answer_view answer.entry))) }
 {
     let kind = text_kind(&answer);
-    write_text(answer, names, text)?;
+    write_text(answer, text)?;
     Ok(kind)
 }
 
@@ -63,9 +60,9 @@ fn text_kind(answer: &Answer<'_>) -> TextKind
 }
 
 #[inline(always)]
-fn write_text(answer: Answer<'_>, names: FormatNames, text: &mut String) -> Result<(), AllocError>
+fn write_text(answer: Answer<'_>, text: &mut String) -> Result<(), AllocError>
     ensures { OnOk result (string_bytes text.new
-        ≡ string_bytes text.old ++ answer_text names (answer_view answer.entry)) }
+        ≡ string_bytes text.old ++ answer_text (answer_view answer.entry)) }
 {
     match answer {
         Answer::Number(number) => write_number_or_none(text, number),
@@ -79,7 +76,7 @@ fn write_text(answer: Answer<'_>, names: FormatNames, text: &mut String) -> Resu
         Answer::Binary(Ok(ty)) => write_resolved(text, ty),
         Answer::Binary(Err(operands)) => write_operands(text, operands),
         Answer::Offsets(offsets) => write_offsets(text, offsets),
-        Answer::Layout(structure, layout) => write_layout(text, names, structure, layout),
+        Answer::Layout(structure, layout) => write_layout(text, structure, layout),
         Answer::TypeOf(call, found) => write_type_of(text, call, found),
         Answer::Resolution(call, found) => write_resolution_of(text, call, found),
         Answer::Overloads(signatures) => write_signatures(text, signatures),
@@ -117,10 +114,10 @@ pub(crate) fn write_resolved(text: &mut String, ty: ResolvedType<'_>) -> Result<
     ensures { OnOk result (string_bytes text.new
         ≡ string_bytes text.old ++ spelling (resolved_view ty.entry)) }
 {
-    match ty.extent {
-        Extent::Single => return write_element(text, ty.element),
-        Extent::Vector(components) => write!(text, "vec{components}<")?,
-        Extent::Matrix(columns, rows) => write!(text, "mat{columns}x{rows}<")?,
+    match ty.dimensions {
+        Dimensions::Single => return write_element(text, ty.element),
+        Dimensions::Vector(components) => write!(text, "vec{components}<")?,
+        Dimensions::Matrix(columns, rows) => write!(text, "mat{columns}x{rows}<")?,
     }
     write_element(text, ty.element)?;
     text.push('>')
@@ -154,7 +151,7 @@ fn write_type_or_refusal(
     made: Result<Type, Fail<Error>>,
 ) -> Result<(), AllocError>
     ensures { OnOk result (string_bytes text.new
-        ≡ string_bytes text.old ++ answer_text FormatNames.Naga (outcome a_type view made)) }
+        ≡ string_bytes text.old ++ answer_text (outcome a_type view made)) }
 {
     let written = match &made {
         Ok(ty) => write_type(text, ty),
@@ -170,7 +167,7 @@ fn write_value_or_refusal(
     returned: Result<Option<Type>, Fail<Error>>,
 ) -> Result<(), AllocError>
     ensures { OnOk result (string_bytes text.new
-        ≡ string_bytes text.old ++ answer_text FormatNames.Naga (outcome a_value (option_map view) returned)) }
+        ≡ string_bytes text.old ++ answer_text (outcome a_value (option_map view) returned)) }
 {
     let written = match &returned {
         Ok(value) => write_value(text, value),

@@ -1,5 +1,6 @@
 pub mod Types
 pub mod Around
+pub mod Dimensions
 pub mod Kinds
 pub mod Inner
 pub mod Spelling

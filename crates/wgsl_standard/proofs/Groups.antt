@@ -23,7 +23,8 @@ use Rattle.wgsl_rules.specs.conversion.Concrete.{is_abstract}
 use Rattle.wgsl_rules.specs.standard.Resources.{suits, texture_letter, atomic_letter, constructible_letter, array_letter, pointer_letter, letter_of}
 use Rattle.wgsl_rules.specs.standard.Overloads.{type_with, dimensions_in, Names}
 use Rattle.wgsl_rules.specs.standard.Choice.{Operand}
-use Rattle.wgsl_standard.specs.internal.Ambiguity.{texture_group, type_group, resource_group, group_of, says_letter}
+use Rattle.wgsl_standard.specs.internal.Groups.{texture_group, type_group, resource_group, group_of}
+use Rattle.wgsl_standard.specs.internal.FixedResults.{says_letter}
 use Rattle.wgsl_standard.proofs.Parts.{parts_again}
 use Rattle.wgsl_standard.proofs.Boxes.{Fit}
 

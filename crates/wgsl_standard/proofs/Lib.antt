@@ -11,6 +11,7 @@ pub mod OneChoice
 pub mod Lengths
 pub mod FirstParameters
 pub mod Groups
+pub mod FixedResults
 pub mod Unambiguous
 pub mod OperatorTables
 pub mod NamedTables

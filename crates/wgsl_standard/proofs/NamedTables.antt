@@ -1,6 +1,7 @@
 -- The overloads of what is called are unambiguous.
 use Rattle.std.proofs.Common.{◌≡◌, ℕ, List, [], ◌∷◌, Option, Some, None, refl, sym, subst}
 use Rattle.std.specs.Prelude.{IfSome, IsTrue, option_map, bytes_eq, Bool, true, false, if◌then◌else◌}
+use Rattle.std.proofs.lemmas.Bool.{and_parts}
 use Rattle.std.specs.Borrow.{Bor}
 use Rattle.wgsl_syntax.specs.declared.overload.Overload.{Overload}
 use Rattle.wgsl_rules.specs.standard.Names.{function_table, template_function_table, overloads_named}
@@ -10,7 +11,7 @@ use Rattle.wgsl_standard.specs.internal.Ambiguity.{is_unambiguous, rows_unambigu
 use Rattle.wgsl_standard.specs.Callees.{WgslCallee, a_binary, a_constructor, a_function, a_unary, callee_view, overloads_listed, overloads_of}
 use Rattle.wgsl_standard.specs.declared.callee.Callee.{Callee}
 use Rattle.wgsl_standard.proofs.OperatorTables.{binary_unambiguous, unary_unambiguous}
-use Rattle.wgsl_standard.proofs.Unambiguous.{both, unambiguous_is}
+use Rattle.wgsl_standard.proofs.Unambiguous.{unambiguous_is}
 
 abbrev pub IfUnambiguous : Option (List Overload) → Type 0
 IfUnambiguous None = Unit {0}
@@ -18,10 +19,10 @@ IfUnambiguous (Some os) = IsUnambiguous os
 
 named_unambiguous : (name : List ℕ) (rows : List (List ℕ × List Overload)) → IsTrue (rows_unambiguous rows) → IfUnambiguous (overloads_named name rows)
 named_unambiguous name [] h = tt
-named_unambiguous name (row ∷ rows) h = turn (bytes_eq name row.0) (named_unambiguous name rows (both (is_unambiguous row.1) (rows_unambiguous rows) h).1)
+named_unambiguous name (row ∷ rows) h = turn (bytes_eq name row.0) (named_unambiguous name rows (and_parts (is_unambiguous row.1) (rows_unambiguous rows) h).1)
   where
     turn : (b : Bool) → IfUnambiguous (overloads_named name rows) → IfUnambiguous (if b then Some row.1 else overloads_named name rows)
-    turn true f = unambiguous_is row.1 (both (is_unambiguous row.1) (rows_unambiguous rows) h).0
+    turn true f = unambiguous_is row.1 (and_parts (is_unambiguous row.1) (rows_unambiguous rows) h).0
     turn false f = f
 
 seen : (r : Option (Bor (List Overload))) (s : Option (List Overload)) → option_map (λ o. o.now) r ≡ s → IfUnambiguous s → IfSome r (λ o. IsUnambiguous o.now)

@@ -12,6 +12,7 @@ use crate::operand::{Operand, OperandType, loaded};
 use crate::overload::{parameters_of, result_of};
 use crate::written::pattern_at;
 use std::alloc::{AllocError, Global};
+use wgsl_core::operators::resolve::ResolvedType;
 use wgsl_core::ty::Type;
 use wgsl_core::ty::result_type::{exchange_result, result_struct};
 use wgsl_syntax::overload::{
@@ -49,8 +50,9 @@ fn build(alloc: Global, ty: ResultType) -> Result<Type, AllocError>
     }
 }
 
+/// Builds a scalar, or a vector or a matrix of scalars.
 #[inline(always)]
-fn value_type(alloc: Global, dimensions: Dimensions, scalar: Scalar) -> Result<Type, AllocError>
+pub fn value_type(alloc: Global, dimensions: Dimensions, scalar: Scalar) -> Result<Type, AllocError>
     ensures { IfOk result (λ t. view t ≡ type_with dimensions scalar) }
 {
     match dimensions {
@@ -64,12 +66,7 @@ fn value_type(alloc: Global, dimensions: Dimensions, scalar: Scalar) -> Result<T
 fn type_around(alloc: Global, dimensions: Dimensions, scalar: Scalar) -> Result<Type, AllocError>
     ensures { IfOk result (λ t. view t ≡ type_with dimensions scalar) }
 {
-    let element = Type::from(scalar);
-    match dimensions {
-        Dimensions::Single => Ok(element),
-        Dimensions::Vector(n) => Type::vector(alloc, n, element),
-        Dimensions::Matrix(c, r) => Type::matrix(alloc, c, r, element),
-    }
+    ResolvedType::of_scalar(dimensions, scalar).build(alloc)
 }
 
 /// The result of a call that an overload takes, for what the letters stand for; None if there is no value.

@@ -6,7 +6,6 @@ use Rattle.std.proofs.lemmas.Bool.{cases_lt}
 use Rattle.std.proofs.lemmas.List.Elements.{All-nil, All-cons, All-head, All-tail}
 use Rattle.std.proofs.lemmas.Str.{IsUtf8-from_is_utf8, is_utf8-from_IsUtf8}
 use Rattle.wgsl_requests.specs.Replies.{IsLineOfText, IsReplyTo, IsReplyToLine, ReplyText, nothing, answer, unreadable, too_long, forbidden, no_text, no_request, no_words, answered, one_line}
-use Rattle.wgsl_requests.specs.Grammar.{format_names}
 use Rattle.wgsl_requests.specs.Texts.{answer_text, text_kind}
 use Rattle.wgsl_requests.specs.Words.{has_line_feed, words_of}
 use Rattle.wgsl_requests.specs.declared.rules.RuleSet.{RuleSet}
@@ -35,7 +34,7 @@ module _ (rules : RuleSet) (bytes : List ℕ) where
       let words : words_of bytes ≢ [] = λ e. let f : w ∷ ws ≡ [] = sym some ∙ e in absurd (cc f) in
       elim (a_request rules (words_of bytes)) [
         | inr none ↦ (unreadable, no_request line words none)
-        | inl r ↦ let a = some_answer r.0 in let text = answer_text (format_names rules) a.0 in (answer (text_kind a.0) text, answered (text_kind a.0) text line words (r.0, r.1, (a.0, a.1, refl, refl)))
+        | inl r ↦ let a = some_answer r.0 in (answer (text_kind a.0) (answer_text a.0), answered (text_kind a.0) (answer_text a.0) line words (r.0, r.1, (a.0, a.1, refl, refl)))
       ]
 
   to_short : length bytes ≤ 4096 → (reply : ReplyText) × IsReplyToLine rules bytes reply

@@ -7,7 +7,7 @@ use Rattle.wgsl_syntax.proofs.Naming.{binary_naming, unary_naming}
 use Rattle.wgsl_rules.specs.types.Types.{WgslType, struct, Members}
 use Rattle.wgsl_rules.specs.types.Signatures.{Signature}
 use Rattle.wgsl_asked.specs.Calls.{WgslCall}
-use Rattle.wgsl_requests.specs.Grammar.{TypeAt, TypesAt}
+use Rattle.wgsl_requests.specs.Grammar.{TypeAt, TypesAt, format_names}
 use Rattle.wgsl_requests.specs.Reading.{IsText}
 use Rattle.wgsl_requests.specs.Requests.{Request, rank, common, unary, binary, size, offsets, layout, ctor, call, type_of, resolution_of, explanation_of, overloads_of, IsRequest, rank_words, common_words, unary_words, binary_words, size_words, offsets_words, layout_words, ctor_words, call_words, type_words, resolve_words, why_words, overloads_words}
 use Rattle.wgsl_requests.specs.declared.rules.RuleSet.{RuleSet}
@@ -50,7 +50,7 @@ a_rank {rules} words = elim (two_types {rules = rules} words) [
 ]
 
 a_common : {rules : RuleSet} (words : List (List ℕ)) → Means (CommonForm rules words)
-a_common {rules} words = elim (some_types {rules = rules} words) [ inl ts ↦ inl (common ts.0, (ts.0, ts.1, refl)) | inr none ↦ inr (λ r f. none f.0 f.1) ]
+a_common {rules} words = elim (some_types {rules = rules} words) [ inl ts ↦ inl (common (format_names rules) ts.0, (ts.0, ts.1, refl)) | inr none ↦ inr (λ r f. none f.0 f.1) ]
 
 a_unary : (words : List (List ℕ)) → Means (UnaryForm words)
 a_unary words = elim (a_word (IsText unary_text) (a_name unary_text unary_operators unary_naming) words) [

@@ -9,10 +9,11 @@ ghost use Rattle.wgsl_core.specs.View.{view};
 ghost use Rattle.wgsl_core.specs.internal.Resolution.{element_view, resolved_view};
 
 use wgsl_core::conversion::convert_ty;
-use wgsl_core::operators::resolve::{Element, Extent, ResolvedType};
+use wgsl_core::operators::resolve::{Element, ResolvedType};
 use wgsl_core::ty::Type;
 use wgsl_core::ty::form::Form;
 use wgsl_syntax::call::Source;
+use wgsl_syntax::overload::Dimensions;
 use wgsl_syntax::scalar::Scalar;
 use wgsl_syntax::texture::{TextureDimensions, TextureType};
 
@@ -114,7 +115,7 @@ pub fn bare(element: Option<Element<'_>>) -> Option<ResolvedType<'_>>
     ensures { option_map resolved_view result ≡ option_map element_view element.entry }
 {
     Some(ResolvedType {
-        extent: Extent::Single,
+        dimensions: Dimensions::Single,
         element: element?,
     })
 }
@@ -125,7 +126,7 @@ pub fn in_vector(components: u8, element: Option<Element<'_>>) -> Option<Resolve
         ≡ option_map (vec components) (option_map element_view element.entry) }
 {
     Some(ResolvedType {
-        extent: Extent::Vector(components),
+        dimensions: Dimensions::Vector(components),
         element: element?,
     })
 }
@@ -150,7 +151,7 @@ pub fn transposed(ty: Option<&Type>) -> Option<ResolvedType<'_>>
 {
     match ty?.form() {
         Form::Matrix(columns, rows, component) => Some(ResolvedType {
-            extent: Extent::Matrix(rows, columns),
+            dimensions: Dimensions::Matrix(rows, columns),
             element: Element::Type(component),
         }),
         _ => None,
@@ -162,13 +163,10 @@ pub fn texture_size<'a>(ty: Option<&'a Type>) -> Option<ResolvedType<'a>>
     ensures { option_map resolved_view result ≡ option_map (λ x. size_type (dimensions x))
         (option_and_then texture_in (option_map (λ t. view t.now) ty.entry)) }
 {
-    let extent = match texture(ty?)?.dimensions() {
-        TextureDimensions::D1 => Extent::Single,
-        TextureDimensions::D2 => Extent::Vector(2),
-        TextureDimensions::D3 => Extent::Vector(3),
+    let dimensions = match texture(ty?)?.dimensions() {
+        TextureDimensions::D1 => Dimensions::Single,
+        TextureDimensions::D2 => Dimensions::Vector(2),
+        TextureDimensions::D3 => Dimensions::Vector(3),
     };
-    Some(ResolvedType {
-        extent,
-        element: Element::Scalar(Scalar::U32),
-    })
+    Some(ResolvedType::of_scalar(dimensions, Scalar::U32))
 }

@@ -3,12 +3,13 @@ ghost use Rattle.std.specs.Prelude.{◌≡◌, ◌↔◌, ◌⊎◌, ℕ, IsTrue
 ghost use Rattle.wgsl_syntax.specs.declared.scalar.Scalar.TheVariants.{Bool, U32};
 ghost use Rattle.wgsl_syntax.specs.declared.operator.BinaryOperator.TheVariants.{Multiplication};
 ghost use Rattle.wgsl_rules.specs.types.Types.{scalar, vec, mat};
+ghost use Rattle.wgsl_rules.specs.types.Dimensions.{with_dimensions};
 ghost use Rattle.wgsl_rules.specs.types.Kinds.{IsLeaf, IsIntegerScalar, IsIntegerOrVector};
 ghost use Rattle.wgsl_rules.specs.conversion.Conversion.{ConvertsTo};
 ghost use Rattle.wgsl_rules.specs.operators.Candidates.{IsArithmetic, IsSum, IsComparison, IsLogical, IsBitwise, IsOrAnd, IsShift};
 ghost use Rattle.wgsl_rules.specs.operators.Answers.{HasCandidate};
 ghost use Rattle.wgsl_core.specs.View.{view};
-ghost use Rattle.wgsl_core.specs.internal.Resolution.{around, extent_view, resolved_view, resolution_view, IsInLayers, compared_at, shifted_at};
+ghost use Rattle.wgsl_core.specs.internal.Resolution.{resolved_view, resolution_view, IsInLayers, compared_at, shifted_at};
 
 use crate::conversion::convert_ty;
 use crate::ty::Type;
@@ -17,6 +18,7 @@ use crate::ty::form::Form;
 use std::alloc::{AllocError, Global};
 use wgsl_syntax::layer::Layer;
 use wgsl_syntax::operator::BinaryOperator;
+use wgsl_syntax::overload::Dimensions;
 use wgsl_syntax::scalar::Scalar;
 
 /// The element of a type that isn't built yet.
@@ -26,19 +28,10 @@ pub enum Element<'a> {
     Type(&'a Type),
 }
 
-/// What is made of an element: the element itself, a vector with that many components, or a matrix with that many columns
-/// and rows.
-#[derive(Clone, Copy)]
-pub enum Extent {
-    Single,
-    Vector(u8),
-    Matrix(u8, u8),
-}
-
 /// A type that isn't built yet.
 #[derive(Clone, Copy)]
 pub struct ResolvedType<'a> {
-    pub extent: Extent,
+    pub dimensions: Dimensions,
     pub element: Element<'a>,
 }
 
@@ -55,17 +48,18 @@ impl<'a> ResolvedType<'a> {
         ensures { resolved_view result ≡ view ty.now }
     {
         ResolvedType {
-            extent: Extent::Single,
+            dimensions: Dimensions::Single,
             element: Element::Type(ty),
         }
     }
 
     /// A scalar, or a vector or a matrix of it.
-    fn of_scalar(extent: Extent, of: Scalar) -> ResolvedType<'a>
-        ensures { resolved_view result ≡ around (extent_view extent) (scalar of) }
+    #[inline(always)]
+    pub fn of_scalar(dimensions: Dimensions, of: Scalar) -> ResolvedType<'a>
+        ensures { resolved_view result ≡ with_dimensions dimensions (scalar of) }
     {
         ResolvedType {
-            extent,
+            dimensions,
             element: Element::Scalar(of),
         }
     }
@@ -80,10 +74,10 @@ impl<'a> ResolvedType<'a> {
             Element::Scalar(scalar) => Type::from(scalar),
             Element::Type(ty) => copy(alloc, ty)?,
         };
-        match self.extent {
-            Extent::Single => Ok(ty),
-            Extent::Vector(components) => Ok(Type::Vec(components, Box::new(alloc, ty)?)),
-            Extent::Matrix(columns, rows) => Ok(Type::Mat(columns, rows, Box::new(alloc, ty)?)),
+        match self.dimensions {
+            Dimensions::Single => Ok(ty),
+            Dimensions::Vector(components) => Ok(Type::Vec(components, Box::new(alloc, ty)?)),
+            Dimensions::Matrix(columns, rows) => Ok(Type::Mat(columns, rows, Box::new(alloc, ty)?)),
         }
     }
 }
@@ -145,15 +139,21 @@ fn arithmetic<'a>(operator: BinaryOperator, a: &'a Type, b: &'a Type) -> Option<
 {
     match a.form() {
         Form::Scalar(_) => match b.form() {
-            Form::Scalar(_) => in_layers(Extent::Single, Extent::Single, Extent::Single, a, b),
+            Form::Scalar(_) => in_layers(
+                Dimensions::Single,
+                Dimensions::Single,
+                Dimensions::Single,
+                a,
+                b,
+            ),
             Form::Vector(n, f) => {
-                let vector = Extent::Vector(n);
-                in_layers(Extent::Single, vector, vector, a, f)
+                let vector = Dimensions::Vector(n);
+                in_layers(Dimensions::Single, vector, vector, a, f)
             }
             Form::Matrix(c, r, f) => {
-                let matrix = Extent::Matrix(c, r);
+                let matrix = Dimensions::Matrix(c, r);
                 if is_product(operator) {
-                    in_layers(Extent::Single, matrix, matrix, a, f)
+                    in_layers(Dimensions::Single, matrix, matrix, a, f)
                 } else {
                     None
                 }
@@ -162,14 +162,20 @@ fn arithmetic<'a>(operator: BinaryOperator, a: &'a Type, b: &'a Type) -> Option<
         },
         Form::Vector(n, e) => match b.form() {
             Form::Scalar(_) => {
-                let vector = Extent::Vector(n);
-                in_layers(vector, Extent::Single, vector, e, b)
+                let vector = Dimensions::Vector(n);
+                in_layers(vector, Dimensions::Single, vector, e, b)
             }
-            Form::Vector(_, _) => in_layers(Extent::Single, Extent::Single, Extent::Single, a, b),
+            Form::Vector(_, _) => in_layers(
+                Dimensions::Single,
+                Dimensions::Single,
+                Dimensions::Single,
+                a,
+                b,
+            ),
             Form::Matrix(c, r, f) => {
                 if is_product_over(operator, n, r) {
-                    let matrix = Extent::Matrix(c, r);
-                    in_layers(Extent::Vector(n), matrix, Extent::Vector(c), e, f)
+                    let matrix = Dimensions::Matrix(c, r);
+                    in_layers(Dimensions::Vector(n), matrix, Dimensions::Vector(c), e, f)
                 } else {
                     None
                 }
@@ -193,25 +199,31 @@ fn matrix_by<'a>(
         → HasCandidate operator (mat c r (view e.now)) (view b.now)
         (option_map resolution_view result) }
 {
-    let lhs = Extent::Matrix(c, r);
+    let lhs = Dimensions::Matrix(c, r);
     match b.form() {
         Form::Scalar(_) => {
             if is_product(operator) {
-                in_layers(lhs, Extent::Single, lhs, e, b)
+                in_layers(lhs, Dimensions::Single, lhs, e, b)
             } else {
                 None
             }
         }
         Form::Vector(n, f) => {
             if is_product_over(operator, c, n) {
-                in_layers(lhs, Extent::Vector(n), Extent::Vector(r), e, f)
+                in_layers(lhs, Dimensions::Vector(n), Dimensions::Vector(r), e, f)
             } else {
                 None
             }
         }
         Form::Matrix(d, s, f) => {
             if is_product_over(operator, c, s) {
-                in_layers(lhs, Extent::Matrix(d, s), Extent::Matrix(d, r), e, f)
+                in_layers(
+                    lhs,
+                    Dimensions::Matrix(d, s),
+                    Dimensions::Matrix(d, r),
+                    e,
+                    f,
+                )
             } else if is_sum_of(operator, Layer::Mat(c, r), Layer::Mat(d, s)) {
                 in_layers(lhs, lhs, lhs, e, f)
             } else {
@@ -254,27 +266,27 @@ fn is_sum(operator: BinaryOperator) -> bool
 /// The candidate whose operands and result are made of the common type of two types.
 #[inline(always)]
 fn in_layers<'a>(
-    lhs: Extent,
-    rhs: Extent,
-    of_result: Extent,
+    lhs: Dimensions,
+    rhs: Dimensions,
+    of_result: Dimensions,
     a: &'a Type,
     b: &'a Type,
 ) -> Option<Resolution<'a>>
-    ensures { IsInLayers (extent_view lhs) (extent_view rhs) (extent_view of_result)
-        (view a.now) (view b.now) (option_map resolution_view result) }
+    ensures { IsInLayers lhs rhs of_result (view a.now) (view b.now)
+        (option_map resolution_view result) }
 {
     let element = Element::Type(convert_ty(a, b)?);
     Some(Resolution {
         lhs: ResolvedType {
-            extent: lhs,
+            dimensions: lhs,
             element,
         },
         rhs: ResolvedType {
-            extent: rhs,
+            dimensions: rhs,
             element,
         },
         result: ResolvedType {
-            extent: of_result,
+            dimensions: of_result,
             element,
         },
     })
@@ -287,20 +299,20 @@ fn comparison<'a>(a: &'a Type, b: &'a Type) -> Option<Resolution<'a>>
 {
     let common = convert_ty(a, b)?;
     match common.form() {
-        Form::Scalar(_) => Some(compared(common, Extent::Single)),
-        Form::Vector(n, _) => Some(compared(common, Extent::Vector(n))),
+        Form::Scalar(_) => Some(compared(common, Dimensions::Single)),
+        Form::Vector(n, _) => Some(compared(common, Dimensions::Vector(n))),
         _ => None,
     }
 }
 
 /// The comparison of two operands of one type: the result is `bool`, or a vector of it.
-fn compared(ty: &Type, extent: Extent) -> Resolution<'_>
-    ensures { resolution_view result ≡ compared_at (view ty.now) (extent_view extent) }
+fn compared(ty: &Type, dimensions: Dimensions) -> Resolution<'_>
+    ensures { resolution_view result ≡ compared_at (view ty.now) dimensions }
 {
     Resolution {
         lhs: ResolvedType::of(ty),
         rhs: ResolvedType::of(ty),
-        result: ResolvedType::of_scalar(extent, Scalar::Bool),
+        result: ResolvedType::of_scalar(dimensions, Scalar::Bool),
     }
 }
 
@@ -362,7 +374,7 @@ fn shift<'a>(a: &'a Type, b: &'a Type) -> Option<Resolution<'a>>
     match a.form() {
         Form::Scalar(_) => {
             if can_shift(a, b) {
-                Some(shifted(a, Extent::Single))
+                Some(shifted(a, Dimensions::Single))
             } else {
                 None
             }
@@ -370,7 +382,7 @@ fn shift<'a>(a: &'a Type, b: &'a Type) -> Option<Resolution<'a>>
         Form::Vector(n, e) => match b.form() {
             Form::Vector(m, f) => {
                 if n == m && can_shift(e, f) {
-                    Some(shifted(a, Extent::Vector(n)))
+                    Some(shifted(a, Dimensions::Vector(n)))
                 } else {
                     None
                 }
@@ -390,12 +402,12 @@ fn can_shift(ty: &Type, by: &Type) -> bool
 }
 
 /// The shift of a type by `u32`, or by a vector of it.
-fn shifted(ty: &Type, extent: Extent) -> Resolution<'_>
-    ensures { resolution_view result ≡ shifted_at (view ty.now) (extent_view extent) }
+fn shifted(ty: &Type, dimensions: Dimensions) -> Resolution<'_>
+    ensures { resolution_view result ≡ shifted_at (view ty.now) dimensions }
 {
     Resolution {
         lhs: ResolvedType::of(ty),
-        rhs: ResolvedType::of_scalar(extent, Scalar::U32),
+        rhs: ResolvedType::of_scalar(dimensions, Scalar::U32),
         result: ResolvedType::of(ty),
     }
 }

@@ -51,6 +51,7 @@ impl fmt::Display for ShownType<'_> {
 }
 
 /// Writes a type as WGSL spells it, by these names of texel formats.
+#[cycle(shown)]
 pub fn write_type<W: Write>(f: &mut fmt::Formatter<W>, names: FormatNames, ty: &Type) -> fmt::Result
     ensures plain { WritesOnOk W.write_str_gives f.old result (spelling_by names (view ty.now)) f.new }
     ensures styled { DisplaysStyledOnOk W.write_str_gives f.old result
@@ -65,11 +66,7 @@ pub fn write_type<W: Write>(f: &mut fmt::Formatter<W>, names: FormatNames, ty: &
         Type::F32 => f.write_str("f32"),
         Type::F16 => f.write_str("f16"),
         Type::Struct(s) => f.write_str(&s.name),
-        Type::Array(t, n) => {
-            f.write_str("array<")?;
-            write_type(f, names, t)?;
-            write_count(f, *n)
-        }
+        Type::Array(t, n) => write_counted(f, names, "array<", t, *n),
         Type::Vec(n, t) => {
             write!(f, "vec{n}<")?;
             write_type(f, names, t)?;
@@ -103,16 +100,29 @@ pub fn write_type<W: Write>(f: &mut fmt::Formatter<W>, names: FormatNames, ty: &
         Type::I64 => f.write_str("i64"),
         Type::U64 => f.write_str("u64"),
         Type::F64 => f.write_str("f64"),
-        Type::BindingArray(t, n) => {
-            f.write_str("binding_array<")?;
-            write_type(f, names, t)?;
-            write_count(f, *n)
-        }
+        Type::BindingArray(t, n) => write_counted(f, names, "binding_array<", t, *n),
         Type::RayQuery(None) => f.write_str("ray_query"),
         Type::RayQuery(Some(flag)) => write!(f, "ray_query<{flag}>"),
         Type::AccelerationStructure(None) => f.write_str("acceleration_structure"),
         Type::AccelerationStructure(Some(flag)) => write!(f, "acceleration_structure<{flag}>"),
     }
+}
+
+/// Writes an array: its head, its element and its end.
+#[cycle(shown)]
+fn write_counted<W: Write>(
+    f: &mut fmt::Formatter<W>,
+    names: FormatNames,
+    head: &str,
+    element: &Type,
+    count: Option<usize>,
+) -> fmt::Result
+    ensures { WritesOnOk W.write_str_gives f.old result
+        (head.now ++ (spelling_by names (view element.now) ++ count_end count)) f.new }
+{
+    f.write_str(head)?;
+    write_type(f, names, element)?;
+    write_count(f, count)
 }
 
 /// Writes the end of an array's type, behind its element.

@@ -69,7 +69,7 @@ asked questions.Explanation = explanation_of
 -- The answer to what is asked of the call that the words spell is written. The error is a misfit only if they spell none.
 abbrev pub WritesOfCall : (WgslCall → Request) → List (List ℕ) → List ℕ → List ℕ → Result TextKind (Fail Misfit) → Type 0
 WritesOfCall ask words old new r =
-    Answers (λ kind. (c : WgslCall) × IsCall words c × Adds (IsAnswer Standard (ask c) kind) old new) ((c : WgslCall) → ¬ IsCall words c) r
+    Answers (λ kind. (c : WgslCall) × IsCall words c × Adds (IsAnswer (ask c) kind) old new) ((c : WgslCall) → ¬ IsCall words c) r
 
 -- the words are as many operands as are taken
 abbrev pub AreOperands : Option ℕ → List (List ℕ) → List Operand → Type 0

@@ -21,11 +21,11 @@ Replies rules words old new r =
     Answers (λ kind. Adds (IsReply rules words kind) old new) (NoRequest rules words) r
 
 -- The answer to what is asked of the struct is written. The error is a misfit only if the type is no struct.
-abbrev pub WritesOfStruct : RuleSet → (List ℕ → Members → Request) → WgslType → List ℕ → List ℕ →
+abbrev pub WritesOfStruct : (List ℕ → Members → Request) → WgslType → List ℕ → List ℕ →
     Result TextKind (Fail Misfit) → Type 0
-WritesOfStruct rules ask t old new r =
+WritesOfStruct ask t old new r =
     Answers (λ kind. (name : List ℕ) × (ms : Members) × (t ≡ struct name ms)
-    × Adds (IsAnswer rules (ask name ms) kind) old new)
+    × Adds (IsAnswer (ask name ms) kind) old new)
     ((name : List ℕ) (ms : Members) → ¬ t ≡ struct name ms) r
 
 -- the call that is made

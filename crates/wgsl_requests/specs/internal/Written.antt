@@ -1,6 +1,5 @@
 -- What is written at the end of a text.
 use Rattle.std.specs.Prelude.{◌≡◌, ◌++◌, ℕ, List, [], ◌∷◌}
-use Rattle.wgsl_syntax.specs.declared.texel.FormatNames.{FormatNames}
 use Rattle.wgsl_rules.specs.errors.Refusals.{Refusal}
 use Rattle.wgsl_core.specs.Answer.{refusal}
 use Rattle.wgsl_core.specs.View.{member_view}
@@ -21,10 +20,10 @@ IsRefusal P (fails.Error e) = P (refusal e)
 IsRefusal P (fails.Memory e) = ⊥
 
 -- the line of a member with its layout
-abbrev pub placed_line : FormatNames → StructMemberType → PlacedMember → List ℕ
-placed_line names m p = let seen = member_view m in member_line names p.offset p.size p.align seen.name seen.ty
+abbrev pub placed_line : StructMemberType → PlacedMember → List ℕ
+placed_line m p = let seen = member_view m in member_line p.offset p.size p.align seen.name seen.ty
 
 -- a line for each member that has a layout
-abbrev pub placed_lines : FormatNames → List StructMemberType → List PlacedMember → List ℕ
-placed_lines names (m ∷ ms) (p ∷ ps) = placed_line names m p ++ placed_lines names ms ps
-placed_lines names ms ps = []
+abbrev pub placed_lines : List StructMemberType → List PlacedMember → List ℕ
+placed_lines (m ∷ ms) (p ∷ ps) = placed_line m p ++ placed_lines ms ps
+placed_lines ms ps = []

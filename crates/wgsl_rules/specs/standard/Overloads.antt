@@ -20,7 +20,8 @@ use Rattle.wgsl_syntax.specs.declared.overload.Overload.TheVariants.{Plain, With
 use Rattle.wgsl_syntax.specs.declared.overload.Dimensions.{Dimensions}
 use Rattle.wgsl_syntax.specs.declared.overload.Dimensions.TheVariants.{Single, Vector, Matrix}
 use Rattle.wgsl_syntax.specs.declared.overload.Instance.{Instance}
-use Rattle.wgsl_rules.specs.types.Types.{WgslType, scalar, texture, sampler, vec, mat}
+use Rattle.wgsl_rules.specs.types.Types.{WgslType, scalar, texture, sampler}
+use Rattle.wgsl_rules.specs.types.Dimensions.{with_dimensions}
 use Rattle.wgsl_rules.specs.types.Inner.{inner_of}
 use Rattle.wgsl_rules.specs.types.ResultStructs.{result_struct}
 use Rattle.wgsl_rules.specs.calls.ResultTypes.{exchange_struct}
@@ -29,9 +30,7 @@ use Rattle.wgsl_rules.specs.standard.Resources.{letter_of, precision_of}
 
 -- the type with these dimensions and components
 abbrev pub type_with : Dimensions → Scalar → WgslType
-type_with Single s = scalar s
-type_with (Vector n) s = vec n (scalar s)
-type_with (Matrix c r) s = mat c r (scalar s)
+type_with d s = with_dimensions d (scalar s)
 
 -- what a letter stands for in an instance
 

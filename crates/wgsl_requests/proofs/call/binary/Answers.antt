@@ -3,7 +3,6 @@ use Rattle.wgsl_standard.specs.Callees.{a_binary}
 use Rattle.wgsl_requests.specs.Answers.{IsAnswer}
 use Rattle.wgsl_requests.specs.internal.Asked.{asked, called, operand_view}
 use Rattle.wgsl_requests.specs.internal.Taken.{left}
-use Rattle.wgsl_requests.specs.declared.rules.RuleSet.TheVariants.{Standard}
 use Rattle.wgsl_requests.specs.internal.Written.{Adds}
 use Rattle.wgsl_requests.proofs.CallReads.{binary_call, no_binary_call, no_binary_operands}
 use Rattle.wgsl_requests.proofs.Readers.{fails}
@@ -24,6 +23,6 @@ returns c =
     let both = two operand_view pair c.index-pair-0.result c.index-pair-1.result n in (
       _,
       binary_call (left c.args.words.now) _ _ c.in_ok-operator.ensures _ c.in_ok-pair.ensures,
-      subst (λ xs. Adds (IsAnswer Standard (asked c.args.question (called (a_binary c.in_ok-operator.operator) None xs)) c.in_ok-written.field-0) (string_bytes c.args.text.now) (string_bytes c.write_answer_on-written.new.text))
+      subst (λ xs. Adds (IsAnswer (asked c.args.question (called (a_binary c.in_ok-operator.operator) None xs)) c.in_ok-written.field-0) (string_bytes c.args.text.now) (string_bytes c.write_answer_on-written.new.text))
           ((λ i. c.borrowed.ensures i ∷ c.borrowed-2.ensures i ∷ []) ∙ sym both) c.in_ok-written.ensures,
     )

@@ -3,7 +3,6 @@ use Rattle.wgsl_standard.specs.Callees.{callee_view}
 use Rattle.wgsl_requests.specs.Answers.{IsAnswer}
 use Rattle.wgsl_requests.specs.internal.Asked.{asked}
 use Rattle.wgsl_requests.specs.internal.Taken.{left}
-use Rattle.wgsl_requests.specs.declared.rules.RuleSet.TheVariants.{Standard}
 use Rattle.wgsl_requests.specs.internal.Written.{Adds}
 use Rattle.wgsl_requests.proofs.CallReads.{named_call, no_named_call, no_named_operands}
 use Rattle.wgsl_requests.proofs.Readers.{fails}
@@ -22,6 +21,6 @@ returns c = (
   _,
   named_call (left c.args.words.now) _ _ _ c.in_ok-name.ensures c.args.by _ c.in_ok-operands.ensures,
   rw (← c.callee-callee.ensures)
-      (subst (λ call. Adds (IsAnswer Standard (asked c.args.question call) c.in_ok-written.field-0) (string_bytes c.args.text.now) (string_bytes c.write_of_named-written.new.text))
+      (subst (λ call. Adds (IsAnswer (asked c.args.question call) c.in_ok-written.field-0) (string_bytes c.args.text.now) (string_bytes c.write_of_named-written.new.text))
       (named_seen (callee_view c.callee-callee.result) c.in_ok-name.template _ _ _ c.as_deref.ensures.value c.deref.ensures.value) c.in_ok-written.ensures),
 )

@@ -3,7 +3,6 @@ use Rattle.wgsl_standard.specs.Callees.{a_unary}
 use Rattle.wgsl_requests.specs.Answers.{IsAnswer}
 use Rattle.wgsl_requests.specs.internal.Asked.{asked, called}
 use Rattle.wgsl_requests.specs.internal.Taken.{left}
-use Rattle.wgsl_requests.specs.declared.rules.RuleSet.TheVariants.{Standard}
 use Rattle.wgsl_requests.specs.internal.Written.{Adds}
 use Rattle.wgsl_requests.proofs.CallReads.{no_unary_call, no_unary_operand, unary_call}
 use Rattle.wgsl_requests.proofs.Readers.{fails}
@@ -20,5 +19,5 @@ pub returns : goal.returns
 returns c = (
   _,
   unary_call (left c.args.words.now) _ _ c.in_ok-operator.ensures _ c.in_ok-x.ensures,
-  subst (λ x. Adds (IsAnswer Standard (asked c.args.question (called (a_unary c.in_ok-operator.operator) None (x ∷ []))) c.in_ok-written.field-0) (string_bytes c.args.text.now) (string_bytes c.write_answer_on-written.new.text)) c.borrowed.ensures c.in_ok-written.ensures,
+  subst (λ x. Adds (IsAnswer (asked c.args.question (called (a_unary c.in_ok-operator.operator) None (x ∷ []))) c.in_ok-written.field-0) (string_bytes c.args.text.now) (string_bytes c.write_answer_on-written.new.text)) c.borrowed.ensures c.in_ok-written.ensures,
 )

@@ -1,7 +1,6 @@
 use Rattle.std.proofs.Common.{string_bytes, subst}
 use Rattle.wgsl_requests.specs.Answers.{IsAnswer}
 use Rattle.wgsl_requests.specs.Requests.{call, call_words}
-use Rattle.wgsl_requests.specs.declared.rules.RuleSet.TheVariants.{Ported}
 use Rattle.wgsl_requests.specs.internal.Written.{Adds}
 use Rattle.wgsl_requests.proofs.Readers.{fails}
 use Rattle.wgsl_requests.proofs.Requested.{no_call}
@@ -14,4 +13,4 @@ returns-in_err-callee c = fails _ _ _ _ _ (no_call _) c.from_residual.ensures.1 
 pub returns : goal.returns
 returns c =
     replied _ _ _ (call_words c.in_ok-callee.ensures)
-    (subst (λ made. Adds (IsAnswer Ported (call made) c.in_ok-written.field-0) (string_bytes c.args.text.now) (string_bytes c.write_answer_to-written.new.text)) c.as_asked.ensures c.in_ok-written.ensures)
+    (subst (λ made. Adds (IsAnswer (call made) c.in_ok-written.field-0) (string_bytes c.args.text.now) (string_bytes c.write_answer_to-written.new.text)) c.as_asked.ensures c.in_ok-written.ensures)

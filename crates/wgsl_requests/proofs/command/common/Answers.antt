@@ -14,5 +14,5 @@ returns-in_err-types c = fails _ _ _ _ _ (no_common _ _) c.from_residual.ensures
 pub returns : goal.returns
 returns c =
     replied _ _ _ (common_words c.in_ok-types.ensures)
-    (subst (λ ts. Adds (IsAnswer c.args.rules (common ts) c.in_ok-written.field-0) (string_bytes c.args.text.now) (string_bytes c.write_common-written.new.text))
+    (subst (λ ts. Adds (IsAnswer (common c.write_common-written.args.names ts) c.in_ok-written.field-0) (string_bytes c.args.text.now) (string_bytes c.write_common-written.new.text))
     (ap (map view) c.deref.ensures.value) c.in_ok-written.ensures)

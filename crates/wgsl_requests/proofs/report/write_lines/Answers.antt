@@ -13,7 +13,7 @@ returns c =
     let l = c.args.layout.now in
     let old = string_bytes c.args.text.now in
     let mid = string_bytes c.write_members.new.text in
-    let members = c.in_ok-write_members.ensures ∙ ap (λ x. old ++ placed_lines c.args.names c.deref.result.now x) c.deref-2.ensures.value in
+    let members = c.in_ok-write_members.ensures ∙ ap (λ x. old ++ placed_lines c.deref.result.now x) c.deref-2.ensures.value in
     let name = ap (λ n. mid ++ struct_line n l.size l.align) (c.deref-3.ensures ∙ sym (struct_name_seen s)) in
-    on_ok c.write_last.result (λ e. reported c.args.names (struct_view s).name c.deref.result.now l (struct_view s).members old mid _ (members_at s c.deref.result.now c.deref.ensures.value) members (e ∙ name))
+    on_ok c.write_last.result (λ e. reported (struct_view s).name c.deref.result.now l (struct_view s).members old mid _ (members_at s c.deref.result.now c.deref.ensures.value) members (e ∙ name))
     c.write_last.ensures

@@ -6,5 +6,5 @@ use Rattle.wgsl_requests.proofs.report.write_members.Goals as goal
 
 pub returns : goal.returns
 returns c =
-    let none = no_lines c.args.names _ _ (either_empty_from_Zip c.loop-member.member-iterator c.next.new.self c.next.result c.in-None.is c.next.ensures.steps) in
+    let none = no_lines _ _ (either_empty_from_Zip c.loop-member.member-iterator c.next.new.self c.next.result c.in-None.is c.next.ensures.steps) in
     sym (append-nil (string_bytes c.loop-member.text)) ∙ ap (λ x. string_bytes c.loop-member.text ++ x) (sym none) ∙ c.loop-member.invariant

@@ -7,4 +7,4 @@ use Rattle.wgsl_requests.proofs.report.write_members.Given as goal
 -- what is written, and the lines of the members that are left
 abbrev pub invariant-loop-member : goal.invariant-loop-member
 invariant-loop-member l =
-    string_bytes l.text ++ placed_lines l.names (iter_rest (zip_first l.member-iterator)) (iter_rest (zip_second l.member-iterator)) ≡ string_bytes l.fn.text ++ placed_lines l.names l.members l.placed
+    string_bytes l.text ++ placed_lines (iter_rest (zip_first l.member-iterator)) (iter_rest (zip_second l.member-iterator)) ≡ string_bytes l.fn.text ++ placed_lines l.members l.placed
