@@ -149,7 +149,7 @@ pub enum Callee {
     Constructor(String),
 }
 
-/// The same, with a name that is borrowed.
+/// A `Callee` whose name is borrowed.
 pub(crate) use proved::callee::Callee as Called;
 
 fn owned(called: Called<'_>) -> Callee {

@@ -41,7 +41,7 @@ pub struct Types {
     pub operands: [Type; 4],
     /// `array<vec3<AbstractInt>, 2>`
     pub nested: Type,
-    /// The same with a line.
+    /// `nested` with the number of a line.
     pub typed: Typed,
     /// `ref<handle, f32, read_write>`
     pub in_handle: Type,
@@ -56,7 +56,7 @@ pub struct Structs {
     pub member: StructMemberType,
     /// `struct S { a: vec2<u32>, b: vec2<u32> }`
     pub structure: StructType,
-    /// The same as a type.
+    /// `structure` as a type.
     pub ty: Type,
     /// `struct E {}`
     pub empty: StructType,

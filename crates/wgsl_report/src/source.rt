@@ -10,14 +10,14 @@ use wgsl_source::structure::Struct;
 #[derive(Clone, Copy)]
 pub struct Source<'a> {
     pub alloc: Global,
-    /// What the text is called.
+    /// The name of the text's file.
     pub file: &'a str,
     pub lines: &'a Lines<'a>,
     pub module: &'a Module<'a>,
     pub messages: &'a [Message],
-    /// Whether no struct is asked about by its name, so that all are.
+    /// Whether all structs are to be written, since none is asked for by name.
     pub has_all: bool,
-    /// Which structs are asked about, or stand in one that is.
+    /// For each struct, whether it is asked for, or is inside one that is.
     pub is_chosen: &'a [bool],
 }
 

@@ -175,7 +175,7 @@ fn scalar_operand(of: Scalar) -> WrittenOperand
     }
 }
 
-/// The same, if the word is no scalar.
+/// The operand that begins with this word, which is no scalar.
 #[inline(never)]
 fn read_other_operand(
     alloc: Global,

@@ -5,7 +5,7 @@ ghost use Rattle.wgsl_rules.specs.types.Types.{WgslType};
 ghost use Rattle.wgsl_spelled.specs.Spells.{Spells};
 ghost use Rattle.wgsl_spelled.specs.Written.{IsWritable};
 
-/// What a type without a struct is written as spells it.
+/// The text that a type without a struct prints spells that type.
 #[tactic(auto, using(crate::proofs::Spellings::spells_spelling))]
 pub fn spelled_as_written()
     ensures { (t : WgslType) → IsWritable t → Spells (spelling t) t }

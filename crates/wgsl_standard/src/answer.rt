@@ -42,7 +42,7 @@ pub fn type_of_call(
     }
 }
 
-/// The same with a template, which is the first operand.
+/// The type of a call with a template, which counts as the first operand.
 #[inline(never)]
 fn type_with_template(
     alloc: Global,

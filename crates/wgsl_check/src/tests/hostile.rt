@@ -181,7 +181,7 @@ fn rank_and_layout(alloc: Global, types: &[Type]) -> Result<String, AllocError> 
     format!(in alloc; "{rank} {steps}, {size} {align} {least}")
 }
 
-/// The same of a nest around `AbstractInt` and one around `f32`.
+/// The rank and layout from 300 layers around `AbstractInt` to 300 around `f32`.
 fn nests(alloc: Global, layer: &str) -> Result<String, Fail> {
     let layers = layer.repeat(alloc, DEPTH)?;
     let words = format!(in alloc; "{layers}AbstractInt {layers}f32")?;

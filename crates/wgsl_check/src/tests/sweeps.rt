@@ -6,7 +6,7 @@ use wgsl_types::conv::{convert_all_ty, convert_ty};
 use wgsl_types::laws;
 use wgsl_types::ty::Type;
 
-/// The same types in two orders.
+/// Three types; `BACK` has them in the reverse order.
 const FORWARD: [Type; 3] = [Type::AbstractInt, Type::AbstractFloat, Type::F16];
 
 const BACK: [Type; 3] = [Type::F16, Type::AbstractFloat, Type::AbstractInt];
