@@ -172,7 +172,7 @@ impl Callee {
     }
 }
 
-/// The operands as the proved sources take them: on the stack, if they aren't many.
+/// Calls `ask` with the operands as the proved sources have them. Up to four are on the stack.
 fn with_operands<'a, T>(
     operands: impl ExactSizeIterator<Item = &'a Operand>,
     ask: impl FnOnce(&[proved::operand::Operand<'a>]) -> T,

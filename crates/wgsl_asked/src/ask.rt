@@ -1,4 +1,4 @@
-// Where the rules meet requests.
+// Answers each request by the function that decides it.
 ghost use Rattle.std.specs.Prelude.{◌≡◌, IfOk, None};
 ghost use Rattle.wgsl_asked.specs.Answers.{Answers};
 ghost use Rattle.wgsl_rules.specs.operators.Answers.{IsOperatorAnswer};

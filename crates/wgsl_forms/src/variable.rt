@@ -1,4 +1,4 @@
-// Variables, and what those of an address space hold.
+// Variables, and which types those of an address space can hold.
 ghost use Rattle.std.specs.Prelude.{◌≡◌, None, Some, option_map};
 ghost use Rattle.wgsl_rules.specs.types.Types.{reference};
 ghost use Rattle.wgsl_core.specs.View.{view, member_view};

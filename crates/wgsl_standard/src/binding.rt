@@ -1,4 +1,4 @@
-// What an operand requires of the letters of an overload.
+// What an operand requires of the letters of an overload: the type variables, such as T.
 ghost use Rattle.std.specs.Prelude.{◌≡◌, option_map};
 ghost use Rattle.std.specs.Option.{is_some, option_or};
 ghost use Rattle.wgsl_core.specs.View.{view};
@@ -119,7 +119,7 @@ fn bind_component(
     }
 }
 
-/// Puts the value in its place, if there is one.
+/// Stores the value, if there is one.
 fn put<T: Copy>(value: Option<T>, place: &mut Option<T>) -> bool
     ensures there_is { result ≡ is_some value }
     ensures value { place.new ≡ option_or value place.old }

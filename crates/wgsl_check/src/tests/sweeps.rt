@@ -1,4 +1,4 @@
-// The laws, each asked of types that it speaks of, and sixty types that are copied and become concrete.
+// The laws, each called with types that it is about, and sixty types that are copied and made concrete.
 use super::support::sixty::SIXTY;
 use super::support::{expect_answers, expect_replies};
 use std::test::Fail;
