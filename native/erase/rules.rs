@@ -186,7 +186,7 @@ fn formatter(
     Ok(Some(index + 4))
 }
 
-/// `<W: Write>` behind the name of a function that takes a `Formatter<W>`.
+/// `<W: Write>` after the name of a function that takes a `Formatter<W>`.
 fn writer(
     source: &mut Source<'_>,
     index: usize,

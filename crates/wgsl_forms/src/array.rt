@@ -129,7 +129,7 @@ fn referred_type(ty: &Type) -> OperandType<'_>
     }
 }
 
-/// The type of an array whose element type is said, `array<T, N>(v, ..)` (WGSL, "array"). The first of these refuses:
+/// The type of an array with a declared element type, `array<T, N>(v, ..)` (WGSL, "array"). The first of these refuses:
 /// `NotConstructible` of the array; `ParamCount`, unless there are no values; for the first value that doesn't fit its
 /// load, or `ParamType`.
 pub fn construct_array_of<'a>(

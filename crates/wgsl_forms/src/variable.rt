@@ -159,7 +159,7 @@ fn variable_in<'a>(
     Ok(reference(space, access, UnbuiltType::of_type(ty)))
 }
 
-/// The access mode of a variable: the one that is said, or that of the space.
+/// The access mode of a variable: the declared one, or the default of the address space.
 fn access_of(space: AddressSpace, access: Option<AccessMode>) -> AccessMode
     ensures { result ≡ access_of space access }
 {

@@ -77,7 +77,7 @@ struct Session {
     /// The name of the program, with which a note begins.
     program: &'static str,
     line: Line,
-    /// The answer to the line.
+    /// The answer to the current line.
     answer: String,
     answers: String,
     /// Why lines can't be read.

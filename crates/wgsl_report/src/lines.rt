@@ -6,7 +6,7 @@ use std::alloc::{AllocError, Global};
 #[derive(Drop)]
 pub struct Lines<'a> {
     text: &'a [u8],
-    /// The index of the first byte of each line behind the first.
+    /// The index of the first byte of each line after the first.
     starts: Vec<usize>,
     /// The characters beyond ASCII.
     wide: Vec<Wide>,

@@ -1,4 +1,4 @@
-// A text whose module is read, and what is asked of it.
+// A text whose module is read, and which of its structs to report on.
 
 use crate::lines::Lines;
 use crate::message::Message;
@@ -6,7 +6,7 @@ use std::alloc::Global;
 use wgsl_source::module::Module;
 use wgsl_source::structure::Struct;
 
-/// A text whose module is read, and what is asked of it.
+/// A text whose module is read, and which of its structs to report on.
 #[derive(Clone, Copy)]
 pub struct Source<'a> {
     pub alloc: Global,

@@ -29,7 +29,7 @@ use wgsl_types::error::Fail;
 use wgsl_types::syntax::{BinaryOperator, UnaryOperator};
 use wgsl_types::tplt::TpltParam;
 
-/// What is asked of a call.
+/// What a request about a call asks for.
 #[derive(Clone, Copy)]
 pub(crate) enum Question {
     Type,
@@ -55,7 +55,7 @@ impl Named {
     }
 }
 
-/// The answer to what is asked of the call.
+/// The answer to a request about the call.
 #[inline(always)]
 pub(crate) fn answer_call(
     alloc: Global,
@@ -243,7 +243,7 @@ fn borrowed<'c>(
     Ok(operands)
 }
 
-/// Writes the answer to what is asked of a call.
+/// Writes the answer to a request about a call.
 #[inline(always)]
 fn write_answer_on(
     alloc: Global,

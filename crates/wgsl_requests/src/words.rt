@@ -38,7 +38,7 @@ impl<'t> Words<'t> {
         }
     }
 
-    /// The first of the words that are left, and how many of the bytes that are left end with it.
+    /// The next word, and the number of remaining bytes up to its end.
     #[inline(always)]
     fn first_left(&self) -> Option<(&'t str, usize)>
         ensures { IsFirstWord (drop self.now.taken self.now.text.now) result }

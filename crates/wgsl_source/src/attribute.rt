@@ -146,7 +146,7 @@ impl<'t> Scope<'t> {
         Ok(attributes)
     }
 
-    /// An attribute behind its `@`.
+    /// Reads an attribute after its `@`.
     fn read_attribute(
         &self,
         cursor: &mut Cursor<'t>,

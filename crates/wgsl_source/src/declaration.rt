@@ -184,7 +184,7 @@ pub fn read_declarations<'t>(
     Ok(declarations)
 }
 
-/// The first word of a declaration behind its attributes, and the template list of a variable.
+/// Reads the attributes and the first word of a declaration, and the template list of a variable.
 fn read_head(cursor: &mut Cursor) -> Result<Head, Stop>
     ensures goes_on { GoesOn cursor.old cursor.new }
 {

@@ -108,7 +108,7 @@ fn exponent_of(digits: &[u8]) -> Option<usize> {
     }
 }
 
-/// The value with this many zeros behind it, at most 400.
+/// The value times ten to the power of `zeros`, or of 400 if that is less.
 fn times_ten(value: i64, zeros: usize) -> i64 {
     let mut value = value;
     for _ in 0..zeros.min(400) {

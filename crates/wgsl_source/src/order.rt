@@ -188,7 +188,7 @@ fn next_use<'t>(
     None
 }
 
-/// Skips an attribute behind its `@`, up to where names of declarations may stand.
+/// Skips an attribute after its `@`, up to where names of declarations may follow.
 fn skip_attribute(cursor: &mut Cursor)
     ensures goes_on { GoesOn cursor.old cursor.new }
 {

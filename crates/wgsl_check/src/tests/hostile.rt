@@ -157,10 +157,10 @@ fn strange_types_equal_themselves_alone(rt: HostRuntime) -> Result<(), Fail> {
     Ok(())
 }
 
-/// How many layers stand around a scalar.
+/// The number of layers around a scalar.
 const DEPTH: usize = 300;
 
-/// That many layers around a scalar.
+/// The text of `DEPTH` layers around a scalar.
 fn nest(alloc: Global, before: &str, scalar: &str, after: &str) -> Result<String, AllocError> {
     let before = before.repeat(alloc, DEPTH)?;
     let after = after.repeat(alloc, DEPTH)?;
