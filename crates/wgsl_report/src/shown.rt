@@ -38,7 +38,7 @@ const GREEN: &str = "\x1b[1;32m";
 
 const RESET: &str = "\x1b[0m";
 
-/// A longer line, in bytes, is not shown.
+/// The longest line, in bytes, that is shown.
 const LONGEST: usize = 200;
 
 /// Writes the messages on a text.
