@@ -1,4 +1,4 @@
-//! Instances: literals, with their types and their texts. Other values belong to the layer above.
+//! Instances: literals, with their types and their texts. There are no other values here.
 //!
 //! ```
 //! use wgsl_types_proved::inst::{Instance, LiteralInstance};

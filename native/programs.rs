@@ -1,4 +1,4 @@
-//! The programs: the `main` of each proved one, and what starts it.
+//! The programs: the `main` of each proved program, and the code that starts it.
 
 use crate::proved::{wgsl_check, wgsl_layout, wgsl_standard_check};
 use crate::shim::host::HostRuntime;

@@ -14,8 +14,8 @@ pub enum Error {
     /// The request is no command, is blank, has a line feed, or has more than 4096 bytes. The text says why: the column in
     /// bytes, the number of the word, and what was expected there.
     Unreadable(String),
-    /// The rules refuse the expression. The text is their message. That there is no rank, common type, size or layout is an
-    /// answer, `none`.
+    /// The rules refuse the expression. The text is their message. If there is no rank, common type, size or layout,
+    /// the answer is `none` and no error.
     Refused(String),
 }
 

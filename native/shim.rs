@@ -12,7 +12,7 @@ pub mod std;
 use self::std::alloc::AllocError;
 use crate::proved::wgsl_core::error::Fail;
 
-/// What each module of the proved sources uses: what Rattle has in its prelude, and the names of crates.
+/// What each module of the proved sources imports: the names in Rattle's prelude, and the names of crates.
 pub mod prelude {
     pub(crate) use super::collections::{
         RattleBox, RattleExtend, RattleMap, RattleSet, RattleString, RattleToString, RattleVec,
@@ -29,7 +29,7 @@ pub mod prelude {
     pub(crate) use alloc::vec::Vec;
 }
 
-/// The value of what can't fail.
+/// The value of a result that can't fail.
 #[inline(always)]
 pub fn always<T>(made: Result<T, AllocError>) -> T {
     match made {
@@ -38,7 +38,7 @@ pub fn always<T>(made: Result<T, AllocError>) -> T {
     }
 }
 
-/// The answer, or why there is none.
+/// The value, or the refusal.
 #[inline(always)]
 pub fn settled<T, E>(made: Result<T, Fail<E>>) -> Result<T, E> {
     match made {
@@ -48,7 +48,7 @@ pub fn settled<T, E>(made: Result<T, Fail<E>>) -> Result<T, E> {
     }
 }
 
-/// The bound of Rattle for values that may be let go. In Rust all may.
+/// Rattle's bound for values that may be dropped. In Rust all may be.
 pub trait Drop {}
 
 impl<T: ?Sized> Drop for T {}

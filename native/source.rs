@@ -20,13 +20,13 @@ pub struct Layouts {
     pub structs: Vec<Struct>,
     /// The variables of the module that lie in memory, in the order of the text.
     pub variables: Vec<Variable>,
-    /// The values that are given when a pipeline is made, in the order of the text.
+    /// The overrides, in the order of the text.
     pub overrides: Vec<Override>,
-    /// The functions with which stages of a pipeline begin, in the order of the text.
+    /// The entry points, in the order of the text.
     pub entry_points: Vec<EntryPoint>,
-    /// What can't be read or laid out. Reading goes on behind it.
+    /// What can't be read or laid out. The declarations after it are read all the same.
     pub errors: Vec<Message>,
-    /// Which rules of address spaces a variable breaks, and what naga alone has.
+    /// Rules of address spaces that a variable breaks, and uses of what only naga has.
     pub findings: Vec<Message>,
 }
 
@@ -38,7 +38,7 @@ pub struct Struct {
     pub name: String,
     /// Where its name stands.
     pub place: Place,
-    /// The size; with one element, if the last member is a runtime-sized array.
+    /// The size. If the last member is a runtime-sized array, it counts with one element.
     pub size: u32,
     /// The alignment.
     pub align: u32,
@@ -64,9 +64,9 @@ pub struct Member {
     pub size: u32,
     /// The alignment.
     pub align: u32,
-    /// How far the elements of an array or the columns of a matrix lie apart.
+    /// The stride of the elements of an array, or of the columns of a matrix.
     pub stride: Option<u32>,
-    /// How many bytes lie between this member and the next one, or the end of the struct.
+    /// The bytes between this member and the next one, or the end of the struct.
     pub padding: u32,
 }
 
@@ -90,11 +90,11 @@ pub struct Variable {
     pub access: AccessMode,
     /// The size of the type in bytes, if it has one.
     pub size: Option<u32>,
-    /// The least number of bytes that a buffer bound here has, if it is one.
+    /// The minimum binding size in bytes, if a buffer is bound here.
     pub min_binding_size: Option<u32>,
 }
 
-/// A value that is given when a pipeline is made.
+/// An `override`: a value that is set when a pipeline is created.
 #[derive(Clone, Debug, PartialEq, Eq, Hash)]
 #[non_exhaustive]
 pub struct Override {
@@ -104,13 +104,13 @@ pub struct Override {
     pub place: Place,
     /// The number of `@id`.
     pub id: Option<u32>,
-    /// The type; None if only the value says it, and that isn't read here.
+    /// The type; None if it follows from the initializer, and that isn't read here.
     pub ty: Option<Scalar>,
-    /// Whether it has a value if none is given.
+    /// Whether it has a value if the pipeline sets none.
     pub has_default: bool,
 }
 
-/// A function with which a stage of a pipeline begins.
+/// An entry point: the function with which a pipeline stage starts.
 #[derive(Clone, Debug, PartialEq, Eq, Hash)]
 #[non_exhaustive]
 pub struct EntryPoint {
@@ -124,7 +124,7 @@ pub struct EntryPoint {
     pub workgroup_size: Option<[Option<u32>; 3]>,
 }
 
-/// What is said of a place in the text. It displays as `10:3: ..`.
+/// A message about a place in the text. It displays as `10:3: ..`.
 #[derive(Clone, Debug, PartialEq, Eq, Hash)]
 #[non_exhaustive]
 pub struct Message {
@@ -146,7 +146,7 @@ impl fmt::Display for Message {
     }
 }
 
-/// The layouts of a module, which is given as its text. Bytes that aren't UTF-8 are an error in the answer, as any other.
+/// The layouts in the text of a module. Bytes that aren't UTF-8 are one of the errors in the result.
 ///
 /// ```
 /// let module = wgsl_types_proved::source::layouts(

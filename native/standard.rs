@@ -5,9 +5,9 @@
 //! The calls of [`builtin`](crate::builtin) answer by the rules of wgsl-types 0.3.2 instead, which differ from WGSL's. naga's
 //! ray queries have no overloads: ask `builtin`.
 //!
-//! A compiler asks with what it knows of an expression: its type and whether it is a const-expression. It loads nothing and
-//! makes nothing concrete before it asks. The type of a variable is a reference: for an operator or a call one that can be
-//! read stands for what it loads as.
+//! Pass what a compiler knows of an expression: its type, and whether it is a const-expression. Don't load references
+//! or make types concrete first. The type of a variable is a reference; in an operator or a call, a reference that can
+//! be read counts as the type that it loads as.
 //!
 //! ```
 //! use wgsl_types_proved::standard::{resolve_builtin_fn, type_unary_op, Operand};
@@ -149,7 +149,7 @@ pub enum Callee {
     Constructor(String),
 }
 
-/// The same, with a name that is borrowed.
+/// A `Callee` whose name is borrowed.
 pub(crate) use proved::callee::Callee as Called;
 
 fn owned(called: Called<'_>) -> Callee {
@@ -172,7 +172,7 @@ impl Callee {
     }
 }
 
-/// The operands as the proved sources take them: on the stack, if they aren't many.
+/// Calls `ask` with the operands as the proved sources have them. Up to four are on the stack.
 fn with_operands<'a, T>(
     operands: impl ExactSizeIterator<Item = &'a Operand>,
     ask: impl FnOnce(&[proved::operand::Operand<'a>]) -> T,

@@ -17,8 +17,8 @@ use alloc::string::String;
 use core::fmt;
 use core::str::FromStr;
 
-/// How many levels deep a type can be that is answered on a stack of 512 KiB. A scalar, a texture or a sampler has one level,
-/// and each array, vector, struct and so on around it has one more. Deeper ones are answered on a larger stack.
+/// The depth up to which calls work on a stack of 512 KiB. A scalar, a texture or a sampler has depth 1, and each
+/// array, vector, struct and so on around it adds 1. Deeper types need a larger stack.
 pub const MAX_DEPTH: usize = 255;
 
 /// A value that has a type.
@@ -103,7 +103,7 @@ impl TryFrom<&Type> for SampledType {
     }
 }
 
-/// Why a text isn't read as a type. It displays as `column 6: ..`, in bytes from 1.
+/// Why a text can't be read as a type. It displays as `column 6: ..`, in bytes from 1.
 #[derive(Clone, Debug, PartialEq, Eq, Hash)]
 #[non_exhaustive]
 pub struct SpellingError {

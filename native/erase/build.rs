@@ -1,6 +1,6 @@
-//! Makes plain Rust of the proved sources: `crates/*/src/**/*.rt` without their contracts, as modules of one crate, in the
-//! folder that cargo gives. `rules.rs` has what is left out and what is written otherwise. All else stays as it is, byte by
-//! byte, comments too. What no rule knows is refused with its file and line.
+//! Makes plain Rust of the proved sources: `crates/*/src/**/*.rt` without their contracts, as modules of one crate, in
+//! cargo's `OUT_DIR`. `rules.rs` says what is left out and what is replaced. All else stays as it is, byte by byte,
+//! comments too. If no rule knows a construct, the build fails and names its file and line.
 
 mod crates;
 mod derives;
@@ -28,7 +28,7 @@ fn main() -> ExitCode {
     }
 }
 
-/// Erases what the library stands on, and with the feature `std` the programs.
+/// Erases the sources of the library, and with the feature `std` those of the programs.
 fn erase_all() -> Result<(), Box<dyn Error>> {
     let folder = env::var_os("OUT_DIR").ok_or("cargo names no folder")?;
     for path in ["crates.txt", "crates", "native/erase"] {
@@ -46,7 +46,7 @@ fn erase_all() -> Result<(), Box<dyn Error>> {
     Ok(())
 }
 
-/// Writes what is made of each file.
+/// Writes the Rust source of each file.
 fn write_all(files: &[File], folder: &Path) -> Result<(), Box<dyn Error>> {
     let paths: Vec<String> = files.iter().map(|file| file.path.display().to_string()).collect();
     let (mut methods, mut written_out) = (HashSet::new(), HashSet::new());

@@ -5,7 +5,7 @@ use std::fs;
 use std::io;
 use std::path::{Path, PathBuf};
 
-/// The crates that users reach, with those that they stand on.
+/// The crates that users reach, with those that they depend on.
 const LIBRARY: [&str; 5] = ["wgsl_types", "wgsl_forms", "wgsl_requests", "wgsl_report", "wgsl_c"];
 
 /// The programs, which need `std`.
@@ -17,13 +17,13 @@ pub struct File {
     pub of: String,
     /// The path.
     pub path: PathBuf,
-    /// Where what is made of it goes, in the folder of what is made.
+    /// The path of the Rust source, within `OUT_DIR`.
     pub made: PathBuf,
     pub text: String,
 }
 
-/// The crates to erase, each behind those that it stands on. `crates.txt` has a line for each: its name, perhaps a word
-/// that says how it is built, a colon, and what it stands on.
+/// The crates to erase, each after those that it depends on. `crates.txt` has a line for each: its name, perhaps a word
+/// that says how it is built, a colon, and the crates that it depends on.
 pub fn needed(crates_txt: &str, with_programs: bool) -> Vec<String> {
     let mut below: BTreeMap<&str, Vec<&str>> = BTreeMap::new();
     for line in crates_txt.lines().filter(|line| !line.starts_with('#')) {
@@ -49,7 +49,7 @@ fn add(name: &str, below: &BTreeMap<&str, Vec<&str>>, needed: &mut Vec<String>) 
     needed.push(name.to_string());
 }
 
-/// The sources of a crate, in the folder `crates`. Those that its tests alone have are left out.
+/// The sources of a crate in the folder `crates`, without those of its tests.
 pub fn files(crates: &Path, name: &str) -> io::Result<Vec<File>> {
     let top = crates.join(name).join("src");
     let (mut folders, mut files) = (vec![top.clone()], Vec::new());

@@ -4,10 +4,10 @@ use crate::rules::Project;
 use crate::source::{Refusal, Source};
 use std::collections::HashSet;
 
-/// What Rust's users expect of data.
+/// The traits that Rust's users expect of data.
 const OF_DATA: [&str; 5] = ["Clone", "Debug", "PartialEq", "Eq", "Hash"];
 
-/// `#[derive(..)]`, which becomes the derives of data, but for those that the source writes out.
+/// `#[derive(..)]`, which becomes the derives of data, except those that the source implements itself.
 pub fn derive(
     source: &mut Source<'_>,
     index: usize,
@@ -31,7 +31,7 @@ pub fn derive(
     Ok(Some(close + 2))
 }
 
-/// The name of the type behind its attributes.
+/// The name of the type after its attributes.
 fn declared<'s>(source: &Source<'s>, index: usize) -> Result<&'s str, Refusal> {
     let item = source.find(index, &["struct", "enum"]);
     let item = item.ok_or_else(|| {

@@ -1,10 +1,10 @@
-//! Names that are written otherwise.
+//! Names that are replaced.
 
 use crate::rules::Project;
 use crate::source::{Refusal, Source};
 use std::collections::HashSet;
 
-/// What stands in front of a name that Rust has for something else.
+/// The prefix of a name that means something else in Rust.
 const PREFIX: &str = "rattle_";
 
 /// Functions of std's types that have other parameters or results in Rattle.
@@ -19,7 +19,7 @@ const FUNCTIONS: [(&str, &[&str]); 5] = [
 /// Methods of std's types that have other parameters or results in Rattle.
 const METHODS: [&str; 5] = ["push", "push_str", "extend_from_slice", "insert", "to_string"];
 
-/// Methods of types that users have, but that say what only proofs need, or speak of types that users don't have.
+/// Methods of public types that only proofs need, or that have types which aren't public.
 const INTERNAL: [&str; 11] = [
     "around",
     "form",
@@ -138,7 +138,7 @@ fn has_allocator(source: &Source<'_>, open: usize) -> bool {
     false
 }
 
-/// Where the names of the methods stand that have a parameter of the type `Global`.
+/// The indices of the names of methods that have a parameter of the type `Global`.
 fn methods(source: &Source<'_>) -> HashSet<usize> {
     let mut methods = HashSet::new();
     let mut end = 0;

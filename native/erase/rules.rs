@@ -1,26 +1,26 @@
-//! What is left out, what is written otherwise, and why the meaning stays.
+//! What is left out, what is replaced, and why the meaning stays the same.
 
 use crate::derives::derive;
 use crate::names;
 use crate::source::{Refusal, Source};
 use std::collections::HashSet;
 
-/// What a rule knows beside the source.
+/// What a rule knows besides the source.
 pub struct Project<'s> {
     /// The name of the crate of the source.
     pub name: &'s str,
     /// The names of the methods that have an allocator among their parameters, in all crates.
     pub methods: &'s HashSet<&'s str>,
-    /// The types that have a trait's `impl` of their own, as pairs of the trait and the type.
+    /// The traits that sources implement themselves, as pairs of the trait and the type.
     pub written_out: &'s HashSet<(&'s str, &'s str)>,
 }
 
-/// A rule is asked of each token. It answers where to go on, if it knows what stands there.
+/// A rule is called for each token. If it knows the construct there, it returns the index after it.
 type Rule = fn(&mut Source<'_>, usize, &Project<'_>) -> Result<Option<usize>, Refusal>;
 
-/// The rules. The first one that knows a token has it.
+/// The rules. The first one that knows the construct at a token applies.
 const RULES: [Rule; 15] = [
-    // Left out: contracts, what only they use, and what speaks to the prover make no code.
+    // Left out: contracts, what only these use, and attributes for the prover make no code.
     ghost_item,
     clause,
     attribute,
@@ -28,22 +28,22 @@ const RULES: [Rule; 15] = [
     exported,
     // Left out: a program's tests are for the proved build, whose `main` they drive.
     tests,
-    // `Drop` in a derive says that values may be let go, which any value may in Rust: no source has an `impl Drop`, which
-    // is refused. In its place stand the derives that Rust's users expect of data, unless the source writes them out.
+    // `Drop` in a derive says that values may be dropped, which is true of any value in Rust; an `impl Drop` in a
+    // source is refused. It is replaced by the derives that Rust's users expect of data, unless the source has its own.
     // Nothing in the sources calls them.
     derive,
     drop_impl,
     // Rust's `Formatter` has no parameter for what it writes to.
     formatter,
     writer,
-    // Rust calls the `main` of a binary without arguments. Here it is called by one.
+    // Rust calls a binary's `main` without arguments, so the binary's own `main` calls this one.
     main_function,
-    // Each crate is a module of one. The names of crates, and `std`, come from the line that is put in.
+    // Each crate becomes a module. The names of crates, and `std`, come from the line that is inserted.
     names::path,
-    // The enumeration `Type` has that name to itself in the proofs. Users know this variant as `Type`.
+    // In the proofs only the enumeration may be named `Type`. Users know this variant as `Type`.
     names::template_parameter,
     // Rust's `Box`, `Vec`, `String` and `BTreeMap` have functions of these names with other parameters and results. The
-    // shim has Rattle's, as traits, by these names with a prefix. A name that it lacks doesn't compile.
+    // shim has Rattle's functions in traits, with a prefix. A name that it lacks doesn't compile.
     names::of_std,
     // So that users have methods of these names without an allocator, and don't see these.
     names::with_allocator,
@@ -51,7 +51,7 @@ const RULES: [Rule; 15] = [
     names::internal,
 ];
 
-/// What is put into each file: Rattle's prelude, and the names of crates.
+/// The line that is inserted into each file: Rattle's prelude, and the names of crates.
 const FIRST_LINE: &str = "#[allow(unused_imports)]\nuse crate::shim::prelude::*;";
 
 /// The source in Rust.
@@ -111,8 +111,8 @@ fn clause(
     Ok(Some(behind))
 }
 
-/// `#[tactic(..)]`, `#![tactic(..)]` and `#[cycle(..)]`; `#[unsafe(no_mangle)]`, since `native/c` exports. Those that Rust has stay,
-/// and others are refused.
+/// `#[tactic(..)]`, `#![tactic(..)]` and `#[cycle(..)]`; `#[unsafe(no_mangle)]`, since `native/c` exports. Attributes
+/// of Rust stay. Any others are refused.
 fn attribute(
     source: &mut Source<'_>,
     index: usize,
@@ -186,7 +186,7 @@ fn formatter(
     Ok(Some(index + 4))
 }
 
-/// `<W: Write>` behind the name of a function that takes a `Formatter<W>`.
+/// `<W: Write>` after the name of a function that takes a `Formatter<W>`.
 fn writer(
     source: &mut Source<'_>,
     index: usize,

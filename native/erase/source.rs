@@ -1,4 +1,4 @@
-//! A source that is edited: its tokens, which brackets belong together, and what is left out or put in.
+//! A source and its edits: its tokens, which brackets match, and what is left out or inserted.
 
 use crate::token::{tokens, Kind, Token};
 use std::fmt;
@@ -32,7 +32,7 @@ pub struct Source<'s> {
     /// All tokens but comments.
     tokens: Vec<Token<'s>>,
     comments: Vec<Token<'s>>,
-    /// Of each bracket the index of the other.
+    /// For each bracket, the index of its match.
     partners: Vec<Option<usize>>,
     edits: Vec<Edit>,
 }
@@ -63,7 +63,7 @@ impl<'s> Source<'s> {
         self.tokens.get(index).map_or("", |token| token.text)
     }
 
-    /// The text of the token that stands so many before one.
+    /// The text of the token that is `count` before `index`.
     pub fn before(&self, index: usize, count: usize) -> &'s str {
         index.checked_sub(count).map_or("", |index| self.at(index))
     }
@@ -73,22 +73,22 @@ impl<'s> Source<'s> {
         self.tokens.get(index).is_some_and(|token| token.kind == Kind::Word)
     }
 
-    /// Whether these tokens stand from an index on.
+    /// Whether these tokens follow from an index on.
     pub fn has(&self, index: usize, texts: &[&str]) -> bool {
         texts.iter().enumerate().all(|(ahead, text)| self.at(index + ahead) == *text)
     }
 
-    /// The index of the bracket that belongs to one.
+    /// The index of the match of a bracket.
     pub fn partner(&self, index: usize) -> Option<usize> {
         self.partners.get(index).copied().flatten()
     }
 
-    /// The index behind a token; behind all that is in brackets, if it opens some.
+    /// The index after a token, or after the matching bracket if it is an opening one.
     pub fn behind(&self, index: usize) -> usize {
         self.partner(index).filter(|close| *close > index).unwrap_or(index) + 1
     }
 
-    /// The first index from one on that has one of the texts, and isn't within brackets that open on the way.
+    /// The first index from `index` on that has one of the texts, outside of brackets that open on the way.
     pub fn find(&self, mut index: usize, texts: &[&str]) -> Option<usize> {
         while index < self.len() {
             if texts.contains(&self.at(index)) {
@@ -99,19 +99,19 @@ impl<'s> Source<'s> {
         None
     }
 
-    /// Refuses what stands at an index.
+    /// Refuses the construct at an index.
     pub fn refuse(&self, index: usize, why: impl Into<String>) -> Refusal {
         let start = self.tokens.get(index).map_or(self.text.len(), |token| token.start);
         Refusal { file: self.file.to_string(), line: line_of(self.text, start), why: why.into() }
     }
 
-    /// Writes tokens otherwise, from `first` to `last`.
+    /// Replaces the tokens from `first` to `last`.
     pub fn put(&mut self, first: usize, last: usize, text: impl Into<String>) {
         let (start, end) = (self.tokens[first].start, self.tokens[last].end());
         self.edits.push(Edit { start, end, text: text.into() });
     }
 
-    /// Leaves tokens out, from `first` to `last`, and their lines where nothing else stands there.
+    /// Leaves out the tokens from `first` to `last`, and their lines if nothing else is on them.
     pub fn leave_out(&mut self, first: usize, last: usize) {
         let (start, end) = (self.tokens[first].start, self.tokens[last].end());
         let before = self.text[..start].trim_end_matches([' ', '\t']);
@@ -124,8 +124,8 @@ impl<'s> Source<'s> {
         self.edits.push(Edit { start, end, text: String::new() });
     }
 
-    /// Leaves out the comments that stand right above a token's line, without an empty line between. Those with which the
-    /// file begins stay: they are about the file.
+    /// Leaves out the comments right above a token's line, without an empty line between. The comments at the beginning
+    /// of the file stay, since they are about the file.
     pub fn leave_out_comments_above(&mut self, index: usize) {
         let end = self.line_start(self.tokens[index].start);
         let mut start = end;
@@ -146,7 +146,7 @@ impl<'s> Source<'s> {
         self.text[..at].rfind('\n').map_or(0, |feed| feed + 1)
     }
 
-    /// Puts a line in front of the first item, behind the comments and attributes of the file.
+    /// Inserts a line in front of the first item, after the comments and attributes of the file.
     pub fn put_first(&mut self, line: &str) {
         let mut index = 0;
         while self.has(index, &["#", "!"]) {
@@ -163,7 +163,7 @@ impl<'s> Source<'s> {
         self.edits.push(Edit { start, end: start, text: format!("{line}\n") });
     }
 
-    /// The text with its edits, no two of which may be at one place.
+    /// The text with its edits, no two of which may be at the same place.
     pub fn edited(mut self) -> Result<String, Refusal> {
         self.edits.sort_by_key(|edit| (edit.start, edit.end));
         let (mut made, mut at) = (String::new(), 0);
@@ -189,7 +189,7 @@ fn line_of(text: &str, at: usize) -> usize {
     1 + text[..at].matches('\n').count()
 }
 
-/// Of each bracket the index of the other. Err has the index of one without.
+/// For each bracket, the index of its match. Err has the index of a bracket without one.
 fn partners(tokens: &[Token<'_>]) -> Result<Vec<Option<usize>>, usize> {
     let (mut partners, mut open) = (vec![None; tokens.len()], Vec::new());
     for (index, token) in tokens.iter().enumerate() {

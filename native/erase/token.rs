@@ -1,6 +1,6 @@
 //! The tokens of a source: Rust's, and in contracts those of their language, which has the same brackets and strings.
 
-/// What a token is, as far as rules ask.
+/// The kinds of tokens that the rules distinguish.
 #[derive(Clone, Copy, Debug, PartialEq, Eq)]
 pub enum Kind {
     /// A name or a keyword.
@@ -28,7 +28,7 @@ impl Token<'_> {
     }
 }
 
-/// All tokens of a text, with its comments. Err has the byte where one begins that doesn't end.
+/// All tokens of a text, with its comments. Err has the byte where a token begins that doesn't end.
 pub fn tokens(text: &str) -> Result<Vec<Token<'_>>, usize> {
     let mut tokens = Vec::new();
     let mut start = 0;
@@ -68,7 +68,7 @@ fn is_of_word(c: char) -> bool {
     c == '_' || c.is_alphanumeric()
 }
 
-/// The length of a comment that may have others within.
+/// The length of a comment, which may contain others.
 fn block_comment(text: &str) -> Option<usize> {
     let (mut depth, mut at) = (0, 0);
     loop {
@@ -123,7 +123,7 @@ fn quoted(text: &str) -> Option<Option<usize>> {
     }
 }
 
-/// The length up to the quote that closes, where a backslash goes with what stands behind it.
+/// The length up to the closing quote. A backslash escapes the next character.
 fn closed(text: &str, quote: char) -> Option<usize> {
     let mut is_escaped = false;
     for (at, c) in text.char_indices().skip(1) {
@@ -137,7 +137,8 @@ fn closed(text: &str, quote: char) -> Option<usize> {
     None
 }
 
-/// The length of a number whose first digits and letters have a length: with a fraction, if a digit begins it.
+/// The length of a number whose first `word` bytes are digits and letters; with a fraction, if that begins with a
+/// digit.
 fn number(text: &str, word: usize) -> usize {
     let fraction = text[word..].strip_prefix('.').unwrap_or_default();
     if !fraction.starts_with(|c: char| c.is_ascii_digit()) {

@@ -109,7 +109,8 @@ impl Scope {
     }
 }
 
-/// The type that `inner` makes of what a reference refers to, referred to in the same way; of any other type itself.
+/// Applies `inner` to a type. Of a reference it is applied to the type that it refers to, and the result is a reference
+/// too.
 fn within_reference(ty: Type, inner: impl Fn(&Type) -> Result<Type, Error>) -> Result<Type, Error> {
     match ty {
         Type::Ref(space, ty, access) => Ok(Type::Ref(space, Box::new(inner(&ty)?), access)),

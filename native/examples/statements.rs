@@ -1,4 +1,4 @@
-//! Types the statements of a small shader by WGSL's rules. Names, literals and scopes are all that it decides itself.
+//! Types the statements of a small shader by WGSL's rules. It decides only names, literals and scopes itself.
 
 use std::collections::HashMap;
 use std::error::Error;

@@ -94,7 +94,7 @@ impl RattleString for String {
     }
 }
 
-/// `write!` to a String, whose error is that of memory.
+/// `write!` to a String, whose error is out of memory.
 pub trait RattleWrite {
     fn write_fmt(&mut self, args: fmt::Arguments<'_>) -> Made<()>;
 }

@@ -1,9 +1,9 @@
-//! What a program has of its host: standard input and output, its arguments, and files.
+//! What the host offers a program: standard input and output, arguments, and files.
 
 use super::std::alloc::{AllocError, Global};
 pub use rust_std::{io, process};
 
-/// What `main` is called with.
+/// The argument of `main`.
 pub struct HostRuntime;
 
 impl HostRuntime {
@@ -39,7 +39,7 @@ pub mod env {
         rust_std::env::var(name)
     }
 
-    /// The words of the command. One that isn't UTF-8 is an error.
+    /// The arguments on the command line. One that isn't UTF-8 is an error.
     pub fn args(_: &HostRuntime) -> io::Result<alloc::vec::IntoIter<String>> {
         let words = rust_std::env::args_os()
             .map(|word| word.into_string().map_err(|_| io::ErrorKind::InvalidData.into()));

@@ -8,7 +8,7 @@ pub struct Simd<T, const N: usize>([T; N]);
 #[allow(non_camel_case_types)]
 pub type u8x16 = Simd<u8, 16>;
 
-/// The answers of a comparison: bit i is that of lane i.
+/// The results of a comparison: bit i is that of lane i.
 #[derive(Clone, Copy)]
 pub struct Mask(u64);
 
@@ -40,7 +40,7 @@ impl<const N: usize> Simd<u8, N> {
         self.compared(other, |a, b| !differ(a, b))
     }
 
-    /// Answers 8 lanes at a time by the highest bits of the 8 bytes of what a function returns.
+    /// Compares 8 lanes at a time. The highest bit of each byte that the function returns is the result of a lane.
     #[inline(always)]
     fn compared(self, other: Self, answers: impl Fn(u64, u64) -> u64) -> Mask {
         let mut bits = 0;
@@ -53,7 +53,7 @@ impl<const N: usize> Simd<u8, N> {
     }
 }
 
-/// The highest bit of a byte is set if the bytes differ.
+/// Sets the highest bit of each byte in which the two words differ.
 #[inline(always)]
 fn differ(a: u64, b: u64) -> u64 {
     let bits = a ^ b;

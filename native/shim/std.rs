@@ -6,15 +6,15 @@ pub use core::{cmp, str};
 pub mod alloc {
     use core::fmt;
 
-    /// The allocator that Rust's collections use without being told.
+    /// The allocator of Rust's collections, which they use without an argument.
     #[derive(Clone, Copy, Debug, PartialEq, Eq, Hash)]
     pub struct Global;
 
-    /// Out of memory, which is never answered here.
+    /// Out of memory, which no call reports here.
     #[derive(Clone, Copy, Debug, PartialEq, Eq, Hash)]
     pub enum AllocError {}
 
-    /// Out of memory, with the value that had no room.
+    /// Out of memory, with the value that could not be stored.
     pub struct AllocFailed<T> {
         error: AllocError,
         _value: T,

@@ -84,7 +84,7 @@ impl<'t> Reading<'t> {
         }
     }
 
-    /// A member, behind which something begins at an offset.
+    /// A member, and the padding up to the offset after it.
     fn member(&self, of: &structure::Member<'_>, end: u32) -> Member {
         Member {
             name: of.name.to_string(),

@@ -32,7 +32,7 @@ impl Overload {
         name.len() < self.text.len() && name.starts_with('<')
     }
 
-    /// Where the parameters stand in the text, in bytes: what an editor highlights at an argument.
+    /// The ranges of the parameters in the text, in bytes, which an editor highlights for an argument.
     ///
     /// ```
     /// use wgsl_types_proved::standard::overloads;

@@ -39,7 +39,7 @@ impl NoOverload {
         }
     }
 
-    /// Why not: a line for each overload, as [`explain`] gives them. Each call asks the library.
+    /// The reasons, one line per overload, as [`explain`] returns them. Each call computes them again.
     ///
     /// ```
     /// use wgsl_types_proved::standard::{type_binary_op, Operand};

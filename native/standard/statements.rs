@@ -184,8 +184,8 @@ pub fn increment(x: &Operand) -> Result<Type, Refusal> {
 /// Whether values are taken by parameters of these types (WGSL, "Function Call Expression"); with one type by `return`, and
 /// with `bool` as the condition of `if`, `for`, `while` and `break if`.
 ///
-/// The first of these refuses: [`Refusal::NotConstructible`] of a parameter's type that is abstract, or neither constructible
-/// nor a pointer nor a handle; [`Refusal::ParamCount`]; for the first value that isn't taken its load, or
+/// The first of these refuses: [`Refusal::NotConstructible`] of a parameter's type that is abstract, or neither
+/// constructible nor a pointer nor a handle; [`Refusal::ParamCount`]; for the first value that doesn't fit, its load or
 /// [`Refusal::ParamType`].
 ///
 /// ```
@@ -204,8 +204,8 @@ pub fn fit(values: &[Operand], types: &[Type]) -> Result<(), Refusal> {
 /// The type that the constructor of a struct makes: the struct (WGSL, "Value Constructor Built-in Functions"). Without values
 /// it is the zero value.
 ///
-/// The first of these refuses: [`Refusal::NotConstructible`], also of a type that is no struct; [`Refusal::ParamCount`]; for
-/// the first value that its member doesn't take its load, or [`Refusal::ParamType`].
+/// The first of these refuses: [`Refusal::NotConstructible`], also of a type that is no struct;
+/// [`Refusal::ParamCount`]; for the first value that doesn't fit its member, its load or [`Refusal::ParamType`].
 ///
 /// ```
 /// use wgsl_types_proved::standard::{construct_struct, Operand, Refusal};
@@ -243,8 +243,8 @@ pub fn construct_array(values: &[Operand]) -> Result<Type, Refusal> {
 
 /// The type that `array<T, N>(x, y)` makes (WGSL, "Value Constructor Built-in Functions"). Without values it is the zero value.
 ///
-/// The first of these refuses: [`Refusal::NotConstructible`] of the array, also without a count; [`Refusal::ParamCount`]; for
-/// the first value that `T` doesn't take its load, or [`Refusal::ParamType`].
+/// The first of these refuses: [`Refusal::NotConstructible`] of the array, also without a count;
+/// [`Refusal::ParamCount`]; for the first value that doesn't fit `T`, its load or [`Refusal::ParamType`].
 ///
 /// ```
 /// use wgsl_types_proved::standard::{construct_array_of, Operand, Refusal};

@@ -153,7 +153,7 @@ fn constructed_array(words: &mut Words) -> Result<Type, Refusal> {
     construct_array_of(&element, count, &words.operands())
 }
 
-/// The layout, as it stands in the file: the stride of the array at the end is the size of its one element.
+/// The layout as the file has it: the stride of the array at the end is the size of its one element.
 fn layout_text(ty: Type) -> String {
     let layout = match ty {
         Type::Struct(of) => of.min_layout(),
@@ -168,7 +168,7 @@ fn layout_text(ty: Type) -> String {
     format!("offsets {offsets}; size {size}; alignment {align}; stride {stride}")
 }
 
-/// A refusal, as it stands in the file.
+/// A refusal as the file has it.
 fn variant(refusal: &Refusal) -> String {
     match refusal {
         Refusal::Component(t, name) => format!("Component({t}, {name})"),

@@ -23,7 +23,7 @@ fn what_displays_is_read() {
     }
 }
 
-/// Whether a struct is in the type, whose name says nothing of its members.
+/// Whether a struct is in the type. Its name doesn't say its members, so it can't be read from it.
 fn has_struct(ty: &Type) -> bool {
     match ty {
         Type::Struct(_) => true,

@@ -1,4 +1,4 @@
-//! WGSL's own overloads: what the calls answer, as it is spelled here, is what the same request answers in text.
+//! WGSL's own overloads: the results of calls print as the answers to the same requests.
 
 mod random;
 
@@ -38,7 +38,7 @@ fn resolution_text(found: Result<Resolution, NoOverload>) -> String {
     format!("{overload} ({}){result}", parameters.join(", "))
 }
 
-/// What is asked, in words behind the command, with its type, its resolution and, if it is refused, why.
+/// Compares a call with the requests for it, in words: its type, its resolution, and why it is refused.
 fn compare(
     asked: &str,
     ty: Result<Option<Type>, NoOverload>,

@@ -1,4 +1,4 @@
-//! Random types and calls: what a call answers, as it is spelled here, is what the same request answers in text.
+//! Random types and calls: the result of a call prints as the answer to the same request.
 
 mod random;
 
@@ -40,7 +40,7 @@ fn ranks_and_common_types() {
     for _ in 0..ROUNDS {
         let types = random.like_types();
         let spelled: Vec<String> = types.iter().map(words).collect();
-        // In text, each type has to convert to the common one, which one that is loaded may not.
+        // A request requires that each type converts to the common type. A reference that is loaded may not.
         let common = convert_all_ty(&types)
             .filter(|common| types.iter().all(|ty| ty.is_convertible_to(common)));
         expect(&format!("common {}", spelled.join(" ")), or_none(common));

@@ -72,7 +72,7 @@ fn concrete_types() {
     assert_eq!(Type::matrix(2, 2, AbstractInt).concretize(), Type::matrix(2, 2, F32));
     assert_eq!(Convert::concretize(&AbstractFloat), Some(F32));
     assert_eq!(reference(AccessMode::Read, reference(AccessMode::Read, I32)).loaded(), I32);
-    // What the library makes of an argument of these calls is its concrete type.
+    // For these calls the library converts an argument to its concrete type.
     for ty in [
         AbstractInt,
         AbstractFloat,

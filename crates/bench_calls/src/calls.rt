@@ -34,7 +34,7 @@ pub fn repeat(alloc: Global, request: &str) -> Result<u64, Fail<Misfit>> {
     }
 }
 
-/// 1 if the call gave a value, else 0.
+/// 1 if the call returned a value, else 0.
 fn count<T: Drop>(answer: Result<T, Fail<Error>>) -> u64 {
     let given = u64::from(answer.is_ok());
     drop(answer);

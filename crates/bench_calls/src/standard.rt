@@ -12,7 +12,7 @@ use wgsl_types::standard::{Callee, Operand, Overload, overloads, type_builtin_fn
 use wgsl_types::syntax::BinaryOperator;
 use wgsl_types::ty::Type;
 
-/// Makes the choice alone for an operator or a function, and counts the choices that find an overload.
+/// Only resolves an operator or a function, and counts the resolutions that find an overload.
 pub fn choices(alloc: Global, times: u32, words: &mut Words) -> Result<u64, Fail<Misfit>> {
     let name = words.next(Wanted::Name)?;
     let types = read_types(alloc, RuleSet::Standard, words)?;

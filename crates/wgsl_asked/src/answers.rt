@@ -15,9 +15,9 @@ use wgsl_syntax::operator::BinaryOperator;
 pub enum Answer<'r> {
     Number(Option<u32>),
     Size(Option<u32>, Option<u32>),
-    /// The type of an expression, or why it has none; out of memory is no answer.
+    /// The type of an expression, or why it has none. Out of memory is no answer.
     Type(Result<Type, Fail<Error>>),
-    /// What a call returns, which may be no value, or why it is refused; out of memory is no answer.
+    /// What a call returns, which may be no value, or why it is refused. Out of memory is no answer.
     Value(Result<Option<Type>, Fail<Error>>),
     /// The type of a binary expression, or the operands that the operator doesn't take.
     Binary(Result<ResolvedType<'r>, Operands<'r>>),

@@ -1,4 +1,4 @@
-// Where the rules meet requests.
+// Answers each request by the function that decides it.
 ghost use Rattle.std.specs.Prelude.{◌≡◌, IfOk, None};
 ghost use Rattle.wgsl_asked.specs.Answers.{Answers};
 ghost use Rattle.wgsl_rules.specs.operators.Answers.{IsOperatorAnswer};
@@ -70,7 +70,7 @@ fn resolved_type<'r>(
     }
 }
 
-/// The same, unless it is out of memory.
+/// The result of a call. If that is out of memory, this is the outer error.
 #[inline(always)]
 fn settled<T: Drop>(made: Result<T, Fail<Error>>) -> Result<Result<T, Fail<Error>>, AllocError>
     ensures { IfOk result (λ same. (made ≡ same) × IsAnswered same) }

@@ -1,4 +1,4 @@
-//! Requests and their answers as values: where the rules meet what is asked.
+//! Requests and their answers as values, and the function that answers a request.
 #![tactic(auto)]
 
 pub mod answers;

@@ -5,7 +5,7 @@ use wgsl_standard::callee::Callee as OverloadedCallee;
 use wgsl_standard::operand::Operand;
 use wgsl_syntax::operator::{BinaryOperator, UnaryOperator};
 
-/// What is asked of the rules.
+/// A request about the rules.
 #[derive(Clone, Copy)]
 pub enum Request<'r> {
     /// The rank of the conversion from one type to another.

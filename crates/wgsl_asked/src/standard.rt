@@ -61,7 +61,7 @@ pub(crate) fn resolution_of(
     if_resolved(resolve_callee(alloc, call.callee, template, call.operands))
 }
 
-/// What was made, or None if no overload takes the operands.
+/// The result, or None if no overload takes the operands.
 #[inline(always)]
 fn if_resolved<T: Drop>(made: Result<T, Fail<NoOverload>>) -> Result<Option<T>, AllocError>
     ensures { IfOk result (λ found. MatchOption found (made ≡ Err (Error no_overload)) (λ x. made ≡ Ok x)) }

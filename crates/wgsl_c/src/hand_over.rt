@@ -5,7 +5,7 @@ ghost use Rattle.wgsl_c.specs.HandOver.{IsHandedOver, IsWritten, status_of};
 use std::alloc::AllocError;
 use wgsl_requests::request::{Reply, TextKind};
 
-/// The request can't be read, or there is nothing to explain of it.
+/// The request can't be read; or, when an explanation is wanted, it can be read.
 const UNREADABLE: u8 = 2;
 
 /// Out of memory.

@@ -19,7 +19,7 @@ use wgsl_requests::rules::RuleSet;
 
 /// Answers each line of the input by the rules of wgsl-types, and says whether every one was readable.
 ///
-/// The answers to what one read gave are written before the next read.
+/// The answers to a block that was read are written before the next read.
 pub fn run<R: Read, W: Write>(
     alloc: Global,
     input: &mut R,

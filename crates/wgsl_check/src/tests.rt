@@ -1,4 +1,4 @@
-// What no clause says: which lines are answered how, and what a read or a write that fails comes to.
+// What no clause says: the answers to certain lines, and how a run ends if a read or a write fails.
 mod calls;
 mod candidates;
 mod constructors;

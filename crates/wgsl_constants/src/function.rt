@@ -6,7 +6,7 @@ use crate::integer::{Integer, IntegerError, IntegerPair};
 use crate::operator::{compare, pair_of, to_i32, to_u32};
 use std::cmp::Ordering;
 
-/// The bits of an integer of 32. An AbstractInt is one as an `i32`, or else as a `u32`.
+/// The bits of a 32-bit integer. An AbstractInt is taken as an `i32` if it fits, or else as a `u32`.
 pub fn bits_of(integer: Integer) -> Result<u32, IntegerError> {
     match integer {
         Integer::Abstract(value) => match to_i32(value) {
@@ -18,7 +18,7 @@ pub fn bits_of(integer: Integer) -> Result<u32, IntegerError> {
     }
 }
 
-/// `abs`. The least `i32` is its own.
+/// `abs`. For the least `i32` it is that `i32`.
 pub fn absolute(integer: Integer) -> Result<Integer, IntegerError>
     ensures { IsAbsolute integer result }
 {
@@ -32,7 +32,7 @@ pub fn absolute(integer: Integer) -> Result<Integer, IntegerError>
     }
 }
 
-/// `sign`, which a `u32` has not.
+/// `sign`, which has no overload for `u32`.
 pub fn sign(integer: Integer) -> Result<Integer, IntegerError>
     ensures { IsSign integer result }
 {
@@ -65,7 +65,7 @@ pub fn maximum(left: Integer, right: Integer) -> Result<Integer, IntegerError>
     }
 }
 
-/// `clamp`: not below `low` and not above `high`, which is no less.
+/// `clamp` to `low` and `high`. It is an error if `low` is above `high`.
 pub fn clamp(value: Integer, low: Integer, high: Integer) -> Result<Integer, IntegerError> {
     if compare(low, high)? == Ordering::Greater {
         return Err(IntegerError::EmptyRange);
@@ -73,7 +73,7 @@ pub fn clamp(value: Integer, low: Integer, high: Integer) -> Result<Integer, Int
     minimum(maximum(value, low)?, high)
 }
 
-/// `select`: the second if the test holds, else the first.
+/// `select`: `right` if the test holds, else `left`.
 pub fn select(left: Integer, right: Integer, test: bool) -> Result<Integer, IntegerError>
     ensures { OfPair left right (selected test) result }
 {
@@ -97,8 +97,8 @@ fn one_bits(value: i32) -> i32 {
     value.cast_unsigned().count_ones().cast_signed()
 }
 
-/// `firstLeadingBit`: the index of the first bit from the highest down that is 1, or that differs from the sign. Without
-/// one all bits are 1. An AbstractInt is taken as an `i32`.
+/// `firstLeadingBit`: the index of the first bit from the highest down that is 1, or that differs from the sign. If
+/// there is none, all bits of the result are 1. An AbstractInt is taken as an `i32`.
 pub fn first_leading_bit(integer: Integer) -> Result<Integer, IntegerError> {
     match integer {
         Integer::Abstract(value) => Ok(Integer::I32(first_bit_of(to_i32(value)?))),

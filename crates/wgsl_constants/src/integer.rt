@@ -1,4 +1,4 @@
-// Integers that are known before a program runs.
+// Integers that are known at compile time.
 
 /// An integer with its type (WGSL, "Integer Types").
 #[derive(Clone, Copy, PartialEq, Eq, Debug)]
@@ -42,7 +42,7 @@ pub enum IntegerError {
     NegatedUnsigned,
     /// A shift by 32 bits or more.
     ShiftTooFar,
-    /// A `clamp` whose least value is above its greatest.
+    /// A `clamp` whose lower bound is above its upper bound.
     EmptyRange,
 }
 

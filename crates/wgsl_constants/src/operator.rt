@@ -148,7 +148,7 @@ fn apply_u32(operator: IntegerOperator, a: u32, b: u32) -> Result<u32, IntegerEr
     }
 }
 
-/// By how many bits a shift by an integer goes.
+/// The number of bits by which a shift by an integer shifts.
 fn count_of(right: Integer) -> Result<u32, IntegerError>
     ensures { IsCount right result }
 {
@@ -180,7 +180,7 @@ pub fn shift_left(left: Integer, right: Integer) -> Result<Integer, IntegerError
     }
 }
 
-/// Two to the power of fewer than 63.
+/// Two to the power of a number below 63.
 fn power_of_two(exponent: u32) -> i64
     requires { exponent < 63 }
     ensures { result ≡ pos (2 ^ exponent) }

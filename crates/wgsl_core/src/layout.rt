@@ -99,7 +99,7 @@ impl Type {
         (measure.size, measure.align)
     }
 
-    /// It is inlined, so that a scalar is measured without a call, and a vector with one.
+    /// It is inlined, so that measuring a scalar takes no call, and measuring a vector one.
     #[cycle(measure)]
     #[inline(always)]
     #[tactic(auto, using(crate::proofs::Scalars::scalar_is))]

@@ -50,7 +50,7 @@ fn array_of_values<'a>(values: &[Operand<'a>]) -> Result<UnbuiltType<'a>, Refusa
     }
 }
 
-/// The array of that many elements of a type.
+/// The type of an array with this many elements of a type.
 fn array_of<'a>(
     count: usize,
     element: Option<OperandType<'a>>,
@@ -82,7 +82,7 @@ fn array_type(count: usize, element: OperandType<'_>) -> UnbuiltType<'_>
     }
 }
 
-/// The common type of values once they are loaded, of which the first is loaded already; None if they have none.
+/// The common type of values once they are loaded; None if they have none. The first is loaded already.
 fn common_element<'a>(first: OperandType<'a>, rest: &[Operand<'a>]) -> Option<OperandType<'a>>
     ensures { IsLeftCommon (given_type first.entry ∷ map referred_there (types_given rest.now))
         (option_map given_type result) }
@@ -129,9 +129,9 @@ fn referred_type(ty: &Type) -> OperandType<'_>
     }
 }
 
-/// The type of an array whose element type is said, `array<T, N>(v, ..)` (WGSL, "array"). Refused, in this order, by
-/// `NotConstructible` of the array, by `ParamCount` unless there are no values, and for the first value that doesn't fit by its
-/// load or `ParamType`.
+/// The type of an array with a declared element type, `array<T, N>(v, ..)` (WGSL, "array"). The first of these refuses:
+/// `NotConstructible` of the array; `ParamCount`, unless there are no values; for the first value that doesn't fit its
+/// load, or `ParamType`.
 pub fn construct_array_of<'a>(
     element: &'a Type,
     count: Option<usize>,

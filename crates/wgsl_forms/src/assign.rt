@@ -278,7 +278,7 @@ fn compound<'a>(
     }
 }
 
-/// The type of an operand once it is loaded; as it is if it doesn't load.
+/// The type of an operand once it is loaded, or its own type if it can't be loaded.
 fn loaded_or_given(ty: OperandType<'_>) -> OperandType<'_>
     ensures { given_type result
         ≡ result_unwrap_or (loaded (given_type ty.entry)) (given_type ty.entry) }

@@ -76,7 +76,7 @@ fn let_of<'a>(value: OperandType<'a>, ty: &'a Type) -> Result<UnbuiltType<'a>, R
     convert_to(loaded, ty)
 }
 
-/// The type, if that of a value converts to it.
+/// The declared type, if the type of a value converts to it.
 pub(crate) fn convert_to<'a>(
     value: OperandType<'a>,
     ty: &'a Type,

@@ -9,7 +9,7 @@ use crate::concrete::{has_abstract_type, is_abstract_scalar};
 use crate::memory::behind;
 use wgsl_standard::operand::{Operand, OperandType};
 
-/// Whether the operand is a const-expression: it is said to be one, or its type is abstract. A reference or a pointer
+/// Whether the operand is a const-expression: it is marked as one, or its type is abstract. A reference or a pointer
 /// never is one.
 pub fn is_const_expression(x: &Operand<'_>) -> bool
     ensures { result ≡ const_expression (given x.now) }

@@ -1,4 +1,4 @@
-// What a form is: its type, which isn't built.
+// The types that forms return, without allocating them.
 ghost use Rattle.std.specs.Prelude.{◌≡◌, IfOk};
 ghost use Rattle.wgsl_core.specs.View.{view};
 ghost use Rattle.wgsl_rules.specs.types.Types.{within};

@@ -37,7 +37,7 @@ pub fn type_of_index<'a>(x: &Operand<'a>, index: &Operand<'a>) -> Result<Form<'a
     }
 }
 
-/// Whether the type that is indexed stays as it is: in memory, or if the index is a const-expression.
+/// Whether an abstract type that is indexed stays abstract: in memory, or if the index is a const-expression.
 fn is_indexed_as_given(memory: Option<(AddressSpace, AccessMode)>, index: &Operand<'_>) -> bool
     ensures { result ≡ (is_some memory || const_expression (given index.now)) }
 {
@@ -90,7 +90,7 @@ fn is_component(memory: Option<(AddressSpace, AccessMode)>, ty: OperandType<'_>)
     memory.is_some() && is_vector(ty)
 }
 
-/// The type of the elements, made concrete unless it is to stay.
+/// The type of the elements, made concrete unless `stays`.
 fn element_of(ty: OperandType<'_>, stays: bool) -> Option<UnbuiltType<'_>>
     ensures { option_map unbuilt_view result
         ≡ element_there (cond stays (given_type ty.entry) (concrete_of (given_type ty.entry))) }
@@ -145,7 +145,7 @@ fn element_of_type(ty: &Type, stays: bool) -> Option<UnbuiltType<'_>>
     }
 }
 
-/// The type, made concrete unless it is to stay.
+/// The type, made concrete unless `stays`.
 fn as_it_stays(ty: &Type, stays: bool) -> Element<'_>
     ensures { element_view result ≡ cond stays (view ty.now) (concrete_of (view ty.now)) }
 {

@@ -1,4 +1,4 @@
-// Kinds of types that loads and declarations ask about.
+// The kinds of types that loads and declarations distinguish.
 ghost use Rattle.std.specs.Prelude.{◌≡◌};
 ghost use Rattle.wgsl_core.specs.View.{view, member_view};
 ghost use Rattle.wgsl_core.specs.internal.View.{members_view};

@@ -25,7 +25,8 @@ pub fn addresses_invert(ty: &Type)
     ensures { AddressesInvert (view ty.now) }
 {}
 
-/// What is made concrete has no abstract type, and what has none stays (WGSL, "Abstract Numeric Types").
+/// A type that is made concrete has no abstract type in it, and a type without one stays as it is (WGSL, "Abstract
+/// Numeric Types").
 pub fn makes_concrete(ty: &Type)
     ensures { MakesConcrete (view ty.now) }
 {}

@@ -11,8 +11,8 @@ use wgsl_core::layout::StructLayout;
 use wgsl_core::ty::form::Form;
 use wgsl_core::ty::{StructMemberType, StructType, Type};
 
-/// The smallest layout of a struct, whose last member may be a runtime-sized array, which then counts as one element (WGSL,
-/// "Minimum Binding Size"). None where the struct with one element there has no layout.
+/// The smallest layout of a struct, whose last member may be a runtime-sized array, which then counts as one element
+/// (WGSL, "Minimum Binding Size"). None if the struct with one element there has no layout.
 pub fn min_layout(alloc: Global, s: &StructType) -> Result<Option<StructLayout>, AllocError>
     ensures { let ms = smallest_members (struct_view s.now).members in
         IfOk result (λ answer. MatchOption answer (HasNoSize ms) (λ layout. IsLayoutOf ms layout)) }

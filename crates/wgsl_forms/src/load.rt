@@ -37,7 +37,7 @@ pub fn load_type<'a>(ty: OperandType<'a>) -> Result<OperandType<'a>, Refusal<'a>
     }
 }
 
-/// What lies in memory, loaded; without memory the type of an operand, loaded.
+/// The type that is loaded from memory, or without memory the loaded type of an operand.
 pub(crate) fn load_in<'a>(
     memory: Option<(AddressSpace, AccessMode)>,
     ty: OperandType<'a>,

@@ -1,4 +1,4 @@
-// What lies behind references and pointers, and what is formed from it.
+// The types to which references and pointers refer, and references to their parts.
 ghost use Rattle.std.specs.Prelude.{◌≡◌, option_map};
 ghost use Rattle.wgsl_core.specs.View.{view};
 ghost use Rattle.wgsl_standard.specs.Operands.{given_type};
@@ -11,7 +11,7 @@ use wgsl_core::ty::form::Form;
 use wgsl_standard::operand::OperandType;
 use wgsl_syntax::address::{AccessMode, AddressSpace};
 
-/// The type behind a reference or a pointer, or any other type itself.
+/// The type to which a reference or a pointer refers; any other type itself.
 #[derive(Clone, Copy)]
 pub struct Whole<'a> {
     /// The address space and the access mode of the reference or the pointer.
@@ -19,7 +19,7 @@ pub struct Whole<'a> {
     pub ty: OperandType<'a>,
 }
 
-/// What lies behind the type of an operand.
+/// The type to which the type of an operand refers.
 #[inline(always)]
 pub fn behind(ty: OperandType<'_>) -> Whole<'_>
     ensures memory { result.memory ≡ memory_of (given_type ty.entry) }

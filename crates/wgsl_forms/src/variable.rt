@@ -1,4 +1,4 @@
-// Variables, and what those of an address space hold.
+// Variables, and which types those of an address space can hold.
 ghost use Rattle.std.specs.Prelude.{◌≡◌, None, Some, option_map};
 ghost use Rattle.wgsl_rules.specs.types.Types.{reference};
 ghost use Rattle.wgsl_core.specs.View.{view, member_view};
@@ -111,7 +111,7 @@ fn variable_in<'a>(
     Ok(reference(space, access, UnbuiltType::of_type(ty)))
 }
 
-/// The access mode of a variable: the one that is said, or that of the space.
+/// The access mode of a variable: the declared one, or the default of the address space.
 fn access_of(space: AddressSpace, access: Option<AccessMode>) -> AccessMode
     ensures { result ≡ access_of space access }
 {

@@ -1,19 +1,19 @@
-// The words behind the program's name.
+// The program's arguments.
 
 use std::alloc::{AllocError, Global};
 use wgsl_report::report::Format;
 
-/// What is asked of files.
+/// The files and options of a request for reports.
 #[derive(Drop)]
 pub struct Arguments<'a> {
     /// `-` is standard input.
     pub files: Vec<&'a str>,
-    /// The structs that are asked about; none stands for all.
+    /// The names of the structs to report on; all structs if there is no name.
     pub only: Vec<&'a str>,
     pub format: Format,
 }
 
-/// What is asked of the program.
+/// What the arguments ask for.
 #[derive(Drop)]
 pub enum Asked<'a> {
     Help,
@@ -22,21 +22,21 @@ pub enum Asked<'a> {
     Nothing(Misuse<'a>),
 }
 
-/// Why words ask nothing.
+/// Why arguments are wrong.
 #[derive(Clone, Copy)]
 pub enum Misuse<'a> {
     UnknownOption(&'a str),
-    /// Behind `--struct` there is no name.
+    /// No name follows `--struct`.
     NoName,
     NoFile,
-    /// Two forms are asked for, of which this is the second.
+    /// Two formats are asked for. This is the second.
     OtherForm(&'a str),
-    /// A form that takes one file has more than one.
+    /// A format for a single file is asked for, with several files.
     OneFile,
 }
 
 impl<'a> Misuse<'a> {
-    /// What is told of it, and the word behind that.
+    /// The message, and the word that follows it.
     pub fn text(self) -> (&'static str, &'a str) {
         match self {
             Misuse::UnknownOption(word) => ("there is no option ", word),
@@ -48,7 +48,7 @@ impl<'a> Misuse<'a> {
     }
 }
 
-/// What the words ask.
+/// Reads the arguments.
 pub fn read_arguments<'a>(alloc: Global, words: &'a [String]) -> Result<Asked<'a>, AllocError> {
     let mut reader = Reader::new(alloc);
     for word in words {
@@ -63,7 +63,7 @@ pub fn read_arguments<'a>(alloc: Global, words: &'a [String]) -> Result<Asked<'a
     Ok(reader.finished())
 }
 
-/// What is read of the words.
+/// What is read of the arguments so far.
 #[derive(Drop)]
 struct Reader<'a> {
     files: Vec<&'a str>,
@@ -71,7 +71,7 @@ struct Reader<'a> {
     format: Option<Format>,
     /// Whether the next word is the name of a struct.
     names_struct: bool,
-    /// Whether the words that follow are no options.
+    /// Whether only files follow, after `--`.
     has_only_files: bool,
 }
 
@@ -86,7 +86,7 @@ impl<'a> Reader<'a> {
         }
     }
 
-    /// Reads a word. What is asked, if that is known whatever follows.
+    /// Reads an argument. Returns what is asked for, if the other arguments don't matter.
     fn read(&mut self, word: &'a str) -> Result<Option<Asked<'a>>, AllocError> {
         if self.names_struct {
             self.names_struct = false;

@@ -1,4 +1,4 @@
-// The program: it prints the layouts of the structs of WGSL files, where their variables are bound, and what is wrong.
+// The program: it prints the layouts of the structs of WGSL files, the bindings of their variables, and what is wrong.
 #![tactic(auto)]
 
 mod arguments;
@@ -81,13 +81,13 @@ fn print(rt: &HostRuntime, text: &str) -> Result<u8, Failure> {
     }
 }
 
-/// Says why words ask nothing.
+/// Prints why the arguments are wrong.
 fn refuse(rt: &HostRuntime, reason: &str, word: &str) -> u8 {
     let _ = eprintln!(rt; "wgsl_layout: {reason}{word}: see --help");
     UNREAD
 }
 
-/// Reports on each file. The status is the highest.
+/// Reports on each file. Returns the highest status.
 fn report_all(rt: &HostRuntime, arguments: &Arguments) -> Result<u8, Failure> {
     let mut is_found = vec![in rt.alloc(); false; arguments.only.len()]?;
     let mut status = CLEAN;
@@ -119,7 +119,7 @@ fn read_file(rt: &HostRuntime, file: &str) -> io::Result<Vec<u8>> {
     Ok(bytes)
 }
 
-/// Prints what is told of a file, and marks the structs that are asked about and in it.
+/// Prints the report on a file, and marks the names that its structs have.
 fn report_one(
     rt: &HostRuntime,
     arguments: &Arguments,
@@ -142,7 +142,7 @@ fn report_one(
     Ok(if report.is_clean { CLEAN } else { FOUND })
 }
 
-/// How messages look where they are printed.
+/// The style of messages for where they are printed.
 fn style(rt: &HostRuntime, arguments: &Arguments) -> Style {
     let is_terminal = if arguments.format.is_code() {
         rt.stderr().is_terminal()

@@ -38,8 +38,8 @@ const BLOCK: usize = 4096;
 
 /// Answers each line of the input by a set of rules, and says whether every one was readable.
 ///
-/// The answers to what one read gave are written before the next read, and a note on each line of it that is bad
-/// after them. A note that can't be written is left out.
+/// The answers to a block that was read are written before the next read, and after them a note on each bad line of the
+/// block. A note that can't be written is left out.
 pub fn run<R: Read, W: Write, N: Write>(
     alloc: Global,
     rules: RuleSet,
@@ -77,7 +77,7 @@ struct Session {
     /// The name of the program, with which a note begins.
     program: &'static str,
     line: Line,
-    /// The answer to the line.
+    /// The answer to the current line.
     answer: String,
     answers: String,
     /// Why lines can't be read.
@@ -126,7 +126,7 @@ impl Session {
         Err(RunError::Read)
     }
 
-    /// Answers the lines that end in what one read gave, and writes the answers and the notes.
+    /// Answers the lines that end in a block that was read, and writes the answers and the notes.
     fn answer_block<W: Write, N: Write>(
         &mut self,
         rules: RuleSet,
@@ -171,7 +171,7 @@ impl Session {
     fn take(&mut self, rules: RuleSet, block: &[u8]) -> Result<(), AllocError>
         ensures taken { (bytes before : List ℕ) → HasTaken rules bytes before self.old
             → OnOk result (HasTaken rules (bytes ++ block.now) before self.new) }
-        // Also where it runs out of memory.
+        // Also if it runs out of memory.
         ensures so_far { (bytes before : List ℕ) → HasTaken rules bytes before self.old
             → StopsAfter rules RunError.Memory (bytes ++ block.now)
             (before ++ string_bytes self.new.answers) }
@@ -239,7 +239,7 @@ impl Session {
     }
 }
 
-/// Writes all of the bytes, or a beginning of them if a write fails.
+/// Writes all of the bytes, or a prefix of them if a write fails.
 fn write_whole<W: Write>(output: &mut W, bytes: &[u8]) -> Result<(), RunError>
     ensures written { OnOk result
         (Appends (W.contents output.old) (W.contents output.new) bytes.now) }

@@ -1,5 +1,5 @@
-// The arguments of the calls. Only the generic `both` returns early while it owns a value: a function that does so while
-// it owns a type takes long to prove.
+// The arguments of the calls. Only the generic `both` returns early while it owns a value. A function that does so
+// while it owns a type is slow to prove.
 use std::alloc::{AllocError, Global};
 use wgsl_typed::typed::Typed;
 use wgsl_types::error::Error;
@@ -9,7 +9,7 @@ use wgsl_types::tplt::TpltParam;
 use wgsl_types::ty::{StructMemberType, StructType};
 use wgsl_types::{CallSignature, Type};
 
-/// What the calls are handed.
+/// The arguments of all calls.
 #[derive(PartialEq, Drop)]
 pub struct Arguments {
     pub scalars: Scalars,
@@ -32,7 +32,7 @@ pub struct Scalars {
     pub numbers: [Type; 3],
 }
 
-/// Types in which a part lies in memory of its own.
+/// Types that own memory.
 #[derive(PartialEq, Drop)]
 pub struct Types {
     /// `vec2<AbstractInt>` and `vec2<u32>`
@@ -41,7 +41,7 @@ pub struct Types {
     pub operands: [Type; 4],
     /// `array<vec3<AbstractInt>, 2>`
     pub nested: Type,
-    /// The same with a line.
+    /// `nested` with the number of a line.
     pub typed: Typed,
     /// `ref<handle, f32, read_write>`
     pub in_handle: Type,
@@ -56,7 +56,7 @@ pub struct Structs {
     pub member: StructMemberType,
     /// `struct S { a: vec2<u32>, b: vec2<u32> }`
     pub structure: StructType,
-    /// The same as a type.
+    /// `structure` as a type.
     pub ty: Type,
     /// `struct E {}`
     pub empty: StructType,

@@ -6,7 +6,7 @@ use std::{fmt, io};
 use wgsl_types::builtin::Candidate;
 use wgsl_types::mem::{PlacedMember, StructLayout};
 
-/// The allocator that the calls are handed, and the output that their lines are written to. Printing doesn't allocate.
+/// The allocator for the calls, and the output for their lines. Printing doesn't allocate.
 #[derive(Drop)]
 pub struct Lines<W> {
     pub alloc: Global,

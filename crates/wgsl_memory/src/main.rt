@@ -33,7 +33,8 @@ fn main(rt: HostRuntime) -> ExitCode {
     status
 }
 
-/// Prints each call twice if there are arguments. They were made twice too: the second show whether the first change.
+/// Prints each call twice if there are arguments. These were made twice: the second ones show whether a call changes
+/// the first.
 fn print_all<W: Write>(
     lines: &mut Lines<W>,
     made: &Result<(Arguments, Arguments), AllocError>,

@@ -1,4 +1,4 @@
-// Templates: parsed, and asked for the types that they make.
+// Templates: they are parsed, and return the types that they make.
 use crate::arguments::Templates;
 use crate::lines::Lines;
 use std::alloc::Global;

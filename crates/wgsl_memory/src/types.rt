@@ -1,4 +1,4 @@
-// Copies, built types, types of types, conversions, layouts.
+// Copies, built types, the trait `Ty`, conversions, layouts.
 use crate::arguments::{Arguments, Structs, both};
 use crate::lines::Lines;
 use std::alloc::{AllocError, Global};

@@ -1,19 +1,19 @@
-// The structs that are asked about, with those inside them.
+// The structs to report on: those with the names that are asked for, and those inside them.
 
 use crate::layers::inner_struct;
 use std::alloc::{AllocError, Global};
 use wgsl_source::module::Module;
 
-/// Which structs of a module are asked about.
+/// Which structs of a module to report on.
 #[derive(Drop)]
 pub struct Choice {
-    /// Which structs have one of the names, or stand in one that has. Without names all are chosen.
+    /// For each struct, whether it has one of the names, or is inside such a struct. Without names all are chosen.
     pub is_chosen: Vec<bool>,
-    /// Which names are those of a struct.
+    /// For each name, whether a struct has it.
     pub is_found: Vec<bool>,
 }
 
-/// The structs with these names.
+/// The choice of the structs with these names.
 pub fn choose(alloc: Global, module: &Module, names: &[&str]) -> Result<Choice, AllocError> {
     let mut choice = Choice {
         is_chosen: vec![in alloc; names.is_empty(); module.structs.len()]?,
@@ -36,7 +36,7 @@ fn choose_one(is_chosen: &mut [bool], index: Option<usize>) {
     }
 }
 
-/// Chooses the structs inside those that are chosen, which stand in front of them.
+/// Chooses the structs inside those that are chosen. A struct comes after those inside it.
 fn choose_inside(is_chosen: &mut [bool], module: &Module) {
     for (index, structure) in module.structs.iter().enumerate().rev() {
         if is_chosen.get(index) == Some(&true) {

@@ -10,7 +10,7 @@ use wgsl_spaces::spaces::{Extent, Position, Shape, may_lie_apart};
 use wgsl_syntax::address::AddressSpace;
 use wgsl_syntax::scalar::Scalar;
 
-/// The shape, the size and the alignment of a type. Where there is no size, it is 0.
+/// The shape, the size and the alignment of a type. A missing size is 0.
 pub fn extent_of(ty: &MeasuredType) -> Extent
     ensures { result ≡ extent_of ty.now }
 {
@@ -44,7 +44,7 @@ pub fn position_of(member: &Member, next: Option<u32>) -> Position
     }
 }
 
-/// What a type is that stands in no array.
+/// What the rules see of a type that is no array.
 pub fn content_of(kind: TypeKind) -> Content
     ensures { result ≡ content_of kind }
 {
@@ -66,7 +66,8 @@ pub fn is_runtime_sized(ty: &MeasuredType) -> bool
     }
 }
 
-/// The type inside all arrays. `elements` are those of a module, each behind those in it; None if one of them is missing.
+/// The type inside all arrays. `elements` are the element types of a module, each after those inside it; None if one of
+/// them is missing.
 pub fn innermost(elements: &[MeasuredType], ty: &MeasuredType) -> Option<MeasuredType>
     ensures { (inner : MeasuredType) → (result ≡ Some inner) ↔ IsInnermost elements.now ty.now inner }
 {
@@ -79,7 +80,7 @@ pub fn innermost(elements: &[MeasuredType], ty: &MeasuredType) -> Option<Measure
     }
 }
 
-/// The stride of the outermost elements in a type that lie too close in an address space.
+/// The stride of the outermost array in a type whose elements lie too close for an address space.
 pub fn stride_too_close(
     space: AddressSpace,
     elements: &[MeasuredType],
@@ -97,7 +98,7 @@ pub fn stride_too_close(
     }
 }
 
-/// The stride of such elements, if they lie too close in an address space.
+/// The stride of an array whose elements have this type, if they lie too close for an address space.
 fn too_close(space: AddressSpace, element: &MeasuredType) -> Option<u32>
     ensures { IsExactly result (IsTooClose space element.now) }
 {

@@ -1,4 +1,4 @@
-// What breaks a rule of an address space, and what would mend it.
+// Broken rules of address spaces, and what would fix them.
 
 use crate::place::Place;
 use crate::write::{Piece, write_all};
@@ -11,7 +11,7 @@ pub struct Finding<'a> {
     /// The struct, if it is a member.
     pub of: Option<&'a str>,
     pub name: &'a str,
-    /// None where the rule is one for every struct, or for the whole module.
+    /// None if the rule is for every struct, or for the whole module.
     pub place: Option<Place>,
     pub trouble: Trouble,
     /// Whether `requires uniform_buffer_standard_layout;` lifts the rule here.
@@ -21,29 +21,29 @@ pub struct Finding<'a> {
 /// Which rule is broken.
 #[derive(Clone, Copy, Debug)]
 pub enum Trouble {
-    /// A member lies where its type may not, and needs this alignment.
+    /// The offset of a member isn't a multiple of this alignment, which its type must have.
     Offset { offset: u32, align: u32 },
-    /// The next member begins before a struct, with this room, has ended.
+    /// The member after a struct begins before the end of this many bytes, which the struct must have.
     Behind { room: u32 },
     /// An attribute `align` is no multiple of this alignment.
     Align { align: u32 },
     /// An attribute `size` is below the size.
     Size,
-    /// The elements of an array lie that far apart.
+    /// The elements of an array have this stride.
     Stride { stride: u32 },
     Bool,
     Atomic,
     RuntimeSized,
-    /// A sampler or a texture in an address space.
+    /// A sampler or a texture with an address space.
     NoData,
-    /// Data in no address space.
+    /// Data without an address space.
     NoHandle,
     NoBinding,
     NeedlessBinding,
 }
 
 impl Trouble {
-    /// What is wrong, up to the number of it.
+    /// The message up to the number in what is wrong.
     fn start(self) -> &'static str {
         match self {
             Trouble::Offset { .. } => "lies at ",
@@ -61,7 +61,7 @@ impl Trouble {
         }
     }
 
-    /// What would mend it, up to the number of it.
+    /// The message up to the number in what would fix it.
     fn needs(self) -> &'static str {
         match self {
             Trouble::Offset { .. } => "it needs `@align(",
@@ -79,7 +79,7 @@ impl Trouble {
         }
     }
 
-    /// What is told behind the number that would mend it.
+    /// The message after the number in what would fix it.
     fn end(self) -> &'static str {
         match self {
             Trouble::Offset { .. } | Trouble::Behind { .. } => ")`",
@@ -90,7 +90,7 @@ impl Trouble {
         }
     }
 
-    /// The number of what is wrong, and the one that would mend it.
+    /// The number in what is wrong, and the one in what would fix it.
     fn numbers(self) -> (Option<u32>, Option<u32>) {
         match self {
             Trouble::Offset { offset, align } => (Some(offset), Some(align)),
@@ -103,7 +103,7 @@ impl Trouble {
 }
 
 impl<'a> Finding<'a> {
-    /// Writes what is told of it.
+    /// Writes the message.
     pub fn write_to(&self, output: &mut String) -> Result<(), AllocError> {
         let trouble = self.trouble;
         let (number, mending) = trouble.numbers();
@@ -131,7 +131,7 @@ impl<'a> Finding<'a> {
         write_all(output, &pieces)
     }
 
-    /// Writes the name of the variable, or of the member behind that of its struct, if it is one.
+    /// Writes the name of the variable, or the names of the struct and its member.
     fn write_name(&self, output: &mut String) -> Result<(), AllocError> {
         let (of, dot) = match self.of {
             Some(of) => (of, "."),

@@ -42,12 +42,12 @@ pub fn write_json(output: &mut String, source: Source) -> Result<(), AllocError>
     output.push_str("]}\n")
 }
 
-/// What stands in front of an element of a list.
+/// The separator in front of an element of a list.
 fn separator(index: usize) -> &'static str {
     if index == 0 { "" } else { "," }
 }
 
-/// How a declaration begins, at an index of a list.
+/// Writes the name and the place of a declaration, which is at this index of a list.
 fn write_named(
     output: &mut String,
     source: Source,
@@ -77,7 +77,7 @@ fn write_structs(output: &mut String, source: Source) -> Result<(), AllocError> 
     Ok(())
 }
 
-/// A struct with its members, behind its place.
+/// Writes the rest of a struct after its place, with its members.
 fn write_struct(output: &mut String, source: Source, structure: &Struct) -> Result<(), AllocError> {
     let pieces = [
         Piece::Field("size", Some(structure.size)),
@@ -98,7 +98,7 @@ fn truth(is_true: bool) -> &'static str {
     if is_true { "true" } else { "false" }
 }
 
-/// A member behind its place, and the padding up to an offset.
+/// Writes the rest of a member after its place, with the padding up to an offset.
 fn write_member(
     output: &mut String,
     source: Source,
@@ -131,7 +131,7 @@ fn write_type(output: &mut String, source: Source, ty: MeasuredType) -> Result<(
     write_tree(output, source.module, ty)
 }
 
-/// A variable, with what is bound to it and the smallest size of that.
+/// Writes a variable, with its resource and its minimum binding size.
 fn write_variable(
     output: &mut String,
     source: Source,
@@ -159,7 +159,7 @@ fn write_variable(
     write_all(output, &size)
 }
 
-/// What is bound to a variable: a buffer, or what its type says.
+/// Writes the resource of a variable: a buffer, or the kind that its type has.
 fn write_resource(
     output: &mut String,
     source: Source,
@@ -207,7 +207,8 @@ fn write_override(
     write_all(output, &pieces)
 }
 
-/// An entry point. Without a workgroup it has `null`; an extent that an override gives is `null`.
+/// Writes an entry point. Its workgroup is `null` if it has none, and an extent of it is `null` if an override gives
+/// it.
 fn write_entry_point(
     output: &mut String,
     source: Source,

@@ -36,20 +36,20 @@ pub fn inner_struct(module: &Module, ty: MeasuredType) -> Option<usize> {
 #[derive(Clone, Copy)]
 pub struct Layer {
     pub count: u32,
-    /// How many bytes each takes.
+    /// The size of each in bytes.
     pub size: u32,
-    /// How many bytes lie from the start of each to that of the next.
+    /// The stride in bytes.
     pub stride: u32,
 }
 
 impl Layer {
-    /// How many bytes lie between two of them.
+    /// The bytes between two of them.
     pub fn padding(self) -> u32 {
         self.stride.saturating_sub(self.size)
     }
 }
 
-/// What stands in the innermost layer.
+/// What is inside the innermost layer.
 #[derive(Clone, Copy)]
 pub enum Base {
     Scalar(Scalar),
@@ -57,14 +57,14 @@ pub enum Base {
     Struct(usize),
 }
 
-/// The layers of a type of data, from the outside.
+/// The layers of a data type, outermost first.
 #[derive(Drop)]
 pub struct Shape {
     pub layers: Vec<Layer>,
     pub base: Base,
 }
 
-/// The layers of a type, if it is one of data. A runtime-sized array has one element.
+/// The layers of a type, if it is a data type. A runtime-sized array counts as one element.
 pub fn shape_of(
     alloc: Global,
     module: &Module,
@@ -122,7 +122,7 @@ fn components(count: u8, scalar: Scalar) -> Layer {
     }
 }
 
-/// How many bytes a scalar takes.
+/// The size of a scalar in bytes.
 fn scalar_size(scalar: Scalar) -> u32 {
     match scalar {
         Scalar::F16 => 2,

@@ -1,4 +1,4 @@
-//! What is told of a WGSL text: the layouts of its structs, where its variables are bound, and what is wrong.
+//! The report on a WGSL text: the layouts of its structs, the bindings of its variables, and what is wrong.
 #![tactic(auto)]
 
 pub mod choice;

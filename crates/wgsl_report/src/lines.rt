@@ -6,7 +6,7 @@ use std::alloc::{AllocError, Global};
 #[derive(Drop)]
 pub struct Lines<'a> {
     text: &'a [u8],
-    /// The index of the first byte of each line behind the first.
+    /// The index of the first byte of each line after the first.
     starts: Vec<usize>,
     /// The characters beyond ASCII.
     wide: Vec<Wide>,
@@ -17,7 +17,7 @@ pub struct Lines<'a> {
 struct Wide {
     /// The index of its first byte.
     at: usize,
-    /// How many more bytes than units of UTF-16 the text up to its end has.
+    /// The bytes of the text up to the end of this character, less its units of UTF-16.
     excess: usize,
 }
 
@@ -74,7 +74,7 @@ impl<'a> Lines<'a> {
         without_break(line)
     }
 
-    /// Where the line begins before which there are that many lines.
+    /// The start of the line that has this many lines before it.
     fn start(&self, before: usize) -> usize {
         match before.checked_sub(1) {
             Some(index) => self.starts.get(index).copied().unwrap_or(0),
@@ -82,7 +82,7 @@ impl<'a> Lines<'a> {
         }
     }
 
-    /// How many more bytes than units of UTF-16 there are in front of an index.
+    /// The bytes in front of an index, less their units of UTF-16.
     fn excess(&self, at: usize) -> usize {
         let before = self.wide.partition_point(|wide| wide.at < at);
         match before.checked_sub(1) {

@@ -8,17 +8,17 @@ use wgsl_source::fault::{Cause, Fault};
 use wgsl_source::module::Module;
 use wgsl_tokens::token::next_token;
 
-/// How much a message weighs.
+/// How severe a message is.
 #[derive(Clone, Copy, Debug, PartialEq, Eq)]
 pub enum Severity {
-    /// A declaration is not read.
+    /// A declaration can't be read.
     Error,
-    /// What is read breaks a rule.
+    /// A declaration that was read breaks a rule.
     Finding,
 }
 
 impl Severity {
-    /// How it is written in front of the message.
+    /// The word in front of the message.
     pub fn name(self) -> &'static str {
         match self {
             Severity::Error => "error",
@@ -37,7 +37,8 @@ pub struct Message {
     pub text: String,
 }
 
-/// The errors of a module's text, and then its findings: what naga alone has, and what breaks rules of address spaces.
+/// The errors of a module's text, and then its findings: uses of what only naga has, and broken rules of address
+/// spaces.
 pub fn messages_of(
     alloc: Global,
     text: &str,

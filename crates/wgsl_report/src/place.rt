@@ -1,9 +1,9 @@
-// Where variables stand.
+// Address spaces, as the rules for variables tell them apart.
 
 use wgsl_source::variable::Variable;
 use wgsl_syntax::address::{AccessMode, AddressSpace};
 
-/// Where a variable stands: its address space, of which `storage` counts twice.
+/// The address space of a variable. `storage` counts as two: read-only and writable.
 #[derive(Clone, Copy, PartialEq, Eq)]
 pub enum Place {
     Uniform,
@@ -18,7 +18,7 @@ pub enum Place {
 }
 
 impl Place {
-    /// Each of them once.
+    /// All of them.
     pub const ALL: [Place; 7] = [
         Place::Uniform,
         Place::ReadStorage,
@@ -29,7 +29,7 @@ impl Place {
         Place::Handle,
     ];
 
-    /// Where a variable stands.
+    /// The place of a variable.
     pub fn of(variable: &Variable) -> Place {
         match variable.space {
             AddressSpace::Uniform => Place::Uniform,
@@ -67,7 +67,7 @@ impl Place {
         }
     }
 
-    /// The access mode of the variables that stand there.
+    /// The access mode of its variables.
     pub fn access(self) -> AccessMode {
         match self {
             Place::Uniform | Place::ReadStorage | Place::Immediate | Place::Handle => {
@@ -77,12 +77,12 @@ impl Place {
         }
     }
 
-    /// Whether a runtime-sized array may stand there.
+    /// Whether its variables may have a runtime-sized array.
     pub fn takes_runtime_sized(self) -> bool {
         matches!(self, Place::Storage | Place::ReadStorage)
     }
 
-    /// Whether variables there have a group and a binding.
+    /// Whether its variables have a group and a binding.
     pub fn is_bound(self) -> bool {
         !matches!(self, Place::Workgroup | Place::Private | Place::Immediate)
     }

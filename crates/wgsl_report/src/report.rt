@@ -1,4 +1,4 @@
-// What is told of a text.
+// Reports on texts.
 
 use crate::choice::{Choice, choose};
 use crate::forms::c::write_c;
@@ -39,37 +39,37 @@ impl Format {
         }
     }
 
-    /// Whether it is code of another language, in which messages have no place.
+    /// Whether it is code in another language, so that messages go elsewhere.
     pub fn is_code(self) -> bool {
         matches!(self, Format::C | Format::Rust | Format::Numpy)
     }
 }
 
-/// What is asked of a text.
+/// What to report on a text, and how.
 #[derive(Clone, Copy, Debug)]
 pub struct Request<'a> {
-    /// What the text is called.
+    /// The name of the text's file.
     pub file: &'a str,
-    /// The names of the structs that are asked about. Without any, all are.
+    /// The names of the structs to report on; all structs if there is no name.
     pub only: &'a [&'a str],
     pub format: Format,
     /// How messages for people look.
     pub style: Style,
 }
 
-/// What is told of a text.
+/// The report on a text.
 #[derive(Drop)]
 pub struct Report {
     pub text: String,
     /// The messages, if the text is code.
     pub notes: String,
-    /// Whether there are neither errors nor findings.
+    /// Whether there are no errors and no findings.
     pub is_clean: bool,
-    /// Which of the structs that are asked about are there.
+    /// For each name that is asked for, whether a struct has it.
     pub is_found: Vec<bool>,
 }
 
-/// What is told of a text in bytes.
+/// The report on a text, given as bytes.
 pub fn report_on(alloc: Global, bytes: &[u8], request: Request) -> Result<Report, AllocError> {
     let lines = Lines::of(alloc, bytes)?;
     match from_utf8(bytes) {

@@ -19,7 +19,7 @@ use wgsl_spaces::spaces::{
 };
 use wgsl_syntax::address::AddressSpace;
 
-/// What checks the variables of a module.
+/// The state of checking the variables of a module.
 #[derive(Drop)]
 struct Checker<'a> {
     alloc: Global,
@@ -58,7 +58,7 @@ impl<'a> Subject<'a> {
     }
 }
 
-/// What breaks a rule in a module, in the order of the text.
+/// The broken rules of a module, in the order of the text.
 pub fn findings_of<'a>(
     alloc: Global,
     module: &'a Module<'a>,
@@ -80,7 +80,8 @@ pub fn findings_of<'a>(
 }
 
 impl<'a> Checker<'a> {
-    /// Checks the attribute `align` of each member: both compilers ask of every struct that it suits the member's type.
+    /// Checks the attribute `align` of each member. naga and Tint require in every struct that it suits the member's
+    /// type.
     fn check_attributes(&mut self, structure: &Struct<'a>) -> Result<(), AllocError> {
         for member in &structure.members {
             let subject = Subject::of_member(structure, member, None);
@@ -92,7 +93,7 @@ impl<'a> Checker<'a> {
         Ok(())
     }
 
-    /// Checks the variables that stand somewhere, and each struct in their types once.
+    /// Checks the variables of a place, and each struct in their types once.
     fn check_place(&mut self, place: Place) -> Result<(), AllocError> {
         let module = self.module;
         let mut reached = vec![in self.alloc; false; module.structs.len()]?;
@@ -194,7 +195,7 @@ impl<'a> Checker<'a> {
         Ok(self.findings.push(subject.finding(trouble, is_lifted))?)
     }
 
-    /// By whose rules types are laid out there.
+    /// The address space whose layout rules hold for a place.
     fn rules(&self, place: Place) -> AddressSpace {
         match place {
             Place::Uniform if self.module.has_standard_uniform => AddressSpace::Storage,
@@ -202,7 +203,7 @@ impl<'a> Checker<'a> {
         }
     }
 
-    /// Checks the elements of arrays, and what stands innermost.
+    /// Checks the strides of arrays, and the innermost type.
     fn check_content(
         &mut self,
         subject: Subject<'a>,
@@ -239,7 +240,7 @@ fn suits_type(member: &Member) -> bool
     )
 }
 
-/// What is told of a rule that a member breaks.
+/// The trouble for a rule that a member breaks.
 fn trouble_of(rule: Rule, space: AddressSpace, member: Position) -> Trouble {
     let align = number(required_align(space, member.extent));
     match rule {
@@ -255,7 +256,7 @@ fn trouble_of(rule: Rule, space: AddressSpace, member: Position) -> Trouble {
     }
 }
 
-/// A number as it is told: none of these is above the greatest of 32 bits.
+/// A number for a message. None of these numbers exceeds 32 bits.
 fn number(number: u64) -> u32 {
     u32::try_from(number).unwrap_or(u32::MAX)
 }

@@ -10,16 +10,16 @@ use std::str::from_utf8;
 /// How messages for people look.
 #[derive(Clone, Copy, Debug, PartialEq, Eq)]
 pub enum Style {
-    /// One line for each.
+    /// One line per message.
     Plain,
-    /// Below it the line of the text, and a caret under the place.
+    /// Also the line of the text, with a caret under the place.
     Caret,
-    /// The same in colors.
+    /// As `Caret`, with colors.
     Color,
 }
 
 impl Style {
-    /// What begins a color.
+    /// The escape sequence that begins a color.
     fn color(self, code: &'static str) -> &'static str {
         match self {
             Style::Color => code,
@@ -38,7 +38,7 @@ const GREEN: &str = "\x1b[1;32m";
 
 const RESET: &str = "\x1b[0m";
 
-/// A longer line, in bytes, is not shown.
+/// The longest line, in bytes, that is shown.
 const LONGEST: usize = 200;
 
 /// Writes the messages on a text.

@@ -1,4 +1,4 @@
-// A text whose module is read, and what is asked of it.
+// A text whose module is read, and which of its structs to report on.
 
 use crate::lines::Lines;
 use crate::message::Message;
@@ -6,18 +6,18 @@ use std::alloc::Global;
 use wgsl_source::module::Module;
 use wgsl_source::structure::Struct;
 
-/// A text whose module is read, and what is asked of it.
+/// A text whose module is read, and which of its structs to report on.
 #[derive(Clone, Copy)]
 pub struct Source<'a> {
     pub alloc: Global,
-    /// What the text is called.
+    /// The name of the text's file.
     pub file: &'a str,
     pub lines: &'a Lines<'a>,
     pub module: &'a Module<'a>,
     pub messages: &'a [Message],
-    /// Whether no struct is asked about by its name, so that all are.
+    /// Whether all structs are to be written, since none is asked for by name.
     pub has_all: bool,
-    /// Which structs are asked about, or stand in one that is.
+    /// For each struct, whether it is asked for, or is inside one that is.
     pub is_chosen: &'a [bool],
 }
 

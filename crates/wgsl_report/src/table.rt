@@ -26,7 +26,7 @@ pub fn write_tables(output: &mut String, source: Source, style: Style) -> Result
     write_messages(output, source, style)
 }
 
-/// A struct with a line for each member, and for each gap behind one.
+/// Writes a struct, with a line for each member and for each gap after one.
 fn write_struct(output: &mut String, source: Source, structure: &Struct) -> Result<(), AllocError> {
     write_head(output, structure)?;
     for (index, member) in structure.members.iter().enumerate() {
@@ -84,7 +84,7 @@ fn write_typed(
     write_all(output, &pieces)
 }
 
-/// The bytes behind a member that no member has.
+/// Writes the gap after a member.
 fn write_gap(output: &mut String, member: &Member, next: u32) -> Result<(), AllocError> {
     let Some(gap) = padding(member, next) else {
         return Ok(());
@@ -99,7 +99,7 @@ fn write_gap(output: &mut String, member: &Member, next: u32) -> Result<(), Allo
     write_all(output, &pieces)
 }
 
-/// A variable, with the smallest size of a binding for it.
+/// Writes a variable, with its minimum binding size.
 fn write_variable(
     output: &mut String,
     source: Source,

@@ -1,4 +1,4 @@
-// Numbers that are told of members and variables.
+// The numbers that reports have for members and variables.
 
 use wgsl_source::measured::{Count, MeasuredType, TypeKind};
 use wgsl_source::module::Module;
@@ -15,7 +15,7 @@ pub fn stride_of(module: &Module, ty: MeasuredType) -> Option<u32> {
     }
 }
 
-/// How many bytes a type of data takes. A runtime-sized array has one element.
+/// The size of a data type. A runtime-sized array counts as one element.
 pub fn data_size(module: &Module, ty: MeasuredType) -> Option<u32> {
     match ty.kind {
         TypeKind::Array(_, Count::Runtime) => stride_of(module, ty),
@@ -24,7 +24,7 @@ pub fn data_size(module: &Module, ty: MeasuredType) -> Option<u32> {
     }
 }
 
-/// Where what is behind a member begins.
+/// The offset of the next member, or the end of the struct.
 pub fn end_of(structure: &Struct, index: usize) -> u32 {
     match structure.members.get(index.saturating_add(1)) {
         Some(next) => next.offset,
@@ -32,7 +32,7 @@ pub fn end_of(structure: &Struct, index: usize) -> u32 {
     }
 }
 
-/// How many bytes lie between a member and an offset behind it, if there are some.
+/// The bytes between a member and an offset after it, if there are any.
 pub fn padding(member: &Member, next: u32) -> Option<u32> {
     let end = member.offset.checked_add(member.size)?;
     match next.checked_sub(end) {
@@ -41,7 +41,7 @@ pub fn padding(member: &Member, next: u32) -> Option<u32> {
     }
 }
 
-/// The smallest size that a binding for a variable may have: a runtime-sized array has one element in it.
+/// The minimum binding size of a variable. A runtime-sized array counts as one element.
 pub fn min_binding_size(module: &Module, variable: &Variable) -> Option<u32> {
     match variable.space {
         AddressSpace::Uniform | AddressSpace::Storage => data_size(module, variable.ty),

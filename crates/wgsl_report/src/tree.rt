@@ -9,7 +9,7 @@ use wgsl_source::measured::{MeasuredType, TypeKind};
 use wgsl_source::module::Module;
 use wgsl_syntax::scalar::Scalar;
 
-/// Writes a type as an object of JSON, inside which are those of its parts.
+/// Writes a type as an object of JSON, with the types inside it as objects in that.
 pub fn write_tree(
     output: &mut String,
     module: &Module,
@@ -32,7 +32,7 @@ pub fn write_tree(
     Ok(())
 }
 
-/// A type around another, up to that.
+/// Writes the object of a type around another, up to the inner type.
 fn write_layer(output: &mut String, module: &Module, ty: MeasuredType) -> Result<(), AllocError> {
     let (kind, count, key) = match ty.kind {
         TypeKind::Array(_, count) => ("array", count.known(), "element"),
@@ -52,7 +52,7 @@ fn write_layer(output: &mut String, module: &Module, ty: MeasuredType) -> Result
     write_all(output, &pieces)
 }
 
-/// A type in which no array stands.
+/// Writes a type that contains no array.
 fn write_leaf(output: &mut String, module: &Module, ty: MeasuredType) -> Result<(), AllocError> {
     match ty.kind {
         TypeKind::Scalar(scalar) => write_scalar(output, scalar),
@@ -85,7 +85,7 @@ fn write_leaf(output: &mut String, module: &Module, ty: MeasuredType) -> Result<
     }
 }
 
-/// The rest of a type with scalars inside.
+/// Writes the rest of a type that contains scalars.
 fn write_parts(output: &mut String, fields: &[Piece], scalar: Scalar) -> Result<(), AllocError> {
     write_all(output, fields)?;
     output.push_str(",\"component\":")?;

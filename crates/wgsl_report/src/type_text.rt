@@ -27,7 +27,7 @@ pub fn type_text(alloc: Global, module: &Module, ty: MeasuredType) -> Result<Str
     Ok(text)
 }
 
-/// A type around another, up to that.
+/// Writes the spelling of a type around another, up to the inner type.
 fn write_start(text: &mut String, kind: TypeKind) -> Result<(), AllocError> {
     match kind {
         TypeKind::BindingArray(_, _) => text.push_str("binding_array<"),
@@ -36,7 +36,7 @@ fn write_start(text: &mut String, kind: TypeKind) -> Result<(), AllocError> {
     }
 }
 
-/// A type around another, from that on.
+/// Writes the spelling of a type around another, after the inner type.
 fn write_end(text: &mut String, kind: TypeKind) -> Result<(), AllocError> {
     match kind {
         TypeKind::Array(_, Count::Known(count)) | TypeKind::BindingArray(_, Count::Known(count)) =>
@@ -49,7 +49,7 @@ fn write_end(text: &mut String, kind: TypeKind) -> Result<(), AllocError> {
     }
 }
 
-/// A type in which no array or pointer stands.
+/// Writes a type that contains no array and no pointer.
 fn write_leaf(text: &mut String, module: &Module, kind: TypeKind) -> Result<(), AllocError> {
     match kind {
         TypeKind::Scalar(scalar) => text.push_str(scalar.name()),

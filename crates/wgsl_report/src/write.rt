@@ -7,7 +7,7 @@ use std::alloc::AllocError;
 #[derive(Clone, Copy)]
 pub enum Piece<'a> {
     Text(&'a str),
-    /// The inside of a text of JSON.
+    /// The inside of a JSON string.
     Escaped(&'a str),
     /// A text whose control characters are written as blanks.
     Visible(&'a str),
@@ -16,9 +16,9 @@ pub enum Piece<'a> {
     Number(Option<u32>),
     /// A number, or `-`, in a column of a table.
     Column(Option<u32>),
-    /// A field of JSON behind another: a number, or `null`.
+    /// A further field of JSON: a number, or `null`.
     Field(&'a str, Option<u32>),
-    /// The fields of JSON for a place, behind another.
+    /// The further fields of JSON for a place.
     At(Place),
     /// A number, if there is one, as an attribute of a variable.
     Attribute(&'a str, Option<u32>),

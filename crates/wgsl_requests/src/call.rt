@@ -1,4 +1,4 @@
-// What is answered to a call of WGSL's own overloads.
+// The answers to requests about calls, by WGSL's own overloads.
 ghost use Rattle.std.specs.Prelude.{◌≡◌, ◌∷◌, IfOk, MatchOption, None, codes, map, option_map, string_bytes};
 ghost use Rattle.wgsl_syntax.specs.Operator.{binary_text, unary_text};
 ghost use Rattle.wgsl_core.specs.Instances.{parameter_view};
@@ -29,7 +29,7 @@ use wgsl_types::error::Fail;
 use wgsl_types::syntax::{BinaryOperator, UnaryOperator};
 use wgsl_types::tplt::TpltParam;
 
-/// What is asked of a call.
+/// What a request about a call asks for.
 #[derive(Clone, Copy)]
 pub(crate) enum Question {
     Type,
@@ -55,7 +55,7 @@ impl Named {
     }
 }
 
-/// The answer to what is asked of the call.
+/// The answer to a request about the call.
 #[inline(always)]
 pub(crate) fn answer_call(
     alloc: Global,
@@ -181,7 +181,7 @@ fn read_named<'t>(
     Ok((name, template))
 }
 
-/// Writes the answer to what is asked of the call of a name. Few operands stand in an array, without what they own.
+/// Writes the answer about the call of a name. A few operands are put into an array, without the types that they own.
 fn write_of_named(
     alloc: Global,
     question: Question,
@@ -211,7 +211,7 @@ fn write_of_named(
     }
 }
 
-/// Writes the answer to what is asked of a call, never as a part of its caller, which calls it in four places.
+/// Writes the answer about a call. It is not inlined, since its caller calls it in four places.
 #[inline(never)]
 fn write_of(
     alloc: Global,
@@ -228,7 +228,7 @@ fn write_of(
     write_answer_on(alloc, question, callee, template, operands, text)
 }
 
-/// The operands, without what they own.
+/// The operands, without the types that they own.
 #[inline(never)]
 fn borrowed<'c>(
     alloc: Global,
@@ -243,7 +243,7 @@ fn borrowed<'c>(
     Ok(operands)
 }
 
-/// Writes the answer to what is asked of a call.
+/// Writes the answer to a request about a call.
 #[inline(always)]
 fn write_answer_on(
     alloc: Global,
@@ -269,7 +269,7 @@ fn write_answer_on(
     }
 }
 
-/// Writes the type of a call. It is written here, as a part of the caller, and not by `write`, which knows all forms.
+/// Writes the type of a call. It is inlined into the caller, unlike `write`, which has all kinds of answers.
 #[inline(always)]
 fn write_type(alloc: Global, call: &Call<'_>, text: &mut String) -> Result<TextKind, AllocError>
     ensures { IfOk result (λ kind. Adds (IsAnswer (asked Question.Type (call_view call.now)) kind)
@@ -285,7 +285,7 @@ fn write_type(alloc: Global, call: &Call<'_>, text: &mut String) -> Result<TextK
     }
 }
 
-/// A refusal, if there is nothing.
+/// The kind of the text: a refusal if nothing was found.
 #[inline(always)]
 fn kind_of<T>(found: &Option<T>) -> TextKind
     ensures { MatchOption found.now (result ≡ TextKind.Refusal) (λ x. result ≡ TextKind.Answer) }
@@ -296,7 +296,7 @@ fn kind_of<T>(found: &Option<T>) -> TextKind
     }
 }
 
-/// Writes another answer, never as a part of its caller.
+/// Writes any other answer. It is not inlined.
 #[inline(never)]
 fn write_other(
     alloc: Global,

@@ -326,7 +326,7 @@ fn ctor(alloc: Global, words: &mut Words, text: &mut String) -> Result<TextKind,
     Ok(written?)
 }
 
-/// `call NAME P T..`: the type of the call, or why it has none; `no value` if it gives none.
+/// `call NAME P T..`: the type of the call, `no value` if it returns none, or why it has no type.
 fn call(alloc: Global, words: &mut Words, text: &mut String) -> Result<TextKind, Fail<Misfit>>
     ensures { Replies RuleSet.Ported (codes "call" ∷ left words.old)
         (string_bytes text.old) (string_bytes text.new) result }

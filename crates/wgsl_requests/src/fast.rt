@@ -1,2 +1,2 @@
-// Second ways, each beside a plain one, for what would cost a twentieth more without them.
+// Faster versions of plain functions, which each save a twentieth of a line's instructions.
 pub mod number;

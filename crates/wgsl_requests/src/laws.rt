@@ -26,7 +26,7 @@ pub fn one_type()
         → TypeAt rules words t rest → TypeAt rules words u others → (t ≡ u) × (rest ≡ others) }
 {}
 
-/// By WGSL's own overloads, what spells a type is read as that type, and as no other.
+/// By WGSL's own overloads, a text that spells a type is read as that type, and as no other.
 #[tactic(auto, using(crate::proofs::SpelledWords::words_read, crate::proofs::SpelledWords::only_read))]
 pub fn spelled_is_read()
     ensures read { (text : List ℕ) (t : WgslType) → Spells text t
@@ -35,8 +35,8 @@ pub fn spelled_is_read()
         → TypeAt RuleSet.Standard (words_of text) u rest → (u ≡ t) × (rest ≡ []) }
 {}
 
-/// By WGSL's own overloads, a type without a struct is read from what it is written as in an answer, by either set of rules,
-/// and no other type is.
+/// By WGSL's own overloads, the text that an answer by either set of rules prints for a type without a struct is read as
+/// that type, and as no other.
 #[tactic(auto, using(crate::proofs::SpelledWords::written_read, crate::proofs::SpelledWords::only_written))]
 pub fn answered_is_read()
     ensures read { (names : FormatNames) (t : WgslType) → IsWritable t

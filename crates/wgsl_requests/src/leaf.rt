@@ -1,4 +1,4 @@
-// The leaf types that words stand for, but scalars.
+// The leaf types that words stand for, except scalars.
 ghost use Rattle.std.specs.Prelude.{◌≡◌, ◌∷◌, MatchOption, Option};
 ghost use Rattle.wgsl_core.specs.View.{view};
 ghost use Rattle.wgsl_syntax.specs.Address.{access_text};
@@ -24,8 +24,8 @@ use wgsl_types::ty::{
     SamplerType, TextureName, TextureParameterKind, TextureParameters, TextureType, Type,
 };
 
-/// A type without a layer and members in words, that is no scalar: a type of rays, a sampler or a texture, and by WGSL's own
-/// overloads a type as WGSL spells it.
+/// A leaf type in words that is no scalar: one of naga's types for rays, a sampler or a texture; by WGSL's own
+/// overloads also a type as WGSL spells it.
 #[inline(never)]
 pub fn read_leaf(
     alloc: Global,
@@ -72,7 +72,7 @@ fn begins_spelling(rules: RuleSet, word: &str) -> bool
     }
 }
 
-/// A flag, or `-` for none; by WGSL's own overloads nothing, where neither comes next.
+/// A flag, or `-` for none. By WGSL's own overloads it may be missing.
 fn read_flag(
     rules: RuleSet,
     words: &mut Words,

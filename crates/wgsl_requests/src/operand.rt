@@ -47,7 +47,7 @@ pub(crate) struct WrittenOperand {
 }
 
 impl WrittenOperand {
-    /// The operand, without what it owns.
+    /// The operand, without the type that it owns.
     #[inline(always)]
     pub(crate) fn borrowed(&self) -> Operand<'_>
         ensures { written_view result ≡ operand_view self.now }
@@ -88,7 +88,7 @@ fn is_abstract(of: Scalar) -> bool
     matches!(of, Scalar::AbstractInt | Scalar::AbstractFloat)
 }
 
-/// The operands that all words that are left stand for.
+/// The operands in all remaining words.
 #[inline(always)]
 pub(crate) fn read_operands(
     alloc: Global,
@@ -104,7 +104,7 @@ pub(crate) fn read_operands(
     Ok(operands)
 }
 
-/// The two operands that the words that are left stand for.
+/// The two operands in the remaining words.
 #[inline(always)]
 pub(crate) fn read_operand_pair(
     alloc: Global,
@@ -117,7 +117,7 @@ pub(crate) fn read_operand_pair(
     Ok([first, read_last_operand(alloc, words)?])
 }
 
-/// The operand that the words that are left stand for.
+/// The operand in the remaining words.
 #[inline(always)]
 pub(crate) fn read_last_operand(
     alloc: Global,
@@ -135,7 +135,7 @@ pub(crate) fn read_last_operand(
     }
 }
 
-/// The first of the words that are left is one too many.
+/// The error that the next word is one too many.
 fn surplus(words: &mut Words) -> Fail<Misfit> {
     let _surplus = words.next(Wanted::Type);
     Fail::Error(Misfit::Surplus)
@@ -175,7 +175,7 @@ fn scalar_operand(of: Scalar) -> WrittenOperand
     }
 }
 
-/// The same, if the word is no scalar.
+/// The operand that begins with this word, which is no scalar.
 #[inline(never)]
 fn read_other_operand(
     alloc: Global,

@@ -1,4 +1,4 @@
-// How the answers of WGSL's own overloads are written.
+// Writes the answers about WGSL's own overloads.
 ghost use Rattle.std.specs.Prelude.{◌≡◌, ◌++◌, OnOk, map, option_map, string_bytes};
 ghost use Rattle.wgsl_rules.specs.types.Signatures.{listed, template_text};
 ghost use Rattle.wgsl_rules.specs.types.Spelling.{spelling, wgsl_spelling};

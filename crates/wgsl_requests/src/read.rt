@@ -24,7 +24,8 @@ use wgsl_types::ty::{StructMemberType, StructType, Type};
 
 /// The type that the next words stand for.
 ///
-/// Layers are read in a loop, and what a struct and a layer need is not inlined, so that deep types take little stack.
+/// Layers are read in a loop, and the functions for structs and layers are not inlined, so that deep types take little
+/// stack.
 #[cycle(reading)]
 #[inline(always)]
 pub fn read_type(alloc: Global, rules: RuleSet, words: &mut Words) -> Result<Type, Fail<Misfit>>
@@ -111,7 +112,7 @@ fn read_inside(
 
 /// The type with this layer, and those that begin with this word, around what comes after them.
 ///
-/// The layers stand in an array while they are read; those for which it has no room are read as the type inside.
+/// While they are read, the layers are in an array. Those for which it has no room are read as the type inside.
 #[cycle(reading)]
 #[inline(always)]
 pub(crate) fn read_layers(
@@ -151,7 +152,7 @@ fn read_next(count: usize, word: &str, words: &mut Words) -> Result<Option<Aroun
     }
 }
 
-/// The types that all words that are left stand for.
+/// The types in all remaining words.
 #[inline(always)]
 pub fn read_types(
     alloc: Global,
@@ -168,7 +169,7 @@ pub fn read_types(
     Ok(types)
 }
 
-/// The two types that the words that are left stand for.
+/// The two types in the remaining words.
 #[inline(always)]
 pub fn read_pair(
     alloc: Global,
@@ -182,7 +183,7 @@ pub fn read_pair(
     Ok([first, read_last_type(alloc, rules, words)?])
 }
 
-/// The type that the words that are left stand for.
+/// The type in the remaining words.
 #[inline(always)]
 pub fn read_last_type(
     alloc: Global,

@@ -1,4 +1,4 @@
-// The layout of a struct as a person reads it.
+// The layout of a struct as a table.
 ghost use Rattle.std.specs.Prelude.{◌≡◌, ◌++◌, OnOk, option_map, string_bytes};
 ghost use Rattle.wgsl_core.specs.View.{struct_view};
 ghost use Rattle.wgsl_asked.specs.Views.{layout_view};

@@ -15,7 +15,7 @@ use std::alloc::{AllocError, Global};
 /// How many bytes a request may have.
 pub const LONGEST: usize = 4096;
 
-/// What a request gets.
+/// The reply to a request.
 #[derive(Drop)]
 pub enum Reply {
     /// The request has no words.
@@ -26,7 +26,7 @@ pub enum Reply {
     Unreadable,
 }
 
-/// What kind of reply a request gets.
+/// The kind of a reply.
 #[derive(Clone, Copy)]
 pub enum ReplyKind {
     Nothing,
@@ -104,7 +104,8 @@ pub fn write_reply(
     }
 }
 
-/// Why the request can't be read: the sentence is the answer. There is nothing to explain of a request that is answered.
+/// Explains why the request can't be read: the explanation is the answer of the reply. If the request can be read, the
+/// reply is `Nothing`.
 pub fn explain(alloc: Global, rules: RuleSet, request: &[u8]) -> Result<Reply, AllocError>
     ensures { IfOk result (λ reply. IsExplanation rules request.now reply) }
 {

@@ -14,7 +14,7 @@ use wgsl_spelled::spelled::{is_alias, read};
 use wgsl_types::error::Fail;
 use wgsl_types::ty::Type;
 
-/// Whether a type that WGSL spells otherwise than words do begins with this word.
+/// Whether a type begins with this word that is spelled as in WGSL, and not in words.
 pub fn is_spelled(word: &str) -> bool
     ensures { result ≡ is_spelled word.now }
 {
@@ -27,8 +27,8 @@ fn has_list(word: &[u8]) -> bool
     word.iter().any(|byte| *byte == b'<')
 }
 
-/// The type that this word and the next ones spell, up to the first that doesn't end in a comma. If they spell none, the
-/// next ones are left.
+/// The type that this word and the next ones spell, up to the first that doesn't end in a comma. If they spell none,
+/// the next ones are not consumed.
 pub fn read_spelled(alloc: Global, word: &str, words: &mut Words) -> Result<Type, Fail<Misfit>>
     ensures goes_on { GoesOn words.old words.new }
     ensures read { Reads SpelledAt view (word.now ∷ left words.old) (left words.new) result }

@@ -1,4 +1,4 @@
-// What is answered to a command by WGSL's own overloads.
+// The answers to commands, by WGSL's own overloads.
 ghost use Rattle.std.specs.Prelude.{◌∷◌, codes, string_bytes};
 ghost use Rattle.wgsl_requests.specs.internal.Asked.{WritesOfCall, asked};
 ghost use Rattle.wgsl_requests.specs.internal.Replied.{Replies};
@@ -49,7 +49,7 @@ fn overloads(alloc: Global, words: &mut Words, text: &mut String) -> Result<Text
     Ok(write_answer_to(alloc, Request::Overloads(name), text)?)
 }
 
-/// `binary OP X Y` or another call, after the word that says what is asked of it.
+/// `binary OP X Y` or another call, after `resolve` or `why`.
 fn answer_next_call(
     alloc: Global,
     question: Question,

@@ -1,6 +1,6 @@
-// What is wanted of a word, and what is wrong with the words of a request that can't be read.
+// What is expected of a word, and what is wrong with the words of a request that can't be read.
 
-/// What is wanted of a word.
+/// What is expected of a word.
 #[derive(Clone, Copy)]
 pub enum Wanted {
     Command,
@@ -28,7 +28,7 @@ pub enum Wanted {
 }
 
 impl Wanted {
-    /// What it is called.
+    /// Its name in messages.
     pub fn noun(self) -> &'static str {
         match self {
             Wanted::Command => "command",
@@ -71,19 +71,19 @@ impl Wanted {
 /// What is wrong with the words.
 #[derive(Clone, Copy)]
 pub enum Misfit {
-    /// No word is left, and this is wanted.
+    /// No word is left, and this is expected.
     Missing(Wanted),
-    /// The last word that was taken is not what is wanted.
+    /// The last word that was consumed is not what is expected.
     Wrong(Wanted),
-    /// A word is left, and nothing is wanted.
+    /// A word is left, and nothing is expected.
     LeftOver,
-    /// Nothing was wanted when the last word was taken.
+    /// Nothing was expected when the last word was consumed.
     Surplus,
     /// The words after the command are a type, and not a struct.
     NoStruct,
 }
 
-/// What is wrong with the words of a request, and how many of its bytes were taken when it was found.
+/// What is wrong with the words of a request, and how many of its bytes had been consumed when this was found.
 #[derive(Clone, Copy)]
 pub struct Misread {
     pub misfit: Misfit,

@@ -1,4 +1,4 @@
-// Why a request can't be read, as a person reads it.
+// Why a request can't be read, as a message.
 use crate::wanted::{Misfit, Misread, Wanted};
 use crate::words::Words;
 use std::alloc::AllocError;
@@ -37,7 +37,7 @@ fn write_misread(request: &[u8], misread: Misread, text: &mut String) -> Result<
     write_fault(request, number, wanted(misread.misfit), text)
 }
 
-/// What is wanted of the word, or `None` if nothing is.
+/// What is expected of the word, or `None` if nothing is.
 fn wanted(misfit: Misfit) -> Option<Wanted> {
     match misfit {
         Misfit::Missing(wanted) | Misfit::Wrong(wanted) => Some(wanted),
@@ -46,7 +46,7 @@ fn wanted(misfit: Misfit) -> Option<Wanted> {
     }
 }
 
-/// Writes the place of the word with this number, and that it is missing, is not what is wanted, or is left over.
+/// Writes the place of the word with this number, and that it is missing, is not what is expected, or is left over.
 fn write_fault(
     request: &[u8],
     number: usize,

@@ -1,4 +1,4 @@
-// The words of a command, taken one after another.
+// The words of a command, consumed one after another.
 ghost use Rattle.std.specs.Prelude.{◌≡◌, ◌<◌, ◌≤◌, ◌∷◌, ◌↔◌, [], All, Err, IsTrue, IsUtf8, MatchOption, MatchResult, Ok, OnOk, OnSome, drop, length, slice_index};
 ghost use Rattle.std.specs.Str.{IsCharBoundary};
 ghost use Rattle.wgsl_requests.specs.Numbers.{IsAttribute, IsCount, IsLong, IsMedium, IsSmall};
@@ -10,7 +10,7 @@ use crate::wanted::{Misfit, Wanted};
 use std::str::FromStr;
 use wgsl_types::error::Fail;
 
-/// The text of a request, and how many of its bytes were taken.
+/// The text of a request, and how many of its bytes were consumed.
 #[derive(Clone, Copy)]
 pub struct Words<'t> {
     text: &'t str,
@@ -38,7 +38,7 @@ impl<'t> Words<'t> {
         }
     }
 
-    /// The first of the words that are left, and how many of the bytes that are left end with it.
+    /// The next word, and the number of remaining bytes up to its end.
     #[inline(always)]
     fn first_left(&self) -> Option<(&'t str, usize)>
         ensures { IsFirstWord (drop self.now.taken self.now.text.now) result }
@@ -46,7 +46,7 @@ impl<'t> Words<'t> {
         first_word(&self.text[self.taken..])
     }
 
-    /// The next word. If none is left, what is wanted is said to be missing.
+    /// The next word. If none is left, the error is that what is expected is missing.
     pub fn next(&mut self, wanted: Wanted) -> Result<&'t str, Fail<Misfit>>
         ensures goes_on { GoesOn self.old self.new }
         ensures one { OnOk result (self.old.taken < self.new.taken) }
@@ -63,12 +63,12 @@ impl<'t> Words<'t> {
         }
     }
 
-    /// How many bytes were taken.
+    /// How many bytes were consumed.
     pub fn taken(&self) -> usize {
         self.taken
     }
 
-    /// Whether every word is taken.
+    /// Whether every word is consumed.
     pub fn is_empty(&self) -> bool
         ensures { IsTrue result ↔ (left self.now ≡ []) }
     {

@@ -133,7 +133,7 @@ fn write_element(text: &mut String, element: Element<'_>) -> Result<(), AllocErr
     }
 }
 
-/// Writes the message by which operands are refused.
+/// Writes the message that an operator doesn't take operands.
 fn write_operands(text: &mut String, operands: Operands<'_>) -> Result<(), AllocError>
     ensures { OnOk result (string_bytes text.new
         ≡ string_bytes text.old ++ message (operands_refusal operands.entry)) }
@@ -161,7 +161,7 @@ fn write_type_or_refusal(
     written
 }
 
-/// Writes the type that a call gives, `no value`, or the message of a refusal.
+/// Writes the type of a call, `no value`, or the message of a refusal.
 fn write_value_or_refusal(
     text: &mut String,
     returned: Result<Option<Type>, Fail<Error>>,

@@ -8,7 +8,7 @@ use crate::fault::{Cause, Expected, Stop};
 use crate::scope::Scope;
 use crate::skip::skip_group;
 
-/// What attributes stand in front of.
+/// What an attribute belongs to.
 #[derive(Clone, Copy, PartialEq, Eq)]
 pub enum Owner {
     Member,
@@ -50,7 +50,7 @@ pub struct Attributes {
     pub id: Option<u32>,
     pub stage: Option<Stage>,
     pub workgroup_size: Option<[Extent; 3]>,
-    /// Which of all attributes are there, in the order of `Name`.
+    /// Which attributes are present, in the order of `Name`.
     is_there: [bool; 16],
 }
 
@@ -98,7 +98,7 @@ impl Name {
         }
     }
 
-    /// Whether something stands behind the name in parentheses.
+    /// Whether the attribute takes arguments in parentheses.
     fn has_arguments(self) -> bool {
         !matches!(
             self,
@@ -121,7 +121,7 @@ impl Attributes {
         }
     }
 
-    /// Notes that the attribute is there. Whether it was there already: `diagnostic` may be there twice.
+    /// Notes an attribute. Returns whether it is a repetition; `diagnostic` may be repeated.
     fn is_twice(&mut self, name: Name) -> bool {
         match self.is_there.get_mut(name as usize) {
             Some(is_there) if name != Name::Diagnostic => {
@@ -146,7 +146,7 @@ impl<'t> Scope<'t> {
         Ok(attributes)
     }
 
-    /// An attribute behind its `@`.
+    /// Reads an attribute after its `@`.
     fn read_attribute(
         &self,
         cursor: &mut Cursor<'t>,
@@ -219,7 +219,7 @@ impl<'t> Scope<'t> {
         }
     }
 
-    /// The numbers of invocations of a workgroup, from one to three; those that aren't there are 1.
+    /// Reads the one to three extents of a workgroup; a missing one is 1.
     fn read_workgroup_size(&self, cursor: &mut Cursor<'t>) -> Result<[Extent; 3], Stop>
         ensures goes_on { GoesOn cursor.old cursor.new }
     {

@@ -3,7 +3,7 @@
 use crate::fault::Cause;
 use crate::measured::{Count, MeasuredType, TypeKind};
 
-/// Why elements of a type have no fixed size, if they have none.
+/// Why a type has no fixed size, and so can't be the type of an element, if it has none.
 pub fn element_fault(ty: &MeasuredType) -> Option<Cause> {
     match (ty.kind, ty.size, ty.align) {
         (_, Some(_), Some(_)) => None,
@@ -13,7 +13,7 @@ pub fn element_fault(ty: &MeasuredType) -> Option<Cause> {
     }
 }
 
-/// What is wrong with the type of a member with an attribute `size`, if anything is.
+/// What is wrong with the type of a member, which may have an attribute `size`.
 pub fn member_fault(ty: &MeasuredType, size: Option<u32>) -> Option<Cause> {
     match (size, ty.size) {
         (Some(_), _) if ty.is_runtime_sized_array() => Some(Cause::SizedRuntimeArray),

@@ -1,4 +1,4 @@
-// The tokens of a text, taken one after another.
+// A cursor over the tokens of a text.
 ghost use Rattle.std.specs.Prelude.{IsTrue, OnOk};
 ghost use Rattle.wgsl_source.specs.Cursor.{GoesOn, Takes};
 
@@ -24,7 +24,7 @@ impl<'t> Cursor<'t> {
         }
     }
 
-    /// The same tokens from another place on.
+    /// The cursor at another token of the text.
     pub fn moved_to(&self, at: usize) -> Cursor<'t> {
         Cursor {
             text: self.text,
@@ -57,12 +57,12 @@ impl<'t> Cursor<'t> {
         }
     }
 
-    /// Reading stops at the next token.
+    /// A `Stop` at the next token, for this cause.
     pub fn stop(&self, cause: Cause) -> Stop {
         Stop::at(self.index(), cause)
     }
 
-    /// Reading stops where something else was expected.
+    /// A `Stop` at the next token, since something else was expected.
     pub fn expected(&self, expected: Expected) -> Stop {
         match self.kind() {
             Kind::OpenComment => self.stop(Cause::OpenComment),
@@ -70,7 +70,7 @@ impl<'t> Cursor<'t> {
         }
     }
 
-    /// Goes on to the token after the next; whether there is a next one.
+    /// Moves past the next token. Returns whether there was one.
     pub fn advance(&mut self) -> bool
         ensures goes_on { GoesOn self.old self.new }
         ensures one { IsTrue result → Takes self.old self.new }
@@ -87,7 +87,7 @@ impl<'t> Cursor<'t> {
         self.kind() == Kind::Sign(sign)
     }
 
-    /// Whether the token behind the next is this sign, right behind it.
+    /// Whether the second token from here is this sign, without blanks in front.
     pub fn is_next(&self, sign: u8) -> bool {
         match (self.tokens.get(self.at), self.behind()) {
             (Some(token), Some(behind)) => {
@@ -97,7 +97,7 @@ impl<'t> Cursor<'t> {
         }
     }
 
-    /// Whether the token behind the next is this sign, perhaps behind blanks.
+    /// Whether the second token from here is this sign, with or without blanks in front.
     pub fn is_behind(&self, sign: u8) -> bool {
         match self.behind() {
             Some(behind) => behind.kind == Kind::Sign(sign),

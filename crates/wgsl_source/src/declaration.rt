@@ -30,7 +30,7 @@ pub struct Declaration<'t> {
     pub first: usize,
     /// The token of its name.
     pub named: usize,
-    /// The token behind its last.
+    /// The token after its last.
     pub end: usize,
     /// Whether it has a fault already.
     pub is_faulty: bool,
@@ -42,7 +42,7 @@ pub struct Declarations<'t> {
     pub declarations: Vec<Declaration<'t>>,
     pub faults: Vec<Fault>,
     pub extensions: Extensions,
-    /// Whether something stands there that is no directive.
+    /// Whether a declaration has begun, so that no directive may follow.
     has_begun: bool,
 }
 
@@ -56,7 +56,7 @@ impl<'t> Declarations<'t> {
         }
     }
 
-    /// The next declaration, and the fault in it. After one, reading goes on behind the declaration.
+    /// Reads the next declaration. After a fault, reading goes on at the end of the declaration.
     fn read_next(&mut self, cursor: &mut Cursor<'t>) -> Result<(), AllocError>
         ensures goes_on { GoesOn cursor.old cursor.new }
     {
@@ -84,7 +84,7 @@ impl<'t> Declarations<'t> {
         }
     }
 
-    /// The extensions of a directive behind its first word.
+    /// Reads a directive after its first word, and notes its extensions.
     fn read_directive(&mut self, cursor: &mut Cursor<'t>, directive: Directive) -> Result<(), Stop>
         ensures goes_on { GoesOn cursor.old cursor.new }
     {
@@ -138,7 +138,7 @@ impl<'t> Declarations<'t> {
         Ok(())
     }
 
-    /// Keeps a fault, once for each place.
+    /// Records a fault, unless it is the last one again.
     fn tell(&mut self, stop: Stop) -> Result<(), AllocError> {
         match stop {
             Stop::Fault(fault) if self.faults.last() != Some(&fault) => {
@@ -149,7 +149,7 @@ impl<'t> Declarations<'t> {
     }
 }
 
-/// What the first word of a declaration says.
+/// The kind of declaration that a first word begins.
 #[derive(Clone, Copy)]
 enum Head {
     Named(DeclarationKind),
@@ -184,7 +184,7 @@ pub fn read_declarations<'t>(
     Ok(declarations)
 }
 
-/// The first word of a declaration behind its attributes, and the template list of a variable.
+/// Reads the attributes and the first word of a declaration, and the template list of a variable.
 fn read_head(cursor: &mut Cursor) -> Result<Head, Stop>
     ensures goes_on { GoesOn cursor.old cursor.new }
 {

@@ -1,4 +1,4 @@
-// Entry points and overrides: what a pipeline asks of a module.
+// Entry points and overrides: what a pipeline is created from.
 ghost use Rattle.wgsl_source.specs.Cursor.{GoesOn};
 
 use crate::attribute::Owner;
@@ -36,11 +36,11 @@ impl Stage {
 #[derive(Clone, Copy, Debug, PartialEq, Eq)]
 pub enum Extent {
     Known(u32),
-    /// The value of an override, which is known when the pipeline is made.
+    /// The value of an override, which is known when the pipeline is created.
     Override,
 }
 
-/// A function with which a stage of a pipeline begins.
+/// An entry point: the function with which a pipeline stage starts.
 #[derive(Clone, Copy, Debug)]
 pub struct EntryPoint<'t> {
     pub name: &'t str,
@@ -50,7 +50,7 @@ pub struct EntryPoint<'t> {
     pub workgroup_size: Option<[Extent; 3]>,
 }
 
-/// A value that is given when a pipeline is made.
+/// An `override`: a value that is set when a pipeline is created.
 #[derive(Clone, Copy, Debug)]
 pub struct Override<'t> {
     pub name: &'t str,
@@ -58,7 +58,7 @@ pub struct Override<'t> {
     pub place: usize,
     /// The attribute `id`.
     pub id: Option<u32>,
-    /// None if only its value says the type, and that value isn't read here.
+    /// None if the type follows from the initializer, and that isn't read here.
     pub ty: Option<Scalar>,
     pub has_default: bool,
 }
@@ -112,7 +112,7 @@ impl<'t> Scope<'t> {
         })
     }
 
-    /// The scalar type behind a `:`, if it stands there.
+    /// Reads a `:` and a scalar type, if there is a `:`.
     fn read_scalar(
         &self,
         types: &mut Types,
@@ -130,7 +130,7 @@ impl<'t> Scope<'t> {
         }
     }
 
-    /// The type that an override has by its value; None if that value isn't read here.
+    /// The type of an override that follows from its initializer; None if that isn't read here.
     fn default_type(&self, cursor: &mut Cursor<'t>) -> Result<Option<Scalar>, Stop>
         ensures goes_on { GoesOn cursor.old cursor.new }
     {

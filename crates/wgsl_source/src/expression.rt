@@ -20,7 +20,7 @@ pub enum Value {
     Bool(bool),
     /// The whole part of a float.
     Float(i64),
-    /// A value that is known when the pipeline is made.
+    /// A value that is known when the pipeline is created.
     Later,
 }
 
@@ -33,10 +33,10 @@ pub enum Site {
     Other,
 }
 
-/// How many levels types and expressions may have.
+/// The greatest nesting depth of types and of expressions.
 pub const LEVELS: u32 = 255;
 
-/// The arguments of a call: no function that is known here has more than three.
+/// The arguments of a call. No function that is evaluated here takes more than three.
 #[derive(Clone, Copy)]
 struct Arguments {
     values: [Value; 3],
@@ -51,7 +51,7 @@ impl Arguments {
         }
     }
 
-    /// Adds an argument; whether there is room for it.
+    /// Adds an argument. Returns whether there was room for it.
     fn add(&mut self, value: Value) -> bool {
         let count = self.count;
         let Some(place) = self.values.get_mut(count) else {
@@ -91,7 +91,7 @@ impl<'t> Scope<'t> {
         self.read_operators(cursor, 0, site, LEVELS)
     }
 
-    /// The value of the expression that comes next, with operators that bind at least so tightly.
+    /// The value of the expression that comes next, up to the first operator that binds less tightly than `level`.
     #[cycle(valuing)]
     fn read_operators(
         &self,
@@ -118,7 +118,7 @@ impl<'t> Scope<'t> {
         Ok(value)
     }
 
-    /// A literal, a name, or an expression in parentheses or behind a sign.
+    /// Reads a literal, a name, or an expression in parentheses or after a sign.
     #[cycle(valuing)]
     fn read_operand(&self, cursor: &mut Cursor<'t>, site: Site, depth: u32) -> Result<Value, Stop>
         ensures goes_on { GoesOn cursor.old cursor.new }
@@ -167,7 +167,7 @@ impl<'t> Scope<'t> {
         Ok(value)
     }
 
-    /// A constant by its name, or the call of a function that is known here.
+    /// Reads the name of a constant, or the call of a function that is evaluated here.
     #[cycle(valuing)]
     fn read_named(
         &self,
@@ -194,7 +194,7 @@ impl<'t> Scope<'t> {
         }
     }
 
-    /// A `bitcast` behind its name.
+    /// Reads a `bitcast` after its name.
     #[cycle(valuing)]
     fn read_bitcast(&self, cursor: &mut Cursor<'t>, at: usize, depth: u32) -> Result<Value, Stop>
         ensures goes_on { GoesOn cursor.old cursor.new }
@@ -221,7 +221,7 @@ impl<'t> Scope<'t> {
         }
     }
 
-    /// The value of a function that is named at an index of the text, behind its name.
+    /// Reads the arguments of a function, and returns its value. An error is at its name, at this index of the text.
     #[cycle(valuing)]
     fn read_call(
         &self,
@@ -237,7 +237,7 @@ impl<'t> Scope<'t> {
         known_at(arguments.value_of(function), at)
     }
 
-    /// The arguments of a call, behind its `(`.
+    /// Reads the arguments of a call after its `(`.
     #[cycle(valuing)]
     fn read_arguments(&self, cursor: &mut Cursor<'t>, depth: u32) -> Result<Arguments, Stop>
         ensures goes_on { GoesOn cursor.old cursor.new }
@@ -258,7 +258,7 @@ impl<'t> Scope<'t> {
     }
 }
 
-/// Whether an operand comes next. `--` is one token in WGSL, and begins none.
+/// Whether an operand comes next. `--` is one token in WGSL, and no operand begins with it.
 fn begins_operand(cursor: &Cursor) -> bool {
     match cursor.kind() {
         Kind::Number | Kind::Name | Kind::Sign(b'(' | b'~' | b'!') => true,
@@ -267,7 +267,7 @@ fn begins_operand(cursor: &Cursor) -> bool {
     }
 }
 
-/// The end of parentheses, perhaps behind a comma.
+/// Reads a `)`, perhaps after a comma.
 pub fn close(cursor: &mut Cursor) -> Result<(), Stop>
     ensures goes_on { GoesOn cursor.old cursor.new }
 {
@@ -275,7 +275,7 @@ pub fn close(cursor: &mut Cursor) -> Result<(), Stop>
     cursor.expect(b')')
 }
 
-/// A value behind a `-`, a `~` or a `!`.
+/// The value of a `-`, a `~` or a `!` in front of a value.
 fn signed(sign: &str, value: Value) -> Result<Value, Cause> {
     match (sign, value) {
         (_, Value::Later) => Ok(Value::Later),
@@ -287,7 +287,7 @@ fn signed(sign: &str, value: Value) -> Result<Value, Cause> {
     }
 }
 
-/// A value, or what is wrong at an index of the text.
+/// The value, or a `Stop` at an index of the text.
 fn known_at(value: Result<Value, Cause>, at: usize) -> Result<Value, Stop> {
     match value {
         Ok(value) => Ok(value),
@@ -295,7 +295,7 @@ fn known_at(value: Result<Value, Cause>, at: usize) -> Result<Value, Stop> {
     }
 }
 
-/// The conversion to a scalar type.
+/// The function that converts to a scalar type.
 fn conversion(scalar: Scalar) -> Option<Function> {
     match scalar {
         Scalar::U32 => Some(Function::U32),
@@ -304,7 +304,7 @@ fn conversion(scalar: Scalar) -> Option<Function> {
     }
 }
 
-/// What is wrong with a name that nothing declares and no function has that is known here.
+/// What is wrong with a name that isn't declared, and isn't a function that is evaluated here.
 fn unknown_value(cursor: &Cursor) -> Cause {
     if cursor.is_at(b'<') || cursor.is_at(b'(') {
         Cause::NotInteger
@@ -322,7 +322,7 @@ fn value_of(meaning: Meaning, at: usize) -> Result<Value, Stop> {
     }
 }
 
-/// Takes the next operator if it binds at least so tightly, and says where it stands.
+/// Takes the next operator if it binds at least as tightly as `level`. Returns it with its index in the text.
 fn take_operator(cursor: &mut Cursor, level: u32, site: Site) -> Option<(usize, Operator)>
     ensures goes_on { GoesOn cursor.old cursor.new }
     ensures one { OnSome result (Takes cursor.old cursor.new) }

@@ -2,7 +2,7 @@
 
 use crate::scope::Extensions;
 
-/// Notes an extension of `enable`; whether it is known.
+/// Notes an extension of `enable`. Returns whether it is known.
 pub fn enabled(extensions: &mut Extensions, name: &str) -> bool {
     match name {
         "f16" => {
@@ -23,7 +23,7 @@ pub fn enabled(extensions: &mut Extensions, name: &str) -> bool {
     }
 }
 
-/// Notes an extension of `requires`; whether it is known.
+/// Notes an extension of `requires`. Returns whether it is known.
 pub fn required(extensions: &mut Extensions, name: &str) -> bool {
     match name {
         "uniform_buffer_standard_layout" => {

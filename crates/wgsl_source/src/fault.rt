@@ -3,7 +3,7 @@
 use std::alloc::{AllocError, AllocFailed};
 use wgsl_constants::integer::IntegerError;
 
-/// What should have stood where something else stands.
+/// What was expected where something else stands.
 #[derive(Clone, Copy, Debug, PartialEq, Eq)]
 pub enum Expected {
     Declaration,
@@ -27,12 +27,12 @@ pub enum Cause {
     MemberTwice,
     AttributeTwice,
     UnknownAttribute,
-    /// An attribute that what is declared there doesn't have.
+    /// An attribute that this kind of declaration can't have.
     MisplacedAttribute,
     UnknownExtension,
-    /// A directive behind a declaration.
+    /// A directive after a declaration.
     LateDirective,
-    /// A name of WGSL's for which the module has a declaration.
+    /// A predeclared name that the module declares too, and so hides.
     Shadowed,
     /// A declaration that needs itself.
     ContainsItself,
@@ -40,9 +40,9 @@ pub enum Cause {
     NotUtf8,
     ByteOrderMark,
     OpenComment,
-    /// What stands there has no integer value that is known.
+    /// An expression that has no known integer value.
     NotInteger,
-    /// A value that is known only when the pipeline is made.
+    /// A value that is known only when the pipeline is created.
     KnownLater,
     Overflow,
     DivisionByZero,
@@ -50,11 +50,11 @@ pub enum Cause {
     MixedIntegers,
     NegatedUnsigned,
     ShiftTooFar,
-    /// A `clamp` whose least value is above its greatest.
+    /// A `clamp` whose lower bound is above its upper bound.
     EmptyRange,
     /// A function with more or fewer arguments than it takes.
     WrongArgumentCount,
-    /// Operators beside each other that need parentheses.
+    /// Operators that WGSL doesn't allow side by side without parentheses.
     NoParentheses,
     /// An array without elements.
     NoElements,
@@ -78,7 +78,7 @@ pub enum Cause {
     EmptyWorkgroup,
     /// A declaration with neither a type nor a value.
     NoType,
-    /// A value of a variable that has none.
+    /// An initializer of a variable that can't have one.
     NoInitializer,
     /// An override of another type than a scalar.
     NotScalar,
@@ -104,7 +104,7 @@ impl From<IntegerError> for Cause {
 }
 
 impl Expected {
-    /// What is told of it.
+    /// The message.
     pub fn text(self) -> &'static str {
         match self {
             Expected::Declaration => "expected a declaration",
@@ -131,12 +131,12 @@ impl Expected {
 }
 
 impl Cause {
-    /// Whether what can't be read may have a value that is no integer.
+    /// Whether the expression that can't be read may have a value other than an integer.
     pub fn is_of_other_value(self) -> bool {
         matches!(self, Cause::NotInteger | Cause::Expected(_))
     }
 
-    /// What is told of it.
+    /// The message.
     pub fn text(self) -> &'static str {
         match self {
             Cause::Expected(expected) => expected.text(),
@@ -203,12 +203,12 @@ pub struct Fault {
 pub enum Stop {
     Memory(AllocError),
     Fault(Fault),
-    /// A declaration that is needed has a fault of its own.
+    /// A declaration that is used here has a fault, which is reported there.
     Elsewhere,
 }
 
 impl Stop {
-    /// At a fault.
+    /// A `Stop` at an index of the text, for this cause.
     pub fn at(at: usize, cause: Cause) -> Stop {
         Stop::Fault(Fault { at, cause })
     }

@@ -9,7 +9,7 @@ use wgsl_constants::function::{
 use wgsl_constants::integer::Integer;
 use wgsl_constants::operator::{to_i32, to_u32};
 
-/// A function whose value is known here.
+/// A function that is evaluated here.
 #[derive(Clone, Copy)]
 pub enum Function {
     U32,

@@ -7,7 +7,7 @@ use wgsl_syntax::scalar::Scalar;
 use wgsl_syntax::texture::SamplerType;
 use wgsl_syntax::texture_name::{TextureName, texture_named};
 
-/// What the predeclared name of a type says.
+/// What a predeclared name of a type stands for.
 #[derive(Clone, Copy)]
 pub enum Head {
     Scalar(Scalar),
@@ -19,7 +19,7 @@ pub enum Head {
     Texture(TextureName),
     RayQuery,
     AccelerationStructure,
-    /// A name with a template list in which a type stands.
+    /// A name whose template list has a type.
     Layer(LayerName),
 }
 
@@ -59,17 +59,17 @@ pub enum LayerName {
 }
 
 impl LayerName {
-    /// Whether an address space and an access mode stand in the list.
+    /// Whether the template list has an address space and an access mode.
     pub fn is_pointer(self) -> bool {
         matches!(self, LayerName::Pointer | LayerName::Reference)
     }
 
-    /// Whether the number of elements may stand in the list.
+    /// Whether the template list may have a number of elements.
     pub fn has_count(self) -> bool {
         matches!(self, LayerName::Array | LayerName::BindingArray)
     }
 
-    /// What stands around the type, with what else the list has.
+    /// What stands around the type, by the other parameters of the template list.
     pub fn around(self, count: Option<usize>, space: AddressSpace, access: AccessMode) -> Around {
         match self {
             LayerName::Vec(n) => Around::Vec(n),
@@ -83,7 +83,7 @@ impl LayerName {
     }
 }
 
-/// What this name says, if it is predeclared for a type.
+/// What this name stands for, if it is predeclared for a type.
 pub fn predeclared(name: &str) -> Option<Head> {
     if let Ok(scalar) = Scalar::from_str(name) {
         return Some(Head::Scalar(scalar));
@@ -94,7 +94,7 @@ pub fn predeclared(name: &str) -> Option<Head> {
     }
 }
 
-/// What the name of a vector or a matrix says, or one without numbers in it.
+/// What a name stands for that is a vector's or a matrix's, or has no number in it.
 fn other_head(name: &str) -> Option<Head> {
     if let Some(rest) = name.strip_prefix("vec") {
         vector_head(rest.as_bytes())
@@ -151,7 +151,7 @@ fn short_float(letter: u8) -> Option<Scalar> {
     }
 }
 
-/// The scalar for which a letter stands at the end of a predeclared alias.
+/// The scalar of the letter at the end of a predeclared alias, such as `f32` of the `f` in `vec3f`.
 fn short_scalar(letter: u8) -> Option<Scalar> {
     match letter {
         b'i' => Some(Scalar::I32),

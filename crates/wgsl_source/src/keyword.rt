@@ -1,4 +1,4 @@
-// The words that are no names.
+// The words that a module can't use as names.
 
 /// Keywords and reserved words, sorted (WGSL, "Keyword Summary", "Reserved Words").
 const KEPT: [&str; 171] = [
@@ -175,7 +175,7 @@ const KEPT: [&str; 171] = [
     "yield",
 ];
 
-/// Whether a word is a name, or would be one if nothing stood for it.
+/// Whether a module may use a word as a name.
 pub fn is_name(word: &str) -> bool {
     let at = KEPT.partition_point(|kept| *kept < word);
     word != "_" && !word.starts_with("__") && KEPT.get(at) != Some(&word)

@@ -1,4 +1,4 @@
-// Types in which no other type stands, and the names in template lists.
+// Types that contain no other type, and the names in template lists.
 ghost use Rattle.wgsl_source.specs.Cursor.{GoesOn};
 
 use crate::cursor::Cursor;
@@ -16,7 +16,7 @@ use wgsl_syntax::texture::{SampledType, TextureType};
 use wgsl_syntax::texture_name::{TextureName, TextureParameterKind, TextureParameters};
 
 impl<'t> Scope<'t> {
-    /// What the predeclared name of a type says. Some types of spellings have no name in a module.
+    /// What a predeclared name of a type stands for. A module has no name for some types that spellings have.
     pub fn head(&self, name: &str) -> Result<Head, Cause> {
         let Some(head) = predeclared(name) else {
             return Err(unknown_type(name));
@@ -35,7 +35,7 @@ impl<'t> Scope<'t> {
         }
     }
 
-    /// A type in which no other type stands, behind its name.
+    /// Reads a type that contains no other type, after its name.
     pub fn read_leaf(&self, cursor: &mut Cursor<'t>, head: Head) -> Result<MeasuredType, Stop>
         ensures goes_on { GoesOn cursor.old cursor.new }
     {
@@ -51,7 +51,7 @@ impl<'t> Scope<'t> {
         Ok(MeasuredType::resource(kind))
     }
 
-    /// A texture behind its name.
+    /// Reads a texture after its name.
     pub fn read_texture(
         &self,
         cursor: &mut Cursor<'t>,
@@ -153,7 +153,7 @@ impl<'t> Scope<'t> {
         }
     }
 
-    /// Takes the name of an enumerant, which stands for one unless the module declares it.
+    /// Takes the name of an enumerant. It is none if the module declares that name.
     pub fn take_enumerant(
         &self,
         cursor: &mut Cursor<'t>,
@@ -178,7 +178,7 @@ pub fn space_named(name: &str) -> Option<AddressSpace> {
     }
 }
 
-/// What is wrong with a word that nothing declares, where a type is wanted.
+/// What is wrong with a word that isn't declared, where a type is expected.
 fn unknown_type(word: &str) -> Cause {
     if is_name(word) {
         Cause::UnknownName

@@ -91,7 +91,7 @@ pub fn whole_part(word: &str) -> Option<i64> {
     Some(times_ten(value, left))
 }
 
-/// The exponent that digits stand for, at most 400: a greater one gives no other whole part.
+/// The exponent that digits stand for, at most 400: a greater one has the same whole part.
 fn exponent_of(digits: &[u8]) -> Option<usize> {
     let mut exponent: usize = 0;
     for byte in digits {
@@ -108,7 +108,7 @@ fn exponent_of(digits: &[u8]) -> Option<usize> {
     }
 }
 
-/// The value with this many zeros behind it, at most 400.
+/// The value times ten to the power of `zeros`, or of 400 if that is less.
 fn times_ten(value: i64, zeros: usize) -> i64 {
     let mut value = value;
     for _ in 0..zeros.min(400) {

@@ -1,4 +1,4 @@
-// Types of a module, each with its measure.
+// Types of a module, each with its size and alignment.
 ghost use Rattle.std.specs.Prelude.{◌≡◌, Some};
 ghost use Rattle.wgsl_rules.specs.layout.Layout.{IsArraySize, IsExactly, IsScalarSize, IsTimes};
 ghost use Rattle.wgsl_core.specs.Placing.{IsValue};
@@ -13,12 +13,12 @@ use wgsl_syntax::texture::{SamplerType, TextureType};
 #[derive(Clone, Copy, Debug, PartialEq, Eq)]
 pub struct MeasuredType {
     pub kind: TypeKind,
-    /// None of what is no data, of a runtime-sized array and a struct that ends in one, and of an array whose count is an
-    /// override.
+    /// None for a type that is no data, for a runtime-sized array or a struct that ends in one, and for an array whose
+    /// count is an override.
     pub size: Option<u32>,
-    /// None of what is no data.
+    /// None for a type that is no data.
     pub align: Option<u32>,
-    /// How many arrays, binding arrays and pointers stand in each other.
+    /// The nesting depth of arrays, binding arrays and pointers.
     pub levels: u32,
 }
 
@@ -46,7 +46,7 @@ pub enum TypeKind {
 pub enum Count {
     Known(u32),
     Runtime,
-    /// The value of an override, which is known when the pipeline is made.
+    /// The value of an override, which is known when the pipeline is created.
     Override,
 }
 
@@ -118,7 +118,7 @@ impl MeasuredType {
         MeasuredType::leaf(TypeKind::Atomic(scalar), size, size)
     }
 
-    /// An array of such elements, which stand at this index of the module's elements.
+    /// An array whose elements have this type, which is at this index of the module's element types.
     pub fn array(&self, index: usize, count: Count) -> MeasuredType
         ensures { IsMeasure (IsArraySize (known_count count) (IsStrideOf self.now)) (IsValue self.now.align) result }
     {
@@ -139,7 +139,7 @@ impl MeasuredType {
         }
     }
 
-    /// How far such elements of an array lie apart.
+    /// The stride of an array whose elements have this type.
     pub fn stride(&self) -> Option<u32>
         ensures { IsExactly result (IsStrideOf self.now) }
     {

@@ -24,7 +24,7 @@ use wgsl_tokens::token::{Token, has_byte_order_mark};
 pub struct Module<'t> {
     /// The types that stand in arrays, binding arrays and pointers.
     pub elements: Vec<MeasuredType>,
-    /// Each behind those that stand in it.
+    /// Each after the structs that it contains.
     pub structs: Vec<Struct<'t>>,
     /// The indices of the structs in the order of the text.
     pub in_text: Vec<usize>,
@@ -32,7 +32,7 @@ pub struct Module<'t> {
     pub overrides: Vec<Override<'t>>,
     pub entry_points: Vec<EntryPoint<'t>>,
     pub faults: Vec<Fault>,
-    /// Where types and address spaces stand that naga alone has, without a directive that enables them.
+    /// The uses of types and address spaces that only naga has, without a directive that enables them.
     pub naga_only: Vec<Fault>,
     /// Whether `requires uniform_buffer_standard_layout;` is there.
     pub has_standard_uniform: bool,
@@ -53,7 +53,7 @@ impl<'t> Module<'t> {
         }
     }
 
-    /// A module of which nothing is read but a fault.
+    /// A module of which only this fault is known.
     pub fn faulty(alloc: Global, fault: Fault) -> Result<Module<'t>, AllocError> {
         let mut module = Module::empty(alloc);
         module.faults.push(fault)?;
@@ -61,7 +61,7 @@ impl<'t> Module<'t> {
     }
 }
 
-/// What is read of a module.
+/// What is read of a module so far.
 #[derive(Drop)]
 struct Reader<'t> {
     start: Cursor<'t>,
@@ -158,7 +158,7 @@ impl<'t> Reader<'t> {
         }
     }
 
-    /// Names the declarations. Of two with one name the first has it.
+    /// Gives the declarations their names. If two have one name, the first keeps it.
     fn name_all(&mut self, declarations: &[Declaration<'t>]) -> Result<(), AllocError> {
         for (index, declaration) in declarations.iter().enumerate() {
             let is_twice = self.scope.names.contains_key(&declaration.name);
@@ -186,7 +186,7 @@ impl<'t> Reader<'t> {
         matches!(self.scope.meanings.get(index), Some(Meaning::Unread))
     }
 
-    /// Reads aliases, structs and constants, each behind those that it names.
+    /// Reads aliases, structs and constants, each after those that it names.
     fn read_ordered(&mut self, declarations: &[Declaration<'t>]) -> Result<(), AllocError> {
         let alloc = self.scope.alloc;
         let order = order_of(alloc, self.start, &self.scope.names, &*declarations)?;
@@ -295,7 +295,7 @@ impl<'t> Reader<'t> {
         }
     }
 
-    /// Keeps why reading stopped.
+    /// Records the fault at which reading stopped.
     fn tell(&mut self, read: Result<(), Stop>) -> Result<(), AllocError> {
         match read {
             Err(Stop::Fault(fault)) => Ok(self.faults.push(fault)?),
@@ -323,7 +323,7 @@ impl<'t> Reader<'t> {
         Ok(Meaning::Type(ty))
     }
 
-    /// A constant. One whose value isn't read stands for nothing here.
+    /// Reads a constant. If its value is neither an integer nor a `bool` that is evaluated here, it is `Other`.
     fn read_constant(&mut self, cursor: &mut Cursor<'t>) -> Result<Meaning, Stop>
         ensures goes_on { GoesOn cursor.old cursor.new }
     {
@@ -365,7 +365,7 @@ fn first_meaning(is_faulty: bool) -> Meaning {
     }
 }
 
-/// What a constant with a value stands for, which may be declared with a type.
+/// What a constant stands for that has this value, and perhaps a declared type.
 fn declared_value(value: Value, declared: Option<Scalar>) -> Result<Meaning, Cause> {
     let value = match (declared, value) {
         (None, _) | (Some(Scalar::Bool), Value::Bool(_)) => value,

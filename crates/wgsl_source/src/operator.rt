@@ -29,7 +29,7 @@ pub enum Comparison {
     GreaterEqual,
 }
 
-/// Which operators may stand beside each other without parentheses.
+/// The groups of operators that may be mixed without parentheses.
 #[derive(Clone, Copy, PartialEq, Eq)]
 enum Family {
     /// `+ - * / %`
@@ -91,7 +91,7 @@ impl Operator {
         }
     }
 
-    /// How tightly operators in its right operand bind.
+    /// How tightly an operator in its right operand must bind.
     pub fn inner_level(self) -> u32 {
         match self.family() {
             Family::Arithmetic if !self.is_product() => 3,
@@ -101,7 +101,7 @@ impl Operator {
         }
     }
 
-    /// Whether the operator may stand behind another without parentheses.
+    /// Whether the operator may follow another without parentheses.
     pub fn may_follow(self, before: Option<Operator>) -> bool {
         let Some(before) = before else {
             return true;
@@ -161,7 +161,7 @@ impl Operator {
     }
 }
 
-/// The operator that comes next. A `>` in a template list ends it, a `<` in one begins none, and `--` is no operator.
+/// The operator that comes next. In a template list `>` ends the list, and `<` is no operator. `--` is never one.
 pub fn operator_at(cursor: &Cursor, site: Site) -> Option<Operator> {
     let Kind::Sign(sign) = cursor.kind() else {
         return None;
@@ -179,7 +179,7 @@ pub fn operator_at(cursor: &Cursor, site: Site) -> Option<Operator> {
     }
 }
 
-/// The operator of a sign that stands there twice.
+/// The operator that is this sign twice, such as `<<`.
 fn doubled(sign: u8) -> Option<Operator> {
     match sign {
         b'<' => Some(Operator::ShiftLeft),
@@ -192,7 +192,7 @@ fn doubled(sign: u8) -> Option<Operator> {
     }
 }
 
-/// The operator of a sign with `=` behind it.
+/// The operator that is this sign and `=`, such as `<=`.
 fn with_equals(sign: u8) -> Option<Operator> {
     match sign {
         b'!' => Some(Operator::Comparison(Comparison::NotEqual)),

@@ -1,4 +1,4 @@
-// The order in which declarations are read: each behind those that it names.
+// The order in which declarations are read: each after those that it names.
 ghost use Rattle.wgsl_source.specs.Cursor.{GoesOn};
 
 use crate::cursor::Cursor;
@@ -9,16 +9,16 @@ use std::alloc::{AllocError, Global};
 use std::collections::BTreeMap;
 use wgsl_tokens::token::Kind;
 
-/// How far a declaration is ordered.
+/// Whether a declaration has its place in the order.
 #[derive(Clone, Copy, PartialEq, Eq)]
 enum State {
     Unseen,
-    /// What it names is being ordered.
+    /// The declarations that it names are being ordered.
     Open,
     Ordered,
 }
 
-/// A declaration that is being ordered, and the token from which on its names are still to be seen.
+/// A declaration that is being ordered, and the token from which on its names are still unvisited.
 #[derive(Clone, Copy)]
 struct Visit {
     index: usize,
@@ -28,7 +28,7 @@ struct Visit {
 /// The order of declarations, and those that contain themselves.
 #[derive(Drop)]
 pub struct Order {
-    /// The indices of the declarations, each behind those that it names.
+    /// The indices of the declarations, each after those that it names.
     pub sorted: Vec<usize>,
     pub circular: Vec<Circular>,
 }
@@ -40,7 +40,7 @@ pub struct Circular {
     pub fault: Fault,
 }
 
-/// What orders the declarations of a module.
+/// The state of the depth-first search that orders the declarations of a module.
 #[derive(Drop)]
 struct Sorter<'a, 't> {
     start: Cursor<'t>,
@@ -88,7 +88,7 @@ impl<'a, 't> Sorter<'a, 't> {
         }
     }
 
-    /// Begins with a declaration, unless it is ordered.
+    /// Begins to order a declaration, unless that was done.
     fn visit(&mut self, index: usize) -> Result<(), AllocError> {
         if let (State::Unseen, Some(declaration)) = (
             self.state(index),
@@ -188,7 +188,7 @@ fn next_use<'t>(
     None
 }
 
-/// Skips an attribute behind its `@`, up to where names of declarations may stand.
+/// Skips an attribute after its `@`, up to where names of declarations may follow.
 fn skip_attribute(cursor: &mut Cursor)
     ensures goes_on { GoesOn cursor.old cursor.new }
 {

@@ -14,7 +14,7 @@ pub enum Meaning {
     Value(Value),
     /// An alias or a struct.
     Type(MeasuredType),
-    /// Neither a type nor a value that is read here.
+    /// Neither a type nor a value that is evaluated here.
     Other,
 }
 
@@ -32,7 +32,7 @@ pub struct Extensions {
 }
 
 impl Extensions {
-    /// Before the first directive.
+    /// No extension, as before the first directive.
     pub fn none() -> Extensions {
         Extensions {
             half: false,
@@ -43,18 +43,18 @@ impl Extensions {
     }
 }
 
-/// What names stand for where a declaration is read.
+/// What names stand for while declarations are read.
 #[derive(Drop)]
 pub struct Scope<'t> {
     pub alloc: Global,
-    /// Which declaration has a name.
+    /// The index of the declaration with a name.
     pub names: BTreeMap<&'t str, usize>,
     pub meanings: Vec<Meaning>,
     pub extensions: Extensions,
 }
 
 impl<'t> Scope<'t> {
-    /// Without declarations.
+    /// A scope without declarations.
     pub fn new(alloc: Global, extensions: Extensions) -> Scope<'t> {
         Scope {
             alloc,

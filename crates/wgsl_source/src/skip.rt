@@ -1,4 +1,4 @@
-// What is skipped by its brackets.
+// Text that isn't read is skipped by its brackets.
 ghost use Rattle.wgsl_source.specs.Cursor.{GoesOn};
 
 use crate::cursor::Cursor;
@@ -7,7 +7,7 @@ use wgsl_tokens::token::Kind;
 
 /// Skips the rest of a declaration: up to a `;` outside of brackets, or to the `}` of its last bracket.
 ///
-/// Where a word stands that only begins a declaration, a bracket has no end.
+/// If a word comes that can only begin a declaration, a bracket isn't closed.
 pub fn skip_to_end(cursor: &mut Cursor) -> Result<(), Stop>
     ensures goes_on { GoesOn cursor.old cursor.new }
 {

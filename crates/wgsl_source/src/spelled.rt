@@ -15,7 +15,7 @@ use wgsl_syntax::address::AddressSpace;
 use wgsl_syntax::around::Around;
 use wgsl_tokens::token::tokens;
 
-/// The spelling of the type that a text begins with, as a module may write it.
+/// The spelling of the type with which a text begins, as a module may write it.
 pub fn spelling_of(alloc: Global, text: &str) -> Result<String, Stop> {
     let ty = read_alone(alloc, text)?;
     let spelled = ty.to_string(alloc);
@@ -30,7 +30,7 @@ fn read_alone(alloc: Global, text: &str) -> Result<Type, Stop> {
 }
 
 impl<'t> Scope<'t> {
-    /// The type that comes next, of at most that many levels, which may be one that no module can write.
+    /// Reads the type that comes next, nested at most `depth` deep. It may be one that no module can write.
     #[cycle(spelled)]
     fn read_spelled(&self, cursor: &mut Cursor<'t>, depth: u32) -> Result<Type, Stop>
         ensures goes_on { GoesOn cursor.old cursor.new }
@@ -45,7 +45,7 @@ impl<'t> Scope<'t> {
         }
     }
 
-    /// A type in which another type stands.
+    /// Reads a type that contains another type.
     #[cycle(spelled)]
     fn read_spelled_layer(
         &self,
@@ -70,7 +70,7 @@ impl<'t> Scope<'t> {
         }
     }
 
-    /// The rest of a template list behind the type.
+    /// Reads the rest of a template list after the type.
     fn read_rest(
         &self,
         cursor: &mut Cursor<'t>,
@@ -92,7 +92,7 @@ impl<'t> Scope<'t> {
         Ok(layer.around(count, space, access))
     }
 
-    /// A type in which no other type stands, behind its name.
+    /// Reads a type that contains no other type, after its name.
     fn read_spelled_leaf(&self, cursor: &mut Cursor<'t>, head: Head) -> Result<Type, Stop>
         ensures goes_on { GoesOn cursor.old cursor.new }
     {
@@ -108,7 +108,7 @@ impl<'t> Scope<'t> {
     }
 }
 
-/// The address space of a pointer or a reference, with the `,` behind it.
+/// Reads the address space of a pointer or a reference, and the `,` after it.
 fn read_spelled_space(cursor: &mut Cursor, layer: LayerName) -> Result<AddressSpace, Stop>
     ensures goes_on { GoesOn cursor.old cursor.new }
 {

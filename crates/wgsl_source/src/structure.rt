@@ -21,7 +21,7 @@ pub struct Struct<'t> {
     /// Where its name stands in the text.
     pub place: usize,
     pub members: Vec<Member<'t>>,
-    /// With one element of a runtime-sized array at the end.
+    /// The size. A runtime-sized array at the end counts with one element.
     pub size: u32,
     pub align: u32,
     /// Whether the last member is a runtime-sized array.
@@ -40,13 +40,13 @@ pub struct Member<'t> {
     /// The attribute `align`.
     pub align_attribute: Option<u32>,
     pub offset: u32,
-    /// That of one element if it is a runtime-sized array.
+    /// The size. For a runtime-sized array it is that of one element.
     pub size: u32,
     pub align: u32,
 }
 
 impl<'t> Struct<'t> {
-    /// The struct as a type, whose index this is.
+    /// The type of the struct, which has this index.
     pub fn measured(&self, index: usize) -> MeasuredType {
         let size = if self.is_runtime_sized {
             None
@@ -57,7 +57,7 @@ impl<'t> Struct<'t> {
     }
 }
 
-/// A member in front of its place in the struct: its offset is not known yet.
+/// A member whose offset isn't known yet.
 #[derive(Clone, Copy)]
 struct Written<'t> {
     member: Member<'t>,
@@ -97,7 +97,7 @@ fn laid_out<'t>(alloc: Global, place: usize, written: &[Written<'t>]) -> Result<
     }
 }
 
-/// Why members that are placed make no struct.
+/// Why members that have offsets make no struct.
 fn size_fault(written: &[Written]) -> Cause {
     if written.is_empty() {
         Cause::NoMembers
@@ -140,7 +140,7 @@ impl<'t> Draft<'t> {
 }
 
 impl<'t> Scope<'t> {
-    /// A struct from the name on, at which the cursor stands.
+    /// Reads a struct from its name on, which comes next.
     pub fn read_struct(
         &self,
         types: &mut Types,

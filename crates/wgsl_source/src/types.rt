@@ -16,7 +16,7 @@ use wgsl_syntax::address::AddressSpace;
 pub struct Types {
     /// The types that stand in arrays, binding arrays and pointers.
     pub elements: Vec<MeasuredType>,
-    /// Where types and address spaces stand that naga alone has.
+    /// The uses of types and address spaces that only naga has.
     pub naga_only: Vec<Fault>,
 }
 
@@ -29,7 +29,7 @@ impl Types {
         }
     }
 
-    /// Keeps where something stands that naga alone has.
+    /// Notes that something that only naga has is used at this index of the text.
     pub fn note(&mut self, at: usize) -> Result<(), Stop> {
         let cause = Cause::NagaOnly;
         Ok(self.naga_only.push(Fault { at, cause })?)
@@ -54,7 +54,7 @@ impl<'t> Scope<'t> {
         self.read_levels(types, cursor, LEVELS)
     }
 
-    /// The type that comes next, of at most that many levels.
+    /// Reads the type that comes next, nested at most `depth` deep.
     #[cycle(reading)]
     fn read_levels(
         &self,
@@ -82,7 +82,7 @@ impl<'t> Scope<'t> {
         }
     }
 
-    /// A type with a template list in which another type stands, whose name stands at an index of the text.
+    /// Reads a type whose template list has another type. Its name is at this index of the text.
     #[cycle(reading)]
     fn read_layer(
         &self,
@@ -114,7 +114,7 @@ impl<'t> Scope<'t> {
         }
     }
 
-    /// An array behind the type of its elements.
+    /// Reads an array after its element type.
     fn read_array(
         &self,
         types: &mut Types,
@@ -135,7 +135,7 @@ impl<'t> Scope<'t> {
         }
     }
 
-    /// A binding array behind the type of its elements.
+    /// Reads a binding array after its element type.
     fn read_binding_array(
         &self,
         types: &mut Types,
@@ -149,7 +149,7 @@ impl<'t> Scope<'t> {
         Ok(Ok(element.around(TypeKind::BindingArray(index, count), None, None)))
     }
 
-    /// A pointer behind the type to which it points.
+    /// Reads a pointer after the type to which it points.
     fn read_pointer(
         &self,
         types: &mut Types,
@@ -167,7 +167,7 @@ impl<'t> Scope<'t> {
         Ok(Ok(inside.around(TypeKind::Pointer(space, index, access), None, None)))
     }
 
-    /// The number of elements of an array, if it stands there.
+    /// Reads the number of elements of an array, if there is one.
     fn read_count(&self, cursor: &mut Cursor<'t>) -> Result<Count, Stop>
         ensures goes_on { GoesOn cursor.old cursor.new }
     {
@@ -181,7 +181,7 @@ impl<'t> Scope<'t> {
         }
     }
 
-    /// The address space of a pointer, with the `,` behind it.
+    /// Reads the address space of a pointer, and the `,` after it.
     fn read_pointed(
         &self,
         types: &mut Types,
@@ -242,7 +242,7 @@ fn scalars(layer: LayerName, inside: &MeasuredType) -> Result<MeasuredType, Caus
     }
 }
 
-/// The number of elements that a value stands for, or why it stands for none.
+/// The number of elements that a value gives, or why it gives none.
 fn count_of(value: Value) -> Result<Count, Cause> {
     let number = match value {
         Value::Integer(integer) => integer.value(),

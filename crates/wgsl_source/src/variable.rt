@@ -22,7 +22,7 @@ pub struct Variable<'t> {
     pub ty: MeasuredType,
 }
 
-/// What stands in front of the type of a variable.
+/// What is known of a variable when its type is read.
 #[derive(Clone, Copy)]
 struct Head<'t> {
     name: &'t str,
@@ -33,7 +33,7 @@ struct Head<'t> {
 }
 
 impl<'t> Scope<'t> {
-    /// A variable from its attributes on; None if only its value says the type.
+    /// Reads a variable from its attributes on. None if its type follows from its initializer.
     pub fn read_variable(
         &self,
         types: &mut Types,
@@ -61,7 +61,7 @@ impl<'t> Scope<'t> {
         }
     }
 
-    /// The type of a variable in an address space: only in `workgroup` may its count be an override.
+    /// The type of a variable in an address space. Only in `workgroup` may its count be an override.
     fn read_stored_type(
         &self,
         types: &mut Types,
@@ -101,7 +101,7 @@ impl<'t> Scope<'t> {
         })
     }
 
-    /// The address space and the access mode of a variable. Without a list they are those of resources.
+    /// Reads the address space and the access mode of a variable. Without a template list they are those of resources.
     fn read_qualifiers(
         &self,
         types: &mut Types,

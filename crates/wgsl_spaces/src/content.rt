@@ -1,4 +1,4 @@
-// What may stand inside the types of an address space.
+// What types may contain in an address space.
 ghost use Rattle.std.specs.Prelude.{◌↔◌, IsTrue};
 ghost use Rattle.wgsl_spaces.specs.Spaces.{IsShared, MayBeInnermost, TakesAtomics};
 
@@ -22,7 +22,7 @@ fn is_shared(space: AddressSpace) -> bool
     )
 }
 
-/// Whether atomics may stand in an address space with this access mode.
+/// Whether an address space allows atomics with this access mode.
 fn takes_atomics(space: AddressSpace, access: AccessMode) -> bool
     ensures { IsTrue result ↔ TakesAtomics space access }
 {
@@ -33,7 +33,7 @@ fn takes_atomics(space: AddressSpace, access: AccessMode) -> bool
     }
 }
 
-/// Whether a type may be innermost in those of an address space with this access mode.
+/// Whether an address space with this access mode allows a type inside all arrays, vectors and structs.
 pub fn may_be_innermost(space: AddressSpace, access: AccessMode, content: Content) -> bool
     ensures { IsTrue result ↔ MayBeInnermost space access content }
 {

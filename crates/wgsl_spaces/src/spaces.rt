@@ -1,4 +1,4 @@
-// What an address space asks of the layout of its variables (WGSL, "Address Space Layout Constraints").
+// What an address space requires of the layout of its variables (WGSL, "Address Space Layout Constraints").
 ghost use Rattle.std.specs.Prelude.{◌≡◌, ◌↔◌, IsTrue, MatchOption};
 ghost use Rattle.std.specs.Int.{◌∣◌};
 ghost use Rattle.wgsl_spaces.specs.Spaces.{AreApart, Breaks, IsAlignAttribute, IsAligned, IsBehind, IsLifted, IsSizeAttribute, LieApart, MayLie, required_align, up_to_16};
@@ -13,7 +13,7 @@ pub struct Extent {
     pub align: u32,
 }
 
-/// Which types have rules of their own.
+/// The kinds of types that have rules of their own.
 #[derive(Clone, Copy, Debug, PartialEq, Eq)]
 pub enum Shape {
     Array,
@@ -36,7 +36,7 @@ pub struct Position {
 pub enum Rule {
     /// The offset is a multiple of the alignment that the type must have.
     Offset,
-    /// The next member begins behind a struct, with room up to a multiple of 16.
+    /// The member after a struct begins no earlier than the struct's size rounded up to a multiple of 16.
     Behind,
     /// The attribute `align` is a power of two, and a multiple of the alignment that the type must have.
     Align,
@@ -78,7 +78,7 @@ pub fn is_aligned(space: AddressSpace, extent: Extent, number: u32) -> bool
     divides(required_align(space, extent), number)
 }
 
-/// Whether elements of an array may lie that far apart in an address space.
+/// Whether an array of these elements may have this stride in an address space.
 pub fn may_lie_apart(space: AddressSpace, extent: Extent, stride: u32) -> bool
     ensures { IsTrue result ↔ LieApart space extent stride }
 {
@@ -114,7 +114,7 @@ fn is_size_attribute(extent: Extent, size: Option<u32>) -> bool
     }
 }
 
-/// Whether the next member begins far enough behind a member at this offset.
+/// Whether the next member begins far enough after a member at this offset.
 fn is_behind(space: AddressSpace, extent: Extent, offset: u32, next: Option<u32>) -> bool
     ensures { IsTrue result ↔ IsBehind space extent.shape extent.size offset next }
 {
@@ -155,8 +155,8 @@ pub fn broken_rule(space: AddressSpace, member: Position) -> Option<Rule>
     }
 }
 
-/// Whether `requires uniform_buffer_standard_layout;` lifts a rule of `uniform` for a member that breaks it: it keeps the
-/// rule as a member in `storage`.
+/// Whether `requires uniform_buffer_standard_layout;` lifts a rule of `uniform` that a member breaks: whether the
+/// member keeps the rule as it is for `storage`.
 pub fn is_lifted(rule: Rule, member: Position) -> bool
     ensures { IsTrue result ↔ IsLifted rule member }
 {

@@ -6,7 +6,7 @@ ghost use Rattle.wgsl_rules.specs.types.Types.{WgslType};
 ghost use Rattle.wgsl_spelled.specs.Spells.{Spells};
 ghost use Rattle.wgsl_spelled.specs.Written.{IsWritable};
 
-/// What a type without a struct is written as spells it, by WGSL's names of texel formats or by naga's.
+/// The text that a type without a struct prints spells that type, by WGSL's names of texel formats and by naga's.
 #[tactic(auto, using(crate::proofs::Spellings::spells_spelling))]
 pub fn spelled_as_written()
     ensures { (names : FormatNames) (t : WgslType) → IsWritable t → Spells (spelling_by names t) t }

@@ -1,4 +1,4 @@
-// Names of types with a list behind them, between angle brackets.
+// Names of types with a template list after them.
 ghost use Rattle.std.specs.Prelude.{◌↔◌, ◌≡◌, IsTrue, MatchOption, Some};
 ghost use Rattle.wgsl_syntax.specs.Address.{space_text};
 ghost use Rattle.wgsl_syntax.specs.Attribute.{flag_text};
@@ -22,7 +22,7 @@ use wgsl_syntax::texel::{FormatNames, TexelFormat};
 use wgsl_syntax::texture::{SampledType, TextureType};
 use wgsl_syntax::texture_name::{TextureName, TextureParameterKind, TextureParameters};
 
-/// The name, and what stands between the angle brackets behind it.
+/// The name, and the text between the angle brackets after it.
 pub(crate) fn cut(text: &str) -> Option<(&str, &str)>
     ensures { PartsOf AtList text.now result }
 {
@@ -30,7 +30,7 @@ pub(crate) fn cut(text: &str) -> Option<(&str, &str)>
     Some((name, rest.strip_suffix('>')?))
 }
 
-/// The layer of this name with this list, and the spelling of the type inside.
+/// The layer with this name and this list, and the spelling of the type inside.
 pub(crate) fn layer_around<'t>(name: &str, list: &'t str) -> Option<(Around, &'t str)>
     ensures { LayerOf name.now list.now result }
 {
@@ -56,7 +56,7 @@ pub(crate) fn layer_around<'t>(name: &str, list: &'t str) -> Option<(Around, &'t
     }
 }
 
-/// The spelling of an element, and the number of elements, if one stands behind it.
+/// The spelling of an element, and the number of elements, if one follows.
 fn counted(list: &str) -> (&str, Option<usize>)
     ensures { CountedOf list.now result }
 {
@@ -91,7 +91,7 @@ fn space_named(name: &str) -> Option<AddressSpace>
     }
 }
 
-/// What stands before the first comma, and behind the space after it.
+/// The text before the first comma, and the text after that comma and a space.
 fn first(list: &str) -> Option<(&str, &str)>
     ensures { PartsOf AtFirst list.now result }
 {
@@ -99,7 +99,7 @@ fn first(list: &str) -> Option<(&str, &str)>
     Some((before, after.strip_prefix(' ')?))
 }
 
-/// What stands before the last comma, and behind the space after it.
+/// The text before the last comma, and the text after that comma and a space.
 fn last(list: &str) -> Option<(&str, &str)>
     ensures { PartsOf AtLast list.now result }
 {
@@ -125,7 +125,7 @@ fn small(digits: &str) -> Option<u8>
     u8::try_from(number(digits)?).ok()
 }
 
-/// The number that is written so: without a sign, and without zeros in front.
+/// The number with these digits, without a sign and without leading zeros.
 fn number(digits: &str) -> Option<usize>
     ensures { NumberOf 64 digits.now result }
 {
@@ -136,14 +136,14 @@ fn number(digits: &str) -> Option<usize>
     }
 }
 
-/// Whether there is a first byte, which is no plus, and a zero only if it is the only one.
+/// Whether the bytes begin as a number: not empty, no plus, and no leading zero.
 fn begins_as_number(bytes: &[u8]) -> bool
     ensures { IsTrue result ↔ BeginsAsNumber bytes.now }
 {
     !bytes.is_empty() && bytes[0] != b'+' && (bytes[0] != b'0' || bytes.len() == 1)
 }
 
-/// The type without a layer of this name with this list.
+/// The leaf type with this name and this list.
 pub(crate) fn leaf_with(name: &str, list: &str) -> Option<Type>
     ensures { TypeOf (LeafSpells name.now list.now) result }
 {

@@ -1,4 +1,4 @@
-// Names of types without a list behind them.
+// Names of types without a template list.
 ghost use Rattle.std.specs.Prelude.{◌≡◌, MatchOption, None, Some};
 ghost use Rattle.wgsl_syntax.specs.Scalar.{scalar_text};
 ghost use Rattle.wgsl_syntax.specs.Texture.{texture_name};
@@ -16,7 +16,7 @@ use wgsl_syntax::scalar::Scalar;
 use wgsl_syntax::texture::{SamplerType, TextureType};
 use wgsl_syntax::texture_name::{TextureName, TextureParameters};
 
-/// What the alias stands for: the layer, and the name of the scalar inside.
+/// The layer that the alias stands for, and the name of the scalar inside.
 pub(crate) fn alias(name: &str) -> Option<(Around, &'static str)>
     ensures { MatchOption result (alias_of name.now ≡ None)
         (λ found. (s : Scalar) × (alias_of name.now ≡ Some (found.0, s)) × (found.1.now ≡ scalar_text s)) }
@@ -63,7 +63,7 @@ fn alias_of(name: &str) -> Option<(Around, Scalar)>
     }
 }
 
-/// The type that has this name and no list behind it.
+/// The type that has this name and no list.
 pub(crate) fn plain(name: &str) -> Option<Type>
     ensures { TypeOf (PlainSpells name.now) result }
 {

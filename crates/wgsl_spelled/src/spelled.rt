@@ -11,7 +11,8 @@ use std::alloc::{AllocError, Global};
 use wgsl_core::ty::Type;
 use wgsl_syntax::around::Around;
 
-/// The type that the text spells, or `None` if it spells none. A struct is spelled by no text, since its name has no members.
+/// The type that the text spells, or `None` if it spells none. No text spells a struct, since a struct's name doesn't
+/// say its members.
 ///
 /// Layers are read in a loop, so that deep types take little stack.
 pub fn read(alloc: Global, text: &str) -> Result<Option<Type>, AllocError>
@@ -37,7 +38,7 @@ pub fn is_alias(name: &str) -> bool
     alias(name).is_some()
 }
 
-/// The type inside these layers, of which the last is the innermost.
+/// Wraps the type in these layers, the last innermost.
 pub fn wrap(alloc: Global, layers: &[Around], innermost: Type) -> Result<Type, AllocError>
     ensures { IfOk result (λ ty. view ty ≡ wrapped layers.now (view innermost)) }
 {
@@ -62,7 +63,7 @@ fn outer(text: &str) -> Option<(Around, &str)>
     }
 }
 
-/// The type without a layer that the text spells.
+/// The leaf type that the text spells.
 fn leaf(text: &str) -> Option<Type>
     ensures { LeafOf text.now result }
 {

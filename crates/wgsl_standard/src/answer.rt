@@ -24,8 +24,8 @@ use wgsl_syntax::overload::{Instance, Overload};
 #[derive(Clone, Copy, Debug)]
 pub struct NoOverload;
 
-/// The type of a call, or None if it has no value; built only if it isn't a scalar, a vector or a matrix. Operators take
-/// no template.
+/// The type of a call, or None if it has no value. It is allocated only if it isn't a scalar, a vector or a matrix.
+/// Operators take no template.
 #[inline(always)]
 pub fn type_of_call(
     alloc: Global,
@@ -42,7 +42,7 @@ pub fn type_of_call(
     }
 }
 
-/// The same with a template, which is the first operand.
+/// The type of a call with a template, which counts as the first operand.
 #[inline(never)]
 fn type_with_template(
     alloc: Global,

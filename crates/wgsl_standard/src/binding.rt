@@ -1,4 +1,4 @@
-// What an operand requires of the letters of an overload.
+// What an operand requires of the letters of an overload: the type variables, such as T.
 ghost use Rattle.std.specs.Prelude.{◌≡◌, option_map};
 ghost use Rattle.std.specs.Option.{is_some, option_or};
 ghost use Rattle.wgsl_core.specs.View.{view};
@@ -39,7 +39,7 @@ pub const FREE: Binding = Binding {
     k: None,
 };
 
-/// Whether the operand fits the parameter, and then what it requires beside the binding.
+/// Whether the operand fits the parameter. If so, the binding then has what it requires too.
 #[tactic(auto, using(crate::proofs::Bound::value_bound))]
 #[inline(always)]
 pub fn bind(concrete: bool, binding: &mut Binding, pattern: &Pattern, operand: &Operand) -> bool
@@ -53,7 +53,7 @@ pub fn bind(concrete: bool, binding: &mut Binding, pattern: &Pattern, operand: &
     }
 }
 
-/// The same of an operand that is a scalar, a vector or a matrix.
+/// `bind` for an operand that is a scalar, a vector or a matrix.
 #[inline(always)]
 fn bind_value(
     concrete: bool,
@@ -73,7 +73,7 @@ fn bind_value(
     }
 }
 
-/// The same of an operand of any type.
+/// `bind` for an operand of any type.
 #[inline(never)]
 fn bind_type(concrete: bool, binding: &mut Binding, pattern: &Pattern, ty: &Type) -> bool
     ensures { bind_if result binding.new ≡ pattern_bound concrete binding.old pattern.now (view ty.now) }
@@ -119,7 +119,7 @@ fn bind_component(
     }
 }
 
-/// Puts the value in its place, if there is one.
+/// Stores the value, if there is one.
 fn put<T: Copy>(value: Option<T>, place: &mut Option<T>) -> bool
     ensures there_is { result ≡ is_some value }
     ensures value { place.new ≡ option_or value place.old }

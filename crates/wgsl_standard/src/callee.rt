@@ -43,7 +43,7 @@ fn table(callee: Callee<'_>, has_template: bool) -> Option<&'static [Overload]>
     }
 }
 
-/// The same, none if no such call is listed.
+/// The overloads of what is called, without a template or with one; an empty list if no such call is listed.
 pub fn listed_overloads(callee: Callee<'_>, has_template: bool) -> &'static [Overload]
     ensures { result.now ≡ or_none (overloads_of callee.entry has_template) }
 {

@@ -9,7 +9,7 @@ use crate::operand::Operand;
 use crate::written::{parameter_count, patterns_of};
 use wgsl_syntax::overload::{Parameters, Pattern};
 
-/// Whether the operands fit the parameters, one for each, and then what they require beside the binding.
+/// Whether there is one operand for each parameter, and it fits. If so, the binding then has what they require too.
 #[inline(always)]
 pub fn bind_all(
     concrete: bool,
@@ -25,7 +25,8 @@ pub fn bind_all(
     bind_each(concrete, binding, parameters, operands)
 }
 
-/// The same for the first parameters, as many as there are operands.
+/// Whether there are no more operands than parameters, and each fits. If so, the binding then has what they require
+/// too.
 pub fn bind_first(
     concrete: bool,
     binding: &mut Binding,
@@ -40,7 +41,7 @@ pub fn bind_first(
     bind_each(concrete, binding, parameters, operands)
 }
 
-/// The same, where there are no more operands than parameters.
+/// `bind_first` for at most as many operands as there are parameters.
 #[inline(always)]
 fn bind_each(
     concrete: bool,
@@ -80,7 +81,7 @@ fn bind_same(concrete: bool, binding: &mut Binding, pattern: &Pattern, operands:
     true
 }
 
-/// The same, whatever the parameters are.
+/// `bind_each` for any parameters, by a list of them.
 #[inline(never)]
 fn bind_listed(
     concrete: bool,

@@ -61,7 +61,7 @@ pub fn value_type(alloc: Global, dimensions: Dimensions, scalar: Scalar) -> Resu
     }
 }
 
-/// The same, whatever the dimensions are.
+/// `value_type` for any dimensions.
 #[inline(never)]
 fn type_around(alloc: Global, dimensions: Dimensions, scalar: Scalar) -> Result<Type, AllocError>
     ensures { IfOk result (λ t. view t ≡ type_with dimensions scalar) }
@@ -87,7 +87,7 @@ pub fn result_type(
     }
 }
 
-/// The same, whatever the result is.
+/// `result_type` for a result of any form.
 #[inline(never)]
 fn other_result(
     alloc: Global,

@@ -47,7 +47,7 @@ pub fn may_be(concrete: bool, scalar: Scalar) -> bool
     }
 }
 
-/// What a letter stands for in the end.
+/// The scalar that a letter finally stands for.
 #[inline(always)]
 pub fn pick(concrete: bool, kind: Kind, letter: Option<Scalar>) -> Option<Scalar>
     ensures { result ≡ picked concrete kind letter }
@@ -78,7 +78,8 @@ fn least_of(kind: Kind) -> Scalar
     }
 }
 
-/// What a letter stands for to which a scalar converts: that scalar, or the one of least rank.
+/// The scalar for a letter to which operands of this scalar convert: that scalar itself if it may be, or else the one
+/// of least rank.
 fn pick_from(concrete: bool, kind: Kind, scalar: Scalar) -> Option<Scalar>
     ensures { result ≡ picked concrete kind (Some scalar) }
 {
@@ -89,7 +90,7 @@ fn pick_from(concrete: bool, kind: Kind, scalar: Scalar) -> Option<Scalar>
     }
 }
 
-/// The scalars, those to which a scalar converts in the order of their ranks.
+/// All scalars. Those to which a scalar converts are in the order of their ranks.
 const BY_RANK: [Scalar; 10] = [
     Scalar::Bool,
     Scalar::AbstractInt,

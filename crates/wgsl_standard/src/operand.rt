@@ -18,7 +18,7 @@ use wgsl_syntax::texel::FormatNames;
 /// An operand of an operator, or an argument of a function.
 #[derive(Clone, Copy)]
 pub struct Operand<'a> {
-    /// A reference that can be read stands for the type that it loads as.
+    /// A reference that can be read counts as the type that it loads as.
     pub ty: OperandType<'a>,
     /// Whether it is a const-expression.
     pub is_constant: bool,
@@ -48,7 +48,7 @@ impl<'a> Operand<'a> {
 }
 
 impl<'a> OperandType<'a> {
-    /// What this type is as that of an operand.
+    /// This type as the type of an operand.
     #[inline(always)]
     #[tactic(auto, using(crate::proofs::Parts::parts_given))]
     pub fn of(ty: &'a Type) -> OperandType<'a>

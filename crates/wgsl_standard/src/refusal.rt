@@ -13,7 +13,8 @@ use crate::resolve::{must_be_concrete, settle};
 use crate::written::parameter_count;
 use wgsl_syntax::overload::Overload;
 
-/// The index of the first operand that no overload takes behind the operands before it; None if there is no such operand.
+/// The index of the first operand that no overload takes after the operands before it; None if there is no such
+/// operand.
 #[tactic(auto, using(crate::proofs::FirstParameters::none_refused_seen))]
 pub fn refused_at(overloads: &[Overload], operands: &[Operand]) -> Option<usize>
     ensures { IsRefusedAt overloads.now (operands_view operands.now) result }

@@ -68,12 +68,12 @@ fn instance_of(concrete: bool, overload: &Overload, operands: &[Operand]) -> Opt
     }
 }
 
-/// What the letters stand for in the end.
+/// The scalars that the letters finally stand for.
 #[inline(always)]
 pub fn settle(concrete: bool, overload: &Overload, binding: &Binding) -> Option<Instance>
     ensures { result ≡ settled concrete overload.now binding.now }
 {
-    // Each letter's kind is read for itself: that of a letter which the overload doesn't have is then known.
+    // Each kind is read by itself, so that the compiler knows the kind of a letter that the overload doesn't have.
     let t = pick(concrete, kinds_of(overload).0, binding.t)?;
     let u = pick(concrete, kinds_of(overload).1, binding.u)?;
     let v = pick(concrete, kinds_of(overload).2, binding.v)?;

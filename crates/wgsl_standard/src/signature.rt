@@ -1,4 +1,4 @@
-// How overloads are printed: as WGSL writes them, in one line. An overload that takes scalars or vectors has two lines.
+// Prints overloads as WGSL writes them, one per line. An overload that takes scalars or vectors has two lines.
 ghost use Rattle.std.specs.Prelude.{◌≡◌, ◌++◌, All, IfOk, false, map};
 ghost use Rattle.std.specs.Fmt.{WritesOnOk};
 ghost use Rattle.wgsl_rules.specs.standard.Signatures.{overload_lines};
@@ -22,7 +22,7 @@ pub struct Signature<'a> {
     pub overload: &'static Overload,
     /// Whether its first parameter is a template.
     pub has_template: bool,
-    /// Which one it is, if the overload takes scalars or vectors.
+    /// Whether it is the one for vectors, if the overload takes scalars or vectors.
     pub of_vectors: bool,
 }
 
@@ -60,7 +60,7 @@ fn push_signatures<'a>(
     Ok(())
 }
 
-/// Adds the signature, which is that for scalars, and that for vectors if there is one.
+/// Adds the signature of an overload, or those for scalars and for vectors.
 fn push_signature<'a>(
     signatures: &mut Vec<Signature<'a>>,
     signature: Signature<'a>,

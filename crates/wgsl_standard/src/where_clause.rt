@@ -1,4 +1,4 @@
-// What the letters of an overload stand for, as it is printed behind the overload.
+// What the letters of an overload stand for, as it is printed after the overload.
 ghost use Rattle.std.specs.Prelude.{◌≡◌, ◌++◌};
 ghost use Rattle.std.specs.Fmt.{WritesOnOk};
 ghost use Rattle.std.specs.Option.{option_to_list};
@@ -10,7 +10,7 @@ use std::fmt;
 use std::fmt::Write;
 use wgsl_syntax::overload::{Kind, Overload, Parameters, Pattern, Resource, Usage};
 
-/// The set of textures or pointers that a parameter asks for, if there is one.
+/// The set of textures or pointers of a parameter, if there is one.
 pub fn resource_of(parameters: &Parameters) -> Option<Resource>
     ensures { result ≡ first_resource (in_order parameters.now) }
 {

@@ -41,7 +41,8 @@ pub fn pattern_at(parameters: &Parameters, index: usize) -> Option<Pattern>
     }
 }
 
-/// The first seven parameters, of which the last stands for all after it: the one at an index is that at the index or at 6.
+/// The first seven parameters. All after the seventh are as the seventh, so the parameter at an index above 6 is that
+/// at 6.
 pub fn patterns_of(parameters: &Parameters) -> [&Pattern; 7]
     ensures { AreListed (in_order parameters.now) result }
 {
@@ -80,7 +81,7 @@ fn is_either(pattern: Option<Pattern>) -> bool
     }
 }
 
-/// The parameters, behind the template if the first is one.
+/// The parameters, after the template if the first parameter is one.
 pub fn write_parameters<W: Write>(
     f: &mut fmt::Formatter<W>,
     parameters: &Parameters,
@@ -290,7 +291,7 @@ fn resource_text(resource: Resource) -> &'static str
     }
 }
 
-/// The result behind an arrow, if there is one.
+/// An arrow and the result, if there is one.
 pub fn write_returns<W: Write>(
     f: &mut fmt::Formatter<W>,
     returns: Returns,

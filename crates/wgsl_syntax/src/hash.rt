@@ -4,7 +4,7 @@ ghost use Rattle.wgsl_syntax.specs.Hash.{hash_of, index_of};
 
 /// The tables of a list of names, which `bench/hints` prints.
 pub struct Places {
-    /// What keeps the names with this remainder apart from all others.
+    /// For each remainder, the seed that gives its names slots of their own.
     pub seeds: [u8; 32],
     /// The index of the name in this slot, or 0.
     pub indices: [u8; 256],

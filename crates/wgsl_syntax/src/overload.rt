@@ -48,11 +48,11 @@ pub enum Shape {
     Vector(Count),
     /// The number of columns, and the number of rows.
     Matrix(Count, Count),
-    /// A scalar or a vector, the same wherever an overload has it.
+    /// A scalar or a vector: in a call, all parameters with this shape are alike.
     OneOrVector,
 }
 
-/// What a function does with a storage texture, by which its access mode is limited.
+/// What a function does with a storage texture, which limits its access mode.
 #[derive(Clone, Copy)]
 pub enum Usage {
     /// The access mode is `read` or `read_write`.
@@ -63,7 +63,7 @@ pub enum Usage {
     Asks,
 }
 
-/// A set of textures or of pointers. One of them stands wherever an overload has the set.
+/// A set of textures or of pointers. A parameter with the set takes each type in it.
 #[derive(Clone, Copy)]
 pub enum Resource {
     /// `texture_1d<T>`
@@ -163,7 +163,7 @@ pub struct Instance {
     pub u: Scalar,
     pub v: Scalar,
     pub w: Scalar,
-    /// Of `OneOrVector`: None for a scalar, and the number of components of a vector.
+    /// What `OneOrVector` is: None for a scalar, or the number of components of a vector.
     pub width: Option<u8>,
     pub n: u8,
     pub m: u8,

@@ -1,8 +1,9 @@
-//! WGSL's own overloads, one per line, and the names that have them. They are given, as WGSL's text is: the book of rules
-//! cites them, and the code searches them.
+//! WGSL's own overloads, one per line, and the names that have them. They are taken from WGSL, not proved. The rules
+//! cite them, and the code searches them.
 //!
-//! `overloads!` reads lines of the form `(PARAMETERS) -> RESULT where LETTER: KIND, ..;`. Without `-> RESULT` there is no
-//! value, and without `where` no letter for scalars. The lines stand in the order of preference. Their words are:
+//! `overloads!` reads lines of the form `(PARAMETERS) -> RESULT where LETTER: KIND, ..;`. Without `-> RESULT` a call
+//! has no value. Without `where` there is no letter for scalars. The lines stand in the order of preference. Their
+//! words are:
 //!
 //! | Word | What it stands for |
 //! |---|---|
@@ -68,7 +69,7 @@ macro_rules! count {
     };
 }
 
-/// The access modes that a function asks of a storage texture.
+/// The access modes that a function requires of a storage texture.
 macro_rules! usage {
     (read) => {
         wgsl_syntax::overload::Usage::Reads
@@ -81,14 +82,14 @@ macro_rules! usage {
     };
 }
 
-/// A texture that has no letter; one that is sampled has its sampled type behind `of`.
+/// A texture without a letter. The sampled type of a sampled texture follows `of`.
 macro_rules! texture {
     ($t:ident $(of $s:ident)?) => {
         wgsl_syntax::overload::Pattern::Texture(wgsl_syntax::texture::TextureType::$t$((wgsl_syntax::texture::SampledType::$s))?)
     };
 }
 
-/// A set of textures or of pointers; storage textures have their usage behind `for`.
+/// A set of textures or of pointers. The usage of storage textures follows `for`.
 macro_rules! resource {
     ($r:ident $(for $u:ident)?) => {
         wgsl_syntax::overload::Pattern::Resource(wgsl_syntax::overload::Resource::$r$((usage!($u)))?)

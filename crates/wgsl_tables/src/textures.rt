@@ -1,4 +1,4 @@
-// The overloads of functions that ask, load and store textures.
+// The overloads of functions that query, load and store textures.
 use wgsl_syntax::overload::Overload;
 
 /// The overloads of `textureDimensions`.

@@ -11,9 +11,9 @@ pub enum Kind {
     Name,
     /// A number, with its suffix.
     Number,
-    /// Another character, alone.
+    /// Any other character.
     Sign(u8),
-    /// A block comment that doesn't end, up to the end of the text.
+    /// A block comment that isn't closed, up to the end of the text.
     OpenComment,
     /// The end of the text.
     End,

@@ -91,8 +91,8 @@ pub fn typed_on(alloc: Global, line: u64, types: Vec<Type>) -> Result<Vec<Typed>
     Ok(values)
 }
 
-/// All of them converted to the common type of their types, in order; None if there is none, as for an empty list, or if one
-/// doesn't convert to it.
+/// Converts all values to the common type of their types, in order. None if there is no common type (as for an empty
+/// list), or if a value doesn't convert to it.
 pub fn convert_to_common(alloc: Global, values: &[Typed]) -> Result<Option<Vec<Typed>>, AllocError>
     ensures value { IfOk result (λ r. (c : Option WgslType)
         × IsLeftCommon (map (λ x. view x.ty) values.now) c

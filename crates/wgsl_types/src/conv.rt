@@ -29,7 +29,7 @@ where
     both
 }
 
-/// The same as `convert`, given the type of `a`.
+/// `convert` once the type of `a` is known.
 fn convert_with_type<T: Convert>(
     alloc: Global,
     a: &T,
@@ -97,7 +97,7 @@ where
     both
 }
 
-/// The same as `convert_inner`, given the inner type of `a`.
+/// `convert_inner` once the inner type of `a` is known.
 fn convert_inner_with_type<T: Convert, U: Convert>(
     alloc: Global,
     a: &T,

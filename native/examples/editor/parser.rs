@@ -10,7 +10,7 @@ pub fn parse(text: &str) -> Expr {
     Parser { text, at: 0 }.expression(0)
 }
 
-/// The binary operators by how strongly they bind, each behind those that begin with it.
+/// The binary operators, with how strongly they bind. An operator comes after those that begin with it.
 const OPERATORS: [(&str, Binary, u8); 18] = [
     ("||", Binary::ShortCircuitOr, 1),
     ("&&", Binary::ShortCircuitAnd, 2),
@@ -61,7 +61,7 @@ impl<'t> Parser<'t> {
         word
     }
 
-    /// An expression of operators that bind more strongly than that.
+    /// An expression whose operators bind more strongly than `strength`.
     fn expression(&mut self, strength: u8) -> Expr {
         self.rest();
         let start = self.at;
@@ -125,7 +125,7 @@ impl<'t> Parser<'t> {
     }
 }
 
-/// `vec3` and `f32` for `vec3f`: overloads are those of the constructor with its template.
+/// `vec3` and `f32` for `vec3f`, since only the constructor with its template has overloads.
 fn without_alias(word: &str) -> (&str, Option<Type>) {
     let scalars = [("f", Type::F32), ("h", Type::F16), ("i", Type::I32), ("u", Type::U32)];
     let aliased = scalars.into_iter().find_map(|(letter, scalar)| {

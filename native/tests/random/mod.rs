@@ -130,7 +130,7 @@ impl Random {
         [None, None, None, Some(0), Some(4), Some(16), Some(u32::MAX)][self.below(7)]
     }
 
-    /// A type of at most so many levels.
+    /// A type that is nested at most `levels` deep.
     pub fn ty(&mut self, levels: usize) -> Type {
         if levels == 1 || self.below(3) == 0 {
             return self.leaf();

@@ -23,12 +23,12 @@ impl<'a> Words<'a> {
         self.0.next().expect("a word")
     }
 
-    /// Whether the next word is this one, which is taken then.
+    /// Consumes the next word if it is this one. Returns whether it was.
     pub fn take(&mut self, word: &str) -> bool {
         self.0.next_if_eq(&word).is_some()
     }
 
-    /// What the next word names, which is taken then.
+    /// Consumes the next word if it is the name of a value, and returns that value.
     pub fn name<T: FromStr>(&mut self) -> Option<T> {
         let named = self.0.peek()?.parse().ok()?;
         self.0.next();
@@ -45,7 +45,7 @@ impl<'a> Words<'a> {
         }
     }
 
-    /// The operands up to the end, or to `>`, which is taken.
+    /// The operands up to the end, or up to a `>`, which is consumed too.
     pub fn operands(&mut self) -> Vec<Operand> {
         let mut operands = Vec::new();
         while !self.is_empty() && !self.take(">") {
@@ -67,7 +67,7 @@ impl<'a> Words<'a> {
         }
     }
 
-    /// The type behind a colon, if there is one.
+    /// The type after a colon, if there is one.
     pub fn declared(&mut self) -> Option<Type> {
         self.take(":").then(|| self.ty())
     }

@@ -39,7 +39,7 @@ pub fn rows_of(name: &str) -> Option<&'static Rows>
     }
 }
 
-/// The index of a name. Its hash gives one index, and the name that stands there decides.
+/// The index of a name. Its hash gives one index, and the name there is compared with it.
 fn index_named(name: &str) -> Option<usize>
     ensures index { (i : ℕ) → (result ≡ Some i) ↔ IsNameAt call_names i name.now }
     ensures inside { IfSome result (λ i. i < length call_names) }

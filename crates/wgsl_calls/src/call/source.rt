@@ -1,4 +1,4 @@
-// The types that a built-in function finds from its arguments, before they are built.
+// The types that a built-in function gets from its arguments, before they are built.
 ghost use Rattle.std.specs.Prelude.{◌≡◌, IfSome, map, option_map, option_and_then, slice_get};
 ghost use Rattle.wgsl_syntax.specs.TextureKind.{dimensions};
 ghost use Rattle.wgsl_rules.specs.types.Types.{scalar, vec};

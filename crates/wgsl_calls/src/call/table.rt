@@ -49,7 +49,7 @@ pub fn built_ins() -> &'static [(&'static str, Rows)]
     BUILT_INS
 }
 
-/// Where each name stands among them.
+/// The tables of the hash that finds the index of a name among them.
 pub fn places() -> &'static Places
     ensures { FindsAll result.now call_names }
 {

@@ -7,7 +7,7 @@ use wgsl_types::builtin::{Candidate, binary_candidate};
 use wgsl_types::syntax::BinaryOperator;
 use wgsl_types::ty::Type;
 
-/// The candidate, what it takes and what it gives, or the message of the refusal.
+/// The parameters and the result of the candidate, or the message of the refusal.
 fn chosen(
     alloc: Global,
     operator: BinaryOperator,

@@ -28,7 +28,7 @@ fn spelled(alloc: Global, ty: Option<Type>) -> Result<String, AllocError> {
     }
 }
 
-/// What both calls that make the type concrete give.
+/// The results of both calls that make the type concrete.
 fn both_concrete(alloc: Global, ty: &Type) -> Result<String, AllocError> {
     let own = spelled(alloc, Some(Type::concretize(ty, alloc)?))?;
     let value = spelled(alloc, Convert::concretize(ty, alloc)?)?;

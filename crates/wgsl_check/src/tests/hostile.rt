@@ -157,10 +157,10 @@ fn strange_types_equal_themselves_alone(rt: HostRuntime) -> Result<(), Fail> {
     Ok(())
 }
 
-/// How many layers stand around a scalar.
+/// The number of layers around a scalar.
 const DEPTH: usize = 300;
 
-/// That many layers around a scalar.
+/// The text of `DEPTH` layers around a scalar.
 fn nest(alloc: Global, before: &str, scalar: &str, after: &str) -> Result<String, AllocError> {
     let before = before.repeat(alloc, DEPTH)?;
     let after = after.repeat(alloc, DEPTH)?;
@@ -181,7 +181,7 @@ fn rank_and_layout(alloc: Global, types: &[Type]) -> Result<String, AllocError> 
     format!(in alloc; "{rank} {steps}, {size} {align} {least}")
 }
 
-/// The same of a nest around `AbstractInt` and one around `f32`.
+/// The rank and layout from 300 layers around `AbstractInt` to 300 around `f32`.
 fn nests(alloc: Global, layer: &str) -> Result<String, Fail> {
     let layers = layer.repeat(alloc, DEPTH)?;
     let words = format!(in alloc; "{layers}AbstractInt {layers}f32")?;

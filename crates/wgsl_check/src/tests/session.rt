@@ -1,10 +1,10 @@
-// A session: what short, interrupted and failed reads and writes come to.
+// How a run goes on or ends with short, interrupted and failed reads and writes.
 use super::support::streams::{Source, Target};
 use super::support::{WHOLE, expect};
 use crate::RunError;
 use std::io::ErrorKind;
 
-// A body of most calls that answers out of memory whatever it is asked meets its contract too.
+// Contracts would also allow calls that always report out of memory. These calls don't.
 #[test]
 fn memory_is_not_always_wanted(rt: HostRuntime) {
     let source = Source::new(

@@ -1,5 +1,5 @@
-// What tests share: lines that the program is asked, types and templates out of the words in which it reads them, and
-// what calls that no command makes give for such types, as text.
+// What tests share: runs of the program over lines, types and templates read from words, and the results, as text, of
+// calls that no command makes.
 pub mod sixty;
 pub mod streams;
 pub mod texts;
@@ -36,8 +36,8 @@ pub fn expect(
     assert_eq!(rt; target.flushed, target.taken.len());
 }
 
-/// Asks each line, all in one run, and compares what is printed for it with the answer beside it. The answer to a line
-/// that can't be read begins `bad line`.
+/// Runs the program over all the lines, and compares what it prints for each with the answer beside it. The answer to a
+/// line that can't be read begins `bad line`.
 pub fn expect_answers(
     rt: &(impl Abort + AllocGlobal),
     rows: &[(&str, &str)],
@@ -94,7 +94,7 @@ fn expect_printed(rt: &impl Abort, rows: &[(&str, &str)], printed: &str) {
     );
 }
 
-/// Compares an answer with the one that is wanted. Where they differ, the message names what was asked.
+/// Compares an answer with the expected one. If they differ, the message says what was asked.
 pub fn expect_text(rt: &impl Abort, asked: &str, given: &str, wanted: &str) {
     assert_eq!(rt; given, wanted, "asked `{asked}`");
 }
@@ -121,7 +121,7 @@ pub fn one_type(alloc: Global, text: &str) -> Result<Type, Fail> {
     }
 }
 
-/// A type that no word is left after.
+/// The type in the words, after which no word may be left.
 fn read_whole(alloc: Global, words: &mut Words) -> Result<Type, error::Fail<Misfit>> {
     let read = read_type(alloc, RuleSet::Ported, words);
     if words.is_empty() {
@@ -162,14 +162,14 @@ pub fn signature(alloc: Global) -> Result<CallSignature, Fail> {
     })
 }
 
-/// The spelling of a type that is let go.
+/// The spelling of a type, which is dropped.
 pub fn spelled(alloc: Global, ty: Type) -> Result<String, AllocError> {
     let text = ty.to_string(alloc);
     drop(ty);
     text
 }
 
-/// What a call that no command makes gives for the type in words.
+/// The result, as text, of a call that no command makes, for the type in words.
 fn reply(alloc: Global, call: &str, words: &str) -> Result<String, Fail> {
     match call {
         "clone" => copied(alloc, words),
@@ -182,7 +182,7 @@ fn reply(alloc: Global, call: &str, words: &str) -> Result<String, Fail> {
     }
 }
 
-/// Compares what the call gives for the type in the words of each row with the text beside them.
+/// Compares the result of the call for the type in the words of each row with the text beside them.
 pub fn expect_replies(
     rt: &(impl Abort + AllocGlobal),
     call: &str,
@@ -195,7 +195,7 @@ pub fn expect_replies(
     Ok(())
 }
 
-/// Compares what was answered to a call with these words with the text that is wanted.
+/// Compares the result of a call for these words with the expected text.
 pub fn expect_reply(rt: &impl Abort, call: &str, words: &str, text: &str, wanted: &str) {
     assert_eq!(rt; text, wanted, "of {call} `{words}`");
 }
@@ -239,7 +239,7 @@ fn kinds_of(alloc: Global, words: &str) -> Result<String, Fail> {
     Ok(text?)
 }
 
-/// The predicates that hold of a type.
+/// The predicates that hold for a type.
 fn kinds(alloc: Global, ty: &Type) -> Result<String, AllocError> {
     names_of_true(
         alloc,

@@ -1,4 +1,4 @@
-// The laws, each asked of types that it speaks of, and sixty types that are copied and become concrete.
+// The laws, each called with types that it is about, and sixty types that are copied and made concrete.
 use super::support::sixty::SIXTY;
 use super::support::{expect_answers, expect_replies};
 use std::test::Fail;
@@ -6,7 +6,7 @@ use wgsl_types::conv::{convert_all_ty, convert_ty};
 use wgsl_types::laws;
 use wgsl_types::ty::Type;
 
-/// The same types in two orders.
+/// Three types; `BACK` has them in the reverse order.
 const FORWARD: [Type; 3] = [Type::AbstractInt, Type::AbstractFloat, Type::F16];
 
 const BACK: [Type; 3] = [Type::F16, Type::AbstractFloat, Type::AbstractInt];

@@ -31,7 +31,7 @@ fn array(alloc: Global, tplt: &[TpltParam]) -> Result<String, error::Fail<Error>
     Ok(text?)
 }
 
-/// The same of a binding array.
+/// The parts of a binding array, as those of an array.
 fn binding_array_parts(alloc: Global, array: &BindingArrayTemplate) -> Result<String, AllocError> {
     let ty = spelled(alloc, array.ty(alloc)?)?;
     let element = spelled(alloc, array.inner_ty(alloc)?)?;
@@ -146,7 +146,7 @@ fn made_or_refused(alloc: Global, name: &str, tplt: &[TpltParam]) -> Result<Stri
     }
 }
 
-/// The same of the parameters that these words stand for.
+/// What the template makes of the parameters in these words, or the message of its refusal.
 fn answer(alloc: Global, name: &str, words: &str) -> Result<String, Fail> {
     let tplt = template(alloc, &format!(in alloc; "< {words} >")?)?;
     let text = made_or_refused(alloc, name, &tplt);
@@ -166,7 +166,7 @@ fn expect_rows(
     Ok(())
 }
 
-/// The same, if one message answers all.
+/// The parameters in words, which all have the same answer.
 fn expect_refusal(
     rt: &(impl Abort + AllocGlobal),
     name: &str,

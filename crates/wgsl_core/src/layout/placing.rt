@@ -14,7 +14,7 @@ pub struct Placing {
 }
 
 impl Placing {
-    /// Before the first member.
+    /// The state before the first member.
     #[inline(always)]
     pub fn start() -> Placing
         ensures { result ≡ record { end = Some 0; greatest = 0 } }
@@ -25,7 +25,7 @@ impl Placing {
         }
     }
 
-    /// Places one more member at its smallest offset, which is the answer; None if the members have no end.
+    /// Places one more member at its smallest offset, and returns that; None if the members have no end.
     #[inline(always)]
     pub fn place(&mut self, size: Option<u32>, align: u32) -> Option<u32>
         ensures offset { IsExactly result (IsSoonestOffset self.old.end size align) }

@@ -41,7 +41,7 @@ impl Type {
     }
 }
 
-/// A copy, which is a scalar's without a call of `Type::clone`.
+/// A copy. A scalar is copied without a call of `Type::clone`.
 #[inline(always)]
 #[tactic(auto, using(crate::proofs::Scalars::scalar_is))]
 pub fn copy(alloc: Global, ty: &Type) -> Result<Type, AllocError>

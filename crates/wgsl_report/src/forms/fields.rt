@@ -1,4 +1,4 @@
-// The fields of a struct, and the padding behind each.
+// The fields of a struct, and the padding after each.
 
 use crate::forms::names::{Language, Names, Role};
 use crate::told::{data_size, end_of};
@@ -13,11 +13,11 @@ pub struct Field {
     pub name: String,
     pub ty: MeasuredType,
     pub offset: u32,
-    /// The field behind it that fills the bytes up to the next, if there are some.
+    /// The field after it that fills the bytes up to the next member, if there are any.
     pub padding: Option<Padding>,
 }
 
-/// Bytes that no member has.
+/// Bytes that belong to no member.
 #[derive(Drop)]
 pub struct Padding {
     pub name: String,

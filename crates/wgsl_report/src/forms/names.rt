@@ -1,4 +1,4 @@
-// Names as another language takes them, no two the same.
+// Distinct names that another language allows.
 
 use crate::forms::reserved::{is_c_name, is_python_name, is_rust_keyword, is_rust_type, is_unraw};
 use crate::forms::settled::is_settled;
@@ -12,14 +12,14 @@ pub enum Language {
     Python,
 }
 
-/// What a name names.
+/// What a name is for.
 #[derive(Clone, Copy, PartialEq, Eq)]
 pub enum Role {
     Struct,
     Field,
 }
 
-/// What names become in a language.
+/// The names of a module as another language has them.
 #[derive(Drop)]
 pub struct Names {
     /// In the order of the names.
@@ -28,8 +28,8 @@ pub struct Names {
 }
 
 impl Names {
-    /// What distinct names become. One that the language takes stays. Another is changed, and then gets a `_` at its end
-    /// for each name that it would be.
+    /// Distinct names for distinct names. A name that the language allows stays. Another one is changed, and gets a `_`
+    /// at its end as often as the result is taken.
     pub fn new(
         alloc: Global,
         language: Language,
@@ -61,7 +61,7 @@ impl Names {
         Ok(())
     }
 
-    /// What the name with this index becomes.
+    /// The new name for the name at this index.
     pub fn get(&self, index: usize) -> &str {
         match self.spelled.get(index) {
             Some(name) => name.as_str(),
@@ -69,7 +69,7 @@ impl Names {
         }
     }
 
-    /// A new name that begins so.
+    /// A new name that begins with `start`.
     pub fn add(&mut self, alloc: Global, start: String) -> Result<String, AllocError> {
         let mut name = start;
         take(alloc, &mut self.taken, &mut name)?;
@@ -77,7 +77,7 @@ impl Names {
     }
 }
 
-/// Takes a name, with a `_` at its end for each that is taken already.
+/// Appends `_` to a name until it isn't taken, and takes it.
 fn take(alloc: Global, taken: &mut BTreeSet<String>, name: &mut String) -> Result<(), AllocError> {
     for _ in 0..taken.len() {
         if !taken.contains(name.as_str()) {
@@ -89,7 +89,7 @@ fn take(alloc: Global, taken: &mut BTreeSet<String>, name: &mut String) -> Resul
     Ok(())
 }
 
-/// What a name becomes, whatever the others are.
+/// The new name for a name, before it is compared with the others.
 fn spelling(
     alloc: Global,
     language: Language,
@@ -111,7 +111,7 @@ fn spelling(
     Ok(new)
 }
 
-/// Whether a language keeps a name for itself.
+/// Whether a language reserves a name.
 fn is_kept(language: Language, role: Role, name: &str) -> bool {
     match (language, role) {
         (Language::C, _) => is_c_name(name),
@@ -121,8 +121,8 @@ fn is_kept(language: Language, role: Role, name: &str) -> bool {
     }
 }
 
-/// Adds a name. A character that a normalization might change or join with others is written as its code: two names that
-/// normalize to one stay two.
+/// Adds a name. A character that a normalization might change or combine with others is written as its code. So two
+/// names that normalize to the same name stay distinct.
 fn push_settled(output: &mut String, name: &str) -> Result<(), AllocError> {
     for letter in name.chars() {
         push_letter(output, letter)?;

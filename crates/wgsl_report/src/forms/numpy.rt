@@ -11,7 +11,7 @@ use wgsl_source::module::Module;
 use wgsl_source::structure::Struct;
 use wgsl_syntax::scalar::Scalar;
 
-/// Writes the chosen structs, each behind those that stand in it.
+/// Writes the chosen structs, each after those inside it.
 pub fn write_numpy(output: &mut String, source: Source) -> Result<(), AllocError> {
     output.push_str("import numpy\n")?;
     let names = struct_names(source.alloc, source.module, Language::Python)?;
@@ -75,7 +75,7 @@ impl<'a> Writer<'a> {
         }
     }
 
-    /// What `numpy.dtype` takes for a type.
+    /// The argument of `numpy.dtype` for a type.
     fn format(self, shape: &Shape) -> Result<String, AllocError> {
         let mut base = self.base(shape.base)?;
         let mut counts = String::new(self.alloc);
@@ -106,7 +106,7 @@ fn separator(index: usize) -> &'static str {
     if index == 0 { "" } else { ", " }
 }
 
-/// A format in an array with these counts, if there are some.
+/// The format of an array with these counts, or of its element if there are none.
 fn counted(alloc: Global, base: &str, counts: &str) -> Result<String, AllocError> {
     match counts.strip_suffix(", ") {
         Some(counts) => format!(in alloc; "({base}, ({counts},))"),
@@ -114,7 +114,7 @@ fn counted(alloc: Global, base: &str, counts: &str) -> Result<String, AllocError
     }
 }
 
-/// A format that takes as many bytes as the stride.
+/// A format that is padded to the stride.
 fn padded(alloc: Global, inner: &str, stride: u32) -> Result<String, AllocError> {
     let mut format = String::new(alloc);
     let pieces = [
@@ -128,7 +128,7 @@ fn padded(alloc: Global, inner: &str, stride: u32) -> Result<String, AllocError>
     Ok(format)
 }
 
-/// What numpy calls a scalar: a `bool` is its 4 bytes.
+/// The numpy name of a scalar. A `bool` is 4 bytes.
 fn scalar_name(scalar: Scalar) -> &'static str {
     match scalar {
         Scalar::I32 | Scalar::AbstractInt => "<i4",

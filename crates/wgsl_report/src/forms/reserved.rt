@@ -1,6 +1,6 @@
-// Names that languages keep for themselves.
+// Names that languages reserve.
 
-/// What C, C++ and the headers that are included have names for.
+/// The names of C, of C++, and of the headers that the code includes.
 const C_NAMES: [&str; 105] = [
     "NDEBUG",
     "NULL",
@@ -109,7 +109,7 @@ const C_NAMES: [&str; 105] = [
     "xor_eq",
 ];
 
-/// The keywords of Rust, also those that it reserves.
+/// The keywords of Rust, with the reserved ones.
 const RUST_KEYWORDS: [&str; 52] = [
     "Self", "abstract", "as", "async", "await", "become", "box", "break", "const", "continue",
     "crate", "do", "dyn", "else", "enum", "extern", "false", "final", "fn", "for", "gen", "if",
@@ -155,7 +155,7 @@ const PYTHON_NAMES: [&str; 36] = [
     "while", "with", "yield",
 ];
 
-/// What the names of the macros of `stdint.h` begin with.
+/// The prefixes of the macros of `stdint.h`.
 const C_MACRO_STARTS: [&str; 7] = [
     "INT",
     "UINT",
@@ -166,10 +166,10 @@ const C_MACRO_STARTS: [&str; 7] = [
     "WINT_",
 ];
 
-/// What they end with.
+/// The suffixes of these macros.
 const C_MACRO_ENDS: [&str; 4] = ["_C", "_MAX", "_MIN", "_WIDTH"];
 
-/// Whether C, C++ or a header that is included has a name.
+/// Whether a name is one of C, of C++ or of a header that the code includes.
 pub fn is_c_name(name: &str) -> bool {
     C_NAMES.contains(&name) || is_c_integer(name) || is_c_macro(name)
 }
@@ -188,7 +188,7 @@ pub fn is_rust_keyword(name: &str) -> bool {
     RUST_KEYWORDS.contains(&name)
 }
 
-/// Whether a keyword of Rust can't be a name behind `r#` either.
+/// Whether a keyword of Rust can't be a raw identifier either.
 pub fn is_unraw(name: &str) -> bool {
     matches!(name, "crate" | "self" | "Self" | "super")
 }

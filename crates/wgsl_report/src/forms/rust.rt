@@ -43,7 +43,7 @@ pub fn write_size_check(output: &mut String, name: &str, size: u32) -> Result<()
     )
 }
 
-/// The type of Rust that a scalar is: a `bool` is its 4 bytes, an `f16` its 2.
+/// The Rust type of a scalar. A `bool` is 4 bytes, an `f16` is 2.
 pub fn scalar_name(scalar: Scalar) -> &'static str {
     match scalar {
         Scalar::I32 | Scalar::AbstractInt => "i32",

@@ -1,7 +1,7 @@
 // Characters that no normalization of Unicode changes, reorders or joins with others.
 
-/// Whether a character is one of those in the letters of many living scripts. Languages compare names by NFC or NFKC,
-/// WGSL character by character.
+/// Whether a character is such a letter, of one of many living scripts. Languages compare names by NFC or NFKC, WGSL
+/// character by character.
 pub fn is_settled(letter: char) -> bool {
     letter.is_ascii()
         || is_latin(letter)

@@ -10,14 +10,14 @@ use std::collections::BTreeMap;
 use wgsl_source::module::Module;
 use wgsl_source::structure::Struct;
 
-/// The type of a field: what it is an array of, and in C the counts behind the name.
+/// The type of a field: its innermost element, and in C the counts that follow the name.
 #[derive(Drop)]
 pub struct FieldType {
     pub base: String,
     pub counts: String,
 }
 
-/// Writes the chosen structs, each behind those that stand in it.
+/// Writes the chosen structs, each after those inside it.
 pub fn write_structs(
     output: &mut String,
     source: Source,
@@ -71,7 +71,7 @@ impl<'a> Writer<'a> {
         }
     }
 
-    /// Adds a field and the padding behind it to a body, and writes the structs that it needs for its elements.
+    /// Adds a field and the padding after it to a body, and writes the structs that it needs for padded elements.
     fn write_field(
         &mut self,
         output: &mut String,
@@ -136,7 +136,7 @@ impl<'a> Writer<'a> {
         })
     }
 
-    /// The struct of an element with its padding, which is written if it isn't yet.
+    /// The struct of an element with its padding. It is written the first time.
     fn padded(
         &mut self,
         output: &mut String,

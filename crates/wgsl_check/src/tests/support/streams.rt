@@ -1,8 +1,8 @@
-// A reader and a writer that give and take a few bytes at a time, and fail when told to.
+// A reader and a writer that give and take a few bytes at a time, and fail at a set call.
 use std::alloc::Global;
 use std::io::{Error, ErrorKind, Read, Result, Write};
 
-/// Gives its bytes, at most `most` a read.
+/// Gives its bytes, at most `most` per read.
 #[derive(Drop)]
 pub struct Source<'a> {
     pub rest: &'a [u8],
@@ -39,7 +39,7 @@ impl Read for Source<'_> {
     }
 }
 
-/// Keeps what it is given, and takes at most `most` bytes a write.
+/// Keeps what is written to it, at most `most` bytes per write.
 #[derive(Drop)]
 pub struct Target {
     pub taken: Vec<u8>,
@@ -50,7 +50,7 @@ pub struct Target {
     pub failure: ErrorKind,
     /// How many flushes come before the one that fails.
     pub stuck_after: Option<usize>,
-    /// How many bytes it had taken when it was last flushed.
+    /// How many bytes had been written when it was last flushed.
     pub flushed: usize,
 }
 

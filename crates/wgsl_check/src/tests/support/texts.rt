@@ -1,4 +1,4 @@
-// What the program writes of an answer, as a text of its own.
+// The text that the program writes for an answer.
 use std::alloc::{AllocError, Global};
 use wgsl_types::error::{Error, Fail};
 use wgsl_types::ty::Type;

@@ -235,7 +235,7 @@ fn push_constants_have_no_pointers(rt: HostRuntime) -> Result<(), Fail> {
     )
 }
 
-/// The address space that no word stands for.
+/// The address space `handle`, for which requests have no word.
 const HANDLE: TpltParam = TpltParam::Enumerant(Enumerant::AddressSpace(AddressSpace::Handle));
 
 const READ_WRITE: TpltParam = TpltParam::Enumerant(Enumerant::AccessMode(AccessMode::ReadWrite));

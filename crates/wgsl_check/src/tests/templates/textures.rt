@@ -4,7 +4,7 @@ use crate::tests::support::expect_reply;
 use std::process::Abort;
 use std::test::Fail;
 
-/// The name of each texture with its parameters and what is made of them.
+/// Each texture's name with its parameters, and the type that they make.
 fn expect_textures(
     rt: &(impl Abort + AllocGlobal),
     rows: &[(&str, &str, &str)],
@@ -184,7 +184,7 @@ fn textures_are_stored_with_a_format_and_an_access(rt: HostRuntime) -> Result<()
     )
 }
 
-/// What answers the name of no texture that takes a template.
+/// The message for a name that is no texture's with a template.
 const NO_TEXTURE: &str = "not a templated texture type";
 
 #[test]
