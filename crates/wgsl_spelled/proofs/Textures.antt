@@ -15,6 +15,8 @@ use Rattle.wgsl_syntax.specs.declared.texture.SampledType.{SampledType}
 use Rattle.wgsl_syntax.specs.declared.texture.TextureType.{TextureType}
 use Rattle.wgsl_syntax.specs.declared.texture.TextureType.TheVariants as textures
 use Rattle.wgsl_syntax.specs.declared.texture_name.TextureName.{TextureName}
+use Rattle.wgsl_syntax.specs.declared.texture_name.TextureParameterKind.{TextureParameterKind}
+use Rattle.wgsl_syntax.specs.declared.texture_name.TextureParameterKind.TheVariants as kinds
 use Rattle.wgsl_syntax.specs.declared.texture_name.TextureParameters.{TextureParameters}
 use Rattle.wgsl_syntax.specs.declared.texture_name.TextureParameters.TheVariants as parameters
 use Rattle.wgsl_syntax.proofs.Naming.{access_naming, sampled_naming, texture_naming}
@@ -47,11 +49,6 @@ no_format list before after at none f m is = none f (named_so is.0 before f (sto
 pub no_mode : (list before after : List ℕ) → AtFirst list before after → ((m : AccessMode) → ¬ (after ≡ access_text m)) → (f : TexelFormat) (m : AccessMode) → ¬ AreListed (parameters.Storage f m) list
 no_mode list before after at none f m is = none m (storage_parts is.0 list before after at f m is.1).1
 
--- a format and a mode stand in the list
-pub are_stored : (list before after : List ℕ) → AtFirst list before after → (f : TexelFormat) (m : AccessMode) → IsTexel names.Wgsl before f → after ≡ access_text m → AreListed (parameters.Storage f m) list
-are_stored list before after at f m (inl format) mode = (names.Wgsl, at.1 ∙ (ap (λ b. b ++ (codes ", " ++ after)) format ∙ ap (λ a. texel_text_by names.Wgsl f ++ (codes ", " ++ a)) mode))
-are_stored list before after at f m (inr format) mode = (names.Naga, at.1 ∙ (ap (λ b. b ++ (codes ", " ++ after)) format ∙ ap (λ a. texel_text_by names.Naga f ++ (codes ", " ++ a)) mode))
-
 -- parameters of one kind are listed in one way
 pub listed_one : (list : List ℕ) (p q : TextureParameters) → kind_of p ≡ kind_of q → AreListed p list → AreListed q list → p ≡ q
 listed_one list (parameters.Sampled s) (parameters.Sampled r) k a b = ap parameters.Sampled (sampled_naming.distinct s r (sym a.1 ∙ b.1))
@@ -66,6 +63,18 @@ listed_one list (parameters.Sampled s) parameters.None k a b = absurd b.1
 listed_one list (parameters.Storage f m) parameters.None k a b = absurd b.1
 listed_one list (parameters.Sampled s) (parameters.Storage f m) k a b = cc k
 listed_one list (parameters.Storage f m) (parameters.Sampled s) k a b = cc k
+
+-- no parameters of a kind are listed
+
+pub no_storage : (list : List ℕ) (kind : TextureParameterKind) → kind ≡ kinds.Storage → ((f : TexelFormat) (m : AccessMode) → ¬ AreListed (parameters.Storage f m) list) → (p : TextureParameters) → kind_of p ≡ kind → ¬ AreListed p list
+no_storage list kind is none parameters.None k a = a.1
+no_storage list kind is none (parameters.Sampled s) k a = let e : kinds.Sampled ≡ kinds.Storage = k ∙ is in cc e
+no_storage list kind is none (parameters.Storage f m) k a = none f m a
+
+pub no_listed : (text list : List ℕ) (n : TextureName) → text ≡ texture_name_text n → ((p : TextureParameters) → kind_of p ≡ parameter_kind n → ¬ AreListed p list) → (x : TextureType) → text ≡ texture_name x → ¬ AreListed (parameters_of x) list
+no_listed text list n is none x named a =
+    let name : name_of x ≡ n = texture_naming.distinct (name_of x) n (sym named ∙ is) in
+    none (parameters_of x) (sym (same_kind x) ∙ ap parameter_kind name) a
 
 pub texture_found : (text list : List ℕ) (n : TextureName) (p : TextureParameters) → text ≡ texture_name_text n → kind_of p ≡ parameter_kind n → AreListed p list →
     MatchOption (texture_with n p) ((x : TextureType) → text ≡ texture_name x → ¬ AreListed (parameters_of x) list) (λ x. (text ≡ texture_name x) × AreListed (parameters_of x) list)

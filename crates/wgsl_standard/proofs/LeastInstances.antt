@@ -13,7 +13,7 @@ use Rattle.wgsl_syntax.specs.declared.overload.Overload.{Overload}
 use Rattle.wgsl_rules.specs.standard.Choice.{Operand}
 use Rattle.wgsl_syntax.specs.declared.overload.Instance.{Instance}
 use Rattle.wgsl_standard.specs.declared.binding.Binding.{Binding}
-use Rattle.wgsl_rules.specs.standard.Overloads.{component_in, patterns_of, kind_of_t, kind_of_u, kind_of_v, kind_of_w, IsInstance}
+use Rattle.wgsl_rules.specs.standard.Overloads.{component_in, patterns_of, kinds_of, IsInstance}
 use Rattle.wgsl_rules.specs.standard.LetterKinds.{is_of_kind}
 use Rattle.wgsl_standard.specs.internal.Binding.{may_be, bind_all, free, targets, is_bound, first_of_kind, pick, or_zero, or_none, instance_at, settle, instance_of}
 use Rattle.wgsl_standard.proofs.Scalars.{Member, IsPicked, picked}
@@ -113,10 +113,10 @@ same_or_none (Some n) = refl
 
 -- what the letters of a binding stand for
 record AreLetters (c : Bool) (o : Overload) (b : Binding) (t u v w : Scalar) : Type 0 where
-  for_t : IsLetter c (kind_of_t o) b.t t
-  for_u : IsLetter c (kind_of_u o) b.u u
-  for_v : IsLetter c (kind_of_v o) b.v v
-  for_w : IsLetter c (kind_of_w o) b.w w
+  for_t : IsLetter c (kinds_of o).0 b.t t
+  for_u : IsLetter c (kinds_of o).1 b.u u
+  for_v : IsLetter c (kinds_of o).2 b.v v
+  for_w : IsLetter c (kinds_of o).3 b.w w
 
 near : (c : Bool) (o : Overload) (b : Binding) (t u v w : Scalar) → AreLetters c o b t u v w → (j : Instance) → IsInstance o j → Agrees c b j →
     (p : Component) → Binds b p → IsNear (instance_at b t u v w) j p
@@ -142,7 +142,7 @@ abbrev IsBox : Bool → Binding → List Pattern → List Operand → Type 0
 IsBox c b ps xs = (i : Instance) → (Agrees c free i × AllFit c i ps xs → Agrees c b i) × (Agrees c b i → Agrees c free i × AllFit c i ps xs)
 
 settled : (c : Bool) (o : Overload) (ps : List Pattern) (xs : List Operand) (b : Binding) → IsBox c b ps xs → BindsAll ps b → LeastOr c o ps xs (settle c o b)
-settled c o ps xs b f h = at_t (pick c (kind_of_t o) b.t) (letter c (kind_of_t o) b.t)
+settled c o ps xs b f h = at_t (pick c (kinds_of o).0 b.t) (letter c (kinds_of o).0 b.t)
   where
     at_all : (t u v w : Scalar) → AreLetters c o b t u v w → IsLeastInstance c o ps xs (instance_at b t u v w)
     at_all t u v w k = record {
@@ -160,25 +160,25 @@ settled c o ps xs b f h = at_t (pick c (kind_of_t o) b.t) (letter c (kind_of_t o
       least = λ j a q. all_near c o b t u v w k j a ((f j).0 (free_agrees c j, q)) ps h;
     }
 
-    at_w : (t u v : Scalar) → IsLetter c (kind_of_t o) b.t t → IsLetter c (kind_of_u o) b.u u → IsLetter c (kind_of_v o) b.v v → (x : Option Scalar) → LetterOr c (kind_of_w o) b.w x →
+    at_w : (t u v : Scalar) → IsLetter c (kinds_of o).0 b.t t → IsLetter c (kinds_of o).1 b.u u → IsLetter c (kinds_of o).2 b.v v → (x : Option Scalar) → LetterOr c (kinds_of o).3 b.w x →
         LeastOr c o ps xs (option_map (instance_at b t u v) x)
     at_w t u v k m n None g = λ j a q. g j.w a.w ((f j).0 (free_agrees c j, q)).w
     at_w t u v k m n (Some w) g = at_all t u v w (record { for_t = k; for_u = m; for_v = n; for_w = g })
 
-    at_v : (t u : Scalar) → IsLetter c (kind_of_t o) b.t t → IsLetter c (kind_of_u o) b.u u → (x : Option Scalar) → LetterOr c (kind_of_v o) b.v x →
-        LeastOr c o ps xs (option_and_then (λ v. option_map (instance_at b t u v) (pick c (kind_of_w o) b.w)) x)
+    at_v : (t u : Scalar) → IsLetter c (kinds_of o).0 b.t t → IsLetter c (kinds_of o).1 b.u u → (x : Option Scalar) → LetterOr c (kinds_of o).2 b.v x →
+        LeastOr c o ps xs (option_and_then (λ v. option_map (instance_at b t u v) (pick c (kinds_of o).3 b.w)) x)
     at_v t u k m None g = λ j a q. g j.v a.v ((f j).0 (free_agrees c j, q)).v
-    at_v t u k m (Some v) g = at_w t u v k m g (pick c (kind_of_w o) b.w) (letter c (kind_of_w o) b.w)
+    at_v t u k m (Some v) g = at_w t u v k m g (pick c (kinds_of o).3 b.w) (letter c (kinds_of o).3 b.w)
 
-    at_u : (t : Scalar) → IsLetter c (kind_of_t o) b.t t → (x : Option Scalar) → LetterOr c (kind_of_u o) b.u x →
-        LeastOr c o ps xs (option_and_then (λ u. option_and_then (λ v. option_map (instance_at b t u v) (pick c (kind_of_w o) b.w)) (pick c (kind_of_v o) b.v)) x)
+    at_u : (t : Scalar) → IsLetter c (kinds_of o).0 b.t t → (x : Option Scalar) → LetterOr c (kinds_of o).1 b.u x →
+        LeastOr c o ps xs (option_and_then (λ u. option_and_then (λ v. option_map (instance_at b t u v) (pick c (kinds_of o).3 b.w)) (pick c (kinds_of o).2 b.v)) x)
     at_u t k None g = λ j a q. g j.u a.u ((f j).0 (free_agrees c j, q)).u
-    at_u t k (Some u) g = at_v t u k g (pick c (kind_of_v o) b.v) (letter c (kind_of_v o) b.v)
+    at_u t k (Some u) g = at_v t u k g (pick c (kinds_of o).2 b.v) (letter c (kinds_of o).2 b.v)
 
-    at_t : (x : Option Scalar) → LetterOr c (kind_of_t o) b.t x →
-        LeastOr c o ps xs (option_and_then (λ t. option_and_then (λ u. option_and_then (λ v. option_map (instance_at b t u v) (pick c (kind_of_w o) b.w)) (pick c (kind_of_v o) b.v)) (pick c (kind_of_u o) b.u)) x)
+    at_t : (x : Option Scalar) → LetterOr c (kinds_of o).0 b.t x →
+        LeastOr c o ps xs (option_and_then (λ t. option_and_then (λ u. option_and_then (λ v. option_map (instance_at b t u v) (pick c (kinds_of o).3 b.w)) (pick c (kinds_of o).2 b.v)) (pick c (kinds_of o).1 b.u)) x)
     at_t None g = λ j a q. g j.t a.t ((f j).0 (free_agrees c j, q)).t
-    at_t (Some t) g = at_u t g (pick c (kind_of_u o) b.u) (letter c (kind_of_u o) b.u)
+    at_t (Some t) g = at_u t g (pick c (kinds_of o).1 b.u) (letter c (kinds_of o).1 b.u)
 
 pub least_among : (c : Bool) (o : Overload) (ps : List Pattern) (xs : List Operand) → LeastOr c o ps xs (option_and_then (settle c o) (bind_all c free ps xs))
 least_among c o ps xs = turn (bind_all c free ps xs) refl (all_boxes c free ps xs)

@@ -1,6 +1,6 @@
 // The parts of an overload.
 ghost use Rattle.std.specs.Prelude.{◌≡◌};
-ghost use Rattle.wgsl_rules.specs.standard.Overloads.{parameters_of as parameters_there, result_of as result_there, kind_of_t, kind_of_u, kind_of_v, kind_of_w};
+ghost use Rattle.wgsl_rules.specs.standard.Overloads.{parameters_of as parameters_there, result_of as result_there, kinds_of as kinds_there};
 
 use wgsl_syntax::overload::{Kind, Overload, Parameters, Returns};
 
@@ -31,7 +31,7 @@ pub fn result_of(overload: &Overload) -> &Returns
 /// The kinds of the letters T, U, V and W.
 #[inline(always)]
 pub fn kinds_of(overload: &Overload) -> (Kind, Kind, Kind, Kind)
-    ensures { result ≡ (kind_of_t overload.now, kind_of_u overload.now, kind_of_v overload.now, kind_of_w overload.now) }
+    ensures { result ≡ kinds_there overload.now }
 {
     let any = Kind::AnyScalar;
     match overload {

@@ -1,13 +1,10 @@
 // Types that remember where they were read.
-ghost use Rattle.std.specs.Prelude.{◌≡◌, ℕ, Option, All, IfOk, IfSome, map, option_and_then, option_map};
-ghost use Rattle.wgsl_rules.specs.types.Types.{WgslType};
-ghost use Rattle.wgsl_rules.specs.conversion.Common.{IsLeftCommon};
+ghost use Rattle.std.specs.Prelude.{◌≡◌, option_map};
 ghost use Rattle.wgsl_core.specs.View.{view};
-ghost use Rattle.wgsl_rules.specs.conversion.Converted.{all_to};
-ghost use Rattle.wgsl_typed.specs.Typed.{on_line, typed, typed_to};
+ghost use Rattle.wgsl_typed.specs.Typed.{on_line, typed};
 
 use std::alloc::{AllocError, Global};
-use wgsl_types::conv::{Convert, convert_all};
+use wgsl_types::conv::Convert;
 use wgsl_types::ty::{Ty, Type};
 
 /// A type with the number of its input line.
@@ -76,32 +73,4 @@ fn on_line(line: u64, ty: Option<Type>) -> Option<Typed>
     ensures { option_map typed result ≡ on_line line (option_map view ty) }
 {
     Some(Typed { ty: ty?, line })
-}
-
-/// Each type, in order, with the number of the line.
-pub fn typed_on(alloc: Global, line: u64, types: Vec<Type>) -> Result<Vec<Typed>, AllocError>
-    ensures types { IfOk result (λ values.
-        map (λ x. view x.ty) values.items ≡ map view types.items) }
-    ensures lines { IfOk result (λ values. All (λ x. x.line ≡ line) values.items) }
-{
-    let mut values = Vec::with_capacity(alloc, types.len())?;
-    for ty in types {
-        values.push(Typed { ty, line })?;
-    }
-    Ok(values)
-}
-
-/// Converts all values to the common type of their types, in order. None if there is no common type (as for an empty
-/// list), or if a value doesn't convert to it.
-pub fn convert_to_common(alloc: Global, values: &[Typed]) -> Result<Option<Vec<Typed>>, AllocError>
-    ensures value { IfOk result (λ r. (c : Option WgslType)
-        × IsLeftCommon (map (λ x. view x.ty) values.now) c
-        × (option_map (λ v. map typed v.items) r
-        ≡ option_and_then (λ t. all_to typed_to t values.now) c)) }
-    ensures lines { IfOk result (λ r. IfSome r (λ v.
-        map (λ x. x.line) v.items ≡ map (λ x. x.line) values.now)) }
-    ensures one_type { IfOk result (λ r. IfSome r (λ v.
-        (t : WgslType) × All (λ x. view x.ty ≡ t) v.items)) }
-{
-    convert_all(alloc, values)
 }

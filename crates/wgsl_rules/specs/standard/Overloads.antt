@@ -111,35 +111,13 @@ result_of (WithTAndU p r t u) = r
 result_of (WithThree p r t u v) = r
 result_of (WithFour p r t u v w) = r
 
--- the kinds of the letters for scalars; a letter that an overload does not have may be any scalar
-
-abbrev pub kind_of_t : Overload → Kind
-kind_of_t (Plain p r) = AnyScalar
-kind_of_t (WithT p r t) = t
-kind_of_t (WithTAndU p r t u) = t
-kind_of_t (WithThree p r t u v) = t
-kind_of_t (WithFour p r t u v w) = t
-
-abbrev pub kind_of_u : Overload → Kind
-kind_of_u (Plain p r) = AnyScalar
-kind_of_u (WithT p r t) = AnyScalar
-kind_of_u (WithTAndU p r t u) = u
-kind_of_u (WithThree p r t u v) = u
-kind_of_u (WithFour p r t u v w) = u
-
-abbrev pub kind_of_v : Overload → Kind
-kind_of_v (Plain p r) = AnyScalar
-kind_of_v (WithT p r t) = AnyScalar
-kind_of_v (WithTAndU p r t u) = AnyScalar
-kind_of_v (WithThree p r t u v) = v
-kind_of_v (WithFour p r t u v w) = v
-
-abbrev pub kind_of_w : Overload → Kind
-kind_of_w (Plain p r) = AnyScalar
-kind_of_w (WithT p r t) = AnyScalar
-kind_of_w (WithTAndU p r t u) = AnyScalar
-kind_of_w (WithThree p r t u v) = AnyScalar
-kind_of_w (WithFour p r t u v w) = w
+-- the kinds of the letters T, U, V and W for scalars; a letter that an overload does not have may be any scalar
+abbrev pub kinds_of : Overload → Kind × Kind × Kind × Kind
+kinds_of (Plain p r) = (AnyScalar, AnyScalar, AnyScalar, AnyScalar)
+kinds_of (WithT p r t) = (t, AnyScalar, AnyScalar, AnyScalar)
+kinds_of (WithTAndU p r t u) = (t, u, AnyScalar, AnyScalar)
+kinds_of (WithThree p r t u v) = (t, u, v, AnyScalar)
+kinds_of (WithFour p r t u v w) = (t, u, v, w)
 
 abbrev pub in_order : Parameters → List Pattern
 in_order ps.Nothing = []
@@ -158,10 +136,10 @@ patterns_of o = in_order (parameters_of o)
 
 -- The letters for scalars stand for scalars of their kinds.
 pub record IsInstance (o : Overload) (i : Instance) : Type 0 where
-  pub t : IsTrue (is_of_kind (kind_of_t o) i.t)
-  pub u : IsTrue (is_of_kind (kind_of_u o) i.u)
-  pub v : IsTrue (is_of_kind (kind_of_v o) i.v)
-  pub w : IsTrue (is_of_kind (kind_of_w o) i.w)
+  pub t : IsTrue (is_of_kind (kinds_of o).0 i.t)
+  pub u : IsTrue (is_of_kind (kinds_of o).1 i.u)
+  pub v : IsTrue (is_of_kind (kinds_of o).2 i.v)
+  pub w : IsTrue (is_of_kind (kinds_of o).3 i.w)
 
 -- A candidate of an overload: parameters us, and the result r, or None.
 pub record IsCandidateOf (o : Overload) (us : List WgslType) (r : Option WgslType) : Type 0 where

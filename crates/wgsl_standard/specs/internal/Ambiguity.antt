@@ -14,7 +14,7 @@ use Rattle.wgsl_syntax.specs.declared.overload.Pattern.{Pattern}
 use Rattle.wgsl_syntax.specs.declared.overload.Pattern.TheVariants as patterns
 use Rattle.wgsl_syntax.specs.declared.overload.Overload.{Overload}
 use Rattle.wgsl_rules.specs.internal.Nodes.{scalar_depth}
-use Rattle.wgsl_rules.specs.standard.Overloads.{kind_of_t, kind_of_u, kind_of_v, kind_of_w, patterns_of}
+use Rattle.wgsl_rules.specs.standard.Overloads.{kinds_of, patterns_of}
 use Rattle.wgsl_rules.specs.standard.LetterKinds.{is_of_kind}
 use Rattle.wgsl_standard.specs.internal.Binding.{converts}
 use Rattle.wgsl_standard.specs.internal.Groups.{group_of}
@@ -22,10 +22,10 @@ use Rattle.wgsl_standard.specs.internal.FixedResults.{has_one_result}
 
 -- whether a component may stand for a scalar
 abbrev pub may_stand : Overload → Component → Scalar → Bool
-may_stand o T g = is_of_kind (kind_of_t o) g
-may_stand o U g = is_of_kind (kind_of_u o) g
-may_stand o V g = is_of_kind (kind_of_v o) g
-may_stand o W g = is_of_kind (kind_of_w o) g
+may_stand o T g = is_of_kind (kinds_of o).0 g
+may_stand o U g = is_of_kind (kinds_of o).1 g
+may_stand o V g = is_of_kind (kinds_of o).2 g
+may_stand o W g = is_of_kind (kinds_of o).3 g
 may_stand o (The s) g = converts s g && converts g s
 
 -- whether the test holds of all scalars s, g and h of which s converts to g, the one component, and to h, the other

@@ -19,7 +19,7 @@ use Rattle.wgsl_rules.specs.standard.Resources.{letter_of}
 use Rattle.wgsl_rules.specs.standard.Choice.{Operand}
 use Rattle.wgsl_syntax.specs.declared.overload.Instance.{Instance}
 use Rattle.wgsl_standard.specs.declared.binding.Binding.{Binding}
-use Rattle.wgsl_rules.specs.standard.Overloads.{kind_of_t, kind_of_u, kind_of_v, kind_of_w, patterns_of}
+use Rattle.wgsl_rules.specs.standard.Overloads.{kinds_of, patterns_of}
 use Rattle.wgsl_rules.specs.standard.LetterKinds.{is_of_kind}
 use Rattle.wgsl_core.specs.Equality.{type_eq}
 use Rattle.wgsl_standard.specs.internal.Parts.{parts_of}
@@ -190,10 +190,10 @@ settle c o b =
     option_and_then (λ t.
     option_and_then (λ u.
     option_and_then (λ v.
-    option_map (instance_at b t u v) (pick c (kind_of_w o) b.w))
-    (pick c (kind_of_v o) b.v))
-    (pick c (kind_of_u o) b.u))
-    (pick c (kind_of_t o) b.t)
+    option_map (instance_at b t u v) (pick c (kinds_of o).3 b.w))
+    (pick c (kinds_of o).2 b.v))
+    (pick c (kinds_of o).1 b.u))
+    (pick c (kinds_of o).0 b.t)
 
 -- the least instance of the overload that takes the operands
 abbrev pub instance_of : Bool → Overload → List Operand → Option Instance

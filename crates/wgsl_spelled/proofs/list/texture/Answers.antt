@@ -4,8 +4,15 @@ use Rattle.wgsl_syntax.specs.Texture.{texture_name}
 use Rattle.wgsl_syntax.specs.TextureName.{parameters_of, texture_name_text}
 use Rattle.wgsl_syntax.specs.declared.texture.TextureType.{TextureType}
 use Rattle.wgsl_spelled.specs.internal.{AreListed}
-use Rattle.wgsl_spelled.proofs.Textures.{texture_found}
+use Rattle.wgsl_spelled.proofs.Cuts.{none_is}
+use Rattle.wgsl_spelled.proofs.Textures.{no_listed, texture_found}
 use Rattle.wgsl_spelled.proofs.list.texture.Goals as goal
+
+pub returns-in_err-parameters : goal.returns-in_err-parameters
+returns-in_err-parameters c =
+    let named : c.args.name.now ≡ texture_name_text c.in_ok-name.name = search rules in
+    none_is _ _ _ c.from_residual-in_err-parameters.ensures
+    (no_listed c.args.name.now c.args.list.now c.in_ok-name.name named (λ p k. c.in_err-parameters.ensures p (k ∙ sym c.parameter_kind.ensures)))
 
 pub returns : goal.returns
 returns c =
