@@ -127,8 +127,19 @@ impl From<Type> for Operand {
 #[derive(Clone, Debug, PartialEq, Eq, Hash)]
 #[non_exhaustive]
 pub struct Resolution {
-    /// The index of the overload among those of what is called, with a template or without one. An overload that takes
-    /// scalars and vectors is one, of which [`overloads`] lists both forms.
+    /// The index of the overload in [`overloads`] of the name or the operator. If the overload takes scalars or vectors and so
+    /// has two texts, it is that of the text for scalars or of that for vectors, as the parameters are.
+    ///
+    /// ```
+    /// use wgsl_types_proved::standard::{overloads, resolve_binary_op, Operand};
+    /// use wgsl_types_proved::syntax::BinaryOperator::Subtraction;
+    /// use wgsl_types_proved::Type;
+    ///
+    /// let vector = Operand::new(Type::vector(3, Type::F32));
+    /// let difference = resolve_binary_op(Subtraction, &vector, &vector).unwrap();
+    /// let text = &overloads("-")[difference.overload].text;
+    /// assert_eq!(text, "-(vecN<T>, vecN<T>) -> vecN<T>, T: number");
+    /// ```
     pub overload: usize,
     /// The types to which the operands convert, in order. With a template, its type stands first.
     pub parameters: Vec<Type>,

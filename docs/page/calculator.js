@@ -56,7 +56,7 @@ function verdict(title, { text, error }, note) {
   return element;
 }
 
-/** What an expression resolves to: which overload, and the types of its parameters; null if to none. */
+/** What an expression resolves to: the index of the overload's line, and the types of its parameters; null if to none. */
 function resolutionOf(request) {
   const parts = /^(\d+) (\(.*?\))(?: -> (.*))?$/.exec(askOf(standardAnswer, `resolve ${request}`).text ?? "");
   return parts && { index: Number(parts[1]), parameters: parts[2] };
@@ -64,17 +64,17 @@ function resolutionOf(request) {
 
 /** Each overload of what is called: the one that is chosen, and why others don't take the operands. */
 function reasons(request, resolution) {
-  const [kind, name, template] = request.split(/\s+/);
-  const listed = overloadsOf(name).filter((overload) => isOfKind(overload, kind, template === "<"));
+  const [kind, name, template] = request.split(/\s+/), all = linesOf(`overloads ${name}`), chosen = resolution && all[resolution.index];
+  const listed = overloadsOf(all).filter((overload) => isOfKind(overload, kind, template === "<"));
   const lines = listed.flat(), refused = new Map();
   for (const line of linesOf(`why ${request}`)) {
     const signature = lines.filter((signature) => line.startsWith(`${signature}: `)).sort((a, b) => b.length - a.length)[0];
     if (signature) refused.set(signature, line.slice(signature.length + 2));
   }
-  const rows = listed.map((overload, index) => {
+  const rows = listed.map((overload) => {
     const reason = overload.map((signature) => refused.get(signature)).find(Boolean);
-    const isChosen = resolution?.index === index, isVector = / vec|\(vec/.test(resolution?.parameters ?? "");
-    const signature = overload.find((signature) => refused.has(signature)) ?? (isVector ? overload.at(-1) : overload[0]);
+    const isChosen = overload.includes(chosen), isVector = / vec|\(vec/.test(resolution?.parameters ?? "");
+    const signature = isChosen ? chosen : overload.find((signature) => refused.has(signature)) ?? (isVector ? overload.at(-1) : overload[0]);
     const said = isChosen ? "takes the operands" : reason ?? "takes them too, at a higher rank";
     return h("li", { className: isChosen ? "taken" : reason ? "" : "other" }, h("code", {}, signature), h("span", {}, said));
   });
@@ -84,20 +84,15 @@ function reasons(request, resolution) {
   return [h("div", { className: "why" }, h("h3", {}, resolution ? "The overloads" : "Why no overload takes the operands"), h("ol", {}, ...rows))];
 }
 
-/** The overloads of a name. One that takes scalars or vectors has two lines. */
-function overloadsOf(name) {
+/** The overloads of a name, by its lines. One that takes scalars or vectors has two: the second has vectors for scalars. */
+function overloadsOf(lines) {
   const found = [];
-  for (const line of linesOf(`overloads ${name}`)) {
+  for (const line of lines) {
     const last = found.at(-1);
-    if (last?.length === 1 && isVectorLine(line, last[0])) last.push(line);
+    if (last?.length === 1 && line.replace(/vecN<(\w+)>/g, "$1") === last[0]) last.push(line);
     else found.push([line]);
   }
   return found;
-}
-
-function isVectorLine(line, scalar) {
-  const parameters = parametersOf(line);
-  return parameters.length > 0 && parameters.every((type) => type.startsWith("vecN<")) && line.replace(/vecN<(\w+)>/g, "$1") === scalar;
 }
 
 /** The parameters of a signature. */

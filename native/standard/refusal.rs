@@ -1,9 +1,11 @@
 //! Calls that no overload takes.
 
 use super::{owned, with_operands, Called, Callee, Operand};
+use crate::proved::wgsl_core::ty::show::ShownType;
 use crate::proved::wgsl_standard::explanation;
 use crate::shim::always;
 use crate::shim::std::alloc::Global;
+use crate::syntax::FormatNames;
 use crate::ty::Type;
 use alloc::string::String;
 use alloc::string::ToString;
@@ -84,7 +86,8 @@ impl fmt::Display for NoOverload {
         f.write_str("` takes (")?;
         for (index, operand) in self.operands.iter().enumerate() {
             let separator = if index == 0 { "" } else { ", " };
-            write!(f, "{separator}{}", operand.ty)?;
+            let shown = ShownType { ty: &operand.ty, names: FormatNames::Wgsl };
+            write!(f, "{separator}{shown}")?;
         }
         f.write_str(")")
     }

@@ -38,18 +38,33 @@ fn resolution_text(found: Result<Resolution, NoOverload>) -> String {
     format!("{overload} ({}){result}", parameters.join(", "))
 }
 
-/// Compares a call with the requests for it, in words: its type, its resolution, and why it is refused.
+/// What types and the parameters of overloads begin with; none of these is a scalar.
+const FORMS: [&str; 5] = ["vec", "mat", "texture", "sampler", "ptr"];
+
+/// The text at the index of a resolution has a template if the call has one, and parameters of the forms of the types.
+fn expect_form(asked: &str, found: &Resolution) {
+    let words: Vec<&str> = asked.split(' ').collect();
+    let has_template = words[0].starts_with('c') && words[2] == "<";
+    let overload = &overloads(words[1])[found.overload];
+    assert_eq!(overload.has_template(), has_template, "{asked}");
+    let form = |text: &str| FORMS.iter().find(|form| text.starts_with(**form));
+    let texts = overload.parameters().into_iter().map(|at| form(&overload.text[at]));
+    let types = found.parameters[usize::from(has_template)..].iter();
+    assert!(texts.eq(types.map(|ty| form(&ty.to_string()))), "{asked}: {overload}");
+}
+
+/// What is asked, in words behind the command, with its type, its resolution and, if it is refused, why.
 fn compare(
     asked: &str,
     ty: Result<Option<Type>, NoOverload>,
     resolution: Result<Resolution, NoOverload>,
 ) {
-    let why = match &resolution {
-        Err(refused) => refused.explanations().join("\n"),
-        Ok(_) => String::new(),
-    };
-    if resolution.is_err() {
-        expect(&format!("why {asked}"), if why.is_empty() { "none" } else { &why });
+    match &resolution {
+        Ok(found) => expect_form(asked, found),
+        Err(refused) => {
+            let why = refused.explanations().join("\n");
+            expect(&format!("why {asked}"), if why.is_empty() { "none" } else { &why });
+        }
     }
     expect(asked, &type_text(ty));
     expect(&format!("resolve {asked}"), &resolution_text(resolution));

@@ -214,7 +214,7 @@ NOT_ASKED = [
     ("`rayQueryTerminate`, `rayQueryConfirmIntersection`, `rayQueryGenerateIntersection`", None, "these too"),
     ("constructors of arrays with a template", None, "constructors of arrays have no overloads"),
     ("`atomicCompareExchangeWeak`", None, "wgsl_standard prints the name of that struct without a type too"),
-    ("the texel format `rg11b10ufloat`", None, "both programs have its name from the same crate"),
+    ("the texel format `rg11b10ufloat`", None, "it is about a name, and each program prints its own"),
     ("`TextureType::sampled_type` of `texture_multisampled_2d`", None, "no request asks for it"),
     ("the size and the alignment of `bool`", None, "it is about layout"),
     ("`vec3` of `bool` or of a scalar of 64 bits", None, "it is about layout"),

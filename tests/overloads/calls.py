@@ -23,7 +23,7 @@ FEWER = VALUES[:21] + ["mat2x2<f32>", "mat2x2<AbstractFloat>", "mat2x3<f16>", "a
 SAMPLED = ["1d", "2d", "2d_array", "3d", "cube", "cube_array", "multisampled_2d", "1d_array", "multisampled_2d_array"]
 DEPTH = ["depth_2d", "depth_2d_array", "depth_cube", "depth_cube_array", "depth_multisampled_2d", "external"]
 STORAGE = ["1d", "2d", "2d_array", "3d", "1d_array"]
-FEW_FORMATS = ["rgba8unorm", "r32sint", "rg11b10float", "rgba16uint"]
+FEW_FORMATS = ["rgba8unorm", "r32sint", "rg11b10ufloat", "rgba16uint"]
 TEXTURES = [f"texture_{kind}<{s}>" for kind in SAMPLED for s in ("i32", "u32", "f32")]
 TEXTURES += [f"texture_{kind}" for kind in DEPTH]
 

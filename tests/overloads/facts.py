@@ -10,8 +10,8 @@ TEXEL_FORMATS = os.path.join(HERE, "..", "..", "crates", "wgsl_syntax", "src", "
 BUILT_INS = os.path.join(HERE, "..", "lines", "built_ins.txt")
 NAMES = os.path.join(HERE, "..", "..", "crates", "wgsl_tables", "src", "names.rt")
 
-# The ported crate spells this texel format so.
-RENAMED_FORMATS = {"rg11b10ufloat": "rg11b10float"}
+# naga's name of a texel format, and WGSL's.
+NAGA_NAMES = {"rg11b10float": "rg11b10ufloat"}
 # naga's texel format, with the type of its channels.
 OWN_FORMATS = {"r64uint": "u32"}
 # naga's functions of ray queries, which have no overloads.
@@ -56,11 +56,11 @@ def read(path):
 
 
 def wgsl_formats(rows):
-    """Each texel format of WGSL, as the repository spells it, with the type of its channels."""
+    """Each texel format of WGSL, with the type of its channels."""
     formats = {}
     for row in rows:
         if match := re.fullmatch(r"format of (\w+): (.*)", row):
-            formats.update({RENAMED_FORMATS.get(f, f): match[1] for f in match[2].split()})
+            formats.update({f: match[1] for f in match[2].split()})
     return formats
 
 
@@ -76,7 +76,7 @@ def read_facts():
 
 
 def repository_formats():
-    return set(re.findall(r'"(\w+)" => Some\(TexelFormat', read(TEXEL_FORMATS)))
+    return {NAGA_NAMES.get(f, f) for f in re.findall(r'"(\w+)" => Some\(TexelFormat', read(TEXEL_FORMATS))}
 
 
 def repository_functions():

@@ -210,6 +210,8 @@ test("the calculator answers expressions, words, and what it can't read", async 
     ["1.5 + i32", ["no overload of + takes (AbstractFloat, i32)", "cannot use binary operator + with operands AbstractFloat and i32"], null],
     ["1.5f + 0x1fu", ["no overload of + takes (f32, u32)", "cannot use binary operator + with operands f32 and u32"], null],
     ["-vec3<f32>", ["vec3<f32>", "cannot use unary operator - on type vec3<f32>"], "-(vecN<T>) -> vecN<T>, T: signed number"],
+    ["vec3f - 1", ["vec3<f32>", "vec3<f32>"], "-(vecN<T>, T) -> vecN<T>, T: number"],
+    ["call extractBits - vec 2 u32 u32 u32", ["vec2<u32>", "vec2<u32>"], "extractBits(vecN<T>, u32, u32) -> vecN<T>, T: concrete integer"],
     ["1 << const u32", ["AbstractInt", "AbstractInt"], "<<(T, u32) -> T, T: integer"],
     ["vec3<f32>(vec3i)", ["vec3<f32>", "vec3<f32>"], "vec3<T>(vec3<U>) -> vec3<T>, T: concrete scalar, U: scalar"],
     ["true + true", ["no overload of + takes (bool, bool)", "bool"], null],

@@ -133,7 +133,8 @@ def construct(name: str, arguments: Iterable[str], template: Optional[str] = Non
 
 @dataclass(frozen=True)
 class Resolution:
-    """The overload that takes a call: its index, the types of its parameters, and its result, None without a value.
+    """The overload that takes a call: its index in `overloads` of the name, the types of its parameters, and its result, None
+    without a value.
 
     >>> resolve_call("sqrt", ["AbstractInt"]).parameters
     ('AbstractFloat',)
@@ -148,7 +149,9 @@ def resolve_call(name: str, arguments: Iterable[str], template: Optional[str] = 
     """Which overload takes the call of a built-in function. A template's type stands first among the parameters.
 
     >>> resolve_call("mix", ["vec2<f32>", "vec2<f32>", "AbstractFloat"])
-    Resolution(overload=1, parameters=('vec2<f32>', 'vec2<f32>', 'f32'), result='vec2<f32>')
+    Resolution(overload=2, parameters=('vec2<f32>', 'vec2<f32>', 'f32'), result='vec2<f32>')
+    >>> overloads("mix")[2]
+    'mix(vecN<T>, vecN<T>, T) -> vecN<T>, T: float'
     """
     index, _, rest = answer(f"resolve {_named('call', name, arguments, template)}").partition(" (")
     parameters, _, result = rest.partition(")")

@@ -8,39 +8,11 @@ use Rattle.std.proofs.lemmas.Slice.Eq.{bytes_eq-Decides}
 use Rattle.wgsl_syntax.specs.Names.{Reads}
 use Rattle.wgsl_syntax.specs.Operator.{binary_operators, binary_text, unary_operators, unary_text}
 use Rattle.wgsl_syntax.specs.declared.operator.BinaryOperator.{BinaryOperator}
-use Rattle.wgsl_syntax.specs.declared.operator.BinaryOperator.TheVariants as b
 use Rattle.wgsl_syntax.specs.declared.operator.UnaryOperator.{UnaryOperator}
-use Rattle.wgsl_syntax.specs.declared.operator.UnaryOperator.TheVariants as u
 use Rattle.wgsl_standard.specs.Callees.{a_binary, a_unary}
+use Rattle.wgsl_standard.specs.Lines.{binary_operators_named, unary_operators_named}
 use Rattle.wgsl_standard.specs.Texts.{texts_listed}
-use Rattle.wgsl_asked.specs.Overloads.{binary_operators_named, unary_operators_named}
-
-one_unary : (o : UnaryOperator) → unary_operators_named (unary_text o) ≡ a_unary o ∷ []
-one_unary u.LogicalNegation = refl
-one_unary u.Negation = refl
-one_unary u.BitwiseComplement = refl
-one_unary u.AddressOf = refl
-one_unary u.Indirection = refl
-
-one_binary : (o : BinaryOperator) → binary_operators_named (binary_text o) ≡ a_binary o ∷ []
-one_binary b.ShortCircuitOr = refl
-one_binary b.ShortCircuitAnd = refl
-one_binary b.Addition = refl
-one_binary b.Subtraction = refl
-one_binary b.Multiplication = refl
-one_binary b.Division = refl
-one_binary b.Remainder = refl
-one_binary b.Equality = refl
-one_binary b.Inequality = refl
-one_binary b.LessThan = refl
-one_binary b.LessThanEqual = refl
-one_binary b.GreaterThan = refl
-one_binary b.GreaterThanEqual = refl
-one_binary b.BitwiseOr = refl
-one_binary b.BitwiseAnd = refl
-one_binary b.BitwiseXor = refl
-one_binary b.ShiftLeft = refl
-one_binary b.ShiftRight = refl
+use Rattle.wgsl_standard.proofs.NumberedLines.{one_binary, one_unary}
 
 -- where no value has the text, none of a list is left
 none_left : {A : Type 0} (text : A → List ℕ) (name : List ℕ) → ((x : A) → ¬ name ≡ text x) → (xs : List A) → filter (λ x. bytes_eq name (text x)) xs ≡ []

@@ -1,7 +1,7 @@
 -- WGSL's own overloads have at most one answer.
 use Rattle.std.proofs.Common.{rules, ◌≡◌, ◌⊎◌, inl, inr, ◌<◌, ◌∙◌, ℕ, zero, suc, Bool, true, false, List, [], ◌∷◌, Option, Some, None, map, refl, sym, ap, arith}
 use Rattle.std.specs.Bool.{MatchBool}
-use Rattle.std.specs.Prelude.{IsTrue, MatchOption}
+use Rattle.std.specs.Prelude.{IsTrue, MatchOption, option_map}
 use Rattle.wgsl_syntax.specs.declared.overload.Overload.{Overload}
 use Rattle.wgsl_rules.specs.types.Types.{WgslType}
 use Rattle.wgsl_rules.specs.standard.Answers.{is_template, template_operand, IsCallAnswer, IsNamedAnswer, IsResolution, IsStandardAnswer, IsTemplateAnswer}
@@ -10,7 +10,7 @@ use Rattle.wgsl_rules.specs.standard.Refusal.{IsRefusedAt}
 use Rattle.wgsl_standard.specs.Callees.{WgslCallee, overloads_listed}
 use Rattle.wgsl_standard.specs.Explained.{AreNotes, no_overloads, or_none, refused, taken}
 use Rattle.wgsl_standard.specs.Mismatches.{IsMismatch}
-use Rattle.wgsl_standard.specs.Resolved.{IsCallResolution, IsNamedResolution, IsTemplateResolution}
+use Rattle.wgsl_standard.specs.Resolved.{IsCallResolution, IsNamedResolution, IsTemplateResolution, with_line}
 use Rattle.wgsl_standard.specs.Texts.{note_listed}
 use Rattle.wgsl_standard.specs.declared.refusal.Mismatch.{Mismatch}
 use Rattle.wgsl_standard.specs.declared.refusal.Mismatch.TheVariants.{Count, Argument}
@@ -58,23 +58,22 @@ chosen_both os xs (Some c) None f g = absurd (g c.0 c.1 c.2 f.ranks f.candidate 
 chosen_both os xs None (Some d) f g = absurd (f d.0 d.1 d.2 g.ranks g.candidate g.takes)
 chosen_both os xs None None f g = refl
 
-named_resolution_once : (os : Option (List Overload)) (xs : List Operand) (r s : Option WgslResolution) → IsNamedResolution os xs r → IsNamedResolution os xs s → r ≡ s
-named_resolution_once (Some os) xs r s f g = chosen_both os xs r s f g
-named_resolution_once None xs r s f g = f ∙ sym g
+named_resolution_once : (callee : WgslCallee) (has_template : Bool) (xs : List Operand) (r s : Option WgslResolution) → IsNamedResolution callee has_template xs r
+    → IsNamedResolution callee has_template xs s → r ≡ s
+named_resolution_once callee has_template xs r s (c, f, p) (d, g, q) =
+    p ∙ (ap (option_map (with_line callee has_template)) (chosen_both (or_none (overloads_listed callee has_template)) xs c d f g) ∙ sym q)
 
-template_resolution_once : (os : Option (List Overload)) (t : WgslType) (xs : List Operand) (r s : Option WgslResolution) → IsTemplateResolution os t xs r → IsTemplateResolution os t xs s → r ≡ s
-template_resolution_once os t xs r s f g =
-    by_test (is_template t) r s (λ is. named_resolution_once os (template_operand t ∷ xs) r s (f.named is) (g.named is)) (λ none. f.refused none ∙ sym (g.refused none))
+template_resolution_once : (callee : WgslCallee) (t : WgslType) (xs : List Operand) (r s : Option WgslResolution) → IsTemplateResolution callee t xs r → IsTemplateResolution callee t xs s → r ≡ s
+template_resolution_once callee t xs r s f g =
+    by_test (is_template t) r s (λ is. named_resolution_once callee true (template_operand t ∷ xs) r s (f.named is) (g.named is)) (λ none. f.refused none ∙ sym (g.refused none))
 
-call_resolution_once : (plain templated : Option (List Overload)) (t : Option WgslType) (xs : List Operand) (r s : Option WgslResolution) → IsCallResolution plain templated t xs r → IsCallResolution plain templated t xs s → r ≡ s
-call_resolution_once plain templated None xs r s f g = named_resolution_once plain xs r s f g
-call_resolution_once plain templated (Some t) xs r s f g = template_resolution_once templated t xs r s f g
+call_resolution_once : (callee : WgslCallee) (t : Option WgslType) (xs : List Operand) (r s : Option WgslResolution) → IsCallResolution callee t xs r → IsCallResolution callee t xs s → r ≡ s
+call_resolution_once callee None xs r s f g = named_resolution_once callee false xs r s f g
+call_resolution_once callee (Some t) xs r s f g = template_resolution_once callee t xs r s f g
 
 pub resolution_once : (c : WgslCall) (r s : Option WgslResolution) → IsResolutionOf c r → IsResolutionOf c s → r ≡ s
 resolution_once c =
-    let plain = overloads_listed c.callee false in
-    let templated = overloads_listed c.callee true in
-    with_template None (λ t r. IsCallResolution plain templated t (loaded c.operands) r) (λ t. call_resolution_once plain templated t (loaded c.operands)) (template_type c.template)
+    with_template None (λ t r. IsCallResolution c.callee t (loaded c.operands) r) (λ t. call_resolution_once c.callee t (loaded c.operands)) (template_type c.template)
 
 -- notes
 

@@ -14,8 +14,8 @@ use Rattle.wgsl_rules.specs.layout.Layout.{AreOffsets, HasAlignment, HasNoSize, 
 use Rattle.wgsl_rules.specs.operators.Answers.{IsOperatorAnswer, IsUnaryAnswer}
 use Rattle.wgsl_rules.specs.constructors.Constructors.{IsConstructorAnswer}
 use Rattle.wgsl_rules.specs.calls.Answers.{IsCallAnswer}
+use Rattle.wgsl_standard.specs.Lines.{lines_named}
 use Rattle.wgsl_asked.specs.Calls.{WgslCall, WgslResolution}
-use Rattle.wgsl_asked.specs.Overloads.{lines_named}
 use Rattle.wgsl_asked.specs.Standard.{IsExplanationOf, IsResolutionOf, IsTypeOf}
 use Rattle.wgsl_asked.specs.Requests.{WgslRequest, rank, common, unary, binary, size, offsets, layout, ctor, call, type_of, resolution_of, explanation_of, overloads_of}
 

@@ -11,7 +11,7 @@ pub record WgslCall : Type 0 where
   pub template : Option (List Parameter)
   pub operands : List Operand
 
--- what a call resolves to: the index of the overload, the types of its parameters, and its result
+-- what a call resolves to: the index of the overload's line, the types of its parameters, and its result
 abbrev pub WgslResolution : Type 0
 WgslResolution = ℕ × List WgslType × Option WgslType
 

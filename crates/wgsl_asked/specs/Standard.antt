@@ -24,8 +24,7 @@ IsTypeOf c r = WithTemplate (λ t r. IsCallAnswer (overloads_listed c.callee fal
 
 -- what a call resolves to; None if no overload takes the operands
 abbrev pub IsResolutionOf : WgslCall → Option WgslResolution → Type 0
-IsResolutionOf c r = WithTemplate (λ t r. IsCallResolution (overloads_listed c.callee false) (overloads_listed c.callee true)
-    t (loaded c.operands) r) c.template r
+IsResolutionOf c r = WithTemplate (λ t r. IsCallResolution c.callee t (loaded c.operands) r) c.template r
 
 -- the notes on a call with this template; there is none if it is no template
 abbrev pub AreNotesWith : WgslCallee → Option WgslType → List Operand → List (Overload × Mismatch) → Type 0

@@ -1,8 +1,8 @@
 // The overloads of a name.
 ghost use Rattle.std.specs.Prelude.{◌≡◌, ◌++◌, IfOk, map};
 ghost use Rattle.std.specs.List.{flat_map};
+ghost use Rattle.wgsl_standard.specs.Lines.{binary_operators_named, lines_named, unary_operators_named};
 ghost use Rattle.wgsl_standard.specs.Texts.{line_of, overload_texts, texts_listed};
-ghost use Rattle.wgsl_asked.specs.Overloads.{binary_operators_named, lines_named, unary_operators_named};
 
 use std::alloc::{AllocError, Global};
 use std::str::FromStr;

@@ -20,3 +20,8 @@ pub mod SortedTables
 pub mod Search
 pub mod Noted
 pub mod Listed
+pub mod ShortTables
+pub mod CountedLines
+pub mod NamesApart
+pub mod NumberedLines
+pub mod Resolutions

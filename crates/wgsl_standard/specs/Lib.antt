@@ -6,4 +6,5 @@ pub mod Callees
 pub mod Mismatches
 pub mod Explained
 pub mod Texts
+pub mod Lines
 pub mod internal

@@ -1,26 +1,44 @@
--- How a resolved call is seen.
-use Rattle.std.specs.Prelude.{ℕ, List, ◌∷◌, ◌≡◌, Option, Some, None, IsTrue, map, option_map}
+-- How a resolved call is seen, and what calls resolve to.
+use Rattle.std.specs.Prelude.{ℕ, List, ◌∷◌, ◌≡◌, Option, Some, None, Bool, true, false, IsTrue, map, option_map, slice_get}
 use Rattle.wgsl_rules.specs.types.Types.{WgslType}
 use Rattle.wgsl_syntax.specs.declared.overload.Overload.{Overload}
-use Rattle.wgsl_rules.specs.standard.Choice.{Operand}
+use Rattle.wgsl_rules.specs.standard.Overloads.{patterns_of}
+use Rattle.wgsl_rules.specs.standard.Choice.{Operand, IsPreferred}
 use Rattle.wgsl_rules.specs.standard.Answers.{is_template, template_operand, IsResolution}
+use Rattle.wgsl_rules.specs.standard.Signatures.{signature_text}
 use Rattle.wgsl_core.specs.View.{view}
+use Rattle.wgsl_standard.specs.Callees.{WgslCallee, overloads_listed}
+use Rattle.wgsl_standard.specs.Explained.{or_none}
+use Rattle.wgsl_standard.specs.Lines.{are_vectors, line_of_candidate, lines_named}
+use Rattle.wgsl_standard.specs.Texts.{name_of}
 use Rattle.wgsl_standard.specs.declared.resolved.ResolvedCall.{ResolvedCall}
 
--- the index of the overload, the types of its parameters, and its result
+-- the index of the overload's line, the types of its parameters, and its result
 abbrev pub resolved_view : ResolvedCall → ℕ × List WgslType × Option WgslType
 resolved_view r = (r.index, map view r.parameters.items, option_map view r.result)
 
--- what a call resolves to by the overloads of its name; a name without overloads to nothing
-abbrev pub IsNamedResolution : Option (List Overload) → List Operand → Option (ℕ × List WgslType × Option WgslType) → Type 0
-IsNamedResolution (Some os) xs r = IsResolution os xs r
-IsNamedResolution None xs r = r ≡ None
+-- the line of the overload in place of its index in the table
+abbrev pub with_line : WgslCallee → Bool → ℕ × List WgslType × Option WgslType → ℕ × List WgslType × Option WgslType
+with_line callee has_template c = (line_of_candidate callee has_template c.0 c.1, c.1, c.2)
+
+-- what a call resolves to by the overloads without a template, or by those with one; a name without overloads to nothing
+abbrev pub IsNamedResolution : WgslCallee → Bool → List Operand → Option (ℕ × List WgslType × Option WgslType) → Type 0
+IsNamedResolution callee has_template xs r = (c : Option (ℕ × List WgslType × Option WgslType))
+    × IsResolution (or_none (overloads_listed callee has_template)) xs c × (r ≡ option_map (with_line callee has_template) c)
 
 -- the same with a template, which is the first operand
-pub record IsTemplateResolution (os : Option (List Overload)) (t : WgslType) (xs : List Operand) (r : Option (ℕ × List WgslType × Option WgslType)) : Type 0 where
-  pub named : IsTrue (is_template t) → IsNamedResolution os (template_operand t ∷ xs) r
+pub record IsTemplateResolution (callee : WgslCallee) (t : WgslType) (xs : List Operand) (r : Option (ℕ × List WgslType × Option WgslType)) : Type 0 where
+  pub named : IsTrue (is_template t) → IsNamedResolution callee true (template_operand t ∷ xs) r
   pub refused : (¬ IsTrue (is_template t)) → r ≡ None
 
-abbrev pub IsCallResolution : Option (List Overload) → Option (List Overload) → Option WgslType → List Operand → Option (ℕ × List WgslType × Option WgslType) → Type 0
-IsCallResolution plain templated None xs r = IsNamedResolution plain xs r
-IsCallResolution plain templated (Some t) xs r = IsTemplateResolution templated t xs r
+-- what a call resolves to
+abbrev pub IsCallResolution : WgslCallee → Option WgslType → List Operand → Option (ℕ × List WgslType × Option WgslType) → Type 0
+IsCallResolution callee None xs r = IsNamedResolution callee false xs r
+IsCallResolution callee (Some t) xs r = IsTemplateResolution callee t xs r
+
+-- The line at the index that a call resolves to is the text of the overload that is chosen, for vectors if its parameters are.
+abbrev pub IndexNamesLine : Type 0
+IndexNamesLine = (callee : WgslCallee) (has_template : Bool) (xs : List Operand) (c : ℕ × List WgslType × Option WgslType) → IsNamedResolution callee has_template xs (Some c) →
+    (at : ℕ) × (o : Overload) × (slice_get (or_none (overloads_listed callee has_template)) at ≡ Some o)
+    × IsPreferred (or_none (overloads_listed callee has_template)) xs at c.1 c.2
+    × (slice_get (lines_named (name_of callee)) c.0 ≡ Some (signature_text (name_of callee) has_template (are_vectors (patterns_of o) c.1) o))

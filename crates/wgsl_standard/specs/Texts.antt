@@ -1,5 +1,5 @@
 -- What is printed of the overloads of a call, and of why they don't take its operands.
-use Rattle.std.specs.Prelude.{ℕ, ◌+◌, ◌-◌, ◌^◌, ◌≡◌, List, [], ◌∷◌, ◌++◌, Option, Some, None, option_map, Bool, true, false, codes, decimal, length, map, min, slice_get, ◌==◌, if◌then◌else◌}
+use Rattle.std.specs.Prelude.{ℕ, ◌+◌, ◌-◌, ◌^◌, List, [], ◌∷◌, ◌++◌, Option, Some, None, option_map, Bool, true, false, codes, decimal, length, map, min, slice_get, ◌==◌, if◌then◌else◌}
 use Rattle.wgsl_syntax.specs.Operator.{binary_text, unary_text}
 use Rattle.wgsl_syntax.specs.declared.overload.Overload.{Overload}
 use Rattle.wgsl_rules.specs.types.Types.{WgslType, vec}
@@ -7,7 +7,7 @@ use Rattle.wgsl_rules.specs.types.Spelling.{wgsl_spelling}
 use Rattle.wgsl_rules.specs.standard.Choice.{value_of}
 use Rattle.wgsl_rules.specs.standard.Signatures.{signature_lines, signature_text}
 use Rattle.wgsl_standard.specs.Operands.{given_type}
-use Rattle.wgsl_standard.specs.Callees.{WgslCallee, a_binary, a_constructor, a_function, a_unary, callee_view, overloads_listed, overloads_of}
+use Rattle.wgsl_standard.specs.Callees.{WgslCallee, a_binary, a_constructor, a_function, a_unary, callee_view, overloads_listed}
 use Rattle.wgsl_standard.specs.Explained.{or_none}
 use Rattle.wgsl_standard.specs.declared.callee.Callee.{Callee}
 use Rattle.wgsl_standard.specs.declared.explanation.Note.{Note}
@@ -29,13 +29,9 @@ callee_text callee = name_of (callee_view callee)
 abbrev pub line_of : Signature → List ℕ
 line_of s = signature_text (callee_text s.callee) s.has_template s.of_vectors s.overload.now
 
--- an overload stands at the index of its signature, among those of what is called without a template, or with one; the index
--- of a resolved call counts alike
-abbrev pub StandsAtIndex : Signature → Type 0
-StandsAtIndex s = slice_get (or_none (overloads_of s.callee s.has_template)) s.index ≡ Some s.overload.now
-
-abbrev pub NoteStandsAtIndex : Note → Type 0
-NoteStandsAtIndex n = StandsAtIndex n.signature
+-- that for scalars, if the overload takes scalars or vectors
+abbrev pub first_line_of : Signature → List ℕ
+first_line_of s = signature_text (callee_text s.callee) s.has_template false s.overload.now
 
 abbrev pub lines_listed : WgslCallee → Bool → List (List ℕ)
 lines_listed callee has_template = signature_lines (name_of callee) has_template (or_none (overloads_listed callee has_template))

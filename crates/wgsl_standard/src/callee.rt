@@ -1,5 +1,5 @@
 // What is called, and its overloads.
-ghost use Rattle.std.specs.Prelude.{◌≡◌, option_map, IfSome};
+ghost use Rattle.std.specs.Prelude.{◌≡◌, ◌<◌, ◌^◌, length, option_map, IfSome};
 ghost use Rattle.wgsl_rules.specs.standard.Tables.{IsUnambiguous};
 ghost use Rattle.wgsl_standard.specs.Callees.{overloads_of};
 ghost use Rattle.wgsl_standard.specs.Explained.{or_none};
@@ -45,7 +45,9 @@ fn table(callee: Callee<'_>, has_template: bool) -> Option<&'static [Overload]>
 
 /// The overloads of what is called, without a template or with one; an empty list if no such call is listed.
 pub fn listed_overloads(callee: Callee<'_>, has_template: bool) -> &'static [Overload]
-    ensures { result.now ≡ or_none (overloads_of callee.entry has_template) }
+    ensures list { result.now ≡ or_none (overloads_of callee.entry has_template) }
+    ensures unambiguous { IsUnambiguous result.now }
+    ensures few { length result.now < 2 ^ 8 }
 {
     match overloads(callee, has_template) {
         Some(overloads) => overloads,

@@ -7,10 +7,13 @@ ghost use Rattle.wgsl_core.specs.View.{view};
 ghost use Rattle.wgsl_standard.specs.Operands.{given_type, operands_view};
 ghost use Rattle.wgsl_standard.specs.Callees.{overloads_of};
 ghost use Rattle.wgsl_standard.specs.Explained.{or_none, note_view, AddsNote, AreNotes, IsExplained};
-ghost use Rattle.wgsl_standard.specs.Texts.{NoteStandsAtIndex, StandsAtIndex, begins_with_vector as vector_first, counts_text, is_vector as vector_there, line_with, note_line, note_text, operand_text, reason_text, type_refused, types_given};
+ghost use Rattle.wgsl_standard.specs.Lines.{NoteStandsAtIndex};
+ghost use Rattle.wgsl_standard.specs.Texts.{begins_with_vector as vector_first, counts_text, is_vector as vector_there, line_with, note_line, note_text, operand_text, reason_text, type_refused, types_given};
+ghost use Rattle.wgsl_standard.specs.internal.FirstLines.{HasFirstLine};
 
 use crate::answer::{is_template, operands_with};
 use crate::callee::{Callee, listed_overloads};
+use crate::lines::{lines_before, lines_of};
 use crate::operand::{Operand, OperandType, loaded};
 use crate::refusal::{Mismatch, refused_by};
 use crate::signature::Signature;
@@ -24,6 +27,7 @@ use wgsl_syntax::overload::Dimensions;
 /// Why an overload doesn't take the operands. It prints as `dot(vecN<T>, vecN<T>) -> T, T: number: argument 2 is f32`.
 #[derive(Clone, Copy)]
 pub struct Note<'a> {
+    /// Its index is that of the overload's first line.
     pub signature: Signature<'a>,
     pub mismatch: Mismatch,
     /// The number of operands, the template among them.
@@ -72,16 +76,18 @@ fn notes<'a>(
 {
     let listed = listed_overloads(callee, has_template);
     let of_vectors = begins_with_vector(operands);
+    let mut line = lines_before(callee, has_template, &[]);
     let mut notes = Vec::new(alloc);
-    for index in 0..listed.len() {
+    for overload in listed {
         let signature = Signature {
             callee,
-            index,
-            overload: &listed[index],
+            index: line,
+            overload,
             has_template,
             of_vectors,
         };
         push_note(&mut notes, signature, operands)?;
+        line += lines_of(overload);
     }
     Ok(notes)
 }
@@ -99,7 +105,7 @@ fn push_note<'a>(
         ≡ map (line_with signature.entry.callee signature.entry.has_template (types_given operands.now)) (map note_view notes.old.items))
         → map note_text notes.new.items
         ≡ map (line_with signature.entry.callee signature.entry.has_template (types_given operands.now)) (map note_view notes.new.items)) }
-    ensures index { IfOk result (λ u. StandsAtIndex signature.entry
+    ensures index { IfOk result (λ u. HasFirstLine signature.entry
         → All NoteStandsAtIndex notes.old.items → All NoteStandsAtIndex notes.new.items) }
 {
     if let Some(mismatch) = refused_by(signature.overload, operands) {
@@ -113,7 +119,7 @@ fn note_of<'a>(signature: Signature<'a>, mismatch: Mismatch, operands: &[Operand
     ensures note { note_view result ≡ (signature.entry.overload.now, mismatch) }
     ensures text { note_text result
         ≡ line_with signature.entry.callee signature.entry.has_template (types_given operands.now) (note_view result) }
-    ensures index { StandsAtIndex signature.entry → NoteStandsAtIndex result }
+    ensures index { HasFirstLine signature.entry → NoteStandsAtIndex result }
 {
     Note {
         signature,

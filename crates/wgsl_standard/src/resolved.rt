@@ -1,21 +1,23 @@
 // What a call resolves to: an overload, the types to which its operands convert, and its result.
-ghost use Rattle.std.specs.Prelude.{◌≡◌, IfOk, IfSome, false, map, option_map, true};
+ghost use Rattle.std.specs.Prelude.{◌≡◌, ◌+◌, ◌<◌, ◌^◌, ◌&&◌, IfOk, cond, is_some, map, option_map};
+ghost use Rattle.std.specs.List.{list_any};
 ghost use Rattle.wgsl_core.specs.View.{view};
 ghost use Rattle.wgsl_rules.specs.standard.Overloads.{in_order, patterns_of as patterns_there};
 ghost use Rattle.wgsl_rules.specs.standard.Choice.{parameters_for, result_for as result_there};
-ghost use Rattle.wgsl_rules.specs.standard.Tables.{IsUnambiguous};
+ghost use Rattle.wgsl_rules.specs.standard.Signatures.{is_scalar_or_vector};
 ghost use Rattle.wgsl_standard.specs.Answered.{Answers};
-ghost use Rattle.wgsl_standard.specs.Callees.{overloads_of};
+ghost use Rattle.wgsl_standard.specs.Callees.{callee_view};
 ghost use Rattle.wgsl_standard.specs.Operands.{operands_view};
-ghost use Rattle.wgsl_standard.specs.Resolved.{resolved_view, IsNamedResolution, IsCallResolution};
+ghost use Rattle.wgsl_standard.specs.Resolved.{resolved_view, IsNamedResolution, IsCallResolution, IndexNamesLine};
 
 use crate::answer::{NoOverload, is_template, operands_with};
-use crate::callee::{Callee, overloads};
+use crate::callee::{Callee, listed_overloads};
 use crate::instance::{built, parameter_for, result_type};
+use crate::lines::lines_before;
 use crate::operand::Operand;
 use crate::overload::parameters_of;
 use crate::resolve::resolve;
-use crate::written::{parameter_count, patterns_of};
+use crate::written::{parameter_count, patterns_of, takes_either};
 use std::alloc::{AllocError, Global};
 use wgsl_core::error::Fail;
 use wgsl_core::ty::Type;
@@ -24,7 +26,8 @@ use wgsl_syntax::overload::{Instance, Overload, Parameters};
 /// An overload that is chosen, with the types that a compiler converts the operands to.
 #[derive(Drop)]
 pub struct ResolvedCall {
-    /// The index of the overload among those of its name.
+    /// The index of the overload's line among the signatures of all that has its name; of an overload that takes scalars or
+    /// vectors, of the line for scalars or of that for vectors, as the parameters are.
     pub index: usize,
     pub parameters: Vec<Type>,
     /// None if the call has no value.
@@ -38,7 +41,7 @@ pub fn resolve_callee(
     template: Option<&Type>,
     operands: &[Operand<'_>],
 ) -> Result<ResolvedCall, Fail<NoOverload>>
-    ensures { Answers resolved_view (IsCallResolution (overloads_of callee.entry false) (overloads_of callee.entry true)
+    ensures { Answers resolved_view (IsCallResolution (callee_view callee.entry)
         (option_map (λ t. view t.now) template.entry) (operands_view operands.now)) result }
 {
     match template {
@@ -47,28 +50,27 @@ pub fn resolve_callee(
                 return Err(Fail::Error(NoOverload));
             }
             let all = operands_with(alloc, template, operands)?;
-            resolve_by(alloc, overloads(callee, true), &all)
+            resolve_by(alloc, callee, true, &all)
         }
-        None => resolve_by(alloc, overloads(callee, false), operands),
+        None => resolve_by(alloc, callee, false, operands),
     }
 }
 
-/// The overload that is preferred for the operands, if there are overloads, with its types.
+/// The overload that is preferred for the operands, with its types.
 fn resolve_by(
     alloc: Global,
-    overloads: Option<&[Overload]>,
+    callee: Callee<'_>,
+    has_template: bool,
     operands: &[Operand<'_>],
 ) -> Result<ResolvedCall, Fail<NoOverload>>
-    requires { IfSome overloads (λ o. IsUnambiguous o.now) }
-    ensures { Answers resolved_view (IsNamedResolution (option_map (λ o. o.now) overloads.entry) (operands_view operands.now)) result }
+    ensures { Answers resolved_view (IsNamedResolution (callee_view callee.entry) has_template (operands_view operands.now)) result }
 {
-    let Some(overloads) = overloads else {
-        return Err(Fail::Error(NoOverload));
-    };
+    let overloads = listed_overloads(callee, has_template);
     match resolve(overloads, operands) {
         Some(choice) => {
+            let line = lines_before(callee, has_template, &overloads[..choice.index]);
             let overload = &overloads[choice.index];
-            let call = resolved(alloc, choice.index, overload, &choice.instance, operands)?;
+            let call = resolved(alloc, line, overload, &choice.instance, operands)?;
             Ok(call)
         }
         None => Err(Fail::Error(NoOverload)),
@@ -77,23 +79,38 @@ fn resolve_by(
 
 fn resolved(
     alloc: Global,
-    index: usize,
+    first_line: usize,
     overload: &Overload,
     instance: &Instance,
     operands: &[Operand<'_>],
 ) -> Result<ResolvedCall, AllocError>
+    requires { first_line < 2 ^ 11 }
     ensures { IfOk result (λ r. resolved_view r
-        ≡ (index, parameters_for instance.now (patterns_there overload.now) (operands_view operands.now), result_there instance.now overload.now (operands_view operands.now))) }
+        ≡ (
+          cond (list_any is_scalar_or_vector (patterns_there overload.now) && is_some instance.now.width) (first_line + 1) first_line,
+          parameters_for instance.now (patterns_there overload.now) (operands_view operands.now),
+          result_there instance.now overload.now (operands_view operands.now),
+        )) }
 {
     let parameters = parameter_types(alloc, instance, parameters_of(overload), operands)?;
     let found = result_type(alloc, instance, overload, operands)?;
     let result = built(alloc, found)?;
+    let of_vectors = takes_either(parameters_of(overload)) && instance.width.is_some();
     Ok(ResolvedCall {
-        index,
+        index: if of_vectors {
+            first_line + 1
+        } else {
+            first_line
+        },
         parameters,
         result,
     })
 }
+
+/// The line at the index that a call resolves to is that of the overload that is chosen.
+pub fn index_names_line()
+    ensures { IndexNamesLine }
+{}
 
 fn parameter_types(
     alloc: Global,

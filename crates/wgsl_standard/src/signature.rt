@@ -1,10 +1,13 @@
 // Prints overloads as WGSL writes them, one per line. An overload that takes scalars or vectors has two lines.
-ghost use Rattle.std.specs.Prelude.{◌≡◌, ◌++◌, All, IfOk, false, map};
+ghost use Rattle.std.specs.Prelude.{◌≡◌, ◌<◌, ◌++◌, ◌^◌, All, IfOk, false, map};
 ghost use Rattle.std.specs.Fmt.{WritesOnOk};
 ghost use Rattle.wgsl_rules.specs.standard.Signatures.{overload_lines};
-ghost use Rattle.wgsl_standard.specs.Texts.{StandsAtIndex, callee_text, line_of, lines_with, overload_texts};
+ghost use Rattle.wgsl_standard.specs.Lines.{StandsAtIndex};
+ghost use Rattle.wgsl_standard.specs.Texts.{callee_text, line_of, lines_with, overload_texts};
+ghost use Rattle.wgsl_standard.specs.internal.FirstLines.{HasFirstLine};
 
 use crate::callee::{Callee, listed_overloads};
+use crate::lines::{lines_before, lines_of};
 use crate::overload::{parameters_of, result_of};
 use crate::where_clause::{resource_of, write_letters};
 use crate::written::{takes_either, write_parameters, write_returns};
@@ -17,7 +20,8 @@ use wgsl_syntax::overload::Overload;
 #[derive(Clone, Copy)]
 pub struct Signature<'a> {
     pub callee: Callee<'a>,
-    /// The index of the overload among those of its name with a template, or without one.
+    /// The index of its line among the signatures of all that has its name: the unary operator, the binary one, the built-in
+    /// function, the constructor.
     pub index: usize,
     pub overload: &'static Overload,
     /// Whether its first parameter is a template.
@@ -47,15 +51,17 @@ fn push_signatures<'a>(
     ensures indices { IfOk result (λ u. All StandsAtIndex signatures.old.items → All StandsAtIndex signatures.new.items) }
 {
     let listed = listed_overloads(callee, has_template);
-    for index in 0..listed.len() {
+    let mut line = lines_before(callee, has_template, &[]);
+    for overload in listed {
         let signature = Signature {
             callee,
-            index,
-            overload: &listed[index],
+            index: line,
+            overload,
             has_template,
             of_vectors: false,
         };
         push_signature(signatures, signature)?;
+        line += lines_of(overload);
     }
     Ok(())
 }
@@ -65,16 +71,18 @@ fn push_signature<'a>(
     signatures: &mut Vec<Signature<'a>>,
     signature: Signature<'a>,
 ) -> Result<(), AllocError>
-    requires { signature.of_vectors ≡ false }
+    requires scalars { signature.of_vectors ≡ false }
+    requires few { signature.index < 2 ^ 12 }
     ensures texts { IfOk result (λ u. map line_of signatures.new.items
         ≡ map line_of signatures.old.items ++ overload_lines (callee_text signature.entry.callee)
         signature.entry.has_template signature.entry.overload.now) }
-    ensures indices { IfOk result (λ u. StandsAtIndex signature.entry
+    ensures indices { IfOk result (λ u. HasFirstLine signature.entry
         → All StandsAtIndex signatures.old.items → All StandsAtIndex signatures.new.items) }
 {
     signatures.push(signature)?;
     if takes_either(parameters_of(signature.overload)) {
         signatures.push(Signature {
+            index: signature.index + 1,
             of_vectors: true,
             ..signature
         })?;

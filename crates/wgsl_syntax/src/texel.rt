@@ -9,7 +9,7 @@ use std::fmt::Write;
 use std::str::FromStr;
 
 /// Whose names texel formats have.
-#[derive(Clone, Copy)]
+#[derive(Clone, Copy, PartialEq, Eq, Hash, Debug)]
 pub enum FormatNames {
     /// naga's: `rg11b10float`
     Naga,

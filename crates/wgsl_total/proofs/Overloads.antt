@@ -1,14 +1,16 @@
 -- What a call returns and resolves to by WGSL's own overloads.
 use Rattle.std.proofs.Common.{ℕ, List, [], ◌∷◌, Option, Some, None, refl}
-use Rattle.std.specs.Prelude.{Bool, true, false, IsTrue}
+use Rattle.std.specs.Prelude.{Bool, true, false, IsTrue, option_map}
 use Rattle.wgsl_syntax.specs.declared.overload.Instance.{Instance}
 use Rattle.wgsl_syntax.specs.declared.overload.Overload.{Overload}
 use Rattle.wgsl_rules.specs.types.Types.{WgslType}
 use Rattle.wgsl_rules.specs.standard.Answers.{IsCallAnswer, IsNamedAnswer, IsResolution, IsStandardAnswer, is_template, template_operand}
 use Rattle.wgsl_rules.specs.standard.Choice.{IsChosen, Operand, parameters_for, result_for}
 use Rattle.wgsl_rules.specs.standard.Overloads.{patterns_of}
+use Rattle.wgsl_rules.specs.standard.Tables.{IsUnambiguous}
 use Rattle.wgsl_standard.specs.Callees.{WgslCallee, overloads_listed}
-use Rattle.wgsl_standard.specs.Resolved.{IsCallResolution, IsNamedResolution}
+use Rattle.wgsl_standard.specs.Explained.{or_none}
+use Rattle.wgsl_standard.specs.Resolved.{IsCallResolution, IsNamedResolution, with_line}
 use Rattle.wgsl_standard.proofs.Choices.{found}
 use Rattle.wgsl_standard.proofs.NamedTables.{IfUnambiguous, listed_unambiguous}
 use Rattle.wgsl_standard.proofs.StandardAnswers.{answer_none, answer_some}
@@ -30,9 +32,15 @@ named_result : (os : Option (List Overload)) → IfUnambiguous os → (xs : List
 named_result None u xs = (None, refl)
 named_result (Some os) u xs = a_result os xs _ (found os xs u)
 
-named_resolution : (os : Option (List Overload)) → IfUnambiguous os → (xs : List Operand) → (r : Option Resolution) × IsNamedResolution os xs r
-named_resolution None u xs = (None, refl)
-named_resolution (Some os) u xs = a_resolution os xs _ (found os xs u)
+any_unambiguous : (os : Option (List Overload)) → IfUnambiguous os → IsUnambiguous (or_none os)
+any_unambiguous None u = record { in_order = tt }
+any_unambiguous (Some os) u = u
+
+named_resolution : (c : WgslCallee) (has_template : Bool) (xs : List Operand) → (r : Option Resolution) × IsNamedResolution c has_template xs r
+named_resolution c has_template xs =
+    let os = or_none (overloads_listed c has_template) in
+    let r = a_resolution os xs _ (found os xs (any_unambiguous (overloads_listed c has_template) (listed_unambiguous c has_template))) in
+    (option_map (with_line c has_template) r.0, (r.0, r.1, refl))
 
 dec_true : (b : Bool) → Dec (IsTrue b)
 dec_true true = yes refl
@@ -47,11 +55,10 @@ call_result c (Some t) xs = elim (dec_true (is_template t)) [
   | no n ↦ (None, record { named = λ k. absurd (n k); refused = λ n. refl })
 ]
 
-pub call_resolution : (c : WgslCallee) (template : Option WgslType) (xs : List Operand)
-    → (r : Option Resolution) × IsCallResolution (overloads_listed c false) (overloads_listed c true) template xs r
-call_resolution c None xs = named_resolution (overloads_listed c false) (listed_unambiguous c false) xs
+pub call_resolution : (c : WgslCallee) (template : Option WgslType) (xs : List Operand) → (r : Option Resolution) × IsCallResolution c template xs r
+call_resolution c None xs = named_resolution c false xs
 call_resolution c (Some t) xs = elim (dec_true (is_template t)) [
-  | yes h ↦ let r = named_resolution (overloads_listed c true) (listed_unambiguous c true) (template_operand t ∷ xs) in
+  | yes h ↦ let r = named_resolution c true (template_operand t ∷ xs) in
       (r.0, record { named = λ k. r.1; refused = λ n. absurd (n h) })
   | no n ↦ (None, record { named = λ k. absurd (n k); refused = λ n. refl })
 ]

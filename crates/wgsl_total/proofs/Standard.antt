@@ -28,7 +28,7 @@ a_type_of c = with_template None (λ t r. IsCallAnswer (overloads_listed c.calle
     (λ t. call_result c.callee t (loaded c.operands)) (template_type c.template)
 
 pub a_resolution_of : (c : WgslCall) → (r : Option WgslResolution) × IsResolutionOf c r
-a_resolution_of c = with_template None (λ t r. IsCallResolution (overloads_listed c.callee false) (overloads_listed c.callee true) t (loaded c.operands) r)
+a_resolution_of c = with_template None (λ t r. IsCallResolution c.callee t (loaded c.operands) r)
     (λ t. call_resolution c.callee t (loaded c.operands)) (template_type c.template)
 
 -- Explanations

@@ -4,4 +4,5 @@ pub use wgsl_core::laws::{
     common_any_order, conversion_order, matrix_columns, rank_adds, rank_names_target,
     targets_comparable,
 };
+pub use wgsl_standard::resolved::index_names_line;
 pub use wgsl_syntax::names::texts_name_values;

@@ -1,14 +1,14 @@
 //! WGSL's own overloads, beside the rules of wgsl-types: what operators, calls of built-in functions and constructors
 //! return by WGSL's overload resolution, what they resolve to, which overloads there are, and why none takes the operands
 //! (WGSL, "Overload Resolution"). Constructors of arrays and structs, `&`, `*` and ray queries have no overloads.
-ghost use Rattle.std.specs.Prelude.{[], ◌∷◌, false, option_map, true};
+ghost use Rattle.std.specs.Prelude.{[], ◌∷◌, None, false, option_map, true};
 ghost use Rattle.wgsl_core.specs.View.{view};
-ghost use Rattle.wgsl_rules.specs.standard.Answers.{IsCallAnswer, IsResolution, IsStandardAnswer};
+ghost use Rattle.wgsl_rules.specs.standard.Answers.{IsCallAnswer, IsStandardAnswer};
 ghost use Rattle.wgsl_rules.specs.standard.Operators.{binary_overloads, unary_overloads};
 ghost use Rattle.wgsl_rules.specs.standard.Names.{function_table, template_function_table, overloads_named};
 ghost use Rattle.wgsl_rules.specs.standard.ConstructorNames.{constructor_table, template_constructor_table};
 ghost use Rattle.wgsl_standard.specs.Answered.{Answers, AnswersType};
-ghost use Rattle.wgsl_standard.specs.Callees.{overloads_of};
+ghost use Rattle.wgsl_standard.specs.Callees.{a_binary, a_constructor, a_function, a_unary, overloads_of};
 ghost use Rattle.wgsl_standard.specs.Operands.{operand_view, operands_view};
 ghost use Rattle.wgsl_standard.specs.Resolved.{resolved_view, IsCallResolution};
 
@@ -100,7 +100,7 @@ pub fn resolve_binary_op(
     lhs: Operand<'_>,
     rhs: Operand<'_>,
 ) -> Result<ResolvedCall, Fail<NoOverload>>
-    ensures { Answers resolved_view (IsResolution (binary_overloads operator)
+    ensures { Answers resolved_view (IsCallResolution (a_binary operator) None
         (operand_view lhs.entry ∷ operand_view rhs.entry ∷ [])) result }
 {
     resolve_callee(alloc, Callee::Binary(operator), None, &[lhs, rhs])
@@ -112,7 +112,7 @@ pub fn resolve_unary_op(
     operator: UnaryOperator,
     operand: Operand<'_>,
 ) -> Result<ResolvedCall, Fail<NoOverload>>
-    ensures { Answers resolved_view (IsResolution (unary_overloads operator) (operand_view operand.entry ∷ [])) result }
+    ensures { Answers resolved_view (IsCallResolution (a_unary operator) None (operand_view operand.entry ∷ [])) result }
 {
     resolve_callee(alloc, Callee::Unary(operator), None, &[operand])
 }
@@ -124,8 +124,8 @@ pub fn resolve_builtin_fn(
     template: Option<&Type>,
     arguments: &[Operand<'_>],
 ) -> Result<ResolvedCall, Fail<NoOverload>>
-    ensures { Answers resolved_view (IsCallResolution (overloads_named name.now function_table)
-        (overloads_named name.now template_function_table) (option_map (λ t. view t.now) template.entry) (operands_view arguments.now)) result }
+    ensures { Answers resolved_view (IsCallResolution (a_function name.now)
+        (option_map (λ t. view t.now) template.entry) (operands_view arguments.now)) result }
 {
     resolve_callee(alloc, Callee::Function(name), template, arguments)
 }
@@ -137,8 +137,8 @@ pub fn resolve_ctor(
     template: Option<&Type>,
     arguments: &[Operand<'_>],
 ) -> Result<ResolvedCall, Fail<NoOverload>>
-    ensures { Answers resolved_view (IsCallResolution (overloads_named name.now constructor_table)
-        (overloads_named name.now template_constructor_table) (option_map (λ t. view t.now) template.entry) (operands_view arguments.now)) result }
+    ensures { Answers resolved_view (IsCallResolution (a_constructor name.now)
+        (option_map (λ t. view t.now) template.entry) (operands_view arguments.now)) result }
 {
     resolve_callee(alloc, Callee::Constructor(name), template, arguments)
 }

@@ -1,32 +1,35 @@
-use Rattle.std.proofs.Common.{◌≡◌, ◌+◌, ◌∙◌, ℕ, suc, [], ap, arith, map, refl, subst, sym, take}
-use Rattle.std.proofs.Math.Seq.{take-suc}
-use Rattle.wgsl_standard.specs.Operands.{operands_view}
+use Rattle.std.proofs.Common.{◌≡◌, [], arith, map, refl, subst, sym}
 use Rattle.std.specs.Prelude.{All}
 use Rattle.std.proofs.lemmas.List.Elements.{All-nil}
-use Rattle.wgsl_standard.specs.Callees.{overloads_of}
-use Rattle.wgsl_standard.specs.Explained.{note_view, or_none, AreNotes, no_overloads}
-use Rattle.wgsl_standard.proofs.Listed.{stands}
-use Rattle.wgsl_standard.specs.Texts.{NoteStandsAtIndex, line_with, note_text, types_given}
+use Rattle.wgsl_standard.specs.Callees.{callee_view}
+use Rattle.wgsl_standard.specs.Explained.{note_view, AreNotes, no_overloads}
+use Rattle.wgsl_standard.specs.Lines.{NoteStandsAtIndex}
+use Rattle.wgsl_standard.specs.Operands.{operands_view}
+use Rattle.wgsl_standard.specs.Texts.{line_with, note_text, types_given}
+use Rattle.wgsl_standard.proofs.CountedLines.{first_line, lines_next, one_more as one_more_listed}
 use Rattle.wgsl_standard.proofs.Noted.{one_more}
 use Rattle.wgsl_standard.proofs.explanation.notes.Goals as goal
 
-pub loop-index-init : goal.loop-index-init
-loop-index-init c = record {
+pub loop-overload-init : goal.loop-overload-init
+loop-overload-init c = record {
   notes = subst (λ items. AreNotes (operands_view c.args.operands.now) [] (map note_view items)) (sym c.new-notes.ensures.items) no_overloads;
   texts = subst (λ items. map note_text items ≡ map (line_with c.args.callee c.args.has_template (types_given c.args.operands.now)) (map note_view items)) (sym c.new-notes.ensures.items) refl;
   indices = subst (All NoteStandsAtIndex) (sym c.new-notes.ensures.items) (All-nil NoteStandsAtIndex);
+  lines = c.lines_before-line.ensures.lines;
+  few = omega arith;
 }
 
-next : (n : ℕ) → suc n ≡ n + 1
-next n = omega arith
-
-pub loop-index-preserved : goal.loop-index-preserved
-loop-index-preserved c = record {
+pub loop-overload-preserved : goal.loop-overload-preserved
+loop-overload-preserved c = record {
   notes = subst (λ os. AreNotes (operands_view c.args.operands.now) os (map note_view c.push_note.new.notes.items))
-      (sym (take-suc c.listed_overloads-listed.result.now c.loop-index.index _ c.loop-index-test.true) ∙ ap (λ n. take n c.listed_overloads-listed.result.now) (next c.loop-index.index))
-      (one_more _ c.loop-index.invariant.notes c.in_ok-push_note.ensures.note);
-  texts = c.in_ok-push_note.ensures.text c.loop-index.invariant.texts;
+      (sym (one_more_listed c.listed_overloads-listed.result.now c.loop-overload.overload-index _ c.loop-overload-test.true))
+      (one_more _ c.loop-overload.invariant.notes c.in_ok-push_note.ensures.note);
+  texts = c.in_ok-push_note.ensures.text c.loop-overload.invariant.texts;
   indices = c.in_ok-push_note.ensures.index
-      (stands (or_none (overloads_of c.args.callee c.args.has_template)) c.listed_overloads-listed.result.now c.loop-index.index _ c.listed_overloads-listed.ensures c.loop-index-test.true)
-      c.loop-index.invariant.indices;
+      (first_line c.args.callee c.args.has_template c.listed_overloads-listed.result.now c.loop-overload.overload-index _ c.loop-overload.line c.listed_overloads-listed.ensures.list
+      c.loop-overload-test.true c.loop-overload.invariant.lines)
+      c.loop-overload.invariant.indices;
+  lines = lines_next (callee_view c.args.callee) c.args.has_template c.listed_overloads-listed.result.now c.loop-overload.overload-index _ c.loop-overload.line _
+      c.loop-overload-test.true c.loop-overload.invariant.lines c.lines_of-line.ensures.lines;
+  few = omega arith;
 }

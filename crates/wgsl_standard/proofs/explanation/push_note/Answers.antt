@@ -1,7 +1,7 @@
 use Rattle.std.proofs.Common.{subst, sym}
 use Rattle.std.specs.Prelude.{All}
 use Rattle.std.proofs.lemmas.List.Elements.{All-push}
-use Rattle.wgsl_standard.specs.Texts.{NoteStandsAtIndex}
+use Rattle.wgsl_standard.specs.Lines.{NoteStandsAtIndex}
 use Rattle.wgsl_standard.proofs.explanation.push_note.Goals as goal
 
 pub returns-in_ok-push-clause-index : goal.returns-in_ok-push-clause-index

@@ -1,12 +1,18 @@
-use Rattle.std.proofs.Common.{subst, sym}
+use Rattle.std.proofs.Common.{◌∙◌, ap, subst, sym}
 use Rattle.std.specs.Prelude.{All}
 use Rattle.std.proofs.lemmas.List.Elements.{All-push}
-use Rattle.wgsl_standard.specs.Texts.{StandsAtIndex}
+use Rattle.std.specs.List.{list_any}
+use Rattle.wgsl_rules.specs.standard.Overloads.{in_order}
+use Rattle.wgsl_rules.specs.standard.Signatures.{is_scalar_or_vector}
+use Rattle.wgsl_standard.specs.Lines.{StandsAtIndex}
+use Rattle.wgsl_standard.proofs.NumberedLines.{scalars_stand, vectors_stand}
 use Rattle.wgsl_standard.proofs.signature.push_signature.Goals as goal
 
 pub returns-in_ok-push-2-clause-indices : goal.returns-in_ok-push-2-clause-indices
-returns-in_ok-push-2-clause-indices c = λ s h. subst (All StandsAtIndex) (sym c.in_ok-push-2.ensures.items)
-    (All-push StandsAtIndex _ _ (subst (All StandsAtIndex) (sym c.in_ok-push.ensures.items) (All-push StandsAtIndex _ _ h s)) s)
+returns-in_ok-push-2-clause-indices c = λ first h. subst (All StandsAtIndex) (sym c.in_ok-push-2.ensures.items)
+    (All-push StandsAtIndex _ _ (subst (All StandsAtIndex) (sym c.in_ok-push.ensures.items) (All-push StandsAtIndex _ _ h (scalars_stand c.args.signature c.requires.scalars first)))
+    (vectors_stand c.args.signature (ap (λ p. list_any is_scalar_or_vector (in_order p)) (sym c.parameters_of.ensures) ∙ sym c.if-takes_either.ensures) first))
 
 pub returns-else-takes_either-clause-indices : goal.returns-else-takes_either-clause-indices
-returns-else-takes_either-clause-indices c = λ s h. subst (All StandsAtIndex) (sym c.in_ok-push.ensures.items) (All-push StandsAtIndex _ _ h s)
+returns-else-takes_either-clause-indices c = λ first h. subst (All StandsAtIndex) (sym c.in_ok-push.ensures.items)
+    (All-push StandsAtIndex _ _ h (scalars_stand c.args.signature c.requires.scalars first))

@@ -1,0 +1,45 @@
+-- The lines of overloads, counted.
+use Rattle.std.proofs.Common.{◌≡◌, ◌∙◌, ◌+◌, ◌<◌, ◌++◌, ℕ, suc, Bool, false, List, [], ◌∷◌, Some, ap, arith, cond, get_or, length, refl, slice_get, sym, take}
+use Rattle.std.proofs.Math.Seq.{take-suc}
+use Rattle.std.proofs.lemmas.List.{append-nil, length-append}
+use Rattle.std.proofs.lemmas.List.Concat.{flat_map-append}
+use Rattle.std.specs.List.{flat_map}
+use Rattle.wgsl_syntax.specs.declared.overload.Overload.{Overload}
+use Rattle.wgsl_rules.specs.standard.Signatures.{overload_lines, signature_lines}
+use Rattle.wgsl_standard.specs.Callees.{WgslCallee, callee_view, overloads_of}
+use Rattle.wgsl_standard.specs.Explained.{or_none}
+use Rattle.wgsl_standard.specs.Lines.{callees_before, line_of_overload, lines_before}
+use Rattle.wgsl_standard.specs.Texts.{lines_listed, name_of, texts_listed}
+use Rattle.wgsl_standard.specs.declared.callee.Callee.{Callee}
+use Rattle.wgsl_standard.proofs.Listed.{stands}
+
+-- the lines of one more overload
+pub lines_then : (n : List ℕ) (t : Bool) (os : List Overload) (o : Overload) → signature_lines n t (os ++ o ∷ []) ≡ signature_lines n t os ++ overload_lines n t o
+lines_then n t os o = flat_map-append (overload_lines n t) os (o ∷ []) ∙ ap (λ ls. signature_lines n t os ++ ls) (append-nil (overload_lines n t o))
+
+next : (n : ℕ) → suc n ≡ n + 1
+next n = omega arith
+
+pub one_more : (os : List Overload) (i : ℕ) (d : Overload) → i < length os → take (i + 1) os ≡ take i os ++ get_or os i d ∷ []
+one_more os i d h = ap (λ n. take n os) (sym (next i)) ∙ take-suc os i d h
+
+pub counted_then : (n : List ℕ) (t : Bool) (os : List Overload) (i : ℕ) (d : Overload) (count lines : ℕ) → i < length os
+    → length (signature_lines n t (take i os)) ≡ count → length (overload_lines n t (get_or os i d)) ≡ lines → length (signature_lines n t (take (i + 1) os)) ≡ count + lines
+counted_then n t os i d count lines h e f =
+    ap (λ os. length (signature_lines n t os)) (one_more os i d h) ∙ ap length (lines_then n t (take i os) (get_or os i d))
+    ∙ length-append (signature_lines n t (take i os)) (overload_lines n t (get_or os i d)) ∙ (ap (λ m. m + length (overload_lines n t (get_or os i d))) e ∙ ap (λ n. count + n) f)
+
+-- the number of lines before the next overload
+pub lines_next : (c : WgslCallee) (t : Bool) (os : List Overload) (i : ℕ) (d : Overload) (line lines : ℕ) → i < length os
+    → line ≡ length (lines_before c t (take i os)) → ((n : List ℕ) (t : Bool) → length (overload_lines n t (get_or os i d)) ≡ lines) → line + lines ≡ length (lines_before c t (take (i + 1) os))
+lines_next c t os i d line lines h e f =
+    let front = flat_map texts_listed (callees_before c) ++ cond t (lines_listed c false) [] in
+    let more = counted_then (name_of c) t os i d (length (signature_lines (name_of c) t (take i os))) lines h refl (f (name_of c) t) in
+    omega (arith, e, more, length-append front (signature_lines (name_of c) t (take i os)), length-append front (signature_lines (name_of c) t (take (i + 1) os)))
+
+-- the first line of an overload that is listed
+pub first_line : (callee : Callee) (t : Bool) (os : List Overload) (i : ℕ) (d : Overload) (line : ℕ) → os ≡ or_none (overloads_of callee t)
+    → i < length os → line ≡ length (lines_before (callee_view callee) t (take i os))
+    → (at : ℕ) × (slice_get (or_none (overloads_of callee t)) at ≡ Some (get_or os i d)) × (line ≡ line_of_overload (callee_view callee) t at false)
+first_line callee t os i d line e h f =
+    (i, stands (or_none (overloads_of callee t)) os i d e h, f ∙ ap (λ os. length (lines_before (callee_view callee) t (take i os))) e)

@@ -1,0 +1,19 @@
+use Rattle.std.proofs.Common.{subst}
+use Rattle.std.specs.Prelude.{option_map}
+use Rattle.wgsl_rules.specs.standard.Choice.{IsChosen}
+use Rattle.wgsl_standard.specs.Callees.{callee_view}
+use Rattle.wgsl_standard.specs.Operands.{operands_view}
+use Rattle.wgsl_standard.specs.internal.Choices.{choice_view}
+use Rattle.wgsl_standard.proofs.Resolutions.{resolves, resolves_to_none}
+use Rattle.wgsl_standard.proofs.resolved.resolve_by.Goals as goal
+
+pub returns-in_ok-call-in-Some : goal.returns-in_ok-call-in-Some
+returns-in_ok-call-in-Some c =
+    let chosen = subst (λ r. IsChosen c.listed_overloads-overloads.result.now (operands_view c.args.operands.now) (option_map choice_view r)) c.in-Some.is c.resolve.ensures in
+    resolves (callee_view c.args.callee) c.args.has_template c.listed_overloads-overloads.result.now (operands_view c.args.operands.now)
+    (c.in-Some.choice.index, c.in-Some.choice.instance) _ c.lines_before-line.result _ c.listed_overloads-overloads.ensures.list chosen c.lines_before-line.ensures.lines c.in_ok-call-in-Some.ensures
+
+pub returns-in-None : goal.returns-in-None
+returns-in-None c =
+    let none = subst (λ r. IsChosen c.listed_overloads-overloads.result.now (operands_view c.args.operands.now) (option_map choice_view r)) c.in-None.is c.resolve.ensures in
+    resolves_to_none (callee_view c.args.callee) c.args.has_template _ (operands_view c.args.operands.now) c.listed_overloads-overloads.ensures.list none
