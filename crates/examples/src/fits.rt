@@ -1,11 +1,11 @@
 // Whether a value of a type fits into a buffer, with a contract that cites WGSL's rule.
-#![tactic(auto)]
-
 ghost use Rattle.std.specs.Prelude.{◌↔◌, ◌≤◌, ℕ, IsTrue};
 ghost use Rattle.wgsl_rules.specs.layout.Layout.{HasSize};
 ghost use Rattle.wgsl_core.specs.View.{view};
 
+use std::alloc::Global;
 use std::io;
+use std::io::Write;
 use wgsl_types::Type;
 
 /// True exactly if the type has a size, and the buffer has at least as many bytes.
@@ -18,8 +18,9 @@ fn fits(ty: &Type, buffer: u32) -> bool
     }
 }
 
-fn main(rt: HostRuntime) -> io::Result<()> {
-    let weights = Type::array(rt.alloc(), Some(4), Type::F32)?;
-    println!(rt; "{weights} in 16 bytes: {}", fits(&weights, 16))?;
-    println!(rt; "{weights} in 12 bytes: {}", fits(&weights, 12))
+/// Shows whether four floats fit into two buffers.
+pub fn show<W: Write>(alloc: Global, output: &mut W) -> io::Result<()> {
+    let weights = Type::array(alloc, Some(4), Type::F32)?;
+    writeln!(output, "{weights} in 16 bytes: {}", fits(&weights, 16))?;
+    writeln!(output, "{weights} in 12 bytes: {}", fits(&weights, 12))
 }

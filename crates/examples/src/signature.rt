@@ -1,6 +1,4 @@
 // What an editor shows for a call of `mix`: the signatures, and the type of the call or why it has none.
-#![tactic(auto)]
-
 use std::alloc::Global;
 use std::io::Write;
 use std::{fmt, io};
@@ -39,12 +37,11 @@ fn show_calls<W: Write>(alloc: Global, output: &mut W, ty: &Type) -> io::Result<
     show_call(alloc, output, &[v, one, one])
 }
 
-fn main(rt: HostRuntime) -> io::Result<()> {
-    let alloc = rt.alloc();
-    let mut output = rt.stdout();
+/// Shows the signatures of `mix` and two calls of it.
+pub fn show<W: Write>(alloc: Global, output: &mut W) -> io::Result<()> {
     writeln!(output, "mix")?;
     let known = signatures(alloc, Callee::Function("mix"))?;
-    show_all(&mut output, &known)?;
+    show_all(output, &known)?;
     let vector = Type::vector(alloc, 3, Type::F32)?;
-    show_calls(alloc, &mut output, &vector)
+    show_calls(alloc, output, &vector)
 }

@@ -1,6 +1,4 @@
 // What a language server shows for an expression: its type, or why it has none.
-#![tactic(auto)]
-
 use std::alloc::{AllocError, Global};
 use std::io;
 use std::io::Write;
@@ -50,9 +48,8 @@ fn show_calls<W: Write>(alloc: Global, output: &mut W) -> io::Result<()> {
     writeln!(output, "max(i, u): {}", hover_call(alloc, "max", &mixed)?)
 }
 
-fn main(rt: HostRuntime) -> io::Result<()> {
-    let alloc = rt.alloc();
-    let mut output = rt.stdout();
-    show_products(alloc, &mut output)?;
-    show_calls(alloc, &mut output)
+/// Shows two products and two calls.
+pub fn show<W: Write>(alloc: Global, output: &mut W) -> io::Result<()> {
+    show_products(alloc, output)?;
+    show_calls(alloc, output)
 }

@@ -1,6 +1,4 @@
 // Where the members of a uniform buffer lie, and what goes wrong if they are packed without padding.
-#![tactic(auto)]
-
 use std::alloc::{AllocError, Global};
 use std::io;
 use std::io::Write;
@@ -19,7 +17,7 @@ fn light(alloc: Global) -> Result<StructType, AllocError> {
 }
 
 /// One line per member: its offset, its type, and where it would lie in a struct that is packed without padding.
-fn show<W: Write>(alloc: Global, output: &mut W, buffer: &StructType) -> io::Result<()> {
+fn show_members<W: Write>(alloc: Global, output: &mut W, buffer: &StructType) -> io::Result<()> {
     let Some(layout) = buffer.layout(alloc)? else {
         return writeln!(output, "{} has no layout", buffer.name);
     };
@@ -38,9 +36,8 @@ fn show<W: Write>(alloc: Global, output: &mut W, buffer: &StructType) -> io::Res
     writeln!(output, "{size:>4} bytes in all (packed: {packed})")
 }
 
-fn main(rt: HostRuntime) -> io::Result<()> {
-    let alloc = rt.alloc();
+/// Shows the layout of a light.
+pub fn show<W: Write>(alloc: Global, output: &mut W) -> io::Result<()> {
     let light = light(alloc)?;
-    let mut output = rt.stdout();
-    show(alloc, &mut output, &light)
+    show_members(alloc, output, &light)
 }
