@@ -19,8 +19,8 @@ static const char *const heads[] = {
 static const char *const standard_heads[] = {
     "unary - T", "unary & T", "unary * const T", "binary == T T", "binary * const T T", "binary << T T", "ctor vec2 - T",
     "ctor vec2 < t T > f32", "ctor vec2 < t T > T", "call min - T T", "call abs - T", "call select - T T bool",
-    "call bitcast < t T > f32", "call bitcast < t T > T", "call foo - T", "call foo < t T > T", "binary + T", "unary - T f32",
-    "call min const T", "ctor vec2 < t T",
+    "call bitcast < t T > f32", "call bitcast < t T > T", "call foo - T", "call foo < t T > T", "size T", "offsets T", "layout T",
+    "binary + T", "unary - T f32", "call min const T", "ctor vec2 < t T",
 };
 static const char *const commands[] = {"", "resolve ", "why "};
 

@@ -72,8 +72,8 @@ pub data Answers : WgslRequest → WgslAnswer → Type 0 where
       IsExactly a (HasAlignment t) → Answers (size t) (a_size s a)
   offsets_are : {name : List ℕ} {ms : Members} (found : Option (List ℕ)) →
       AreOffsetsOf ms found → Answers (offsets name ms) (some_offsets found)
-  layout_is : {name : List ℕ} {ms : Members} (found : Option WgslLayout) →
-      IsLayoutOf ms found → Answers (layout name ms) (a_layout name ms found)
+  layout_is : {name : List ℕ} {ms laid : Members} (found : Option WgslLayout) →
+      IsLayoutOf laid found → Answers (layout name ms laid) (a_layout name ms found)
   ctor_is : {c : Signature} (r : Result WgslType Refusal) →
       IsConstructorAnswer c r → Answers (ctor c) (a_type r)
   call_is : {c : Signature} (r : Result (Option WgslType) Refusal) →

@@ -39,7 +39,7 @@ pub fn answer<'r>(alloc: Global, request: Request<'r>) -> Result<Answer<'r>, All
             Ok(Answer::Size(size, align))
         }
         Request::Offsets(structure) => Ok(Answer::Offsets(structure.offsets(alloc)?)),
-        Request::Layout(structure) => { Ok(Answer::Layout(structure, structure.layout(alloc)?)) }
+        Request::Layout(structure, laid) => Ok(Answer::Layout(structure, laid.layout(alloc)?)),
         Request::Constructor(callee) => {
             let made = type_ctor(alloc, callee.name, callee.template, callee.arguments);
             Ok(Answer::Type(settled(made)?))

@@ -18,8 +18,8 @@ pub enum Request<'r> {
     Size(&'r Type),
     /// The offsets of a struct's members.
     Offsets(&'r StructType),
-    /// The layout of a struct.
-    Layout(&'r StructType),
+    /// The layout of a struct, whose members are laid out as those of the second one.
+    Layout(&'r StructType, &'r StructType),
     /// The type that a constructor makes.
     Constructor(Callee<'r>),
     /// What a built-in function returns.

@@ -5,6 +5,7 @@ use Rattle.wgsl_syntax.specs.declared.operator.BinaryOperator.{BinaryOperator}
 use Rattle.wgsl_syntax.specs.declared.operator.UnaryOperator.{UnaryOperator}
 use Rattle.wgsl_rules.specs.types.Types.{WgslType, struct, Members}
 use Rattle.wgsl_rules.specs.types.Signatures.{Signature}
+use Rattle.wgsl_rules.specs.layout.Stored.{stored, stored_members}
 use Rattle.wgsl_asked.specs.Calls.{WgslCall}
 pub use Rattle.wgsl_asked.specs.Requests.{WgslRequest as Request, rank, common, unary, binary, size, offsets, layout, ctor, call, type_of, resolution_of, explanation_of, overloads_of}
 use Rattle.wgsl_requests.specs.Calls.{IsCall}
@@ -20,6 +21,15 @@ IsCallee (name ∷ words) c =
     (name ≡ c.name) × (after : List (List ℕ))
     × TemplateAt Ported words c.template after × TypesAt Ported after c.arguments
 
+-- the type as the rules lay it out, by WGSL's own with a `u32` for each `bool`
+abbrev pub laid_out : RuleSet → WgslType → WgslType
+laid_out Ported t = t
+laid_out Standard t = stored t
+
+abbrev pub members_laid_out : RuleSet → Members → Members
+members_laid_out Ported ms = ms
+members_laid_out Standard ms = stored_members ms
+
 -- The words spell the request.
 pub data IsRequest : RuleSet → List (List ℕ) → Request → Type 0 where
   -- about types alone, for either set of rules
@@ -32,15 +42,15 @@ pub data IsRequest : RuleSet → List (List ℕ) → Request → Type 0 where
       IsRequest rules (codes "common" ∷ words) (common (format_names rules) ts)
   -- `size vec 3 f32`
   size_words : {rules : RuleSet} {words : List (List ℕ)} {t : WgslType} → TypeAt rules words t [] →
-      IsRequest rules (codes "size" ∷ words) (size t)
+      IsRequest rules (codes "size" ∷ words) (size (laid_out rules t))
   -- `offsets struct S 2 a - - f32 b 16 - vec 3 f32`
   offsets_words : {rules : RuleSet} {words : List (List ℕ)} {name : List ℕ} {ms : Members} →
       TypeAt rules words (struct name ms) [] →
-      IsRequest rules (codes "offsets" ∷ words) (offsets name ms)
+      IsRequest rules (codes "offsets" ∷ words) (offsets name (members_laid_out rules ms))
   -- `layout struct S 2 a - - f32 b 16 - vec 3 f32`
   layout_words : {rules : RuleSet} {words : List (List ℕ)} {name : List ℕ} {ms : Members} →
       TypeAt rules words (struct name ms) [] →
-      IsRequest rules (codes "layout" ∷ words) (layout name ms)
+      IsRequest rules (codes "layout" ∷ words) (layout name ms (members_laid_out rules ms))
   -- by the rules of wgsl-types
 
   -- `unary - vec 3 f32`

@@ -2,15 +2,15 @@
 ghost use Rattle.std.specs.Prelude.{◌≡◌, ◌↔◌, ◌∷◌, IfOk, IsTrue, MatchResult, codes, map, option_map, string_bytes};
 ghost use Rattle.wgsl_syntax.specs.Operator.{binary_text, unary_text};
 ghost use Rattle.wgsl_rules.specs.types.Signatures.{Signature};
-ghost use Rattle.wgsl_core.specs.View.{view};
+ghost use Rattle.wgsl_core.specs.View.{struct_view, view};
 ghost use Rattle.wgsl_rules.specs.Headline.{Receives};
 ghost use Rattle.wgsl_asked.specs.Answers.{IsReceivedCommon};
-ghost use Rattle.wgsl_asked.specs.Requests.{common as common_request, layout as layout_request, offsets as offsets_request};
+ghost use Rattle.wgsl_asked.specs.Requests.{common as common_request, offsets as offsets_request};
 ghost use Rattle.wgsl_asked.specs.Views.{callee_view as asked_view, request_view};
 ghost use Rattle.wgsl_requests.specs.Answers.{IsAnswer, IsReply};
 ghost use Rattle.wgsl_requests.specs.Reading.{Answers, ReadsWord};
-ghost use Rattle.wgsl_requests.specs.Requests.{IsCallee, NoRequest};
-ghost use Rattle.wgsl_requests.specs.internal.Replied.{Replies, WritesOfStruct, callee_view};
+ghost use Rattle.wgsl_requests.specs.Requests.{IsCallee, NoRequest, laid_out};
+ghost use Rattle.wgsl_requests.specs.internal.Replied.{Replies, WritesOfStruct, callee_view, layout_by};
 ghost use Rattle.wgsl_requests.specs.internal.Taken.{left};
 ghost use Rattle.wgsl_requests.specs.internal.Written.{Adds};
 
@@ -29,7 +29,7 @@ use wgsl_syntax::texel::FormatNames;
 use wgsl_types::error::Fail;
 use wgsl_types::syntax::{BinaryOperator, UnaryOperator};
 use wgsl_types::tplt::TpltParam;
-use wgsl_types::ty::Type;
+use wgsl_types::ty::{StructType, Type};
 
 /// Writes the answer to the command and the words after it, or returns what is wrong with them if they are no command.
 pub fn write_answer(
@@ -221,10 +221,21 @@ pub(crate) fn size(
     ensures { Replies rules (codes "size" ∷ left words.old)
         (string_bytes text.old) (string_bytes text.new) result }
 {
-    let ty = read_last_type(alloc, rules, words)?;
+    let mut ty = read_last_type(alloc, rules, words)?;
+    lay_out(rules, &mut ty);
     let written = write_answer_to(alloc, Request::Size(&ty), text);
     drop(ty);
     Ok(written?)
+}
+
+/// Makes the type the one that the rules lay out.
+fn lay_out(rules: RuleSet, ty: &mut Type)
+    ensures { view ty.new ≡ laid_out rules (view ty.old) }
+{
+    match rules {
+        RuleSet::Ported => {}
+        RuleSet::Standard => ty.store_bools(),
+    }
 }
 
 /// `offsets T` for a struct T: the offset of each member.
@@ -237,7 +248,8 @@ pub(crate) fn offsets(
     ensures { Replies rules (codes "offsets" ∷ left words.old)
         (string_bytes text.old) (string_bytes text.new) result }
 {
-    let ty = read_last_type(alloc, rules, words)?;
+    let mut ty = read_last_type(alloc, rules, words)?;
+    lay_out(rules, &mut ty);
     let written = write_offsets_of(alloc, &ty, text);
     drop(ty);
     written
@@ -264,19 +276,47 @@ pub(crate) fn layout(
         (string_bytes text.old) (string_bytes text.new) result }
 {
     let ty = read_last_type(alloc, rules, words)?;
-    let written = write_layout_of(alloc, &ty, text);
+    let written = write_layout_of(alloc, rules, &ty, text);
     drop(ty);
     written
 }
 
-fn write_layout_of(alloc: Global, ty: &Type, text: &mut String) -> Result<TextKind, Fail<Misfit>>
-    ensures { WritesOfStruct layout_request (view ty.now)
+fn write_layout_of(
+    alloc: Global,
+    rules: RuleSet,
+    ty: &Type,
+    text: &mut String,
+) -> Result<TextKind, Fail<Misfit>>
+    ensures { WritesOfStruct (layout_by rules) (view ty.now)
         (string_bytes text.old) (string_bytes text.new) result }
 {
     let Type::Struct(structure) = ty else {
         return Err(Fail::Error(Misfit::NoStruct));
     };
-    Ok(write_answer_to(alloc, Request::Layout(structure), text)?)
+    Ok(write_layout_by(alloc, rules, structure, text)?)
+}
+
+/// The report of a struct, as the rules lay it out.
+fn write_layout_by(
+    alloc: Global,
+    rules: RuleSet,
+    structure: &StructType,
+    text: &mut String,
+) -> Result<TextKind, AllocError>
+    ensures { let s = struct_view structure.now in IfOk result (λ kind.
+        Adds (IsAnswer (layout_by rules s.name s.members) kind)
+        (string_bytes text.old) (string_bytes text.new)) }
+{
+    match rules {
+        RuleSet::Ported => write_answer_to(alloc, Request::Layout(structure, structure), text),
+        RuleSet::Standard => {
+            let mut stored = structure.clone(alloc)?;
+            stored.store_bools();
+            let written = write_answer_to(alloc, Request::Layout(structure, &stored), text);
+            drop(stored);
+            written
+        }
+    }
 }
 
 /// The name of a constructor or a built-in function, with its template and the types of its arguments.

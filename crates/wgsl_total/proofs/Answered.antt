@@ -25,8 +25,8 @@ of_offsets name ms = elim (offsets_or_cause ms) [
   | inr cause ↦ (some_offsets None, offsets_are None cause)
 ]
 
-of_layout : (name : List ℕ) (ms : Members) → Answered (layout name ms)
-of_layout name ms = elim (layout_or_cause ms) [
+of_layout : (name : List ℕ) (ms laid : Members) → Answered (layout name ms laid)
+of_layout name ms laid = elim (layout_or_cause laid) [
   | inl h ↦ let l : WgslLayout = record { layouts = h.sized.layouts; offsets = h.offsets; size = h.size; align = h.align } in
       (a_layout name ms (Some l), layout_is (Some l) h.layout)
   | inr cause ↦ (a_layout name ms None, layout_is None cause)
@@ -39,7 +39,7 @@ some_answer (unary o t) = let r = a_unary o t in (a_type r.0, unary_is r.0 r.1)
 some_answer (binary o t u) = let r = a_binary o t u in (a_type r.0, binary_is r.0 r.1)
 some_answer (size t) = let s = exact_size t in let a = exact_alignment t in (a_size s.0 a.0, size_is s.0 a.0 s.1 a.1)
 some_answer (offsets name ms) = of_offsets name ms
-some_answer (layout name ms) = of_layout name ms
+some_answer (layout name ms laid) = of_layout name ms laid
 some_answer (ctor c) = let r = a_constructor c in (a_type r.0, ctor_is r.0 r.1)
 some_answer (call c) = let r = a_call c in (a_value r.0, call_is r.0 r.1)
 some_answer (type_of c) = let r = some_type c in (a_type_of c r.0, type_of_is r.0 r.1)

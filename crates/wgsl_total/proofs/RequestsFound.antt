@@ -9,7 +9,8 @@ use Rattle.wgsl_rules.specs.types.Signatures.{Signature}
 use Rattle.wgsl_asked.specs.Calls.{WgslCall}
 use Rattle.wgsl_requests.specs.Grammar.{TypeAt, TypesAt, format_names}
 use Rattle.wgsl_requests.specs.Reading.{IsText}
-use Rattle.wgsl_requests.specs.Requests.{Request, rank, common, unary, binary, size, offsets, layout, ctor, call, type_of, resolution_of, explanation_of, overloads_of, IsRequest, rank_words, common_words, unary_words, binary_words, size_words, offsets_words, layout_words, ctor_words, call_words, type_words, resolve_words, why_words, overloads_words}
+use Rattle.wgsl_requests.specs.Requests.{Request, rank, common, unary, binary, size, laid_out, ctor, call, type_of, resolution_of, explanation_of, overloads_of, IsRequest, rank_words, common_words, unary_words, binary_words, size_words, offsets_words, layout_words, ctor_words, call_words, type_words, resolve_words, why_words, overloads_words}
+use Rattle.wgsl_requests.specs.internal.Replied.{layout_by, offsets_by}
 use Rattle.wgsl_requests.specs.declared.rules.RuleSet.{RuleSet}
 use Rattle.wgsl_requests.specs.declared.rules.RuleSet.TheVariants.{Ported, Standard}
 use Rattle.wgsl_requests.proofs.OneType.{one_list, one_type}
@@ -74,7 +75,7 @@ a_binary words = elim (a_word (IsText binary_text) (a_name binary_text binary_op
 ]
 
 a_size : {rules : RuleSet} (words : List (List ℕ)) → Means (SizeForm rules words)
-a_size {rules} words = elim (whole_type {rules = rules} words) [ inl t ↦ inl (size t.0, (t.0, t.1, refl)) | inr none ↦ inr (λ r f. none f.0 f.1) ]
+a_size {rules} words = elim (whole_type {rules = rules} words) [ inl t ↦ inl (size (laid_out rules t.0), (t.0, t.1, refl)) | inr none ↦ inr (λ r f. none f.0 f.1) ]
 
 only_struct : {rules : RuleSet} (ask : List ℕ → Members → Request) {words : List (List ℕ)} → Means (λ t. TypeAt rules words t []) → Means (StructForm rules ask words)
 only_struct ask (inr none) = inr (λ r f. none (struct f.0 f.1) f.2)
@@ -106,8 +107,8 @@ module _ (word : List ℕ) (words : List (List ℕ)) where
       (by_word (bytes_eq word (codes "unary")) (a_unary words)
       (by_word (bytes_eq word (codes "binary")) (a_binary words)
       (by_word (bytes_eq word (codes "size")) (a_size words)
-      (by_word (bytes_eq word (codes "offsets")) (only_struct offsets (whole_type words))
-      (by_word (bytes_eq word (codes "layout")) (only_struct layout (whole_type words))
+      (by_word (bytes_eq word (codes "offsets")) (only_struct (offsets_by Ported) (whole_type words))
+      (by_word (bytes_eq word (codes "layout")) (only_struct (layout_by Ported) (whole_type words))
       (by_word (bytes_eq word (codes "ctor")) (a_callee_form ctor words)
       (by_word (bytes_eq word (codes "call")) (a_callee_form call words) (inr (λ r h. h))))))))))
 
@@ -116,8 +117,8 @@ module _ (word : List ℕ) (words : List (List ℕ)) where
       by_word (bytes_eq word (codes "rank")) (a_rank words)
       (by_word (bytes_eq word (codes "common")) (a_common words)
       (by_word (bytes_eq word (codes "size")) (a_size words)
-      (by_word (bytes_eq word (codes "offsets")) (only_struct offsets (whole_type words))
-      (by_word (bytes_eq word (codes "layout")) (only_struct layout (whole_type words))
+      (by_word (bytes_eq word (codes "offsets")) (only_struct (offsets_by Standard) (whole_type words))
+      (by_word (bytes_eq word (codes "layout")) (only_struct (layout_by Standard) (whole_type words))
       (by_word (bytes_eq word (codes "resolve")) (a_call_form resolution_of words)
       (by_word (bytes_eq word (codes "why")) (a_call_form explanation_of words)
       (by_word (bytes_eq word (codes "overloads")) (some_overloads words) (a_call_form type_of (word ∷ words)))))))))

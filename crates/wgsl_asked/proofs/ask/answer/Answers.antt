@@ -33,7 +33,7 @@ returns-in_ok-offsets-in-Offsets c =
 pub returns-in_ok-layout-in-Layout : goal.returns-in_ok-layout-in-Layout
 returns-in_ok-layout-in-Layout c =
     let h = c.in_ok-layout-in-Layout in
-    rw c.in-Layout.is (layout_is _ (layout_seen (struct_view c.in-Layout.structure.now).members h.field-0 h.ensures.none.1 h.ensures.layout))
+    rw c.in-Layout.is (layout_is _ (layout_seen (struct_view c.in-Layout.laid.now).members h.field-0 h.ensures.none.1 h.ensures.layout))
 
 pub returns-in_ok-settled-in-Constructor : goal.returns-in_ok-settled-in-Constructor
 returns-in_ok-settled-in-Constructor c =
