@@ -1,6 +1,7 @@
 // An expression with types for its operands, as a request in words.
 
-const COMMANDS = new Set(["rank", "common", "size", "offsets", "layout", "unary", "binary", "ctor", "call", "resolve", "why", "overloads"]);
+const COMMANDS = new Set(["rank", "common", "size", "offsets", "layout", "unary", "binary", "ctor", "call", "resolve", "why", "overloads",
+  "member", "index", "load", "let", "const", "override", "var", "assign", "increment", "decrement", "construct", "switch"]);
 const BINARY = ["||", "&&", "<<", ">>", "==", "!=", "<=", ">=", "+", "-", "*", "/", "%", "<", ">", "|", "&", "^"];
 const UNARY = ["!", "-", "~", "&", "*"];
 const SUFFIXES = { i: "i32", u: "u32", f: "f32", h: "f16" };

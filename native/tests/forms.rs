@@ -5,10 +5,17 @@ mod words;
 
 use std::{env, fs};
 use wgsl_types_proved::mem::StructLayout;
+use wgsl_types_proved::requests::{self, standard_answer};
 use wgsl_types_proved::standard::*;
 use wgsl_types_proved::syntax::{AddressSpace, AssignmentOperator, UnaryOperator};
 use wgsl_types_proved::Type;
 use words::Words;
+
+/// The forms that are requests.
+const REQUESTS: [&str; 12] = [
+    "member", "index", "load", "let", "const", "override", "assign", "increment", "decrement",
+    "construct", "switch", "var",
+];
 
 const ASSIGNMENTS: [AssignmentOperator; 11] = [
     AssignmentOperator::Equal,
@@ -32,8 +39,13 @@ fn questions_are_answered() {
     let mut count = 0;
     for (question, expected) in rows.filter_map(|row| row.split_once('\t')) {
         let mut words = Words::new(question);
-        let found =
-            answer(&mut words).unwrap_or_else(|refusal| format!("refused\t{}", variant(&refusal)));
+        let found = answer(&mut words);
+        if REQUESTS.iter().any(|form| question.split(' ').next() == Some(form)) {
+            let refused = |refusal: &Refusal| requests::Error::Refused(refusal.to_string());
+            let answered = found.as_ref().map(String::clone).map_err(refused);
+            assert_eq!(standard_answer(question), answered, "{question}");
+        }
+        let found = found.unwrap_or_else(|refusal| format!("refused\t{}", variant(&refusal)));
         assert_eq!(found, expected, "{question}");
         assert!(words.is_empty(), "{question}");
         count += 1;
@@ -117,8 +129,9 @@ fn declared(declaration: Declaration, words: &mut Words) -> Result<Type, Refusal
 }
 
 fn stored(words: &mut Words) -> Result<Type, Refusal> {
-    let space = words.space().unwrap_or(AddressSpace::Function);
-    let access = words.name();
+    let said = words.space();
+    let space = said.unwrap_or(AddressSpace::Function);
+    let access = if said.is_some() { words.access() } else { None };
     if let Some(ty) = words.declared() {
         return variable(space, access, &ty);
     }

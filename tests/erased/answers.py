@@ -3,10 +3,13 @@ import glob
 import os
 import re
 
+from check_forms import questions as form_questions
 from random_lines import random_lines
+from random_requests import random_requests
 from tools import TESTS, TOP, answers_of, cargo, fail
 
 LINES = 300_000
+FORMS = 30_000
 PROGRAMS = ("wgsl_check", "wgsl_standard")
 
 
@@ -50,7 +53,8 @@ def compare_arguments(native):
 def questions():
     asked = list(rows())
     names = sorted({row.split()[1] for row in asked if re.match(r"(call|ctor) \S", row)})
-    lines = [row.encode() for row in asked] + random_lines(names, LINES)
+    forms = [request for request, _ in form_questions()] + random_requests(FORMS)
+    lines = [row.encode() for row in asked + forms] + random_lines(names, LINES)
     return b"\n".join(lines) + b"\n"
 
 

@@ -1,12 +1,16 @@
 """What the rules answer to a request in words."""
-from request_words import ACCESSES, SPACES, Words
+from request_words import SPACES, Words
 from rules import Refused
 from runtime_layouts import layout
 import rules
 
+# `atomic` begins a type.
+SAID_ACCESSES = "read", "write", "read_write"
+
 
 def of_variable(words):
-    space, access = words.takes(*SPACES), words.takes(*ACCESSES)
+    space = words.takes(*SPACES)
+    access = words.takes(*SAID_ACCESSES) if space else None
     return rules.variable(space, access, *words.initialized())
 
 

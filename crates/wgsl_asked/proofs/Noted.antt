@@ -32,7 +32,7 @@ notes_with callee (Some t) xs ns h = by_template (is_template t) h
     by_template true h = h
     by_template false h = h
 
-same_types : (xs : List Operand) → types_given xs ≡ types_of (map written_view xs)
+pub same_types : (xs : List Operand) → types_given xs ≡ types_of (map written_view xs)
 same_types [] = refl
 same_types (x ∷ xs) = ap (λ ts. given_type x.ty ∷ ts) (same_types xs)
 

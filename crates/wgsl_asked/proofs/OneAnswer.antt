@@ -1,5 +1,5 @@
 -- A request has at most one answer.
-use Rattle.std.proofs.Common.{◌≡◌, ℕ, List, Option, Some, None, refl, sym, ap, ◌∙◌}
+use Rattle.std.proofs.Common.{◌≡◌, ℕ, List, Option, Some, None, Result, refl, sym, ap, ◌∙◌}
 use Rattle.wgsl_rules.specs.types.Types.{WgslType, Members}
 use Rattle.wgsl_rules.specs.conversion.Conversion.{Converts}
 use Rattle.wgsl_rules.specs.layout.Layout.{HasSize, HasAlignment, IsExactly}
@@ -9,8 +9,12 @@ use Rattle.wgsl_rules.proofs.constructors.OneAnswer.{constructor_answer_once}
 use Rattle.wgsl_rules.proofs.layout.OneLayout.{layout_once, offsets_once}
 use Rattle.wgsl_rules.proofs.layout.StructSizes.{never_both}
 use Rattle.wgsl_rules.proofs.operators.OneAnswer.{operator_answer_once, unary_answer_once}
-use Rattle.wgsl_asked.specs.Answers.{Answers, WgslAnswer, WgslLayout, IsReceivedCommon, AreOffsetsOf, IsLayoutOf, a_number, a_size, a_common_type, a_type, a_value, some_offsets, a_layout, a_type_of, a_resolution_of, some_lines, rank_is, common_is, unary_is, binary_is, size_is, offsets_are, layout_is, ctor_is, call_is, type_of_is, resolution_of_is, explanation_of_is, overloads_of_are}
+use Rattle.wgsl_asked.specs.Answers.{Answers, WgslAnswer, WgslLayout, IsReceivedCommon, AreOffsetsOf, IsLayoutOf, a_number, a_size, a_common_type, a_type, a_value, some_offsets, a_layout, a_type_of, a_resolution_of, some_lines, a_form_type, rank_is, common_is, unary_is, binary_is, size_is, offsets_are, layout_is, ctor_is, call_is, type_of_is, resolution_of_is, explanation_of_is, overloads_of_are, form_is}
+use Rattle.wgsl_asked.specs.Forms.{WgslForm, IsFormType, member_of, index_of, load_of, declaration_of, override_of, assignment_of, increment_of, discard_of, construct_of, switch_of, variable_of, initialized_of}
 use Rattle.wgsl_asked.specs.Requests.{WgslRequest}
+use Rattle.wgsl_forms.specs.Assign.{operator_of}
+use Rattle.wgsl_forms.specs.Refusals.{Refusal}
+use Rattle.wgsl_forms.proofs.OnlyAnswers.{assignments}
 use Rattle.wgsl_asked.proofs.OneOverloaded.{explanation_once, resolution_once, type_once}
 
 -- at most one number is exactly that
@@ -39,6 +43,20 @@ one_layout ms (Some k) None f g = absurd (never_both ms k.size f.sized g)
 one_layout ms None (Some l) f g = absurd (never_both ms l.size g.sized f)
 one_layout ms None None f g = refl
 
+one_form_type : (f : WgslForm) (r s : Result WgslType Refusal) → IsFormType f r → IsFormType f s → r ≡ s
+one_form_type (member_of x name) r s h k = h ∙ sym k
+one_form_type (index_of x i) r s h k = h ∙ sym k
+one_form_type (load_of x) r s h k = h ∙ sym k
+one_form_type (declaration_of d x t) r s h k = h ∙ sym k
+one_form_type (override_of t) r s h k = h ∙ sym k
+one_form_type (assignment_of o x y) r s h k = let one = (assignments (operator_of o) x.of_type y).2 in one r h ∙ sym (one s k)
+one_form_type (increment_of x) r s h k = h ∙ sym k
+one_form_type (discard_of x) r s h k = h ∙ sym k
+one_form_type (construct_of t xs) r s h k = h ∙ sym k
+one_form_type (switch_of x ys) r s h k = h ∙ sym k
+one_form_type (variable_of m a t) r s h k = h ∙ sym k
+one_form_type (initialized_of m a x t) r s h k = h ∙ sym k
+
 -- whatever the request
 same_answer : {request : WgslRequest} {a b : WgslAnswer} → Answers request a → Answers request b → a ≡ b
 same_answer (rank_is {t} {u} v f) (rank_is w g) = ap a_number (one_number (Converts t u) v w f g)
@@ -54,6 +72,7 @@ same_answer (type_of_is {c} r f) (type_of_is s g) = ap (a_type_of c) (type_once 
 same_answer (resolution_of_is {c} r f) (resolution_of_is s g) = ap (a_resolution_of c) (resolution_once c r s f g)
 same_answer (explanation_of_is {c} r f) (explanation_of_is s g) = ap some_lines (explanation_once c r s f g)
 same_answer (overloads_of_are r f) (overloads_of_are s g) = ap some_lines (f ∙ sym g)
+same_answer (form_is {f} r h) (form_is s k) = ap a_form_type (one_form_type f r s h k)
 
 pub answer_once : (request : WgslRequest) (a b : WgslAnswer) → Answers request a → Answers request b → a ≡ b
 answer_once request a b h k = same_answer h k

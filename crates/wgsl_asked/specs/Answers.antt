@@ -13,10 +13,12 @@ use Rattle.wgsl_rules.specs.layout.Layout.{AreOffsets, HasAlignment, HasNoSize, 
 use Rattle.wgsl_rules.specs.operators.Answers.{IsOperatorAnswer, IsUnaryAnswer}
 use Rattle.wgsl_rules.specs.constructors.Constructors.{IsConstructorAnswer}
 use Rattle.wgsl_rules.specs.calls.Answers.{IsCallAnswer}
+use Rattle.wgsl_forms.specs.Refusals.{Refusal as FormRefusal}
 use Rattle.wgsl_asked.specs.Calls.{WgslCall, WgslResolution}
+use Rattle.wgsl_asked.specs.Forms.{WgslForm, IsFormType}
 use Rattle.wgsl_asked.specs.Overloads.{lines_named}
 use Rattle.wgsl_asked.specs.Standard.{IsExplanationOf, IsResolutionOf, IsTypeOf}
-use Rattle.wgsl_asked.specs.Requests.{WgslRequest, rank, common, unary, binary, size, offsets, layout, ctor, call, type_of, resolution_of, explanation_of, overloads_of}
+use Rattle.wgsl_asked.specs.Requests.{WgslRequest, rank, common, unary, binary, size, offsets, layout, ctor, call, type_of, resolution_of, explanation_of, overloads_of, form_of}
 
 -- a struct's layout: the size, the alignment and the offset of each member, its own size and alignment
 pub record WgslLayout : Type 0 where
@@ -39,6 +41,7 @@ pub data WgslAnswer : Type 0 where
   a_resolution_of : WgslCall → Option WgslResolution → WgslAnswer
   -- a line for each overload
   some_lines : List (List ℕ) → WgslAnswer
+  a_form_type : Result WgslType FormRefusal → WgslAnswer
   -- no request has this answer
   out_of_memory : WgslAnswer
 
@@ -85,3 +88,5 @@ pub data Answers : WgslRequest → WgslAnswer → Type 0 where
       IsExplanationOf c lines → Answers (explanation_of c) (some_lines lines)
   overloads_of_are : {name : List ℕ} (lines : List (List ℕ)) →
       lines ≡ lines_named name → Answers (overloads_of name) (some_lines lines)
+  form_is : {f : WgslForm} (r : Result WgslType FormRefusal) →
+      IsFormType f r → Answers (form_of f) (a_form_type r)

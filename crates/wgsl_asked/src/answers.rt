@@ -8,6 +8,8 @@ use wgsl_core::error::{Error, Fail};
 use wgsl_core::layout::StructLayout;
 use wgsl_core::operators::resolve::{Element, Extent, ResolvedType};
 use wgsl_core::ty::{StructType, Type};
+use wgsl_forms::form::FormType;
+use wgsl_forms::refusal::Refusal;
 use wgsl_standard::explanation::Note;
 use wgsl_standard::instance::ResultType;
 use wgsl_standard::resolved::ResolvedCall;
@@ -35,6 +37,8 @@ pub enum Answer<'r> {
     Resolution(&'r Call<'r>, Option<ResolvedCall>),
     Overloads(Vec<Signature<'r>>),
     Notes(Vec<Note<'r>>),
+    /// The type of a form, or why it has none.
+    FormType(Result<FormType<'r>, Refusal<'r>>),
 }
 
 /// Operands of a binary operator.

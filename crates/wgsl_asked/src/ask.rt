@@ -7,6 +7,7 @@ ghost use Rattle.wgsl_core.specs.View.{view};
 ghost use Rattle.wgsl_asked.specs.Views.{answer_view, binary_view, request_view};
 
 use crate::answers::{Answer, Operands};
+use crate::forms::type_of_form;
 use crate::overloads::signatures_named;
 use crate::requests::Request;
 use crate::standard::{notes_on, resolution_of, type_of};
@@ -52,6 +53,7 @@ pub fn answer<'r>(alloc: Global, request: Request<'r>) -> Result<Answer<'r>, All
         Request::Resolution(call) => Ok(Answer::Resolution(call, resolution_of(alloc, call)?)),
         Request::Overloads(name) => Ok(Answer::Overloads(signatures_named(alloc, name)?)),
         Request::Explanation(call) => Ok(Answer::Notes(notes_on(alloc, call)?)),
+        Request::Form(form) => Ok(Answer::FormType(type_of_form(form))),
     }
 }
 

@@ -3,6 +3,7 @@
 
 pub mod answers;
 pub mod ask;
+mod forms;
 mod overloads;
 pub mod requests;
 pub mod standard;

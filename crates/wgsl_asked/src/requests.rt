@@ -1,9 +1,11 @@
 // What is asked.
 use wgsl_core::signature::TpltParam;
 use wgsl_core::ty::{StructType, Type};
+use wgsl_forms::declare::Declaration;
 use wgsl_standard::callee::Callee as OverloadedCallee;
 use wgsl_standard::operand::Operand;
-use wgsl_syntax::operator::{BinaryOperator, UnaryOperator};
+use wgsl_syntax::address::{AccessMode, AddressSpace};
+use wgsl_syntax::operator::{AssignmentOperator, BinaryOperator, UnaryOperator};
 
 /// What is asked of the rules.
 #[derive(Clone, Copy)]
@@ -32,6 +34,8 @@ pub enum Request<'r> {
     Overloads(&'r str),
     /// Why overloads don't take the operands of a call.
     Explanation(&'r Call<'r>),
+    /// The type of a form that has no overloads.
+    Form(&'r Form<'r>),
 }
 
 /// The call of a constructor or of a built-in function.
@@ -48,4 +52,33 @@ pub struct Call<'r> {
     pub callee: OverloadedCallee<'r>,
     pub template: Option<&'r [TpltParam]>,
     pub operands: &'r [Operand<'r>],
+}
+
+/// A form of an expression or a statement that has no overloads.
+#[derive(Clone, Copy)]
+pub enum Form<'r> {
+    /// `x.name`
+    Member(Operand<'r>, &'r str),
+    /// `x[i]`
+    Index(Operand<'r>, Operand<'r>),
+    /// `x`, where a value is read.
+    Load(Operand<'r>),
+    /// `let x = v;`, `const x: T = v;`, `override x = v;`
+    Declaration(Declaration, Operand<'r>, Option<&'r Type>),
+    /// `override x: T;`
+    Override(&'r Type),
+    /// `x = y;`, `x += y;`
+    Assignment(AssignmentOperator, Operand<'r>, Operand<'r>),
+    /// `x++;`, `x--;`
+    Increment(Operand<'r>),
+    /// `_ = x;`
+    Discard(Operand<'r>),
+    /// `S(x, y)`, where `S` is a struct.
+    Construct(&'r Type, &'r [Operand<'r>]),
+    /// `switch x { case y {} case z {} }`
+    Switch(Operand<'r>, &'r [Operand<'r>]),
+    /// `var<storage> x: T;`
+    Variable(AddressSpace, Option<AccessMode>, &'r Type),
+    /// `var<private> x = v;`, `var x: T = v;`
+    Initialized(AddressSpace, Option<AccessMode>, Operand<'r>, Option<&'r Type>),
 }

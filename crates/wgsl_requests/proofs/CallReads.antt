@@ -172,7 +172,7 @@ plain_form (word ∷ words) t rest d = step (bytes_eq word (codes "const")) refl
     step true e = absurd (no_const_type words t rest (subst (λ w. TypeAt Standard (w ∷ words) t rest) ((bytes_eq-Decides word (codes "const")).0 e) d))
     step false e = (t, d, refl)
 
-operand_form : {words rest : List (List ℕ)} {x : Operand} → OperandAt words x rest → OperandForm words x rest
+pub operand_form : {words rest : List (List ℕ)} {x : Operand} → OperandAt words x rest → OperandForm words x rest
 operand_form (constant_at {words} {rest} {t} d) = (t, d, refl)
 operand_form (plain_at {words} {rest} {t} d) = plain_form words t rest d
 
@@ -202,7 +202,7 @@ abbrev pub OperandsForm : List (List ℕ) → List Operand → Type 0
 OperandsForm words [] = words ≡ []
 OperandsForm words (x ∷ xs) = (rest : List (List ℕ)) × OperandAt words x rest × OperandsAt rest xs
 
-operands_form : {words : List (List ℕ)} {xs : List Operand} → OperandsAt words xs → OperandsForm words xs
+pub operands_form : {words : List (List ℕ)} {xs : List Operand} → OperandsAt words xs → OperandsForm words xs
 operands_form no_operands_at = refl
 operands_form (operand_at {words} {rest} d ds) = (rest, d, ds)
 

@@ -5,13 +5,15 @@ use Rattle.wgsl_syntax.proofs.Naming.{binary_naming, unary_naming}
 use Rattle.wgsl_rules.specs.types.Types.{WgslType, struct, Members}
 use Rattle.wgsl_rules.specs.types.Signatures.{Parameter, Signature}
 use Rattle.wgsl_requests.specs.Grammar.{TypeAt, TypesAt}
-use Rattle.wgsl_requests.specs.Requests.{Request, rank, common, unary, binary, size, offsets, layout, ctor, call, type_of, resolution_of, explanation_of, overloads_of, IsCallee, IsRequest}
-use Rattle.wgsl_requests.proofs.Meanings.{both_bool}
+use Rattle.wgsl_requests.specs.Requests.{Request, rank, common, unary, binary, size, offsets, layout, ctor, call, type_of, resolution_of, explanation_of, overloads_of, form_of, IsCallee, IsRequest}
+use Rattle.wgsl_requests.proofs.Meanings.{both_bool, both_option}
 use Rattle.wgsl_requests.proofs.OneType.{one_list, one_type}
-use Rattle.wgsl_requests.proofs.Requested.{BinaryForm, CallForm, CalleeForm, OverloadsForm, PortedForm, StandardForm, CommonForm, RankForm, RequestForm, SizeForm, StructForm, UnaryForm, request_form}
+use Rattle.wgsl_requests.proofs.Requested.{BinaryForm, CallForm, CalleeForm, OverloadsForm, FormForm, PortedForm, StandardForm, CommonForm, RankForm, RequestForm, SizeForm, StructForm, UnaryForm, request_form}
 use Rattle.wgsl_requests.proofs.CallReads.{one_call as one_call_read}
+use Rattle.wgsl_requests.proofs.FormWords.{one_form as one_form_read}
 use Rattle.wgsl_requests.proofs.TemplateReads.{one_template}
 use Rattle.wgsl_asked.specs.Calls.{WgslCall}
+use Rattle.wgsl_requests.specs.declared.form_command.FormCommand.{FormCommand}
 use Rattle.wgsl_requests.specs.declared.rules.RuleSet.{RuleSet}
 use Rattle.wgsl_requests.specs.declared.rules.RuleSet.TheVariants.{Ported, Standard}
 
@@ -93,6 +95,9 @@ one_overloads words r s f g =
     let name : f.0 ≡ g.0 = cc e in
     f.2 ∙ (ap overloads_of name ∙ sym g.2)
 
+one_of_form : (words : List (List ℕ)) (r s : Request) (command : FormCommand) → FormForm words r command → FormForm words s command → r ≡ s
+one_of_form words r s command f g = f.2 ∙ (ap form_of (one_form_read command words f.0 g.0 f.1 g.1) ∙ sym g.2)
+
 one_standard : OneForm StandardForm
 one_standard [] r s f g = absurd f
 one_standard (word ∷ words) r s f g =
@@ -103,7 +108,8 @@ one_standard (word ∷ words) r s f g =
     (both_bool _ _ _ _ _ _ (one_struct Standard layout words r s)
     (both_bool _ _ _ _ _ _ (one_overloaded resolution_of words r s)
     (both_bool _ _ _ _ _ _ (one_overloaded explanation_of words r s)
-    (both_bool _ _ _ _ _ _ (one_overloads words r s) (one_overloaded type_of (word ∷ words) r s)))))))) f g
+    (both_bool _ _ _ _ _ _ (one_overloads words r s)
+    (both_option _ _ _ _ _ _ (one_overloaded type_of (word ∷ words) r s) (one_of_form words r s))))))))) f g
 
 one_form : (rules : RuleSet) → OneForm (RequestForm rules)
 one_form Ported words r s f g = one_ported words r s f g

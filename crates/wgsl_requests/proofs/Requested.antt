@@ -1,8 +1,10 @@
 -- What request words spell, by the first word.
-use Rattle.std.proofs.Common.{◌≡◌, ◌≢◌, ◌↔◌, ℕ, Bool, true, false, List, [], ◌∷◌, Option, codes, refl, sym, subst, ◌∙◌}
+use Rattle.std.proofs.Common.{◌≡◌, ◌≢◌, ◌↔◌, ℕ, Bool, true, false, List, [], ◌∷◌, Option, None, codes, refl, sym, subst, ◌∙◌}
 use Rattle.std.specs.Bool.{MatchBool}
+use Rattle.std.specs.Option.{MatchOption}
 use Rattle.std.specs.Str.{bytes_eq}
 use Rattle.std.proofs.lemmas.Slice.Eq.{bytes_eq-Decides}
+use Rattle.wgsl_syntax.specs.Names.{named, table}
 use Rattle.wgsl_syntax.specs.Operator.{binary_text, unary_text}
 use Rattle.wgsl_syntax.specs.declared.operator.BinaryOperator.{BinaryOperator}
 use Rattle.wgsl_syntax.specs.declared.operator.UnaryOperator.{UnaryOperator}
@@ -10,12 +12,18 @@ use Rattle.wgsl_rules.specs.types.Types.{WgslType, struct, Members}
 use Rattle.wgsl_rules.specs.types.Signatures.{Parameter, Signature}
 use Rattle.wgsl_standard.specs.Callees.{WgslCallee}
 use Rattle.wgsl_asked.specs.Calls.{WgslCall}
+use Rattle.wgsl_asked.specs.Forms.{WgslForm}
 use Rattle.wgsl_requests.specs.Calls.{HeadAt, IsCall, binary_at, call_at, ctor_at, unary_at}
+use Rattle.wgsl_requests.specs.Forms.{IsForm, command_text, form_commands}
 use Rattle.wgsl_requests.specs.Grammar.{TypeAt, TypesAt}
+use Rattle.wgsl_requests.specs.declared.form_command.FormCommand.{FormCommand}
+use Rattle.wgsl_requests.specs.declared.form_command.FormCommand.TheVariants.{Member, Declare}
+use Rattle.wgsl_forms.specs.declared.declare.Declaration.TheVariants.{Let, Const, Override}
 use Rattle.wgsl_requests.specs.declared.rules.RuleSet.{RuleSet}
 use Rattle.wgsl_requests.specs.declared.rules.RuleSet.TheVariants.{Ported, Standard}
+use Rattle.wgsl_requests.proofs.Meanings.{past_option}
 use Rattle.wgsl_requests.proofs.OneType.{one_type}
-use Rattle.wgsl_requests.specs.Requests.{Request, rank, common, unary, binary, size, offsets, layout, ctor, call, IsRequest, rank_words, common_words, unary_words, binary_words, size_words, offsets_words, layout_words, ctor_words, call_words, type_words, resolve_words, why_words, overloads_words, type_of, resolution_of, explanation_of, overloads_of, IsCallee, NoRequest}
+use Rattle.wgsl_requests.specs.Requests.{Request, rank, common, unary, binary, size, offsets, layout, ctor, call, IsRequest, rank_words, common_words, unary_words, binary_words, size_words, offsets_words, layout_words, ctor_words, call_words, type_words, resolve_words, why_words, overloads_words, form_words, type_of, resolution_of, explanation_of, overloads_of, form_of, IsCallee, NoRequest}
 
 abbrev pub RankForm : RuleSet → List (List ℕ) → Request → Type 0
 RankForm rules words request = (t : WgslType) × (u : WgslType) × TypesAt rules words (t ∷ u ∷ []) × (request ≡ rank t u)
@@ -43,6 +51,13 @@ CallForm ask words request = (c : WgslCall) × IsCall words c × (request ≡ as
 
 abbrev pub OverloadsForm : List (List ℕ) → Request → Type 0
 OverloadsForm words request = (name : List ℕ) × (words ≡ name ∷ []) × (request ≡ overloads_of name)
+
+abbrev pub FormForm : List (List ℕ) → Request → FormCommand → Type 0
+FormForm words request command = (f : WgslForm) × IsForm command words f × (request ≡ form_of f)
+
+-- the command of a form that the word is
+abbrev pub command_named : List ℕ → Option FormCommand
+command_named word = named (table command_text form_commands) word
 
 -- P if the word is the key, else Q
 abbrev If : List ℕ → List ℕ → Type 0 → Type 0 → Type 0
@@ -74,7 +89,7 @@ StandardForm (word ∷ words) request =
     (If word (codes "resolve") (CallForm resolution_of words request)
     (If word (codes "why") (CallForm explanation_of words request)
     (If word (codes "overloads") (OverloadsForm words request)
-    (CallForm type_of (word ∷ words) request))))))))
+    (MatchOption (command_named word) (CallForm type_of (word ∷ words) request) (FormForm words request)))))))))
 
 abbrev pub RequestForm : RuleSet → List (List ℕ) → Request → Type 0
 RequestForm Ported words request = PortedForm words request
@@ -86,6 +101,14 @@ call_form request (unary_at o) f = f
 call_form request (binary_at o) f = f
 call_form request (ctor_at d) f = f
 call_form request (call_at d) f = f
+
+-- nor does a form
+pub command_form : (command : FormCommand) (words : List (List ℕ)) (request : Request) → StandardForm (command_text command ∷ words) request ↔ FormForm words request command
+command_form Member words request = ((λ f. f), (λ f. f))
+command_form (Declare Let) words request = ((λ f. f), (λ f. f))
+command_form (Declare Const) words request = ((λ f. f), (λ f. f))
+command_form (Declare Override) words request = ((λ f. f), (λ f. f))
+command_form _ words request = ((λ f. f), (λ f. f))
 
 -- a form that both sets of rules read alike
 
@@ -123,6 +146,7 @@ request_form (type_words {words} {c} d) = call_form (type_of c) d.1 (c, d, refl)
 request_form (resolve_words {words} {c} d) = (c, d, refl)
 request_form (why_words {words} {c} d) = (c, d, refl)
 request_form (overloads_words name) = (name, refl, refl)
+request_form (form_words {command} {words} {f} d) = (command_form command words (form_of f)).1 (f, d, refl)
 
 no_words_no_form : (rules : RuleSet) (request : Request) → ¬ RequestForm rules [] request
 no_words_no_form Ported request f = f
@@ -223,8 +247,11 @@ pub no_why : (words : List (List ℕ)) → ((c : WgslCall) → ¬ IsCall words c
 no_why words none request d = let f : CallForm explanation_of words request = request_form d in none f.0 f.1
 
 pub no_type : (word : List ℕ) (words : List (List ℕ)) → word ≢ codes "rank" → word ≢ codes "common" → word ≢ codes "size" → word ≢ codes "offsets" → word ≢ codes "layout" → word ≢ codes "resolve" → word ≢ codes "why" → word ≢ codes "overloads"
-    → ((c : WgslCall) → ¬ IsCall (word ∷ words) c) → NoRequest Standard (word ∷ words)
-no_type word words a b c d e f g h none request q =
+    → command_named word ≡ None → ((c : WgslCall) → ¬ IsCall (word ∷ words) c) → NoRequest Standard (word ∷ words)
+no_type word words a b c d e f g h no_form none request q =
     let k : CallForm type_of (word ∷ words) request =
-    past _ _ _ (not_eq word _ h) (past _ _ _ (not_eq word _ g) (past _ _ _ (not_eq word _ f) (past _ _ _ (not_eq word _ e) (past _ _ _ (not_eq word _ d) (past _ _ _ (not_eq word _ c) (past _ _ _ (not_eq word _ b) (past _ _ _ (not_eq word _ a) (request_form q)))))))) in
+    past_option _ _ _ no_form (past _ _ _ (not_eq word _ h) (past _ _ _ (not_eq word _ g) (past _ _ _ (not_eq word _ f) (past _ _ _ (not_eq word _ e) (past _ _ _ (not_eq word _ d) (past _ _ _ (not_eq word _ c) (past _ _ _ (not_eq word _ b) (past _ _ _ (not_eq word _ a) (request_form q))))))))) in
     none k.0 k.1
+
+pub no_form : (command : FormCommand) (words : List (List ℕ)) → ((f : WgslForm) → ¬ IsForm command words f) → NoRequest Standard (command_text command ∷ words)
+no_form command words none request d = let f = (command_form command words request).0 (request_form d) in none f.0 f.1

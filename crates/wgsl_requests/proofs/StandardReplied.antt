@@ -7,7 +7,9 @@ use Rattle.wgsl_core.specs.declared.signature.TpltParam.{TpltParam}
 use Rattle.wgsl_standard.specs.Callees.{WgslCallee}
 use Rattle.wgsl_asked.specs.Calls.{WgslCall}
 use Rattle.wgsl_requests.specs.Calls.{IsCall}
-use Rattle.wgsl_requests.specs.Requests.{NoRequest, explanation_of, resolution_of, resolve_words, type_of, type_words, why_words}
+use Rattle.wgsl_requests.specs.Forms.{command_text}
+use Rattle.wgsl_requests.specs.Requests.{NoRequest, explanation_of, form_words, resolution_of, resolve_words, type_of, type_words, why_words}
+use Rattle.wgsl_requests.specs.declared.form_command.FormCommand.{FormCommand}
 use Rattle.wgsl_requests.specs.declared.operand.WrittenOperand.{WrittenOperand}
 use Rattle.wgsl_requests.specs.declared.rules.RuleSet.TheVariants.{Ported, Standard}
 use Rattle.wgsl_core.specs.declared.error.Fail.{Fail}
@@ -15,9 +17,10 @@ use Rattle.wgsl_requests.specs.declared.wanted.Misfit.{Misfit}
 use Rattle.wgsl_requests.specs.declared.write.TextKind.{TextKind}
 use Rattle.wgsl_core.specs.declared.error.Fail.TheVariants.{Error, Memory}
 use Rattle.wgsl_requests.specs.internal.Asked.{WritesOfCall, called, operand_view}
+use Rattle.wgsl_requests.specs.internal.Formed.{WritesOfForm}
 use Rattle.wgsl_requests.specs.internal.Replied.{Replies}
 use Rattle.wgsl_requests.proofs.Replied.{replied, same_shown}
-use Rattle.wgsl_requests.proofs.Requested.{no_resolve, no_why}
+use Rattle.wgsl_requests.proofs.Requested.{no_form, no_resolve, no_why}
 
 -- what is written of a call
 pub resolve_replied : (words : List (List ℕ)) (old new : List ℕ) (r : Result TextKind (Fail Misfit)) → WritesOfCall resolution_of words old new r → Replies Standard (codes "resolve" ∷ words) old new r
@@ -34,6 +37,12 @@ pub type_replied : (words : List (List ℕ)) (old new : List ℕ) (r : Result Te
 type_replied words old new (Ok kind) no_other w = replied kind old new (type_words w.1) w.2
 type_replied words old new (Err (Error misfit)) no_other none = no_other none
 type_replied words old new (Err (Memory e)) no_other none = tt
+
+-- what is written of a form
+pub form_replied : (command : FormCommand) (words : List (List ℕ)) (old new : List ℕ) (r : Result TextKind (Fail Misfit)) → WritesOfForm command words old new r → Replies Standard (command_text command ∷ words) old new r
+form_replied command words old new (Ok kind) w = replied kind old new (form_words w.1) w.2
+form_replied command words old new (Err (Error misfit)) none = no_form command words none
+form_replied command words old new (Err (Memory e)) none = tt
 
 -- the call that is asked about is the one that was read
 pub named_seen : (callee : WgslCallee) (template : Option (Vec TpltParam Global)) (r : Option (Bor (List TpltParam))) (written xs : List WrittenOperand) → option_map (λ y. y.now) r ≡ option_map vec_items template → xs ≡ written →

@@ -6,10 +6,13 @@ use Rattle.wgsl_syntax.specs.declared.operator.UnaryOperator.{UnaryOperator}
 use Rattle.wgsl_rules.specs.types.Types.{WgslType, struct, Members}
 use Rattle.wgsl_rules.specs.types.Signatures.{Signature}
 use Rattle.wgsl_asked.specs.Calls.{WgslCall}
-pub use Rattle.wgsl_asked.specs.Requests.{WgslRequest as Request, rank, common, unary, binary, size, offsets, layout, ctor, call, type_of, resolution_of, explanation_of, overloads_of}
+use Rattle.wgsl_asked.specs.Forms.{WgslForm}
+pub use Rattle.wgsl_asked.specs.Requests.{WgslRequest as Request, rank, common, unary, binary, size, offsets, layout, ctor, call, type_of, resolution_of, explanation_of, overloads_of, form_of}
 use Rattle.wgsl_requests.specs.Calls.{IsCall}
+use Rattle.wgsl_requests.specs.Forms.{IsForm, command_text}
 use Rattle.wgsl_requests.specs.Grammar.{TypeAt, TypesAt}
 use Rattle.wgsl_requests.specs.Templates.{TemplateAt}
+use Rattle.wgsl_requests.specs.declared.form_command.FormCommand.{FormCommand}
 use Rattle.wgsl_requests.specs.declared.rules.RuleSet.{RuleSet}
 use Rattle.wgsl_requests.specs.declared.rules.RuleSet.TheVariants.{Ported, Standard}
 
@@ -70,6 +73,11 @@ pub data IsRequest : RuleSet → List (List ℕ) → Request → Type 0 where
   -- `overloads clamp`
   overloads_words : (name : List ℕ) →
       IsRequest Standard (codes "overloads" ∷ name ∷ []) (overloads_of name)
+  -- by the other rules of WGSL
+
+  -- `member vec 3 f32 zx`
+  form_words : {command : FormCommand} {words : List (List ℕ)} {f : WgslForm} → IsForm command words f →
+      IsRequest Standard (command_text command ∷ words) (form_of f)
 
 -- the words spell no request
 abbrev pub NoRequest : RuleSet → List (List ℕ) → Type 0

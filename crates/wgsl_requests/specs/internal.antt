@@ -1,4 +1,5 @@
 pub mod Asked
+pub mod Formed
 pub mod Layers
 pub mod Lines
 pub mod Leaves

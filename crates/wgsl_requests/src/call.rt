@@ -230,7 +230,7 @@ fn write_of(
 
 /// The operands, without what they own.
 #[inline(never)]
-fn borrowed<'c>(
+pub(crate) fn borrowed<'c>(
     alloc: Global,
     written: &'c [WrittenOperand],
 ) -> Result<Vec<Operand<'c>>, AllocError>

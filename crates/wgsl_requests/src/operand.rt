@@ -142,7 +142,7 @@ fn surplus(words: &mut Words) -> Fail<Misfit> {
 }
 
 #[inline(always)]
-fn read_next_operand(alloc: Global, words: &mut Words) -> Result<WrittenOperand, Fail<Misfit>>
+pub(crate) fn read_next_operand(alloc: Global, words: &mut Words) -> Result<WrittenOperand, Fail<Misfit>>
     ensures { Reads OperandAt operand_view (left words.old) (left words.new) result }
 {
     let word = words.next(Wanted::Type)?;
@@ -151,7 +151,7 @@ fn read_next_operand(alloc: Global, words: &mut Words) -> Result<WrittenOperand,
 
 /// The operand that begins with this word: `const` and a type, or a type.
 #[inline(always)]
-fn read_operand(
+pub(crate) fn read_operand(
     alloc: Global,
     word: &str,
     words: &mut Words,

@@ -6,6 +6,8 @@ ghost use Rattle.wgsl_requests.specs.internal.Taken.{left};
 
 use crate::call::{Question, answer_call};
 use crate::command::{common, layout, offsets, rank, size, write_answer_to};
+use crate::form::answer_form;
+use crate::form_command::form_command;
 use crate::rules::RuleSet;
 use crate::wanted::{Misfit, Wanted};
 use crate::words::Words;
@@ -33,7 +35,10 @@ pub(crate) fn answer_standard(
         "resolve" => answer_next_call(alloc, Question::Resolution, words, text),
         "why" => answer_next_call(alloc, Question::Explanation, words, text),
         "overloads" => overloads(alloc, words, text),
-        _ => answer_call(alloc, Question::Type, command, words, text),
+        _ => match form_command(command) {
+            Some(form) => answer_form(alloc, form, words, text),
+            None => answer_call(alloc, Question::Type, command, words, text),
+        },
     }
 }
 

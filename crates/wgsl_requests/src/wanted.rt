@@ -25,6 +25,8 @@ pub enum Wanted {
     Parameter,
     Literal,
     Enumerant,
+    Colon,
+    AssignmentOperator,
 }
 
 impl Wanted {
@@ -53,6 +55,8 @@ impl Wanted {
             Wanted::Parameter => "template parameter",
             Wanted::Literal => "literal",
             Wanted::Enumerant => "enumerant",
+            Wanted::Colon => "colon",
+            Wanted::AssignmentOperator => "assignment operator",
         }
     }
 
@@ -62,7 +66,8 @@ impl Wanted {
             Wanted::AlignAttribute
             | Wanted::AddressSpace
             | Wanted::AccessMode
-            | Wanted::Enumerant => "an",
+            | Wanted::Enumerant
+            | Wanted::AssignmentOperator => "an",
             _ => "a",
         }
     }

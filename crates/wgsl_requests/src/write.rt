@@ -6,10 +6,11 @@ ghost use Rattle.wgsl_core.specs.View.{view};
 ghost use Rattle.wgsl_asked.specs.Answers.{a_type, a_value};
 ghost use Rattle.wgsl_core.specs.internal.Resolution.{element_view, resolved_view};
 ghost use Rattle.wgsl_asked.specs.Views.{answer_view, operands_refusal, outcome};
+ghost use Rattle.wgsl_forms.specs.Views.{answer_view as form_answer, form_type_view};
 ghost use Rattle.wgsl_requests.specs.Layouts.{spaced};
 ghost use Rattle.wgsl_standard.specs.Results.{result_view};
 ghost use Rattle.wgsl_asked.specs.StandardViews.{call_view};
-ghost use Rattle.wgsl_requests.specs.Texts.{answer_text, or_no_overload, or_none, text_kind, value_text};
+ghost use Rattle.wgsl_requests.specs.Texts.{answer_text, form_text, or_no_overload, or_none, text_kind, value_text};
 ghost use Rattle.wgsl_requests.specs.internal.Written.{IsRefusal};
 
 use crate::fast::number::write_number;
@@ -19,6 +20,8 @@ use std::alloc::AllocError;
 use wgsl_asked::answers::{Answer, Operands};
 use wgsl_asked::requests::Call;
 use wgsl_core::operators::resolve::{Element, Extent, ResolvedType};
+use wgsl_forms::form::FormType;
+use wgsl_forms::refusal::Refusal;
 use wgsl_standard::instance::ResultType;
 use wgsl_types::error::{Error, Fail};
 use wgsl_types::ty::Type;
@@ -49,10 +52,12 @@ fn text_kind(answer: &Answer<'_>) -> TextKind
     match answer {
         Answer::Type(Err(_)) | Answer::Value(Err(_)) | Answer::Binary(Err(_)) => TextKind::Refusal,
         Answer::TypeOf(_, None) | Answer::Resolution(_, None) => TextKind::Refusal,
+        Answer::FormType(Err(_)) => TextKind::Refusal,
         Answer::Type(Ok(_)) | Answer::Value(Ok(_)) | Answer::Binary(Ok(_)) => TextKind::Answer,
         Answer::TypeOf(_, Some(_)) | Answer::Resolution(_, Some(_)) => TextKind::Answer,
         Answer::Number(_) | Answer::Size(_, _) | Answer::Offsets(_) => TextKind::Answer,
         Answer::Layout(_, _) | Answer::Overloads(_) | Answer::Notes(_) => TextKind::Answer,
+        Answer::FormType(Ok(_)) => TextKind::Answer,
     }
 }
 
@@ -78,6 +83,22 @@ fn write_text(answer: Answer<'_>, text: &mut String) -> Result<(), AllocError>
         Answer::Resolution(call, found) => write_resolution_of(text, call, found),
         Answer::Overloads(signatures) => write_signatures(text, signatures),
         Answer::Notes(notes) => write_notes(text, notes),
+        Answer::FormType(found) => write_form_type(text, found),
+    }
+}
+
+/// Writes the type of a form, or why it has none.
+#[inline(never)]
+fn write_form_type(
+    text: &mut String,
+    found: Result<FormType<'_>, Refusal<'_>>,
+) -> Result<(), AllocError>
+    ensures { OnOk result (string_bytes text.new
+        ≡ string_bytes text.old ++ form_text (form_answer form_type_view found.entry)) }
+{
+    match found {
+        Ok(ty) => write!(text, "{ty}"),
+        Err(refusal) => write!(text, "{refusal}"),
     }
 }
 

@@ -1,12 +1,13 @@
 -- Every request has an answer.
 use Rattle.std.proofs.Common.{ℕ, List, Some, None, refl, inl, inr}
 use Rattle.wgsl_rules.specs.types.Types.{WgslType, Members}
-use Rattle.wgsl_asked.specs.Answers.{Answers, WgslAnswer, WgslLayout, a_number, a_size, a_common_type, a_type, a_value, some_offsets, a_layout, a_type_of, a_resolution_of, some_lines, rank_is, common_is, unary_is, binary_is, size_is, offsets_are, layout_is, ctor_is, call_is, type_of_is, resolution_of_is, explanation_of_is, overloads_of_are}
-use Rattle.wgsl_asked.specs.Requests.{WgslRequest, rank, common, unary, binary, size, offsets, layout, ctor, call, type_of, resolution_of, explanation_of, overloads_of}
+use Rattle.wgsl_asked.specs.Answers.{Answers, WgslAnswer, WgslLayout, a_number, a_size, a_common_type, a_type, a_value, some_offsets, a_layout, a_type_of, a_resolution_of, some_lines, a_form_type, rank_is, common_is, unary_is, binary_is, size_is, offsets_are, layout_is, ctor_is, call_is, type_of_is, resolution_of_is, explanation_of_is, overloads_of_are, form_is}
+use Rattle.wgsl_asked.specs.Requests.{WgslRequest, rank, common, unary, binary, size, offsets, layout, ctor, call, type_of, resolution_of, explanation_of, overloads_of, form_of}
 use Rattle.wgsl_asked.specs.Overloads.{lines_named}
 use Rattle.wgsl_total.proofs.Calls.{a_call}
 use Rattle.wgsl_total.proofs.Constructors.{a_constructor}
 use Rattle.wgsl_total.proofs.Conversions.{a_rank, a_received}
+use Rattle.wgsl_total.proofs.FormsFound.{some_form_type}
 use Rattle.wgsl_total.proofs.Operators.{a_binary, a_unary}
 use Rattle.wgsl_total.proofs.Sizes.{exact_alignment, exact_size}
 use Rattle.wgsl_total.proofs.Standard.{a_resolution_of as some_resolution, a_type_of as some_type, an_explanation_of}
@@ -45,3 +46,4 @@ some_answer (type_of c) = let r = some_type c in (a_type_of c r.0, type_of_is r.
 some_answer (resolution_of c) = let r = some_resolution c in (a_resolution_of c r.0, resolution_of_is r.0 r.1)
 some_answer (explanation_of c) = let r = an_explanation_of c in (some_lines r.0, explanation_of_is r.0 r.1)
 some_answer (overloads_of name) = (some_lines (lines_named name), overloads_of_are (lines_named name) refl)
+some_answer (form_of f) = let r = some_form_type f in (a_form_type r.0, form_is r.0 r.1)

@@ -31,7 +31,7 @@ no_operand : {words rest : List (List ℕ)} {x : Operand} → OperandAt words x 
 no_operand (constant_at d) e = absurd (cc e)
 no_operand (plain_at d) e = omega (arith, type_shorter d, ap length e)
 
-an_operand : (words : List (List ℕ)) → Found (OperandAt words)
+pub an_operand : (words : List (List ℕ)) → Found (OperandAt words)
 an_operand [] = inr (λ x rest d. no_operand d refl)
 an_operand (word ∷ words) = elim (same_word word (codes "const")) [
   | yes is ↦ elim (a_type {rules = Standard} words) [
@@ -57,7 +57,7 @@ a_list = record {
   shorter = λ words rest x d. operand_shorter d;
 }
 
-some_operands : (words : List (List ℕ)) → Means (OperandsAt words)
+pub some_operands : (words : List (List ℕ)) → Means (OperandsAt words)
 some_operands = all_of OperandAt OperandsAt a_list an_operand
 
 dec_arity : (arity : Option ℕ) (xs : List Operand) → Dec (HasArity arity xs)

@@ -17,6 +17,7 @@ pub mod TypesFound
 pub mod ListsFound
 pub mod CalleesFound
 pub mod CallsFound
+pub mod FormsFound
 pub mod RequestsFound
 pub mod Replied
 pub mod Printed

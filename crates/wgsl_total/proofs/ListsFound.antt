@@ -140,3 +140,13 @@ a_list = record {
 
 pub some_types : {rules : RuleSet} (words : List (List ℕ)) → Means (TypesAt rules words)
 some_types {rules} = all_of (TypeAt rules) (TypesAt rules) a_list a_type
+
+-- All words are one type
+
+only_type : {rules : RuleSet} {words : List (List ℕ)} → Found (TypeAt rules words) → Means (λ t. TypeAt rules words t [])
+only_type (inr none) = inr (λ t d. none t [] d)
+only_type (inl (t, [], d)) = inl (t, d)
+only_type (inl (t, w ∷ ws, d)) = inr (λ u e. let same : w ∷ ws ≡ [] = (one_type d u [] e).1 in cc same)
+
+pub whole_type : {rules : RuleSet} (words : List (List ℕ)) → Means (λ t. TypeAt rules words t [])
+whole_type words = only_type (a_type words)

@@ -1,35 +1,32 @@
 -- Words spell a request, or none.
-use Rattle.std.proofs.Common.{◌≡◌, ◌∙◌, ℕ, Bool, true, false, List, [], ◌∷◌, codes, refl, sym, ap, subst, inl, inr}
+use Rattle.std.proofs.Common.{◌≡◌, ◌∙◌, ℕ, Bool, true, false, List, [], ◌∷◌, Option, Some, None, codes, refl, sym, ap, subst, inl, inr}
 use Rattle.std.specs.Bool.{MatchBool}
+use Rattle.std.specs.Option.{MatchOption}
 use Rattle.std.specs.Str.{bytes_eq}
 use Rattle.wgsl_syntax.specs.Operator.{binary_operators, binary_text, unary_operators, unary_text}
 use Rattle.wgsl_syntax.proofs.Naming.{binary_naming, unary_naming}
 use Rattle.wgsl_rules.specs.types.Types.{WgslType, struct, Members}
 use Rattle.wgsl_rules.specs.types.Signatures.{Signature}
 use Rattle.wgsl_asked.specs.Calls.{WgslCall}
+use Rattle.wgsl_requests.specs.Forms.{IsForm, command_text, form_commands}
 use Rattle.wgsl_requests.specs.Grammar.{TypeAt, TypesAt}
+use Rattle.wgsl_requests.specs.declared.form_command.FormCommand.{FormCommand}
+use Rattle.wgsl_requests.proofs.Meanings.{named_text}
 use Rattle.wgsl_requests.specs.Reading.{IsText}
-use Rattle.wgsl_requests.specs.Requests.{Request, rank, common, unary, binary, size, offsets, layout, ctor, call, type_of, resolution_of, explanation_of, overloads_of, IsRequest, rank_words, common_words, unary_words, binary_words, size_words, offsets_words, layout_words, ctor_words, call_words, type_words, resolve_words, why_words, overloads_words}
+use Rattle.wgsl_requests.specs.Requests.{Request, rank, common, unary, binary, size, offsets, layout, ctor, call, type_of, resolution_of, explanation_of, overloads_of, form_of, IsRequest, rank_words, common_words, unary_words, binary_words, size_words, offsets_words, layout_words, ctor_words, call_words, type_words, resolve_words, why_words, overloads_words, form_words}
 use Rattle.wgsl_requests.specs.declared.rules.RuleSet.{RuleSet}
 use Rattle.wgsl_requests.specs.declared.rules.RuleSet.TheVariants.{Ported, Standard}
 use Rattle.wgsl_requests.proofs.OneType.{one_list, one_type}
-use Rattle.wgsl_requests.proofs.Requested.{BinaryForm, CallForm, CalleeForm, CommonForm, OverloadsForm, PortedForm, RankForm, RequestForm, SizeForm, StandardForm, StructForm, UnaryForm, request_form}
+use Rattle.wgsl_requests.proofs.Requested.{BinaryForm, CallForm, CalleeForm, CommonForm, FormForm, OverloadsForm, PortedForm, RankForm, RequestForm, SizeForm, StandardForm, StructForm, UnaryForm, command_named, request_form}
 use Rattle.wgsl_total.proofs.CalleesFound.{a_callee}
 use Rattle.wgsl_total.proofs.CallsFound.{a_call}
-use Rattle.wgsl_total.proofs.Found.{Found, Means, a_word, from_bool}
-use Rattle.wgsl_total.proofs.ListsFound.{a_type, some_types}
+use Rattle.wgsl_total.proofs.FormsFound.{a_form}
+use Rattle.wgsl_total.proofs.Found.{Found, Means, a_word, from_bool, from_option}
+use Rattle.wgsl_total.proofs.ListsFound.{some_types, whole_type}
 use Rattle.wgsl_total.proofs.TypesFound.{equal}
 use Rattle.wgsl_total.proofs.WordMeanings.{a_name}
 
--- One type, two types
-
-only_type : {rules : RuleSet} {words : List (List ℕ)} → Found (TypeAt rules words) → Means (λ t. TypeAt rules words t [])
-only_type (inr none) = inr (λ t d. none t [] d)
-only_type (inl (t, [], d)) = inl (t, d)
-only_type (inl (t, w ∷ ws, d)) = inr (λ u e. let same : w ∷ ws ≡ [] = (one_type d u [] e).1 in cc same)
-
-whole_type : {rules : RuleSet} (words : List (List ℕ)) → Means (λ t. TypeAt rules words t [])
-whole_type words = only_type (a_type words)
+-- Two types
 
 only_two : {rules : RuleSet} {words : List (List ℕ)} → Means (TypesAt rules words) → Means (λ (p : WgslType × WgslType). TypesAt rules words (p.0 ∷ p.1 ∷ []))
 only_two (inr none) = inr (λ p d. none (p.0 ∷ p.1 ∷ []) d)
@@ -92,11 +89,18 @@ some_overloads [] = inr (λ r f. let e = f.1 in absurd (cc e))
 some_overloads (name ∷ []) = inl (overloads_of name, (name, refl, refl))
 some_overloads (name ∷ w ∷ ws) = inr (λ r f. let e = f.1 in absurd (cc e))
 
+a_form_request : (words : List (List ℕ)) (command : FormCommand) → Means (λ request. FormForm words request command)
+a_form_request words command = elim (a_form command words) [ inl f ↦ inl (form_of f.0, (f.0, f.1, refl)) | inr none ↦ inr (λ r f. none f.0 f.1) ]
+
 -- The command
 
 by_word : {A : Type 0} (b : Bool) {P Q : A → Type 0} → Means P → Means Q → Means (λ x. MatchBool b (P x) (Q x))
 by_word true f g = f
 by_word false f g = g
+
+by_name : {A B : Type 0} (o : Option B) {P : A → Type 0} {Q : A → B → Type 0} → Means P → ((y : B) → Means (λ x. Q x y)) → Means (λ x. MatchOption o (P x) (Q x))
+by_name None f g = f
+by_name (Some y) f g = g y
 
 module _ (word : List ℕ) (words : List (List ℕ)) where
   ported : Means (PortedForm (word ∷ words))
@@ -120,7 +124,8 @@ module _ (word : List ℕ) (words : List (List ℕ)) where
       (by_word (bytes_eq word (codes "layout")) (only_struct layout (whole_type words))
       (by_word (bytes_eq word (codes "resolve")) (a_call_form resolution_of words)
       (by_word (bytes_eq word (codes "why")) (a_call_form explanation_of words)
-      (by_word (bytes_eq word (codes "overloads")) (some_overloads words) (a_call_form type_of (word ∷ words)))))))))
+      (by_word (bytes_eq word (codes "overloads")) (some_overloads words)
+      (by_name (command_named word) (a_call_form type_of (word ∷ words)) (a_form_request words)))))))))
 
   -- from the command and the request that are meant to those that are given
   keyed : {rules : RuleSet} {key : List ℕ} {made request : Request} → bytes_eq word key ≡ true → request ≡ made → IsRequest rules (key ∷ words) made → IsRequest rules (word ∷ words) request
@@ -148,7 +153,9 @@ module _ (word : List ℕ) (words : List (List ℕ)) where
       (from_bool (bytes_eq word (codes "resolve")) (λ e f. keyed e f.2 (resolve_words f.1))
       (from_bool (bytes_eq word (codes "why")) (λ e f. keyed e f.2 (why_words f.1))
       (from_bool (bytes_eq word (codes "overloads")) (λ e f. keyed e f.2 (subst (λ ws. IsRequest Standard (codes "overloads" ∷ ws) (overloads_of f.0)) (sym f.1) (overloads_words f.0)))
-      (λ f. subst (λ r. IsRequest Standard (word ∷ words) r) (sym f.2) (type_words f.1)))))))))
+      (from_option (command_named word) (λ f. subst (λ r. IsRequest Standard (word ∷ words) r) (sym f.2) (type_words f.1))
+      (λ command e f. subst (λ r. IsRequest Standard (word ∷ words) r) (sym f.2)
+      (subst (λ w. IsRequest Standard (w ∷ words) (form_of f.0)) (sym (named_text command_text form_commands word command e)) (form_words f.1)))))))))))
 
 nothing_spelled : (rules : RuleSet) (request : Request) → ¬ RequestForm rules [] request
 nothing_spelled Ported request f = f

@@ -67,6 +67,14 @@ impl<'a> Words<'a> {
         }
     }
 
+    /// An access mode; `atomic` begins a type.
+    pub fn access(&mut self) -> Option<AccessMode> {
+        match self.0.peek()? {
+            &"atomic" => None,
+            _ => self.name(),
+        }
+    }
+
     /// The type behind a colon, if there is one.
     pub fn declared(&mut self) -> Option<Type> {
         self.take(":").then(|| self.ty())

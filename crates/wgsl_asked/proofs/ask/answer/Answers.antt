@@ -4,7 +4,7 @@ use Rattle.wgsl_rules.specs.constructors.Constructors.{IsConstructorAnswer}
 use Rattle.wgsl_rules.specs.calls.Answers.{IsCallAnswer}
 use Rattle.wgsl_core.specs.View.{struct_view, view}
 use Rattle.wgsl_asked.specs.Requests.{unary, ctor, call}
-use Rattle.wgsl_asked.specs.Answers.{a_type, a_value, rank_is, unary_is, binary_is, size_is, offsets_are, layout_is, ctor_is, call_is, type_of_is, resolution_of_is, explanation_of_is, overloads_of_are}
+use Rattle.wgsl_asked.specs.Answers.{a_type, a_value, rank_is, unary_is, binary_is, size_is, offsets_are, layout_is, ctor_is, call_is, type_of_is, resolution_of_is, explanation_of_is, overloads_of_are, form_is}
 use Rattle.wgsl_asked.specs.Views.{callee_view}
 use Rattle.wgsl_asked.proofs.Settled.{settles, offsets_seen, layout_seen}
 use Rattle.wgsl_asked.proofs.ask.answer.Goals as goal
@@ -58,3 +58,6 @@ returns-in_ok-signatures_named-in-Overloads c = rw c.in-Overloads.is (overloads_
 
 pub returns-in_ok-notes_on-in-Explanation : goal.returns-in_ok-notes_on-in-Explanation
 returns-in_ok-notes_on-in-Explanation c = rw c.in-Explanation.is (explanation_of_is _ c.in_ok-notes_on-in-Explanation.ensures)
+
+pub returns-in-Form : goal.returns-in-Form
+returns-in-Form c = rw c.in-Form.is (form_is _ c.type_of_form.ensures)

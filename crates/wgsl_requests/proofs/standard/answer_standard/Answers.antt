@@ -1,9 +1,11 @@
-use Rattle.std.proofs.Common.{◌∷◌, string_bytes, subst, sym}
+use Rattle.std.proofs.Common.{◌∷◌, ◌∙◌, string_bytes, subst, sym}
 use Rattle.wgsl_requests.specs.declared.rules.RuleSet.TheVariants.{Standard}
+use Rattle.wgsl_requests.specs.Forms.{command_text, form_commands}
 use Rattle.wgsl_requests.specs.internal.Replied.{Replies}
 use Rattle.wgsl_requests.specs.internal.Taken.{left}
+use Rattle.wgsl_requests.proofs.Meanings.{named_text}
 use Rattle.wgsl_requests.proofs.Requested.{no_type}
-use Rattle.wgsl_requests.proofs.StandardReplied.{resolve_replied, type_replied, why_replied}
+use Rattle.wgsl_requests.proofs.StandardReplied.{form_replied, resolve_replied, type_replied, why_replied}
 use Rattle.wgsl_requests.proofs.standard.answer_standard.Goals as goal
 
 pub returns-in-rank : goal.returns-in-rank
@@ -40,9 +42,16 @@ pub returns-in-overloads : goal.returns-in-overloads
 returns-in-overloads c =
     subst (λ w. Replies Standard (w ∷ left c.args.words.now) (string_bytes c.args.text.now) (string_bytes c.overloads.new.text) c.overloads.result) (sym c.in-overloads.is) c.overloads.ensures
 
-pub returns-in_default : goal.returns-in_default
-returns-in_default c =
+pub returns-in-Some : goal.returns-in-Some
+returns-in-Some c =
+    let is = named_text command_text form_commands c.args.command.now c.in-Some.form (sym c.form_command.ensures ∙ c.in-Some.is) in
+    subst (λ w. Replies Standard (w ∷ left c.args.words.now) (string_bytes c.args.text.now) (string_bytes c.answer_form.new.text) c.answer_form.result) (sym is)
+    (form_replied c.in-Some.form (left c.args.words.now) _ _ c.answer_form.result c.answer_form.ensures)
+
+pub returns-in-None : goal.returns-in-None
+returns-in-None c =
+    let not = c.in_default in
     type_replied _ _ _ c.answer_call.result
-    (no_type c.args.command.now (left c.args.words.now) c.in_default.not-rank c.in_default.not-common c.in_default.not-size c.in_default.not-offsets c.in_default.not-layout
-    c.in_default.not-resolve c.in_default.not-why c.in_default.not-overloads)
+    (no_type c.args.command.now (left c.args.words.now) not.not-rank not.not-common not.not-size not.not-offsets not.not-layout not.not-resolve not.not-why not.not-overloads
+    (sym c.form_command.ensures ∙ c.in-None.is))
     c.answer_call.ensures
