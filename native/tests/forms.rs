@@ -13,8 +13,18 @@ use words::Words;
 
 /// The forms that are requests.
 const REQUESTS: [&str; 12] = [
-    "member", "index", "load", "let", "const", "override", "assign", "increment", "decrement",
-    "construct", "switch", "var",
+    "member",
+    "index",
+    "load",
+    "let",
+    "const",
+    "override",
+    "assign",
+    "increment",
+    "decrement",
+    "construct",
+    "switch",
+    "var",
 ];
 
 const ASSIGNMENTS: [AssignmentOperator; 11] = [

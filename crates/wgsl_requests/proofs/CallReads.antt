@@ -162,7 +162,7 @@ not_const x e = cc e
 
 -- no type begins with `const`
 no_const_type : (words : List (List ℕ)) (t : WgslType) (rest : List (List ℕ)) → TypeAt Standard (codes "const" ∷ words) t rest → ⊥
-no_const_type words t rest d = let f = leaf_form (form d) in not_const f.0 (sym (cc f.1))
+no_const_type words t rest d = let f = leaf_form (form d) in not_const f.0 (sym (cc f.1.1))
 
 plain_form : (words : List (List ℕ)) (t : WgslType) (rest : List (List ℕ)) → TypeAt Standard words t rest → OperandForm words (plain_there t) rest
 plain_form [] t rest d = form d

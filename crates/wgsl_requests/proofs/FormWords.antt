@@ -103,7 +103,7 @@ no_colon x e = cc e
 
 -- no operand begins with a colon
 pub no_colon_operand : (words : List (List ℕ)) (x : Operand) (rest : List (List ℕ)) → OperandAt (codes ":" ∷ words) x rest → ⊥
-no_colon_operand words x rest d = let f = operand_form d in let g = leaf_form (form f.1) in no_colon g.0 (sym (cc g.1))
+no_colon_operand words x rest d = let f = operand_form d in let g = leaf_form (form f.1) in no_colon g.0 (sym (cc g.1.1))
 
 no_typed_value : (words : List (List ℕ)) (u : WgslType) (x : Operand) (a : Option WgslType) → IsValue words x a → IsTyped words u → ⊥
 no_typed_value words u x a d e = no_colon_operand e.0 x d.0 (subst (λ ws. OperandAt ws x d.0) e.1 d.1)

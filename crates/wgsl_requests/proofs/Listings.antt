@@ -3,7 +3,7 @@ use Rattle.std.proofs.Common.{◌≡◌, ◌∙◌, ◌++◌, ℕ, List, [], ◌
 use Rattle.std.specs.List.{flat_map}
 use Rattle.wgsl_rules.specs.types.Types.{WgslType}
 use Rattle.wgsl_rules.specs.types.Signatures.{listed}
-use Rattle.wgsl_rules.specs.types.Spelling.{spelling}
+use Rattle.wgsl_rules.specs.types.Spelling.{wgsl_spelling}
 use Rattle.wgsl_rules.specs.standard.Choice.{types_of}
 use Rattle.wgsl_core.specs.View.{view}
 use Rattle.wgsl_core.specs.declared.ty.Type.{«Type»}
@@ -21,8 +21,8 @@ pub listed_seen : {A B : Type 0} (text : B → List ℕ) (f : A → B) (xs : Lis
 listed_seen text f [] = refl
 listed_seen text f (x ∷ xs) = ap (λ rest. text (f x) ++ rest) (flat_map-map (λ y. codes ", " ++ text y) f xs)
 
-pub operand_types : (xs : List Operand) → listed spelling (types_of (map written_view xs)) ≡ listed (λ x. spelling (given_type x.ty)) xs
-operand_types xs = listed_seen spelling (λ x. x.of_type) (map written_view xs) ∙ listed_seen (λ x. spelling x.of_type) written_view xs
+pub operand_types : (xs : List Operand) → listed wgsl_spelling (types_of (map written_view xs)) ≡ listed (λ x. wgsl_spelling (given_type x.ty)) xs
+operand_types xs = listed_seen wgsl_spelling (λ x. x.of_type) (map written_view xs) ∙ listed_seen (λ x. wgsl_spelling x.of_type) written_view xs
 
 pub lines_seen : {A : Type 0} (text : A → List ℕ) (xs : List A) → lines_text (map text xs) ≡ lined text xs
 lines_seen text [] = refl
@@ -34,11 +34,11 @@ resolution_parts : (old n opened types close r : List ℕ) → (old ++ (n ++ (op
 resolution_parts old n opened types close r = simp append_assoc
 
 pub resolution_written : (old mid : List ℕ) (n : ℕ) (types items : List «Type») (r : Option WgslType) → types ≡ items
-    → mid ≡ old ++ (decimal n ++ (codes " (" ++ (listed (λ t. spelling (view t)) types ++ codes ")"))) → mid ++ result_text r ≡ old ++ resolution_text (n, map view items, r)
+    → mid ≡ old ++ (decimal n ++ (codes " (" ++ (listed (λ t. wgsl_spelling (view t)) types ++ codes ")"))) → mid ++ result_text r ≡ old ++ resolution_text (n, map view items, r)
 resolution_written old mid n types items r same e =
-    let all : listed (λ t. spelling (view t)) types ≡ listed spelling (map view items) = ap (listed (λ t. spelling (view t))) same ∙ sym (listed_seen spelling view items) in
+    let all : listed (λ t. wgsl_spelling (view t)) types ≡ listed wgsl_spelling (map view items) = ap (listed (λ t. wgsl_spelling (view t))) same ∙ sym (listed_seen wgsl_spelling view items) in
     ap (λ m. m ++ result_text r) (e ∙ ap (λ y. old ++ (decimal n ++ (codes " (" ++ (y ++ codes ")")))) all)
-    ∙ resolution_parts old (decimal n) (codes " (") (listed spelling (map view items)) (codes ")") (result_text r)
+    ∙ resolution_parts old (decimal n) (codes " (") (listed wgsl_spelling (map view items)) (codes ")") (result_text r)
 
 -- the text of a refusal, in the parts in which it is written
 
@@ -46,10 +46,10 @@ refusal_parts : (old head name template takes types close : List ℕ) → (((((o
 refusal_parts old head name template takes types close = simp append_assoc
 
 pub refusal_written : (old first named with taken shown all name template : List ℕ) (xs : List Operand) → first ≡ old ++ codes "no overload of `" → named ≡ first ++ name → with ≡ named ++ template
-    → taken ≡ with ++ codes "` takes (" → shown ≡ taken ++ listed (λ x. spelling (given_type x.ty)) xs → all ≡ shown ++ codes ")"
-    → all ≡ old ++ (codes "no overload of `" ++ name ++ template ++ codes "` takes (" ++ listed spelling (types_of (map written_view xs)) ++ codes ")")
+    → taken ≡ with ++ codes "` takes (" → shown ≡ taken ++ listed (λ x. wgsl_spelling (given_type x.ty)) xs → all ≡ shown ++ codes ")"
+    → all ≡ old ++ (codes "no overload of `" ++ name ++ template ++ codes "` takes (" ++ listed wgsl_spelling (types_of (map written_view xs)) ++ codes ")")
 refusal_written old first named with taken shown all name template xs a b c d e f =
-    let types = listed spelling (types_of (map written_view xs)) in
+    let types = listed wgsl_spelling (types_of (map written_view xs)) in
     let so_far : taken ≡ (((old ++ codes "no overload of `") ++ name) ++ template) ++ codes "` takes (" = d ∙ ap (λ y. y ++ codes "` takes (") (c ∙ ap (λ y. y ++ template) (b ∙ ap (λ y. y ++ name) a)) in
     f ∙ ap (λ y. y ++ codes ")") (e ∙ ap (λ y. taken ++ y) (sym (operand_types xs)) ∙ ap (λ y. y ++ types) so_far)
     ∙ refusal_parts old (codes "no overload of `") name template (codes "` takes (") types (codes ")")

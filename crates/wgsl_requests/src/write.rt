@@ -8,9 +8,7 @@ ghost use Rattle.wgsl_core.specs.internal.Resolution.{element_view, resolved_vie
 ghost use Rattle.wgsl_asked.specs.Views.{answer_view, operands_refusal, outcome};
 ghost use Rattle.wgsl_forms.specs.Views.{answer_view as form_answer, form_type_view};
 ghost use Rattle.wgsl_requests.specs.Layouts.{spaced};
-ghost use Rattle.wgsl_standard.specs.Results.{result_view};
-ghost use Rattle.wgsl_asked.specs.StandardViews.{call_view};
-ghost use Rattle.wgsl_requests.specs.Texts.{answer_text, form_text, or_no_overload, or_none, text_kind, value_text};
+ghost use Rattle.wgsl_requests.specs.Texts.{answer_text, form_text, or_none, text_kind, value_text};
 ghost use Rattle.wgsl_requests.specs.internal.Written.{IsRefusal};
 
 use crate::fast::number::write_number;
@@ -18,12 +16,10 @@ use crate::overloaded::{write_notes, write_resolution_of, write_signatures, writ
 use crate::report::write_layout;
 use std::alloc::AllocError;
 use wgsl_asked::answers::{Answer, Operands};
-use wgsl_asked::requests::Call;
 use wgsl_core::operators::resolve::{Element, ResolvedType};
 use wgsl_core::ty::show::ShownType;
 use wgsl_forms::form::FormType;
 use wgsl_forms::refusal::Refusal;
-use wgsl_standard::instance::ResultType;
 use wgsl_syntax::overload::Dimensions;
 use wgsl_syntax::texel::FormatNames;
 use wgsl_types::error::{Error, Fail};

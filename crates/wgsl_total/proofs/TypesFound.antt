@@ -72,7 +72,7 @@ some_parameters rules kinds.Storage words =
       | inl f ↦
           let first = f.2.1 in
           let second = f.2.2 in
-          inl (parameters.Storage f.0.0 f.0.1, f.1, (refl, first.0, first.2, first.1 ∙ ap (λ ws. first.0 ∷ ws) (second.1 ∙ ap (λ w. w ∷ f.1) second.2)))
+          inl (parameters.Storage f.0.0 f.0.1, f.1, (refl, (first.0, first.2, first.1 ∙ ap (λ ws. first.0 ∷ ws) (second.1 ∙ ap (λ w. w ∷ f.1) second.2))))
       | inr none ↦ inr (no_texels rules kinds.Storage words refl none)
     ]
 
