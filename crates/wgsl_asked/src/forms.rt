@@ -43,7 +43,8 @@ pub(crate) fn type_of_form<'r>(form: &Form<'r>) -> Result<FormType<'r>, Refusal<
 }
 
 fn type_alone<'r>(found: Result<Expression<'r>, Refusal<'r>>) -> Result<FormType<'r>, Refusal<'r>>
-    ensures { answer_view form_type_view result ≡ type_alone (answer_view expression_view found.entry) }
+    ensures { answer_view form_type_view result
+        ≡ type_alone (answer_view expression_view found.entry) }
 {
     Ok(found?.ty)
 }

@@ -1,5 +1,5 @@
 -- The words of forms, by the command, and that no two forms are the same words.
-use Rattle.std.proofs.Common.{◌≡◌, ◌≢◌, ◌⊎◌, inl, inr, ℕ, List, [], ◌∷◌, Option, Some, None, codes, refl, sym, ap, subst, ◌∙◌}
+use Rattle.std.proofs.Common.{◌≡◌, ◌⊎◌, inl, inr, ℕ, List, [], ◌∷◌, Option, Some, None, codes, refl, sym, ap, subst, ◌∙◌}
 use Rattle.wgsl_syntax.specs.Names.{named, table}
 use Rattle.wgsl_syntax.specs.Operator.{assignment_operators, assignment_text}
 use Rattle.wgsl_syntax.specs.Texture.{texture_name}
@@ -11,7 +11,7 @@ use Rattle.wgsl_syntax.specs.declared.texture.TextureType.TheVariants.{External}
 use Rattle.wgsl_rules.specs.types.Types.{WgslType}
 use Rattle.wgsl_rules.specs.standard.Choice.{Operand}
 use Rattle.wgsl_forms.specs.declared.declare.Declaration.{Declaration}
-use Rattle.wgsl_forms.specs.declared.declare.Declaration.TheVariants.{Let, Const, Override}
+use Rattle.wgsl_forms.specs.declared.declare.Declaration.TheVariants.{Override}
 use Rattle.wgsl_asked.specs.Forms.{WgslForm, member_of, index_of, load_of, declaration_of, override_of, assignment_of, increment_of, discard_of, construct_of, switch_of, variable_of, initialized_of}
 use Rattle.wgsl_requests.specs.Calls.{OperandAt, OperandsAt}
 use Rattle.wgsl_requests.specs.Forms.{SaidMemory, said_memory, IsAnnotation, IsForm, IsTyped, IsValue, member_words, index_words, load_words, declaration_words, override_words, assignment_words, discard_words, increment_words, decrement_words, construct_words, switch_words, variable_words, initialized_words}
@@ -19,7 +19,7 @@ use Rattle.wgsl_requests.specs.declared.form_command.FormCommand.{FormCommand}
 use Rattle.wgsl_requests.specs.declared.form_command.FormCommand.TheVariants.{Member, Index, Load, Declare, Assign, Increment, Decrement, Construct, Switch, Var}
 use Rattle.wgsl_requests.specs.declared.rules.RuleSet.TheVariants.{Standard}
 use Rattle.wgsl_requests.specs.Grammar.{TypeAt}
-use Rattle.wgsl_requests.proofs.CallReads.{OperandsForm, no_operand, one_operand, one_operands, operand_form, operands_form}
+use Rattle.wgsl_requests.proofs.CallReads.{one_operand, one_operands, operand_form}
 use Rattle.wgsl_requests.proofs.Forms.{form, leaf_form}
 use Rattle.wgsl_requests.proofs.OneType.{one_type}
 

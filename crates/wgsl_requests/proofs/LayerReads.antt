@@ -1,18 +1,15 @@
 -- What is read of layers.
-use Rattle.std.proofs.Common.{◌≡◌, ◌-◌, ◌<◌, ◌≤◌, ◌++◌, ℕ, zero, suc, true, List, [], ◌∷◌, Option, codes, length, take, get_or, refl, sym, ap, subst, ◌∙◌, arith}
+use Rattle.std.proofs.Common.{◌≡◌, ℕ, true, List, ◌∷◌, Option, codes, sym, ap, subst, ◌∙◌}
 use Rattle.std.specs.Result.{IsErrAnd}
 use Rattle.std.specs.Prelude.{Result}
-use Rattle.std.proofs.Math.Seq.{take-suc}
 use Rattle.std.proofs.lemmas.Result.{err_from_is_err_and}
 use Rattle.wgsl_syntax.specs.Address.{access_text, space_text}
 use Rattle.wgsl_syntax.specs.declared.address.AccessMode.{AccessMode}
 use Rattle.wgsl_syntax.specs.declared.address.AddressSpace.{AddressSpace}
-use Rattle.wgsl_rules.specs.types.Types.{WgslType}
 use Rattle.wgsl_syntax.specs.declared.around.Around.{Around}
 use Rattle.wgsl_syntax.specs.declared.around.Around.TheVariants as arounds
 use Rattle.wgsl_core.specs.declared.error.Fail.{Fail}
 use Rattle.wgsl_requests.specs.declared.wanted.Misfit.{Misfit}
-use Rattle.wgsl_rules.specs.types.Around.{around}
 use Rattle.wgsl_requests.specs.Grammar.{LayerAt, array_at, atomic_at, binding_array_at, mat_at, ptr_at, ref_at, vec_at}
 use Rattle.wgsl_requests.specs.Numbers.{IsCount, IsSmall}
 use Rattle.wgsl_requests.specs.Reading.{Beginning, NoneAt, OneWord, Refuses, Then}

@@ -11,7 +11,7 @@ use Rattle.wgsl_requests.specs.Forms.{command_text}
 use Rattle.wgsl_requests.specs.Requests.{NoRequest, explanation_of, form_words, resolution_of, resolve_words, type_of, type_words, why_words}
 use Rattle.wgsl_requests.specs.declared.form_command.FormCommand.{FormCommand}
 use Rattle.wgsl_requests.specs.declared.operand.WrittenOperand.{WrittenOperand}
-use Rattle.wgsl_requests.specs.declared.rules.RuleSet.TheVariants.{Ported, Standard}
+use Rattle.wgsl_requests.specs.declared.rules.RuleSet.TheVariants.{Standard}
 use Rattle.wgsl_core.specs.declared.error.Fail.{Fail}
 use Rattle.wgsl_requests.specs.declared.wanted.Misfit.{Misfit}
 use Rattle.wgsl_requests.specs.declared.write.TextKind.{TextKind}

@@ -2,7 +2,7 @@
 use Rattle.std.proofs.Common.{◌≡◌, ℕ, List, [], ◌∷◌, Some, None, refl, sym, subst, ap, ◌∙◌}
 use Rattle.wgsl_syntax.specs.Address.{access_text}
 use Rattle.wgsl_syntax.specs.Texel.{IsTexel}
-use Rattle.wgsl_syntax.specs.Texture.{sampled_text, texture_name}
+use Rattle.wgsl_syntax.specs.Texture.{sampled_text}
 use Rattle.wgsl_syntax.specs.TextureName.{kind_of, name_of, parameter_kind, parameters_of, texture_name_text, texture_with}
 use Rattle.wgsl_syntax.specs.declared.texture.TextureType.{TextureType}
 use Rattle.wgsl_syntax.specs.declared.texture_name.TextureName.{TextureName}

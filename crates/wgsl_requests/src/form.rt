@@ -91,7 +91,8 @@ pub(crate) fn answer_form(
     words: &mut Words,
     text: &mut String,
 ) -> Result<TextKind, Fail<Misfit>>
-    ensures { WritesOfForm command (left words.old) (string_bytes text.old) (string_bytes text.new) result }
+    ensures { WritesOfForm command (left words.old)
+        (string_bytes text.old) (string_bytes text.new) result }
 {
     let form = read_form(alloc, command, words)?;
     let written = write_answer_of(alloc, &form, text);

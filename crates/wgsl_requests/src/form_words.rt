@@ -67,7 +67,8 @@ pub(crate) fn read_two_operands(
     alloc: Global,
     words: &mut Words,
 ) -> Result<(WrittenOperand, WrittenOperand), Fail<Misfit>>
-    ensures { Answers (λ both. OperandsAt (left words.old) (operand_view both.0 ∷ operand_view both.1 ∷ []))
+    ensures { Answers (λ both. OperandsAt (left words.old)
+        (operand_view both.0 ∷ operand_view both.1 ∷ []))
         ((x y : WgslOperand) → ¬ OperandsAt (left words.old) (x ∷ y ∷ [])) result }
 {
     let first = read_next_operand(alloc, words)?;
@@ -113,8 +114,10 @@ fn read_named<'t>(
     word: &str,
     words: &mut Words<'t>,
 ) -> Result<WrittenForm<'t>, Fail<Misfit>>
-    ensures { Answers (λ form. IsForm (FormCommand.Declare declaration) (word.now ∷ left words.old) (written_form form))
-        ((x : WgslOperand) (t : Option WgslType) → ¬ IsValue (word.now ∷ left words.old) x t) result }
+    ensures { Answers (λ form. IsForm (FormCommand.Declare declaration)
+        (word.now ∷ left words.old) (written_form form))
+        ((x : WgslOperand) (t : Option WgslType)
+        → ¬ IsValue (word.now ∷ left words.old) x t) result }
 {
     let (x, ty) = read_value(alloc, word, words)?;
     Ok(WrittenForm::Declaration(declaration, x, ty))
@@ -126,7 +129,8 @@ fn read_override<'t>(
     word: &str,
     words: &mut Words<'t>,
 ) -> Result<WrittenForm<'t>, Fail<Misfit>>
-    ensures { ReadsForm (FormCommand.Declare Declaration.Override) written_form (word.now ∷ left words.old) result }
+    ensures { ReadsForm (FormCommand.Declare Declaration.Override) written_form
+        (word.now ∷ left words.old) result }
 {
     if word == ":" {
         Ok(WrittenForm::Override(read_last_type(alloc, RuleSet::Standard, words)?))

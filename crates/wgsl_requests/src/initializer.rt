@@ -23,8 +23,10 @@ pub(crate) fn read_value(
     word: &str,
     words: &mut Words,
 ) -> Result<(WrittenOperand, Option<Type>), Fail<Misfit>>
-    ensures { Answers (λ v. IsValue (word.now ∷ left words.old) (operand_view v.0) (option_map view v.1))
-        ((x : WgslOperand) (t : Option WgslType) → ¬ IsValue (word.now ∷ left words.old) x t) result }
+    ensures { Answers (λ v. IsValue (word.now ∷ left words.old)
+        (operand_view v.0) (option_map view v.1))
+        ((x : WgslOperand) (t : Option WgslType)
+        → ¬ IsValue (word.now ∷ left words.old) x t) result }
 {
     let x = read_operand(alloc, word, words)?;
     match read_annotation(alloc, words) {

@@ -74,7 +74,8 @@ fn space_named(word: &str) -> Option<AddressSpace>
 }
 
 fn access_if_any(words: &mut Words) -> Option<AccessMode>
-    ensures { named_first (table access_text said_accesses) (left words.old) ≡ (result, left words.new) }
+    ensures { named_first (table access_text said_accesses) (left words.old)
+        ≡ (result, left words.new) }
 {
     let before = *words;
     if let Ok(word) = words.next(Wanted::AccessMode) {

@@ -3,10 +3,9 @@ use Rattle.std.proofs.Common.{◌≡◌, ◌∙◌, ◌⊎◌, ℕ, List, [], �
 use Rattle.wgsl_syntax.specs.Operator.{assignment_operators, assignment_text}
 use Rattle.wgsl_syntax.proofs.Naming.{assignment_naming}
 use Rattle.wgsl_rules.specs.types.Types.{WgslType}
-use Rattle.wgsl_rules.specs.standard.Choice.{Operand}
 use Rattle.wgsl_forms.specs.Refusals.{Refusal}
 use Rattle.wgsl_forms.specs.declared.declare.Declaration.{Declaration}
-use Rattle.wgsl_forms.specs.declared.declare.Declaration.TheVariants.{Let, Const, Override}
+use Rattle.wgsl_forms.specs.declared.declare.Declaration.TheVariants.{Override}
 use Rattle.wgsl_asked.specs.Forms.{WgslForm, IsFormType, member_of, index_of, load_of, declaration_of, override_of, assignment_of, increment_of, discard_of, construct_of, switch_of, variable_of, initialized_of}
 use Rattle.wgsl_requests.specs.Calls.{OperandAt, OperandsAt}
 use Rattle.wgsl_requests.specs.Forms.{SaidMemory, said_memory, IsAnnotation, IsForm, IsTyped}

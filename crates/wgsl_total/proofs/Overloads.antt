@@ -1,5 +1,5 @@
 -- What a call returns and resolves to by WGSL's own overloads.
-use Rattle.std.proofs.Common.{ℕ, List, [], ◌∷◌, Option, Some, None, refl}
+use Rattle.std.proofs.Common.{ℕ, List, ◌∷◌, Option, Some, None, refl}
 use Rattle.std.specs.Prelude.{Bool, true, false, IsTrue, option_map}
 use Rattle.wgsl_syntax.specs.declared.overload.Instance.{Instance}
 use Rattle.wgsl_syntax.specs.declared.overload.Overload.{Overload}

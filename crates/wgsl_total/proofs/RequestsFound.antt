@@ -8,7 +8,7 @@ use Rattle.wgsl_syntax.proofs.Naming.{binary_naming, unary_naming}
 use Rattle.wgsl_rules.specs.types.Types.{WgslType, struct, Members}
 use Rattle.wgsl_rules.specs.types.Signatures.{Signature}
 use Rattle.wgsl_asked.specs.Calls.{WgslCall}
-use Rattle.wgsl_requests.specs.Forms.{IsForm, command_text, form_commands}
+use Rattle.wgsl_requests.specs.Forms.{command_text, form_commands}
 use Rattle.wgsl_requests.specs.Grammar.{TypeAt, TypesAt, format_names}
 use Rattle.wgsl_requests.specs.declared.form_command.FormCommand.{FormCommand}
 use Rattle.wgsl_requests.proofs.Meanings.{named_text}
@@ -22,7 +22,7 @@ use Rattle.wgsl_requests.proofs.Requested.{BinaryForm, CallForm, CalleeForm, Com
 use Rattle.wgsl_total.proofs.CalleesFound.{a_callee}
 use Rattle.wgsl_total.proofs.CallsFound.{a_call}
 use Rattle.wgsl_total.proofs.FormsFound.{a_form}
-use Rattle.wgsl_total.proofs.Found.{Found, Means, a_word, from_bool, from_option}
+use Rattle.wgsl_total.proofs.Found.{Means, a_word, from_bool, from_option}
 use Rattle.wgsl_total.proofs.ListsFound.{some_types, whole_type}
 use Rattle.wgsl_total.proofs.TypesFound.{equal}
 use Rattle.wgsl_total.proofs.WordMeanings.{a_name}

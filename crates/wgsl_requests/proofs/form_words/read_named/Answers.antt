@@ -1,5 +1,3 @@
-use Rattle.std.proofs.Common.{◌∷◌}
-use Rattle.wgsl_requests.specs.internal.Taken.{left}
 use Rattle.wgsl_requests.specs.Forms.{declaration_words}
 use Rattle.wgsl_requests.proofs.form_words.read_named.Goals as goal
 
