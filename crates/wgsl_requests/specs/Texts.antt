@@ -48,7 +48,7 @@ abbrev pub result_text : Option WgslType → List ℕ
 result_text (Some t) = codes " -> " ++ wgsl_spelling t
 result_text None = []
 
--- the index of the overload, the types of its parameters, and its result: `1 (vec3<f32>, f32) -> vec3<f32>`
+-- the index of the overload's line, the types of its parameters, and its result: `3 (vec3<f32>, f32) -> vec3<f32>`
 abbrev pub resolution_text : WgslResolution → List ℕ
 resolution_text r = decimal r.0 ++ codes " (" ++ listed wgsl_spelling r.1 ++ codes ")" ++ result_text r.2
 
