@@ -217,7 +217,7 @@ test("the calculator answers expressions, words, and what it can't read", async 
     ["true + true", ["no overload of + takes (bool, bool)", "bool"], null],
     ["i32 < f32", null, null],
     ["array<f32, 4>", null, null],
-    ["size vec 3 bool", ["12 none"], null],
+    ["size vec 3 bool", ["12 16", "12 none"], null],
   ];
   for (const [request, answers, taken] of cases) {
     await page.run(ask(request));
