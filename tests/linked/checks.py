@@ -153,8 +153,9 @@ def count_short(program, short):
 
 
 def messages():
-    """How messages of refusals begin: the texts in the sources of errors and of constructors, calls and templates."""
-    paths = [os.path.join("wgsl_core", "src", "error.rt"), os.path.join("wgsl_calls", "src", "**", "*.rt")]
+    """How messages of refusals begin: the texts in the sources of errors, of forms, and of constructors, calls and templates."""
+    paths = [os.path.join("wgsl_core", "src", "error.rt"), os.path.join("wgsl_forms", "src", "refusal.rt")]
+    paths.append(os.path.join("wgsl_calls", "src", "**", "*.rt"))
     texts = ["no overload of ", "`"]
     for path in (path for each in paths for path in glob.glob(os.path.join(TOP, "crates", each), recursive=True)):
         with open(path, encoding="utf-8") as file:
