@@ -5,7 +5,7 @@ use crate::proved::wgsl_core::conversion::typed::Ty as _;
 pub use crate::proved::wgsl_core::ty::{StructMemberType, StructType, Type};
 use crate::proved::wgsl_source::fault::{Cause, Expected, Fault, Stop};
 use crate::proved::wgsl_source::spelled::spelling_of;
-use crate::proved::wgsl_spelled::spelled::read;
+use crate::proved::wgsl_text::spelling::spelled::read;
 pub use crate::proved::wgsl_syntax::texture::{SamplerType, TextureDimensions, TextureType};
 use crate::shim::std::alloc::Global;
 use crate::shim::{always, settled};

@@ -11,7 +11,7 @@ use crate::proved::wgsl_source::fault::{Cause, Fault};
 use crate::proved::wgsl_source::measured::MeasuredType;
 use crate::proved::wgsl_source::module::{read_module, Module};
 use crate::proved::wgsl_source::{structure, variable};
-use crate::proved::wgsl_tokens::token::tokens;
+use crate::proved::wgsl_source::tokens::token::tokens;
 use crate::shim::always;
 use crate::shim::std::alloc::Global;
 use alloc::string::{String, ToString};

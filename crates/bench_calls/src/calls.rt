@@ -3,11 +3,11 @@
 // Which operands a call gets depends on the answers before it, so that no compiler makes one call in place of many.
 use crate::standard::{choices, standard_calls};
 use std::alloc::Global;
-use wgsl_requests::read::{read_last_type, read_pair, read_types};
-use wgsl_requests::rules::RuleSet;
-use wgsl_requests::template::read_template;
-use wgsl_requests::wanted::{Misfit, Wanted};
-use wgsl_requests::words::{Words, medium};
+use wgsl_text::read::{read_last_type, read_pair, read_types};
+use wgsl_text::rules::RuleSet;
+use wgsl_text::template::read_template;
+use wgsl_text::wanted::{Misfit, Wanted};
+use wgsl_text::words::{Words, medium};
 use wgsl_types::builtin::{type_binary_op, type_builtin_fn, type_ctor, type_unary_op};
 use wgsl_types::conv::{conversion_rank, convert_all_ty};
 use wgsl_types::error::{Error, Fail};

@@ -2,10 +2,10 @@
 ghost use Rattle.wgsl_rules.specs.standard.Tables.{IsUnambiguous};
 
 use std::alloc::{AllocError, Global};
-use wgsl_requests::read::read_types;
-use wgsl_requests::rules::RuleSet;
-use wgsl_requests::wanted::{Misfit, Wanted};
-use wgsl_requests::words::Words;
+use wgsl_text::read::read_types;
+use wgsl_text::rules::RuleSet;
+use wgsl_text::wanted::{Misfit, Wanted};
+use wgsl_text::words::Words;
 use wgsl_standard::resolve::resolve;
 use wgsl_types::error::Fail;
 use wgsl_types::standard::{Callee, Operand, Overload, overloads, type_builtin_fn};

@@ -1,13 +1,13 @@
 -- What is returned to C.
 use Rattle.std.specs.Prelude.{◌≡◌, ◌≢◌, ◌⊎◌, ◌<◌, ◌≤◌, ◌++◌, ℕ, List, [], All, IfOk, IsUtf8, Result, Ok, Err, drop, length, string_bytes, take, true}
 use Rattle.std.specs.declared.alloc.AllocError.{AllocError}
-use Rattle.wgsl_requests.specs.Replies.{IsExplanation, IsReplyTo, reply_text}
-use Rattle.wgsl_requests.specs.Words.{has_line_feed, words_of}
-use Rattle.wgsl_requests.specs.declared.rules.RuleSet.{RuleSet}
-use Rattle.wgsl_requests.specs.declared.request.Reply.{Reply}
-use Rattle.wgsl_requests.specs.declared.request.Reply.TheVariants.{Nothing, Answer, Unreadable}
-use Rattle.wgsl_requests.specs.declared.write.TextKind.{TextKind}
-use Rattle.wgsl_requests.specs.declared.write.TextKind.TheVariants as kinds
+use Rattle.wgsl_text.specs.Replies.{IsExplanation, IsReplyTo, reply_text}
+use Rattle.wgsl_text.specs.Words.{has_line_feed, words_of}
+use Rattle.wgsl_text.specs.declared.rules.RuleSet.{RuleSet}
+use Rattle.wgsl_text.specs.declared.request.Reply.{Reply}
+use Rattle.wgsl_text.specs.declared.request.Reply.TheVariants.{Nothing, Answer, Unreadable}
+use Rattle.wgsl_text.specs.declared.write.TextKind.{TextKind}
+use Rattle.wgsl_text.specs.declared.write.TextKind.TheVariants as kinds
 
 -- What the library promises of the reply to a request, by a set of rules: which it is, and when memory can't have run out.
 pub record IsPromised (rules : RuleSet) (request : List ℕ) (reply : Result Reply AllocError) : Type 0 where

@@ -3,8 +3,8 @@ ghost use Rattle.wgsl_c.specs.HandOver.{IsAnswered, IsExplained};
 
 use crate::hand_over::hand_over;
 use std::alloc::Global;
-use wgsl_requests::request::{explain, reply_to};
-use wgsl_requests::rules::RuleSet;
+use wgsl_text::request::{explain, reply_to};
+use wgsl_text::rules::RuleSet;
 
 /// Answers one request.
 pub fn answer_by(

@@ -5,7 +5,7 @@ use crate::hand_over::hand_over;
 use std::alloc::{AllocError, Global};
 use wgsl_report::report::{Format, Report, Request, report_on};
 use wgsl_report::shown::Style;
-use wgsl_requests::request::{Reply, TextKind};
+use wgsl_text::request::{Reply, TextKind};
 
 /// Writes what `./wgsl_layout --json` writes of a text, with an empty name of the file. The status is 0, 3 or 4.
 #[unsafe(no_mangle)]

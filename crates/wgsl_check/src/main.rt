@@ -5,7 +5,7 @@
 ghost use Rattle.std.specs.Prelude.{ℕ, List, IfErr, IfOk, IfSome};
 ghost use Rattle.std.specs.Io.KnownBytes.{Appends};
 ghost use Rattle.wgsl_lines.specs.Output.{Prints, PrintsFirst, PrintsUntil};
-ghost use Rattle.wgsl_requests.specs.declared.rules.RuleSet.TheVariants.{Ported};
+ghost use Rattle.wgsl_text.specs.declared.rules.RuleSet.TheVariants.{Ported};
 
 #[cfg(test)]
 mod tests;
@@ -15,7 +15,7 @@ use std::io::{Read, Write, sink};
 use std::process::ExitCode;
 use wgsl_lines::run::run as run_with_notes;
 pub use wgsl_lines::run::{RunError, status};
-use wgsl_requests::rules::RuleSet;
+use wgsl_text::rules::RuleSet;
 
 /// Answers each line of the input by the rules of wgsl-types, and says whether every one was readable.
 ///

@@ -5,11 +5,11 @@ use Rattle.std.proofs.lemmas.Bool.{leb-true, leb-false}
 use Rattle.std.proofs.lemmas.List.{append-nil, take_all}
 use Rattle.std.proofs.lemmas.List.Folds.{list_all-append}
 use Rattle.std.specs.List.{list_all}
-use Rattle.wgsl_requests.proofs.OneReply.{one_line_reply}
-use Rattle.wgsl_requests.specs.Replies.{ReplyText, unreadable, IsReplyToLine, too_long}
+use Rattle.wgsl_text.proofs.OneReply.{one_line_reply}
+use Rattle.wgsl_text.specs.Replies.{ReplyText, unreadable, IsReplyToLine, too_long}
 use Rattle.wgsl_lines.specs.Output.{is_readable, next_number, printed, printed_from}
 use Rattle.wgsl_lines.specs.Session.{number_after}
-use Rattle.wgsl_requests.specs.declared.rules.RuleSet.{RuleSet}
+use Rattle.wgsl_text.specs.declared.rules.RuleSet.{RuleSet}
 
 module _ (rules : RuleSet) where
   -- of the first bytes of a line 4097 decide the reply, whatever comes after them

@@ -4,14 +4,14 @@ use Rattle.std.proofs.lemmas.List.{append-nil, take_all}
 use Rattle.std.proofs.lemmas.List.Elements.{All-append, All-nil}
 use Rattle.std.proofs.lemmas.Slice.Zip.{all_zipped_more}
 use Rattle.std.specs.List.{AllZip, list_all}
-use Rattle.wgsl_requests.specs.Replies.{IsReplyToLine}
+use Rattle.wgsl_text.specs.Replies.{IsReplyToLine}
 use Rattle.wgsl_lines.specs.declared.run.RunError.TheVariants.{Write, Memory}
 use Rattle.wgsl_lines.specs.declared.run.Session.{Session}
 use Rattle.wgsl_lines.specs.Output.{is_readable, lines_of, next_number, printed, printed_from, Prints, PrintsLines, PrintsUntil, PrintsUpTo}
 use Rattle.wgsl_lines.specs.Session.{AnswersLine, HasTaken, IsAtStart, StopsAfter}
 use Rattle.wgsl_lines.proofs.Lines.{NoLineFeed, ends_last, ends_line, ends_more, ends_none, lines-some}
 use Rattle.wgsl_lines.proofs.Replies.{number-push, of_cut_first, printed-push, readable-push, take-cut}
-use Rattle.wgsl_requests.specs.declared.rules.RuleSet.{RuleSet}
+use Rattle.wgsl_text.specs.declared.rules.RuleSet.{RuleSet}
 
 -- of the block some bytes are taken, and the rest is left
 pub record TakesPart (rules : RuleSet) (bytes before block rest : List ℕ) (session : Session) : Type 0 where

@@ -3,10 +3,10 @@ use Rattle.std.specs.Prelude.{◌≡◌, ◌≢◌, ◌++◌, ◌&&◌, ℕ, Boo
 use Rattle.std.specs.Prelude.{string_bytes}
 use Rattle.std.specs.Io.KnownBytes.{Appends}
 use Rattle.std.specs.List.{AllZip, list_all}
-use Rattle.wgsl_requests.specs.Replies.{ReplyText, nothing, answer, unreadable, IsReplyToLine}
-use Rattle.wgsl_requests.specs.declared.request.ReplyKind.{ReplyKind}
-use Rattle.wgsl_requests.specs.declared.rules.RuleSet.{RuleSet}
-use Rattle.wgsl_requests.specs.declared.request.ReplyKind.TheVariants as k
+use Rattle.wgsl_text.specs.Replies.{ReplyText, nothing, answer, unreadable, IsReplyToLine}
+use Rattle.wgsl_text.specs.declared.request.ReplyKind.{ReplyKind}
+use Rattle.wgsl_text.specs.declared.rules.RuleSet.{RuleSet}
+use Rattle.wgsl_text.specs.declared.request.ReplyKind.TheVariants as k
 use Rattle.wgsl_lines.specs.declared.run.RunError.{RunError}
 use Rattle.wgsl_lines.specs.declared.run.Session.{Session}
 use Rattle.wgsl_lines.specs.Output.{is_readable, lines_of, next_number, printed, printed_from}

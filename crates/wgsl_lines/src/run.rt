@@ -5,14 +5,14 @@ ghost use Rattle.wgsl_lines.specs.Output.{Prints, PrintsFirst, PrintsUntil, bad_
 ghost use Rattle.wgsl_lines.specs.Status.{status_of};
 ghost use Rattle.wgsl_lines.specs.declared.run.RunError.TheVariants.{Memory};
 ghost use Rattle.wgsl_lines.specs.Session.{reply_of_kind};
-ghost use Rattle.wgsl_requests.specs.Replies.{IsReplyToLine};
+ghost use Rattle.wgsl_text.specs.Replies.{IsReplyToLine};
 
 use crate::line::{Line, split_line};
 use std::alloc::{AllocError, Global};
 use std::io::{ErrorKind, Read, Write};
-use wgsl_requests::request::{ReplyKind, write_reply};
-use wgsl_requests::rules::RuleSet;
-use wgsl_requests::why::{Why, write_why};
+use wgsl_text::request::{ReplyKind, write_reply};
+use wgsl_text::rules::RuleSet;
+use wgsl_text::why::{Why, write_why};
 
 /// Why a run stopped.
 #[derive(Clone, Copy, Debug, PartialEq, Eq)]

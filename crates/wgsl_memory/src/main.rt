@@ -10,6 +10,7 @@ mod never;
 mod operators;
 mod standard;
 mod templates;
+mod typed;
 mod types;
 
 use arguments::{Arguments, both, make_arguments};

@@ -4,7 +4,7 @@ use crate::lines::Lines;
 use std::alloc::{AllocError, Global};
 use std::io;
 use std::io::Write;
-use wgsl_typed::typed::Typed;
+use crate::typed::Typed;
 use wgsl_types::conv::{
     Convert, convert, convert_all, convert_all_inner_to, convert_all_to, convert_inner,
 };

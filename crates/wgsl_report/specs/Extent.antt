@@ -10,13 +10,13 @@ use Rattle.wgsl_source.specs.declared.measured.TypeKind.TheVariants.{Scalar, Vec
 use Rattle.wgsl_source.specs.declared.measured.Count.TheVariants.{Runtime}
 use Rattle.wgsl_source.specs.declared.structure.Member.{Member}
 use Rattle.wgsl_source.specs.Measures.{IsStrideOf}
-use Rattle.wgsl_spaces.specs.declared.spaces.Extent.{Extent}
-use Rattle.wgsl_spaces.specs.declared.spaces.Shape.{Shape}
-use Rattle.wgsl_spaces.specs.declared.spaces.Shape.TheVariants as shape
-use Rattle.wgsl_spaces.specs.declared.spaces.Position.{Position}
-use Rattle.wgsl_spaces.specs.declared.content.Content.{Content}
-use Rattle.wgsl_spaces.specs.declared.content.Content.TheVariants as content
-use Rattle.wgsl_spaces.specs.Spaces.{LieApart}
+use Rattle.wgsl_report.specs.declared.spaces.layout.Extent.{Extent}
+use Rattle.wgsl_report.specs.declared.spaces.layout.Shape.{Shape}
+use Rattle.wgsl_report.specs.declared.spaces.layout.Shape.TheVariants as shape
+use Rattle.wgsl_report.specs.declared.spaces.layout.Position.{Position}
+use Rattle.wgsl_report.specs.declared.spaces.content.Content.{Content}
+use Rattle.wgsl_report.specs.declared.spaces.content.Content.TheVariants as content
+use Rattle.wgsl_report.specs.spaces.Spaces.{LieApart}
 
 -- arrays and structs have rules of their own
 abbrev pub shape_of : TypeKind → Shape

@@ -5,8 +5,8 @@ ghost use Rattle.wgsl_report.specs.Extent.{IsInnermost, IsOutermostTooClose, IsR
 
 use wgsl_source::measured::{Count, MeasuredType, TypeKind};
 use wgsl_source::structure::Member;
-use wgsl_spaces::content::Content;
-use wgsl_spaces::spaces::{Extent, Position, Shape, may_lie_apart};
+use crate::spaces::content::Content;
+use crate::spaces::layout::{Extent, Position, Shape, may_lie_apart};
 use wgsl_syntax::address::AddressSpace;
 use wgsl_syntax::scalar::Scalar;
 

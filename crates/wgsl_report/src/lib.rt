@@ -15,6 +15,7 @@ mod resource;
 pub mod rules;
 pub mod shown;
 mod source;
+pub mod spaces;
 mod table;
 pub mod told;
 mod tree;

@@ -6,7 +6,7 @@ use std::alloc::{AllocError, Global};
 use std::fmt::Debug;
 use wgsl_source::fault::{Cause, Fault};
 use wgsl_source::module::Module;
-use wgsl_tokens::token::next_token;
+use wgsl_source::tokens::token::next_token;
 
 /// How severe a message is.
 #[derive(Clone, Copy, Debug, PartialEq, Eq)]

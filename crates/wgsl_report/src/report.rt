@@ -15,7 +15,7 @@ use std::alloc::{AllocError, Global};
 use std::str::from_utf8;
 use wgsl_source::fault::{Cause, Fault};
 use wgsl_source::module::{Module, read_module};
-use wgsl_tokens::token::tokens;
+use wgsl_source::tokens::token::tokens;
 
 /// How a report is written.
 #[derive(Clone, Copy, Debug, PartialEq, Eq)]

@@ -1,6 +1,6 @@
 // The rules of address spaces, for the variables of a module and the structs in their types.
 ghost use Rattle.std.specs.Prelude.{◌↔◌, IsTrue};
-ghost use Rattle.wgsl_spaces.specs.Spaces.{IsAlignAttribute};
+ghost use Rattle.wgsl_report.specs.spaces.Spaces.{IsAlignAttribute};
 ghost use Rattle.wgsl_report.specs.Extent.{extent_of};
 
 use crate::extent::{
@@ -13,8 +13,8 @@ use wgsl_source::measured::{MeasuredType, TypeKind};
 use wgsl_source::module::Module;
 use wgsl_source::structure::{Member, Struct};
 use wgsl_source::variable::Variable;
-use wgsl_spaces::content::{Content, may_be_innermost};
-use wgsl_spaces::spaces::{
+use crate::spaces::content::{Content, may_be_innermost};
+use crate::spaces::layout::{
     Position, Rule, broken_rule, is_align_attribute, is_lifted, required_align, up_to_16,
 };
 use wgsl_syntax::address::AddressSpace;

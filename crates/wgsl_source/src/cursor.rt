@@ -4,7 +4,7 @@ ghost use Rattle.wgsl_source.specs.Cursor.{GoesOn, Takes};
 
 use crate::fault::{Cause, Expected, Stop};
 use crate::keyword::is_name;
-use wgsl_tokens::token::{Kind, Token};
+use crate::tokens::token::{Kind, Token};
 
 /// A place among the tokens of a text.
 #[derive(Clone, Copy)]

@@ -8,7 +8,7 @@ use crate::fault::{Cause, Expected, Fault, Stop};
 use crate::scope::Extensions;
 use crate::skip::{skip_attributes, skip_to_end};
 use std::alloc::{AllocError, Global};
-use wgsl_tokens::token::Kind;
+use crate::tokens::token::Kind;
 
 /// What a declaration declares.
 #[derive(Clone, Copy, PartialEq, Eq)]

@@ -7,7 +7,7 @@ use crate::expression::{Site, Value};
 use crate::fault::{Cause, Expected, Stop};
 use crate::scope::Scope;
 use crate::types::Types;
-use wgsl_constants::integer::Integer;
+use crate::constants::integer::Integer;
 use wgsl_syntax::scalar::Scalar;
 
 /// The stage of a pipeline for which a function is an entry point.

@@ -8,10 +8,10 @@ use crate::function::Function;
 use crate::literal::{integer_of, whole_part};
 use crate::operator::{Operator, operator_at};
 use crate::scope::{Meaning, Scope};
-use wgsl_constants::integer::Integer;
-use wgsl_constants::operator::{complement, negative};
+use crate::constants::integer::Integer;
+use crate::constants::operator::{complement, negative};
 use wgsl_syntax::scalar::Scalar;
-use wgsl_tokens::token::Kind;
+use crate::tokens::token::Kind;
 
 /// What is known of a value.
 #[derive(Clone, Copy, Debug, PartialEq, Eq)]

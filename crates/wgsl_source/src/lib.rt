@@ -4,6 +4,7 @@
 
 mod attribute;
 mod check;
+pub mod constants;
 mod cursor;
 mod declaration;
 pub mod entry;
@@ -23,5 +24,6 @@ mod scope;
 mod skip;
 pub mod spelled;
 pub mod structure;
+pub mod tokens;
 mod types;
 pub mod variable;

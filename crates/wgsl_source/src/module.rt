@@ -14,10 +14,10 @@ use crate::structure::Struct;
 use crate::types::Types;
 use crate::variable::Variable;
 use std::alloc::{AllocError, Global};
-use wgsl_constants::integer::Integer;
-use wgsl_constants::operator::{to_i32, to_u32};
+use crate::constants::integer::Integer;
+use crate::constants::operator::{to_i32, to_u32};
 use wgsl_syntax::scalar::Scalar;
-use wgsl_tokens::token::{Token, has_byte_order_mark};
+use crate::tokens::token::{Token, has_byte_order_mark};
 
 /// A module that is read.
 #[derive(Drop)]

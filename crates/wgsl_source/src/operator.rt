@@ -4,9 +4,9 @@ use crate::cursor::Cursor;
 use crate::expression::{Site, Value};
 use crate::fault::Cause;
 use std::cmp::Ordering;
-use wgsl_constants::integer::{Integer, IntegerOperator};
-use wgsl_constants::operator::{apply, compare, shift_left, shift_right};
-use wgsl_tokens::token::Kind;
+use crate::constants::integer::{Integer, IntegerOperator};
+use crate::constants::operator::{apply, compare, shift_left, shift_right};
+use crate::tokens::token::Kind;
 
 /// A binary operator.
 #[derive(Clone, Copy, PartialEq, Eq)]

@@ -7,7 +7,7 @@ use crate::fault::{Cause, Fault};
 use crate::skip::skip_group;
 use std::alloc::{AllocError, Global};
 use std::collections::BTreeMap;
-use wgsl_tokens::token::Kind;
+use crate::tokens::token::Kind;
 
 /// Whether a declaration has its place in the order.
 #[derive(Clone, Copy, PartialEq, Eq)]

@@ -3,7 +3,7 @@ ghost use Rattle.wgsl_source.specs.Cursor.{GoesOn};
 
 use crate::cursor::Cursor;
 use crate::fault::{Expected, Stop};
-use wgsl_tokens::token::Kind;
+use crate::tokens::token::Kind;
 
 /// Skips the rest of a declaration: up to a `;` outside of brackets, or to the `}` of its last bracket.
 ///

@@ -13,7 +13,7 @@ use std::str::FromStr;
 use wgsl_core::ty::Type;
 use wgsl_syntax::address::AddressSpace;
 use wgsl_syntax::around::Around;
-use wgsl_tokens::token::tokens;
+use crate::tokens::token::tokens;
 
 /// The spelling of the type with which a text begins, as a module may write it.
 pub fn spelling_of(alloc: Global, text: &str) -> Result<String, Stop> {

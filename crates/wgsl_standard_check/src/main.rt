@@ -4,7 +4,7 @@
 
 use std::process::ExitCode;
 use wgsl_lines::run::{run, status};
-use wgsl_requests::rules::RuleSet;
+use wgsl_text::rules::RuleSet;
 
 fn main(rt: HostRuntime) -> ExitCode {
     let mut input = rt.stdin();

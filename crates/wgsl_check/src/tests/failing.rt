@@ -7,7 +7,7 @@ use std::io::ErrorKind;
 use std::process::Abort;
 use std::test::Fail;
 use wgsl_lines::run::run as run_with_notes;
-use wgsl_requests::rules::RuleSet;
+use wgsl_text::rules::RuleSet;
 
 /// A line of every command, a blank one and one that can't be read, each with what is printed for it.
 const LINES: [(&str, &str); 13] = [

@@ -2,10 +2,10 @@ use Rattle.std.proofs.Common.{◌≡◌, ◌∙◌, ℕ, List, [], ◌++◌, ap,
 use Rattle.std.proofs.lemmas.Grind.{common_steps}
 use Rattle.std.proofs.lemmas.List.{nil_from_length}
 use Rattle.std.specs.Prelude.{IfOk}
-use Rattle.wgsl_requests.specs.declared.request.ReplyKind.{ReplyKind}
-use Rattle.wgsl_requests.specs.declared.request.ReplyKind.TheVariants as k
-use Rattle.wgsl_requests.specs.Replies.{IsReplyToLine, WritesReply, answer}
-use Rattle.wgsl_requests.specs.declared.rules.RuleSet.{RuleSet}
+use Rattle.wgsl_text.specs.declared.request.ReplyKind.{ReplyKind}
+use Rattle.wgsl_text.specs.declared.request.ReplyKind.TheVariants as k
+use Rattle.wgsl_text.specs.Replies.{IsReplyToLine, WritesReply, answer}
+use Rattle.wgsl_text.specs.declared.rules.RuleSet.{RuleSet}
 use Rattle.wgsl_lines.specs.Session.{reply_of_kind}
 use Rattle.wgsl_lines.proofs.Replies.{of_cut}
 use Rattle.wgsl_lines.proofs.run.write_reply_to.Goals as goal

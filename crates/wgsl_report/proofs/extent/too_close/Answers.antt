@@ -1,6 +1,6 @@
 use Rattle.std.proofs.Common.{◌≡◌, ℕ, Bool, false, true, refl}
 use Rattle.wgsl_source.specs.Measures.{IsStrideOf}
-use Rattle.wgsl_spaces.specs.Spaces.{LieApart}
+use Rattle.wgsl_report.specs.spaces.Spaces.{LieApart}
 use Rattle.wgsl_report.specs.Extent.{extent_of}
 use Rattle.wgsl_report.proofs.Nested.{kept, left_out, nothing}
 use Rattle.wgsl_report.proofs.extent.too_close.Goals as goal

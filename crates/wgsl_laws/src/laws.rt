@@ -1,0 +1,35 @@
+// Every request has exactly one answer: each function returns nothing, and its contract is the law.
+ghost use Rattle.std.specs.Prelude.{◌≡◌, ℕ, Bool, List};
+ghost use Rattle.wgsl_asked.specs.Answers.{Answers, WgslAnswer};
+ghost use Rattle.wgsl_asked.specs.Requests.{WgslRequest};
+ghost use Rattle.wgsl_lines.specs.Output.{Prints};
+ghost use Rattle.wgsl_text.specs.Replies.{IsReplyTo, ReplyText};
+ghost use Rattle.wgsl_text.specs.declared.rules.RuleSet.{RuleSet};
+
+/// Every request has an answer, whatever types it names.
+#[tactic(auto, using(crate::proofs::Answered::some_answer))]
+pub fn every_request_has_an_answer()
+    ensures { (request : WgslRequest) → (a : WgslAnswer) × Answers request a }
+{}
+
+/// A request has at most one answer.
+pub fn no_request_has_two_answers()
+    ensures { (request : WgslRequest) (a b : WgslAnswer)
+        → Answers request a → Answers request b → a ≡ b }
+{}
+
+/// The bytes of a request have exactly one reply, by either set of rules.
+#[tactic(auto, using(crate::proofs::Replied::only_reply))]
+pub fn every_text_has_one_reply()
+    ensures { (rules : RuleSet) (bytes : List ℕ) → (reply : ReplyText) × IsReplyTo rules bytes reply
+        × ((other : ReplyText) → IsReplyTo rules bytes other → other ≡ reply) }
+{}
+
+/// An input prints exactly one text, with one answer to whether every line is readable.
+#[tactic(auto, using(crate::proofs::Printed::only_text))]
+pub fn every_input_prints_one_text()
+    ensures { (rules : RuleSet) (input : List ℕ) → (text : List ℕ) × (readable : Bool)
+        × Prints rules input text readable
+        × ((other : List ℕ) (all : Bool) → Prints rules input other all
+        → (other ≡ text) × (all ≡ readable)) }
+{}

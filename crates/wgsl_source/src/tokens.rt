@@ -1,0 +1,4 @@
+// The tokens of a WGSL text.
+
+pub mod gap;
+pub mod token;

@@ -1,7 +1,0 @@
-//! Types read from their spelling: `array<vec3<f32>, 4>`, `vec3f`.
-#![tactic(auto)]
-
-pub mod laws;
-mod list;
-mod name;
-pub mod spelled;

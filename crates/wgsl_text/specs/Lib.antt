@@ -1,0 +1,16 @@
+pub mod Answers
+pub mod Calls
+pub mod Forms
+pub mod Grammar
+pub mod Laws
+pub mod Layouts
+pub mod Numbers
+pub mod Reading
+pub mod Replies
+pub mod Requests
+pub mod Spelled
+pub mod Templates
+pub mod Texts
+pub mod Words
+pub mod internal
+pub mod spelling

@@ -1,0 +1,94 @@
+-- The requests, and the words that spell each, by the set of rules.
+use Rattle.std.specs.Prelude.{◌≡◌, ℕ, List, [], ◌∷◌, codes}
+use Rattle.wgsl_syntax.specs.Operator.{binary_text, unary_text}
+use Rattle.wgsl_syntax.specs.declared.operator.BinaryOperator.{BinaryOperator}
+use Rattle.wgsl_syntax.specs.declared.operator.UnaryOperator.{UnaryOperator}
+use Rattle.wgsl_rules.specs.types.Types.{WgslType, struct, Members}
+use Rattle.wgsl_rules.specs.types.Signatures.{Signature}
+use Rattle.wgsl_rules.specs.layout.Stored.{stored, stored_members}
+use Rattle.wgsl_asked.specs.Calls.{WgslCall}
+use Rattle.wgsl_asked.specs.Forms.{WgslForm}
+pub use Rattle.wgsl_asked.specs.Requests.{WgslRequest as Request, rank, common, unary, binary, size, offsets, layout, ctor, call, type_of, resolution_of, explanation_of, overloads_of, form_of}
+use Rattle.wgsl_text.specs.Calls.{IsCall}
+use Rattle.wgsl_text.specs.Forms.{IsForm, command_text}
+use Rattle.wgsl_text.specs.Grammar.{TypeAt, TypesAt, format_names}
+use Rattle.wgsl_text.specs.Templates.{TemplateAt}
+use Rattle.wgsl_text.specs.declared.form_command.FormCommand.{FormCommand}
+use Rattle.wgsl_text.specs.declared.rules.RuleSet.{RuleSet}
+use Rattle.wgsl_text.specs.declared.rules.RuleSet.TheVariants.{Ported, Standard}
+
+-- the words are a name, a template or `-`, and the types of the arguments
+abbrev pub IsCallee : List (List ℕ) → Signature → Type 0
+IsCallee [] c = ⊥
+IsCallee (name ∷ words) c =
+    (name ≡ c.name) × (after : List (List ℕ))
+    × TemplateAt Ported words c.template after × TypesAt Ported after c.arguments
+
+-- the type as the rules lay it out, by WGSL's own with a `u32` for each `bool`
+abbrev pub laid_out : RuleSet → WgslType → WgslType
+laid_out Ported t = t
+laid_out Standard t = stored t
+
+abbrev pub members_laid_out : RuleSet → Members → Members
+members_laid_out Ported ms = ms
+members_laid_out Standard ms = stored_members ms
+
+-- The words spell the request.
+pub data IsRequest : RuleSet → List (List ℕ) → Request → Type 0 where
+  -- about types alone, for either set of rules
+
+  -- `rank AbstractInt f32`
+  rank_words : {rules : RuleSet} {words : List (List ℕ)} {t u : WgslType} → TypesAt rules words (t ∷ u ∷ []) →
+      IsRequest rules (codes "rank" ∷ words) (rank t u)
+  -- `common AbstractInt f32 f16`
+  common_words : {rules : RuleSet} {words : List (List ℕ)} {ts : List WgslType} → TypesAt rules words ts →
+      IsRequest rules (codes "common" ∷ words) (common (format_names rules) ts)
+  -- `size vec 3 f32`
+  size_words : {rules : RuleSet} {words : List (List ℕ)} {t : WgslType} → TypeAt rules words t [] →
+      IsRequest rules (codes "size" ∷ words) (size (laid_out rules t))
+  -- `offsets struct S 2 a - - f32 b 16 - vec 3 f32`
+  offsets_words : {rules : RuleSet} {words : List (List ℕ)} {name : List ℕ} {ms : Members} →
+      TypeAt rules words (struct name ms) [] →
+      IsRequest rules (codes "offsets" ∷ words) (offsets name (members_laid_out rules ms))
+  -- `layout struct S 2 a - - f32 b 16 - vec 3 f32`
+  layout_words : {rules : RuleSet} {words : List (List ℕ)} {name : List ℕ} {ms : Members} →
+      TypeAt rules words (struct name ms) [] →
+      IsRequest rules (codes "layout" ∷ words) (layout name ms (members_laid_out rules ms))
+  -- by the rules of wgsl-types
+
+  -- `unary - vec 3 f32`
+  unary_words : {words : List (List ℕ)} {t : WgslType} (o : UnaryOperator) → TypeAt Ported words t [] →
+      IsRequest Ported (codes "unary" ∷ unary_text o ∷ words) (unary o t)
+  -- `binary + AbstractInt vec 3 f32`
+  binary_words : {words : List (List ℕ)} {t u : WgslType} (o : BinaryOperator) →
+      TypesAt Ported words (t ∷ u ∷ []) →
+      IsRequest Ported (codes "binary" ∷ binary_text o ∷ words) (binary o t u)
+  -- `ctor array < t f32 n 2 > AbstractInt f32`
+  ctor_words : {words : List (List ℕ)} {c : Signature} → IsCallee words c →
+      IsRequest Ported (codes "ctor" ∷ words) (ctor c)
+  -- `call clamp - AbstractInt f32 f32`
+  call_words : {words : List (List ℕ)} {c : Signature} → IsCallee words c →
+      IsRequest Ported (codes "call" ∷ words) (call c)
+  -- by WGSL's own overloads
+
+  -- `binary + const i32 AbstractInt`, `call clamp - f32 AbstractInt AbstractInt`
+  type_words : {words : List (List ℕ)} {c : WgslCall} → IsCall words c →
+      IsRequest Standard words (type_of c)
+  -- `resolve binary + f32 AbstractInt`
+  resolve_words : {words : List (List ℕ)} {c : WgslCall} → IsCall words c →
+      IsRequest Standard (codes "resolve" ∷ words) (resolution_of c)
+  -- `why binary + f32 i32`
+  why_words : {words : List (List ℕ)} {c : WgslCall} → IsCall words c →
+      IsRequest Standard (codes "why" ∷ words) (explanation_of c)
+  -- `overloads clamp`
+  overloads_words : (name : List ℕ) →
+      IsRequest Standard (codes "overloads" ∷ name ∷ []) (overloads_of name)
+  -- by the other rules of WGSL
+
+  -- `member vec 3 f32 zx`
+  form_words : {command : FormCommand} {words : List (List ℕ)} {f : WgslForm} → IsForm command words f →
+      IsRequest Standard (command_text command ∷ words) (form_of f)
+
+-- the words spell no request
+abbrev pub NoRequest : RuleSet → List (List ℕ) → Type 0
+NoRequest rules words = (request : Request) → ¬ IsRequest rules words request

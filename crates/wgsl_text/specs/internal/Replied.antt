@@ -1,0 +1,45 @@
+-- What a command writes.
+use Rattle.std.specs.Prelude.{◌≡◌, ℕ, List, Result, map, option_map}
+use Rattle.wgsl_rules.specs.types.Types.{WgslType, struct, Members}
+use Rattle.wgsl_rules.specs.types.Signatures.{Signature}
+use Rattle.wgsl_core.specs.View.{view}
+use Rattle.wgsl_core.specs.Instances.{parameter_view}
+use Rattle.wgsl_text.specs.Answers.{IsAnswer, IsReply}
+use Rattle.wgsl_text.specs.Reading.{Answers}
+use Rattle.wgsl_text.specs.Requests.{NoRequest, Request, layout, members_laid_out, offsets}
+use Rattle.wgsl_text.specs.declared.command.Callee.{Callee}
+use Rattle.wgsl_text.specs.declared.rules.RuleSet.{RuleSet}
+use Rattle.wgsl_core.specs.declared.error.Fail.{Fail}
+use Rattle.wgsl_text.specs.declared.wanted.Misfit.{Misfit}
+use Rattle.wgsl_text.specs.declared.write.TextKind.{TextKind}
+use Rattle.wgsl_text.specs.internal.Written.{Adds}
+
+-- The answer to the request that the words spell is written. The error is a misfit only if they
+-- spell none.
+abbrev pub Replies : RuleSet → List (List ℕ) → List ℕ → List ℕ → Result TextKind (Fail Misfit) → Type 0
+Replies rules words old new r =
+    Answers (λ kind. Adds (IsReply rules words kind) old new) (NoRequest rules words) r
+
+-- what the words `offsets` and `layout` ask of a struct
+
+abbrev pub offsets_by : RuleSet → List ℕ → Members → Request
+offsets_by rules name ms = offsets name (members_laid_out rules ms)
+
+abbrev pub layout_by : RuleSet → List ℕ → Members → Request
+layout_by rules name ms = layout name ms (members_laid_out rules ms)
+
+-- The answer to what is asked of the struct is written. The error is a misfit only if the type is no struct.
+abbrev pub WritesOfStruct : (List ℕ → Members → Request) → WgslType → List ℕ → List ℕ →
+    Result TextKind (Fail Misfit) → Type 0
+WritesOfStruct ask t old new r =
+    Answers (λ kind. (name : List ℕ) × (ms : Members) × (t ≡ struct name ms)
+    × Adds (IsAnswer (ask name ms) kind) old new)
+    ((name : List ℕ) (ms : Members) → ¬ t ≡ struct name ms) r
+
+-- the call that is made
+abbrev pub callee_view : Callee → Signature
+callee_view callee = record {
+  name = callee.name.now;
+  template = option_map (λ ps. map parameter_view ps.items) callee.template;
+  arguments = map view callee.types.items;
+}

@@ -1,0 +1,378 @@
+// What the program answers to a command.
+ghost use Rattle.std.specs.Prelude.{◌≡◌, ◌↔◌, ◌∷◌, IfOk, IsTrue, MatchResult, codes, map, option_map, string_bytes};
+ghost use Rattle.wgsl_syntax.specs.Operator.{binary_text, unary_text};
+ghost use Rattle.wgsl_rules.specs.types.Signatures.{Signature};
+ghost use Rattle.wgsl_core.specs.View.{struct_view, view};
+ghost use Rattle.wgsl_rules.specs.Headline.{Receives};
+ghost use Rattle.wgsl_asked.specs.Answers.{IsReceivedCommon};
+ghost use Rattle.wgsl_asked.specs.Requests.{common as common_request, offsets as offsets_request};
+ghost use Rattle.wgsl_asked.specs.Views.{callee_view as asked_view, request_view};
+ghost use Rattle.wgsl_text.specs.Answers.{IsAnswer, IsReply};
+ghost use Rattle.wgsl_text.specs.Reading.{Answers, ReadsWord};
+ghost use Rattle.wgsl_text.specs.Requests.{IsCallee, NoRequest, laid_out};
+ghost use Rattle.wgsl_text.specs.internal.Replied.{Replies, WritesOfStruct, callee_view, layout_by};
+ghost use Rattle.wgsl_text.specs.internal.Taken.{left};
+ghost use Rattle.wgsl_text.specs.internal.Written.{Adds};
+
+use crate::read::{read_last_type, read_pair, read_types};
+use crate::rules::RuleSet;
+use crate::standard::answer_standard;
+use crate::template::read_template;
+use crate::wanted::{Misfit, Misread, Wanted};
+use crate::words::{Words, parsed};
+use crate::write::{TextKind, write, write_type_or_none};
+use std::alloc::{AllocError, Global};
+use wgsl_asked::ask::answer;
+use wgsl_asked::requests::{Callee as AskedCallee, Request};
+use wgsl_core::conversion::lists::common_of;
+use wgsl_syntax::texel::FormatNames;
+use wgsl_types::error::Fail;
+use wgsl_types::syntax::{BinaryOperator, UnaryOperator};
+use wgsl_types::tplt::TpltParam;
+use wgsl_types::ty::{StructType, Type};
+
+/// Writes the answer to the command and the words after it, or returns what is wrong with them if they are no command.
+pub fn write_answer(
+    alloc: Global,
+    rules: RuleSet,
+    command: &str,
+    words: &mut Words,
+    text: &mut String,
+) -> Result<Result<TextKind, Misread>, AllocError>
+    ensures { IfOk result (λ written. MatchResult written
+        (λ kind. Adds (IsReply rules (command.now ∷ left words.old) kind) (string_bytes text.old) (string_bytes text.new))
+        (λ misread. NoRequest rules (command.now ∷ left words.old))) }
+{
+    match answer_by(alloc, rules, command, words, text) {
+        Ok(kind) => Ok(Ok(kind)),
+        Err(Fail::Error(misfit)) => Ok(Err(Misread {
+            misfit,
+            taken: words.taken(),
+        })),
+        Err(Fail::Memory(e)) => Err(e),
+    }
+}
+
+#[inline(always)]
+fn answer_by(
+    alloc: Global,
+    rules: RuleSet,
+    command: &str,
+    words: &mut Words,
+    text: &mut String,
+) -> Result<TextKind, Fail<Misfit>>
+    ensures { Replies rules (command.now ∷ left words.old)
+        (string_bytes text.old) (string_bytes text.new) result }
+{
+    match rules {
+        RuleSet::Ported => answer_command(alloc, command, words, text),
+        RuleSet::Standard => answer_standard(alloc, command, words, text),
+    }
+}
+
+fn answer_command(
+    alloc: Global,
+    command: &str,
+    words: &mut Words,
+    text: &mut String,
+) -> Result<TextKind, Fail<Misfit>>
+    ensures { Replies RuleSet.Ported (command.now ∷ left words.old)
+        (string_bytes text.old) (string_bytes text.new) result }
+{
+    match command {
+        "rank" => rank(alloc, RuleSet::Ported, words, text),
+        "common" => common(alloc, RuleSet::Ported, words, text),
+        "unary" => unary(alloc, words, text),
+        "binary" => binary(alloc, words, text),
+        "size" => size(alloc, RuleSet::Ported, words, text),
+        "offsets" => offsets(alloc, RuleSet::Ported, words, text),
+        "layout" => layout(alloc, RuleSet::Ported, words, text),
+        "ctor" => ctor(alloc, words, text),
+        "call" => call(alloc, words, text),
+        _ => Err(Fail::Error(Misfit::Wrong(Wanted::Command))),
+    }
+}
+
+/// Writes the answer to the request.
+#[inline(always)]
+pub(crate) fn write_answer_to(
+    alloc: Global,
+    request: Request<'_>,
+    text: &mut String,
+) -> Result<TextKind, AllocError>
+    ensures { IfOk result (λ kind. Adds (IsAnswer (request_view request.entry) kind)
+        (string_bytes text.old) (string_bytes text.new)) }
+{
+    let answer = answer(alloc, request)?;
+    write(answer, text)
+}
+
+/// `rank T U`: the rank of the conversion.
+pub(crate) fn rank(
+    alloc: Global,
+    rules: RuleSet,
+    words: &mut Words,
+    text: &mut String,
+) -> Result<TextKind, Fail<Misfit>>
+    ensures { Replies rules (codes "rank" ∷ left words.old)
+        (string_bytes text.old) (string_bytes text.new) result }
+{
+    let types = read_pair(alloc, rules, words)?;
+    let written = write_answer_to(alloc, Request::Rank(&types[0], &types[1]), text);
+    let [_source, _target] = types;
+    Ok(written?)
+}
+
+/// `common T..`: the common type of all types, or `none` if there is none, or if one of them doesn't convert to it.
+pub(crate) fn common(
+    alloc: Global,
+    rules: RuleSet,
+    words: &mut Words,
+    text: &mut String,
+) -> Result<TextKind, Fail<Misfit>>
+    ensures { Replies rules (codes "common" ∷ left words.old)
+        (string_bytes text.old) (string_bytes text.new) result }
+{
+    let types = read_types(alloc, rules, words)?;
+    let written = write_common(&types, rules.format_names(), text);
+    drop(types);
+    Ok(written?)
+}
+
+fn write_common(
+    types: &[Type],
+    names: FormatNames,
+    text: &mut String,
+) -> Result<TextKind, AllocError>
+    ensures { IfOk result (λ kind. Adds (IsAnswer (common_request names (map view types.now)) kind)
+        (string_bytes text.old) (string_bytes text.new)) }
+{
+    write_type_or_none(text, names, received_common(types))?;
+    Ok(TextKind::Answer)
+}
+
+/// The common type of the types, from left to right, if each of them converts to it.
+#[tactic(auto, using(crate::proofs::Commons::uncommon))]
+fn received_common(types: &[Type]) -> Option<&Type>
+    ensures { IsReceivedCommon (map view types.now) (option_map (λ t. view t.now) result) }
+{
+    let common = common_of(types)?;
+    if all_convert_to(types, common) {
+        Some(common)
+    } else {
+        None
+    }
+}
+
+fn all_convert_to(types: &[Type], ty: &Type) -> bool
+    ensures { IsTrue result ↔ Receives (view ty.now) (map view types.now) }
+{
+    for source in types {
+        if !source.is_convertible_to(ty) {
+            return false;
+        }
+    }
+    true
+}
+
+/// `unary OP T`: the type of the expression, or why it has none.
+fn unary(alloc: Global, words: &mut Words, text: &mut String) -> Result<TextKind, Fail<Misfit>>
+    ensures { Replies RuleSet.Ported (codes "unary" ∷ left words.old)
+        (string_bytes text.old) (string_bytes text.new) result }
+{
+    let operator = unary_operator(words.next(Wanted::UnaryOperator)?)?;
+    let operand = read_last_type(alloc, RuleSet::Ported, words)?;
+    let written = write_answer_to(alloc, Request::Unary(operator, &operand), text);
+    drop(operand);
+    Ok(written?)
+}
+
+pub(crate) fn unary_operator(word: &str) -> Result<UnaryOperator, Fail<Misfit>>
+    ensures { ReadsWord (λ word operator. word ≡ unary_text operator) word.now result }
+{
+    parsed(word, Wanted::UnaryOperator)
+}
+
+/// `binary OP T U`: the type of the expression, or why it has none.
+fn binary(alloc: Global, words: &mut Words, text: &mut String) -> Result<TextKind, Fail<Misfit>>
+    ensures { Replies RuleSet.Ported (codes "binary" ∷ left words.old)
+        (string_bytes text.old) (string_bytes text.new) result }
+{
+    let operator = binary_operator(words.next(Wanted::BinaryOperator)?)?;
+    let types = read_pair(alloc, RuleSet::Ported, words)?;
+    let written = write_answer_to(alloc, Request::Binary(operator, &types[0], &types[1]), text);
+    let [_left, _right] = types;
+    Ok(written?)
+}
+
+pub(crate) fn binary_operator(word: &str) -> Result<BinaryOperator, Fail<Misfit>>
+    ensures { ReadsWord (λ word operator. word ≡ binary_text operator) word.now result }
+{
+    parsed(word, Wanted::BinaryOperator)
+}
+
+/// `size T`: the size and the alignment.
+pub(crate) fn size(
+    alloc: Global,
+    rules: RuleSet,
+    words: &mut Words,
+    text: &mut String,
+) -> Result<TextKind, Fail<Misfit>>
+    ensures { Replies rules (codes "size" ∷ left words.old)
+        (string_bytes text.old) (string_bytes text.new) result }
+{
+    let mut ty = read_last_type(alloc, rules, words)?;
+    lay_out(rules, &mut ty);
+    let written = write_answer_to(alloc, Request::Size(&ty), text);
+    drop(ty);
+    Ok(written?)
+}
+
+/// Makes the type the one that the rules lay out.
+fn lay_out(rules: RuleSet, ty: &mut Type)
+    ensures { view ty.new ≡ laid_out rules (view ty.old) }
+{
+    match rules {
+        RuleSet::Ported => {}
+        RuleSet::Standard => ty.store_bools(),
+    }
+}
+
+/// `offsets T` for a struct T: the offset of each member.
+pub(crate) fn offsets(
+    alloc: Global,
+    rules: RuleSet,
+    words: &mut Words,
+    text: &mut String,
+) -> Result<TextKind, Fail<Misfit>>
+    ensures { Replies rules (codes "offsets" ∷ left words.old)
+        (string_bytes text.old) (string_bytes text.new) result }
+{
+    let mut ty = read_last_type(alloc, rules, words)?;
+    lay_out(rules, &mut ty);
+    let written = write_offsets_of(alloc, &ty, text);
+    drop(ty);
+    written
+}
+
+fn write_offsets_of(alloc: Global, ty: &Type, text: &mut String) -> Result<TextKind, Fail<Misfit>>
+    ensures { WritesOfStruct offsets_request (view ty.now)
+        (string_bytes text.old) (string_bytes text.new) result }
+{
+    let Type::Struct(structure) = ty else {
+        return Err(Fail::Error(Misfit::NoStruct));
+    };
+    Ok(write_answer_to(alloc, Request::Offsets(structure), text)?)
+}
+
+/// `layout T` for a struct T: a report of its members and of the whole.
+pub(crate) fn layout(
+    alloc: Global,
+    rules: RuleSet,
+    words: &mut Words,
+    text: &mut String,
+) -> Result<TextKind, Fail<Misfit>>
+    ensures { Replies rules (codes "layout" ∷ left words.old)
+        (string_bytes text.old) (string_bytes text.new) result }
+{
+    let ty = read_last_type(alloc, rules, words)?;
+    let written = write_layout_of(alloc, rules, &ty, text);
+    drop(ty);
+    written
+}
+
+fn write_layout_of(
+    alloc: Global,
+    rules: RuleSet,
+    ty: &Type,
+    text: &mut String,
+) -> Result<TextKind, Fail<Misfit>>
+    ensures { WritesOfStruct (layout_by rules) (view ty.now)
+        (string_bytes text.old) (string_bytes text.new) result }
+{
+    let Type::Struct(structure) = ty else {
+        return Err(Fail::Error(Misfit::NoStruct));
+    };
+    Ok(write_layout_by(alloc, rules, structure, text)?)
+}
+
+/// The report of a struct, as the rules lay it out.
+fn write_layout_by(
+    alloc: Global,
+    rules: RuleSet,
+    structure: &StructType,
+    text: &mut String,
+) -> Result<TextKind, AllocError>
+    ensures { let s = struct_view structure.now in IfOk result (λ kind.
+        Adds (IsAnswer (layout_by rules s.name s.members) kind)
+        (string_bytes text.old) (string_bytes text.new)) }
+{
+    match rules {
+        RuleSet::Ported => write_answer_to(alloc, Request::Layout(structure, structure), text),
+        RuleSet::Standard => {
+            let mut stored = structure.clone(alloc)?;
+            stored.store_bools();
+            let written = write_answer_to(alloc, Request::Layout(structure, &stored), text);
+            drop(stored);
+            written
+        }
+    }
+}
+
+/// The name of a constructor or a built-in function, with its template and the types of its arguments.
+#[derive(Drop)]
+struct Callee<'t> {
+    name: &'t str,
+    template: Option<Vec<TpltParam>>,
+    types: Vec<Type>,
+}
+
+impl Callee<'_> {
+    #[inline(always)]
+    fn as_asked(&self) -> AskedCallee<'_>
+        ensures { asked_view result ≡ callee_view self.now }
+    {
+        AskedCallee {
+            name: self.name,
+            template: self.template.as_deref(),
+            arguments: &self.types,
+        }
+    }
+}
+
+#[inline(always)]
+fn read_callee<'t>(alloc: Global, words: &mut Words<'t>) -> Result<Callee<'t>, Fail<Misfit>>
+    ensures { Answers (λ callee. IsCallee (left words.old) (callee_view callee))
+        ((call : Signature) → ¬ IsCallee (left words.old) call) result }
+{
+    let name = words.next(Wanted::Name)?;
+    let template = read_template(alloc, RuleSet::Ported, words)?;
+    let types = read_types(alloc, RuleSet::Ported, words)?;
+    Ok(Callee {
+        name,
+        template,
+        types,
+    })
+}
+
+/// `ctor NAME P T..`: the type that the constructor makes, or why it makes none.
+fn ctor(alloc: Global, words: &mut Words, text: &mut String) -> Result<TextKind, Fail<Misfit>>
+    ensures { Replies RuleSet.Ported (codes "ctor" ∷ left words.old)
+        (string_bytes text.old) (string_bytes text.new) result }
+{
+    let callee = read_callee(alloc, words)?;
+    let written = write_answer_to(alloc, Request::Constructor(callee.as_asked()), text);
+    drop(callee);
+    Ok(written?)
+}
+
+/// `call NAME P T..`: the type of the call, `no value` if it returns none, or why it has no type.
+fn call(alloc: Global, words: &mut Words, text: &mut String) -> Result<TextKind, Fail<Misfit>>
+    ensures { Replies RuleSet.Ported (codes "call" ∷ left words.old)
+        (string_bytes text.old) (string_bytes text.new) result }
+{
+    let callee = read_callee(alloc, words)?;
+    let written = write_answer_to(alloc, Request::Call(callee.as_asked()), text);
+    drop(callee);
+    Ok(written?)
+}

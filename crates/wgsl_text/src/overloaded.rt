@@ -1,0 +1,193 @@
+// Writes the answers about WGSL's own overloads.
+ghost use Rattle.std.specs.Prelude.{◌≡◌, ◌++◌, OnOk, map, option_map, string_bytes};
+ghost use Rattle.wgsl_rules.specs.types.Signatures.{listed, template_text};
+ghost use Rattle.wgsl_rules.specs.types.Spelling.{spelling, wgsl_spelling};
+ghost use Rattle.wgsl_core.specs.Instances.{parameter_view};
+ghost use Rattle.wgsl_core.specs.View.{view};
+ghost use Rattle.wgsl_standard.specs.Operands.{given_type};
+ghost use Rattle.wgsl_standard.specs.Resolved.{resolved_view};
+ghost use Rattle.wgsl_standard.specs.Results.{result_view};
+ghost use Rattle.wgsl_standard.specs.Texts.{callee_text, line_of, note_text};
+ghost use Rattle.wgsl_asked.specs.StandardViews.{call_view};
+ghost use Rattle.wgsl_text.specs.Texts.{lines_text, no_overload_text, or_no_overload, resolution_text, result_text, value_text};
+
+use crate::lists::{Notes, Parameters, Signatures, Types};
+use crate::write::{write_resolved, write_type};
+use std::alloc::AllocError;
+use wgsl_asked::requests::Call;
+use wgsl_core::operators::resolve::ResolvedType;
+use wgsl_core::ty::show::ShownType;
+use wgsl_standard::callee::Callee;
+use wgsl_standard::explanation::Note;
+use wgsl_standard::instance::ResultType;
+use wgsl_standard::operand::{Operand, OperandType};
+use wgsl_standard::resolved::ResolvedCall;
+use wgsl_standard::signature::Signature;
+use wgsl_syntax::overload::Dimensions;
+use wgsl_syntax::texel::FormatNames;
+use wgsl_types::tplt::TpltParam;
+use wgsl_types::ty::Type;
+
+/// Writes the type of a call, `no value`, or that no overload takes its operands.
+#[inline(always)]
+pub(crate) fn write_type_of(
+    text: &mut String,
+    call: &Call<'_>,
+    found: Option<Option<ResultType>>,
+) -> Result<(), AllocError>
+    ensures { OnOk result (string_bytes text.new ≡ string_bytes text.old
+        ++ or_no_overload value_text (call_view call.now) (option_map (option_map result_view) found)) }
+{
+    match found {
+        Some(Some(ResultType::Value(dimensions, scalar))) => {
+            write_resolved(text, ResolvedType::of_scalar(dimensions, scalar))
+        }
+        Some(Some(ResultType::Built(ty))) => write_built(text, ty),
+        Some(None) => text.push_str("no value"),
+        None => write_no_overload(text, call),
+    }
+}
+
+#[inline(never)]
+fn write_built(text: &mut String, ty: Type) -> Result<(), AllocError>
+    ensures { OnOk result (string_bytes text.new ≡ string_bytes text.old ++ spelling (view ty)) }
+{
+    let written = write_type(text, &ty);
+    drop(ty);
+    written
+}
+
+/// Writes what a call resolves to, or that no overload takes its operands.
+pub(crate) fn write_resolution_of(
+    text: &mut String,
+    call: &Call<'_>,
+    found: Option<ResolvedCall>,
+) -> Result<(), AllocError>
+    ensures { OnOk result (string_bytes text.new ≡ string_bytes text.old
+        ++ or_no_overload resolution_text (call_view call.now) (option_map resolved_view found)) }
+{
+    let written = match &found {
+        Some(resolved) => write_resolved_call(text, resolved),
+        None => write_no_overload(text, call),
+    };
+    drop(found);
+    written
+}
+
+fn write_resolved_call(text: &mut String, resolved: &ResolvedCall) -> Result<(), AllocError>
+    ensures { OnOk result (string_bytes text.new
+        ≡ string_bytes text.old ++ resolution_text (resolved_view resolved.now)) }
+{
+    let ResolvedCall {
+        index,
+        parameters,
+        result,
+    } = resolved;
+    write!(text, "{index} ({})", Types(parameters))?;
+    write_result(text, result)
+}
+
+fn write_result(text: &mut String, ty: &Option<Type>) -> Result<(), AllocError>
+    ensures { OnOk result (string_bytes text.new
+        ≡ string_bytes text.old ++ result_text (option_map view ty.now)) }
+{
+    match ty {
+        Some(ty) => write!(
+            text,
+            " -> {}",
+            ShownType {
+                ty,
+                names: FormatNames::Wgsl
+            }
+        ),
+        None => Ok(()),
+    }
+}
+
+/// Writes that no overload takes the operands of a call.
+#[inline(never)]
+fn write_no_overload(text: &mut String, call: &Call<'_>) -> Result<(), AllocError>
+    ensures { OnOk result (string_bytes text.new
+        ≡ string_bytes text.old ++ no_overload_text (call_view call.now)) }
+{
+    text.push_str("no overload of `")?;
+    write_callee(text, call.callee)?;
+    write_template(text, call.template)?;
+    text.push_str("` takes (")?;
+    write_operand_types(text, call.operands)?;
+    text.push(')')
+}
+
+/// Writes the types of operands, with a comma between.
+#[inline(always)]
+fn write_operand_types(text: &mut String, operands: &[Operand<'_>]) -> Result<(), AllocError>
+    ensures { OnOk result (string_bytes text.new ≡ string_bytes text.old
+        ++ listed (λ x. wgsl_spelling (given_type x.ty)) operands.now) }
+{
+    let Some((first, rest)) = operands.split_first() else {
+        return Ok(());
+    };
+    write_operand_type(text, first.ty)?;
+    for operand in rest {
+        text.push_str(", ")?;
+        write_operand_type(text, operand.ty)?;
+    }
+    Ok(())
+}
+
+/// Writes the type of an operand, a scalar without a formatter.
+#[inline(always)]
+fn write_operand_type(text: &mut String, ty: OperandType<'_>) -> Result<(), AllocError>
+    ensures { OnOk result (string_bytes text.new
+        ≡ string_bytes text.old ++ wgsl_spelling (given_type ty.entry)) }
+{
+    match ty {
+        OperandType::Value(Dimensions::Single, scalar) => text.push_str(scalar.name()),
+        _ => write!(text, "{ty}"),
+    }
+}
+
+fn write_callee(text: &mut String, callee: Callee<'_>) -> Result<(), AllocError>
+    ensures { OnOk result (string_bytes text.new
+        ≡ string_bytes text.old ++ callee_text callee.entry) }
+{
+    match callee {
+        Callee::Unary(operator) => write!(text, "{operator}"),
+        Callee::Binary(operator) => write!(text, "{operator}"),
+        Callee::Function(name) => text.push_str(name),
+        Callee::Constructor(name) => text.push_str(name),
+    }
+}
+
+fn write_template(text: &mut String, template: Option<&[TpltParam]>) -> Result<(), AllocError>
+    ensures { OnOk result (string_bytes text.new ≡ string_bytes text.old
+        ++ template_text (option_map (λ ps. map parameter_view ps.now) template.entry)) }
+{
+    match template {
+        Some(parameters) => write!(text, "<{}>", Parameters(parameters)),
+        None => Ok(()),
+    }
+}
+
+/// Writes a line for each signature, or `none`.
+pub(crate) fn write_signatures(
+    text: &mut String,
+    signatures: Vec<Signature<'_>>,
+) -> Result<(), AllocError>
+    ensures { OnOk result (string_bytes text.new
+        ≡ string_bytes text.old ++ lines_text (map line_of signatures.entry.items)) }
+{
+    let written = write!(text, "{}", Signatures(&signatures));
+    drop(signatures);
+    written
+}
+
+/// Writes a line for each note, or `none`.
+pub(crate) fn write_notes(text: &mut String, notes: Vec<Note<'_>>) -> Result<(), AllocError>
+    ensures { OnOk result (string_bytes text.new
+        ≡ string_bytes text.old ++ lines_text (map note_text notes.entry.items)) }
+{
+    let written = write!(text, "{}", Notes(&notes));
+    drop(notes);
+    written
+}

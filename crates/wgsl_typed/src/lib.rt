@@ -1,4 +1,0 @@
-//! Types that remember where they were read.
-#![tactic(auto)]
-
-pub mod typed;
