@@ -11,11 +11,8 @@ EXPORT = re.compile(r"^pub use ([\w:]+?)(?:::\{([^}]*)\})?(?: as \w+)?;", re.MUL
 IMPORT = re.compile(r"^use (?:crate::)?(\w+)::(?:\{([^}]*)\}|(\w+));", re.MULTILINE)
 FACADE = "wgsl_types"
 BEHIND = ("wgsl_syntax", "wgsl_core", "wgsl_calls", "wgsl_standard", FACADE)  # what the facade exports
-LIBRARIES = (
-    "wgsl_asked", "wgsl_typed", "wgsl_requests", "wgsl_lines", "wgsl_total", "wgsl_constants", "wgsl_source", "wgsl_spaces",
-    "wgsl_report",
-)
-CALLED = {"wgsl_requests": ("request", "laws")}  # the modules that users call; the others read, ask and write for these
+LIBRARIES = ("wgsl_requests", "wgsl_text", "wgsl_lines", "wgsl_laws", "wgsl_source", "wgsl_report")
+CALLED = {"wgsl_text": ("request", "laws")}  # the modules that users call; the others read, ask and write for these
 PROGRAM, FOR_CALLERS_IN_C = "wgsl_check", "wgsl_c"
 PROMISING = BEHIND + LIBRARIES + (PROGRAM, FOR_CALLERS_IN_C)
 

@@ -2,11 +2,11 @@
 ghost use Rattle.wgsl_rules.specs.standard.Tables.{IsUnambiguous};
 
 use std::alloc::{AllocError, Global};
+use wgsl_standard::resolve::resolve;
 use wgsl_text::read::read_types;
 use wgsl_text::rules::RuleSet;
 use wgsl_text::wanted::{Misfit, Wanted};
 use wgsl_text::words::Words;
-use wgsl_standard::resolve::resolve;
 use wgsl_types::error::Fail;
 use wgsl_types::standard::{Callee, Operand, Overload, overloads, type_builtin_fn};
 use wgsl_types::syntax::BinaryOperator;

@@ -5,7 +5,7 @@ use Rattle.wgsl_rules.specs.conversion.Common.{IsLeftCommon}
 use Rattle.wgsl_rules.specs.conversion.Conversion.{Converts}
 use Rattle.wgsl_rules.specs.Headline.{Receives}
 use Rattle.wgsl_rules.specs.layout.Layout.{IsExactly}
-use Rattle.wgsl_asked.specs.Answers.{IsReceivedCommon}
+use Rattle.wgsl_requests.specs.Answers.{IsReceivedCommon}
 use Rattle.wgsl_rules.proofs.conversion.Commons.{left_common_once, some_left_common, receives_nil, receives_cons, receives_head, receives_tail}
 use Rattle.wgsl_rules.proofs.conversion.Equations.{rank, rank_converts}
 use Rattle.wgsl_rules.proofs.conversion.Order.{dec_converts}

@@ -6,7 +6,7 @@ use Rattle.wgsl_rules.specs.types.Types.{WgslType}
 use Rattle.wgsl_forms.specs.Refusals.{Refusal}
 use Rattle.wgsl_forms.specs.declared.declare.Declaration.{Declaration}
 use Rattle.wgsl_forms.specs.declared.declare.Declaration.TheVariants.{Override}
-use Rattle.wgsl_asked.specs.Forms.{WgslForm, IsFormType, member_of, index_of, load_of, declaration_of, override_of, assignment_of, increment_of, discard_of, construct_of, switch_of, variable_of, initialized_of}
+use Rattle.wgsl_requests.specs.Forms.{WgslForm, IsFormType, member_of, index_of, load_of, declaration_of, override_of, assignment_of, increment_of, discard_of, construct_of, switch_of, variable_of, initialized_of}
 use Rattle.wgsl_text.specs.Calls.{OperandAt, OperandsAt}
 use Rattle.wgsl_text.specs.Forms.{SaidMemory, said_memory, IsAnnotation, IsForm, IsTyped}
 use Rattle.wgsl_text.specs.Grammar.{TypeAt}

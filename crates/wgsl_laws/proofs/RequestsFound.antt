@@ -7,7 +7,7 @@ use Rattle.wgsl_syntax.specs.Operator.{binary_operators, binary_text, unary_oper
 use Rattle.wgsl_syntax.proofs.Naming.{binary_naming, unary_naming}
 use Rattle.wgsl_rules.specs.types.Types.{WgslType, struct, Members}
 use Rattle.wgsl_rules.specs.types.Signatures.{Signature}
-use Rattle.wgsl_asked.specs.Calls.{WgslCall}
+use Rattle.wgsl_requests.specs.Calls.{WgslCall}
 use Rattle.wgsl_text.specs.Forms.{command_text, form_commands}
 use Rattle.wgsl_text.specs.Grammar.{TypeAt, TypesAt, format_names}
 use Rattle.wgsl_text.specs.declared.form_command.FormCommand.{FormCommand}

@@ -11,8 +11,8 @@ use Rattle.wgsl_standard.specs.Explained.{AreNotes, or_none}
 use Rattle.wgsl_standard.specs.Resolved.{IsCallResolution}
 use Rattle.wgsl_standard.specs.Texts.{note_listed}
 use Rattle.wgsl_standard.specs.declared.refusal.Mismatch.{Mismatch}
-use Rattle.wgsl_asked.specs.Calls.{WgslCall, WgslResolution, loaded, template_type}
-use Rattle.wgsl_asked.specs.Standard.{AreNotesWith, IsExplanationOf, IsResolutionOf, IsTypeOf}
+use Rattle.wgsl_requests.specs.Calls.{WgslCall, WgslResolution, loaded, template_type}
+use Rattle.wgsl_requests.specs.Standard.{AreNotesWith, IsExplanationOf, IsResolutionOf, IsTypeOf}
 use Rattle.wgsl_laws.proofs.Notes.{some_notes}
 use Rattle.wgsl_laws.proofs.Overloads.{call_resolution, call_result}
 

@@ -1,7 +1,7 @@
 // Every request has exactly one answer: each function returns nothing, and its contract is the law.
 ghost use Rattle.std.specs.Prelude.{◌≡◌, ℕ, Bool, List};
-ghost use Rattle.wgsl_asked.specs.Answers.{Answers, WgslAnswer};
-ghost use Rattle.wgsl_asked.specs.Requests.{WgslRequest};
+ghost use Rattle.wgsl_requests.specs.Answers.{Answers, WgslAnswer};
+ghost use Rattle.wgsl_requests.specs.Requests.{WgslRequest};
 ghost use Rattle.wgsl_lines.specs.Output.{Prints};
 ghost use Rattle.wgsl_text.specs.Replies.{IsReplyTo, ReplyText};
 ghost use Rattle.wgsl_text.specs.declared.rules.RuleSet.{RuleSet};

@@ -1,7 +1,7 @@
 // The arguments of the calls. Only the generic `both` returns early while it owns a value. A function that does so
 // while it owns a type is slow to prove.
-use std::alloc::{AllocError, Global};
 use crate::typed::Typed;
+use std::alloc::{AllocError, Global};
 use wgsl_types::error::Error;
 use wgsl_types::inst::{Instance, LiteralInstance};
 use wgsl_types::syntax::{AccessMode, AddressSpace, Enumerant};

@@ -1,10 +1,10 @@
 // Copies, built types, the trait `Ty`, conversions, layouts.
 use crate::arguments::{Arguments, Structs, both};
 use crate::lines::Lines;
+use crate::typed::Typed;
 use std::alloc::{AllocError, Global};
 use std::io;
 use std::io::Write;
-use crate::typed::Typed;
 use wgsl_types::conv::{
     Convert, convert, convert_all, convert_all_inner_to, convert_all_to, convert_inner,
 };

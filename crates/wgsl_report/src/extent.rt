@@ -3,10 +3,10 @@ ghost use Rattle.std.specs.Prelude.{◌≡◌, ◌↔◌, IsTrue, Some};
 ghost use Rattle.wgsl_rules.specs.layout.Layout.{IsExactly};
 ghost use Rattle.wgsl_report.specs.Extent.{IsInnermost, IsOutermostTooClose, IsRuntimeSized, IsTooClose, content_of, extent_of, position_of, shape_of};
 
-use wgsl_source::measured::{Count, MeasuredType, TypeKind};
-use wgsl_source::structure::Member;
 use crate::spaces::content::Content;
 use crate::spaces::layout::{Extent, Position, Shape, may_lie_apart};
+use wgsl_source::measured::{Count, MeasuredType, TypeKind};
+use wgsl_source::structure::Member;
 use wgsl_syntax::address::AddressSpace;
 use wgsl_syntax::scalar::Scalar;
 

@@ -8,15 +8,15 @@ use crate::extent::{
 };
 use crate::finding::{Finding, Trouble};
 use crate::place::Place;
+use crate::spaces::content::{Content, may_be_innermost};
+use crate::spaces::layout::{
+    Position, Rule, broken_rule, is_align_attribute, is_lifted, required_align, up_to_16,
+};
 use std::alloc::{AllocError, Global};
 use wgsl_source::measured::{MeasuredType, TypeKind};
 use wgsl_source::module::Module;
 use wgsl_source::structure::{Member, Struct};
 use wgsl_source::variable::Variable;
-use crate::spaces::content::{Content, may_be_innermost};
-use crate::spaces::layout::{
-    Position, Rule, broken_rule, is_align_attribute, is_lifted, required_align, up_to_16,
-};
 use wgsl_syntax::address::AddressSpace;
 
 /// The state of checking the variables of a module.

@@ -7,8 +7,8 @@ use crate::extension::{enabled, required};
 use crate::fault::{Cause, Expected, Fault, Stop};
 use crate::scope::Extensions;
 use crate::skip::{skip_attributes, skip_to_end};
-use std::alloc::{AllocError, Global};
 use crate::tokens::token::Kind;
+use std::alloc::{AllocError, Global};
 
 /// What a declaration declares.
 #[derive(Clone, Copy, PartialEq, Eq)]

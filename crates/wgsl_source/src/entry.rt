@@ -2,12 +2,12 @@
 ghost use Rattle.wgsl_source.specs.Cursor.{GoesOn};
 
 use crate::attribute::Owner;
+use crate::constants::integer::Integer;
 use crate::cursor::Cursor;
 use crate::expression::{Site, Value};
 use crate::fault::{Cause, Expected, Stop};
 use crate::scope::Scope;
 use crate::types::Types;
-use crate::constants::integer::Integer;
 use wgsl_syntax::scalar::Scalar;
 
 /// The stage of a pipeline for which a function is an entry point.

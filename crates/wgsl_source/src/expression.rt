@@ -2,16 +2,16 @@
 ghost use Rattle.std.specs.Prelude.{OnSome};
 ghost use Rattle.wgsl_source.specs.Cursor.{GoesOn, Takes};
 
+use crate::constants::integer::Integer;
+use crate::constants::operator::{complement, negative};
 use crate::cursor::Cursor;
 use crate::fault::{Cause, Expected, Stop};
 use crate::function::Function;
 use crate::literal::{integer_of, whole_part};
 use crate::operator::{Operator, operator_at};
 use crate::scope::{Meaning, Scope};
-use crate::constants::integer::Integer;
-use crate::constants::operator::{complement, negative};
-use wgsl_syntax::scalar::Scalar;
 use crate::tokens::token::Kind;
+use wgsl_syntax::scalar::Scalar;
 
 /// What is known of a value.
 #[derive(Clone, Copy, Debug, PartialEq, Eq)]

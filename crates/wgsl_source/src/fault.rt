@@ -1,7 +1,7 @@
 // Why a text was not read.
 
-use std::alloc::{AllocError, AllocFailed};
 use crate::constants::integer::IntegerError;
+use std::alloc::{AllocError, AllocFailed};
 
 /// What was expected where something else stands.
 #[derive(Clone, Copy, Debug, PartialEq, Eq)]

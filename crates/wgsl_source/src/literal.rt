@@ -1,8 +1,8 @@
 // Numbers, as they are written.
 
-use crate::fault::Cause;
 use crate::constants::integer::Integer;
 use crate::constants::operator::{to_i32, to_u32};
+use crate::fault::Cause;
 
 /// The integer that a literal stands for.
 pub fn integer_of(word: &str) -> Result<Integer, Cause> {

@@ -2,6 +2,8 @@
 ghost use Rattle.wgsl_source.specs.Cursor.{GoesOn};
 
 use crate::attribute::Owner;
+use crate::constants::integer::Integer;
+use crate::constants::operator::{to_i32, to_u32};
 use crate::cursor::Cursor;
 use crate::declaration::{Declaration, DeclarationKind, Declarations, read_declarations};
 use crate::entry::{EntryPoint, Override};
@@ -11,13 +13,11 @@ use crate::measured::{MeasuredType, TypeKind};
 use crate::order::{Order, order_of};
 use crate::scope::{Meaning, Scope};
 use crate::structure::Struct;
+use crate::tokens::token::{Token, has_byte_order_mark};
 use crate::types::Types;
 use crate::variable::Variable;
 use std::alloc::{AllocError, Global};
-use crate::constants::integer::Integer;
-use crate::constants::operator::{to_i32, to_u32};
 use wgsl_syntax::scalar::Scalar;
-use crate::tokens::token::{Token, has_byte_order_mark};
 
 /// A module that is read.
 #[derive(Drop)]

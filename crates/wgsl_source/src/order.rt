@@ -5,9 +5,9 @@ use crate::cursor::Cursor;
 use crate::declaration::{Declaration, DeclarationKind};
 use crate::fault::{Cause, Fault};
 use crate::skip::skip_group;
+use crate::tokens::token::Kind;
 use std::alloc::{AllocError, Global};
 use std::collections::BTreeMap;
-use crate::tokens::token::Kind;
 
 /// Whether a declaration has its place in the order.
 #[derive(Clone, Copy, PartialEq, Eq)]

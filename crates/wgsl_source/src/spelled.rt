@@ -8,12 +8,12 @@ use crate::head::{Head, LayerName, predeclared};
 use crate::keyword::is_name;
 use crate::leaf::space_named;
 use crate::scope::{Extensions, Scope};
+use crate::tokens::token::tokens;
 use std::alloc::Global;
 use std::str::FromStr;
 use wgsl_core::ty::Type;
 use wgsl_syntax::address::AddressSpace;
 use wgsl_syntax::around::Around;
-use crate::tokens::token::tokens;
 
 /// The spelling of the type with which a text begins, as a module may write it.
 pub fn spelling_of(alloc: Global, text: &str) -> Result<String, Stop> {

@@ -15,7 +15,7 @@ use Rattle.wgsl_rules.specs.types.Types.{WgslType}
 use Rattle.wgsl_rules.specs.types.Signatures.{Parameter}
 use Rattle.wgsl_rules.specs.standard.Choice.{Operand}
 use Rattle.wgsl_standard.specs.Callees.{WgslCallee, a_binary, a_constructor, a_function, a_unary}
-use Rattle.wgsl_asked.specs.Calls.{WgslCall}
+use Rattle.wgsl_requests.specs.Calls.{WgslCall}
 use Rattle.wgsl_text.specs.Calls.{HasArity, HeadAt, IsCall, OperandAt, OperandsAt, arity_of, binary_at, call_at, constant_at, ctor_at, no_operands_at, operand_at, plain_at, unary_at}
 use Rattle.wgsl_text.specs.Grammar.{TypeAt}
 use Rattle.wgsl_text.specs.Reading.{IsText, NoneAt, OneWord}

@@ -7,7 +7,7 @@ use Rattle.wgsl_rules.specs.Headline.{Receives}
 use Rattle.wgsl_rules.proofs.conversion.Commons.{left_common_once, receives_nil, receives_cons, receives_head, receives_tail}
 use Rattle.wgsl_core.specs.View.{view}
 use Rattle.wgsl_core.specs.declared.ty.Type.{«Type»}
-use Rattle.wgsl_asked.specs.Answers.{IsReceivedCommon}
+use Rattle.wgsl_requests.specs.Answers.{IsReceivedCommon}
 
 -- without a common type there is none to which all convert
 pub uncommon : (ts : List WgslType) → IsLeftCommon ts None → IsReceivedCommon ts None

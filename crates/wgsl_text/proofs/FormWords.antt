@@ -12,7 +12,7 @@ use Rattle.wgsl_rules.specs.types.Types.{WgslType}
 use Rattle.wgsl_rules.specs.standard.Choice.{Operand}
 use Rattle.wgsl_forms.specs.declared.declare.Declaration.{Declaration}
 use Rattle.wgsl_forms.specs.declared.declare.Declaration.TheVariants.{Override}
-use Rattle.wgsl_asked.specs.Forms.{WgslForm, member_of, index_of, load_of, declaration_of, override_of, assignment_of, increment_of, discard_of, construct_of, switch_of, variable_of, initialized_of}
+use Rattle.wgsl_requests.specs.Forms.{WgslForm, member_of, index_of, load_of, declaration_of, override_of, assignment_of, increment_of, discard_of, construct_of, switch_of, variable_of, initialized_of}
 use Rattle.wgsl_text.specs.Calls.{OperandAt, OperandsAt}
 use Rattle.wgsl_text.specs.Forms.{SaidMemory, said_memory, IsAnnotation, IsForm, IsTyped, IsValue, member_words, index_words, load_words, declaration_words, override_words, assignment_words, discard_words, increment_words, decrement_words, construct_words, switch_words, variable_words, initialized_words}
 use Rattle.wgsl_text.specs.declared.form_command.FormCommand.{FormCommand}

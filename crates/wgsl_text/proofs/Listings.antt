@@ -9,7 +9,7 @@ use Rattle.wgsl_core.specs.View.{view}
 use Rattle.wgsl_core.specs.declared.ty.Type.{«Type»}
 use Rattle.wgsl_standard.specs.Operands.{given_type}
 use Rattle.wgsl_standard.specs.declared.operand.Operand.{Operand}
-use Rattle.wgsl_asked.specs.StandardViews.{written_view}
+use Rattle.wgsl_requests.specs.StandardViews.{written_view}
 use Rattle.wgsl_text.specs.Texts.{lines_text, resolution_text, result_text}
 use Rattle.wgsl_text.specs.internal.Lines.{lined}
 

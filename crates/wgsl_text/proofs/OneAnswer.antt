@@ -1,6 +1,6 @@
 -- A request has at most one answer in text, of one kind.
 use Rattle.std.proofs.Common.{ap, sym, ◌∙◌}
-use Rattle.wgsl_asked.proofs.OneAnswer.{answer_once}
+use Rattle.wgsl_requests.proofs.OneAnswer.{answer_once}
 use Rattle.wgsl_text.specs.Laws.{OneAnswer}
 use Rattle.wgsl_text.specs.Requests.{Request}
 use Rattle.wgsl_text.specs.Texts.{answer_text, text_kind}

@@ -13,7 +13,7 @@ use Rattle.wgsl_text.proofs.Requested.{BinaryForm, CallForm, CalleeForm, Overloa
 use Rattle.wgsl_text.proofs.CallReads.{one_call as one_call_read}
 use Rattle.wgsl_text.proofs.FormWords.{one_form as one_form_read}
 use Rattle.wgsl_text.proofs.TemplateReads.{one_template}
-use Rattle.wgsl_asked.specs.Calls.{WgslCall}
+use Rattle.wgsl_requests.specs.Calls.{WgslCall}
 use Rattle.wgsl_text.specs.declared.form_command.FormCommand.{FormCommand}
 use Rattle.wgsl_text.specs.declared.rules.RuleSet.{RuleSet}
 use Rattle.wgsl_text.specs.declared.rules.RuleSet.TheVariants.{Ported, Standard}

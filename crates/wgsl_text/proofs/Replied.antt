@@ -11,8 +11,8 @@ use Rattle.wgsl_core.specs.View.{view}
 use Rattle.wgsl_core.specs.Instances.{call_view, parameter_view}
 use Rattle.wgsl_core.specs.declared.signature.TpltParam.{TpltParam}
 use Rattle.wgsl_core.specs.declared.ty.Type.{«Type»}
-use Rattle.wgsl_asked.specs.Answers.{a_type_of}
-use Rattle.wgsl_asked.specs.Calls.{WgslCall}
+use Rattle.wgsl_requests.specs.Answers.{a_type_of}
+use Rattle.wgsl_requests.specs.Calls.{WgslCall}
 use Rattle.wgsl_text.specs.Grammar.{TypeAt, TypesAt}
 use Rattle.wgsl_text.specs.Requests.{Request, rank, unary, binary, offsets, laid_out, members_laid_out, IsRequest, rank_words, unary_words, binary_words, offsets_words, layout_words}
 use Rattle.wgsl_text.specs.Answers.{IsAnswer, IsReply}

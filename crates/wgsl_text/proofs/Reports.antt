@@ -14,7 +14,7 @@ use Rattle.wgsl_core.specs.declared.ty.Type.TheVariants as v
 use Rattle.wgsl_core.specs.declared.ty.StructType.{StructType, out-StructType}
 use Rattle.wgsl_core.specs.declared.ty.StructMemberType.{StructMemberType, out-StructMemberType}
 use Rattle.wgsl_text.specs.Layouts.{column, columns, member_line, member_lines, struct_line, layout_text}
-use Rattle.wgsl_asked.specs.Views.{layout_view}
+use Rattle.wgsl_requests.specs.Views.{layout_view}
 use Rattle.wgsl_text.specs.internal.Written.{placed_line, placed_lines}
 
 pub name_seen : (m : StructMemberType) → (member_view m).name ≡ string_bytes (out-StructMemberType m).name

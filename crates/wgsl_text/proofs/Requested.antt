@@ -11,8 +11,8 @@ use Rattle.wgsl_syntax.specs.declared.operator.UnaryOperator.{UnaryOperator}
 use Rattle.wgsl_rules.specs.types.Types.{WgslType, struct, Members}
 use Rattle.wgsl_rules.specs.types.Signatures.{Parameter, Signature}
 use Rattle.wgsl_standard.specs.Callees.{WgslCallee}
-use Rattle.wgsl_asked.specs.Calls.{WgslCall}
-use Rattle.wgsl_asked.specs.Forms.{WgslForm}
+use Rattle.wgsl_requests.specs.Calls.{WgslCall}
+use Rattle.wgsl_requests.specs.Forms.{WgslForm}
 use Rattle.wgsl_text.specs.Calls.{HeadAt, IsCall, binary_at, call_at, ctor_at, unary_at}
 use Rattle.wgsl_text.specs.Forms.{IsForm, command_text, form_commands}
 use Rattle.wgsl_text.specs.Grammar.{TypeAt, TypesAt, format_names}

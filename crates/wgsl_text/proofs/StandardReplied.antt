@@ -5,7 +5,7 @@ use Rattle.std.specs.Borrow.{Bor}
 use Rattle.wgsl_core.specs.Instances.{parameter_view}
 use Rattle.wgsl_core.specs.declared.signature.TpltParam.{TpltParam}
 use Rattle.wgsl_standard.specs.Callees.{WgslCallee}
-use Rattle.wgsl_asked.specs.Calls.{WgslCall}
+use Rattle.wgsl_requests.specs.Calls.{WgslCall}
 use Rattle.wgsl_text.specs.Calls.{IsCall}
 use Rattle.wgsl_text.specs.Forms.{command_text}
 use Rattle.wgsl_text.specs.Requests.{NoRequest, explanation_of, form_words, resolution_of, resolve_words, type_of, type_words, why_words}

@@ -1,6 +1,6 @@
 -- The text that answers a request, and whether it is the message of a refusal.
 use Rattle.std.specs.Prelude.{◌≡◌, ℕ, List}
-use Rattle.wgsl_asked.specs.Answers.{Answers, WgslAnswer}
+use Rattle.wgsl_requests.specs.Answers.{Answers, WgslAnswer}
 use Rattle.wgsl_text.specs.Requests.{Request, IsRequest}
 use Rattle.wgsl_text.specs.Texts.{answer_text, text_kind}
 use Rattle.wgsl_text.specs.declared.rules.RuleSet.{RuleSet}

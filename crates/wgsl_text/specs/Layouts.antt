@@ -3,7 +3,7 @@ use Rattle.std.specs.Prelude.{ℕ, ◌-◌, List, [], ◌∷◌, ◌++◌, codes
 use Rattle.wgsl_rules.specs.types.Types.{WgslType, Members, member}
 use Rattle.wgsl_rules.specs.types.Spelling.{spelling}
 use Rattle.wgsl_rules.specs.layout.Placement.{MemberLayout}
-use Rattle.wgsl_asked.specs.Answers.{WgslLayout}
+use Rattle.wgsl_requests.specs.Answers.{WgslLayout}
 
 -- numbers with a space between: `0 16 32`
 abbrev pub spaced : List ℕ → List ℕ

@@ -6,9 +6,9 @@ use Rattle.wgsl_syntax.specs.declared.operator.UnaryOperator.{UnaryOperator}
 use Rattle.wgsl_rules.specs.types.Types.{WgslType, struct, Members}
 use Rattle.wgsl_rules.specs.types.Signatures.{Signature}
 use Rattle.wgsl_rules.specs.layout.Stored.{stored, stored_members}
-use Rattle.wgsl_asked.specs.Calls.{WgslCall}
-use Rattle.wgsl_asked.specs.Forms.{WgslForm}
-pub use Rattle.wgsl_asked.specs.Requests.{WgslRequest as Request, rank, common, unary, binary, size, offsets, layout, ctor, call, type_of, resolution_of, explanation_of, overloads_of, form_of}
+use Rattle.wgsl_requests.specs.Calls.{WgslCall}
+use Rattle.wgsl_requests.specs.Forms.{WgslForm}
+pub use Rattle.wgsl_requests.specs.Requests.{WgslRequest as Request, rank, common, unary, binary, size, offsets, layout, ctor, call, type_of, resolution_of, explanation_of, overloads_of, form_of}
 use Rattle.wgsl_text.specs.Calls.{IsCall}
 use Rattle.wgsl_text.specs.Forms.{IsForm, command_text}
 use Rattle.wgsl_text.specs.Grammar.{TypeAt, TypesAt, format_names}

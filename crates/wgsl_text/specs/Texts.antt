@@ -8,8 +8,8 @@ use Rattle.wgsl_rules.specs.standard.Choice.{types_of}
 use Rattle.wgsl_rules.specs.types.Signatures.{listed, template_text}
 use Rattle.wgsl_standard.specs.Texts.{name_of}
 use Rattle.wgsl_forms.specs.Refusals.{Refusal as FormRefusal, refusal_text}
-use Rattle.wgsl_asked.specs.Calls.{WgslCall, WgslResolution}
-use Rattle.wgsl_asked.specs.Answers.{WgslAnswer, a_number, a_size, a_common_type, a_type, a_value, some_offsets, a_layout, a_type_of, a_resolution_of, some_lines, a_form_type, out_of_memory}
+use Rattle.wgsl_requests.specs.Calls.{WgslCall, WgslResolution}
+use Rattle.wgsl_requests.specs.Answers.{WgslAnswer, a_number, a_size, a_common_type, a_type, a_value, some_offsets, a_layout, a_type_of, a_resolution_of, some_lines, a_form_type, out_of_memory}
 use Rattle.wgsl_text.specs.Layouts.{layout_text, spaced}
 use Rattle.wgsl_text.specs.declared.write.TextKind.{TextKind}
 use Rattle.wgsl_text.specs.declared.write.TextKind.TheVariants as kinds

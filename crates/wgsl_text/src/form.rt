@@ -1,7 +1,7 @@
 // What is answered to a form that has no overloads.
 ghost use Rattle.std.specs.Prelude.{◌≡◌, IfOk, map, string_bytes};
-ghost use Rattle.wgsl_asked.specs.StandardViews.{written_view};
-ghost use Rattle.wgsl_asked.specs.FormViews.{form_view};
+ghost use Rattle.wgsl_requests.specs.StandardViews.{written_view};
+ghost use Rattle.wgsl_requests.specs.FormViews.{form_view};
 ghost use Rattle.wgsl_text.specs.Answers.{IsAnswer};
 ghost use Rattle.wgsl_text.specs.Requests.{form_of};
 ghost use Rattle.wgsl_text.specs.internal.Asked.{operand_view};
@@ -21,8 +21,8 @@ use crate::wanted::Misfit;
 use crate::words::Words;
 use crate::write::TextKind;
 use std::alloc::{AllocError, Global};
-use wgsl_asked::requests::{Form, Request};
 use wgsl_forms::declare::Declaration;
+use wgsl_requests::requests::{Form, Request};
 use wgsl_standard::operand::Operand;
 use wgsl_types::error::Fail;
 use wgsl_types::syntax::{AccessMode, AddressSpace, AssignmentOperator};

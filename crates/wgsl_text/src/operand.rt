@@ -9,7 +9,7 @@ ghost use Rattle.wgsl_rules.specs.types.Around.{around};
 ghost use Rattle.wgsl_rules.specs.types.Types.{scalar};
 ghost use Rattle.wgsl_core.specs.View.{view};
 ghost use Rattle.wgsl_standard.specs.Operands.{given_type};
-ghost use Rattle.wgsl_asked.specs.StandardViews.{written_view};
+ghost use Rattle.wgsl_requests.specs.StandardViews.{written_view};
 ghost use Rattle.wgsl_text.specs.Calls.{OperandAt, OperandsAt};
 ghost use Rattle.wgsl_text.specs.Grammar.{TypeAt};
 ghost use Rattle.wgsl_text.specs.Reading.{Answers, Reads};

@@ -8,15 +8,15 @@ ghost use Rattle.wgsl_standard.specs.Operands.{given_type};
 ghost use Rattle.wgsl_standard.specs.Resolved.{resolved_view};
 ghost use Rattle.wgsl_standard.specs.Results.{result_view};
 ghost use Rattle.wgsl_standard.specs.Texts.{callee_text, line_of, note_text};
-ghost use Rattle.wgsl_asked.specs.StandardViews.{call_view};
+ghost use Rattle.wgsl_requests.specs.StandardViews.{call_view};
 ghost use Rattle.wgsl_text.specs.Texts.{lines_text, no_overload_text, or_no_overload, resolution_text, result_text, value_text};
 
 use crate::lists::{Notes, Parameters, Signatures, Types};
 use crate::write::{write_resolved, write_type};
 use std::alloc::AllocError;
-use wgsl_asked::requests::Call;
 use wgsl_core::operators::resolve::ResolvedType;
 use wgsl_core::ty::show::ShownType;
+use wgsl_requests::requests::Call;
 use wgsl_standard::callee::Callee;
 use wgsl_standard::explanation::Note;
 use wgsl_standard::instance::ResultType;

@@ -1,7 +1,7 @@
 // The layout of a struct as a table.
 ghost use Rattle.std.specs.Prelude.{◌≡◌, ◌++◌, OnOk, option_map, string_bytes};
 ghost use Rattle.wgsl_core.specs.View.{struct_view};
-ghost use Rattle.wgsl_asked.specs.Views.{layout_view};
+ghost use Rattle.wgsl_requests.specs.Views.{layout_view};
 ghost use Rattle.wgsl_text.specs.Layouts.{layout_text, struct_line};
 ghost use Rattle.wgsl_text.specs.Texts.{or_none};
 ghost use Rattle.wgsl_text.specs.internal.Written.{placed_line, placed_lines};

@@ -7,10 +7,10 @@ ghost use Rattle.wgsl_text.specs.internal.Leaves.{SpelledAt};
 ghost use Rattle.wgsl_text.specs.internal.Spelled.{behind};
 ghost use Rattle.wgsl_text.specs.internal.Taken.{GoesOn, left};
 
+use crate::spelling::spelled::{is_alias, read};
 use crate::wanted::{Misfit, Wanted};
 use crate::words::Words;
 use std::alloc::{AllocError, Global};
-use crate::spelling::spelled::{is_alias, read};
 use wgsl_types::error::Fail;
 use wgsl_types::ty::Type;
 

@@ -13,7 +13,7 @@ use crate::wanted::{Misfit, Wanted};
 use crate::words::Words;
 use crate::write::TextKind;
 use std::alloc::Global;
-use wgsl_asked::requests::Request;
+use wgsl_requests::requests::Request;
 use wgsl_types::error::Fail;
 
 /// Writes the answer to the command and the words after it.

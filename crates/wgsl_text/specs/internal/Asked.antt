@@ -9,7 +9,7 @@ use Rattle.wgsl_rules.specs.standard.Choice.{Operand}
 use Rattle.wgsl_rules.specs.standard.Overloads.{type_with}
 use Rattle.wgsl_core.specs.View.{view}
 use Rattle.wgsl_standard.specs.Callees.{WgslCallee, a_constructor, a_function}
-use Rattle.wgsl_asked.specs.Calls.{WgslCall}
+use Rattle.wgsl_requests.specs.Calls.{WgslCall}
 use Rattle.wgsl_text.specs.Answers.{IsAnswer}
 use Rattle.wgsl_text.specs.Calls.{HasArity, IsCall, OperandsAt}
 use Rattle.wgsl_text.specs.Reading.{Answers, Beginning, OneWord, Then}

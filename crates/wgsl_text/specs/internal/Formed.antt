@@ -1,6 +1,6 @@
 -- How forms that are read from words are seen, and what is written of them.
 use Rattle.std.specs.Prelude.{ℕ, List, [], Result, map, option_map}
-use Rattle.wgsl_asked.specs.Forms.{WgslForm, member_of, index_of, load_of, declaration_of, override_of, assignment_of, increment_of, discard_of, construct_of, switch_of, variable_of, initialized_of}
+use Rattle.wgsl_requests.specs.Forms.{WgslForm, member_of, index_of, load_of, declaration_of, override_of, assignment_of, increment_of, discard_of, construct_of, switch_of, variable_of, initialized_of}
 use Rattle.wgsl_core.specs.View.{view}
 use Rattle.wgsl_core.specs.declared.error.Fail.{Fail}
 use Rattle.wgsl_text.specs.Answers.{IsAnswer}

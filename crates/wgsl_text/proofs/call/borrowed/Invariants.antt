@@ -1,5 +1,5 @@
 use Rattle.std.proofs.Common.{◌≡◌, map, take}
-use Rattle.wgsl_asked.specs.StandardViews.{written_view}
+use Rattle.wgsl_requests.specs.StandardViews.{written_view}
 use Rattle.wgsl_text.specs.internal.Asked.{operand_view}
 use Rattle.wgsl_text.proofs.call.borrowed.Given as goal
 

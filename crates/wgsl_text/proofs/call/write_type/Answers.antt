@@ -1,10 +1,10 @@
 use Rattle.std.proofs.Common.{refl, subst}
 use Rattle.std.specs.Prelude.{option_map}
 use Rattle.wgsl_standard.specs.Results.{result_view}
-use Rattle.wgsl_asked.specs.Answers.{Answers, a_type_of}
-use Rattle.wgsl_asked.specs.Requests.{type_of}
-use Rattle.wgsl_asked.specs.StandardViews.{call_view}
-use Rattle.wgsl_asked.specs.Views.{answer_view}
+use Rattle.wgsl_requests.specs.Answers.{Answers, a_type_of}
+use Rattle.wgsl_requests.specs.Requests.{type_of}
+use Rattle.wgsl_requests.specs.StandardViews.{call_view}
+use Rattle.wgsl_requests.specs.Views.{answer_view}
 use Rattle.wgsl_text.specs.Texts.{or_no_overload, value_text}
 use Rattle.wgsl_text.proofs.Replied.{kind_of_type}
 use Rattle.wgsl_text.proofs.call.write_type.Goals as goal

@@ -1,5 +1,5 @@
 use Rattle.std.proofs.Common.{refl}
-use Rattle.wgsl_asked.specs.Answers.{common_is}
+use Rattle.wgsl_requests.specs.Answers.{common_is}
 use Rattle.wgsl_text.proofs.command.write_common.Goals as goal
 
 pub returns : goal.returns

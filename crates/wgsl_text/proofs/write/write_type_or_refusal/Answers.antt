@@ -1,7 +1,7 @@
 use Rattle.std.proofs.Common.{Err, refl}
 use Rattle.wgsl_core.specs.View.{view}
-use Rattle.wgsl_asked.specs.Answers.{a_type}
-use Rattle.wgsl_asked.specs.Views.{outcome}
+use Rattle.wgsl_requests.specs.Answers.{a_type}
+use Rattle.wgsl_requests.specs.Views.{outcome}
 use Rattle.wgsl_text.specs.Texts.{answer_text}
 use Rattle.wgsl_text.proofs.Written.{refused}
 use Rattle.wgsl_text.proofs.write.write_type_or_refusal.Goals as goal

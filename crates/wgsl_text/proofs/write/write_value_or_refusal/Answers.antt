@@ -1,8 +1,8 @@
 use Rattle.std.proofs.Common.{Err, refl}
 use Rattle.std.specs.Prelude.{option_map}
 use Rattle.wgsl_core.specs.View.{view}
-use Rattle.wgsl_asked.specs.Answers.{a_value}
-use Rattle.wgsl_asked.specs.Views.{outcome}
+use Rattle.wgsl_requests.specs.Answers.{a_value}
+use Rattle.wgsl_requests.specs.Views.{outcome}
 use Rattle.wgsl_text.specs.Texts.{answer_text}
 use Rattle.wgsl_text.proofs.Written.{refused}
 use Rattle.wgsl_text.proofs.write.write_value_or_refusal.Goals as goal

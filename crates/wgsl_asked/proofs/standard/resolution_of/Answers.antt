@@ -1,9 +1,0 @@
-use Rattle.wgsl_standard.specs.Callees.{callee_view}
-use Rattle.wgsl_standard.specs.Resolved.{IsCallResolution, resolved_view}
-use Rattle.wgsl_asked.proofs.Overloaded.{answered}
-use Rattle.wgsl_asked.proofs.standard.resolution_of.Goals as goal
-
-pub returns : goal.returns
-returns c =
-    answered resolved_view (IsCallResolution (callee_view c.args.call.now.callee)) _ c.template_type.result c.in-Some.template c.args.call.now.operands.now _ _ c.template_type.ensures c.in-Some.is
-    c.resolve_callee.ensures c.if_resolved.ensures

@@ -1,0 +1,78 @@
+-- A request has at most one answer.
+use Rattle.std.proofs.Common.{◌≡◌, ℕ, List, Option, Some, None, Result, refl, sym, ap, ◌∙◌}
+use Rattle.wgsl_rules.specs.types.Types.{WgslType, Members}
+use Rattle.wgsl_rules.specs.conversion.Conversion.{Converts}
+use Rattle.wgsl_rules.specs.layout.Layout.{HasSize, HasAlignment, IsExactly}
+use Rattle.wgsl_rules.proofs.conversion.Commons.{left_common_once}
+use Rattle.wgsl_rules.proofs.calls.OneAnswer.{call_answer_once}
+use Rattle.wgsl_rules.proofs.constructors.OneAnswer.{constructor_answer_once}
+use Rattle.wgsl_rules.proofs.layout.OneLayout.{layout_once, offsets_once}
+use Rattle.wgsl_rules.proofs.layout.StructSizes.{never_both}
+use Rattle.wgsl_rules.proofs.operators.OneAnswer.{operator_answer_once, unary_answer_once}
+use Rattle.wgsl_requests.specs.Answers.{Answers, WgslAnswer, WgslLayout, IsReceivedCommon, AreOffsetsOf, IsLayoutOf, a_number, a_size, a_common_type, a_type, a_value, some_offsets, a_layout, a_type_of, a_resolution_of, some_lines, a_form_type, rank_is, common_is, unary_is, binary_is, size_is, offsets_are, layout_is, ctor_is, call_is, type_of_is, resolution_of_is, explanation_of_is, overloads_of_are, form_is}
+use Rattle.wgsl_requests.specs.Forms.{WgslForm, IsFormType, member_of, index_of, load_of, declaration_of, override_of, assignment_of, increment_of, discard_of, construct_of, switch_of, variable_of, initialized_of}
+use Rattle.wgsl_requests.specs.Requests.{WgslRequest}
+use Rattle.wgsl_forms.specs.Assign.{operator_of}
+use Rattle.wgsl_forms.specs.Refusals.{Refusal}
+use Rattle.wgsl_forms.proofs.OnlyAnswers.{assignments}
+use Rattle.wgsl_requests.proofs.OneOverloaded.{explanation_once, resolution_once, type_once}
+
+-- at most one number is exactly that
+one_number : (P : ℕ → Type 0) (v w : Option ℕ) → IsExactly v P → IsExactly w P → v ≡ w
+one_number P (Some n) w f g = sym ((g n).1 ((f n).0 refl))
+one_number P None None f g = refl
+one_number P None (Some n) f g = (f n).1 ((g n).0 refl)
+
+one_received : (ts : List WgslType) (c d : Option WgslType) → IsReceivedCommon ts c → IsReceivedCommon ts d → c ≡ d
+one_received ts (Some t) (Some u) f g = left_common_once ts (Some t) (Some u) f.0 g.0
+one_received ts (Some t) None f g = absurd (g t f.0 f.1)
+one_received ts None (Some u) f g = absurd (f u g.0 g.1)
+one_received ts None None f g = refl
+
+one_offsets : (ms : Members) (o p : Option (List ℕ)) → AreOffsetsOf ms o → AreOffsetsOf ms p → o ≡ p
+one_offsets ms (Some xs) (Some ys) f g = ap Some (offsets_once ms xs ys f g)
+one_offsets ms (Some xs) None f g = absurd (never_both ms f.total f.sized g)
+one_offsets ms None (Some ys) f g = absurd (never_both ms g.total g.sized f)
+one_offsets ms None None f g = refl
+
+one_layout : (ms : Members) (k l : Option WgslLayout) → IsLayoutOf ms k → IsLayoutOf ms l → k ≡ l
+one_layout ms (Some k) (Some l) f g =
+    let same = layout_once ms k.layouts l.layouts k.offsets l.offsets k.size l.size k.align l.align f g in
+    λ i. Some (record { layouts = same.members i; offsets = same.offsets i; size = same.size i; align = same.align i })
+one_layout ms (Some k) None f g = absurd (never_both ms k.size f.sized g)
+one_layout ms None (Some l) f g = absurd (never_both ms l.size g.sized f)
+one_layout ms None None f g = refl
+
+one_form_type : (f : WgslForm) (r s : Result WgslType Refusal) → IsFormType f r → IsFormType f s → r ≡ s
+one_form_type (member_of x name) r s h k = h ∙ sym k
+one_form_type (index_of x i) r s h k = h ∙ sym k
+one_form_type (load_of x) r s h k = h ∙ sym k
+one_form_type (declaration_of d x t) r s h k = h ∙ sym k
+one_form_type (override_of t) r s h k = h ∙ sym k
+one_form_type (assignment_of o x y) r s h k = let one = (assignments (operator_of o) x.of_type y).2 in one r h ∙ sym (one s k)
+one_form_type (increment_of x) r s h k = h ∙ sym k
+one_form_type (discard_of x) r s h k = h ∙ sym k
+one_form_type (construct_of t xs) r s h k = h ∙ sym k
+one_form_type (switch_of x ys) r s h k = h ∙ sym k
+one_form_type (variable_of m a t) r s h k = h ∙ sym k
+one_form_type (initialized_of m a x t) r s h k = h ∙ sym k
+
+-- whatever the request
+same_answer : {request : WgslRequest} {a b : WgslAnswer} → Answers request a → Answers request b → a ≡ b
+same_answer (rank_is {t} {u} v f) (rank_is w g) = ap a_number (one_number (Converts t u) v w f g)
+same_answer (common_is {names} {ts} c f) (common_is d g) = ap (a_common_type names) (one_received ts c d f g)
+same_answer (unary_is {o} {t} r f) (unary_is s g) = ap a_type (unary_answer_once o t r s f g)
+same_answer (binary_is {o} {t} {u} r f) (binary_is s g) = ap a_type (operator_answer_once o t u r s f g)
+same_answer (size_is {t} s a f g) (size_is r b h k) = λ i. a_size (one_number (HasSize t) s r f h i) (one_number (HasAlignment t) a b g k i)
+same_answer (offsets_are {ms} o f) (offsets_are p g) = ap some_offsets (one_offsets ms o p f g)
+same_answer (layout_is {name} {ms} {laid} k f) (layout_is l g) = ap (a_layout name ms) (one_layout laid k l f g)
+same_answer (ctor_is {c} r f) (ctor_is s g) = ap a_type (constructor_answer_once c r s f g)
+same_answer (call_is {c} r f) (call_is s g) = ap a_value (call_answer_once c r s f g)
+same_answer (type_of_is {c} r f) (type_of_is s g) = ap (a_type_of c) (type_once c r s f g)
+same_answer (resolution_of_is {c} r f) (resolution_of_is s g) = ap (a_resolution_of c) (resolution_once c r s f g)
+same_answer (explanation_of_is {c} r f) (explanation_of_is s g) = ap some_lines (explanation_once c r s f g)
+same_answer (overloads_of_are r f) (overloads_of_are s g) = ap some_lines (f ∙ sym g)
+same_answer (form_is {f} r h) (form_is s k) = ap a_form_type (one_form_type f r s h k)
+
+pub answer_once : (request : WgslRequest) (a b : WgslAnswer) → Answers request a → Answers request b → a ≡ b
+answer_once request a b h k = same_answer h k

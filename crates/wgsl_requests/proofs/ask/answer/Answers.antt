@@ -1,0 +1,63 @@
+use Rattle.std.specs.Prelude.{option_map}
+use Rattle.wgsl_rules.specs.operators.Answers.{IsUnaryAnswer}
+use Rattle.wgsl_rules.specs.constructors.Constructors.{IsConstructorAnswer}
+use Rattle.wgsl_rules.specs.calls.Answers.{IsCallAnswer}
+use Rattle.wgsl_core.specs.View.{struct_view, view}
+use Rattle.wgsl_requests.specs.Requests.{unary, ctor, call}
+use Rattle.wgsl_requests.specs.Answers.{a_type, a_value, rank_is, unary_is, binary_is, size_is, offsets_are, layout_is, ctor_is, call_is, type_of_is, resolution_of_is, explanation_of_is, overloads_of_are, form_is}
+use Rattle.wgsl_requests.specs.Views.{callee_view}
+use Rattle.wgsl_requests.proofs.Settled.{settles, offsets_seen, layout_seen}
+use Rattle.wgsl_requests.proofs.ask.answer.Goals as goal
+
+pub returns-in-Rank : goal.returns-in-Rank
+returns-in-Rank c = rw c.in-Rank.is (rank_is _ c.conversion_rank.ensures)
+
+pub returns-in-Size : goal.returns-in-Size
+returns-in-Size c = rw c.in-Size.is (size_is _ _ c.size_and_align_of-size.ensures.size c.size_and_align_of-size.ensures.align)
+
+pub returns-in_ok-settled-in-Unary : goal.returns-in_ok-settled-in-Unary
+returns-in_ok-settled-in-Unary c =
+    let o = c.in-Unary.operator in
+    let t = view c.in-Unary.operand.now in
+    let h = c.in_ok-settled-in-Unary in
+    rw c.in-Unary.is (settles a_type view (IsUnaryAnswer o t) (unary o t) h.field-0 h.ensures c.type_unary_op-made.ensures.row (λ r d. unary_is r d))
+
+pub returns-in-Binary : goal.returns-in-Binary
+returns-in-Binary c = rw c.in-Binary.is (binary_is _ c.resolved_type.ensures)
+
+pub returns-in_ok-offsets-in-Offsets : goal.returns-in_ok-offsets-in-Offsets
+returns-in_ok-offsets-in-Offsets c =
+    let h = c.in_ok-offsets-in-Offsets in
+    rw c.in-Offsets.is (offsets_are _ (offsets_seen (struct_view c.in-Offsets.structure.now).members h.field-0 h.ensures.none.1 h.ensures.offsets))
+
+pub returns-in_ok-layout-in-Layout : goal.returns-in_ok-layout-in-Layout
+returns-in_ok-layout-in-Layout c =
+    let h = c.in_ok-layout-in-Layout in
+    rw c.in-Layout.is (layout_is _ (layout_seen (struct_view c.in-Layout.laid.now).members h.field-0 h.ensures.none.1 h.ensures.layout))
+
+pub returns-in_ok-settled-in-Constructor : goal.returns-in_ok-settled-in-Constructor
+returns-in_ok-settled-in-Constructor c =
+    let made = callee_view c.in-Constructor.callee in
+    let h = c.in_ok-settled-in-Constructor in
+    rw c.in-Constructor.is (settles a_type view (IsConstructorAnswer made) (ctor made) h.field-0 h.ensures c.type_ctor-made.ensures.row (λ r d. ctor_is r d))
+
+pub returns-in_ok-settled-in-Call : goal.returns-in_ok-settled-in-Call
+returns-in_ok-settled-in-Call c =
+    let made = callee_view c.in-Call.callee in
+    let h = c.in_ok-settled-in-Call in
+    rw c.in-Call.is (settles a_value (option_map view) (IsCallAnswer made) (call made) h.field-0 h.ensures c.type_builtin_fn-made.ensures.row (λ r d. call_is r d))
+
+pub returns-in_ok-type_of-in-Type : goal.returns-in_ok-type_of-in-Type
+returns-in_ok-type_of-in-Type c = rw c.in-Type.is (type_of_is _ c.in_ok-type_of-in-Type.ensures)
+
+pub returns-in_ok-resolution_of-in-Resolution : goal.returns-in_ok-resolution_of-in-Resolution
+returns-in_ok-resolution_of-in-Resolution c = rw c.in-Resolution.is (resolution_of_is _ c.in_ok-resolution_of-in-Resolution.ensures)
+
+pub returns-in_ok-signatures_named-in-Overloads : goal.returns-in_ok-signatures_named-in-Overloads
+returns-in_ok-signatures_named-in-Overloads c = rw c.in-Overloads.is (overloads_of_are _ c.in_ok-signatures_named-in-Overloads.ensures)
+
+pub returns-in_ok-notes_on-in-Explanation : goal.returns-in_ok-notes_on-in-Explanation
+returns-in_ok-notes_on-in-Explanation c = rw c.in-Explanation.is (explanation_of_is _ c.in_ok-notes_on-in-Explanation.ensures)
+
+pub returns-in-Form : goal.returns-in-Form
+returns-in-Form c = rw c.in-Form.is (form_is _ c.type_of_form.ensures)

@@ -1,0 +1,93 @@
+-- The answers to requests.
+use Rattle.std.specs.Prelude.{◌≡◌, ℕ, List, Option, Some, None, Result}
+use Rattle.wgsl_syntax.specs.declared.operator.BinaryOperator.{BinaryOperator}
+use Rattle.wgsl_syntax.specs.declared.operator.UnaryOperator.{UnaryOperator}
+use Rattle.wgsl_syntax.specs.declared.texel.FormatNames.{FormatNames}
+use Rattle.wgsl_rules.specs.types.Types.{WgslType, Members}
+use Rattle.wgsl_rules.specs.types.Signatures.{Signature}
+use Rattle.wgsl_rules.specs.errors.Refusals.{Refusal}
+use Rattle.wgsl_rules.specs.Headline.{Receives}
+use Rattle.wgsl_rules.specs.conversion.Common.{IsLeftCommon}
+use Rattle.wgsl_rules.specs.conversion.Conversion.{Converts}
+use Rattle.wgsl_rules.specs.layout.Placement.{MemberLayout}
+use Rattle.wgsl_rules.specs.layout.Layout.{AreOffsets, HasAlignment, HasNoSize, HasSize, IsExactly, IsStructLayout}
+use Rattle.wgsl_rules.specs.operators.Answers.{IsOperatorAnswer, IsUnaryAnswer}
+use Rattle.wgsl_rules.specs.constructors.Constructors.{IsConstructorAnswer}
+use Rattle.wgsl_rules.specs.calls.Answers.{IsCallAnswer}
+use Rattle.wgsl_standard.specs.Lines.{lines_named}
+use Rattle.wgsl_forms.specs.Refusals.{Refusal as FormRefusal}
+use Rattle.wgsl_requests.specs.Calls.{WgslCall, WgslResolution}
+use Rattle.wgsl_requests.specs.Forms.{WgslForm, IsFormType}
+use Rattle.wgsl_requests.specs.Standard.{IsExplanationOf, IsResolutionOf, IsTypeOf}
+use Rattle.wgsl_requests.specs.Requests.{WgslRequest, rank, common, unary, binary, size, offsets, layout, ctor, call, type_of, resolution_of, explanation_of, overloads_of, form_of}
+
+-- a struct's layout: the size, the alignment and the offset of each member, its own size and alignment
+pub record WgslLayout : Type 0 where
+  pub layouts : List MemberLayout
+  pub offsets : List ℕ
+  pub size : ℕ
+  pub align : ℕ
+
+-- what is answered
+pub data WgslAnswer : Type 0 where
+  a_number : Option ℕ → WgslAnswer
+  a_size : Option ℕ → Option ℕ → WgslAnswer
+  a_common_type : FormatNames → Option WgslType → WgslAnswer
+  a_type : Result WgslType Refusal → WgslAnswer
+  a_value : Result (Option WgslType) Refusal → WgslAnswer
+  some_offsets : Option (List ℕ) → WgslAnswer
+  a_layout : List ℕ → Members → Option WgslLayout → WgslAnswer
+  -- None if no overload takes the operands
+  a_type_of : WgslCall → Option (Option WgslType) → WgslAnswer
+  a_resolution_of : WgslCall → Option WgslResolution → WgslAnswer
+  -- a line for each overload
+  some_lines : List (List ℕ) → WgslAnswer
+  a_form_type : Result WgslType FormRefusal → WgslAnswer
+  -- no request has this answer
+  out_of_memory : WgslAnswer
+
+-- the common type of these types, from left to right, if each of them converts to it
+abbrev pub IsReceivedCommon : List WgslType → Option WgslType → Type 0
+IsReceivedCommon ts (Some t) = IsLeftCommon ts (Some t) × Receives t ts
+IsReceivedCommon ts None = (t : WgslType) → IsLeftCommon ts (Some t) → ¬ Receives t ts
+
+-- the offsets of these members, unless their struct has no size
+abbrev pub AreOffsetsOf : Members → Option (List ℕ) → Type 0
+AreOffsetsOf ms (Some ns) = AreOffsets ms ns
+AreOffsetsOf ms None = HasNoSize ms
+
+-- the layout of a struct with these members, unless it has no size
+abbrev pub IsLayoutOf : Members → Option WgslLayout → Type 0
+IsLayoutOf ms (Some l) = IsStructLayout ms l.layouts l.offsets l.size l.align
+IsLayoutOf ms None = HasNoSize ms
+
+-- The answer is one to the request.
+pub data Answers : WgslRequest → WgslAnswer → Type 0 where
+  rank_is : {t u : WgslType} (w : Option ℕ) → IsExactly w (Converts t u) →
+      Answers (rank t u) (a_number w)
+  common_is : {names : FormatNames} {ts : List WgslType} (c : Option WgslType) → IsReceivedCommon ts c →
+      Answers (common names ts) (a_common_type names c)
+  unary_is : {o : UnaryOperator} {t : WgslType} (r : Result WgslType Refusal) →
+      IsUnaryAnswer o t r → Answers (unary o t) (a_type r)
+  binary_is : {o : BinaryOperator} {t u : WgslType} (r : Result WgslType Refusal) →
+      IsOperatorAnswer o t u r → Answers (binary o t u) (a_type r)
+  size_is : {t : WgslType} (s a : Option ℕ) → IsExactly s (HasSize t) →
+      IsExactly a (HasAlignment t) → Answers (size t) (a_size s a)
+  offsets_are : {name : List ℕ} {ms : Members} (found : Option (List ℕ)) →
+      AreOffsetsOf ms found → Answers (offsets name ms) (some_offsets found)
+  layout_is : {name : List ℕ} {ms laid : Members} (found : Option WgslLayout) →
+      IsLayoutOf laid found → Answers (layout name ms laid) (a_layout name ms found)
+  ctor_is : {c : Signature} (r : Result WgslType Refusal) →
+      IsConstructorAnswer c r → Answers (ctor c) (a_type r)
+  call_is : {c : Signature} (r : Result (Option WgslType) Refusal) →
+      IsCallAnswer c r → Answers (call c) (a_value r)
+  type_of_is : {c : WgslCall} (r : Option (Option WgslType)) →
+      IsTypeOf c r → Answers (type_of c) (a_type_of c r)
+  resolution_of_is : {c : WgslCall} (r : Option WgslResolution) →
+      IsResolutionOf c r → Answers (resolution_of c) (a_resolution_of c r)
+  explanation_of_is : {c : WgslCall} (lines : List (List ℕ)) →
+      IsExplanationOf c lines → Answers (explanation_of c) (some_lines lines)
+  overloads_of_are : {name : List ℕ} (lines : List (List ℕ)) →
+      lines ≡ lines_named name → Answers (overloads_of name) (some_lines lines)
+  form_is : {f : WgslForm} (r : Result WgslType FormRefusal) →
+      IsFormType f r → Answers (form_of f) (a_form_type r)

@@ -1,0 +1,36 @@
+-- The requests.
+use Rattle.std.specs.Prelude.{ℕ, List}
+use Rattle.wgsl_syntax.specs.declared.operator.BinaryOperator.{BinaryOperator}
+use Rattle.wgsl_syntax.specs.declared.operator.UnaryOperator.{UnaryOperator}
+use Rattle.wgsl_syntax.specs.declared.texel.FormatNames.{FormatNames}
+use Rattle.wgsl_rules.specs.types.Types.{WgslType, Members}
+use Rattle.wgsl_rules.specs.types.Signatures.{Signature}
+use Rattle.wgsl_requests.specs.Calls.{WgslCall}
+use Rattle.wgsl_requests.specs.Forms.{WgslForm}
+
+-- what is asked
+pub data WgslRequest : Type 0 where
+  -- the rank of a conversion
+  rank : WgslType → WgslType → WgslRequest
+  -- the common type of a list, if each of its types converts to it; texel formats have these names in the answer
+  common : FormatNames → List WgslType → WgslRequest
+  -- the type of an expression with a unary or a binary operator
+  unary : UnaryOperator → WgslType → WgslRequest
+  binary : BinaryOperator → WgslType → WgslType → WgslRequest
+  -- the size and the alignment of a type
+  size : WgslType → WgslRequest
+  -- the offsets of a struct's members
+  offsets : List ℕ → Members → WgslRequest
+  -- the layout of a struct with these members, which are laid out as the last ones
+  layout : List ℕ → Members → Members → WgslRequest
+  -- the type that a constructor makes, and what a built-in function returns
+  ctor : Signature → WgslRequest
+  call : Signature → WgslRequest
+  -- by WGSL's own overloads: the type of a call, what it resolves to, and why overloads don't take its operands
+  type_of : WgslCall → WgslRequest
+  resolution_of : WgslCall → WgslRequest
+  explanation_of : WgslCall → WgslRequest
+  -- WGSL's own overloads of a name
+  overloads_of : List ℕ → WgslRequest
+  -- by WGSL's own rules: the type of a form that has no overloads
+  form_of : WgslForm → WgslRequest

@@ -1,0 +1,38 @@
+-- What WGSL's own overloads answer.
+use Rattle.std.specs.Prelude.{◌≡◌, ℕ, List, [], ◌∷◌, Option, Some, None, false, true, map, MatchOption}
+use Rattle.std.specs.Bool.{MatchBool}
+use Rattle.wgsl_syntax.specs.declared.overload.Overload.{Overload}
+use Rattle.wgsl_rules.specs.types.Types.{WgslType}
+use Rattle.wgsl_rules.specs.types.Signatures.{Parameter}
+use Rattle.wgsl_rules.specs.standard.Choice.{Operand, types_of}
+use Rattle.wgsl_rules.specs.standard.Answers.{is_template, template_operand, IsCallAnswer}
+use Rattle.wgsl_standard.specs.Callees.{WgslCallee, overloads_listed}
+use Rattle.wgsl_standard.specs.Explained.{AreNotes, or_none}
+use Rattle.wgsl_standard.specs.Resolved.{IsCallResolution}
+use Rattle.wgsl_standard.specs.Texts.{note_listed}
+use Rattle.wgsl_standard.specs.declared.refusal.Mismatch.{Mismatch}
+use Rattle.wgsl_requests.specs.Calls.{WgslCall, WgslResolution, loaded, template_type}
+
+-- the answer of a call with this template; no overload takes any other than one type
+abbrev pub WithTemplate : {A : Type 0} → (Option WgslType → Option A → Type 0) → Option (List Parameter) → Option A → Type 0
+WithTemplate P template r = MatchOption (template_type template) (r ≡ None) (λ t. P t r)
+
+-- the type of a call, or no value; None if no overload takes the operands
+abbrev pub IsTypeOf : WgslCall → Option (Option WgslType) → Type 0
+IsTypeOf c r = WithTemplate (λ t r. IsCallAnswer (overloads_listed c.callee false) (overloads_listed c.callee true)
+    t (loaded c.operands) r) c.template r
+
+-- what a call resolves to; None if no overload takes the operands
+abbrev pub IsResolutionOf : WgslCall → Option WgslResolution → Type 0
+IsResolutionOf c r = WithTemplate (λ t r. IsCallResolution c.callee t (loaded c.operands) r) c.template r
+
+-- the notes on a call with this template; there is none if it is no template
+abbrev pub AreNotesWith : WgslCallee → Option WgslType → List Operand → List (Overload × Mismatch) → Type 0
+AreNotesWith callee None xs ns = AreNotes xs (or_none (overloads_listed callee false)) ns
+AreNotesWith callee (Some t) xs ns =
+    MatchBool (is_template t) (AreNotes (template_operand t ∷ xs) (or_none (overloads_listed callee true)) ns) (ns ≡ [])
+
+-- a line for each overload that doesn't take the operands, in the order of the overloads
+abbrev pub IsExplanationOf : WgslCall → List (List ℕ) → Type 0
+IsExplanationOf c lines = MatchOption (template_type c.template) (lines ≡ []) (λ t. (ns : List (Overload × Mismatch))
+    × AreNotesWith c.callee t (loaded c.operands) ns × (lines ≡ map (note_listed c.callee t (types_of c.operands)) ns))

@@ -1,0 +1,97 @@
+// Answers each request by the function that decides it.
+ghost use Rattle.std.specs.Prelude.{◌≡◌, IfOk, None};
+ghost use Rattle.wgsl_requests.specs.Answers.{Answers};
+ghost use Rattle.wgsl_rules.specs.operators.Answers.{IsOperatorAnswer};
+ghost use Rattle.wgsl_core.specs.Answer.{IsAnswered};
+ghost use Rattle.wgsl_core.specs.View.{view};
+ghost use Rattle.wgsl_requests.specs.Views.{answer_view, binary_view, request_view};
+
+use crate::answers::{Answer, Operands};
+use crate::forms::type_of_form;
+use crate::overloads::signatures_named;
+use crate::requests::Request;
+use crate::standard::{notes_on, resolution_of, type_of};
+use std::alloc::{AllocError, Global};
+use wgsl_calls::call::type_builtin_fn;
+use wgsl_calls::constructor::type_ctor;
+use wgsl_core::conversion::conversion_rank;
+use wgsl_core::error::{Error, Fail};
+use wgsl_core::operators::resolve::{ResolvedType, resolve_operator};
+use wgsl_core::operators::type_unary_op;
+use wgsl_core::ty::Type;
+use wgsl_syntax::operator::BinaryOperator;
+
+/// The answer to the request.
+#[inline(always)]
+pub fn answer<'r>(alloc: Global, request: Request<'r>) -> Result<Answer<'r>, AllocError>
+    ensures { IfOk result (λ a. Answers (request_view request.entry) (answer_view a)) }
+{
+    match request {
+        Request::Rank(source, target) => Ok(Answer::Number(conversion_rank(source, target))),
+        Request::Unary(operator, operand) => {
+            let made = type_unary_op(alloc, operator, operand);
+            Ok(Answer::Type(settled(made)?))
+        }
+        Request::Binary(operator, lhs, rhs) => {
+            Ok(Answer::Binary(resolved_type(operator, lhs, rhs)))
+        }
+        Request::Size(ty) => {
+            let (size, align) = ty.size_and_align_of();
+            Ok(Answer::Size(size, align))
+        }
+        Request::Offsets(structure) => Ok(Answer::Offsets(structure.offsets(alloc)?)),
+        Request::Layout(structure, laid) => Ok(Answer::Layout(structure, laid.layout(alloc)?)),
+        Request::Constructor(callee) => {
+            let made = type_ctor(alloc, callee.name, callee.template, callee.arguments);
+            Ok(Answer::Type(settled(made)?))
+        }
+        Request::Call(callee) => {
+            let made = type_builtin_fn(alloc, callee.name, callee.template, callee.arguments);
+            Ok(Answer::Value(settled(made)?))
+        }
+        Request::Type(call) => Ok(Answer::TypeOf(call, type_of(alloc, call)?)),
+        Request::Resolution(call) => Ok(Answer::Resolution(call, resolution_of(alloc, call)?)),
+        Request::Overloads(name) => Ok(Answer::Overloads(signatures_named(alloc, name)?)),
+        Request::Explanation(call) => Ok(Answer::Notes(notes_on(alloc, call)?)),
+        Request::Form(form) => Ok(Answer::FormType(type_of_form(form))),
+    }
+}
+
+/// The type of a binary expression.
+#[inline(always)]
+fn resolved_type<'r>(
+    operator: BinaryOperator,
+    lhs: &'r Type,
+    rhs: &'r Type,
+) -> Result<ResolvedType<'r>, Operands<'r>>
+    ensures { IsOperatorAnswer operator (view lhs.now) (view rhs.now) (binary_view result) }
+{
+    match resolve_operator(operator, lhs, rhs) {
+        Some(found) => Ok(found.result),
+        None => Err(Operands { operator, lhs, rhs }),
+    }
+}
+
+/// The result of a call. If that is out of memory, this is the outer error.
+#[inline(always)]
+fn settled<T: Drop>(made: Result<T, Fail<Error>>) -> Result<Result<T, Fail<Error>>, AllocError>
+    ensures { IfOk result (λ same. (made ≡ same) × IsAnswered same) }
+{
+    match out_of_memory(&made) {
+        Some(error) => {
+            drop(made);
+            Err(error)
+        }
+        None => Ok(made),
+    }
+}
+
+#[inline(always)]
+fn out_of_memory<T>(made: &Result<T, Fail<Error>>) -> Option<AllocError>
+    ensures { result ≡ None → IsAnswered made.now }
+{
+    match made {
+        Ok(_) | Err(Fail::Error(_)) => None,
+        Err(Fail::Memory(error)) => Some(*error),
+    }
+}
