@@ -21,7 +21,7 @@ pub mod resolve;
 use crate::error::{Error, Fail};
 use crate::operators::resolve::{Resolution, resolve_operator};
 use crate::ty::Type;
-use crate::ty::clone::{boxed_copy, copy};
+use crate::ty::clone::boxed_copy;
 use crate::ty::form::Form;
 use std::alloc::{AllocError, Global};
 use wgsl_syntax::address::AddressSpace;
@@ -276,8 +276,8 @@ fn refuse_binary(
     ensures names { IfOk result (λ e. refusal e ≡ binary operator (view lhs.now) (view rhs.now)) }
     ensures never_out_of_memory { IsLeaf (view lhs.now) → IsLeaf (view rhs.now) → IsOk result }
 {
-    let lhs = copy(alloc, lhs)?;
-    let rhs = copy(alloc, rhs)?;
+    let lhs = lhs.clone(alloc)?;
+    let rhs = rhs.clone(alloc)?;
     Ok(Error::Binary(operator, lhs, rhs))
 }
 
@@ -382,7 +382,7 @@ fn own_if(
     ensures never_out_of_memory { IsLeaf (view ty.now) → IsAnswered result }
 {
     if holds {
-        Ok(copy(alloc, ty)?)
+        Ok(ty.clone(alloc)?)
     } else {
         Err(Fail::Error(refuse_unary(alloc, operator, ty)?))
     }

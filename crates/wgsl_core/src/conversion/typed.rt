@@ -5,7 +5,6 @@ ghost use Rattle.wgsl_core.specs.View.{view};
 
 use crate::literal::{Instance, LiteralInstance};
 use crate::ty::Type;
-use crate::ty::clone::copy;
 use std::alloc::{AllocError, Global};
 
 /// A value that has a type, and a type inside that one.
@@ -34,7 +33,7 @@ impl Ty for Type {
     ghost inner_type_of = { λ t. inner_of (view t) };
 
     fn ty(&self, alloc: Global) -> Result<Type, AllocError> {
-        copy(alloc, self)
+        self.clone(alloc)
     }
 
     fn inner_ty(&self, alloc: Global) -> Result<Type, AllocError> {

@@ -8,7 +8,6 @@ ghost use Rattle.wgsl_core.specs.Converted.{converted, NeedsNoMemory};
 use crate::conversion::typed::Ty;
 use crate::ty::Type;
 use crate::ty::build::within;
-use crate::ty::clone::copy;
 use std::alloc::{AllocError, Global};
 use wgsl_syntax::layer::Layer;
 
@@ -99,7 +98,7 @@ fn copy_if(alloc: Global, holds: bool, ty: &Type) -> Result<Option<Type>, AllocE
         → IsOk result }
 {
     if holds {
-        Ok(Some(copy(alloc, ty)?))
+        Ok(Some(ty.clone(alloc)?))
     } else {
         Ok(None)
     }

@@ -13,7 +13,6 @@ ghost use Rattle.wgsl_core.specs.internal.Resolution.{resolved_view, resolution_
 
 use crate::conversion::convert_ty;
 use crate::ty::Type;
-use crate::ty::clone::copy;
 use crate::ty::form::Form;
 use std::alloc::{AllocError, Global};
 use wgsl_syntax::layer::Layer;
@@ -72,7 +71,7 @@ impl<'a> ResolvedType<'a> {
     {
         let ty = match self.element {
             Element::Scalar(scalar) => Type::from(scalar),
-            Element::Type(ty) => copy(alloc, ty)?,
+            Element::Type(ty) => ty.clone(alloc)?,
         };
         match self.dimensions {
             Dimensions::Single => Ok(ty),

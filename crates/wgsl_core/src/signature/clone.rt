@@ -6,7 +6,6 @@ ghost use Rattle.wgsl_core.specs.Instances.{parameter_view, signature_view, call
 
 use crate::signature::{CallSignature, TpltParam};
 use crate::ty::Type;
-use crate::ty::clone::copy;
 use std::alloc::{AllocError, Global};
 
 impl TpltParam {
@@ -80,7 +79,7 @@ fn copy_types(alloc: Global, types: &[Type]) -> Result<Vec<Type>, AllocError>
 {
     let mut copies = Vec::with_capacity(alloc, types.len())?;
     for ty in types {
-        copies.push(copy(alloc, ty)?)?;
+        copies.push(ty.clone(alloc)?)?;
     }
     Ok(copies)
 }

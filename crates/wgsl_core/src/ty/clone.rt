@@ -41,19 +41,6 @@ impl Type {
     }
 }
 
-/// A copy. A scalar is copied without a call of `Type::clone`.
-#[inline(always)]
-#[tactic(auto, using(crate::proofs::Scalars::scalar_is))]
-pub fn copy(alloc: Global, ty: &Type) -> Result<Type, AllocError>
-    ensures same { IfOk result (λ t. view t ≡ view ty.now) }
-    ensures never_out_of_memory { IsLeaf (view ty.now) → IsOk result }
-{
-    match ty.scalar() {
-        Some(scalar) => Ok(Type::from(scalar)),
-        None => ty.clone(alloc),
-    }
-}
-
 /// A copy in a new box.
 ///
 /// It is not inlined, or each arm of `Type::clone` has room for it on the stack, and copies of deep types take three times as
