@@ -6,7 +6,7 @@ use crate::proved::wgsl_report::message::{self, messages_of, write_fault, Severi
 use crate::proved::wgsl_report::rules::findings_of;
 use crate::proved::wgsl_report::told;
 use crate::proved::wgsl_report::type_text::type_text;
-use crate::proved::wgsl_source::entry::{self, Extent};
+use crate::proved::wgsl_source::entry::{self, WorkgroupExtent};
 use crate::proved::wgsl_source::fault::{Cause, Fault};
 use crate::proved::wgsl_source::measured::MeasuredType;
 use crate::proved::wgsl_source::module::{read_module, Module};
@@ -124,8 +124,8 @@ impl<'t> Reading<'t> {
 
     fn entry_point(&self, of: &entry::EntryPoint<'_>) -> EntryPoint {
         let extent = |of| match of {
-            Extent::Known(count) => Some(count),
-            Extent::Override => None,
+            WorkgroupExtent::Known(count) => Some(count),
+            WorkgroupExtent::Override => None,
         };
         EntryPoint {
             name: of.name.to_string(),

@@ -3,7 +3,7 @@ ghost use Rattle.wgsl_c.specs.HandOver.{IsText, IsTold};
 
 use crate::hand_over::hand_over;
 use std::alloc::{AllocError, Global};
-use wgsl_report::report::{Format, Report, Request, report_on};
+use wgsl_report::report::{Format, Report, ReportOptions, report_on};
 use wgsl_report::shown::Style;
 use wgsl_text::request::{Reply, TextKind};
 
@@ -23,12 +23,12 @@ pub extern "C" fn wgsl_source_layout(
 fn layouts(alloc: Global, source: &[u8]) -> Result<Reply, AllocError>
     ensures { IsText result }
 {
-    let request = Request {
+    let options = ReportOptions {
         file: "",
         only: &[],
         format: Format::Json,
         style: Style::Plain,
     };
-    let Report { text, .. } = report_on(alloc, source, request)?;
+    let Report { text, .. } = report_on(alloc, source, options)?;
     Ok(Reply::Answer(TextKind::Answer, text))
 }

@@ -10,7 +10,7 @@ use std::alloc::Global;
 use std::io::{IsTerminal, Read, Write};
 use std::process::ExitCode;
 use std::{env, fs, io};
-use wgsl_report::report::{Report, Request, report_on};
+use wgsl_report::report::{Report, ReportOptions, report_on};
 use wgsl_report::shown::Style;
 
 const HELP: &str = "\
@@ -127,13 +127,13 @@ fn report_one(
     bytes: &[u8],
     is_found: &mut [bool],
 ) -> Result<u8, Failure> {
-    let request = Request {
+    let options = ReportOptions {
         file,
         only: &arguments.only,
         format: arguments.format,
         style: style(rt, arguments),
     };
-    let report = report_on(rt.alloc(), bytes, request)?;
+    let report = report_on(rt.alloc(), bytes, options)?;
     for (mark, is_here) in is_found.iter_mut().zip(&report.is_found) {
         *mark = *mark || *is_here;
     }

@@ -1,2 +1,3 @@
 pub mod Nested
-pub mod spaces
+pub mod Divides
+pub mod Opaque

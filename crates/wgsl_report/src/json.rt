@@ -8,7 +8,7 @@ use crate::tree::write_tree;
 use crate::type_text::type_text;
 use crate::write::{Piece, write_all};
 use std::alloc::AllocError;
-use wgsl_source::entry::{EntryPoint, Extent, Override};
+use wgsl_source::entry::{EntryPoint, Override, WorkgroupExtent};
 use wgsl_source::measured::MeasuredType;
 use wgsl_source::structure::{Member, Struct};
 use wgsl_source::variable::Variable;
@@ -229,12 +229,12 @@ fn write_entry_point(
     output.push_str("}")
 }
 
-fn write_extents(output: &mut String, extents: [Extent; 3]) -> Result<(), AllocError> {
+fn write_extents(output: &mut String, extents: [WorkgroupExtent; 3]) -> Result<(), AllocError> {
     for (index, extent) in extents.iter().enumerate() {
         output.push_str(if index == 0 { "[" } else { "," })?;
         match extent {
-            Extent::Known(count) => write!(output, "{count}")?,
-            Extent::Override => output.push_str("null")?,
+            WorkgroupExtent::Known(count) => write!(output, "{count}")?,
+            WorkgroupExtent::Override => output.push_str("null")?,
         }
     }
     output.push_str("]")

@@ -47,7 +47,7 @@ impl Format {
 
 /// What to report on a text, and how.
 #[derive(Clone, Copy, Debug)]
-pub struct Request<'a> {
+pub struct ReportOptions<'a> {
     /// The name of the text's file.
     pub file: &'a str,
     /// The names of the structs to report on; all structs if there is no name.
@@ -70,13 +70,17 @@ pub struct Report {
 }
 
 /// The report on a text, given as bytes.
-pub fn report_on(alloc: Global, bytes: &[u8], request: Request) -> Result<Report, AllocError> {
+pub fn report_on(
+    alloc: Global,
+    bytes: &[u8],
+    options: ReportOptions,
+) -> Result<Report, AllocError> {
     let lines = Lines::of(alloc, bytes)?;
     match from_utf8(bytes) {
         Ok(text) => {
             let tokens = tokens(alloc, bytes)?;
             let module = read_module(alloc, text, &tokens)?;
-            report_module(alloc, request, text, &lines, &module)
+            report_module(alloc, options, text, &lines, &module)
         }
         Err(error) => {
             let fault = Fault {
@@ -84,14 +88,14 @@ pub fn report_on(alloc: Global, bytes: &[u8], request: Request) -> Result<Report
                 cause: Cause::NotUtf8,
             };
             let module = Module::faulty(alloc, fault)?;
-            report_module(alloc, request, "", &lines, &module)
+            report_module(alloc, options, "", &lines, &module)
         }
     }
 }
 
 fn report_module(
     alloc: Global,
-    request: Request,
+    options: ReportOptions,
     text: &str,
     lines: &Lines,
     module: &Module,
@@ -101,14 +105,14 @@ fn report_module(
     let Choice {
         is_chosen,
         is_found,
-    } = choose(alloc, module, request.only)?;
+    } = choose(alloc, module, options.only)?;
     let source = Source {
         alloc,
-        file: request.file,
+        file: options.file,
         lines,
         module,
         messages: &messages,
-        has_all: request.only.is_empty(),
+        has_all: options.only.is_empty(),
         is_chosen: &is_chosen,
     };
     let mut report = Report {
@@ -117,21 +121,25 @@ fn report_module(
         is_clean: messages.is_empty(),
         is_found,
     };
-    write_report(&mut report, source, request)?;
+    write_report(&mut report, source, options)?;
     Ok(report)
 }
 
-fn write_report(report: &mut Report, source: Source, request: Request) -> Result<(), AllocError> {
+fn write_report(
+    report: &mut Report,
+    source: Source,
+    options: ReportOptions,
+) -> Result<(), AllocError> {
     let output = &mut report.text;
-    match request.format {
-        Format::Tables => write_tables(output, source, request.style),
+    match options.format {
+        Format::Tables => write_tables(output, source, options.style),
         Format::Json => write_json(output, source),
         Format::C => write_c(output, source),
         Format::Rust => write_rust(output, source),
         Format::Numpy => write_numpy(output, source),
     }?;
-    if request.format.is_code() {
-        write_messages(&mut report.notes, source, request.style)?;
+    if options.format.is_code() {
+        write_messages(&mut report.notes, source, options.style)?;
     }
     Ok(())
 }

@@ -1,3 +1,3 @@
 pub mod Placed
 pub mod Measures
-pub mod constants
+pub mod Shifted

@@ -2,7 +2,7 @@
 ghost use Rattle.wgsl_source.specs.Cursor.{GoesOn};
 
 use crate::cursor::Cursor;
-use crate::entry::{Extent, Stage};
+use crate::entry::{Stage, WorkgroupExtent};
 use crate::expression::{Site, Value, close};
 use crate::fault::{Cause, Expected, Stop};
 use crate::scope::Scope;
@@ -49,7 +49,7 @@ pub struct Attributes {
     pub binding: Option<u32>,
     pub id: Option<u32>,
     pub stage: Option<Stage>,
-    pub workgroup_size: Option<[Extent; 3]>,
+    pub workgroup_size: Option<[WorkgroupExtent; 3]>,
     /// Which attributes are present, in the order of `Name`.
     is_there: [bool; 16],
 }
@@ -220,13 +220,13 @@ impl<'t> Scope<'t> {
     }
 
     /// Reads the one to three extents of a workgroup; a missing one is 1.
-    fn read_workgroup_size(&self, cursor: &mut Cursor<'t>) -> Result<[Extent; 3], Stop>
+    fn read_workgroup_size(&self, cursor: &mut Cursor<'t>) -> Result<[WorkgroupExtent; 3], Stop>
         ensures goes_on { GoesOn cursor.old cursor.new }
     {
         cursor.expect(b'(')?;
         let first = self.read_extent(cursor)?;
-        let mut second = Extent::Known(1);
-        let mut third = Extent::Known(1);
+        let mut second = WorkgroupExtent::Known(1);
+        let mut third = WorkgroupExtent::Known(1);
         if cursor.take(b',') && !cursor.is_at(b')') {
             second = self.read_extent(cursor)?;
             if cursor.take(b',') && !cursor.is_at(b')') {
@@ -238,14 +238,14 @@ impl<'t> Scope<'t> {
         Ok([first, second, third])
     }
 
-    fn read_extent(&self, cursor: &mut Cursor<'t>) -> Result<Extent, Stop>
+    fn read_extent(&self, cursor: &mut Cursor<'t>) -> Result<WorkgroupExtent, Stop>
         ensures goes_on { GoesOn cursor.old cursor.new }
     {
         let at = cursor.index();
         match self.read_value(cursor, Site::Other)? {
-            Value::Later => Ok(Extent::Override),
+            Value::Later => Ok(WorkgroupExtent::Override),
             Value::Integer(integer) => match u32::try_from(integer.value()) {
-                Ok(number) if number > 0 => Ok(Extent::Known(number)),
+                Ok(number) if number > 0 => Ok(WorkgroupExtent::Known(number)),
                 _ => Err(Stop::at(at, Cause::EmptyWorkgroup)),
             },
             Value::Bool(_) | Value::Float(_) => Err(Stop::at(at, Cause::NotInteger)),

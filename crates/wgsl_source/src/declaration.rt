@@ -61,17 +61,17 @@ impl<'t> Declarations<'t> {
         ensures goes_on { GoesOn cursor.old cursor.new }
     {
         let first = cursor.at;
-        let read = match read_head(cursor) {
-            Ok(Head::Named(kind)) => {
+        let read = match read_beginning(cursor) {
+            Ok(Beginning::Named(kind)) => {
                 self.has_begun = true;
                 return self.read_named(cursor, first, kind);
             }
-            Ok(Head::Directive(directive)) => self.read_directive(cursor, directive),
-            Ok(Head::Assertion) => {
+            Ok(Beginning::Directive(directive)) => self.read_directive(cursor, directive),
+            Ok(Beginning::Assertion) => {
                 self.has_begun = true;
                 Ok(())
             }
-            Ok(Head::Empty) => {
+            Ok(Beginning::Empty) => {
                 self.has_begun = true;
                 return Ok(());
             }
@@ -151,7 +151,7 @@ impl<'t> Declarations<'t> {
 
 /// The kind of declaration that a first word begins.
 #[derive(Clone, Copy)]
-enum Head {
+enum Beginning {
     Named(DeclarationKind),
     Directive(Directive),
     /// `const_assert`
@@ -185,37 +185,37 @@ pub fn read_declarations<'t>(
 }
 
 /// Reads the attributes and the first word of a declaration, and the template list of a variable.
-fn read_head(cursor: &mut Cursor) -> Result<Head, Stop>
+fn read_beginning(cursor: &mut Cursor) -> Result<Beginning, Stop>
     ensures goes_on { GoesOn cursor.old cursor.new }
 {
     let first = *cursor;
     skip_attributes(cursor)?;
-    let Some(head) = head_of(cursor.word()) else {
+    let Some(beginning) = beginning_of(cursor.word()) else {
         return Err(cursor.expected(Expected::Declaration));
     };
-    if first.is_at(b'@') && !matches!(head, Head::Named(_)) {
+    if first.is_at(b'@') && !matches!(beginning, Beginning::Named(_)) {
         return Err(first.stop(Cause::MisplacedAttribute));
     }
     cursor.advance();
     if cursor.is_at(b'<') {
         skip_list(cursor)?;
     }
-    Ok(head)
+    Ok(beginning)
 }
 
-fn head_of(word: &str) -> Option<Head> {
+fn beginning_of(word: &str) -> Option<Beginning> {
     match word {
-        "alias" => Some(Head::Named(DeclarationKind::Alias)),
-        "struct" => Some(Head::Named(DeclarationKind::Struct)),
-        "const" => Some(Head::Named(DeclarationKind::Constant)),
-        "override" => Some(Head::Named(DeclarationKind::Override)),
-        "var" => Some(Head::Named(DeclarationKind::Variable)),
-        "fn" => Some(Head::Named(DeclarationKind::Function)),
-        "requires" => Some(Head::Directive(Directive::Requires)),
-        "enable" => Some(Head::Directive(Directive::Enable)),
-        "diagnostic" => Some(Head::Directive(Directive::Diagnostic)),
-        "const_assert" => Some(Head::Assertion),
-        ";" => Some(Head::Empty),
+        "alias" => Some(Beginning::Named(DeclarationKind::Alias)),
+        "struct" => Some(Beginning::Named(DeclarationKind::Struct)),
+        "const" => Some(Beginning::Named(DeclarationKind::Constant)),
+        "override" => Some(Beginning::Named(DeclarationKind::Override)),
+        "var" => Some(Beginning::Named(DeclarationKind::Variable)),
+        "fn" => Some(Beginning::Named(DeclarationKind::Function)),
+        "requires" => Some(Beginning::Directive(Directive::Requires)),
+        "enable" => Some(Beginning::Directive(Directive::Enable)),
+        "diagnostic" => Some(Beginning::Directive(Directive::Diagnostic)),
+        "const_assert" => Some(Beginning::Assertion),
+        ";" => Some(Beginning::Empty),
         _ => None,
     }
 }

@@ -34,7 +34,7 @@ impl Stage {
 
 /// How many invocations a workgroup has in a dimension.
 #[derive(Clone, Copy, Debug, PartialEq, Eq)]
-pub enum Extent {
+pub enum WorkgroupExtent {
     Known(u32),
     /// The value of an override, which is known when the pipeline is created.
     Override,
@@ -47,7 +47,7 @@ pub struct EntryPoint<'t> {
     /// Where its name stands in the text.
     pub place: usize,
     pub stage: Stage,
-    pub workgroup_size: Option<[Extent; 3]>,
+    pub workgroup_size: Option<[WorkgroupExtent; 3]>,
 }
 
 /// An `override`: a value that is set when a pipeline is created.

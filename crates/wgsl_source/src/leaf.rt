@@ -3,9 +3,9 @@ ghost use Rattle.wgsl_source.specs.Cursor.{GoesOn};
 
 use crate::cursor::Cursor;
 use crate::fault::{Cause, Expected, Stop};
-use crate::head::{Head, LayerName, predeclared};
 use crate::keyword::is_name;
 use crate::measured::{MeasuredType, TypeKind};
+use crate::predeclared::{LayerName, PredeclaredType, predeclared};
 use crate::scope::{Meaning, Scope};
 use std::str::FromStr;
 use wgsl_syntax::address::{AccessMode, AddressSpace};
@@ -17,35 +17,39 @@ use wgsl_syntax::texture_name::{TextureName, TextureParameterKind, TextureParame
 
 impl<'t> Scope<'t> {
     /// What a predeclared name of a type stands for. A module has no name for some types that spellings have.
-    pub fn head(&self, name: &str) -> Result<Head, Cause> {
-        let Some(head) = predeclared(name) else {
+    pub fn predeclared_type(&self, name: &str) -> Result<PredeclaredType, Cause> {
+        let Some(named) = predeclared(name) else {
             return Err(unknown_type(name));
         };
         let is_spelled_alone = matches!(
-            head,
-            Head::Scalar(Scalar::AbstractInt | Scalar::AbstractFloat)
-                | Head::Layer(LayerName::Reference)
+            named,
+            PredeclaredType::Scalar(Scalar::AbstractInt | Scalar::AbstractFloat)
+                | PredeclaredType::Layer(LayerName::Reference)
         );
         if is_spelled_alone {
             Err(unknown_type(name))
-        } else if head.is_half() && !self.extensions.half {
+        } else if named.is_half() && !self.extensions.half {
             Err(Cause::NoHalf)
         } else {
-            Ok(head)
+            Ok(named)
         }
     }
 
     /// Reads a type that contains no other type, after its name.
-    pub fn read_leaf(&self, cursor: &mut Cursor<'t>, head: Head) -> Result<MeasuredType, Stop>
+    pub fn read_leaf(
+        &self,
+        cursor: &mut Cursor<'t>,
+        named: PredeclaredType,
+    ) -> Result<MeasuredType, Stop>
         ensures goes_on { GoesOn cursor.old cursor.new }
     {
-        let kind = match head {
-            Head::Scalar(scalar) => return Ok(MeasuredType::scalar(scalar)),
-            Head::Vec(n, scalar) => return Ok(MeasuredType::vector(n, scalar)),
-            Head::Mat(c, r, scalar) => return Ok(MeasuredType::matrix(c, r, scalar)),
-            Head::Sampler(sampler) => TypeKind::Sampler(sampler),
-            Head::Texture(name) => TypeKind::Texture(self.read_texture(cursor, name)?),
-            Head::RayQuery => TypeKind::RayQuery(self.read_flag(cursor)?),
+        let kind = match named {
+            PredeclaredType::Scalar(scalar) => return Ok(MeasuredType::scalar(scalar)),
+            PredeclaredType::Vec(n, scalar) => return Ok(MeasuredType::vector(n, scalar)),
+            PredeclaredType::Mat(c, r, scalar) => return Ok(MeasuredType::matrix(c, r, scalar)),
+            PredeclaredType::Sampler(sampler) => TypeKind::Sampler(sampler),
+            PredeclaredType::Texture(name) => TypeKind::Texture(self.read_texture(cursor, name)?),
+            PredeclaredType::RayQuery => TypeKind::RayQuery(self.read_flag(cursor)?),
             _ => TypeKind::AccelerationStructure(self.read_flag(cursor)?),
         };
         Ok(MeasuredType::resource(kind))

@@ -4,9 +4,9 @@ ghost use Rattle.wgsl_source.specs.Cursor.{GoesOn};
 use crate::cursor::Cursor;
 use crate::expression::LEVELS;
 use crate::fault::{Cause, Expected, Stop};
-use crate::head::{Head, LayerName, predeclared};
 use crate::keyword::is_name;
 use crate::leaf::space_named;
+use crate::predeclared::{LayerName, PredeclaredType, predeclared};
 use crate::scope::{Extensions, Scope};
 use crate::tokens::token::tokens;
 use std::alloc::Global;
@@ -38,8 +38,8 @@ impl<'t> Scope<'t> {
         let at = cursor.index();
         let name = cursor.take_word(Expected::Type)?;
         match predeclared(name) {
-            Some(Head::Layer(layer)) => self.read_spelled_layer(cursor, layer, depth),
-            Some(head) => self.read_spelled_leaf(cursor, head),
+            Some(PredeclaredType::Layer(layer)) => self.read_spelled_layer(cursor, layer, depth),
+            Some(named) => self.read_spelled_leaf(cursor, named),
             None if is_name(name) => Err(Stop::at(at, Cause::UnknownName)),
             None => Err(Stop::at(at, Cause::Expected(Expected::Type))),
         }
@@ -93,16 +93,25 @@ impl<'t> Scope<'t> {
     }
 
     /// Reads a type that contains no other type, after its name.
-    fn read_spelled_leaf(&self, cursor: &mut Cursor<'t>, head: Head) -> Result<Type, Stop>
+    fn read_spelled_leaf(
+        &self,
+        cursor: &mut Cursor<'t>,
+        named: PredeclaredType,
+    ) -> Result<Type, Stop>
         ensures goes_on { GoesOn cursor.old cursor.new }
     {
-        match head {
-            Head::Scalar(scalar) => Ok(Type::from(scalar)),
-            Head::Vec(n, scalar) => Ok(Type::vector(self.alloc, n, Type::from(scalar))?),
-            Head::Mat(c, r, scalar) => Ok(Type::matrix(self.alloc, c, r, Type::from(scalar))?),
-            Head::Sampler(sampler) => Ok(Type::Sampler(sampler)),
-            Head::Texture(name) => Ok(Type::Texture(self.read_texture(cursor, name)?)),
-            Head::RayQuery => Ok(Type::RayQuery(self.read_flag(cursor)?)),
+        match named {
+            PredeclaredType::Scalar(scalar) => Ok(Type::from(scalar)),
+            PredeclaredType::Vec(n, scalar) => Ok(Type::vector(self.alloc, n, Type::from(scalar))?),
+            PredeclaredType::Mat(c, r, scalar) => Ok(Type::matrix(
+                self.alloc,
+                c,
+                r,
+                Type::from(scalar),
+            )?),
+            PredeclaredType::Sampler(sampler) => Ok(Type::Sampler(sampler)),
+            PredeclaredType::Texture(name) => Ok(Type::Texture(self.read_texture(cursor, name)?)),
+            PredeclaredType::RayQuery => Ok(Type::RayQuery(self.read_flag(cursor)?)),
             _ => Ok(Type::AccelerationStructure(self.read_flag(cursor)?)),
         }
     }

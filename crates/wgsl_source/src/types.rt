@@ -5,9 +5,9 @@ use crate::check::element_fault;
 use crate::cursor::Cursor;
 use crate::expression::{LEVELS, Site, Value};
 use crate::fault::{Cause, Expected, Fault, Stop};
-use crate::head::{Head, LayerName};
 use crate::leaf::space_named;
 use crate::measured::{Count, MeasuredType, TypeKind};
+use crate::predeclared::{LayerName, PredeclaredType};
 use crate::scope::{Meaning, Scope};
 use wgsl_syntax::address::AddressSpace;
 
@@ -69,16 +69,16 @@ impl<'t> Scope<'t> {
         if let Some(meaning) = self.meaning(name) {
             return declared_type(meaning, at, depth);
         }
-        let head = match self.head(name) {
-            Ok(head) => head,
+        let named = match self.predeclared_type(name) {
+            Ok(named) => named,
             Err(cause) => return Err(Stop::at(at, cause)),
         };
-        if head.is_naga_only() && !self.extensions.naga {
+        if named.is_naga_only() && !self.extensions.naga {
             types.note(at)?;
         }
-        match head {
-            Head::Layer(layer) => self.read_layer(types, cursor, layer, at, depth),
-            _ => self.read_leaf(cursor, head),
+        match named {
+            PredeclaredType::Layer(layer) => self.read_layer(types, cursor, layer, at, depth),
+            _ => self.read_leaf(cursor, named),
         }
     }
 

@@ -24,7 +24,7 @@ pub struct Variable<'t> {
 
 /// What is known of a variable when its type is read.
 #[derive(Clone, Copy)]
-struct Head<'t> {
+struct UntypedVariable<'t> {
     name: &'t str,
     place: usize,
     attributes: Attributes,
@@ -41,23 +41,23 @@ impl<'t> Scope<'t> {
     ) -> Result<Option<Variable<'t>>, Stop>
         ensures goes_on { GoesOn cursor.old cursor.new }
     {
-        let head = self.read_variable_head(types, cursor)?;
+        let variable = self.read_untyped(types, cursor)?;
         let mut ty = None;
         if cursor.take(b':') {
-            ty = Some(self.read_stored_type(types, cursor, head.space)?);
+            ty = Some(self.read_stored_type(types, cursor, variable.space)?);
         }
         let at = cursor.index();
         let has_value = cursor.take(b'=');
-        if has_value && head.space != AddressSpace::Private {
+        if has_value && variable.space != AddressSpace::Private {
             return Err(Stop::at(at, Cause::NoInitializer));
         }
         if !has_value && !cursor.is_at(b';') {
             return Err(cursor.expected(Expected::Sign(b';')));
         }
         match ty {
-            None if !has_value => Err(Stop::at(head.place, Cause::NoType)),
+            None if !has_value => Err(Stop::at(variable.place, Cause::NoType)),
             None => Ok(None),
-            Some(ty) => Ok(Some(variable_of(head, ty))),
+            Some(ty) => Ok(Some(variable_of(variable, ty))),
         }
     }
 
@@ -80,11 +80,11 @@ impl<'t> Scope<'t> {
         }
     }
 
-    fn read_variable_head(
+    fn read_untyped(
         &self,
         types: &mut Types,
         cursor: &mut Cursor<'t>,
-    ) -> Result<Head<'t>, Stop>
+    ) -> Result<UntypedVariable<'t>, Stop>
         ensures goes_on { GoesOn cursor.old cursor.new }
     {
         let attributes = self.read_attributes(cursor, Owner::Variable)?;
@@ -92,7 +92,7 @@ impl<'t> Scope<'t> {
         let (space, access) = self.read_qualifiers(types, cursor)?;
         let place = cursor.index();
         let name = cursor.name(Expected::Name)?;
-        Ok(Head {
+        Ok(UntypedVariable {
             name,
             place,
             attributes,
@@ -131,14 +131,14 @@ impl<'t> Scope<'t> {
     }
 }
 
-fn variable_of<'t>(head: Head<'t>, ty: MeasuredType) -> Variable<'t> {
+fn variable_of<'t>(variable: UntypedVariable<'t>, ty: MeasuredType) -> Variable<'t> {
     Variable {
-        name: head.name,
-        place: head.place,
-        group: head.attributes.group,
-        binding: head.attributes.binding,
-        space: head.space,
-        access: head.access,
+        name: variable.name,
+        place: variable.place,
+        group: variable.attributes.group,
+        binding: variable.attributes.binding,
+        space: variable.space,
+        access: variable.access,
         ty,
     }
 }

@@ -1,7 +1,7 @@
 use Rattle.std.proofs.Common.{◌≡◌, sym, subst, arith}
 use Rattle.std.specs.Int.{◌∣◌}
 use Rattle.std.proofs.lemmas.Grind.{common_steps}
-use Rattle.wgsl_report.proofs.spaces.Divides.{divides_zero, divides_other}
+use Rattle.wgsl_report.proofs.Divides.{divides_zero, divides_other}
 use Rattle.wgsl_report.proofs.spaces.layout.divides.Goals as goal
 
 pub returns-then-divisor-eq0 : goal.returns-then-divisor-eq0

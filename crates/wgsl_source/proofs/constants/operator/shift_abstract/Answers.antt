@@ -1,5 +1,5 @@
 use Rattle.std.proofs.Common.{ap, inl, inr, refl, of_z, w64}
-use Rattle.wgsl_source.proofs.constants.Shifted.{too_large}
+use Rattle.wgsl_source.proofs.Shifted.{too_large}
 use Rattle.wgsl_source.proofs.constants.operator.shift_abstract.Goals as goal
 
 pub returns-else-value-eqminus1 : goal.returns-else-value-eqminus1

@@ -1,6 +1,6 @@
 use Rattle.std.proofs.Common.{◌≡◌, to_z, of_z, w64, arith}
 use Rattle.std.proofs.lemmas.Int.{to_z-of_z}
-use Rattle.wgsl_source.proofs.constants.Shifted.{far_above, far_below}
+use Rattle.wgsl_source.proofs.Shifted.{far_above, far_below}
 use Rattle.wgsl_source.proofs.constants.operator.shift_down.Goals as goal
 
 pub returns-then-value-lt0 : goal.returns-then-value-lt0

@@ -1,6 +1,6 @@
 use Rattle.std.proofs.Common.{◌≡◌, ◌∙◌, ◌^◌, pos, to_z, of_z, w32, w64, FitsSigned}
 use Rattle.std.proofs.lemmas.Int.{to_z-of_z}
-use Rattle.wgsl_source.proofs.constants.Shifted.{fits}
+use Rattle.wgsl_source.proofs.Shifted.{fits}
 use Rattle.wgsl_source.proofs.constants.operator.shift_i32.Goals as goal
 
 pub overflow_mul-from : goal.overflow_mul-from

@@ -9,7 +9,7 @@ use wgsl_syntax::texture_name::{TextureName, texture_named};
 
 /// What a predeclared name of a type stands for.
 #[derive(Clone, Copy)]
-pub enum Head {
+pub enum PredeclaredType {
     Scalar(Scalar),
     /// `vec3f`
     Vec(u8, Scalar),
@@ -23,13 +23,13 @@ pub enum Head {
     Layer(LayerName),
 }
 
-impl Head {
+impl PredeclaredType {
     /// Whether the type is one of half precision.
     pub fn is_half(self) -> bool {
         match self {
-            Head::Scalar(scalar) | Head::Vec(_, scalar) | Head::Mat(_, _, scalar) => {
-                scalar == Scalar::F16
-            }
+            PredeclaredType::Scalar(scalar)
+            | PredeclaredType::Vec(_, scalar)
+            | PredeclaredType::Mat(_, _, scalar) => { scalar == Scalar::F16 }
             _ => false,
         }
     }
@@ -38,10 +38,10 @@ impl Head {
     pub fn is_naga_only(self) -> bool {
         matches!(
             self,
-            Head::Scalar(Scalar::I64 | Scalar::U64 | Scalar::F64)
-                | Head::RayQuery
-                | Head::AccelerationStructure
-                | Head::Layer(LayerName::BindingArray)
+            PredeclaredType::Scalar(Scalar::I64 | Scalar::U64 | Scalar::F64)
+                | PredeclaredType::RayQuery
+                | PredeclaredType::AccelerationStructure
+                | PredeclaredType::Layer(LayerName::BindingArray)
         )
     }
 }
@@ -84,54 +84,58 @@ impl LayerName {
 }
 
 /// What this name stands for, if it is predeclared for a type.
-pub fn predeclared(name: &str) -> Option<Head> {
+pub fn predeclared(name: &str) -> Option<PredeclaredType> {
     if let Ok(scalar) = Scalar::from_str(name) {
-        return Some(Head::Scalar(scalar));
+        return Some(PredeclaredType::Scalar(scalar));
     }
     match texture_named(name) {
-        Some(texture) => Some(Head::Texture(texture)),
-        None => other_head(name),
+        Some(texture) => Some(PredeclaredType::Texture(texture)),
+        None => other_type(name),
     }
 }
 
 /// What a name stands for that is a vector's or a matrix's, or has no number in it.
-fn other_head(name: &str) -> Option<Head> {
+fn other_type(name: &str) -> Option<PredeclaredType> {
     if let Some(rest) = name.strip_prefix("vec") {
-        vector_head(rest.as_bytes())
+        vector_type(rest.as_bytes())
     } else if let Some(rest) = name.strip_prefix("mat") {
-        matrix_head(rest.as_bytes())
+        matrix_type(rest.as_bytes())
     } else {
-        named_head(name)
+        named_type(name)
     }
 }
 
-fn named_head(name: &str) -> Option<Head> {
+fn named_type(name: &str) -> Option<PredeclaredType> {
     match name {
-        "array" => Some(Head::Layer(LayerName::Array)),
-        "atomic" => Some(Head::Layer(LayerName::Atomic)),
-        "ptr" => Some(Head::Layer(LayerName::Pointer)),
-        "ref" => Some(Head::Layer(LayerName::Reference)),
-        "binding_array" => Some(Head::Layer(LayerName::BindingArray)),
-        "sampler" => Some(Head::Sampler(SamplerType::Sampler)),
-        "sampler_comparison" => Some(Head::Sampler(SamplerType::SamplerComparison)),
-        "ray_query" => Some(Head::RayQuery),
-        "acceleration_structure" => Some(Head::AccelerationStructure),
+        "array" => Some(PredeclaredType::Layer(LayerName::Array)),
+        "atomic" => Some(PredeclaredType::Layer(LayerName::Atomic)),
+        "ptr" => Some(PredeclaredType::Layer(LayerName::Pointer)),
+        "ref" => Some(PredeclaredType::Layer(LayerName::Reference)),
+        "binding_array" => Some(PredeclaredType::Layer(LayerName::BindingArray)),
+        "sampler" => Some(PredeclaredType::Sampler(SamplerType::Sampler)),
+        "sampler_comparison" => Some(PredeclaredType::Sampler(SamplerType::SamplerComparison)),
+        "ray_query" => Some(PredeclaredType::RayQuery),
+        "acceleration_structure" => Some(PredeclaredType::AccelerationStructure),
         _ => None,
     }
 }
 
-fn vector_head(rest: &[u8]) -> Option<Head> {
+fn vector_type(rest: &[u8]) -> Option<PredeclaredType> {
     match rest {
-        [n] => Some(Head::Layer(LayerName::Vec(count(*n)?))),
-        [n, letter] => Some(Head::Vec(count(*n)?, short_scalar(*letter)?)),
+        [n] => Some(PredeclaredType::Layer(LayerName::Vec(count(*n)?))),
+        [n, letter] => Some(PredeclaredType::Vec(count(*n)?, short_scalar(*letter)?)),
         _ => None,
     }
 }
 
-fn matrix_head(rest: &[u8]) -> Option<Head> {
+fn matrix_type(rest: &[u8]) -> Option<PredeclaredType> {
     match rest {
-        [c, b'x', r] => Some(Head::Layer(LayerName::Mat(count(*c)?, count(*r)?))),
-        [c, b'x', r, letter] => Some(Head::Mat(count(*c)?, count(*r)?, short_float(*letter)?)),
+        [c, b'x', r] => Some(PredeclaredType::Layer(LayerName::Mat(count(*c)?, count(*r)?))),
+        [c, b'x', r, letter] => Some(PredeclaredType::Mat(
+            count(*c)?,
+            count(*r)?,
+            short_float(*letter)?,
+        )),
         _ => None,
     }
 }
