@@ -23,7 +23,7 @@ use Rattle.wgsl_syntax.specs.declared.around.Around.TheVariants as arounds
 use Rattle.wgsl_rules.specs.types.Around.{around}
 use Rattle.wgsl_syntax.specs.declared.attribute.AccelerationStructureFlags.{AccelerationStructureFlags}
 use Rattle.wgsl_text.specs.spelling.Spells.{Spells}
-use Rattle.wgsl_text.proofs.spelling.Single.{one_spelled}
+use Rattle.wgsl_text.proofs.spellings.Single.{one_spelled}
 use Rattle.wgsl_text.specs.Grammar.{FlagAt, IsFlag, LayerAt, LeafAt, TypeAt, acceleration_structure_at, array_at, atomic_at, binding_array_at, flag_at, layer_at, leaf_at, mat_at, no_flag_at, ptr_at, ray_query_at, ref_at, sampler_at, scalar_at, spelled_at, struct_at, TextureListAt, texture_at, vec_at}
 use Rattle.wgsl_text.specs.Numbers.{IsCount, IsSmall}
 use Rattle.wgsl_text.specs.Reading.{Beginning, IsText, NoneAt, OneWord, Then}

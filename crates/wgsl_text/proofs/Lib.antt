@@ -33,4 +33,4 @@ pub mod TemplateReads
 pub mod Textures
 pub mod TypeLists
 pub mod Written
-pub mod spelling
+pub mod spellings

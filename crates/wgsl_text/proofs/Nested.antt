@@ -23,7 +23,7 @@ use Rattle.wgsl_text.proofs.Readers.{answers_by}
 use Rattle.wgsl_text.proofs.Meanings.{here, into_here, into_past, named_none, not_eq, past, past_option}
 use Rattle.wgsl_text.proofs.Forms.{form, layer_both, one_layer}
 use Rattle.wgsl_text.specs.spelling.internal.{wrapped}
-use Rattle.wgsl_text.proofs.spelling.Wrapped.{wrapped-last}
+use Rattle.wgsl_text.proofs.spellings.Wrapped.{wrapped-last}
 use Rattle.wgsl_text.proofs.SpelledKeys.{no_layer_word}
 use Rattle.wgsl_text.specs.declared.rules.RuleSet.{RuleSet}
 

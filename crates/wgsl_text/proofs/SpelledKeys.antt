@@ -9,7 +9,7 @@ use Rattle.wgsl_syntax.specs.declared.scalar.Scalar.{Scalar}
 use Rattle.wgsl_syntax.specs.declared.scalar.Scalar.TheVariants.{Bool as BoolScalar}
 use Rattle.wgsl_syntax.specs.declared.texture.SamplerType.{SamplerType}
 use Rattle.wgsl_syntax.specs.declared.texture.SamplerType.TheVariants.{Sampler}
-use Rattle.wgsl_text.proofs.spelling.Cuts.{either_false}
+use Rattle.wgsl_text.proofs.spellings.Cuts.{either_false}
 use Rattle.wgsl_text.specs.Spelled.{is_spelled}
 use Rattle.wgsl_text.specs.internal.Layers.{is_layer_word, layer_words}
 use Rattle.wgsl_text.proofs.Meanings.{named_none, not_eq}

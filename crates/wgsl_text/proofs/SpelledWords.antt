@@ -38,12 +38,12 @@ use Rattle.wgsl_rules.specs.types.Types.{WgslType, scalar, sampler, texture, ray
 use Rattle.wgsl_text.specs.spelling.Spells.{IsInRange, Spells, acceleration_structure_is, alias_is, alias_of, around_is, list_of, name_of, ray_query_is, sampler_is, scalar_is, texture_is, with_list}
 use Rattle.wgsl_text.specs.spelling.Written.{IsWritable}
 use Rattle.wgsl_text.specs.spelling.internal.{AreListedBy, Lacks}
-use Rattle.wgsl_text.proofs.spelling.Cuts.{has, lacks_append, lacks_by}
-use Rattle.wgsl_text.proofs.spelling.Inverted.{flag_spelled}
-use Rattle.wgsl_text.proofs.spelling.Lists.{alias_lacks}
-use Rattle.wgsl_text.proofs.spelling.Spellings.{spells_spelling}
-use Rattle.wgsl_text.proofs.spelling.Textures.{texture_alone, texture_listed}
-use Rattle.wgsl_text.proofs.spelling.Written.{lacks_decimal}
+use Rattle.wgsl_text.proofs.spellings.Cuts.{has, lacks_append, lacks_by}
+use Rattle.wgsl_text.proofs.spellings.Inverted.{flag_spelled}
+use Rattle.wgsl_text.proofs.spellings.Lists.{alias_lacks}
+use Rattle.wgsl_text.proofs.spellings.Spellings.{spells_spelling}
+use Rattle.wgsl_text.proofs.spellings.Textures.{texture_alone, texture_listed}
+use Rattle.wgsl_text.proofs.spellings.Written.{lacks_decimal}
 use Rattle.wgsl_text.specs.Grammar.{IsFlag, TextureListAt, TypeAt, acceleration_structure_at, leaf_at, no_flag_at, ray_query_at, sampler_at, scalar_at, spelled_at, texture_at}
 use Rattle.wgsl_text.specs.Reading.{NoneAt, OneWord}
 use Rattle.wgsl_text.specs.Spelled.{after_run, ends_in_comma, has_list, is_alias, is_spelled, run, spaced, spaced_byte}

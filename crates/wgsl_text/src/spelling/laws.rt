@@ -7,13 +7,13 @@ ghost use Rattle.wgsl_text.specs.spelling.Spells.{Spells};
 ghost use Rattle.wgsl_text.specs.spelling.Written.{IsWritable};
 
 /// The text that a type without a struct prints spells that type, by WGSL's names of texel formats and by naga's.
-#[tactic(auto, using(crate::proofs::spelling::Spellings::spells_spelling))]
+#[tactic(auto, using(crate::proofs::spellings::Spellings::spells_spelling))]
 pub fn spelled_as_written()
     ensures { (names : FormatNames) (t : WgslType) → IsWritable t → Spells (spelling_by names t) t }
 {}
 
 /// A text spells at most one type.
-#[tactic(auto, using(crate::proofs::spelling::Single::one_spelled))]
+#[tactic(auto, using(crate::proofs::spellings::Single::one_spelled))]
 pub fn one_spelled()
     ensures { (text : List ℕ) (t u : WgslType) → Spells text t → Spells text u → t ≡ u }
 {}

@@ -1,6 +1,6 @@
 use Rattle.std.proofs.Common.{◌≡◌, ◌++◌, codes, string_bytes, arith, rules}
 use Rattle.std.proofs.lemmas.Str.Pattern.{split_parts}
-use Rattle.wgsl_text.proofs.spelling.Cuts.{lacks_of, none_of, some_of}
+use Rattle.wgsl_text.proofs.spellings.Cuts.{lacks_of, none_of, some_of}
 use Rattle.wgsl_text.proofs.Runs.{pushed, pushed_last}
 use Rattle.wgsl_text.proofs.spelled.push_spaced.Goals as goal
 

@@ -1,4 +1,4 @@
-use Rattle.wgsl_text.proofs.spelling.Lists.{counted_alone, counted_no_number, counted_some}
+use Rattle.wgsl_text.proofs.spellings.Lists.{counted_alone, counted_no_number, counted_some}
 use Rattle.wgsl_text.proofs.spelling.list.counted.Goals as goal
 
 pub returns-in-Some-number : goal.returns-in-Some-number

@@ -1,7 +1,7 @@
 use Rattle.std.proofs.Common.{arith}
 use Rattle.std.proofs.lemmas.Str.Pattern.{split_parts, strip_suffix_char}
 use Rattle.wgsl_text.specs.spelling.internal.{AtList}
-use Rattle.wgsl_text.proofs.spelling.Cuts.{at_list, lacks_of, no_end, no_list, no_parts, none_of, some_of}
+use Rattle.wgsl_text.proofs.spellings.Cuts.{at_list, lacks_of, no_end, no_list, no_parts, none_of, some_of}
 use Rattle.wgsl_text.proofs.spelling.list.cut.Goals as goal
 
 pub returns-in_err-name : goal.returns-in_err-name

@@ -1,7 +1,7 @@
 use Rattle.std.proofs.Common.{◌∙◌, ◌++◌, ◌∷◌, ap, arith}
 use Rattle.std.proofs.lemmas.Str.Pattern.{split_parts, strip_prefix_char}
 use Rattle.wgsl_text.specs.spelling.internal.{AtFirst}
-use Rattle.wgsl_text.proofs.spelling.Cuts.{lacks_of, no_comma, no_first_space, no_parts, none_of, some_of}
+use Rattle.wgsl_text.proofs.spellings.Cuts.{lacks_of, no_comma, no_first_space, no_parts, none_of, some_of}
 use Rattle.wgsl_text.proofs.spelling.list.first.Goals as goal
 
 pub returns-in_err-before : goal.returns-in_err-before

@@ -2,7 +2,7 @@ use native.Mathlib.Numerals.{unary_clauses}
 use Rattle.std.proofs.Common.{◌∙◌, ◌++◌, ◌∷◌, ap, arith, subst}
 use Rattle.std.proofs.lemmas.Str.Pattern.{rfind_char, strip_prefix_char}
 use Rattle.wgsl_text.specs.spelling.internal.{AtLast, Lacks}
-use Rattle.wgsl_text.proofs.spelling.Cuts.{lacks_after, lacks_of, no_comma, no_last_space, no_parts, none_of, some_of, split_at}
+use Rattle.wgsl_text.proofs.spellings.Cuts.{lacks_after, lacks_of, no_comma, no_last_space, no_parts, none_of, some_of, split_at}
 use Rattle.wgsl_text.proofs.spelling.list.last.Goals as goal
 
 pub returns-in_err-at : goal.returns-in_err-at

@@ -1,4 +1,4 @@
-use Rattle.wgsl_text.proofs.spelling.Sides.{pointer_alone, reference_alone, sides_alone}
+use Rattle.wgsl_text.proofs.spellings.Sides.{pointer_alone, reference_alone, sides_alone}
 use Rattle.wgsl_text.proofs.spelling.list.layer_around.Goals as goal
 
 pub returns-in_ok-space-in-ptr : goal.returns-in_ok-space-in-ptr

@@ -1,6 +1,6 @@
 use Rattle.std.specs.Result.{result_ok}
 use Rattle.std.proofs.Common.{◌∙◌, ap, sym}
-use Rattle.wgsl_text.proofs.spelling.Lists.{no_access, no_memory, no_memory_of, no_space}
+use Rattle.wgsl_text.proofs.spellings.Lists.{no_access, no_memory, no_memory_of, no_space}
 use Rattle.wgsl_text.proofs.spelling.list.memory.Goals as goal
 
 pub returns-in_err-inner : goal.returns-in_err-inner

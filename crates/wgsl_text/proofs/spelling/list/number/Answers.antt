@@ -1,6 +1,6 @@
 use Rattle.std.proofs.Common.{subst, sym, ◌∙◌}
 use Rattle.wgsl_text.specs.spelling.internal.{BeginsAsNumber, NumberOf}
-use Rattle.wgsl_text.proofs.spelling.Written.{no_number, number_is}
+use Rattle.wgsl_text.proofs.spellings.Written.{no_number, number_is}
 use Rattle.wgsl_text.proofs.spelling.list.number.Goals as goal
 
 pub returns-then-begins_as_number : goal.returns-then-begins_as_number

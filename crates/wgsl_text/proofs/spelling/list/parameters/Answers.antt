@@ -1,5 +1,5 @@
-use Rattle.wgsl_text.proofs.spelling.Cuts.{none_is}
-use Rattle.wgsl_text.proofs.spelling.Textures.{no_storage}
+use Rattle.wgsl_text.proofs.spellings.Cuts.{none_is}
+use Rattle.wgsl_text.proofs.spellings.Textures.{no_storage}
 use Rattle.wgsl_text.proofs.spelling.list.parameters.Goals as goal
 
 pub returns-in_err-format-in-Storage : goal.returns-in_err-format-in-Storage

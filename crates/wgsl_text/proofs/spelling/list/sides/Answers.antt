@@ -1,7 +1,7 @@
 use Rattle.std.proofs.Common.{◌≡◌, ◌++◌, arith, codes, rules}
 use Rattle.std.proofs.lemmas.Str.Pattern.{split_parts}
-use Rattle.wgsl_text.proofs.spelling.Cuts.{lacks_of, none_of, some_of}
-use Rattle.wgsl_text.proofs.spelling.Sides.{matrix_only, no_columns, no_rows, no_sides, without_x}
+use Rattle.wgsl_text.proofs.spellings.Cuts.{lacks_of, none_of, some_of}
+use Rattle.wgsl_text.proofs.spellings.Sides.{matrix_only, no_columns, no_rows, no_sides, without_x}
 use Rattle.wgsl_text.proofs.spelling.list.sides.Goals as goal
 
 pub returns-in_err-columns : goal.returns-in_err-columns

@@ -1,6 +1,6 @@
 use Rattle.std.proofs.Common.{subst, sym}
 use Rattle.wgsl_text.specs.spelling.internal.{NumberOf}
-use Rattle.wgsl_text.proofs.spelling.Written.{small_is}
+use Rattle.wgsl_text.proofs.spellings.Written.{small_is}
 use Rattle.wgsl_text.proofs.spelling.list.small.Goals as goal
 
 pub returns : goal.returns

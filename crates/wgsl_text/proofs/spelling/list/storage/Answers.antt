@@ -1,7 +1,7 @@
 use Rattle.std.proofs.Common.{◌∙◌, ap, sym}
 use Rattle.std.specs.Result.{result_ok}
-use Rattle.wgsl_text.proofs.spelling.Cuts.{none_is}
-use Rattle.wgsl_text.proofs.spelling.Textures.{no_format, no_mode}
+use Rattle.wgsl_text.proofs.spellings.Cuts.{none_is}
+use Rattle.wgsl_text.proofs.spellings.Textures.{no_format, no_mode}
 use Rattle.wgsl_text.proofs.spelling.list.storage.Goals as goal
 
 pub returns-in_err-format-2 : goal.returns-in_err-format-2

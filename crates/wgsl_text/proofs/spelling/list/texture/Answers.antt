@@ -4,8 +4,8 @@ use Rattle.wgsl_syntax.specs.Texture.{texture_name}
 use Rattle.wgsl_syntax.specs.TextureName.{parameters_of, texture_name_text}
 use Rattle.wgsl_syntax.specs.declared.texture.TextureType.{TextureType}
 use Rattle.wgsl_text.specs.spelling.internal.{AreListed}
-use Rattle.wgsl_text.proofs.spelling.Cuts.{none_is}
-use Rattle.wgsl_text.proofs.spelling.Textures.{no_listed, texture_found}
+use Rattle.wgsl_text.proofs.spellings.Cuts.{none_is}
+use Rattle.wgsl_text.proofs.spellings.Textures.{no_listed, texture_found}
 use Rattle.wgsl_text.proofs.spelling.list.texture.Goals as goal
 
 pub returns-in_err-parameters : goal.returns-in_err-parameters

@@ -1,4 +1,4 @@
-use Rattle.wgsl_text.proofs.spelling.Results.{leaf_list, leaf_plain}
+use Rattle.wgsl_text.proofs.spellings.Results.{leaf_list, leaf_plain}
 use Rattle.wgsl_text.proofs.spelling.spelled.leaf.Goals as goal
 
 pub returns-in-Some : goal.returns-in-Some

@@ -1,4 +1,4 @@
-use Rattle.wgsl_text.proofs.spelling.Results.{alias_shorter, list_shorter, outer_alias, outer_list}
+use Rattle.wgsl_text.proofs.spellings.Results.{alias_shorter, list_shorter, outer_alias, outer_list}
 use Rattle.wgsl_text.proofs.spelling.spelled.outer.Goals as goal
 
 pub returns-in-Some-clause-outer : goal.returns-in-Some-clause-outer

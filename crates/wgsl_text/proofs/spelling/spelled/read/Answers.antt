@@ -1,7 +1,7 @@
 use Rattle.std.proofs.Common.{◌≡◌, ◌++◌, ◌∷◌, [], IsUtf8, rules}
 use Rattle.wgsl_core.specs.View.{view}
 use Rattle.wgsl_text.specs.spelling.internal.{wrapped}
-use Rattle.wgsl_text.proofs.spelling.Results.{unfolds_leaf, unfolds_more, unfolds_none, unfolds_start}
+use Rattle.wgsl_text.proofs.spellings.Results.{unfolds_leaf, unfolds_more, unfolds_none, unfolds_start}
 use Rattle.wgsl_text.proofs.spelling.spelled.read.Goals as goal
 
 pub loop-layer-init : goal.loop-layer-init

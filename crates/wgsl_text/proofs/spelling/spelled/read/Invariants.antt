@@ -1,5 +1,5 @@
 use Rattle.std.proofs.Common.{IsUtf8, length}
-use Rattle.wgsl_text.proofs.spelling.Results.{Unfolds}
+use Rattle.wgsl_text.proofs.spellings.Results.{Unfolds}
 use Rattle.wgsl_text.proofs.spelling.spelled.read.Given as goal
 
 -- what the whole text spells is what is left of it, inside the layers so far

@@ -2,7 +2,7 @@ use Rattle.std.proofs.Common.{◌≡◌, ◌-◌, ap, arith, sym, ◌∙◌, tak
 use Rattle.wgsl_rules.specs.types.Around.{around}
 use Rattle.wgsl_core.specs.View.{view}
 use Rattle.wgsl_text.specs.spelling.internal.{wrapped}
-use Rattle.wgsl_text.proofs.spelling.Wrapped.{wrapped-take}
+use Rattle.wgsl_text.proofs.spellings.Wrapped.{wrapped-take}
 use Rattle.wgsl_text.proofs.spelling.spelled.wrap.Goals as goal
 
 pub loop-left-preserved : goal.loop-left-preserved

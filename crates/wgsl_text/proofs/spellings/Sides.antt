@@ -10,9 +10,9 @@ use Rattle.wgsl_syntax.proofs.Naming.{access_naming, space_naming}
 use Rattle.wgsl_rules.specs.types.Types.{WgslType}
 use Rattle.wgsl_text.specs.spelling.Spells.{IsInRange, Spells, list_of, name_of}
 use Rattle.wgsl_text.specs.spelling.internal.{IsMemory, IsSides, IsWritten, LayerAt, Lacks, SidesOf}
-use Rattle.wgsl_text.proofs.spelling.Cuts.{cut_first, lacks_in}
-use Rattle.wgsl_text.proofs.spelling.Lists.{access_lacks, memory_first, memory_last, space_lacks}
-use Rattle.wgsl_text.proofs.spelling.Written.{lacks_decimal}
+use Rattle.wgsl_text.proofs.spellings.Cuts.{cut_first, lacks_in}
+use Rattle.wgsl_text.proofs.spellings.Lists.{access_lacks, memory_first, memory_last, space_lacks}
+use Rattle.wgsl_text.proofs.spellings.Written.{lacks_decimal}
 
 pub no_sides : (name : List ℕ) (r : Option Around) → r ≡ None → ((layer : Around) → IsSides layer → IsInRange layer → ¬ (name ≡ name_of layer)) → SidesOf name r
 no_sides name r e none = subst (SidesOf name) (sym e) none

@@ -24,8 +24,8 @@ use Rattle.wgsl_syntax.proofs.Texels.{one_texel}
 use Rattle.wgsl_syntax.proofs.Textures.{same_kind, texture_is}
 use Rattle.wgsl_text.specs.spelling.Spells.{with_list}
 use Rattle.wgsl_text.specs.spelling.internal.{AreListed, AreListedBy, AtFirst, AtList, Lacks}
-use Rattle.wgsl_text.proofs.spelling.Cuts.{cut_first, cut_last, has, lacks_by, no_list}
-use Rattle.wgsl_text.proofs.spelling.Lists.{tail_same}
+use Rattle.wgsl_text.proofs.spellings.Cuts.{cut_first, cut_last, has, lacks_by, no_list}
+use Rattle.wgsl_text.proofs.spellings.Lists.{tail_same}
 
 pub texel_has : (by : FormatNames) (f : TexelFormat) → has 44 (texel_text_by by f) ≡ false
 texel_has names.Wgsl texels.Rg11b10Float = refl

@@ -7,7 +7,7 @@ use Rattle.std.specs.Str.Parse.{AllDigits, ParsesUnsigned, digits_value}
 use Rattle.std.proofs.lemmas.Fmt.{decimal-digits_value, decimal_digit, decimal_injective, decimal_nonempty, digits_decimal, first_decimal, parse-decimal}
 use Rattle.std.proofs.lemmas.Str.Parse.{IsNumeralModel, not_in_digits, numerals_by_value, parse_plain, tells_digits}
 use Rattle.wgsl_text.specs.spelling.internal.{BeginsAsNumber, IsWritten, Lacks, NumberOf}
-use Rattle.wgsl_text.proofs.spelling.Cuts.{lacks_of}
+use Rattle.wgsl_text.proofs.spellings.Cuts.{lacks_of}
 
 own : IsNumeralModel (AllDigits 10) (digits_value 10)
 own = numerals_by_value (AllDigits 10) tells_digits

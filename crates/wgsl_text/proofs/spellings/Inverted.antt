@@ -20,11 +20,11 @@ use Rattle.wgsl_rules.specs.types.Spelling.{flagged}
 use Rattle.wgsl_rules.specs.types.Types.{WgslType, scalar, within, struct, atomic, pointer, reference, texture, sampler, binding_array, ray_query, acceleration_structure}
 use Rattle.wgsl_text.specs.spelling.Spells.{IsInRange, Spells, acceleration_structure_is, alias_of, alias_is, around_is, list_of, name_of, ray_query_is, sampler_is, scalar_is, texture_is, with_list}
 use Rattle.wgsl_text.specs.spelling.internal.{AtList, Lacks, LayerAt, LeafSpells, PlainSpells, SpellsAround}
-use Rattle.wgsl_text.proofs.spelling.Cuts.{has, lacks_append, lacks_by, no_list}
-use Rattle.wgsl_text.proofs.spelling.Lists.{alias_lacks}
-use Rattle.wgsl_text.proofs.spelling.Sides.{Alone, heads}
-use Rattle.wgsl_text.proofs.spelling.Textures.{list_once, texture_alone, texture_byte, texture_cut, texture_listed, texture_uncut}
-use Rattle.wgsl_text.proofs.spelling.Written.{lacks_decimal}
+use Rattle.wgsl_text.proofs.spellings.Cuts.{has, lacks_append, lacks_by, no_list}
+use Rattle.wgsl_text.proofs.spellings.Lists.{alias_lacks}
+use Rattle.wgsl_text.proofs.spellings.Sides.{Alone, heads}
+use Rattle.wgsl_text.proofs.spellings.Textures.{list_once, texture_alone, texture_byte, texture_cut, texture_listed, texture_uncut}
+use Rattle.wgsl_text.proofs.spellings.Written.{lacks_decimal}
 
 scalar_has : (s : Scalar) → has 60 (scalar_text s) ≡ false
 scalar_has scalars.Bool = refl

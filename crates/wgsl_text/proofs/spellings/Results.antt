@@ -16,8 +16,8 @@ use Rattle.wgsl_core.specs.View.{view}
 use Rattle.wgsl_core.specs.declared.ty.Type.{«Type»}
 use Rattle.wgsl_text.specs.spelling.Spells.{Spells, alias_of, aliases, found, list_of, with_list}
 use Rattle.wgsl_text.specs.spelling.internal.{AtList, LayerOf, LeafOf, LeafSpells, OuterOf, PlainSpells, SpellsAround, TypeOf, wrapped}
-use Rattle.wgsl_text.proofs.spelling.Wrapped.{wrapped-last}
-use Rattle.wgsl_text.proofs.spelling.Inverted.{alias_spells, layer_spells, leaf_spells, no_alias_spells, no_layer_spells, only_aliases, only_layers, pair_same, plain_spells}
+use Rattle.wgsl_text.proofs.spellings.Wrapped.{wrapped-last}
+use Rattle.wgsl_text.proofs.spellings.Inverted.{alias_spells, layer_spells, leaf_spells, no_alias_spells, no_layer_spells, only_aliases, only_layers, pair_same, plain_spells}
 
 pub outer_list : (text name list : List ℕ) → AtList text name list → (r : Option (Around × Bor (List ℕ))) → LayerOf name list r → OuterOf text r
 outer_list text name list at (Some x) is = layer_spells text name list at x.0 x.1.now is

@@ -30,8 +30,8 @@ use Rattle.wgsl_rules.specs.types.Spelling.{flagged}
 use Rattle.wgsl_rules.specs.types.Types.{WgslType}
 use Rattle.wgsl_text.specs.spelling.Spells.{Spells, alias_of, aliases, found, acceleration_structure_is, alias_is, around_is, counted_list, list_of, name_of, ray_query_is, sampler_is, scalar_is, texture_is}
 use Rattle.wgsl_text.specs.spelling.internal.{AtFirst, AtLast, CountFits, CountedOf, IsMemory, IsWritten, Lacks, MemoryOf}
-use Rattle.wgsl_text.proofs.spelling.Cuts.{cut_first, cut_last, either_false, has, lacks_append, lacks_by, lacks_in, no_such_end}
-use Rattle.wgsl_text.proofs.spelling.Written.{lacks_decimal}
+use Rattle.wgsl_text.proofs.spellings.Cuts.{cut_first, cut_last, either_false, has, lacks_append, lacks_by, lacks_in, no_such_end}
+use Rattle.wgsl_text.proofs.spellings.Written.{lacks_decimal}
 
 pub scalar_has : (s : Scalar) → has 44 (scalar_text s) ≡ false
 scalar_has scalars.Bool = refl

@@ -16,7 +16,7 @@ use Rattle.wgsl_rules.specs.types.Around.{around}
 use Rattle.wgsl_rules.specs.types.Types.{WgslType, scalar, within, struct, atomic, pointer, reference, texture, sampler, binding_array, ray_query, acceleration_structure}
 use Rattle.wgsl_text.specs.spelling.Spells.{IsInRange, Spells, acceleration_structure_is, alias_of, alias_is, around_is, list_of, name_of, ray_query_is, sampler_is, scalar_is, texture_is, with_list, counted_list}
 use Rattle.wgsl_text.specs.spelling.internal.{AreListedBy, AtList, CountFits, LayerAt, LeafSpells, PlainSpells}
-use Rattle.wgsl_text.proofs.spelling.Inverted.{InLayer, IsAlias, flag_spelled, leaf_name, name_lacks, sampler_has, pair_same, plain_no_alias, plain_spells, sampler_byte, scalar_only, with_cut, without_cut}
+use Rattle.wgsl_text.proofs.spellings.Inverted.{InLayer, IsAlias, flag_spelled, leaf_name, name_lacks, sampler_has, pair_same, plain_no_alias, plain_spells, sampler_byte, scalar_only, with_cut, without_cut}
 use Rattle.wgsl_syntax.specs.Address.{access_text}
 use Rattle.wgsl_syntax.specs.Texel.{texel_text_by}
 use Rattle.wgsl_syntax.specs.Texture.{sampled_text}
@@ -25,10 +25,10 @@ use Rattle.wgsl_syntax.specs.declared.texture_name.TextureParameters.{TexturePar
 use Rattle.wgsl_syntax.specs.declared.texture_name.TextureParameters.TheVariants as parameters
 use Rattle.wgsl_rules.specs.types.Spelling.{flagged}
 use Rattle.std.proofs.lemmas.Fmt.{decimal_injective}
-use Rattle.wgsl_text.proofs.spelling.Cuts.{cut_last, has, lacks_by, no_list}
-use Rattle.wgsl_text.proofs.spelling.Lists.{alias_lacks, no_count, spaced, tail_same}
-use Rattle.wgsl_text.proofs.spelling.Sides.{heads, pointer_alone, reference_alone, sides_alone}
-use Rattle.wgsl_text.proofs.spelling.Textures.{listed_one, texture_alone, texture_byte, texture_cut, texture_listed}
+use Rattle.wgsl_text.proofs.spellings.Cuts.{cut_last, has, lacks_by, no_list}
+use Rattle.wgsl_text.proofs.spellings.Lists.{alias_lacks, no_count, spaced, tail_same}
+use Rattle.wgsl_text.proofs.spellings.Sides.{heads, pointer_alone, reference_alone, sides_alone}
+use Rattle.wgsl_text.proofs.spellings.Textures.{listed_one, texture_alone, texture_byte, texture_cut, texture_listed}
 
 texture_same : (x y : TextureType) → texture_name_of x ≡ texture_name_of y → parameters_of x ≡ parameters_of y → x ≡ y
 texture_same x y named listed =
