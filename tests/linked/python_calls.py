@@ -96,6 +96,7 @@ def compare_aliases():
     same += [(f"mat{c}x{r}{s}", f"mat{c}x{r}<{SHORT[s]}>") for c in "234" for r in "234" for s in "fh"]
     same += [(" array<vec3f,4> ", "array<vec3<f32>, 4>"), ("ptr<function,i32>", "ptr<function, i32, read_write>")]
     same += [("ptr<storage, i32>", "ptr<storage, i32, read>"), ("ptr<private, vec2h>", "ptr<private, vec2<f16>, read_write>")]
+    same += [("array < vec3f , 4 >", "array<vec3<f32>, 4>"), ("ptr< function ,\tarray< i32 > >", "ptr<function, array<i32>, read_write>")]
     for alias, spelled in same:
         if wgsl.common([alias, spelled]) != spelled:
             wrong(f"{alias} is no {spelled}")
@@ -109,6 +110,8 @@ def compare_aliases():
             wrong(f"{wrong_type} has the size {wgsl.size(wrong_type)}")
         except wgsl.Unreadable:
             pass
+    if wgsl.size("struct Light 2 color - - vec3<f32> power - - f32") != (16, 16):
+        wrong("a struct in words has another size")
 
 
 def compare_source():
@@ -135,8 +138,11 @@ def compare_notes():
                 wrong(f"the notes are {raised.notes}")
 
 
-def compare_empty():
-    """A call without operands and without a value, and a name without overloads."""
+def compare_rare():
+    """A call with lists in its parameters, one without operands and without a value, and a name without overloads."""
+    atomic = "ptr<storage, atomic<u32>, read_write>"
+    if wgsl.resolve_call("atomicAdd", [atomic, "u32"]).parameters != (atomic, "u32"):
+        wrong("commas in lists separate parameters")
     found = wgsl.call("storageBarrier", iter([])), wgsl.resolve_call("storageBarrier", iter([])), wgsl.overloads("barrier")
     if found != (None, wgsl.Resolution(0, (), None), []):
         wrong(f"storageBarrier is {found[:2]}, and barrier has the overloads {found[2]}")
@@ -147,5 +153,5 @@ compare_types()
 compare_aliases()
 compare_source()
 compare_notes()
-compare_empty()
+compare_rare()
 print(f"{CALLED} calls, {PAIRS} ranks, {LISTS} common types, as requests in words answer")

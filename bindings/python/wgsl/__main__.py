@@ -1,20 +1,17 @@
 """`python -m wgsl`: answers requests, and prints the layouts of a WGSL file."""
+from __future__ import annotations
+
 import argparse
+import io
 import json
 import sys
-from typing import TextIO, cast
 
 try:
     from . import __version__
-    from .requests import RULES, answer_lines
+    from .requests import RULES, Refused, Unreadable, answer
     from .source import source_layout
 except ImportError as wrong:
     sys.exit(f"wgsl: {wrong}")
-
-
-def text_of(stream: TextIO, mode: str) -> TextIO:
-    """A stream as UTF-8. What is no UTF-8 passes as it is, and so do ends of lines."""
-    return cast(TextIO, open(stream.fileno(), mode, encoding="utf-8", errors="surrogateescape", newline="\n", closefd=False))
 
 
 def read_arguments() -> argparse.Namespace:
@@ -31,24 +28,29 @@ def read_arguments() -> argparse.Namespace:
     return parser.parse_args()
 
 
-def read_file(name: str) -> bytes:
-    if name == "-":
-        return sys.stdin.buffer.read()
-    with open(name, "rb") as file:
-        return file.read()
+def answer_lines(rules: str) -> int:
+    """Prints the answer to each line, and returns the exit status."""
+    status = 0
+    for number, line in enumerate(sys.stdin, 1):
+        request = line[:-1] if line.endswith("\n") else line
+        if len(request) <= 4096 and not request.strip(" \t\r"):
+            continue
+        try:
+            print(answer(request, rules))
+        except Refused as refused:
+            print(refused)
+        except Unreadable as unreadable:
+            print(f"bad line {number}")
+            print(f"line {number}: {unreadable}", file=sys.stderr)
+            status = 2
+    return status
 
 
 def print_layouts(name: str) -> int:
     """Prints the layouts of a file, says what is wrong with the file, and returns the exit status."""
-    try:
-        told = source_layout(read_file(name))
-    except OSError as wrong:
-        print(f"wgsl: {wrong}", file=sys.stderr)
-        return 2
-    except MemoryError:
-        return 3
-    with text_of(sys.stdout, "w") as output:
-        output.write(json.dumps(told, ensure_ascii=False, indent=2) + "\n")
+    with open(sys.stdin.fileno() if name == "-" else name, "rb") as file:
+        told = source_layout(file.read())
+    print(json.dumps(told, ensure_ascii=False, indent=2))
     faults = [(kind, fault) for kind in ("error", "finding") for fault in told[f"{kind}s"]]
     for kind, fault in faults:
         print(f"{name}:{fault['line']}:{fault['column']}: {kind}: {fault['message']}", file=sys.stderr)
@@ -57,10 +59,17 @@ def print_layouts(name: str) -> int:
 
 def main() -> int:
     arguments = read_arguments()
-    if arguments.json is not None:
-        return print_layouts(arguments.json)
-    with text_of(sys.stdin, "r") as lines, text_of(sys.stdout, "w") as output:
-        return answer_lines(lines, output, arguments.rules)
+    for stream in (sys.stdin, sys.stdout):
+        # What is no UTF-8 passes as it is, and so do ends of lines.
+        if isinstance(stream, io.TextIOWrapper):
+            stream.reconfigure(encoding="utf-8", errors="surrogateescape", newline="\n")
+    try:
+        return answer_lines(arguments.rules) if arguments.json is None else print_layouts(arguments.json)
+    except OSError as wrong:
+        print(f"wgsl: {wrong}", file=sys.stderr)
+        return 2
+    except MemoryError:
+        return 3
 
 
 if __name__ == "__main__":

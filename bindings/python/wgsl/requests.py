@@ -1,11 +1,11 @@
-"""Requests: lines of the programs wgsl_standard and wgsl_check, and calls that ask one each."""
+"""Requests, and calls that ask one each."""
+from __future__ import annotations
+
 import re
-import sys
 from dataclasses import dataclass
-from typing import Any, Iterable, List, NamedTuple, Optional, TextIO, Tuple
+from typing import Iterable, NamedTuple
 
 from ._library import ANSWERED, REFUSED, ask
-from ._words import operand_words, split_list, type_words
 
 # The calls that answer and explain, by the rules that they ask.
 RULES = {"wgsl": ("wgsl_standard_answer", "wgsl_standard_explain"), "wgsl-types": ("wgsl_answer", "wgsl_explain")}
@@ -20,7 +20,7 @@ class Unreadable(ValueError):
     ...     unary("-", "vec3<f33>")
     ... except Unreadable as unreadable:
     ...     print(unreadable)
-    column 15, word 5: `f33` is no type
+    column 9, word 3: `vec3<f33>` is no type
     """
 
     def __init__(self, why: str, request: str) -> None:
@@ -45,24 +45,27 @@ class Refused(Exception):
         self.request, self.rules = request, rules
 
     @property
-    def notes(self) -> List[str]:
+    def notes(self) -> list[str]:
         """For each overload of WGSL's own why it doesn't take the operands. The rules of wgsl-types have no notes."""
-        if self.rules != "wgsl":
-            return []
         asked = re.sub(r"^[ \t\r]*resolve(?=[ \t\r])", "", self.request)
-        return _lines(answer(f"why {asked}"))
+        return _lines(answer(f"why {asked}")) if self.rules == "wgsl" else []
 
 
-def _lines(text: str) -> List[str]:
+def _lines(text: str) -> list[str]:
     return [] if text == "none" else text.split("\n")
 
 
-def _value(text: str) -> Optional[str]:
+def _value(text: str) -> str | None:
     return None if text in ("none", "no value") else text
 
 
-def _number(text: str) -> Optional[int]:
+def _number(text: str) -> int | None:
     return None if text == "none" else int(text)
+
+
+def _word(ty: str) -> str:
+    """A type without the blanks that WGSL allows in a list, since blanks separate the words of a request."""
+    return re.sub(r"\s+(?=[<>,])|(?<=[<,])\s+", "", ty)
 
 
 def answer(request: str, rules: str = "wgsl") -> str:
@@ -71,7 +74,7 @@ def answer(request: str, rules: str = "wgsl") -> str:
 
     Raises Refused if the rules refuse the expression, Unreadable, or MemoryError if memory runs out.
 
-    >>> answer("binary + AbstractInt vec 3 f32")
+    >>> answer("binary + AbstractInt vec3<f32>")
     'vec3<f32>'
     """
     if not isinstance(request, str):
@@ -82,11 +85,11 @@ def answer(request: str, rules: str = "wgsl") -> str:
     # A lone surrogate is passed as bytes that aren't UTF-8, which the library doesn't read.
     encoded = request.encode("utf-8", "surrogatepass")
     status, text = ask(asks, encoded)
-    if status == ANSWERED:
-        return text
     if status == REFUSED:
         raise Refused(text, request, rules)
-    raise Unreadable(ask(explains, encoded)[1], request)
+    if status != ANSWERED:
+        raise Unreadable(ask(explains, encoded)[1], request)
+    return text
 
 
 def unary(operator: str, operand: str) -> str:
@@ -95,7 +98,7 @@ def unary(operator: str, operand: str) -> str:
     >>> unary("-", "vec3<f32>")
     'vec3<f32>'
     """
-    return answer(f"unary {operator} {operand_words(operand)}")
+    return answer(f"unary {operator} {_word(operand)}")
 
 
 def binary(operator: str, left: str, right: str) -> str:
@@ -104,31 +107,30 @@ def binary(operator: str, left: str, right: str) -> str:
     >>> binary("*", "mat4x3f", "vec4<f32>"), binary("<<", "const AbstractInt", "u32")
     ('vec3<f32>', 'i32')
     """
-    return answer(f"binary {operator} {operand_words(left)} {operand_words(right)}")
+    return answer(f"binary {operator} {_word(left)} {_word(right)}")
 
 
-def _named(command: str, name: str, operands: Iterable[str], template: Optional[str]) -> str:
-    """The request on what has a name."""
-    given = "-" if template is None else f"< t {type_words(template)} >"
-    return " ".join([command, name, given, *map(operand_words, operands)])
+def _callee(name: str, operands: Iterable[str], template: str | None) -> str:
+    given = "-" if template is None else f"< t {_word(template)} >"
+    return " ".join([name, given, *map(_word, operands)])
 
 
-def call(name: str, arguments: Iterable[str], template: Optional[str] = None) -> Optional[str]:
+def call(name: str, arguments: Iterable[str], template: str | None = None) -> str | None:
     """The type of the call of a built-in function, None if it has no value.
 
     >>> call("clamp", ["vec3f", "vec3f", "vec3f"]), call("bitcast", ["f32"], template="i32"), call("storageBarrier", [])
     ('vec3<f32>', 'i32', None)
     """
-    return _value(answer(_named("call", name, arguments, template)))
+    return _value(answer(f"call {_callee(name, arguments, template)}"))
 
 
-def construct(name: str, arguments: Iterable[str], template: Optional[str] = None) -> str:
+def construct(name: str, arguments: Iterable[str], template: str | None = None) -> str:
     """The type that a constructor makes.
 
     >>> construct("vec3", ["f32", "vec2<f32>"]), construct("mat2x2", ["vec2h", "vec2h"], template="f16")
     ('vec3<f32>', 'mat2x2<f16>')
     """
-    return answer(_named("ctor", name, arguments, template))
+    return answer(f"ctor {_callee(name, arguments, template)}")
 
 
 @dataclass(frozen=True)
@@ -141,11 +143,11 @@ class Resolution:
     """
 
     overload: int
-    parameters: Tuple[str, ...]
-    result: Optional[str]
+    parameters: tuple[str, ...]
+    result: str | None
 
 
-def resolve_call(name: str, arguments: Iterable[str], template: Optional[str] = None) -> Resolution:
+def resolve_call(name: str, arguments: Iterable[str], template: str | None = None) -> Resolution:
     """Which overload takes the call of a built-in function. A template's type stands first among the parameters.
 
     >>> resolve_call("mix", ["vec2<f32>", "vec2<f32>", "AbstractFloat"])
@@ -153,13 +155,19 @@ def resolve_call(name: str, arguments: Iterable[str], template: Optional[str] = 
     >>> overloads("mix")[2]
     'mix(vecN<T>, vecN<T>, T) -> vecN<T>, T: float'
     """
-    index, _, rest = answer(f"resolve {_named('call', name, arguments, template)}").partition(" (")
+    index, _, rest = answer(f"resolve call {_callee(name, arguments, template)}").partition(" (")
     parameters, _, result = rest.partition(")")
-    types = tuple(split_list(parameters)) if parameters else ()
-    return Resolution(int(index), types, result[len(" -> "):] or None)
+    types: list[str] = []
+    for part in parameters.split(", ") if parameters else []:
+        # A comma in a list of a type separates no parameters.
+        if types and types[-1].count("<") > types[-1].count(">"):
+            types[-1] += f", {part}"
+        else:
+            types.append(part)
+    return Resolution(int(index), tuple(types), result[len(" -> "):] or None)
 
 
-def overloads(name: str) -> List[str]:
+def overloads(name: str) -> list[str]:
     """The overloads of an operator, a built-in function or a constructor.
 
     >>> overloads("cross")
@@ -168,22 +176,22 @@ def overloads(name: str) -> List[str]:
     return _lines(answer(f"overloads {name}"))
 
 
-def rank(source: str, target: str) -> Optional[int]:
+def rank(source: str, target: str) -> int | None:
     """The rank of the conversion from one type to another, None if there is none.
 
     >>> rank("AbstractInt", "f32"), rank("f32", "i32")
     (6, None)
     """
-    return _number(answer(f"rank {type_words(source)} {type_words(target)}"))
+    return _number(answer(f"rank {_word(source)} {_word(target)}"))
 
 
-def common(types: Iterable[str]) -> Optional[str]:
+def common(types: Iterable[str]) -> str | None:
     """The type to which all of the types convert, None if there is none.
 
     >>> common(["AbstractInt", "f16", "AbstractFloat"]), common(["i32", "u32"])
     ('f16', None)
     """
-    return _value(answer(" ".join(["common", *map(type_words, types)])))
+    return _value(answer(" ".join(["common", *map(_word, types)])))
 
 
 class Size(NamedTuple):
@@ -193,8 +201,8 @@ class Size(NamedTuple):
     16
     """
 
-    size: Optional[int]
-    align: Optional[int]
+    size: int | None
+    align: int | None
 
 
 def size(ty: str) -> Size:
@@ -203,24 +211,4 @@ def size(ty: str) -> Size:
     >>> size("array<mat4x3f, 4>"), size("array<vec3<f32>>")
     (Size(size=256, align=16), Size(size=None, align=16))
     """
-    return Size(*map(_number, answer(f"size {type_words(ty)}").split(" ")))
-
-
-def answer_lines(lines: Any, output: TextIO, rules: str) -> int:
-    """Writes the answer to each line, and returns the exit status."""
-    status = 0
-    for number, line in enumerate(lines, 1):
-        request = line[:-1] if line.endswith("\n") else line
-        if len(request) <= 4096 and not request.strip(" \t\r"):
-            continue
-        try:
-            output.write(answer(request, rules) + "\n")
-        except Refused as refused:
-            output.write(f"{refused}\n")
-        except Unreadable as unreadable:
-            output.write(f"bad line {number}\n")
-            print(f"line {number}: {unreadable}", file=sys.stderr)
-            status = 2
-        except MemoryError:
-            return 3
-    return status
+    return Size(*map(_number, answer(f"size {_word(ty)}").split(" ")))

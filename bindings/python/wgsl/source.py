@@ -1,12 +1,16 @@
 """Layouts of WGSL texts."""
+from __future__ import annotations
+
 import json
 from importlib import import_module
-from typing import Any, Dict, Union
+from typing import Any
 
 from ._library import ask
 
+_SCALARS = {"bool": "<u4", "i32": "<i4", "u32": "<u4", "f32": "<f4", "f16": "<f2", "i64": "<i8", "u64": "<u8", "f64": "<f8"}
 
-def source_layout(text: Union[str, bytes]) -> Dict[str, Any]:
+
+def source_layout(text: str | bytes) -> dict[str, Any]:
     """The layouts of the structs of a WGSL module, where its variables are bound, and what is wrong, as the JSON of
     wgsl_layout has them: `structs`, `variables`, `overrides`, `entryPoints`, `errors` and `findings`.
 
@@ -17,15 +21,11 @@ def source_layout(text: Union[str, bytes]) -> Dict[str, Any]:
     16
     """
     data = text.encode("utf-8", "surrogatepass") if isinstance(text, str) else bytes(text)
-    _, told = ask("wgsl_source_layout", data)
-    layouts: Dict[str, Any] = json.loads(told)
+    layouts: dict[str, Any] = json.loads(ask("wgsl_source_layout", data)[1])
     return layouts
 
 
-SCALARS = {"bool": "<u4", "i32": "<i4", "u32": "<u4", "f32": "<f4", "f16": "<f2", "i64": "<i8", "u64": "<u8", "f64": "<f8"}
-
-
-def source_dtypes(text: Union[str, bytes]) -> Dict[str, Any]:
+def source_dtypes(text: str | bytes) -> dict[str, Any]:
     """The structs of a WGSL module as dtypes of numpy, by their names. Raises ImportError without numpy.
 
     >>> sorted(source_dtypes("struct Light { color: vec3f, power: f32 }"))
@@ -33,25 +33,22 @@ def source_dtypes(text: Union[str, bytes]) -> Dict[str, Any]:
     """
     as_dtype = import_module("numpy").dtype  # only who asks for dtypes needs it
     structs = {struct["name"]: struct for struct in source_layout(text)["structs"]}
-    made: Dict[str, Any] = {}
 
     def of_struct(name: str) -> Any:
-        if name not in made:
-            members = structs[name]["members"]
-            made[name] = as_dtype({
-                "names": [member["name"] for member in members],
-                "formats": [of_type(member["typeTree"]) for member in members],
-                "offsets": [member["offset"] for member in members],
-                "itemsize": structs[name]["size"],
-            })
-        return made[name]
+        members = structs[name]["members"]
+        return as_dtype({
+            "names": [member["name"] for member in members],
+            "formats": [of_type(member["typeTree"]) for member in members],
+            "offsets": [member["offset"] for member in members],
+            "itemsize": structs[name]["size"],
+        })
 
-    def of_type(tree: Dict[str, Any]) -> Any:
+    def of_type(tree: dict[str, Any]) -> Any:
         kind = tree["kind"]
         if kind == "struct":
             return of_struct(tree["name"])
         if kind == "scalar":
-            return as_dtype(SCALARS[tree["name"]])
+            return as_dtype(_SCALARS[tree["name"]])
         inner = of_type(tree["element"] if kind == "array" else tree["component"])
         if kind == "vector":
             return as_dtype((inner, (tree["count"],)))
@@ -69,7 +66,7 @@ def source_dtypes(text: Union[str, bytes]) -> Dict[str, Any]:
     return {name: of_struct(name) for name in structs}
 
 
-def dtype(text: Union[str, bytes], name: str) -> Any:
+def dtype(text: str | bytes, name: str) -> Any:
     """The struct of that name of a WGSL module as a dtype of numpy. Raises KeyError if it isn't there, ImportError without
     numpy.
 

@@ -3,7 +3,7 @@ use Rattle.std.proofs.Common.{◌≡◌, ◌≢◌, ◌⊎◌, ◌<◌, ◌≤�
 use Rattle.std.specs.Prelude.{slice_index_or}
 use Rattle.std.proofs.lemmas.List.{append_assoc, append_cancel_left, append_cancel_right, append-nil}
 use native.Mathlib.Decide.{ℕ_discrete}
-use Rattle.wgsl_syntax.specs.Address.{access_modes, access_text, space_text, spaces}
+use Rattle.wgsl_syntax.specs.Address.{access_modes, access_text, default_access, space_text, spaces}
 use Rattle.wgsl_syntax.specs.Attribute.{flag_text, flags}
 use Rattle.wgsl_syntax.specs.Names.{IsNaming, table}
 use Rattle.wgsl_syntax.specs.Scalar.{scalar_text, scalars}
@@ -25,12 +25,13 @@ use Rattle.wgsl_syntax.specs.declared.texture.TextureType.{TextureType}
 use Rattle.wgsl_syntax.specs.declared.texture_name.TextureName.{TextureName}
 use Rattle.wgsl_syntax.specs.declared.texture_name.TextureParameters.{TextureParameters}
 use Rattle.wgsl_syntax.specs.declared.texture_name.TextureParameters.TheVariants as parameters
+use Rattle.wgsl_syntax.proofs.Discrete.{same_access}
 use Rattle.wgsl_syntax.proofs.Naming.{access_naming, flag_naming, sampled_naming, sampler_naming, scalar_naming, space_naming, texel_naming, texture_naming}
 use Rattle.wgsl_syntax.proofs.Textures.{made_again}
 use Rattle.wgsl_rules.specs.types.Around.{around}
 use Rattle.wgsl_rules.specs.types.Spelling.{flagged}
 use Rattle.wgsl_rules.specs.types.Types.{WgslType, acceleration_structure, ray_query, sampler, scalar, texture}
-use Rattle.wgsl_text.specs.spelling.Spells.{IsInRange, Spells, acceleration_structure_is, alias_is, alias_of, around_is, list_of, name_of, ray_query_is, sampler_is, scalar_is, texture_is, with_list}
+use Rattle.wgsl_text.specs.spelling.Spells.{IsInRange, IsList, IsMemory, Spells, acceleration_structure_is, access_of, alias_is, alias_of, around_is, ended_list, name_of, ray_query_is, sampler_is, scalar_is, texture_is, with_list}
 use Rattle.wgsl_laws.proofs.Found.{Means}
 use Rattle.wgsl_laws.proofs.WordMeanings.{a_name, before, same_word}
 
@@ -133,36 +134,71 @@ in_front (Ptr s m) = space_text s ++ codes ", "
 in_front (Ref s m) = space_text s ++ codes ", "
 in_front layer = []
 
-abbrev at_end : Around → List ℕ
-at_end (Array (Some n)) = codes ", " ++ decimal n
-at_end (BindingArray (Some n)) = codes ", " ++ decimal n
-at_end (Ptr s m) = codes ", " ++ access_text m
-at_end (Ref s m) = codes ", " ++ access_text m
-at_end layer = []
+-- an access mode, which may be left out if it is the default of the address space
+abbrev IsMemoryEnd : AddressSpace → AccessMode → List ℕ → Type 0
+IsMemoryEnd s m end = (end ≡ codes ", " ++ access_text m) ⊎ ((end ≡ []) × (m ≡ default_access s))
 
-framed : (layer : Around) (inner : List ℕ) → list_of layer inner ≡ in_front layer ++ (inner ++ at_end layer)
-framed (Array None) inner = sym (append-nil inner)
-framed (Array (Some n)) inner = refl
-framed (BindingArray None) inner = sym (append-nil inner)
-framed (BindingArray (Some n)) inner = refl
-framed (Vec n) inner = sym (append-nil inner)
-framed (Mat c r) inner = sym (append-nil inner)
-framed Atomic inner = sym (append-nil inner)
-framed (Ptr s m) inner = sym (append_assoc (space_text s) (codes ", ") (inner ++ (codes ", " ++ access_text m)))
-framed (Ref s m) inner = sym (append_assoc (space_text s) (codes ", ") (inner ++ (codes ", " ++ access_text m)))
+abbrev IsEnd : Around → List ℕ → Type 0
+IsEnd (Array (Some n)) end = end ≡ codes ", " ++ decimal n
+IsEnd (BindingArray (Some n)) end = end ≡ codes ", " ++ decimal n
+IsEnd (Ptr s m) end = IsMemoryEnd s m end
+IsEnd (Ref s m) end = IsMemoryEnd s m end
+IsEnd layer end = end ≡ []
+
+memory_list : (s : AddressSpace) (inner end : List ℕ) → space_text s ++ (codes ", " ++ (inner ++ end)) ≡ (space_text s ++ codes ", ") ++ (inner ++ end)
+memory_list s inner end = sym (append_assoc (space_text s) (codes ", ") (inner ++ end))
+
+memory_framed : (s : AddressSpace) (m : AccessMode) (inner list : List ℕ) → IsMemory list s inner m → (end : List ℕ) × IsMemoryEnd s m end × (list ≡ (space_text s ++ codes ", ") ++ (inner ++ end))
+memory_framed s m inner list is = step is.said is.is is.access
+  where
+    step : (said : Option AccessMode) → list ≡ space_text s ++ (codes ", " ++ ended_list access_text inner said) → m ≡ access_of s said →
+        (end : List ℕ) × IsMemoryEnd s m end × (list ≡ (space_text s ++ codes ", ") ++ (inner ++ end))
+    step None e f = ([], inr (refl, f), e ∙ (ap (λ r. space_text s ++ (codes ", " ++ r)) (sym (append-nil inner)) ∙ memory_list s inner []))
+    step (Some n) e f = (codes ", " ++ access_text n, inl (ap (λ k. codes ", " ++ access_text k) (sym f)), e ∙ memory_list s inner (codes ", " ++ access_text n))
+
+framed : (layer : Around) (inner list : List ℕ) → IsList layer inner list → (end : List ℕ) × IsEnd layer end × (list ≡ in_front layer ++ (inner ++ end))
+framed (Array None) inner list is = ([], refl, is ∙ sym (append-nil inner))
+framed (Array (Some n)) inner list is = (codes ", " ++ decimal n, refl, is)
+framed (BindingArray None) inner list is = ([], refl, is ∙ sym (append-nil inner))
+framed (BindingArray (Some n)) inner list is = (codes ", " ++ decimal n, refl, is)
+framed (Vec n) inner list is = ([], refl, is ∙ sym (append-nil inner))
+framed (Mat c r) inner list is = ([], refl, is ∙ sym (append-nil inner))
+framed Atomic inner list is = ([], refl, is ∙ sym (append-nil inner))
+framed (Ptr s m) inner list is = memory_framed s m inner list is
+framed (Ref s m) inner list is = memory_framed s m inner list is
+
+memory_of_frame : (s : AddressSpace) (m : AccessMode) (inner end : List ℕ) → IsMemoryEnd s m end → IsMemory ((space_text s ++ codes ", ") ++ (inner ++ end)) s inner m
+memory_of_frame s m inner end (inl is) = record {
+  said = Some m;
+  is = sym (memory_list s inner end) ∙ ap (λ e. space_text s ++ (codes ", " ++ (inner ++ e))) is;
+  access = refl;
+}
+memory_of_frame s m inner end (inr is) = record {
+  said = None;
+  is = sym (memory_list s inner end) ∙ ap (λ r. space_text s ++ (codes ", " ++ r)) (ap (λ e. inner ++ e) is.0 ∙ append-nil inner);
+  access = is.1;
+}
+
+of_frame : (layer : Around) (inner end : List ℕ) → IsEnd layer end → IsList layer inner (in_front layer ++ (inner ++ end))
+of_frame (Array None) inner end is = ap (λ e. inner ++ e) is ∙ append-nil inner
+of_frame (Array (Some n)) inner end is = ap (λ e. inner ++ e) is
+of_frame (BindingArray None) inner end is = ap (λ e. inner ++ e) is ∙ append-nil inner
+of_frame (BindingArray (Some n)) inner end is = ap (λ e. inner ++ e) is
+of_frame (Vec n) inner end is = ap (λ e. inner ++ e) is ∙ append-nil inner
+of_frame (Mat c r) inner end is = ap (λ e. inner ++ e) is ∙ append-nil inner
+of_frame Atomic inner end is = ap (λ e. inner ++ e) is ∙ append-nil inner
+of_frame (Ptr s m) inner end is = memory_of_frame s m inner end is
+of_frame (Ref s m) inner end is = memory_of_frame s m inner end is
 
 abbrev opening : Around → List ℕ
 opening layer = name_of layer ++ (codes "<" ++ in_front layer)
 
-abbrev closing : Around → List ℕ
-closing layer = at_end layer ++ codes ">"
-
 -- the spelling of a layer is what opens it, the inner text, and what closes it
-spelled_around : (layer : Around) (inner : List ℕ) → with_list (name_of layer) (list_of layer inner) ≡ opening layer ++ (inner ++ closing layer)
-spelled_around layer inner = ap (with_list (name_of layer)) (framed layer inner) ∙ around_it (name_of layer) (in_front layer) inner (at_end layer)
+spelled_around : (layer : Around) (inner end : List ℕ) → with_list (name_of layer) (in_front layer ++ (inner ++ end)) ≡ opening layer ++ (inner ++ (end ++ codes ">"))
+spelled_around layer inner end = around_it (name_of layer) (in_front layer)
   where
-    around_it : (name front inner end : List ℕ) → with_list name (front ++ (inner ++ end)) ≡ (name ++ (codes "<" ++ front)) ++ (inner ++ (end ++ codes ">"))
-    around_it name front inner end =
+    around_it : (name front : List ℕ) → with_list name (front ++ (inner ++ end)) ≡ (name ++ (codes "<" ++ front)) ++ (inner ++ (end ++ codes ">"))
+    around_it name front =
         ap (λ rest. name ++ (60 ∷ rest)) (append_assoc front (inner ++ end) (codes ">") ∙ ap (λ rest. front ++ rest) (append_assoc inner end (codes ">")))
         ∙ sym (append_assoc name (codes "<" ++ front) (inner ++ (end ++ codes ">")))
 
@@ -172,9 +208,13 @@ inner_shorter front inner end more = omega (arith, more, length-append front (in
 opens : (layer : Around) → 0 < length (opening layer)
 opens layer = omega (arith, length-append (name_of layer) (codes "<" ++ in_front layer))
 
+-- a type that the text spells with this layer and this end of its list
+abbrev Ended : List ℕ → Around → List ℕ → Type 0
+Ended text layer end = (inner : List ℕ) × (t : WgslType) × (text ≡ opening layer ++ (inner ++ (end ++ codes ">"))) × Spells inner t
+
 -- a type that the text spells with this layer
 abbrev Inside : List ℕ → Around → Type 0
-Inside text layer = (inner : List ℕ) × (t : WgslType) × (text ≡ opening layer ++ (inner ++ closing layer)) × Spells inner t
+Inside text layer = (end : List ℕ) × IsEnd layer end × Ended text layer end
 
 after : (prefix word : List ℕ) → ((rest : List ℕ) × (word ≡ prefix ++ rest)) ⊎ ((rest : List ℕ) → word ≢ prefix ++ rest)
 after [] word = inl (word, refl)
@@ -188,26 +228,59 @@ after (p ∷ prefix) (c ∷ word) = elim (ℕ_discrete c p) [
 ]
 
 module _ (text : List ℕ) (spells : (inner : List ℕ) → length inner < length text → Means (Spells inner)) where
-  dec_inside : (layer : Around) → Dec (Inside text layer)
-  dec_inside layer = elim (after (opening layer) text) [
-    | inr none ↦ no (λ f. none (f.0 ++ closing layer) f.2)
-    | inl r ↦ elim (before (closing layer) r.0) [
-      | inr none ↦ no (λ f. none f.0 (append_cancel_left (opening layer) r.0 (f.0 ++ closing layer) (sym r.1 ∙ f.2)))
+  dec_ended : (layer : Around) (end : List ℕ) → Dec (Ended text layer end)
+  dec_ended layer end = elim (after (opening layer) text) [
+    | inr none ↦ no (λ f. none (f.0 ++ (end ++ codes ">")) f.2)
+    | inl r ↦ elim (before (end ++ codes ">") r.0) [
+      | inr none ↦ no (λ f. none f.0 (append_cancel_left (opening layer) r.0 (f.0 ++ (end ++ codes ">")) (sym r.1 ∙ f.2)))
       | inl i ↦ by r.0 r.1 i.0 i.1
     ]
   ]
     where
-      by : (rest : List ℕ) → text ≡ opening layer ++ rest → (inner : List ℕ) → rest ≡ inner ++ closing layer → Dec (Inside text layer)
+      by : (rest : List ℕ) → text ≡ opening layer ++ rest → (inner : List ℕ) → rest ≡ inner ++ (end ++ codes ">") → Dec (Ended text layer end)
       by rest e inner f =
-          let whole : text ≡ opening layer ++ (inner ++ closing layer) = e ∙ ap (λ r. opening layer ++ r) f in
-          let fewer : length inner < length text = subst (λ w. length inner < length w) (sym whole) (inner_shorter (opening layer) inner (closing layer) (opens layer)) in
+          let whole : text ≡ opening layer ++ (inner ++ (end ++ codes ">")) = e ∙ ap (λ r. opening layer ++ r) f in
+          let fewer : length inner < length text = subst (λ w. length inner < length w) (sym whole) (inner_shorter (opening layer) inner (end ++ codes ">") (opens layer)) in
           elim (spells inner fewer) [
             | inl t ↦ yes (inner, t.0, whole, t.1)
             | inr none ↦ no (λ g.
-                let rests : inner ++ closing layer ≡ g.0 ++ closing layer = append_cancel_left (opening layer) (inner ++ closing layer) (g.0 ++ closing layer) (sym whole ∙ g.2) in
-                let same : g.0 ≡ inner = sym (append_cancel_right inner g.0 (closing layer) rests) in
+                let rests : inner ++ (end ++ codes ">") ≡ g.0 ++ (end ++ codes ">") = append_cancel_left (opening layer) (inner ++ (end ++ codes ">")) (g.0 ++ (end ++ codes ">")) (sym whole ∙ g.2) in
+                let same : g.0 ≡ inner = sym (append_cancel_right inner g.0 (end ++ codes ">") rests) in
                 none g.1 (subst (λ w. Spells w g.1) same g.3))
           ]
+
+  one_end : (layer : Around) (end : List ℕ) → IsEnd layer end → ((other : List ℕ) → IsEnd layer other → other ≡ end) → Dec (Inside text layer)
+  one_end layer end is one = elim (dec_ended layer end) [
+    | yes x ↦ yes (end, is, x)
+    | no none ↦ no (λ x. none (subst (Ended text layer) (one x.0 x.1) x.2))
+  ]
+
+  two_ends : (layer : Around) (s : AddressSpace) (m : AccessMode) → ((end : List ℕ) → IsMemoryEnd s m end → IsEnd layer end) → ((end : List ℕ) → IsEnd layer end → IsMemoryEnd s m end) → Dec (Inside text layer)
+  two_ends layer s m to from = elim (dec_ended layer (codes ", " ++ access_text m)) [
+    | yes x ↦ yes (codes ", " ++ access_text m, to _ (inl refl), x)
+    | no said ↦ elim (same_access m (default_access s)) [
+      | no other ↦ no (λ x. neither x.0 (from x.0 x.1) x.2 said (λ d e. other d))
+      | yes default ↦ elim (dec_ended layer []) [
+        | yes x ↦ yes ([], to [] (inr (refl, default)), x)
+        | no unsaid ↦ no (λ x. neither x.0 (from x.0 x.1) x.2 said (λ d e. unsaid e))
+      ]
+    ]
+  ]
+    where
+      neither : (end : List ℕ) → IsMemoryEnd s m end → Ended text layer end → ¬ Ended text layer (codes ", " ++ access_text m) → (m ≡ default_access s → ¬ Ended text layer []) → ⊥
+      neither end (inl is) x said unsaid = said (subst (Ended text layer) is x)
+      neither end (inr is) x said unsaid = unsaid is.1 (subst (Ended text layer) is.0 x)
+
+  dec_inside : (layer : Around) → Dec (Inside text layer)
+  dec_inside (Array None) = one_end (Array None) [] refl (λ other is. is)
+  dec_inside (Array (Some n)) = one_end (Array (Some n)) (codes ", " ++ decimal n) refl (λ other is. is)
+  dec_inside (BindingArray None) = one_end (BindingArray None) [] refl (λ other is. is)
+  dec_inside (BindingArray (Some n)) = one_end (BindingArray (Some n)) (codes ", " ++ decimal n) refl (λ other is. is)
+  dec_inside (Vec n) = one_end (Vec n) [] refl (λ other is. is)
+  dec_inside (Mat c r) = one_end (Mat c r) [] refl (λ other is. is)
+  dec_inside Atomic = one_end Atomic [] refl (λ other is. is)
+  dec_inside (Ptr s m) = two_ends (Ptr s m) s m (λ end is. is) (λ end is. is)
+  dec_inside (Ref s m) = two_ends (Ref s m) s m (λ end is. is) (λ end is. is)
 
   a_memory : (layer : AddressSpace → AccessMode → Around) → Means (λ s. (m : AccessMode) × Inside text (layer s m))
   a_memory layer = any_named space_text spaces space_naming (λ s. found_or_not (any_named access_text access_modes access_naming (λ m. dec_inside (layer s m))))
@@ -263,8 +336,10 @@ module _ (text : List ℕ) (spells : (inner : List ℕ) → length inner < lengt
 
 -- All texts
 
-spelled_inside : {text : List ℕ} → (layer : Around) → IsInRange layer → (x : Inside text layer) → Spells text (around layer x.1)
-spelled_inside layer fits x = subst (λ w. Spells w (around layer x.1)) (spelled_around layer x.0 ∙ sym x.2) (around_is layer fits x.3)
+spelled_inside : {text : List ℕ} → (layer : Around) → IsInRange layer → (x : Inside text layer) → Spells text (around layer x.2.1)
+spelled_inside layer fits x =
+    let inner = x.2.0 in
+    subst (λ w. Spells w (around layer x.2.1)) (spelled_around layer inner x.0 ∙ sym x.2.2) (around_is layer (in_front layer ++ (inner ++ x.0)) fits (of_frame layer inner x.0 x.1) x.2.3)
 
 -- a text that is none of these spells nothing
 refused : {text : List ℕ} {t : WgslType} → Spells text t → ((s : Scalar) → text ≢ scalar_text s) → ((s : SamplerType) → text ≢ sampler_text s) → ((by : FormatNames) (x : TextureType) → text ≢ texture_text_by by x)
@@ -276,7 +351,9 @@ refused (texture_is by x) a b c d e f g = c by x refl
 refused (ray_query_is o) a b c d e f g = d o refl
 refused (acceleration_structure_is o) a b c d e f g = e o refl
 refused (alias_is found) a b c d e f g = let no : Some _ ≡ None = sym found ∙ f in cc no
-refused (around_is {inner} {t} layer fits s) a b c d e f g = g layer fits (inner, t, spelled_around layer inner, s)
+refused (around_is {inner} {t} layer list fits is s) a b c d e f g =
+    let frame = framed layer inner list is in
+    g layer fits (frame.0, frame.1, (inner, t, ap (with_list (name_of layer)) frame.2 ∙ spelled_around layer inner frame.0, s))
 
 spells_by : (text : List ℕ) → ((layer : Around) × IsInRange layer × Inside text layer) ⊎ ((layer : Around) → IsInRange layer → ¬ Inside text layer) → Means (Spells text)
 spells_by text layered = elim (a_name scalar_text scalars scalar_naming text) [
@@ -308,7 +385,7 @@ spells_by text layered = elim (a_name scalar_text scalars scalar_naming text) [
         → (o : Option (Around × Scalar)) → alias_of text ≡ o → Means (Spells text)
     by_alias a b c d e (Some found) is = inl (around found.0 (scalar found.1), alias_is is)
     by_alias a b c d e None is = elim layered [
-      | inl l ↦ inl (around l.0 l.2.1, spelled_inside l.0 l.1 l.2)
+      | inl l ↦ inl (around l.0 l.2.2.1, spelled_inside l.0 l.1 l.2)
       | inr none ↦ inr (λ t s. refused s a b c d e is none)
     ]
 

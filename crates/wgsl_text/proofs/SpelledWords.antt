@@ -1,5 +1,5 @@
 -- The words of a text that spells a type are read as that type.
-use Rattle.std.proofs.Common.{◌≡◌, ◌≢◌, ◌<◌, ◌^◌, ◌++◌, ◌||◌, ℕ, Bool, true, false, List, [], ◌∷◌, Some, None, codes, decimal, length, length-append, is_some, refl, sym, ap, subst, ◌∙◌, arith}
+use Rattle.std.proofs.Common.{◌≡◌, ◌≢◌, ◌<◌, ◌^◌, ◌++◌, ◌||◌, ℕ, Bool, true, false, List, [], ◌∷◌, Option, Some, None, codes, decimal, length, length-append, is_some, refl, sym, ap, subst, ◌∙◌, arith}
 use Rattle.std.specs.List.{filter}
 use Rattle.std.proofs.lemmas.Fmt.{decimal_nonempty}
 use Rattle.std.proofs.lemmas.Grind.{common_steps, flat_map-append}
@@ -35,7 +35,7 @@ use Rattle.wgsl_syntax.specs.declared.texture_name.TextureParameters.TheVariants
 use Rattle.wgsl_rules.specs.types.Around.{around}
 use Rattle.wgsl_rules.specs.types.Spelling.{flagged, spelling_by}
 use Rattle.wgsl_rules.specs.types.Types.{WgslType, scalar, sampler, texture, ray_query, acceleration_structure}
-use Rattle.wgsl_text.specs.spelling.Spells.{IsInRange, Spells, acceleration_structure_is, alias_is, alias_of, around_is, list_of, name_of, ray_query_is, sampler_is, scalar_is, texture_is, with_list}
+use Rattle.wgsl_text.specs.spelling.Spells.{IsInRange, IsList, IsMemory, Spells, acceleration_structure_is, alias_is, alias_of, around_is, ended_list, name_of, ray_query_is, sampler_is, scalar_is, texture_is, with_list}
 use Rattle.wgsl_text.specs.spelling.Written.{IsWritable}
 use Rattle.wgsl_text.specs.spelling.internal.{AreListedBy, Lacks}
 use Rattle.wgsl_text.proofs.spellings.Cuts.{has, lacks_append, lacks_by}
@@ -199,20 +199,23 @@ plain_name Atomic fits = plain_by (codes "atomic") refl
 plain_name (Ptr s m) fits = plain_by (codes "ptr") refl
 plain_name (Ref s m) fits = plain_by (codes "ref") refl
 
-neat_memory : (s : AddressSpace) (m : AccessMode) {inner : List ℕ} → Neat inner → Neat (space_text s ++ (codes ", " ++ (inner ++ (codes ", " ++ access_text m))))
-neat_memory s m n =
-    and_more (plain_by (space_text s) (clean_space s)) (some_bytes_space s) (neat_and n (one_word (plain_by (access_text m) (clean_access m)) (some_bytes_access m)))
+neat_accessed : (said : Option AccessMode) {inner : List ℕ} → Neat inner → Neat (ended_list access_text inner said)
+neat_accessed None n = n
+neat_accessed (Some m) n = neat_and n (one_word (plain_by (access_text m) (clean_access m)) (some_bytes_access m))
 
-neat_inside : (layer : Around) {inner : List ℕ} → IsInRange layer → Neat inner → Neat (list_of layer inner)
-neat_inside (Array None) fits n = n
-neat_inside (Array (Some k)) fits n = neat_and n (neat_decimal k fits)
-neat_inside (BindingArray None) fits n = n
-neat_inside (BindingArray (Some k)) fits n = neat_and n (neat_decimal k fits)
-neat_inside (Vec k) fits n = n
-neat_inside (Mat c r) fits n = n
-neat_inside Atomic fits n = n
-neat_inside (Ptr s m) fits n = neat_memory s m n
-neat_inside (Ref s m) fits n = neat_memory s m n
+neat_memory : {list inner : List ℕ} {s : AddressSpace} {m : AccessMode} → IsMemory list s inner m → Neat inner → Neat list
+neat_memory {list} {inner} {s} is n = subst Neat (sym is.is) (and_more (plain_by (space_text s) (clean_space s)) (some_bytes_space s) (neat_accessed is.said n))
+
+neat_inside : (layer : Around) {inner list : List ℕ} → IsInRange layer → IsList layer inner list → Neat inner → Neat list
+neat_inside (Array None) fits is n = subst Neat (sym is) n
+neat_inside (Array (Some k)) fits is n = subst Neat (sym is) (neat_and n (neat_decimal k fits))
+neat_inside (BindingArray None) fits is n = subst Neat (sym is) n
+neat_inside (BindingArray (Some k)) fits is n = subst Neat (sym is) (neat_and n (neat_decimal k fits))
+neat_inside (Vec k) fits is n = subst Neat (sym is) n
+neat_inside (Mat c r) fits is n = subst Neat (sym is) n
+neat_inside Atomic fits is n = subst Neat (sym is) n
+neat_inside (Ptr s m) fits is n = neat_memory is n
+neat_inside (Ref s m) fits is n = neat_memory is n
 
 -- what stands in the list behind the name of a texture
 abbrev ListOf : FormatNames → TextureType → TextureParameters → Type 0
@@ -395,7 +398,7 @@ neat (ray_query_is (Some f)) = subst Neat (flag_spelled (codes "ray_query") f) (
 neat (acceleration_structure_is None) = one_word (plain_by (codes "acceleration_structure") refl) (omega arith)
 neat (acceleration_structure_is (Some f)) = subst Neat (flag_spelled (codes "acceleration_structure") f) (neat_flagged (codes "acceleration_structure") f (plain_by (codes "acceleration_structure") refl))
 neat (alias_is {text} {layer} {s} e) = one_word (alias_plain text layer s e) (alias_bytes text layer s e)
-neat (around_is layer fits d) = neat_list (plain_name layer fits) (neat_inside layer fits (neat d))
+neat (around_is layer list fits is d) = neat_list (plain_name layer fits) (neat_inside layer fits is (neat d))
 
 pub words_read : {text : List ℕ} {t : WgslType} → Spells text t → TypeAt Standard (words_of text) t []
 words_read (scalar_is s) = plain_read (scalar_text s) (scalar s) (plain_by (scalar_text s) (clean_scalar s)) (some_bytes_scalar s) (scalar_at s)
@@ -408,7 +411,7 @@ words_read (acceleration_structure_is None) =
 words_read (acceleration_structure_is (Some f)) =
     flagged_read (codes "acceleration_structure") f (acceleration_structure (Some f)) (plain_by (codes "acceleration_structure") refl) (acceleration_structure_is (Some f))
 words_read (alias_is {text} {layer} {s} e) = alias_read text layer s e
-words_read (around_is {inner} {t} layer fits d) = listed_read (name_of layer) (list_of layer inner) (around layer t) (plain_name layer fits) (neat_inside layer fits (neat d)) (around_is layer fits d)
+words_read (around_is {inner} {t} layer list fits is d) = listed_read (name_of layer) list (around layer t) (plain_name layer fits) (neat_inside layer fits is (neat d)) (around_is layer list fits is d)
 
 pub only_read : {text : List ℕ} {t : WgslType} → Spells text t → (u : WgslType) (rest : List (List ℕ)) → TypeAt Standard (words_of text) u rest → (u ≡ t) × (rest ≡ [])
 only_read s u rest d = let same = one_type (words_read s) u rest d in (sym same.0, sym same.1)

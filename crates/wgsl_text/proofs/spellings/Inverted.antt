@@ -18,7 +18,7 @@ use Rattle.wgsl_syntax.proofs.Naming.{scalar_naming}
 use Rattle.wgsl_rules.specs.types.Around.{around}
 use Rattle.wgsl_rules.specs.types.Spelling.{flagged}
 use Rattle.wgsl_rules.specs.types.Types.{WgslType, scalar, within, struct, atomic, pointer, reference, texture, sampler, binding_array, ray_query, acceleration_structure}
-use Rattle.wgsl_text.specs.spelling.Spells.{IsInRange, Spells, acceleration_structure_is, alias_of, alias_is, around_is, list_of, name_of, ray_query_is, sampler_is, scalar_is, texture_is, with_list}
+use Rattle.wgsl_text.specs.spelling.Spells.{IsInRange, IsList, Spells, acceleration_structure_is, alias_of, alias_is, around_is, name_of, ray_query_is, sampler_is, scalar_is, texture_is, with_list}
 use Rattle.wgsl_text.specs.spelling.internal.{AtList, Lacks, LayerAt, LeafSpells, PlainSpells, SpellsAround}
 use Rattle.wgsl_text.proofs.spellings.Cuts.{has, lacks_append, lacks_by, no_list}
 use Rattle.wgsl_text.proofs.spellings.Lists.{alias_lacks}
@@ -121,9 +121,9 @@ with_cut (ray_query_is (Some f)) name list at = inr (flag_at (codes "ray_query")
 with_cut (acceleration_structure_is None) name list at = absurd (no_list (codes "acceleration_structure") (lacks_by 60 (codes "acceleration_structure") refl) name list at)
 with_cut (acceleration_structure_is (Some f)) name list at = inr (flag_at (codes "acceleration_structure") f name list (lacks_by 60 (codes "acceleration_structure") refl) at)
 with_cut (alias_is {text} {layer} {s} e) name list at = absurd (no_list text (alias_lacks 60 text layer s refl e) name list at)
-with_cut (around_is {inner} {t} layer fits d) name list at =
-    let same = list_once (name_of layer) (list_of layer inner) name list (name_lacks layer fits) at in
-    inl (record { layer = layer; inner = inner; inside = t; at = record { name_is = same.0; list_is = same.1; fits = fits }; spells = d; is = refl })
+with_cut (around_is {inner} {t} layer own fits is d) name list at =
+    let same = list_once (name_of layer) own name list (name_lacks layer fits) at in
+    inl (record { layer = layer; inner = inner; inside = t; at = record { name_is = same.0; list_is = subst (IsList layer inner) (sym same.1) is; fits = fits }; spells = d; is = refl })
 
 -- an alias
 pub record IsAlias (text : List ℕ) (t : WgslType) : Type 0 where
@@ -141,7 +141,7 @@ without_cut (ray_query_is (Some f)) none = absurd (none (codes "ray_query") (fla
 without_cut (acceleration_structure_is None) none = inr refl
 without_cut (acceleration_structure_is (Some f)) none = absurd (none (codes "acceleration_structure") (flag_text f) (lacks_by 60 (codes "acceleration_structure") refl, sym (flag_spelled (codes "acceleration_structure") f)))
 without_cut (alias_is {text} {layer} {s} e) none = inl (record { layer = layer; inside = s; found = e; is = refl })
-without_cut (around_is {inner} {t} layer fits d) none = absurd (none (name_of layer) (list_of layer inner) (name_lacks layer fits, refl))
+without_cut (around_is {inner} {t} layer list fits is d) none = absurd (none (name_of layer) list (name_lacks layer fits, refl))
 
 -- a type without a layer is none with one
 
@@ -296,8 +296,8 @@ layer_spells text name list at layer inner alone t = (to, from)
 
     from : (u : WgslType) × (t ≡ around layer u) × Spells inner u → Spells text t
     from e =
-        let named : with_list (name_of layer) (list_of layer inner) ≡ with_list name list = ap (λ n. with_list n (list_of layer inner)) (sym alone.0.name_is) ∙ ap (with_list name) (sym alone.0.list_is) in
-        subst (Spells text) (sym e.1) (subst (λ w. Spells w (around layer e.0)) (named ∙ sym at.1) (around_is layer alone.0.fits e.2))
+        let named : with_list (name_of layer) list ≡ with_list name list = ap (λ n. with_list n list) (sym alone.0.name_is) in
+        subst (Spells text) (sym e.1) (subst (λ w. Spells w (around layer e.0)) (named ∙ sym at.1) (around_is layer list alone.0.fits alone.0.list_is e.2))
 
 pub no_layer_spells : (text name list : List ℕ) → AtList text name list → ((layer : Around) (inner : List ℕ) → ¬ LayerAt name list layer inner) → (layer : Around) (u : WgslType) → ¬ Spells text (around layer u)
 no_layer_spells text name list at none layer u d = step (with_cut d name list at)

@@ -1,5 +1,5 @@
 -- What stands in the list of a layer, and that it stands there in one way.
-use Rattle.std.proofs.Common.{◌≡◌, ◌<◌, ◌^◌, ◌++◌, ℕ, List, [], ◌∷◌, Option, Some, None, codes, decimal, refl, sym, ap, subst, ◌∙◌, arith, Bool, true, false, ◌||◌, if◌then◌else◌}
+use Rattle.std.proofs.Common.{◌≡◌, ◌++◌, ℕ, List, [], ◌∷◌, Option, Some, None, codes, decimal, refl, sym, ap, subst, ◌∙◌, arith, Bool, true, false, ◌||◌, if◌then◌else◌}
 use Rattle.std.specs.Borrow.{Bor}
 use Rattle.std.proofs.lemmas.List.{append_assoc}
 use Rattle.std.proofs.lemmas.Fmt.{decimal_injective}
@@ -26,10 +26,11 @@ use Rattle.wgsl_syntax.specs.Attribute.{flag_text}
 use Rattle.wgsl_syntax.specs.Texel.{texel_text_by}
 use Rattle.std.specs.Str.{bytes_eq}
 use Rattle.std.proofs.lemmas.Slice.Eq.{bytes_eq-Decides}
+use Rattle.wgsl_syntax.proofs.Naming.{access_naming, space_naming}
 use Rattle.wgsl_rules.specs.types.Spelling.{flagged}
 use Rattle.wgsl_rules.specs.types.Types.{WgslType}
-use Rattle.wgsl_text.specs.spelling.Spells.{Spells, alias_of, aliases, found, acceleration_structure_is, alias_is, around_is, counted_list, list_of, name_of, ray_query_is, sampler_is, scalar_is, texture_is}
-use Rattle.wgsl_text.specs.spelling.internal.{AtFirst, AtLast, CountFits, CountedOf, IsMemory, IsWritten, Lacks, MemoryOf}
+use Rattle.wgsl_text.specs.spelling.Spells.{IsMemory, Spells, access_of, alias_of, aliases, ended_list, found, acceleration_structure_is, alias_is, around_is, name_of, ray_query_is, sampler_is, scalar_is, texture_is}
+use Rattle.wgsl_text.specs.spelling.internal.{AccessedOf, AtFirst, AtLast, CountFits, EndedOf, IfSaid, Lacks, MemoryAt, MemoryOf}
 use Rattle.wgsl_text.proofs.spellings.Cuts.{cut_first, cut_last, either_false, has, lacks_append, lacks_by, lacks_in, no_such_end}
 use Rattle.wgsl_text.proofs.spellings.Written.{lacks_decimal}
 
@@ -49,20 +50,19 @@ pub access_has : (m : AccessMode) → has 44 (access_text m) ≡ false
 access_has access.Read = refl
 access_has _ = refl
 
--- the end of a number of elements is no end of a spelling
-abbrev NoCount : List ℕ → Type 0
-NoCount text = (y : List ℕ) (n : ℕ) → n < 2 ^ 64 → ¬ (text ≡ y ++ (codes ", " ++ decimal n))
+-- no spelling ends in a comma, a space and a text without a bracket
+abbrev NoEnd : List ℕ → Type 0
+NoEnd text = (y end : List ℕ) → Lacks 62 end → ¬ (text ≡ y ++ (codes ", " ++ end))
 
-without_comma : (text : List ℕ) → Lacks 44 text → NoCount text
-without_comma text l y n fits e = lacks_in 44 y (32 ∷ decimal n) (subst (Lacks 44) e l)
+without_comma : (text : List ℕ) → Lacks 44 text → NoEnd text
+without_comma text l y end lacks e = lacks_in 44 y (32 ∷ end) (subst (Lacks 44) e l)
 
-with_bracket : (text z : List ℕ) → text ≡ z ++ (62 ∷ []) → NoCount text
-with_bracket text z is y n fits e =
-    let digits : Lacks 62 (decimal n) = lacks_decimal n 62 fits (λ r. omega (arith, r.1)) in
-    let lacks : Lacks 62 (44 ∷ (32 ∷ decimal n)) = ((λ e. cc e), ((λ e. cc e), digits)) in
-    no_such_end 62 y (44 ∷ (32 ∷ decimal n)) z lacks (omega arith) (sym e ∙ is)
+with_bracket : (text z : List ℕ) → text ≡ z ++ (62 ∷ []) → NoEnd text
+with_bracket text z is y end lacks e =
+    let all : Lacks 62 (44 ∷ (32 ∷ end)) = ((λ e. cc e), ((λ e. cc e), lacks)) in
+    no_such_end 62 y (44 ∷ (32 ∷ end)) z all (omega arith) (sym e ∙ is)
 
-flag_has : (name : List ℕ) → has 44 name ≡ false → (f : Option AccelerationStructureFlags) → NoCount (flagged name f)
+flag_has : (name : List ℕ) → has 44 name ≡ false → (f : Option AccelerationStructureFlags) → NoEnd (flagged name f)
 flag_has name e None = without_comma name (lacks_by 44 name e)
 flag_has name e (Some f) =
     without_comma _ (lacks_append 44 ((name ++ codes "<") ++ flag_text f) (codes ">")
@@ -71,34 +71,34 @@ flag_has name e (Some f) =
     flag_none : (f : AccelerationStructureFlags) → has 44 (flag_text f) ≡ false
     flag_none VertexReturn = refl
 
-sampled_end : (name : List ℕ) (s : SampledType) → NoCount (name ++ ((codes "<" ++ sampled_text s) ++ codes ">"))
+sampled_end : (name : List ℕ) (s : SampledType) → NoEnd (name ++ ((codes "<" ++ sampled_text s) ++ codes ">"))
 sampled_end name s = with_bracket _ (name ++ (codes "<" ++ sampled_text s)) (sym (append_assoc name (codes "<" ++ sampled_text s) (codes ">")))
 
-storage_end : (by : FormatNames) (name : List ℕ) (f : TexelFormat) (m : AccessMode) → NoCount (name ++ ((((codes "<" ++ texel_text_by by f) ++ codes ", ") ++ access_text m) ++ codes ">"))
+storage_end : (by : FormatNames) (name : List ℕ) (f : TexelFormat) (m : AccessMode) → NoEnd (name ++ ((((codes "<" ++ texel_text_by by f) ++ codes ", ") ++ access_text m) ++ codes ">"))
 storage_end by name f m =
     with_bracket _ (name ++ (((codes "<" ++ texel_text_by by f) ++ codes ", ") ++ access_text m)) (sym (append_assoc name (((codes "<" ++ texel_text_by by f) ++ codes ", ") ++ access_text m) (codes ">")))
 
-texture_no_count : (by : FormatNames) (x : TextureType) → NoCount (texture_text_by by x)
-texture_no_count by (textures.Sampled1D s) = sampled_end (codes "texture_1d") s
-texture_no_count by (textures.Sampled2D s) = sampled_end (codes "texture_2d") s
-texture_no_count by (textures.Sampled2DArray s) = sampled_end (codes "texture_2d_array") s
-texture_no_count by (textures.Sampled3D s) = sampled_end (codes "texture_3d") s
-texture_no_count by (textures.SampledCube s) = sampled_end (codes "texture_cube") s
-texture_no_count by (textures.SampledCubeArray s) = sampled_end (codes "texture_cube_array") s
-texture_no_count by (textures.Sampled1DArray s) = sampled_end (codes "texture_1d_array") s
-texture_no_count by (textures.Multisampled2D s) = sampled_end (codes "texture_multisampled_2d") s
-texture_no_count by (textures.Multisampled2DArray s) = sampled_end (codes "texture_multisampled_2d_array") s
-texture_no_count by (textures.Storage1D f m) = storage_end by (codes "texture_storage_1d") f m
-texture_no_count by (textures.Storage1DArray f m) = storage_end by (codes "texture_storage_1d_array") f m
-texture_no_count by (textures.Storage2D f m) = storage_end by (codes "texture_storage_2d") f m
-texture_no_count by (textures.Storage2DArray f m) = storage_end by (codes "texture_storage_2d_array") f m
-texture_no_count by (textures.Storage3D f m) = storage_end by (codes "texture_storage_3d") f m
-texture_no_count by textures.External = without_comma (codes "texture_external") (lacks_by 44 (codes "texture_external") refl)
-texture_no_count by textures.Depth2D = without_comma (codes "texture_depth_2d") (lacks_by 44 (codes "texture_depth_2d") refl)
-texture_no_count by textures.Depth2DArray = without_comma (codes "texture_depth_2d_array") (lacks_by 44 (codes "texture_depth_2d_array") refl)
-texture_no_count by textures.DepthCube = without_comma (codes "texture_depth_cube") (lacks_by 44 (codes "texture_depth_cube") refl)
-texture_no_count by textures.DepthCubeArray = without_comma (codes "texture_depth_cube_array") (lacks_by 44 (codes "texture_depth_cube_array") refl)
-texture_no_count by textures.DepthMultisampled2D = without_comma (codes "texture_depth_multisampled_2d") (lacks_by 44 (codes "texture_depth_multisampled_2d") refl)
+texture_no_end : (by : FormatNames) (x : TextureType) → NoEnd (texture_text_by by x)
+texture_no_end by (textures.Sampled1D s) = sampled_end (codes "texture_1d") s
+texture_no_end by (textures.Sampled2D s) = sampled_end (codes "texture_2d") s
+texture_no_end by (textures.Sampled2DArray s) = sampled_end (codes "texture_2d_array") s
+texture_no_end by (textures.Sampled3D s) = sampled_end (codes "texture_3d") s
+texture_no_end by (textures.SampledCube s) = sampled_end (codes "texture_cube") s
+texture_no_end by (textures.SampledCubeArray s) = sampled_end (codes "texture_cube_array") s
+texture_no_end by (textures.Sampled1DArray s) = sampled_end (codes "texture_1d_array") s
+texture_no_end by (textures.Multisampled2D s) = sampled_end (codes "texture_multisampled_2d") s
+texture_no_end by (textures.Multisampled2DArray s) = sampled_end (codes "texture_multisampled_2d_array") s
+texture_no_end by (textures.Storage1D f m) = storage_end by (codes "texture_storage_1d") f m
+texture_no_end by (textures.Storage1DArray f m) = storage_end by (codes "texture_storage_1d_array") f m
+texture_no_end by (textures.Storage2D f m) = storage_end by (codes "texture_storage_2d") f m
+texture_no_end by (textures.Storage2DArray f m) = storage_end by (codes "texture_storage_2d_array") f m
+texture_no_end by (textures.Storage3D f m) = storage_end by (codes "texture_storage_3d") f m
+texture_no_end by textures.External = without_comma (codes "texture_external") (lacks_by 44 (codes "texture_external") refl)
+texture_no_end by textures.Depth2D = without_comma (codes "texture_depth_2d") (lacks_by 44 (codes "texture_depth_2d") refl)
+texture_no_end by textures.Depth2DArray = without_comma (codes "texture_depth_2d_array") (lacks_by 44 (codes "texture_depth_2d_array") refl)
+texture_no_end by textures.DepthCube = without_comma (codes "texture_depth_cube") (lacks_by 44 (codes "texture_depth_cube") refl)
+texture_no_end by textures.DepthCubeArray = without_comma (codes "texture_depth_cube_array") (lacks_by 44 (codes "texture_depth_cube_array") refl)
+texture_no_end by textures.DepthMultisampled2D = without_comma (codes "texture_depth_multisampled_2d") (lacks_by 44 (codes "texture_depth_multisampled_2d") refl)
 
 abbrev none_has : {A : Type 0} → ℕ → List (List ℕ × A) → Bool
 none_has c [] = false
@@ -118,15 +118,15 @@ found_lacks {A} c (row ∷ rows) text x none e =
 pub alias_lacks : (c : ℕ) (text : List ℕ) (layer : Around) (s : Scalar) → none_has c aliases ≡ false → alias_of text ≡ Some (layer, s) → Lacks c text
 alias_lacks c text layer s none e = found_lacks c aliases text (layer, s) none e
 
-pub no_count : {text : List ℕ} {t : WgslType} → Spells text t → NoCount text
-no_count (scalar_is s) = without_comma (scalar_text s) (lacks_by 44 _ (scalar_has s))
-no_count (sampler_is s) = without_comma (sampler_text s) (lacks_by 44 _ (sampler_has s))
-no_count (texture_is by x) = texture_no_count by x
-no_count (ray_query_is f) = flag_has (codes "ray_query") refl f
-no_count (acceleration_structure_is f) = flag_has (codes "acceleration_structure") refl f
-no_count (alias_is {text} {layer} {s} e) = without_comma text (alias_lacks 44 text layer s refl e)
-no_count (around_is {inner} {t} layer fits d) =
-    with_bracket _ (name_of layer ++ (60 ∷ list_of layer inner)) (sym (append_assoc (name_of layer) (60 ∷ list_of layer inner) (codes ">")))
+pub no_end : {text : List ℕ} {t : WgslType} → Spells text t → NoEnd text
+no_end (scalar_is s) = without_comma (scalar_text s) (lacks_by 44 _ (scalar_has s))
+no_end (sampler_is s) = without_comma (sampler_text s) (lacks_by 44 _ (sampler_has s))
+no_end (texture_is by x) = texture_no_end by x
+no_end (ray_query_is f) = flag_has (codes "ray_query") refl f
+no_end (acceleration_structure_is f) = flag_has (codes "acceleration_structure") refl f
+no_end (alias_is {text} {layer} {s} e) = without_comma text (alias_lacks 44 text layer s refl e)
+no_end (around_is {inner} {t} layer list fits is d) =
+    with_bracket _ (name_of layer ++ (60 ∷ list)) (sym (append_assoc (name_of layer) (60 ∷ list) (codes ">")))
 
 pub tail_same : (a b : List ℕ) → 32 ∷ a ≡ 32 ∷ b → a ≡ b
 tail_same a b e = cc e
@@ -134,77 +134,130 @@ tail_same a b e = cc e
 behind_space : (text : List ℕ) → Lacks 44 text → Lacks 44 (32 ∷ text)
 behind_space text l = ((λ e. cc e), l)
 
--- a text behind a comma and a space lacks commas if it is a number
-pub spaced : (n : ℕ) → n < 2 ^ 64 → Lacks 44 (32 ∷ decimal n)
-spaced n fits = behind_space (decimal n) (lacks_decimal n 44 fits (λ r. omega (arith, r.0)))
+-- what may be said behind a type: a text without a comma and a bracket, of one value alone
+pub record IsSaid {A : Type 0} (text : A → List ℕ) (Fits : A → Type 0) : Type 0 where
+  pub comma : (x : A) → Fits x → Lacks 44 (text x)
+  pub bracket : (x : A) → Fits x → Lacks 62 (text x)
+  pub one : (x y : A) → Fits x → Fits y → text x ≡ text y → x ≡ y
 
-module _ (list : Bor (List ℕ)) (inner : Bor (List ℕ)) (digits : List ℕ) (at : AtLast list.now inner.now digits) where
-  pub counted_some : (n : ℕ) → IsWritten 64 digits n → CountedOf list.now (inner, Some n)
-  counted_some n is = record {
+pub count_said : IsSaid decimal CountFits
+count_said = record {
+  comma = λ n fits. lacks_decimal n 44 fits (λ r. omega (arith, r.0));
+  bracket = λ n fits. lacks_decimal n 62 fits (λ r. omega (arith, r.1));
+  one = λ n m fits f e. decimal_injective n m fits f e;
+}
+
+access_bracket : (m : AccessMode) → has 62 (access_text m) ≡ false
+access_bracket access.Read = refl
+access_bracket _ = refl
+
+pub access_said : IsSaid access_text (λ m. Unit {0})
+access_said = record {
+  comma = λ m fits. lacks_by 44 (access_text m) (access_has m);
+  bracket = λ m fits. lacks_by 62 (access_text m) (access_bracket m);
+  one = λ m n fits f e. access_naming.distinct m n e;
+}
+
+module _ {A : Type 0} (text : A → List ℕ) (Fits : A → Type 0) (is_said : IsSaid text Fits) where
+  said_spaced : (x : A) → Fits x → Lacks 44 (32 ∷ text x)
+  said_spaced x fits = behind_space (text x) (is_said.comma x fits)
+
+  -- a list is one of a type in one way
+  pub ended_one : (list inner other : List ℕ) (said more : Option A) (t u : WgslType) → list ≡ ended_list text inner said → IfSaid Fits said → Spells inner t →
+      list ≡ ended_list text other more → IfSaid Fits more → Spells other u → (other ≡ inner) × (more ≡ said)
+  ended_one list inner other None None t u e f d g h s = (sym g ∙ e, refl)
+  ended_one list inner other None (Some y) t u e f d g h s = absurd (no_end d other (text y) (is_said.bracket y h) (sym e ∙ g))
+  ended_one list inner other (Some x) None t u e f d g h s = absurd (no_end s inner (text x) (is_said.bracket x f) (sym g ∙ e))
+  ended_one list inner other (Some x) (Some y) t u e f d g h s =
+      let same = cut_last 44 other inner (32 ∷ text y) (32 ∷ text x) (said_spaced y h) (said_spaced x f) (sym g ∙ e) in
+      (same.0, ap Some (is_said.one y x h f (tail_same (text y) (text x) same.1)))
+
+  pub ended_some : (list inner : Bor (List ℕ)) (end : List ℕ) → AtLast list.now inner.now end → (x : A) → Fits x → end ≡ text x → EndedOf text Fits list.now (inner, Some x)
+  ended_some list inner end at x fits is = record {
     is = whole;
-    fits = is.1;
+    fits = fits;
     alone = alone;
   }
     where
-      whole : list.now ≡ inner.now ++ (codes ", " ++ decimal n)
-      whole = at.1 ∙ ap (λ d. inner.now ++ (codes ", " ++ d)) is.0
+      whole : list.now ≡ inner.now ++ (codes ", " ++ text x)
+      whole = at.1 ∙ ap (λ d. inner.now ++ (codes ", " ++ d)) is
 
-      alone : (other : List ℕ) (count : Option ℕ) (t : WgslType) → list.now ≡ counted_list other count → CountFits count → Spells other t → (other ≡ inner.now) × (count ≡ Some n)
-      alone other None t e fits d = absurd (no_count d inner.now n is.1 (sym e ∙ whole))
-      alone other (Some m) t e fits d =
-          let same = cut_last 44 other inner.now (32 ∷ decimal m) (32 ∷ decimal n) (spaced m fits) (spaced n is.1) (sym e ∙ whole) in
-          let number = tail_same (decimal m) (decimal n) same.1 in
-          (same.0, ap Some (decimal_injective m n fits is.1 number))
+      alone : (other : List ℕ) (said : Option A) (t : WgslType) → list.now ≡ ended_list text other said → IfSaid Fits said → Spells other t → (other ≡ inner.now) × (said ≡ Some x)
+      alone other None t e f d = absurd (no_end d inner.now (text x) (is_said.bracket x fits) (sym e ∙ whole))
+      alone other (Some y) t e f d =
+          let same = cut_last 44 other inner.now (32 ∷ text y) (32 ∷ text x) (said_spaced y f) (said_spaced x fits) (sym e ∙ whole) in
+          (same.0, ap Some (is_said.one y x f fits (tail_same (text y) (text x) same.1)))
 
--- where no number stands at the end
-no_number_alone : (list inner digits : List ℕ) → AtLast list inner digits → ((n : ℕ) → ¬ IsWritten 64 digits n) → (other : List ℕ) (m : ℕ) → m < 2 ^ 64 → ¬ (list ≡ other ++ (codes ", " ++ decimal m))
-no_number_alone list inner digits at none other m fits e =
-    let same = cut_last 44 other inner (32 ∷ decimal m) (32 ∷ digits) (spaced m fits) (behind_space digits at.0) (sym e ∙ at.1) in
-    none m (sym (tail_same (decimal m) digits same.1), fits)
+  ended_without : (list : Bor (List ℕ)) → ((other : List ℕ) (y : A) → Fits y → ¬ (list.now ≡ other ++ (codes ", " ++ text y))) → EndedOf text Fits list.now (list, None)
+  ended_without list none = record {
+    is = refl;
+    fits = tt;
+    alone = alone;
+  }
+    where
+      alone : (other : List ℕ) (said : Option A) (t : WgslType) → list.now ≡ ended_list text other said → IfSaid Fits said → Spells other t → (other ≡ list.now) × (said ≡ None)
+      alone other None t e f d = (sym e, refl)
+      alone other (Some y) t e f d = absurd (none other y f e)
 
-pub counted_without : (list : Bor (List ℕ)) → ((other : List ℕ) (m : ℕ) → m < 2 ^ 64 → ¬ (list.now ≡ other ++ (codes ", " ++ decimal m))) → CountedOf list.now (list, None)
-counted_without list none = record {
-  is = refl;
-  fits = tt;
-  alone = alone;
-}
-  where
-    alone : (other : List ℕ) (count : Option ℕ) (t : WgslType) → list.now ≡ counted_list other count → CountFits count → Spells other t → (other ≡ list.now) × (count ≡ None)
-    alone other None t e fits d = (sym e, refl)
-    alone other (Some m) t e fits d = absurd (none other m fits e)
+  -- where nothing that may be said stands at the end
+  pub ended_other : (list inner : Bor (List ℕ)) (end : List ℕ) → AtLast list.now inner.now end → ((y : A) → Fits y → ¬ (end ≡ text y)) → EndedOf text Fits list.now (list, None)
+  ended_other list inner end at none = ended_without list (λ other y fits e.
+      let same = cut_last 44 other inner.now (32 ∷ text y) (32 ∷ end) (said_spaced y fits) (behind_space end at.0) (sym e ∙ at.1) in
+      none y fits (sym (tail_same (text y) end same.1)))
 
-pub counted_no_number : (list inner : Bor (List ℕ)) (digits : List ℕ) → AtLast list.now inner.now digits → ((n : ℕ) → ¬ IsWritten 64 digits n) → CountedOf list.now (list, None)
-counted_no_number list inner digits at none = counted_without list (no_number_alone list.now inner.now digits at none)
-
-pub counted_alone : (list : Bor (List ℕ)) → ((a b : List ℕ) → ¬ AtLast list.now a b) → CountedOf list.now (list, None)
-counted_alone list none = counted_without list (λ other m fits e. none other (decimal m) (lacks_decimal m 44 fits (λ r. omega (arith, r.0)), e))
+  pub ended_alone : (list : Bor (List ℕ)) → ((a b : List ℕ) → ¬ AtLast list.now a b) → EndedOf text Fits list.now (list, None)
+  ended_alone list none = ended_without list (λ other y fits e. none other (text y) (is_said.comma y fits, e))
 
 -- an address space, a type and an access mode
 
-pub memory_first : (list before rest : List ℕ) → AtFirst list before rest → (s : AddressSpace) (inner : List ℕ) (m : AccessMode) → IsMemory list s inner m → (before ≡ space_text s) × (rest ≡ inner ++ (codes ", " ++ access_text m))
-memory_first list before rest at s inner m is =
-    let same = cut_first 44 before (space_text s) (32 ∷ rest) (32 ∷ (inner ++ (codes ", " ++ access_text m))) at.0 (lacks_by 44 (space_text s) (space_has s)) (sym at.1 ∙ is) in
-    (same.0, tail_same rest (inner ++ (codes ", " ++ access_text m)) same.1)
-
-pub access_lacks : (m : AccessMode) → Lacks 44 (access_text m)
-access_lacks m = lacks_by 44 (access_text m) (access_has m)
-
-pub space_lacks : (s : AddressSpace) → Lacks 44 (space_text s)
+space_lacks : (s : AddressSpace) → Lacks 44 (space_text s)
 space_lacks s = lacks_by 44 (space_text s) (space_has s)
 
-pub no_memory : (list before rest : List ℕ) → AtFirst list before rest → ((a b : List ℕ) → ¬ AtLast rest a b) → (s : AddressSpace) (inner : List ℕ) (m : AccessMode) → ¬ IsMemory list s inner m
-no_memory list before rest at none s inner m is = none inner (access_text m) (access_lacks m, (memory_first list before rest at s inner m is).1)
+pub memory_first : (list before rest : List ℕ) → AtFirst list before rest → (s : AddressSpace) (inner : List ℕ) (m : AccessMode) (is : IsMemory list s inner m) →
+    (before ≡ space_text s) × (rest ≡ ended_list access_text inner is.said)
+memory_first list before rest at s inner m is =
+    let same = cut_first 44 before (space_text s) (32 ∷ rest) (32 ∷ ended_list access_text inner is.said) at.0 (space_lacks s) (sym at.1 ∙ is.is) in
+    (same.0, tail_same rest (ended_list access_text inner is.said) same.1)
 
-pub memory_last : (list before rest other access : List ℕ) → AtFirst list before rest → AtLast rest other access → (s : AddressSpace) (inner : List ℕ) (m : AccessMode) → IsMemory list s inner m → (other ≡ inner) × (access ≡ access_text m)
-memory_last list before rest other access at last s inner m is =
-    let same = cut_last 44 other inner (32 ∷ access) (32 ∷ access_text m) (behind_space access last.0) (behind_space (access_text m) (access_lacks m)) (sym last.1 ∙ (memory_first list before rest at s inner m is).1) in
-    (same.0, tail_same access (access_text m) same.1)
+pub no_first : (list : List ℕ) → ((a b : List ℕ) → ¬ AtFirst list a b) → (s : AddressSpace) (inner : List ℕ) (m : AccessMode) → ¬ IsMemory list s inner m
+no_first list none s inner m is = none (space_text s) (ended_list access_text inner is.said) (space_lacks s, is.is)
 
 pub no_space : (list before rest : List ℕ) → AtFirst list before rest → ((s : AddressSpace) → ¬ (before ≡ space_text s)) → (s : AddressSpace) (inner : List ℕ) (m : AccessMode) → ¬ IsMemory list s inner m
 no_space list before rest at none s inner m is = none s (memory_first list before rest at s inner m is).0
 
-pub no_access : (list before rest other access : List ℕ) → AtFirst list before rest → AtLast rest other access → ((m : AccessMode) → ¬ (access ≡ access_text m)) → (s : AddressSpace) (inner : List ℕ) (m : AccessMode) → ¬ IsMemory list s inner m
-no_access list before rest other access at last none s inner m is = none m (memory_last list before rest other access at last s inner m is).1
+unsaid : (o : Option AccessMode) → IfSaid (λ (m : AccessMode). Unit {0}) o
+unsaid None = tt
+unsaid (Some m) = tt
+
+pub memory_at : (list before rest : List ℕ) (s : AddressSpace) (inner : Bor (List ℕ)) (said : Option AccessMode) (m : AccessMode) → AtFirst list before rest → before ≡ space_text s →
+    AccessedOf rest (inner, said) → m ≡ access_of s said → MemoryAt list s inner.now m
+memory_at list before rest s inner said m at named accessed access = record {
+  is = record {
+    said = said;
+    is = at.1 ∙ (ap (λ b. b ++ (codes ", " ++ rest)) named ∙ ap (λ r. space_text s ++ (codes ", " ++ r)) accessed.is);
+    access = access;
+  };
+  alone = alone;
+}
+  where
+    alone : (r : AddressSpace) (text : List ℕ) (n : AccessMode) (t : WgslType) → IsMemory list r text n → Spells text t → (r ≡ s) × (text ≡ inner.now) × (n ≡ m)
+    alone r text n t is d =
+        let first = memory_first list before rest at r text n is in
+        let behind = accessed.alone text is.said t first.1 (unsaid is.said) d in
+        let space = space_naming.distinct r s (sym first.0 ∙ named) in
+        (space, behind.0, is.access ∙ (ap (λ r. access_of r is.said) space ∙ (ap (access_of s) behind.1 ∙ sym access)))
+
+-- with the spelling of a type inside
+pub memory_known : (list inner : List ℕ) (s : AddressSpace) (m : AccessMode) (t : WgslType) → IsMemory list s inner m → Spells inner t → MemoryAt list s inner m
+memory_known list inner s m t is d = record { is = is; alone = alone }
+  where
+    alone : (r : AddressSpace) (text : List ℕ) (n : AccessMode) (u : WgslType) → IsMemory list r text n → Spells text u → (r ≡ s) × (text ≡ inner) × (n ≡ m)
+    alone r text n u more e =
+        let behind = ended_list access_text inner is.said in
+        let first = memory_first list (space_text s) behind (space_lacks s, is.is) r text n more in
+        let one = ended_one access_text (λ m. Unit {0}) access_said behind inner text is.said more.said t u refl (unsaid is.said) d first.1 (unsaid more.said) e in
+        let space = space_naming.distinct r s (sym first.0) in
+        (space, one.0, more.access ∙ (ap (λ r. access_of r more.said) space ∙ (ap (access_of s) one.1 ∙ sym is.access)))
 
 pub no_memory_of : (list : List ℕ) (r : Option (AddressSpace × Bor (List ℕ) × AccessMode)) → r ≡ None → ((s : AddressSpace) (inner : List ℕ) (m : AccessMode) → ¬ IsMemory list s inner m) → MemoryOf list r
 no_memory_of list r e none = subst (MemoryOf list) (sym e) none

@@ -5,6 +5,8 @@ use Rattle.std.specs.Str.{bytes_eq}
 use Rattle.std.proofs.lemmas.Slice.Eq.{bytes_eq-Decides}
 use Rattle.std.proofs.lemmas.Grind.{common_steps}
 use Rattle.wgsl_syntax.specs.Address.{access_text, space_text}
+use Rattle.wgsl_syntax.specs.declared.address.AccessMode.{AccessMode}
+use Rattle.wgsl_syntax.specs.declared.address.AddressSpace.{AddressSpace}
 use Rattle.wgsl_syntax.specs.declared.around.Around.TheVariants.{Array, Vec, Mat, BindingArray, Atomic, Ptr, Ref}
 use Rattle.wgsl_rules.specs.types.Around.{around}
 use Rattle.wgsl_rules.specs.types.Types.{WgslType}
@@ -14,7 +16,7 @@ use Rattle.wgsl_syntax.specs.declared.around.Around.{Around}
 use Rattle.wgsl_syntax.specs.declared.scalar.Scalar.{Scalar}
 use Rattle.wgsl_core.specs.View.{view}
 use Rattle.wgsl_core.specs.declared.ty.Type.{«Type»}
-use Rattle.wgsl_text.specs.spelling.Spells.{Spells, alias_of, aliases, found, list_of, with_list}
+use Rattle.wgsl_text.specs.spelling.Spells.{IsList, IsMemory, Spells, alias_of, aliases, ended_list, found, with_list}
 use Rattle.wgsl_text.specs.spelling.internal.{AtList, LayerOf, LeafOf, LeafSpells, OuterOf, PlainSpells, SpellsAround, TypeOf, wrapped}
 use Rattle.wgsl_text.proofs.spellings.Wrapped.{wrapped-last}
 use Rattle.wgsl_text.proofs.spellings.Inverted.{alias_spells, layer_spells, leaf_spells, no_alias_spells, no_layer_spells, only_aliases, only_layers, pair_same, plain_spells}
@@ -38,27 +40,31 @@ leaf_plain text none None no_plain = only_aliases text none no_plain
 
 -- what is inside is shorter
 
-behind_short : (space inner access : List ℕ) → length inner ≤ length (space ++ (codes ", " ++ (inner ++ access)))
-behind_short space inner access = omega (arith, length-append space (codes ", " ++ (inner ++ access)), length-append inner access)
+ended_short : {A : Type 0} (text : A → List ℕ) (inner : List ℕ) (said : Option A) → length inner ≤ length (ended_list text inner said)
+ended_short text inner None = omega arith
+ended_short text inner (Some x) = omega (arith, length-append inner (codes ", " ++ text x))
 
-inner_short : (layer : Around) (inner : List ℕ) → length inner ≤ length (list_of layer inner)
-inner_short (Array None) inner = omega arith
-inner_short (Array (Some n)) inner = omega (arith, length-append inner (codes ", " ++ decimal n))
-inner_short (BindingArray None) inner = omega arith
-inner_short (BindingArray (Some n)) inner = omega (arith, length-append inner (codes ", " ++ decimal n))
-inner_short (Vec n) inner = omega arith
-inner_short (Mat c r) inner = omega arith
-inner_short Atomic inner = omega arith
-inner_short (Ptr s m) inner = behind_short (space_text s) inner (codes ", " ++ access_text m)
-inner_short (Ref s m) inner = behind_short (space_text s) inner (codes ", " ++ access_text m)
+memory_short : (list : List ℕ) (s : AddressSpace) (inner : List ℕ) (m : AccessMode) → IsMemory list s inner m → length inner ≤ length list
+memory_short list s inner m is =
+    let behind = ended_list access_text inner is.said in
+    let whole : length list ≡ length (space_text s ++ (codes ", " ++ behind)) = ap length is.is in
+    omega (arith, whole, ended_short access_text inner is.said, length-append (space_text s) (codes ", " ++ behind))
+
+inner_short : (layer : Around) (inner list : List ℕ) → IsList layer inner list → length inner ≤ length list
+inner_short (Array n) inner list is = subst (λ l. length inner ≤ length l) (sym is) (ended_short decimal inner n)
+inner_short (BindingArray n) inner list is = subst (λ l. length inner ≤ length l) (sym is) (ended_short decimal inner n)
+inner_short (Vec n) inner list is = omega (arith, ap length is)
+inner_short (Mat c r) inner list is = omega (arith, ap length is)
+inner_short Atomic inner list is = omega (arith, ap length is)
+inner_short (Ptr s m) inner list is = memory_short list s inner m is
+inner_short (Ref s m) inner list is = memory_short list s inner m is
 
 pub list_shorter : (text name list : List ℕ) → AtList text name list → (r : Option (Around × Bor (List ℕ))) → LayerOf name list r → IfSome r (λ found. length found.1.now < length text)
 list_shorter text name list at None is = tt
 list_shorter text name list at (Some x) is =
-    let inside = inner_short x.0 x.1.now in
-    let whole : length list ≡ length (list_of x.0 x.1.now) = ap length is.0.list_is in
+    let inside = inner_short x.0 x.1.now list is.0.list_is in
     let long : length text ≡ length (with_list name list) = ap length at.1 in
-    omega (arith, inside, whole, long, length-append name (codes "<" ++ (list ++ codes ">")), length-append list (codes ">"))
+    omega (arith, inside, long, length-append name (codes "<" ++ (list ++ codes ">")), length-append list (codes ">"))
 
 -- each alias is longer than the name of its scalar
 abbrev all_longer : List (List ℕ × (Around × Scalar)) → Bool

@@ -3,15 +3,12 @@ use Rattle.std.proofs.Common.{◌≡◌, ◌<◌, ◌^◌, ◌++◌, ℕ, List, 
 use Rattle.std.proofs.lemmas.Fmt.{decimal_injective}
 use Rattle.wgsl_syntax.specs.declared.around.Around.{Around}
 use Rattle.wgsl_syntax.specs.declared.around.Around.TheVariants.{Array, Vec, Mat, BindingArray, Atomic, Ptr, Ref}
-use Rattle.wgsl_syntax.specs.Address.{access_text, space_text}
 use Rattle.wgsl_syntax.specs.declared.address.AccessMode.{AccessMode}
 use Rattle.wgsl_syntax.specs.declared.address.AddressSpace.{AddressSpace}
-use Rattle.wgsl_syntax.proofs.Naming.{access_naming, space_naming}
 use Rattle.wgsl_rules.specs.types.Types.{WgslType}
-use Rattle.wgsl_text.specs.spelling.Spells.{IsInRange, Spells, list_of, name_of}
-use Rattle.wgsl_text.specs.spelling.internal.{IsMemory, IsSides, IsWritten, LayerAt, Lacks, SidesOf}
+use Rattle.wgsl_text.specs.spelling.Spells.{IsInRange, IsList, Spells, name_of}
+use Rattle.wgsl_text.specs.spelling.internal.{IsSides, IsWritten, LayerAt, Lacks, MemoryAt, SidesOf}
 use Rattle.wgsl_text.proofs.spellings.Cuts.{cut_first, lacks_in}
-use Rattle.wgsl_text.proofs.spellings.Lists.{access_lacks, memory_first, memory_last, space_lacks}
 use Rattle.wgsl_text.proofs.spellings.Written.{lacks_decimal}
 
 pub no_sides : (name : List ℕ) (r : Option Around) → r ≡ None → ((layer : Around) → IsSides layer → IsInRange layer → ¬ (name ≡ name_of layer)) → SidesOf name r
@@ -81,38 +78,41 @@ name_one Atomic other s f g e = absurd s
 name_one (Ptr p m) other s f g e = absurd s
 name_one (Ref p m) other s f g e = absurd s
 
-sides_list : (layer : Around) (inner : List ℕ) → IsSides layer → list_of layer inner ≡ inner
-sides_list (Vec n) inner s = refl
-sides_list (Mat c r) inner s = refl
-sides_list (Array k) inner s = absurd s
-sides_list (BindingArray k) inner s = absurd s
-sides_list Atomic inner s = absurd s
-sides_list (Ptr p m) inner s = absurd s
-sides_list (Ref p m) inner s = absurd s
+sides_list : (layer : Around) (inner list : List ℕ) → IsSides layer → IsList layer inner list → list ≡ inner
+sides_list (Vec n) inner list s is = is
+sides_list (Mat c r) inner list s is = is
+sides_list (Array k) inner list s is = absurd s
+sides_list (BindingArray k) inner list s is = absurd s
+sides_list Atomic inner list s is = absurd s
+sides_list (Ptr p m) inner list s is = absurd s
+sides_list (Ref p m) inner list s is = absurd s
+
+list_sides : (layer : Around) (list : List ℕ) → IsSides layer → IsList layer list list
+list_sides (Vec n) list s = refl
+list_sides (Mat c r) list s = refl
+list_sides (Array k) list s = absurd s
+list_sides (BindingArray k) list s = absurd s
+list_sides Atomic list s = absurd s
+list_sides (Ptr p m) list s = absurd s
+list_sides (Ref p m) list s = absurd s
 
 abbrev pub Alone : List ℕ → List ℕ → Around → List ℕ → Type 0
 Alone name list layer inner = LayerAt name list layer inner × ((other : Around) (text : List ℕ) (t : WgslType) → LayerAt name list other text → Spells text t → (other ≡ layer) × (text ≡ inner))
 
 pub sides_alone : (name list : List ℕ) (layer : Around) → IsSides layer → IsInRange layer → name ≡ name_of layer → Alone name list layer list
-sides_alone name list layer s fits is = (record { name_is = is; list_is = sym (sides_list layer list s); fits = fits }, only)
+sides_alone name list layer s fits is = (record { name_is = is; list_is = list_sides layer list s; fits = fits }, only)
   where
     only : (other : Around) (text : List ℕ) (t : WgslType) → LayerAt name list other text → Spells text t → (other ≡ layer) × (text ≡ list)
     only other text t at d =
         let same = name_one layer other s fits at.fits (sym is ∙ at.name_is) in
-        (same, sym (at.list_is ∙ (ap (λ l. list_of l text) same ∙ sides_list layer text s)))
+        (same, sym (sides_list layer text list s (subst (λ l. IsList l text list) same at.list_is)))
 
-memory_same : (list : List ℕ) (s r : AddressSpace) (inner other : List ℕ) (m n : AccessMode) → IsMemory list s inner m → IsMemory list r other n → (r ≡ s) × (other ≡ inner) × (n ≡ m)
-memory_same list s r inner other m n is at =
-    let first = memory_first list (space_text s) (inner ++ (codes ", " ++ access_text m)) (space_lacks s, is) r other n at in
-    let last = memory_last list (space_text s) (inner ++ (codes ", " ++ access_text m)) inner (access_text m) (space_lacks s, is) (access_lacks m, refl) r other n at in
-    (space_naming.distinct r s (sym first.0), sym last.0, access_naming.distinct n m (sym last.1))
-
-pub pointer_alone : (name list : List ℕ) (s : AddressSpace) (inner : List ℕ) (m : AccessMode) → name ≡ codes "ptr" → IsMemory list s inner m → Alone name list (Ptr s m) inner
-pointer_alone name list s inner m is memory = (record { name_is = is; list_is = memory; fits = tt }, only)
+pub pointer_alone : (name list : List ℕ) (s : AddressSpace) (inner : List ℕ) (m : AccessMode) → name ≡ codes "ptr" → MemoryAt list s inner m → Alone name list (Ptr s m) inner
+pointer_alone name list s inner m is memory = (record { name_is = is; list_is = memory.is; fits = tt }, only)
   where
     only : (other : Around) (text : List ℕ) (t : WgslType) → LayerAt name list other text → Spells text t → (other ≡ Ptr s m) × (text ≡ inner)
     only (Ptr r n) text t at d =
-        let same = memory_same list s r inner text m n memory at.list_is in
+        let same = memory.alone r text n t at.list_is d in
         (ap (λ r. Ptr r n) same.0 ∙ ap (Ptr s) same.2, same.1)
     only (Array k) text t at d = let no : 112 ≡ 97 = heads _ _ _ _ (sym is ∙ at.name_is) in absurd (omega (arith, no))
     only (BindingArray k) text t at d = let no : 112 ≡ 98 = heads _ _ _ _ (sym is ∙ at.name_is) in absurd (omega (arith, no))
@@ -121,12 +121,12 @@ pointer_alone name list s inner m is memory = (record { name_is = is; list_is = 
     only (Vec n) text t at d = let no : 112 ≡ 118 = heads _ _ _ _ (sym is ∙ at.name_is) in absurd (omega (arith, no))
     only (Mat c r) text t at d = let no : 112 ≡ 109 = heads _ _ _ _ (sym is ∙ at.name_is) in absurd (omega (arith, no))
 
-pub reference_alone : (name list : List ℕ) (s : AddressSpace) (inner : List ℕ) (m : AccessMode) → name ≡ codes "ref" → IsMemory list s inner m → Alone name list (Ref s m) inner
-reference_alone name list s inner m is memory = (record { name_is = is; list_is = memory; fits = tt }, only)
+pub reference_alone : (name list : List ℕ) (s : AddressSpace) (inner : List ℕ) (m : AccessMode) → name ≡ codes "ref" → MemoryAt list s inner m → Alone name list (Ref s m) inner
+reference_alone name list s inner m is memory = (record { name_is = is; list_is = memory.is; fits = tt }, only)
   where
     only : (other : Around) (text : List ℕ) (t : WgslType) → LayerAt name list other text → Spells text t → (other ≡ Ref s m) × (text ≡ inner)
     only (Ref r n) text t at d =
-        let same = memory_same list s r inner text m n memory at.list_is in
+        let same = memory.alone r text n t at.list_is d in
         (ap (λ r. Ref r n) same.0 ∙ ap (Ref s) same.2, same.1)
     only (Array k) text t at d = let no : 114 ≡ 97 = heads _ _ _ _ (sym is ∙ at.name_is) in absurd (omega (arith, no))
     only (BindingArray k) text t at d = let no : 114 ≡ 98 = heads _ _ _ _ (sym is ∙ at.name_is) in absurd (omega (arith, no))

@@ -1,5 +1,5 @@
 -- A text spells one type.
-use Rattle.std.proofs.Common.{◌≡◌, ◌++◌, ◌⊎◌, inl, inr, ℕ, List, ◌∷◌, Option, Some, None, codes, decimal, false, get_or, refl, sym, ap, subst, ◌∙◌, arith}
+use Rattle.std.proofs.Common.{◌≡◌, ◌++◌, ◌⊎◌, inl, inr, ℕ, List, Option, Some, None, codes, decimal, false, get_or, refl, sym, ap, subst, ◌∙◌, arith}
 use Rattle.wgsl_syntax.specs.Attribute.{flag_text}
 use Rattle.wgsl_syntax.specs.Texture.{sampler_text, texture_name, texture_text_by}
 use Rattle.wgsl_syntax.specs.TextureName.{name_of as texture_name_of, parameter_kind, parameters_of}
@@ -14,8 +14,8 @@ use Rattle.wgsl_syntax.proofs.Naming.{flag_naming, sampler_naming, texture_namin
 use Rattle.wgsl_syntax.proofs.Textures.{made_again, same_kind, texture_is as texture_found_is}
 use Rattle.wgsl_rules.specs.types.Around.{around}
 use Rattle.wgsl_rules.specs.types.Types.{WgslType, scalar, within, struct, atomic, pointer, reference, texture, sampler, binding_array, ray_query, acceleration_structure}
-use Rattle.wgsl_text.specs.spelling.Spells.{IsInRange, Spells, acceleration_structure_is, alias_of, alias_is, around_is, list_of, name_of, ray_query_is, sampler_is, scalar_is, texture_is, with_list, counted_list}
-use Rattle.wgsl_text.specs.spelling.internal.{AreListedBy, AtList, CountFits, LayerAt, LeafSpells, PlainSpells}
+use Rattle.wgsl_text.specs.spelling.Spells.{IsInRange, IsList, Spells, acceleration_structure_is, alias_of, alias_is, around_is, name_of, ray_query_is, sampler_is, scalar_is, texture_is, with_list}
+use Rattle.wgsl_text.specs.spelling.internal.{AreListedBy, AtList, CountFits, IfSaid, LayerAt, LeafSpells, PlainSpells}
 use Rattle.wgsl_text.proofs.spellings.Inverted.{InLayer, IsAlias, flag_spelled, leaf_name, name_lacks, sampler_has, pair_same, plain_no_alias, plain_spells, sampler_byte, scalar_only, with_cut, without_cut}
 use Rattle.wgsl_syntax.specs.Address.{access_text}
 use Rattle.wgsl_syntax.specs.Texel.{texel_text_by}
@@ -24,9 +24,8 @@ use Rattle.wgsl_syntax.specs.declared.texture.TextureType.TheVariants as texture
 use Rattle.wgsl_syntax.specs.declared.texture_name.TextureParameters.{TextureParameters}
 use Rattle.wgsl_syntax.specs.declared.texture_name.TextureParameters.TheVariants as parameters
 use Rattle.wgsl_rules.specs.types.Spelling.{flagged}
-use Rattle.std.proofs.lemmas.Fmt.{decimal_injective}
-use Rattle.wgsl_text.proofs.spellings.Cuts.{cut_last, has, lacks_by, no_list}
-use Rattle.wgsl_text.proofs.spellings.Lists.{alias_lacks, no_count, spaced, tail_same}
+use Rattle.wgsl_text.proofs.spellings.Cuts.{has, lacks_by, no_list}
+use Rattle.wgsl_text.proofs.spellings.Lists.{alias_lacks, count_said, ended_one, memory_known}
 use Rattle.wgsl_text.proofs.spellings.Sides.{heads, pointer_alone, reference_alone, sides_alone}
 use Rattle.wgsl_text.proofs.spellings.Textures.{listed_one, texture_alone, texture_byte, texture_cut, texture_listed}
 
@@ -210,27 +209,19 @@ texture_one by x u e = step (parameters_of x) refl
 
 -- layers
 
-count_one : (list inner text : List ℕ) (n k : Option ℕ) (t u : WgslType) → list ≡ counted_list inner n → CountFits n → Spells inner t → list ≡ counted_list text k → CountFits k → Spells text u → (k ≡ n) × (text ≡ inner)
-count_one list inner text None None t u e f d g h s = (refl, sym g ∙ e)
-count_one list inner text None (Some m) t u e f d g h s = absurd (no_count d text m h (sym e ∙ g))
-count_one list inner text (Some n) None t u e f d g h s = absurd (no_count s inner n f (sym g ∙ e))
-count_one list inner text (Some n) (Some m) t u e f d g h s =
-    let same = cut_last 44 text inner (32 ∷ decimal m) (32 ∷ decimal n) (spaced m h) (spaced n f) (sym g ∙ e) in
-    (ap Some (decimal_injective m n h f (tail_same (decimal m) (decimal n) same.1)), same.0)
-
-array_fits : (n : Option ℕ) → IsInRange (Array n) → CountFits n
+array_fits : (n : Option ℕ) → IsInRange (Array n) → IfSaid CountFits n
 array_fits None f = tt
 array_fits (Some n) f = f
 
-binding_fits : (n : Option ℕ) → IsInRange (BindingArray n) → CountFits n
+binding_fits : (n : Option ℕ) → IsInRange (BindingArray n) → IfSaid CountFits n
 binding_fits None f = tt
 binding_fits (Some n) f = f
 
 module _ (name list inner text : List ℕ) (t u : WgslType) where
   array_one : (n : Option ℕ) (other : Around) → LayerAt name list (Array n) inner → Spells inner t → LayerAt name list other text → Spells text u → (other ≡ Array n) × (text ≡ inner)
   array_one n (Array k) at d more e =
-      let same = count_one list inner text n k t u at.list_is (array_fits n at.fits) d more.list_is (array_fits k more.fits) e in
-      (ap Array same.0, same.1)
+      let same = ended_one decimal CountFits count_said list inner text n k t u at.list_is (array_fits n at.fits) d more.list_is (array_fits k more.fits) e in
+      (ap Array same.1, same.0)
   array_one n (BindingArray k) at d more e = let no = sym at.name_is ∙ more.name_is in cc no
   array_one n Atomic at d more e = let no = sym at.name_is ∙ more.name_is in cc no
   array_one n (Ptr p m) at d more e = let no = sym at.name_is ∙ more.name_is in cc no
@@ -241,8 +232,8 @@ module _ (name list inner text : List ℕ) (t u : WgslType) where
   binding_one : (n : Option ℕ) (other : Around) → LayerAt name list (BindingArray n) inner → Spells inner t → LayerAt name list other text → Spells text u → (other ≡ BindingArray n) × (text ≡ inner)
   binding_one n (Array k) at d more e = let no = sym at.name_is ∙ more.name_is in cc no
   binding_one n (BindingArray k) at d more e =
-      let same = count_one list inner text n k t u at.list_is (binding_fits n at.fits) d more.list_is (binding_fits k more.fits) e in
-      (ap BindingArray same.0, same.1)
+      let same = ended_one decimal CountFits count_said list inner text n k t u at.list_is (binding_fits n at.fits) d more.list_is (binding_fits k more.fits) e in
+      (ap BindingArray same.1, same.0)
   binding_one n Atomic at d more e = let no = sym at.name_is ∙ more.name_is in cc no
   binding_one n (Ptr p m) at d more e = let no = sym at.name_is ∙ more.name_is in cc no
   binding_one n (Ref p m) at d more e = let no = sym at.name_is ∙ more.name_is in cc no
@@ -262,20 +253,20 @@ module _ (name list inner text : List ℕ) (t u : WgslType) where
   one_layer (Array n) other at d more e = array_one n other at d more e
   one_layer (BindingArray n) other at d more e = binding_one n other at d more e
   one_layer Atomic other at d more e = atomic_one other at d more e
-  one_layer (Ptr s m) other at d more e = (pointer_alone name list s inner m at.name_is at.list_is).1 other text u more e
-  one_layer (Ref s m) other at d more e = (reference_alone name list s inner m at.name_is at.list_is).1 other text u more e
+  one_layer (Ptr s m) other at d more e = (pointer_alone name list s inner m at.name_is (memory_known list inner s m t at.list_is d)).1 other text u more e
+  one_layer (Ref s m) other at d more e = (reference_alone name list s inner m at.name_is (memory_known list inner s m t at.list_is d)).1 other text u more e
   one_layer (Vec n) other at d more e = let same = (sides_alone name list (Vec n) tt at.fits at.name_is).1 other text u more e in (same.0, same.1 ∙ at.list_is)
   one_layer (Mat c r) other at d more e = let same = (sides_alone name list (Mat c r) tt at.fits at.name_is).1 other text u more e in (same.0, same.1 ∙ at.list_is)
 
-in_layer_one : (layer : Around) (inner : List ℕ) (t u : WgslType) → IsInRange layer → Spells inner t → ((v : WgslType) → Spells inner v → t ≡ v) → Spells (with_list (name_of layer) (list_of layer inner)) u → around layer t ≡ u
-in_layer_one layer inner t u fits d inside e = step (with_cut e (name_of layer) (list_of layer inner) (name_lacks layer fits, refl))
+in_layer_one : (layer : Around) (inner list : List ℕ) (t u : WgslType) → IsInRange layer → IsList layer inner list → Spells inner t → ((v : WgslType) → Spells inner v → t ≡ v) → Spells (with_list (name_of layer) list) u → around layer t ≡ u
+in_layer_one layer inner list t u fits is d inside e = step (with_cut e (name_of layer) list (name_lacks layer fits, refl))
   where
-    step : InLayer (name_of layer) (list_of layer inner) u ⊎ LeafSpells (name_of layer) (list_of layer inner) u → around layer t ≡ u
+    step : InLayer (name_of layer) list u ⊎ LeafSpells (name_of layer) list u → around layer t ≡ u
     step (inl c) =
-        let same = one_layer (name_of layer) (list_of layer inner) inner c.inner t c.inside layer c.layer (record { name_is = refl; list_is = refl; fits = fits }) d c.at c.spells in
+        let same = one_layer (name_of layer) list inner c.inner t c.inside layer c.layer (record { name_is = refl; list_is = is; fits = fits }) d c.at c.spells in
         let one = inside c.inside (subst (λ w. Spells w c.inside) same.1 c.spells) in
         ap (around layer) one ∙ (ap (λ l. around l c.inside) (sym same.0) ∙ sym c.is)
-    step (inr l) = absurd (leaf_name (name_of layer) (list_of layer inner) u layer l refl)
+    step (inr l) = absurd (leaf_name (name_of layer) list u layer l refl)
 
 alias_one : (text : List ℕ) (layer : Around) (s : Scalar) (u : WgslType) → alias_of text ≡ Some (layer, s) → Spells text u → around layer (scalar s) ≡ u
 alias_one text layer s u e d = step (without_cut d (no_list text (alias_lacks 60 text layer s refl e)))
@@ -298,4 +289,4 @@ one_spelled (acceleration_structure_is None) u e =
     uncut_one (codes "acceleration_structure") (acceleration_structure None) u (no_list (codes "acceleration_structure") (lacks_by 60 (codes "acceleration_structure") refl)) refl e
 one_spelled (acceleration_structure_is (Some f)) u e = flag_one (codes "acceleration_structure") f (acceleration_structure (Some f)) u refl (refl, refl) e
 one_spelled (alias_is {text} {layer} {s} e) u d = alias_one text layer s u e d
-one_spelled (around_is {inner} {t} layer fits d) u e = in_layer_one layer inner t u fits d (λ v s. one_spelled d v s) e
+one_spelled (around_is {inner} {t} layer list fits is d) u e = in_layer_one layer inner list t u fits is d (λ v s. one_spelled d v s) e

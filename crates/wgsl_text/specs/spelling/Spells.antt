@@ -1,9 +1,11 @@
 -- Which type a text spells: as WGSL writes it, or by a predeclared alias (WGSL, "Predeclared Types", "Predeclared Aliases").
 use Rattle.std.specs.Prelude.{◌≡◌, ◌<◌, ◌^◌, ◌++◌, ℕ, List, [], ◌∷◌, Option, Some, None, codes, decimal, if◌then◌else◌}
 use Rattle.std.specs.Str.{bytes_eq}
-use Rattle.wgsl_syntax.specs.Address.{access_text, space_text}
+use Rattle.wgsl_syntax.specs.Address.{access_text, default_access, space_text}
 use Rattle.wgsl_syntax.specs.Scalar.{scalar_text}
 use Rattle.wgsl_syntax.specs.Texture.{sampler_text, texture_text_by}
+use Rattle.wgsl_syntax.specs.declared.address.AccessMode.{AccessMode}
+use Rattle.wgsl_syntax.specs.declared.address.AddressSpace.{AddressSpace}
 use Rattle.wgsl_syntax.specs.declared.around.Around.{Around}
 use Rattle.wgsl_syntax.specs.declared.around.Around.TheVariants.{Array, Vec, Mat, BindingArray, Atomic, Ptr, Ref}
 use Rattle.wgsl_syntax.specs.declared.attribute.AccelerationStructureFlags.{AccelerationStructureFlags}
@@ -26,18 +28,29 @@ name_of Atomic = codes "atomic"
 name_of (Ptr s m) = codes "ptr"
 name_of (Ref s m) = codes "ref"
 
--- an element, and the number of elements if it is known: `f32, 4`
-abbrev pub counted_list : List ℕ → Option ℕ → List ℕ
-counted_list inner None = inner
-counted_list inner (Some n) = inner ++ (codes ", " ++ decimal n)
+-- a type, and what may be said behind it: a number of elements, as in `f32, 4`, or an access mode, as in `f32, read`
+abbrev pub ended_list : {A : Type 0} → (A → List ℕ) → List ℕ → Option A → List ℕ
+ended_list text inner None = inner
+ended_list text inner (Some x) = inner ++ (codes ", " ++ text x)
 
--- what stands between the angle brackets, where the type inside is spelled so
-abbrev pub list_of : Around → List ℕ → List ℕ
-list_of (Array n) inner = counted_list inner n
-list_of (BindingArray n) inner = counted_list inner n
-list_of (Ptr s m) inner = space_text s ++ (codes ", " ++ (inner ++ (codes ", " ++ access_text m)))
-list_of (Ref s m) inner = space_text s ++ (codes ", " ++ (inner ++ (codes ", " ++ access_text m)))
-list_of layer inner = inner
+-- an access mode that isn't said is the default of the address space
+abbrev pub access_of : AddressSpace → Option AccessMode → AccessMode
+access_of s None = default_access s
+access_of s (Some m) = m
+
+-- an address space, a type and an access mode: `function, f32, read_write`, `function, f32`
+pub record IsMemory (list : List ℕ) (s : AddressSpace) (inner : List ℕ) (m : AccessMode) : Type 0 where
+  pub said : Option AccessMode
+  pub is : list ≡ space_text s ++ (codes ", " ++ ended_list access_text inner said)
+  pub access : m ≡ access_of s said
+
+-- what may stand between the angle brackets, where the type inside is spelled so
+abbrev pub IsList : Around → List ℕ → List ℕ → Type 0
+IsList (Array n) inner list = list ≡ ended_list decimal inner n
+IsList (BindingArray n) inner list = list ≡ ended_list decimal inner n
+IsList (Ptr s m) inner list = IsMemory list s inner m
+IsList (Ref s m) inner list = IsMemory list s inner m
+IsList layer inner list = list ≡ inner
 
 -- a name with a list: `array<f32, 4>`
 abbrev pub with_list : List ℕ → List ℕ → List ℕ
@@ -93,6 +106,6 @@ pub data Spells : List ℕ → WgslType → Type 0 where
       Spells (flagged (codes "acceleration_structure") f) (acceleration_structure f)
   -- `vec3f`
   alias_is : {text : List ℕ} {layer : Around} {s : Scalar} → alias_of text ≡ Some (layer, s) → Spells text (around layer (scalar s))
-  -- `vec3<f32>`, `array<mat4x3f, 4>`, `ptr<function, i32, read_write>`
-  around_is : {inner : List ℕ} {t : WgslType} (layer : Around) → IsInRange layer → Spells inner t →
-      Spells (with_list (name_of layer) (list_of layer inner)) (around layer t)
+  -- `vec3<f32>`, `array<mat4x3f, 4>`, `ptr<function, i32>`, `ptr<storage, i32, read_write>`
+  around_is : {inner : List ℕ} {t : WgslType} (layer : Around) (list : List ℕ) → IsInRange layer → IsList layer inner list → Spells inner t →
+      Spells (with_list (name_of layer) list) (around layer t)

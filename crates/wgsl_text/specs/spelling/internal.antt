@@ -1,7 +1,7 @@
 -- How a type is read from its spelling: layer by layer.
 use Rattle.std.specs.Prelude.{◌≡◌, ◌≢◌, ◌↔◌, ◌<◌, ◌^◌, ◌++◌, ℕ, List, [], ◌∷◌, Option, Some, None, MatchOption, codes, decimal, length, slice_index}
 use Rattle.std.specs.Borrow.{Bor}
-use Rattle.wgsl_syntax.specs.Address.{access_text, space_text}
+use Rattle.wgsl_syntax.specs.Address.{access_text}
 use Rattle.wgsl_syntax.specs.declared.address.AccessMode.{AccessMode}
 use Rattle.wgsl_syntax.specs.declared.address.AddressSpace.{AddressSpace}
 use Rattle.wgsl_syntax.specs.declared.around.Around.{Around}
@@ -18,7 +18,7 @@ use Rattle.wgsl_syntax.specs.declared.texture_name.TextureParameters.TheVariants
 use Rattle.wgsl_rules.specs.types.Types.{WgslType, scalar, texture, sampler, ray_query, acceleration_structure}
 use Rattle.wgsl_core.specs.View.{view}
 use Rattle.wgsl_core.specs.declared.ty.Type.{«Type»}
-use Rattle.wgsl_text.specs.spelling.Spells.{IsInRange, Spells, counted_list, list_of, name_of, with_list}
+use Rattle.wgsl_text.specs.spelling.Spells.{IsInRange, IsList, IsMemory, Spells, ended_list, name_of, with_list}
 
 -- the type with the layers around it, of which the first is the outermost
 abbrev pub wrapped : List Around → WgslType → WgslType
@@ -58,31 +58,42 @@ abbrev pub PartsOf : (List ℕ → List ℕ → List ℕ → Type 0) → List �
 PartsOf At text result = MatchOption result
     ((a b : List ℕ) → ¬ At text a b) (λ parts. At text parts.0.now parts.1.now)
 
--- an address space, a type and an access mode
-abbrev pub IsMemory : List ℕ → AddressSpace → List ℕ → AccessMode → Type 0
-IsMemory list s inner m = list ≡ space_text s ++ (codes ", " ++ (inner ++ (codes ", " ++ access_text m)))
+-- a number of elements is one that types can have
+abbrev pub CountFits : ℕ → Type 0
+CountFits n = n < 2 ^ 64
+
+abbrev pub IfSaid : {A : Type 0} → (A → Type 0) → Option A → Type 0
+IfSaid Fits None = Unit {0}
+IfSaid Fits (Some x) = Fits x
+
+-- a list of a type, and perhaps what is said behind it: where a type is spelled in front, it is this one
+pub record EndedOf {A : Type 0} (text : A → List ℕ) (Fits : A → Type 0) (list : List ℕ) (result : Bor (List ℕ) × Option A) : Type 0 where
+  pub is : list ≡ ended_list text result.0.now result.1
+  pub fits : IfSaid Fits result.1
+  pub alone : (inner : List ℕ) (said : Option A) (t : WgslType) → list ≡ ended_list text inner said → IfSaid Fits said → Spells inner t →
+      (inner ≡ result.0.now) × (said ≡ result.1)
+
+abbrev pub CountedOf : List ℕ → Bor (List ℕ) × Option ℕ → Type 0
+CountedOf list result = EndedOf decimal CountFits list result
+
+abbrev pub AccessedOf : List ℕ → Bor (List ℕ) × Option AccessMode → Type 0
+AccessedOf list result = EndedOf access_text (λ m. Unit {0}) list result
+
+-- an address space, a type and an access mode: where a type is spelled there, they are these
+pub record MemoryAt (list : List ℕ) (s : AddressSpace) (inner : List ℕ) (m : AccessMode) : Type 0 where
+  pub is : IsMemory list s inner m
+  pub alone : (r : AddressSpace) (text : List ℕ) (n : AccessMode) (t : WgslType) → IsMemory list r text n → Spells text t →
+      (r ≡ s) × (text ≡ inner) × (n ≡ m)
 
 abbrev pub MemoryOf : List ℕ → Option (AddressSpace × Bor (List ℕ) × AccessMode) → Type 0
 MemoryOf list result = MatchOption result
     ((s : AddressSpace) (inner : List ℕ) (m : AccessMode) → ¬ IsMemory list s inner m)
-    (λ found. IsMemory list found.0 found.1.now found.2)
-
--- a number of elements, if it is known
-abbrev pub CountFits : Option ℕ → Type 0
-CountFits None = Unit {0}
-CountFits (Some n) = n < 2 ^ 64
-
--- a list of an element, and perhaps the number of elements: where a type is spelled in front, it is this one
-pub record CountedOf (list : List ℕ) (result : Bor (List ℕ) × Option ℕ) : Type 0 where
-  pub is : list ≡ counted_list result.0.now result.1
-  pub fits : CountFits result.1
-  pub alone : (inner : List ℕ) (count : Option ℕ) (t : WgslType) → list ≡ counted_list inner count → CountFits count → Spells inner t →
-      (inner ≡ result.0.now) × (count ≡ result.1)
+    (λ found. MemoryAt list found.0 found.1.now found.2)
 
 -- a name and a list are those of a layer with the spelling of a type inside
 pub record LayerAt (name list : List ℕ) (layer : Around) (inner : List ℕ) : Type 0 where
   pub name_is : name ≡ name_of layer
-  pub list_is : list ≡ list_of layer inner
+  pub list_is : IsList layer inner list
   pub fits : IsInRange layer
 
 -- a vector or a matrix

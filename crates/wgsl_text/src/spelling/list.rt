@@ -11,7 +11,7 @@ ghost use Rattle.wgsl_syntax.specs.declared.texel.TexelFormat.{TexelFormat};
 ghost use Rattle.wgsl_syntax.specs.declared.texture.TextureType.{TextureType};
 ghost use Rattle.wgsl_syntax.specs.declared.texture_name.TextureParameters.{TextureParameters};
 ghost use Rattle.wgsl_syntax.specs.declared.texture_name.TextureParameters.TheVariants as parameters;
-ghost use Rattle.wgsl_text.specs.spelling.internal.{AreListed, AtFirst, AtLast, AtList, BeginsAsNumber, CountedOf, LayerOf, LeafSpells, MemoryOf, NumberOf, PartsOf, SidesOf, TypeOf};
+ghost use Rattle.wgsl_text.specs.spelling.internal.{AccessedOf, AreListed, AtFirst, AtLast, AtList, BeginsAsNumber, CountedOf, LayerOf, LeafSpells, MemoryOf, NumberOf, PartsOf, SidesOf, TypeOf};
 
 use std::str::FromStr;
 use wgsl_core::ty::Type;
@@ -69,25 +69,39 @@ fn counted(list: &str) -> (&str, Option<usize>)
     }
 }
 
-/// The address space, the spelling of the type, and the access mode.
+/// The address space, the spelling of the type, and the access mode, or the default of the address space.
 fn memory(list: &str) -> Option<(AddressSpace, &str, AccessMode)>
     ensures { MemoryOf list.now result }
 {
     let (space, rest) = first(list)?;
-    let (inner, access) = last(rest)?;
-    Some((
-        space_named(space)?,
-        inner,
-        AccessMode::from_str(access).ok()?,
-    ))
+    let space = space_named(space)?;
+    let (inner, access) = accessed(rest);
+    match access {
+        Some(access) => Some((space, inner, access)),
+        None => Some((space, inner, space.default_access_mode())),
+    }
 }
 
+/// The address space with this name, which may be `handle`.
 fn space_named(name: &str) -> Option<AddressSpace>
     ensures { (s : AddressSpace) → (result ≡ Some s) ↔ (name.now ≡ space_text s) }
 {
     match name {
         "handle" => Some(AddressSpace::Handle),
         _ => AddressSpace::from_str(name).ok(),
+    }
+}
+
+/// The spelling of a type, and the access mode, if one follows.
+fn accessed(list: &str) -> (&str, Option<AccessMode>)
+    ensures { AccessedOf list.now result }
+{
+    match last(list) {
+        Some((inner, access)) => match AccessMode::from_str(access) {
+            Ok(access) => (inner, Some(access)),
+            Err(_) => (list, None),
+        },
+        None => (list, None),
     }
 }
 

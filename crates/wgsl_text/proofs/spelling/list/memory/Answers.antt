@@ -1,19 +1,23 @@
-use Rattle.std.specs.Result.{result_ok}
-use Rattle.std.proofs.Common.{◌∙◌, ap, sym}
-use Rattle.wgsl_text.proofs.spellings.Lists.{no_access, no_memory, no_memory_of, no_space}
+use Rattle.std.proofs.Common.{ap, sym, ◌∙◌}
+use Rattle.wgsl_text.specs.spelling.Spells.{access_of}
+use Rattle.wgsl_text.proofs.spellings.Lists.{memory_at, no_memory_of, no_space}
 use Rattle.wgsl_text.proofs.spelling.list.memory.Goals as goal
 
-pub returns-in_err-inner : goal.returns-in_err-inner
-returns-in_err-inner c =
-    no_memory_of _ _ c.from_residual-in_err-inner.ensures (no_memory c.args.list.now c.in_ok-space.space.now c.in_ok-space.rest.now c.in_ok-space.ensures c.in_err-inner.ensures)
+pub returns-in_err-space-2 : goal.returns-in_err-space-2
+returns-in_err-space-2 c =
+    no_memory_of _ _ c.from_residual-in_err-space-2.ensures
+    (no_space c.args.list.now c.in_ok-space.space.now c.in_ok-space.rest.now c.in_ok-space.ensures (λ s is. cc (sym c.in_err-space-2.was ∙ (c.space_named.ensures s).1 is)))
 
-pub returns-in_err-space_named : goal.returns-in_err-space_named
-returns-in_err-space_named c =
-    no_memory_of _ _ c.from_residual-in_err-space_named.ensures
-    (no_space c.args.list.now c.in_ok-space.space.now c.in_ok-space.rest.now c.in_ok-space.ensures (λ s is. cc (sym c.in_err-space_named.was ∙ (c.space_named.ensures s).1 is)))
+pub returns-in-Some : goal.returns-in-Some
+returns-in-Some c =
+    let space = c.in_ok-space-2.space in
+    let named = (c.space_named.ensures space).0 c.in_ok-space-2.was in
+    memory_at c.args.list.now c.in_ok-space.space.now c.in_ok-space.rest.now space c.accessed-access.result.0 c.accessed-access.result.1 c.in-Some.access c.in_ok-space.ensures named c.accessed-access.ensures
+    (sym (ap (access_of space) c.in-Some.is))
 
-pub returns-in_err-ok : goal.returns-in_err-ok
-returns-in_err-ok c =
-    no_memory_of _ _ c.from_residual-in_err-ok.ensures
-    (no_access c.args.list.now c.in_ok-space.space.now c.in_ok-space.rest.now c.in_ok-inner.inner.now c.in_ok-inner.access.now c.in_ok-space.ensures c.in_ok-inner.ensures
-    (λ m is. let found = (c.from_str.ensures m).1 is in cc (sym c.in_err-ok.was ∙ (c.ok.ensures.value ∙ ap result_ok found))))
+pub returns-in-None : goal.returns-in-None
+returns-in-None c =
+    let space = c.in_ok-space-2.space in
+    let named = (c.space_named.ensures space).0 c.in_ok-space-2.was in
+    memory_at c.args.list.now c.in_ok-space.space.now c.in_ok-space.rest.now space c.accessed-access.result.0 c.accessed-access.result.1 c.default_access_mode.result c.in_ok-space.ensures named c.accessed-access.ensures
+    (c.default_access_mode.ensures ∙ sym (ap (access_of space) c.in-None.is))
