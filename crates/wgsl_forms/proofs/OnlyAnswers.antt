@@ -3,17 +3,14 @@ use Rattle.std.proofs.Common.{◌≡◌, ℕ, List, [], ◌∷◌, Option, Some,
 use Rattle.wgsl_syntax.specs.declared.address.AccessMode.{AccessMode}
 use Rattle.wgsl_syntax.specs.declared.address.AccessMode.TheVariants.{ReadWrite}
 use Rattle.wgsl_syntax.specs.declared.operator.BinaryOperator.{BinaryOperator}
-use Rattle.wgsl_syntax.specs.declared.overload.Instance.{Instance}
-use Rattle.wgsl_syntax.specs.declared.overload.Overload.{Overload}
 use Rattle.wgsl_rules.specs.types.Types.{WgslType, reference}
 use Rattle.wgsl_rules.specs.conversion.Common.{IsLeftCommon}
 use Rattle.wgsl_rules.specs.standard.Answers.{IsStandardAnswer}
-use Rattle.wgsl_rules.specs.standard.Choice.{Operand, IsChosen}
+use Rattle.wgsl_rules.specs.standard.Choice.{Operand}
 use Rattle.wgsl_rules.specs.standard.Operators.{binary_overloads}
 use Rattle.wgsl_rules.proofs.conversion.Commons.{left_common_once, some_left_common}
-use Rattle.wgsl_standard.proofs.Choices.{found}
-use Rattle.wgsl_standard.proofs.OperatorTables.{binary_unambiguous}
-use Rattle.wgsl_standard.proofs.StandardAnswers.{answer_none, answer_some}
+use Rattle.wgsl_standard.proofs.NamedTables.{binary_unambiguous}
+use Rattle.wgsl_standard.proofs.StandardAnswers.{an_answer, answer_once}
 use Rattle.wgsl_forms.specs.Array.{IsAfter, IsArrayOf, all_load, array_of, referred}
 use Rattle.wgsl_forms.specs.Assign.{IsAssignedBy, IsCompound, IsCompoundTo, compound, operator_operand, stored_operand}
 use Rattle.wgsl_forms.specs.Lists.{Fits}
@@ -30,22 +27,11 @@ the_answer a = (a, refl, λ s e. e)
 by_one : {A : Type 0} (P : A → Type 0) (f : A → Answer) (a : A) → P a → ((b : A) → P b → b ≡ a) → HasOneAnswer (λ r. (b : A) × P b × (r ≡ f b))
 by_one P f a p one = (f a, (a, p, refl), λ s k. k.2 ∙ ap f (one k.0 k.1))
 
-chosen_answer : (os : List Overload) (xs : List Operand) (c : Option (ℕ × Instance)) → IsChosen os xs c → (r : Option (Option WgslType)) × IsStandardAnswer os xs r
-chosen_answer os xs (Some p) c = (_, answer_some os xs p c.0 c.1 c)
-chosen_answer os xs None c = (None, answer_none os xs c)
-
-some_answer : (o : BinaryOperator) (xs : List Operand) → (r : Option (Option WgslType)) × IsStandardAnswer (binary_overloads o) xs r
-some_answer o xs = chosen_answer (binary_overloads o) xs _ (found (binary_overloads o) xs (binary_unambiguous o))
-
-answer_once : (os : List Overload) (xs : List Operand) (r s : Option (Option WgslType)) → IsStandardAnswer os xs r → IsStandardAnswer os xs s → s ≡ r
-answer_once os xs (Some t) s f g = (g.least t).1 ((f.least t).0 refl)
-answer_once os xs None s f g = g.none.1 (f.none.0 refl)
-
 compounds : (o : BinaryOperator) (t : WgslType) (y : Operand) → HasOneAnswer (IsCompound o t y)
 compounds o t y =
     let xs = operator_operand (stored_operand t) ∷ operator_operand y ∷ [] in
-    let some = some_answer o xs in
-    by_one (IsStandardAnswer (binary_overloads o) xs) (compound o t y.of_type) some.0 some.1 (λ s g. answer_once (binary_overloads o) xs some.0 s some.1 g)
+    let some = an_answer (binary_overloads o) xs (binary_unambiguous o) in
+    by_one (IsStandardAnswer (binary_overloads o) xs) (compound o t y.of_type) some.0 some.1 (λ s g. answer_once (binary_overloads o) xs s some.0 g some.1)
 
 compounds_to : (o : BinaryOperator) (t : WgslType) (a : AccessMode) (y : Operand) → HasOneAnswer (IsCompoundTo o t a y)
 compounds_to o t ReadWrite y = compounds o t y

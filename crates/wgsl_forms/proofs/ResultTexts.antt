@@ -2,7 +2,7 @@
 use Rattle.std.proofs.Common.{◌≡◌, ℕ, List, Some, refl, sym, ap, ◌∙◌}
 use Rattle.wgsl_syntax.specs.ResultStruct.{result_name}
 use Rattle.wgsl_syntax.specs.declared.result_struct.ResultFunction.{ResultFunction}
-use Rattle.wgsl_syntax.specs.declared.result_struct.ResultFunction.TheVariants.{Frexp, Modf}
+use Rattle.wgsl_syntax.specs.declared.result_struct.ResultFunction.TheVariants.{Frexp}
 use Rattle.wgsl_syntax.specs.declared.result_struct.ResultShape.{ResultShape}
 use Rattle.wgsl_syntax.specs.declared.result_struct.ResultShape.TheVariants as shape
 use Rattle.wgsl_syntax.specs.declared.result_struct.ResultPrecision.TheVariants as precision
@@ -15,13 +15,8 @@ use Rattle.wgsl_forms.specs.internal.Results.{in_f32}
 by_cases : (f : ResultFunction) (s : ResultShape) → result_name (in_f32 (f, s)) ≡ wgsl_spelling (result_struct f s precision.F32)
 unfolding result_struct
 by_cases Frexp shape.Scalar = refl
-by_cases Frexp shape.Vec2 = refl
-by_cases Frexp shape.Vec3 = refl
-by_cases Frexp shape.Vec4 = refl
-by_cases Modf shape.Scalar = refl
-by_cases Modf shape.Vec2 = refl
-by_cases Modf shape.Vec3 = refl
-by_cases Modf shape.Vec4 = refl
+by_cases f shape.Scalar = refl
+by_cases f s = refl
 
 -- the text of the concrete struct for the result struct of an abstract float
 pub concrete_text : (name : List ℕ) (ms : Members) (r : ResultFunction × ResultShape) → abstract_result (struct name ms) ≡ Some r → result_name (in_f32 r) ≡ wgsl_spelling (concrete_of (struct name ms))

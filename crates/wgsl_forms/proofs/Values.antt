@@ -30,23 +30,7 @@ all_values (o ∷ os) = is_value (result_of o) && all_values os
 -- every overload of a binary operator gives one
 binary_values : (o : BinaryOperator) → all_values (binary_overloads o) ≡ true
 binary_values operators.ShortCircuitOr = refl
-binary_values operators.ShortCircuitAnd = refl
-binary_values operators.Addition = refl
-binary_values operators.Subtraction = refl
-binary_values operators.Multiplication = refl
-binary_values operators.Division = refl
-binary_values operators.Remainder = refl
-binary_values operators.Equality = refl
-binary_values operators.Inequality = refl
-binary_values operators.LessThan = refl
-binary_values operators.LessThanEqual = refl
-binary_values operators.GreaterThan = refl
-binary_values operators.GreaterThanEqual = refl
-binary_values operators.BitwiseOr = refl
-binary_values operators.BitwiseAnd = refl
-binary_values operators.BitwiseXor = refl
-binary_values operators.ShiftLeft = refl
-binary_values operators.ShiftRight = refl
+binary_values o = refl
 
 and_both : (a b : Bool) → (a && b) ≡ true → (a ≡ true) × (b ≡ true)
 and_both true b h = (refl, h)

@@ -220,7 +220,7 @@ fn assign_result<'a>(
 }
 
 /// The result of an operator, which is a scalar, a vector or a matrix; None if no overload takes the operands.
-#[tactic(auto, using(wgsl_standard::proofs::OperatorTables::binary_unambiguous))]
+#[tactic(auto, using(wgsl_standard::proofs::NamedTables::binary_unambiguous))]
 fn result_by(
     operator: BinaryOperator,
     lhs: Operand<'_>,

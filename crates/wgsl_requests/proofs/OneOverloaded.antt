@@ -4,7 +4,7 @@ use Rattle.std.specs.Bool.{MatchBool}
 use Rattle.std.specs.Prelude.{IsTrue, MatchOption, option_map}
 use Rattle.wgsl_syntax.specs.declared.overload.Overload.{Overload}
 use Rattle.wgsl_rules.specs.types.Types.{WgslType}
-use Rattle.wgsl_rules.specs.standard.Answers.{is_template, template_operand, IsCallAnswer, IsNamedAnswer, IsResolution, IsStandardAnswer, IsTemplateAnswer}
+use Rattle.wgsl_rules.specs.standard.Answers.{is_template, template_operand, IsCallAnswer, IsNamedAnswer, IsResolution, IsTemplateAnswer}
 use Rattle.wgsl_rules.specs.standard.Choice.{Operand, types_of}
 use Rattle.wgsl_rules.specs.standard.Refusal.{IsRefusedAt}
 use Rattle.wgsl_standard.specs.Callees.{WgslCallee, overloads_listed}
@@ -15,6 +15,7 @@ use Rattle.wgsl_standard.specs.Texts.{note_listed}
 use Rattle.wgsl_standard.specs.declared.refusal.Mismatch.{Mismatch}
 use Rattle.wgsl_standard.specs.declared.refusal.Mismatch.TheVariants.{Count, Argument}
 use Rattle.wgsl_standard.proofs.OneChoice.{chosen_once}
+use Rattle.wgsl_standard.proofs.StandardAnswers.{answer_once}
 use Rattle.wgsl_requests.specs.Calls.{WgslCall, WgslResolution, loaded, template_type}
 use Rattle.wgsl_requests.specs.Standard.{AreNotesWith, IsExplanationOf, IsResolutionOf, IsTypeOf}
 
@@ -22,10 +23,6 @@ use Rattle.wgsl_requests.specs.Standard.{AreNotesWith, IsExplanationOf, IsResolu
 by_test : {A : Type 0} (is : Bool) (r s : Option A) → (IsTrue is → r ≡ s) → ((¬ IsTrue is) → r ≡ s) → r ≡ s
 by_test true r s f g = f (search rules)
 by_test false r s f g = g (λ e. cc)
-
-answer_once : (os : List Overload) (xs : List Operand) (r s : Option (Option WgslType)) → IsStandardAnswer os xs r → IsStandardAnswer os xs s → r ≡ s
-answer_once os xs (Some t) s f g = sym ((g.least t).1 ((f.least t).0 refl))
-answer_once os xs None s f g = sym (g.none.1 (f.none.0 refl))
 
 named_once : (os : Option (List Overload)) (xs : List Operand) (r s : Option (Option WgslType)) → IsNamedAnswer os xs r → IsNamedAnswer os xs s → r ≡ s
 named_once (Some os) xs r s f g = answer_once os xs r s f g

@@ -3,7 +3,7 @@ use Rattle.std.proofs.Common.{◌≡◌, Bool, true, false, None, refl}
 use Rattle.std.specs.Prelude.{Decides}
 use Rattle.wgsl_syntax.specs.declared.scalar.Scalar.{Scalar}
 use Rattle.wgsl_syntax.specs.declared.overload.Dimensions.{Dimensions}
-use Rattle.wgsl_syntax.specs.declared.overload.Dimensions.TheVariants.{Single, Vector, Matrix}
+use Rattle.wgsl_syntax.specs.declared.overload.Dimensions.TheVariants.{Single}
 use Rattle.wgsl_syntax.specs.declared.overload.Pattern.{Pattern}
 use Rattle.wgsl_syntax.specs.declared.overload.Pattern.TheVariants as patterns
 use Rattle.wgsl_rules.specs.types.Types.{texture, sampler}
@@ -18,15 +18,9 @@ unequal true P b d n = absurd (n (d.0 refl))
 unequal false P b d n = refl
 
 pub value_bound : (c : Bool) (b : Binding) (p : Pattern) (d : Dimensions) (s : Scalar) → bind_pattern c b p (value_of (type_with d s)) ≡ bind_value c b p (d, s)
-value_bound c b (patterns.Value a e) Single s = refl
-value_bound c b (patterns.Value a e) (Vector n) s = refl
-value_bound c b (patterns.Value a e) (Matrix k l) s = refl
 value_bound c b (patterns.Sampler x) Single s = unequal _ _ b (type_eq_decides (type_with Single s) (sampler x)) (λ e. absurd (cc e))
-value_bound c b (patterns.Sampler x) (Vector n) s = unequal _ _ b (type_eq_decides (type_with (Vector n) s) (sampler x)) (λ e. absurd (cc e))
-value_bound c b (patterns.Sampler x) (Matrix k l) s = unequal _ _ b (type_eq_decides (type_with (Matrix k l) s) (sampler x)) (λ e. absurd (cc e))
+value_bound c b (patterns.Sampler x) d s = unequal _ _ b (type_eq_decides (type_with d s) (sampler x)) (λ e. absurd (cc e))
 value_bound c b (patterns.Texture x) Single s = unequal _ _ b (type_eq_decides (type_with Single s) (texture x)) (λ e. absurd (cc e))
-value_bound c b (patterns.Texture x) (Vector n) s = unequal _ _ b (type_eq_decides (type_with (Vector n) s) (texture x)) (λ e. absurd (cc e))
-value_bound c b (patterns.Texture x) (Matrix k l) s = unequal _ _ b (type_eq_decides (type_with (Matrix k l) s) (texture x)) (λ e. absurd (cc e))
-value_bound c b (patterns.Resource r) Single s = refl
-value_bound c b (patterns.Resource r) (Vector n) s = refl
-value_bound c b (patterns.Resource r) (Matrix k l) s = refl
+value_bound c b (patterns.Texture x) d s = unequal _ _ b (type_eq_decides (type_with d s) (texture x)) (λ e. absurd (cc e))
+value_bound c b p Single s = refl
+value_bound c b p d s = refl

@@ -18,7 +18,7 @@ use Rattle.wgsl_syntax.specs.declared.overload.Dimensions.TheVariants.{Single, V
 use Rattle.wgsl_rules.specs.standard.Choice.{Operand}
 use Rattle.wgsl_standard.specs.declared.binding.Binding.{Binding}
 use Rattle.wgsl_standard.specs.internal.Parts.{parts_of}
-use Rattle.wgsl_standard.specs.internal.Binding.{converts, may_be, join_to, with_t, with_u, with_v, with_w, bind_component, same_count, bind_count, same_width, with_width, bind_shape, bind_parts, bind_letter, bind_if, bind, bind_all, is_bound}
+use Rattle.wgsl_standard.specs.internal.Binding.{converts, may_be, join_to, with_t, with_u, with_v, with_w, bind_component, same_count, bind_count, same_width, with_width, bind_shape, bind_parts, bind_letter, bind, bind_all, is_bound}
 
 abbrev pub Binds : Binding → Component → Type 0
 Binds b T = IsTrue (is_bound b.t)
@@ -31,6 +31,10 @@ Binds b (The g) = Unit {0}
 abbrev Kept : (Binding → Type 0) → Option Binding → Type 0
 Kept Q None = Unit {0}
 Kept Q (Some b) = Q b
+
+always : (r : Option Binding) → Kept (λ b. Unit {0}) r
+always None = tt
+always (Some b) = tt
 
 kept_chain : (P Q : Binding → Type 0) (f : Binding → Option Binding) → ((b : Binding) → P b → Kept Q (f b)) → (r : Option Binding) → Kept P r → Kept Q (option_and_then f r)
 kept_chain P Q f k None h = tt
@@ -72,31 +76,19 @@ shape_keeps q b h p o = tt
 
 with_t_binds : (b : Binding) (s : Scalar) (q : Component) → Binds b q → Binds (with_t b s) q
 with_t_binds b s T h = refl
-with_t_binds b s U h = h
-with_t_binds b s V h = h
-with_t_binds b s W h = h
-with_t_binds b s (The g) h = tt
+with_t_binds b s q h = h
 
 with_u_binds : (b : Binding) (s : Scalar) (q : Component) → Binds b q → Binds (with_u b s) q
-with_u_binds b s T h = h
 with_u_binds b s U h = refl
-with_u_binds b s V h = h
-with_u_binds b s W h = h
-with_u_binds b s (The g) h = tt
+with_u_binds b s q h = h
 
 with_v_binds : (b : Binding) (s : Scalar) (q : Component) → Binds b q → Binds (with_v b s) q
-with_v_binds b s T h = h
-with_v_binds b s U h = h
 with_v_binds b s V h = refl
-with_v_binds b s W h = h
-with_v_binds b s (The g) h = tt
+with_v_binds b s q h = h
 
 with_w_binds : (b : Binding) (s : Scalar) (q : Component) → Binds b q → Binds (with_w b s) q
-with_w_binds b s T h = h
-with_w_binds b s U h = h
-with_w_binds b s V h = h
 with_w_binds b s W h = refl
-with_w_binds b s (The g) h = tt
+with_w_binds b s q h = h
 
 component_keeps : (c : Bool) (q : Component) (b : Binding) → Binds b q → (p : Component) (s : Scalar) → Kept (λ b. Binds b q) (bind_component c b p s)
 component_keeps c q b h T s = kept_map (λ b. Binds b q) (with_t b) (λ x. with_t_binds b x q h) (join_to b.t s)
@@ -121,10 +113,6 @@ parts_bind : (c : Bool) (b : Binding) (s : Shape) (e : Component) (d : Dimension
 parts_bind c b s e d =
     kept_chain (λ b. Unit {0}) (λ b. Binds b e) (λ b. bind_component c b e d.1) (λ b h. component_binds c b e d.1)
     (bind_shape b s d.0) (always (bind_shape b s d.0))
-  where
-    always : (r : Option Binding) → Kept (λ b. Unit {0}) r
-    always None = tt
-    always (Some b) = tt
 
 -- what each binding has that is made for the parts, if there are any
 if_parts : (Q : Binding → Type 0) (f : Dimensions × Scalar → Option Binding) → ((d : Dimensions × Scalar) → Kept Q (f d)) → (r : Option (Dimensions × Scalar)) → Kept Q (option_and_then f r)
@@ -147,27 +135,18 @@ abbrev pub BindsFor : Pattern → Binding → Type 0
 BindsFor (patterns.Value s e) b = Binds b e
 BindsFor p b = Unit {0}
 
-unless_value : (r : Option Binding) → Kept (λ b. Unit {0}) r
-unless_value None = tt
-unless_value (Some b) = tt
-
 bind_binds : (c : Bool) (b : Binding) (p : Pattern) (x : Operand) → Kept (BindsFor p) (bind c b p x)
 bind_binds c b (patterns.Value s e) x = if_parts (λ b. Binds b e) (bind_parts c b s e) (parts_bind c b s e) (parts_of x.of_type)
-bind_binds c b (patterns.Sampler s) x = unless_value (bind_if (type_eq x.of_type (sampler s)) b)
-bind_binds c b (patterns.Texture t) x = unless_value (bind_if (type_eq x.of_type (texture t)) b)
-bind_binds c b (patterns.Resource r) x = unless_value (bind_letter c b (letter_of r x.of_type))
+bind_binds c b p x = always (bind c b p x)
 
 all_keeps : (c : Bool) (q : Component) (b : Binding) → Binds b q → (ps : List Pattern) (xs : List Operand) → Kept (λ b. Binds b q) (bind_all c b ps xs)
 all_keeps c q b h [] [] = h
-all_keeps c q b h [] (x ∷ xs) = tt
-all_keeps c q b h (p ∷ ps) [] = tt
 all_keeps c q b h (p ∷ ps) (x ∷ xs) = kept_chain (λ b. Binds b q) (λ b. Binds b q) (λ b. bind_all c b ps xs) (λ b h. all_keeps c q b h ps xs) (bind c b p x) (bind_keeps c q b h p x)
+all_keeps c q b h ps xs = tt
 
 all_keep_for : (c : Bool) (p : Pattern) (b : Binding) → BindsFor p b → (ps : List Pattern) (xs : List Operand) → Kept (BindsFor p) (bind_all c b ps xs)
 all_keep_for c (patterns.Value s e) b h ps xs = all_keeps c e b h ps xs
-all_keep_for c (patterns.Sampler s) b h ps xs = unless_value (bind_all c b ps xs)
-all_keep_for c (patterns.Texture t) b h ps xs = unless_value (bind_all c b ps xs)
-all_keep_for c (patterns.Resource r) b h ps xs = unless_value (bind_all c b ps xs)
+all_keep_for c p b h ps xs = always (bind_all c b ps xs)
 
 abbrev pub BindsAll : List Pattern → Binding → Type 0
 BindsAll [] b = Unit {0}
@@ -179,12 +158,11 @@ both P Q (Some b) h k = (h, k)
 
 all_binds : (c : Bool) (b : Binding) (ps : List Pattern) (xs : List Operand) → Kept (BindsAll ps) (bind_all c b ps xs)
 all_binds c b [] [] = tt
-all_binds c b [] (x ∷ xs) = tt
-all_binds c b (p ∷ ps) [] = tt
 all_binds c b (p ∷ ps) (x ∷ xs) =
     kept_chain (BindsFor p) (BindsAll (p ∷ ps)) (λ b. bind_all c b ps xs)
     (λ b h. both (BindsFor p) (BindsAll ps) (bind_all c b ps xs) (all_keep_for c p b h ps xs) (all_binds c b ps xs))
     (bind c b p x) (bind_binds c b p x)
+all_binds c b ps xs = tt
 
 pub binding_binds : (c : Bool) (b f : Binding) (ps : List Pattern) (xs : List Operand) → bind_all c b ps xs ≡ Some f → BindsAll ps f
 binding_binds c b f ps xs e = turn (bind_all c b ps xs) e (all_binds c b ps xs)

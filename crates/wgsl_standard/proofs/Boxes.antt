@@ -25,7 +25,7 @@ use Rattle.wgsl_standard.specs.internal.Binding.{converts, may_be, join, join_to
 use Rattle.wgsl_standard.specs.internal.Parts.{parts_of}
 use Rattle.wgsl_standard.proofs.Parts.{pair_of}
 use Rattle.wgsl_standard.proofs.Scalars.{Reaches, JoinsTo, joins, concrete_reaches, reaches_itself, may_either}
-use Rattle.wgsl_standard.proofs.Letters.{IsConcreteLetter, concrete_letter}
+use Rattle.wgsl_standard.proofs.Letters.{Says, letter_says}
 
 abbrev pub Meets : Bool → Option Scalar → Scalar → Type 0
 Meets c None g = Unit {0}
@@ -61,6 +61,12 @@ chain : (c : Bool) (P Q : Instance → Type 0) (f : Binding → Option Binding) 
 chain c P Q f k None h = λ i q. h i q.0
 chain c P Q f k (Some b) h = same_box c (λ i. Agrees c b i × Q i) (λ i. P i × Q i) (λ i. (λ q. ((h i).1 q.0, q.1), λ q. ((h i).0 q.0, q.1))) (f b) (k b)
 
+-- what one letter requires, if there is anything that it can stand for
+boxed : {A : Type 0} (c : Bool) (P : Instance → Type 0) (Q : Option A → Type 0) (put : A → Binding) → (Q None → Boxes c P None) → ((x : A) → Q (Some x) → Boxes c P (Some (put x))) →
+    (r : Option A) → Q r → Boxes c P (option_map put r)
+boxed c P Q put none some None q = none q
+boxed c P Q put none some (Some x) q = some x q
+
 -- a letter for scalars
 
 abbrev LetterBox : Bool → Option Scalar → Scalar → Option Scalar → Type 0
@@ -80,38 +86,18 @@ abbrev pub Receives : Bool → Instance → Component → Scalar → Type 0
 Receives c i p s = Reaches s (component_in i p) × IsTrue (may_be c (component_in i p))
 
 component_boxes : (c : Bool) (b : Binding) (p : Component) (s : Scalar) → Boxes c (λ i. Agrees c b i × Receives c i p s) (bind_component c b p s)
-component_boxes c b T s = turn (join_to b.t s) (letter_box c b.t s)
-  where
-    turn : (r : Option Scalar) → LetterBox c b.t s r → Boxes c (λ i. Agrees c b i × Receives c i T s) (option_map (with_t b) r)
-    turn None f = λ i h. f i.t h.0.t h.1.0
-    turn (Some r) f = λ i. (
-      λ h. record { t = (f i.t).0 (h.0.t, h.1.0, h.1.1); u = h.0.u; v = h.0.v; w = h.0.w; width = h.0.width; n = h.0.n; m = h.0.m; k = h.0.k },
-      λ h. let q = (f i.t).1 h.t in (record { t = q.0; u = h.u; v = h.v; w = h.w; width = h.width; n = h.n; m = h.m; k = h.k }, (q.1, q.2)),
-    )
-component_boxes c b U s = turn (join_to b.u s) (letter_box c b.u s)
-  where
-    turn : (r : Option Scalar) → LetterBox c b.u s r → Boxes c (λ i. Agrees c b i × Receives c i U s) (option_map (with_u b) r)
-    turn None f = λ i h. f i.u h.0.u h.1.0
-    turn (Some r) f = λ i. (
-      λ h. record { t = h.0.t; u = (f i.u).0 (h.0.u, h.1.0, h.1.1); v = h.0.v; w = h.0.w; width = h.0.width; n = h.0.n; m = h.0.m; k = h.0.k },
-      λ h. let q = (f i.u).1 h.u in (record { t = h.t; u = q.0; v = h.v; w = h.w; width = h.width; n = h.n; m = h.m; k = h.k }, (q.1, q.2)),
-    )
-component_boxes c b V s = turn (join_to b.v s) (letter_box c b.v s)
-  where
-    turn : (r : Option Scalar) → LetterBox c b.v s r → Boxes c (λ i. Agrees c b i × Receives c i V s) (option_map (with_v b) r)
-    turn None f = λ i h. f i.v h.0.v h.1.0
-    turn (Some r) f = λ i. (
-      λ h. record { t = h.0.t; u = h.0.u; v = (f i.v).0 (h.0.v, h.1.0, h.1.1); w = h.0.w; width = h.0.width; n = h.0.n; m = h.0.m; k = h.0.k },
-      λ h. let q = (f i.v).1 h.v in (record { t = h.t; u = h.u; v = q.0; w = h.w; width = h.width; n = h.n; m = h.m; k = h.k }, (q.1, q.2)),
-    )
-component_boxes c b W s = turn (join_to b.w s) (letter_box c b.w s)
-  where
-    turn : (r : Option Scalar) → LetterBox c b.w s r → Boxes c (λ i. Agrees c b i × Receives c i W s) (option_map (with_w b) r)
-    turn None f = λ i h. f i.w h.0.w h.1.0
-    turn (Some r) f = λ i. (
-      λ h. record { t = h.0.t; u = h.0.u; v = h.0.v; w = (f i.w).0 (h.0.w, h.1.0, h.1.1); width = h.0.width; n = h.0.n; m = h.0.m; k = h.0.k },
-      λ h. let q = (f i.w).1 h.w in (record { t = h.t; u = h.u; v = h.v; w = q.0; width = h.width; n = h.n; m = h.m; k = h.k }, (q.1, q.2)),
-    )
+component_boxes c b T s =
+    boxed c (λ i. Agrees c b i × Receives c i T s) (LetterBox c b.t s) (with_t b) (λ f i h. f i.t h.0.t h.1.0)
+    (λ r f i. (λ h. assumption ((f i.t).0 (h.0.t, h.1.0, h.1.1)), λ h. assumption ((f i.t).1 h.t))) (join_to b.t s) (letter_box c b.t s)
+component_boxes c b U s =
+    boxed c (λ i. Agrees c b i × Receives c i U s) (LetterBox c b.u s) (with_u b) (λ f i h. f i.u h.0.u h.1.0)
+    (λ r f i. (λ h. assumption ((f i.u).0 (h.0.u, h.1.0, h.1.1)), λ h. assumption ((f i.u).1 h.u))) (join_to b.u s) (letter_box c b.u s)
+component_boxes c b V s =
+    boxed c (λ i. Agrees c b i × Receives c i V s) (LetterBox c b.v s) (with_v b) (λ f i h. f i.v h.0.v h.1.0)
+    (λ r f i. (λ h. assumption ((f i.v).0 (h.0.v, h.1.0, h.1.1)), λ h. assumption ((f i.v).1 h.v))) (join_to b.v s) (letter_box c b.v s)
+component_boxes c b W s =
+    boxed c (λ i. Agrees c b i × Receives c i W s) (LetterBox c b.w s) (with_w b) (λ f i h. f i.w h.0.w h.1.0)
+    (λ r f i. (λ h. assumption ((f i.w).0 (h.0.w, h.1.0, h.1.1)), λ h. assumption ((f i.w).1 h.w))) (join_to b.w s) (letter_box c b.w s)
 component_boxes c b (The g) s = by_converts (converts s g) refl
   where
     by_may : (y : Bool) → may_be c g ≡ y → Reaches s g → Boxes c (λ i. Agrees c b i × Receives c i (The g) s) (cond y (Some b) None)
@@ -137,30 +123,15 @@ count_box (Some m) n = turn (m == n) refl
     turn false e = λ x h k. true≢false (sym (eq-eqb m n (h ∙ k)) ∙ e)
 
 count_boxes : (c : Bool) (b : Binding) (p : Count) (n : ℕ) → Boxes c (λ i. Agrees c b i × (count_in i p ≡ n)) (bind_count b p n)
-count_boxes c b N n = turn (same_count b.n n) (count_box b.n n)
-  where
-    turn : (r : Option ℕ) → SameBox b.n n r → Boxes c (λ i. Agrees c b i × (i.n ≡ n)) (option_map (λ x. record b { n = Some x }) r)
-    turn None f = λ i h. f i.n h.0.n h.1
-    turn (Some r) f = λ i. (
-      λ h. record { t = h.0.t; u = h.0.u; v = h.0.v; w = h.0.w; width = h.0.width; n = (f i.n).0 (h.0.n, h.1); m = h.0.m; k = h.0.k },
-      λ h. let q = (f i.n).1 h.n in (record { t = h.t; u = h.u; v = h.v; w = h.w; width = h.width; n = q.0; m = h.m; k = h.k }, q.1),
-    )
-count_boxes c b M n = turn (same_count b.m n) (count_box b.m n)
-  where
-    turn : (r : Option ℕ) → SameBox b.m n r → Boxes c (λ i. Agrees c b i × (i.m ≡ n)) (option_map (λ x. record b { m = Some x }) r)
-    turn None f = λ i h. f i.m h.0.m h.1
-    turn (Some r) f = λ i. (
-      λ h. record { t = h.0.t; u = h.0.u; v = h.0.v; w = h.0.w; width = h.0.width; n = h.0.n; m = (f i.m).0 (h.0.m, h.1); k = h.0.k },
-      λ h. let q = (f i.m).1 h.m in (record { t = h.t; u = h.u; v = h.v; w = h.w; width = h.width; n = h.n; m = q.0; k = h.k }, q.1),
-    )
-count_boxes c b K n = turn (same_count b.k n) (count_box b.k n)
-  where
-    turn : (r : Option ℕ) → SameBox b.k n r → Boxes c (λ i. Agrees c b i × (i.k ≡ n)) (option_map (λ x. record b { k = Some x }) r)
-    turn None f = λ i h. f i.k h.0.k h.1
-    turn (Some r) f = λ i. (
-      λ h. record { t = h.0.t; u = h.0.u; v = h.0.v; w = h.0.w; width = h.0.width; n = h.0.n; m = h.0.m; k = (f i.k).0 (h.0.k, h.1) },
-      λ h. let q = (f i.k).1 h.k in (record { t = h.t; u = h.u; v = h.v; w = h.w; width = h.width; n = h.n; m = h.m; k = q.0 }, q.1),
-    )
+count_boxes c b N n =
+    boxed c (λ i. Agrees c b i × (i.n ≡ n)) (SameBox b.n n) (λ x. record b { n = Some x }) (λ f i h. f i.n h.0.n h.1)
+    (λ r f i. (λ h. assumption ((f i.n).0 (h.0.n, h.1)), λ h. assumption ((f i.n).1 h.n))) (same_count b.n n) (count_box b.n n)
+count_boxes c b M n =
+    boxed c (λ i. Agrees c b i × (i.m ≡ n)) (SameBox b.m n) (λ x. record b { m = Some x }) (λ f i h. f i.m h.0.m h.1)
+    (λ r f i. (λ h. assumption ((f i.m).0 (h.0.m, h.1)), λ h. assumption ((f i.m).1 h.m))) (same_count b.m n) (count_box b.m n)
+count_boxes c b K n =
+    boxed c (λ i. Agrees c b i × (i.k ≡ n)) (SameBox b.k n) (λ x. record b { k = Some x }) (λ f i h. f i.k h.0.k h.1)
+    (λ r f i. (λ h. assumption ((f i.k).0 (h.0.k, h.1)), λ h. assumption ((f i.k).1 h.k))) (same_count b.k n) (count_box b.k n)
 count_boxes c b (Exactly m) n = turn (m == n) refl
   where
     turn : (y : Bool) → (m == n) ≡ y → Boxes c (λ i. Agrees c b i × (m ≡ n)) (cond y (Some b) None)
@@ -181,14 +152,9 @@ width_box (Some None) (Some n) = λ x h k. let q : None ≡ Some n = h ∙ k in 
 width_box (Some (Some m)) None = λ x h k. let q : Some m ≡ None = h ∙ k in cc q
 
 width_boxes : (c : Bool) (b : Binding) (w : Option ℕ) → Boxes c (λ i. Agrees c b i × (i.width ≡ w)) (option_map (with_width b) (same_width b.width w))
-width_boxes c b w = turn (same_width b.width w) (width_box b.width w)
-  where
-    turn : (r : Option (Option ℕ)) → SameBox b.width w r → Boxes c (λ i. Agrees c b i × (i.width ≡ w)) (option_map (with_width b) r)
-    turn None f = λ i h. f i.width h.0.width h.1
-    turn (Some r) f = λ i. (
-      λ h. record { t = h.0.t; u = h.0.u; v = h.0.v; w = h.0.w; width = (f i.width).0 (h.0.width, h.1); n = h.0.n; m = h.0.m; k = h.0.k },
-      λ h. let q = (f i.width).1 h.width in (record { t = h.t; u = h.u; v = h.v; w = h.w; width = q.0; n = h.n; m = h.m; k = h.k }, q.1),
-    )
+width_boxes c b w =
+    boxed c (λ i. Agrees c b i × (i.width ≡ w)) (SameBox b.width w) (with_width b) (λ f i h. f i.width h.0.width h.1)
+    (λ r f i. (λ h. assumption ((f i.width).0 (h.0.width, h.1)), λ h. assumption ((f i.width).1 h.width))) (same_width b.width w) (width_box b.width w)
 
 width_single : (w : Option ℕ) → (w ≡ None) ↔ (one_or_vector w ≡ Single)
 width_single None = (λ h. refl, λ h. refl)
@@ -204,14 +170,8 @@ width_matrix (Some n) k l h = cc h
 
 shape_boxes : (c : Bool) (b : Binding) (p : Shape) (o : Dimensions) → Boxes c (λ i. Agrees c b i × (dimensions_in i p ≡ o)) (bind_shape b p o)
 shape_boxes c b shapes.One Single = λ i. (λ h. h.0, λ h. (h, refl))
-shape_boxes c b shapes.One (Vector k) = λ i h. cc h.1
-shape_boxes c b shapes.One (Matrix k l) = λ i h. cc h.1
-shape_boxes c b (shapes.Vector n) Single = λ i h. cc h.1
 shape_boxes c b (shapes.Vector n) (Vector k) =
     same_box c (λ i. Agrees c b i × (count_in i n ≡ k)) (λ i. Agrees c b i × (Vector (count_in i n) ≡ Vector k)) (λ i. (λ h. (h.0, ap Vector h.1), λ h. (h.0, cc (h.1)))) (bind_count b n k) (count_boxes c b n k)
-shape_boxes c b (shapes.Vector n) (Matrix k l) = λ i h. cc h.1
-shape_boxes c b (shapes.Matrix m n) Single = λ i h. cc h.1
-shape_boxes c b (shapes.Matrix m n) (Vector k) = λ i h. cc h.1
 shape_boxes c b (shapes.Matrix m n) (Matrix k l) =
     same_box c (λ i. (Agrees c b i × (count_in i m ≡ k)) × (count_in i n ≡ l)) (λ i. Agrees c b i × (Matrix (count_in i m) (count_in i n) ≡ Matrix k l))
     (λ i. (λ h. (h.0.0, cc (h.0.1, h.1)), λ h. ((h.0, cc (h.1)), cc (h.1))))
@@ -222,6 +182,7 @@ shape_boxes c b shapes.OneOrVector Single =
 shape_boxes c b shapes.OneOrVector (Vector k) =
     same_box c (λ i. Agrees c b i × (i.width ≡ Some k)) (λ i. Agrees c b i × (one_or_vector i.width ≡ Vector k)) (λ i. (λ h. (h.0, (width_vector i.width k).0 h.1), λ h. (h.0, (width_vector i.width k).1 h.1))) (option_map (with_width b) (same_width b.width (Some k))) (width_boxes c b (Some k))
 shape_boxes c b shapes.OneOrVector (Matrix k l) = λ i h. width_matrix i.width k l h.1
+shape_boxes c b p o = λ i h. cc h.1
 
 -- a parameter that is a value takes an operand that has these parts
 abbrev FitsParts : Bool → Instance → Shape → Component → Dimensions × Scalar → Type 0
@@ -278,12 +239,12 @@ letter_receives c s g m = (
   λ e. subst (λ g. Reaches s g × IsTrue (may_be c g)) e (reaches_itself s, may_either c s m),
 )
 
-letter_boxes : (c : Bool) (b : Binding) (l : Option (Option Scalar)) → IsConcreteLetter l → Boxes c (λ i. Agrees c b i × Names l i.t) (bind_letter c b l)
-letter_boxes c b None m = λ i h. h.1
-letter_boxes c b (Some None) m = λ i. (λ h. h.0, λ h. (h, tt))
-letter_boxes c b (Some (Some s)) m =
+letter_boxes : (c : Bool) (b : Binding) (P : Type 0) (y : Bool) (l : Option (Option Scalar)) → Says P y l → Boxes c (λ i. Agrees c b i × Names l i.t) (bind_letter c b l)
+letter_boxes c b P y None m = λ i h. h.1
+letter_boxes c b P y (Some None) m = λ i. (λ h. h.0, λ h. (h, tt))
+letter_boxes c b P y (Some (Some s)) m =
     same_box c (λ i. Agrees c b i × Receives c i T s) (λ i. Agrees c b i × (s ≡ i.t))
-    (λ i. (λ h. (h.0, (letter_receives c s i.t m).0 h.1), λ h. (h.0, (letter_receives c s i.t m).1 h.1)))
+    (λ i. (λ h. (h.0, (letter_receives c s i.t m.1).0 h.1), λ h. (h.0, (letter_receives c s i.t m.1).1 h.1)))
     (bind_component c b T s) (component_boxes c b T s)
 
 -- a parameter takes an operand
@@ -297,7 +258,7 @@ pub bind_boxes : (c : Bool) (b : Binding) (p : Pattern) (x : Operand) → Boxes 
 bind_boxes c b (patterns.Value s e) x = value_boxes c b s e x.of_type
 bind_boxes c b (patterns.Sampler s) x = exact_boxes c b x.of_type (sampler s)
 bind_boxes c b (patterns.Texture t) x = exact_boxes c b x.of_type (texture t)
-bind_boxes c b (patterns.Resource r) x = letter_boxes c b (letter_of r x.of_type) (concrete_letter r x.of_type)
+bind_boxes c b (patterns.Resource r) x = letter_boxes c b _ _ (letter_of r x.of_type) (letter_says r x.of_type)
 
 abbrev pub AllFit : Bool → Instance → List Pattern → List Operand → Type 0
 AllFit c i [] [] = Unit {0}
@@ -306,10 +267,9 @@ AllFit c i ps xs = ⊥
 
 pub all_boxes : (c : Bool) (b : Binding) (ps : List Pattern) (xs : List Operand) → Boxes c (λ i. Agrees c b i × AllFit c i ps xs) (bind_all c b ps xs)
 all_boxes c b [] [] = λ i. (λ h. h.0, λ h. (h, tt))
-all_boxes c b [] (x ∷ xs) = λ i h. h.1
-all_boxes c b (p ∷ ps) [] = λ i h. h.1
 all_boxes c b (p ∷ ps) (x ∷ xs) =
     same_box c (λ i. (Agrees c b i × Fit c i p x) × AllFit c i ps xs) (λ i. Agrees c b i × (Fit c i p x × AllFit c i ps xs))
     (λ i. (λ h. (h.0.0, (h.0.1, h.1)), λ h. ((h.0, h.1.0), h.1.1)))
     (bind_all c b (p ∷ ps) (x ∷ xs))
     (chain c (λ i. Agrees c b i × Fit c i p x) (λ i. AllFit c i ps xs) (λ b. bind_all c b ps xs) (λ b. all_boxes c b ps xs) (bind c b p x) (bind_boxes c b p x))
+all_boxes c b ps xs = λ i h. h.1

@@ -9,10 +9,9 @@ use Rattle.wgsl_syntax.specs.declared.overload.Pattern.{Pattern}
 use Rattle.wgsl_syntax.specs.declared.overload.Pattern.TheVariants as patterns
 use Rattle.wgsl_syntax.specs.declared.overload.Component.{Component}
 use Rattle.wgsl_syntax.specs.declared.overload.Overload.{Overload}
-use Rattle.wgsl_rules.specs.standard.Choice.{Operand}
+use Rattle.wgsl_rules.specs.standard.Choice.{Operand, TakesOperands, parameter_for, parameters_for, result_for, IsChosen}
 use Rattle.wgsl_syntax.specs.declared.overload.Instance.{Instance}
 use Rattle.wgsl_rules.specs.standard.Overloads.{dimensions_in, component_in, patterns_of, IsInstance, IsCandidateOf}
-use Rattle.wgsl_rules.specs.standard.Choice.{TakesOperands, parameter_for, parameters_for, result_for, IsChosen}
 use Rattle.wgsl_rules.specs.standard.Tables.{HasOneResult, IsPreferredTo, IsPreferredToAll, AreInOrder, IsUnambiguous}
 use Rattle.wgsl_standard.specs.internal.Binding.{must_be_concrete, instance_of, or_later, later, first_of}
 use Rattle.wgsl_standard.proofs.Boxes.{same_operand, Fit, AllFit}
@@ -28,16 +27,13 @@ near_component i j e (inr d) = omega (arith, d)
 near_parameter : (i j : Instance) (p : Pattern) (t : WgslType) → IsNearFor i j p → depth (parameter_for i p t) ≤ depth (parameter_for j p t)
 near_parameter i j (patterns.Value s e) t h =
     omega (arith, near_component i j e h, depth_type_with (dimensions_in i s) (component_in i e), depth_type_with (dimensions_in j s) (component_in j e))
-near_parameter i j (patterns.Sampler s) t h = le_refl _
-near_parameter i j (patterns.Texture x) t h = le_refl _
-near_parameter i j (patterns.Resource r) t h = le_refl _
+near_parameter i j p t h = le_refl _
 
 near_below : (c : Bool) (i j : Instance) (ps : List Pattern) (xs : List Operand) → AllFit c i ps xs → AllNear i j ps →
     IsNowhereMore (map depth (parameters_for i ps xs)) (map depth (parameters_for j ps xs))
 near_below c i j [] [] f h = tt
-near_below c i j [] (x ∷ xs) f h = absurd f
-near_below c i j (p ∷ ps) [] f h = absurd f
 near_below c i j (p ∷ ps) (x ∷ xs) f h = (near_parameter i j p x.of_type h.0, near_below c i j ps xs f.1 h.1)
+near_below c i j ps xs f h = absurd f
 
 near_same : (c : Bool) (i j : Instance) (p : Pattern) (x : Operand) → Fit c i p x → Fit c j p x → IsNearFor i j p →
     (parameter_for j p x.of_type ≡ parameter_for i p x.of_type) ⊎ (depth (parameter_for i p x.of_type) < depth (parameter_for j p x.of_type))
@@ -46,15 +42,11 @@ near_same c i j (patterns.Value s e) x f g (inl q) =
     inl (cc (o, q))
 near_same c i j (patterns.Value s e) x f g (inr d) =
     inr (omega (arith, d, depth_type_with (dimensions_in i s) (component_in i e), depth_type_with (dimensions_in j s) (component_in j e)))
-near_same c i j (patterns.Sampler s) x f g h = inl refl
-near_same c i j (patterns.Texture t) x f g h = inl refl
-near_same c i j (patterns.Resource r) x f g h = inl refl
+near_same c i j p x f g h = inl refl
 
 near_less : (c : Bool) (i j : Instance) (ps : List Pattern) (xs : List Operand) → AllFit c i ps xs → AllFit c j ps xs → AllNear i j ps →
     (parameters_for j ps xs ≡ parameters_for i ps xs) ⊎ IsSomewhereLess (map depth (parameters_for i ps xs)) (map depth (parameters_for j ps xs))
 near_less c i j [] [] f g h = inl refl
-near_less c i j [] (x ∷ xs) f g h = absurd f
-near_less c i j (p ∷ ps) [] f g h = absurd f
 near_less c i j (p ∷ ps) (x ∷ xs) f g h = turn (near_same c i j p x f.0 g.0 h.0) (near_less c i j ps xs f.1 g.1 h.1)
   where
     turn : (parameter_for j p x.of_type ≡ parameter_for i p x.of_type) ⊎ (depth (parameter_for i p x.of_type) < depth (parameter_for j p x.of_type)) →
@@ -64,6 +56,7 @@ near_less c i j (p ∷ ps) (x ∷ xs) f g h = turn (near_same c i j p x f.0 g.0 
     turn (inr d) r = inr (inl d)
     turn (inl e) (inr r) = inr (inr r)
     turn (inl e) (inl q) = inl (cc (e, q))
+near_less c i j ps xs f g h = absurd f
 
 -- a candidate that takes operands is that of an instance that fits them
 pub record Taken (o : Overload) (xs : List Operand) (us : List WgslType) (r : Option WgslType) (ws : List ℕ) : Type 0 where

@@ -1,5 +1,5 @@
 -- The lines of overloads, counted.
-use Rattle.std.proofs.Common.{◌≡◌, ◌∙◌, ◌+◌, ◌<◌, ◌++◌, ℕ, suc, Bool, false, List, [], ◌∷◌, Some, ap, arith, cond, get_or, length, refl, slice_get, sym, take}
+use Rattle.std.proofs.Common.{◌≡◌, ◌∙◌, ◌+◌, ◌<◌, ◌++◌, ℕ, Bool, false, List, [], ◌∷◌, Some, ap, arith, cond, get_or, length, refl, slice_get, sym, take}
 use Rattle.std.proofs.Math.Seq.{take-suc}
 use Rattle.std.proofs.lemmas.List.{append-nil, length-append}
 use Rattle.std.proofs.lemmas.List.Concat.{flat_map-append}
@@ -11,14 +11,11 @@ use Rattle.wgsl_standard.specs.Explained.{or_none}
 use Rattle.wgsl_standard.specs.Lines.{callees_before, line_of_overload, lines_before}
 use Rattle.wgsl_standard.specs.Texts.{lines_listed, name_of, texts_listed}
 use Rattle.wgsl_standard.specs.declared.callee.Callee.{Callee}
-use Rattle.wgsl_standard.proofs.Listed.{stands}
+use Rattle.wgsl_standard.proofs.Listed.{next, stands}
 
 -- the lines of one more overload
 pub lines_then : (n : List ℕ) (t : Bool) (os : List Overload) (o : Overload) → signature_lines n t (os ++ o ∷ []) ≡ signature_lines n t os ++ overload_lines n t o
 lines_then n t os o = flat_map-append (overload_lines n t) os (o ∷ []) ∙ ap (λ ls. signature_lines n t os ++ ls) (append-nil (overload_lines n t o))
-
-next : (n : ℕ) → suc n ≡ n + 1
-next n = omega arith
 
 pub one_more : (os : List Overload) (i : ℕ) (d : Overload) → i < length os → take (i + 1) os ≡ take i os ++ get_or os i d ∷ []
 one_more os i d h = ap (λ n. take n os) (sym (next i)) ∙ take-suc os i d h

@@ -3,26 +3,21 @@ use Rattle.std.proofs.Common.{◌≡◌, ℕ, ◌+◌, ◌<◌, arith, zero, suc
 use Rattle.std.specs.Prelude.{IsTrue, option_and_then, slice_get}
 use Rattle.wgsl_syntax.specs.declared.overload.Pattern.{Pattern}
 use Rattle.wgsl_syntax.specs.declared.overload.Overload.{Overload}
-use Rattle.wgsl_rules.specs.standard.Choice.{Operand}
+use Rattle.wgsl_rules.specs.standard.Choice.{Operand, parameters_for}
 use Rattle.wgsl_syntax.specs.declared.overload.Instance.{Instance}
 use Rattle.wgsl_standard.specs.declared.binding.Binding.{Binding}
 use Rattle.wgsl_rules.specs.standard.Overloads.{patterns_of}
-use Rattle.wgsl_rules.specs.standard.Choice.{parameters_for}
 use Rattle.wgsl_rules.specs.standard.Refusal.{TakesFirst, SomeTakesFirst, IsRefusedAt}
 use Rattle.std.proofs.lemmas.List.{take-map, length-map}
 use Rattle.wgsl_standard.specs.internal.Binding.{must_be_concrete, bind, bind_all, bind_first, free, settle, is_instance, takes_first, some_takes_first}
 use Rattle.wgsl_standard.proofs.Ranks.{ranks_fit, fit_ranks, fit_values, constant_takable, takable_constant}
+use Rattle.wgsl_standard.proofs.Lengths.{and_then_same}
 use Rattle.wgsl_standard.proofs.LeastInstances.{LeastOr, least_among}
-
-chained : (f g : Binding → Option Binding) → ((b : Binding) → f b ≡ g b) → (r : Option Binding) → option_and_then f r ≡ option_and_then g r
-chained f g h None = refl
-chained f g h (Some b) = h b
 
 first_all : (c : Bool) (b : Binding) (ps : List Pattern) (xs : List Operand) → bind_first c b ps xs ≡ bind_all c b (take (length xs) ps) xs
 first_all c b [] [] = refl
-first_all c b (p ∷ ps) [] = refl
-first_all c b [] (x ∷ xs) = refl
-first_all c b (p ∷ ps) (x ∷ xs) = chained (λ b. bind_first c b ps xs) (λ b. bind_all c b (take (length xs) ps) xs) (λ b. first_all c b ps xs) (bind c b p x)
+first_all c b (p ∷ ps) (x ∷ xs) = and_then_same (λ b. bind_first c b ps xs) (λ b. bind_all c b (take (length xs) ps) xs) (λ b. first_all c b ps xs) (bind c b p x)
+first_all c b ps xs = refl
 
 takes_first_so : (o : Overload) (xs : List Operand) (r : Option Instance) → LeastOr (must_be_concrete xs) o (take (length xs) (patterns_of o)) xs r → IsTrue (is_instance r) ↔ TakesFirst o xs
 takes_first_so o xs None n = (

@@ -2,7 +2,7 @@
 use Rattle.std.proofs.Common.{◌≡◌, ℕ, ◌<◌, ◌⊎◌, List, [], ◌∷◌, Option, Some, None, Bool, true, false, cond, refl, sym, ◌∙◌, subst, inl, inr, true≢false}
 use Rattle.std.specs.Prelude.{IsTrue, option_map, option_and_then}
 use Rattle.wgsl_syntax.specs.declared.scalar.Scalar.{Scalar}
-use Rattle.wgsl_syntax.specs.declared.scalar.Scalar.TheVariants.{Bool as BoolScalar, AbstractInt, AbstractFloat, I32, U32, F32, F16, I64, U64, F64}
+use Rattle.wgsl_syntax.specs.declared.scalar.Scalar.TheVariants.{Bool as BoolScalar}
 use Rattle.wgsl_rules.specs.internal.Nodes.{scalar_depth}
 use Rattle.wgsl_syntax.specs.declared.overload.Kind.{Kind}
 use Rattle.wgsl_syntax.specs.declared.overload.Component.{Component}
@@ -16,7 +16,7 @@ use Rattle.wgsl_standard.specs.declared.binding.Binding.{Binding}
 use Rattle.wgsl_rules.specs.standard.Overloads.{component_in, patterns_of, kinds_of, IsInstance}
 use Rattle.wgsl_rules.specs.standard.LetterKinds.{is_of_kind}
 use Rattle.wgsl_standard.specs.internal.Binding.{may_be, bind_all, free, targets, is_bound, first_of_kind, pick, or_zero, or_none, instance_at, settle, instance_of}
-use Rattle.wgsl_standard.proofs.Scalars.{Member, IsPicked, picked}
+use Rattle.wgsl_standard.proofs.Scalars.{Member, IsPicked, find, has, picked}
 use Rattle.wgsl_standard.proofs.Boxes.{Meets, Same, Agrees, Boxes, AllFit, all_boxes}
 use Rattle.wgsl_standard.proofs.BoundLetters.{Binds, BindsFor, BindsAll, binding_binds}
 
@@ -45,16 +45,11 @@ some_found k [] = λ g h m. m
 some_found k (s ∷ ss) = some_step k s ss (some_found k ss)
 
 each_listed : (g : Scalar) → Member g (targets None)
-each_listed BoolScalar = inl refl
-each_listed AbstractInt = inr (inl refl)
-each_listed I32 = inr (inr (inl refl))
-each_listed U32 = inr (inr (inr (inl refl)))
-each_listed AbstractFloat = inr (inr (inr (inr (inl refl))))
-each_listed F32 = inr (inr (inr (inr (inr (inl refl)))))
-each_listed F16 = inr (inr (inr (inr (inr (inr (inl refl))))))
-each_listed I64 = inr (inr (inr (inr (inr (inr (inr (inl refl)))))))
-each_listed U64 = inr (inr (inr (inr (inr (inr (inr (inr (inl refl))))))))
-each_listed F64 = inr (inr (inr (inr (inr (inr (inr (inr (inr (inl refl)))))))))
+each_listed g = find g (targets None) (test g)
+  where
+    test : (g : Scalar) → IsTrue (has g (targets None))
+    test BoolScalar = refl
+    test g = refl
 
 -- what a letter stands for in the end
 record IsLetter (c : Bool) (k : Kind) (l : Option Scalar) (s : Scalar) : Type 0 where
@@ -129,9 +124,7 @@ near c o b t u v w f j a q (The s) h = inl refl
 near_for : (c : Bool) (o : Overload) (b : Binding) (t u v w : Scalar) → AreLetters c o b t u v w → (j : Instance) → IsInstance o j → Agrees c b j →
     (p : Pattern) → BindsFor p b → IsNearFor (instance_at b t u v w) j p
 near_for c o b t u v w f j a q (patterns.Value s e) h = near c o b t u v w f j a q e h
-near_for c o b t u v w f j a q (patterns.Sampler s) h = tt
-near_for c o b t u v w f j a q (patterns.Texture x) h = tt
-near_for c o b t u v w f j a q (patterns.Resource r) h = tt
+near_for c o b t u v w f j a q p h = tt
 
 all_near : (c : Bool) (o : Overload) (b : Binding) (t u v w : Scalar) → AreLetters c o b t u v w → (j : Instance) → IsInstance o j → Agrees c b j →
     (ps : List Pattern) → BindsAll ps b → AllNear (instance_at b t u v w) j ps

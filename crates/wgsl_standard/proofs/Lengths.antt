@@ -15,27 +15,24 @@ never f h (Some b) = h b
 
 pub unequal_lengths : (c : Bool) (b : Binding) (ps : List Pattern) (xs : List Operand) → length ps ≢ length xs → bind_all c b ps xs ≡ None
 unequal_lengths c b [] [] n = absurd (n refl)
-unequal_lengths c b [] (x ∷ xs) n = refl
-unequal_lengths c b (p ∷ ps) [] n = refl
 unequal_lengths c b (p ∷ ps) (x ∷ xs) n = never (λ b. bind_all c b ps xs) (λ b. unequal_lengths c b ps xs (λ e. n (ap suc e))) (bind c b p x)
+unequal_lengths c b ps xs n = refl
 
-and_then_same : (f g : Binding → Option Binding) → ((b : Binding) → f b ≡ g b) → (r : Option Binding) → option_and_then f r ≡ option_and_then g r
+pub and_then_same : (f g : Binding → Option Binding) → ((b : Binding) → f b ≡ g b) → (r : Option Binding) → option_and_then f r ≡ option_and_then g r
 and_then_same f g h None = refl
 and_then_same f g h (Some b) = h b
 
 pub as_many : (c : Bool) (b : Binding) (ps : List Pattern) (xs : List Operand) → length ps ≡ length xs → bind_first c b ps xs ≡ bind_all c b ps xs
 as_many c b [] [] e = refl
-as_many c b [] (x ∷ xs) e = absurd (omega (arith, e))
-as_many c b (p ∷ ps) [] e = absurd (omega (arith, e))
 as_many c b (p ∷ ps) (x ∷ xs) e =
     and_then_same (λ b. bind_first c b ps xs) (λ b. bind_all c b ps xs) (λ b. as_many c b ps xs (omega (arith, e))) (bind c b p x)
+as_many c b ps xs e = absurd (omega (arith, e))
 
 -- more operands than parameters
 pub too_many : (c : Bool) (b : Binding) (ps : List Pattern) (xs : List Operand) → length ps < length xs → bind_first c b ps xs ≡ None
-too_many c b [] [] h = absurd (omega (arith, h))
-too_many c b (p ∷ ps) [] h = absurd (omega (arith, h))
 too_many c b [] (x ∷ xs) h = refl
 too_many c b (p ∷ ps) (x ∷ xs) h = never (λ b. bind_first c b ps xs) (λ b. too_many c b ps xs (omega (arith, h))) (bind c b p x)
+too_many c b ps xs h = absurd (omega (arith, h))
 
 -- parameters of one type
 pub same_first : (c : Bool) (b : Binding) (p : Pattern) (n : ℕ) (xs : List Operand) → length xs ≤ n → bind_same c b p xs ≡ bind_first c b (replicate n p) xs

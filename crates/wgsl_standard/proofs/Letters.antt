@@ -1,10 +1,10 @@
--- What textures and pointers say of the letter T: a concrete scalar. They convert to themselves alone.
-use Rattle.std.proofs.Common.{◌≡◌, ℕ, Option, Some, None, Bool, true, false, cond, refl, sym, subst, true≢false}
+-- What textures and pointers say of the letter T: a concrete scalar, once. They convert to themselves alone.
+use Rattle.std.proofs.Common.{◌≡◌, ◌∙◌, ℕ, Option, Some, None, Bool, true, false, cond, refl, sym, subst, true≢false}
 use Rattle.std.specs.Prelude.{IsTrue}
 use Rattle.wgsl_syntax.specs.Texel.{channel_type}
 use Rattle.wgsl_syntax.specs.TextureKind.{sampled_scalar}
 use Rattle.wgsl_syntax.specs.declared.scalar.Scalar.{Scalar}
-use Rattle.wgsl_syntax.specs.declared.scalar.Scalar.TheVariants.{Bool as BoolScalar, AbstractInt, AbstractFloat, I32, U32, F32, F16, I64, U64, F64}
+use Rattle.wgsl_syntax.specs.declared.scalar.Scalar.TheVariants.{AbstractInt, AbstractFloat}
 use Rattle.wgsl_syntax.specs.declared.address.AddressSpace.{AddressSpace}
 use Rattle.wgsl_syntax.specs.declared.address.AddressSpace.TheVariants.{Workgroup, Storage}
 use Rattle.wgsl_syntax.specs.declared.address.AccessMode.{AccessMode}
@@ -18,97 +18,97 @@ use Rattle.wgsl_syntax.specs.declared.overload.Resource.{Resource}
 use Rattle.wgsl_syntax.specs.declared.overload.Resource.TheVariants.{Texture1D, Texture2D, Texture2DArray, Texture3D, TextureCube, TextureCubeArray, TextureMultisampled2D, TextureStorage1D, TextureStorage2D, TextureStorage2DArray, TextureStorage3D, AtomicPointer, WorkgroupAtomicPointer, WorkgroupPointer, ArrayPointer}
 use Rattle.wgsl_rules.specs.types.Types.{WgslType, array_of, scalar, within, atomic, pointer, texture}
 use Rattle.wgsl_rules.specs.types.ResultStructs.{result_struct}
-use Rattle.wgsl_rules.specs.conversion.Conversion.{IsValueType, BaseStep, Step, base, inside, int_to_float, int_to_i32, int_to_u32, int_to_i64, int_to_u64, float_to_f32, float_to_f16, result_to_f32, result_to_f16, Converts}
-use Rattle.wgsl_rules.specs.conversion.Concrete.{is_abstract, IsAbstract}
+use Rattle.wgsl_rules.specs.conversion.Conversion.{IsValueType, BaseStep, Step, base, inside, int_to_float, Converts}
+use Rattle.wgsl_rules.specs.conversion.Concrete.{IsAbstract}
 use Rattle.wgsl_rules.proofs.conversion.Order.{Above, here, further, value_converts}
 use Rattle.wgsl_rules.proofs.conversion.Equations.{StandsAlone, converts_alone}
 use Rattle.wgsl_rules.specs.standard.Overloads.{Names}
 use Rattle.wgsl_rules.specs.standard.Resources.{suits, texture_letter, is_constructible, atomic_letter, constructible_letter, array_letter, pointer_letter, letter_of}
 use Rattle.wgsl_standard.specs.internal.Binding.{may_be}
+use Rattle.wgsl_standard.specs.internal.FixedResults.{says_letter}
+use Rattle.wgsl_standard.specs.internal.Groups.{resource_group, texture_group, type_group}
 
-abbrev pub IsConcreteLetter : Option (Option Scalar) → Type 0
-IsConcreteLetter None = Unit {0}
-IsConcreteLetter (Some None) = Unit {0}
-IsConcreteLetter (Some (Some s)) = IsTrue (may_be true s)
+-- What is said of the letter T by what has P: a concrete scalar, or nothing unless it must say something. What isn't of the set says
+-- none of both.
+abbrev pub Says : Type 0 → Bool → Option (Option Scalar) → Type 0
+Says P must None = Unit {0}
+Says P must (Some None) = P × (must ≡ false)
+Says P must (Some (Some s)) = P × IsTrue (may_be true s)
 
 sampled_concrete : (s : SampledType) → IsTrue (may_be true (sampled_scalar s))
 sampled_concrete sampled.I32 = refl
-sampled_concrete sampled.U32 = refl
-sampled_concrete sampled.F32 = refl
+sampled_concrete s = refl
 
-channels_concrete : (y : Bool) (f : TexelFormat) → IsConcreteLetter (cond y (Some (Some (sampled_scalar (channel_type f)))) None)
-channels_concrete true f = sampled_concrete (channel_type f)
-channels_concrete false f = tt
+channels_say : (P : Type 0) → P → (y : Bool) (f : TexelFormat) → Says P true (cond y (Some (Some (sampled_scalar (channel_type f)))) None)
+channels_say P p true f = (p, sampled_concrete (channel_type f))
+channels_say P p false f = tt
 
-texture_concrete : (r : Resource) (x : TextureType) → IsConcreteLetter (texture_letter r x)
-texture_concrete Texture1D (textures.Sampled1D s) = sampled_concrete s
-texture_concrete Texture2D (textures.Sampled2D s) = sampled_concrete s
-texture_concrete Texture2DArray (textures.Sampled2DArray s) = sampled_concrete s
-texture_concrete Texture3D (textures.Sampled3D s) = sampled_concrete s
-texture_concrete TextureCube (textures.SampledCube s) = sampled_concrete s
-texture_concrete TextureCubeArray (textures.SampledCubeArray s) = sampled_concrete s
-texture_concrete TextureMultisampled2D (textures.Multisampled2D s) = sampled_concrete s
-texture_concrete (TextureStorage1D u) (textures.Storage1D f m) = channels_concrete (suits u m) f
-texture_concrete (TextureStorage2D u) (textures.Storage2D f m) = channels_concrete (suits u m) f
-texture_concrete (TextureStorage2DArray u) (textures.Storage2DArray f m) = channels_concrete (suits u m) f
-texture_concrete (TextureStorage3D u) (textures.Storage3D f m) = channels_concrete (suits u m) f
-texture_concrete r x = tt
+-- a texture of a set is of its group
+texture_says : (r : Resource) (x : TextureType) → Says (texture_group x ≡ resource_group r) (says_letter r) (texture_letter r x)
+texture_says Texture1D (textures.Sampled1D s) = (refl, sampled_concrete s)
+texture_says Texture2D (textures.Sampled2D s) = (refl, sampled_concrete s)
+texture_says Texture2DArray (textures.Sampled2DArray s) = (refl, sampled_concrete s)
+texture_says Texture3D (textures.Sampled3D s) = (refl, sampled_concrete s)
+texture_says TextureCube (textures.SampledCube s) = (refl, sampled_concrete s)
+texture_says TextureCubeArray (textures.SampledCubeArray s) = (refl, sampled_concrete s)
+texture_says TextureMultisampled2D (textures.Multisampled2D s) = (refl, sampled_concrete s)
+texture_says (TextureStorage1D u) (textures.Storage1D f m) = channels_say _ refl (suits u m) f
+texture_says (TextureStorage2D u) (textures.Storage2D f m) = channels_say _ refl (suits u m) f
+texture_says (TextureStorage2DArray u) (textures.Storage2DArray f m) = channels_say _ refl (suits u m) f
+texture_says (TextureStorage3D u) (textures.Storage3D f m) = channels_say _ refl (suits u m) f
+texture_says r x = tt
 
-scalar_concrete : (s : Scalar) → IsConcreteLetter (cond (is_abstract (scalar s)) None (Some (Some s)))
-scalar_concrete AbstractInt = tt
-scalar_concrete AbstractFloat = tt
-scalar_concrete BoolScalar = refl
-scalar_concrete I32 = refl
-scalar_concrete U32 = refl
-scalar_concrete F32 = refl
-scalar_concrete F16 = refl
-scalar_concrete I64 = refl
-scalar_concrete U64 = refl
-scalar_concrete F64 = refl
+atomic_says : (a : AddressSpace) (t : WgslType) (m : AccessMode) → Says (type_group (pointer a t m) ≡ 23) true (atomic_letter t m)
+atomic_says a (atomic (scalar AbstractInt)) ReadWrite = tt
+atomic_says a (atomic (scalar AbstractFloat)) ReadWrite = tt
+atomic_says a (atomic (scalar s)) ReadWrite = (refl, refl)
+atomic_says a t m = tt
 
-says_nothing : (y : Bool) → IsConcreteLetter (cond y (Some None) None)
-says_nothing true = tt
-says_nothing false = tt
+constructible_says : (a : AddressSpace) (t : WgslType) (m : AccessMode) → Says (type_group (pointer a t m) ≡ 24) false (constructible_letter t m)
+constructible_says a (atomic t) ReadWrite = tt
+constructible_says a t ReadWrite = if_constructible (type_group (pointer a t ReadWrite) ≡ 24) refl (is_constructible t)
+  where
+    if_constructible : (P : Type 0) → P → (y : Bool) → Says P false (cond y (Some None) None)
+    if_constructible P p true = (p, refl)
+    if_constructible P p false = tt
+constructible_says a t m = tt
 
-atomic_concrete : (t : WgslType) (m : AccessMode) → IsConcreteLetter (atomic_letter t m)
-atomic_concrete (atomic (scalar s)) ReadWrite = scalar_concrete s
-atomic_concrete t m = tt
+array_says : (a : AddressSpace) (t : WgslType) (m : AccessMode) → Says (type_group (pointer a t m) ≡ 24) false (array_letter t m)
+array_says a (within (array_of None) t) Read = (refl, refl)
+array_says a (within (array_of None) t) ReadWrite = (refl, refl)
+array_says a t m = tt
 
-constructible_concrete : (t : WgslType) (m : AccessMode) → IsConcreteLetter (constructible_letter t m)
-constructible_concrete t ReadWrite = says_nothing (is_constructible t)
-constructible_concrete t m = tt
+-- a pointer of a set is of its group
+pointer_says : (r : Resource) (a : AddressSpace) (t : WgslType) (m : AccessMode) → Says (type_group (pointer a t m) ≡ resource_group r) (says_letter r) (pointer_letter r a t m)
+pointer_says AtomicPointer Workgroup t m = atomic_says Workgroup t m
+pointer_says AtomicPointer Storage t m = atomic_says Storage t m
+pointer_says WorkgroupAtomicPointer Workgroup t m = atomic_says Workgroup t m
+pointer_says WorkgroupPointer Workgroup t m = constructible_says Workgroup t m
+pointer_says ArrayPointer Storage t m = array_says Storage t m
+pointer_says r a t m = tt
 
-array_concrete : (t : WgslType) (m : AccessMode) → IsConcreteLetter (array_letter t m)
-array_concrete (within (array_of None) t) Read = tt
-array_concrete (within (array_of None) t) ReadWrite = tt
-array_concrete t m = tt
+pub letter_says : (r : Resource) (u : WgslType) → Says (type_group u ≡ resource_group r) (says_letter r) (letter_of r u)
+letter_says r (texture x) = texture_says r x
+letter_says r (pointer a t m) = pointer_says r a t m
+letter_says r u = tt
 
-pointer_concrete : (r : Resource) (s : AddressSpace) (t : WgslType) (m : AccessMode) → IsConcreteLetter (pointer_letter r s t m)
-pointer_concrete AtomicPointer Workgroup t m = atomic_concrete t m
-pointer_concrete AtomicPointer Storage t m = atomic_concrete t m
-pointer_concrete WorkgroupAtomicPointer Workgroup t m = atomic_concrete t m
-pointer_concrete WorkgroupPointer Workgroup t m = constructible_concrete t m
-pointer_concrete ArrayPointer Storage t m = array_concrete t m
-pointer_concrete r s t m = tt
+pub group_said : (P : Type 0) (y : Bool) (l : Option (Option Scalar)) (s : Scalar) → Says P y l → Names l s → P
+group_said P y None s d n = absurd n
+group_said P y (Some None) s d n = d.0
+group_said P y l s d n = d.0
 
-pub concrete_letter : (r : Resource) (t : WgslType) → IsConcreteLetter (letter_of r t)
-concrete_letter r (texture x) = texture_concrete r x
-concrete_letter r (pointer s t m) = pointer_concrete r s t m
-concrete_letter r t = tt
+-- T is the same for two instances that it fits, if it says what T is
+pub letter_once : (P : Type 0) (y : Bool) (l : Option (Option Scalar)) → IsTrue y → (a b : Scalar) → Says P y l → Names l a → Names l b → a ≡ b
+letter_once P y None i a b d h k = absurd h
+letter_once P y (Some None) i a b d h k = absurd (true≢false (sym i ∙ d.1))
+letter_once P y (Some (Some s)) i a b d h k = sym h ∙ k
 
 -- no value but itself converts to a texture, a sampler or a pointer
 
 base_not_alone : {t u : WgslType} {w : ℕ} → BaseStep t u w → StandsAlone u → ⊥
 unfolding result_struct
 base_not_alone int_to_float h = h
-base_not_alone int_to_i32 h = h
-base_not_alone int_to_u32 h = h
-base_not_alone int_to_i64 h = h
-base_not_alone int_to_u64 h = h
-base_not_alone float_to_f32 h = h
-base_not_alone float_to_f16 h = h
-base_not_alone (result_to_f32 f s) h = h
-base_not_alone (result_to_f16 f s) h = h
+base_not_alone b h = h
 
 step_not_alone : {t u : WgslType} {w : ℕ} → Step t u w → StandsAlone u → ⊥
 step_not_alone (base b) h = base_not_alone b h

@@ -10,17 +10,14 @@ pub mod Choices
 pub mod OneChoice
 pub mod Lengths
 pub mod FirstParameters
-pub mod Groups
 pub mod FixedResults
 pub mod Unambiguous
-pub mod OperatorTables
 pub mod NamedTables
 pub mod StandardAnswers
 pub mod SortedTables
 pub mod Search
 pub mod Noted
 pub mod Listed
-pub mod ShortTables
 pub mod CountedLines
 pub mod NamesApart
 pub mod NumberedLines

@@ -4,7 +4,7 @@ use Rattle.std.proofs.Math.Seq.{drop-cons}
 use Rattle.std.specs.Borrow.{Bor}
 use Rattle.std.specs.Prelude.{min, option_map}
 use Rattle.wgsl_syntax.specs.declared.overload.Overload.{Overload}
-use Rattle.std.proofs.Common.{get_or, length, ◌≡◌, ℕ, zero, suc, ◌+◌, ◌<◌, ◌≤◌, List, [], ◌∷◌, ◌++◌, Option, Some, None, Bool, true, false, ◌||◌, replicate, drop, slice_get, refl, ap, sym, subst, ◌∙◌, arith, append_assoc}
+use Rattle.std.proofs.Common.{get_or, length, ◌≡◌, ℕ, zero, suc, ◌+◌, ◌<◌, List, [], ◌∷◌, ◌++◌, Option, Some, None, Bool, true, false, ◌||◌, drop, slice_get, refl, ap, sym, subst, ◌∙◌, arith, append_assoc}
 use Rattle.std.specs.Fmt.{HasWritten, IsPlainFormatter}
 use Rattle.std.specs.List.{flat_map, list_any}
 use Rattle.std.specs.Option.{option_to_list}
@@ -19,35 +19,16 @@ use Rattle.wgsl_rules.specs.standard.Signatures.{first_resource, patterns_text, 
 use Rattle.wgsl_standard.specs.internal.Binding.{first_pattern}
 use Rattle.wgsl_standard.specs.internal.Listed.{AreListed}
 
-pub repeated : {X : Type 0} (n i : ℕ) (x : X) → i < n → slice_get (replicate n x) i ≡ Some x
-repeated zero i x h = absurd (omega (arith, h))
-repeated (suc n) zero x h = refl
-repeated (suc n) (suc i) x h = repeated n i x (omega (arith, h))
-
-pub past_repeated : {X : Type 0} (n i : ℕ) (x : X) → n ≤ i → slice_get (replicate n x) i ≡ None
-past_repeated zero i x h = refl
-past_repeated (suc n) zero x h = absurd (omega (arith, h))
-past_repeated (suc n) (suc i) x h = past_repeated n i x (omega (arith, h))
-
-pub repeated_after : {X : Type 0} (n i : ℕ) (x y : X) → 0 < i → i ≤ n → slice_get (x ∷ replicate n y) i ≡ Some y
-repeated_after n zero x y g h = absurd (omega (arith, g))
-repeated_after n (suc i) x y g h = repeated n i y (omega (arith, h))
-
-pub past_repeated_after : {X : Type 0} (n i : ℕ) (x y : X) → n < i → slice_get (x ∷ replicate n y) i ≡ None
-past_repeated_after n zero x y h = absurd (omega (arith, h))
-past_repeated_after n (suc i) x y h = past_repeated n i y (omega (arith, h))
-
 pub first_at : (ps : List Pattern) → slice_get ps 0 ≡ first_pattern ps
 first_at [] = refl
 first_at (p ∷ ps) = refl
 
 drop_suc : {X : Type 0} (xs : List X) (i : ℕ) → drop i xs ≡ option_to_list (slice_get xs i) ++ drop (suc i) xs
 drop_suc [] zero = refl
-drop_suc [] (suc i) = refl
-drop_suc (x ∷ xs) zero = refl
 drop_suc (x ∷ xs) (suc i) = drop_suc xs i
+drop_suc xs i = refl
 
-next : (n : ℕ) → suc n ≡ n + 1
+pub next : (n : ℕ) → suc n ≡ n + 1
 next n = omega arith
 
 pub drop_next : {X : Type 0} (xs : List X) (i : ℕ) → drop i xs ≡ option_to_list (slice_get xs i) ++ drop (i + 1) xs

@@ -21,30 +21,11 @@ use Rattle.wgsl_standard.proofs.NamesApart.{constructor_apart, function_apart, t
 
 pub one_unary : (o : UnaryOperator) → unary_operators_named (unary_text o) ≡ a_unary o ∷ []
 one_unary u.LogicalNegation = refl
-one_unary u.Negation = refl
-one_unary u.BitwiseComplement = refl
-one_unary u.AddressOf = refl
-one_unary u.Indirection = refl
+one_unary o = refl
 
 pub one_binary : (o : BinaryOperator) → binary_operators_named (binary_text o) ≡ a_binary o ∷ []
 one_binary b.ShortCircuitOr = refl
-one_binary b.ShortCircuitAnd = refl
-one_binary b.Addition = refl
-one_binary b.Subtraction = refl
-one_binary b.Multiplication = refl
-one_binary b.Division = refl
-one_binary b.Remainder = refl
-one_binary b.Equality = refl
-one_binary b.Inequality = refl
-one_binary b.LessThan = refl
-one_binary b.LessThanEqual = refl
-one_binary b.GreaterThan = refl
-one_binary b.GreaterThanEqual = refl
-one_binary b.BitwiseOr = refl
-one_binary b.BitwiseAnd = refl
-one_binary b.BitwiseXor = refl
-one_binary b.ShiftLeft = refl
-one_binary b.ShiftRight = refl
+one_binary o = refl
 
 -- a list has a part behind another one
 abbrev Has : {A : Type 0} → List A → List A → List A → Type 0

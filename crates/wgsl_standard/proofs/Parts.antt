@@ -14,8 +14,7 @@ use Rattle.wgsl_standard.specs.internal.Parts.{parts_of}
 
 pub parts_once : (o : Dimensions) (s : Scalar) → parts_of (type_with o s) ≡ Some (o, s)
 parts_once Single s = refl
-parts_once (Vector n) s = refl
-parts_once (Matrix c r) s = refl
+parts_once o s = refl
 
 scalar_again : (t : WgslType) (s : Scalar) → scalar_of t ≡ Some s → t ≡ scalar s
 scalar_again (scalar r) s e = let q : r ≡ s = cc e in ap scalar q

@@ -2,7 +2,7 @@
 use Rattle.std.proofs.Common.{◌≡◌, ℕ, ◌+◌, ◌⊎◌, List, [], ◌∷◌, map, Some, Bool, true, false, cond, refl, sym, ◌∙◌, ap, subst, inl, inr, arith, true≢false}
 use Rattle.std.specs.Prelude.{IsTrue}
 use Rattle.wgsl_syntax.specs.declared.scalar.Scalar.{Scalar}
-use Rattle.wgsl_syntax.specs.declared.scalar.Scalar.TheVariants.{Bool as BoolScalar, AbstractInt, AbstractFloat, I32, U32, F32, F16, I64, U64, F64}
+use Rattle.wgsl_syntax.specs.declared.scalar.Scalar.TheVariants.{AbstractInt, AbstractFloat}
 use Rattle.wgsl_rules.specs.types.Types.{WgslType, vec_of, mat_of, scalar, within, texture, sampler}
 use Rattle.wgsl_rules.specs.conversion.Conversion.{Converts, IsValueType}
 use Rattle.wgsl_rules.specs.conversion.Concrete.{IsAbstract}
@@ -15,10 +15,9 @@ use Rattle.wgsl_syntax.specs.declared.overload.Pattern.{Pattern}
 use Rattle.wgsl_syntax.specs.declared.overload.Pattern.TheVariants as patterns
 use Rattle.wgsl_syntax.specs.declared.overload.Dimensions.{Dimensions}
 use Rattle.wgsl_syntax.specs.declared.overload.Dimensions.TheVariants.{Single, Vector, Matrix}
-use Rattle.wgsl_rules.specs.standard.Choice.{Operand}
+use Rattle.wgsl_rules.specs.standard.Choice.{Operand, types_of, AreValues, AreConstant, AreConcrete, parameter_for, parameters_for}
 use Rattle.wgsl_syntax.specs.declared.overload.Instance.{Instance}
 use Rattle.wgsl_rules.specs.standard.Overloads.{type_with, dimensions_in, component_in, Names, IsParameter, AreParameters}
-use Rattle.wgsl_rules.specs.standard.Choice.{types_of, AreValues, AreConstant, AreConcrete, parameter_for, parameters_for}
 use Rattle.wgsl_rules.specs.standard.Resources.{letter_of}
 use Rattle.wgsl_standard.proofs.Letters.{only_itself, to_itself, member_alone, member_concrete, member_value}
 use Rattle.wgsl_standard.specs.internal.Parts.{parts_of}
@@ -60,37 +59,26 @@ type_with_converts (Matrix c r) s g w h = converts_inside (mat_of c r) (scalar s
 
 pub depth_type_with : (o : Dimensions) (s : Scalar) → depth (type_with o s) ≡ scalar_depth s
 depth_type_with Single s = refl
-depth_type_with (Vector n) s = refl
-depth_type_with (Matrix c r) s = refl
+depth_type_with o s = refl
 
 -- a type may be taken where parameters must be concrete, if it is concrete
 
 may_concrete : (s : Scalar) → IsTrue (may_be true s) → ¬ IsAbstract (scalar s)
-may_concrete AbstractInt h = λ a. true≢false (sym h)
-may_concrete AbstractFloat h = λ a. true≢false (sym h)
-may_concrete s h = λ a. true≢false (sym a)
+may_concrete AbstractInt h = λ a. cc
+may_concrete s h = λ a. cc
 
 concrete_may : (s : Scalar) → (¬ IsAbstract (scalar s)) → IsTrue (may_be true s)
 concrete_may AbstractInt h = absurd (h refl)
 concrete_may AbstractFloat h = absurd (h refl)
-concrete_may BoolScalar h = refl
-concrete_may I32 h = refl
-concrete_may U32 h = refl
-concrete_may F32 h = refl
-concrete_may F16 h = refl
-concrete_may I64 h = refl
-concrete_may U64 h = refl
-concrete_may F64 h = refl
+concrete_may s h = refl
 
 type_with_concrete : (o : Dimensions) (s : Scalar) → IsTrue (may_be true s) → ¬ IsAbstract (type_with o s)
 type_with_concrete Single s h = may_concrete s h
-type_with_concrete (Vector n) s h = may_concrete s h
-type_with_concrete (Matrix c r) s h = may_concrete s h
+type_with_concrete o s h = may_concrete s h
 
 concrete_type_with : (o : Dimensions) (s : Scalar) → (¬ IsAbstract (type_with o s)) → IsTrue (may_be true s)
 concrete_type_with Single s h = concrete_may s h
-concrete_type_with (Vector n) s h = concrete_may s h
-concrete_type_with (Matrix c r) s h = concrete_may s h
+concrete_type_with o s h = concrete_may s h
 
 -- the parameters are concrete, or need not be
 abbrev pub AreTakable : Bool → List WgslType → Type 0
@@ -137,41 +125,33 @@ converts_fits c i (patterns.Resource r) u us x w v m h k =
 pub ranks_fit : (c : Bool) (i : Instance) (ps : List Pattern) (us : List WgslType) (xs : List Operand) (ws : List ℕ) → AreParameters i ps us → AreValues xs →
     HasRanks (types_of xs) us ws → AreTakable c us → AllFit c i ps xs
 ranks_fit c i [] [] [] ws m v h k = tt
-ranks_fit c i [] [] (x ∷ xs) ws m v h k = absurd h
-ranks_fit c i [] (u ∷ us) xs ws m v h k = absurd m
-ranks_fit c i (p ∷ ps) [] xs ws m v h k = absurd m
-ranks_fit c i (p ∷ ps) (u ∷ us) [] ws m v h k = absurd h
-ranks_fit c i (p ∷ ps) (u ∷ us) (x ∷ xs) [] m v h k = absurd h
 ranks_fit c i (p ∷ ps) (u ∷ us) (x ∷ xs) (w ∷ ws) m v h k =
     (converts_fits c i p u us x w v.0 m.0 h.0 k, ranks_fit c i ps us xs ws m.1 v.1 h.1 (takable_tail c u us k))
+ranks_fit c i [] [] xs ws m v h k = absurd h
+ranks_fit c i (p ∷ ps) (u ∷ us) xs ws m v h k = absurd h
+ranks_fit c i ps us xs ws m v h k = absurd m
 
 -- the parameters are then those for the operands
 
 parameter_is : (i : Instance) (p : Pattern) (u : WgslType) (x : Operand) (w : ℕ) → IsValueType x.of_type → IsParameter i p u → Converts x.of_type u w → u ≡ parameter_for i p x.of_type
-parameter_is i (patterns.Value s e) u x w v m h = m
-parameter_is i (patterns.Sampler s) u x w v m h = m
-parameter_is i (patterns.Texture t) u x w v m h = m
 parameter_is i (patterns.Resource r) u x w v m h = sym (only_itself x.of_type u w v (member_alone r u i.t m) h)
+parameter_is i p u x w v m h = m
 
 pub parameters_are : (i : Instance) (ps : List Pattern) (us : List WgslType) (xs : List Operand) (ws : List ℕ) → AreParameters i ps us → AreValues xs →
     HasRanks (types_of xs) us ws → us ≡ parameters_for i ps xs
 parameters_are i [] [] xs ws m v h = refl
-parameters_are i [] (u ∷ us) xs ws m v h = absurd m
-parameters_are i (p ∷ ps) [] xs ws m v h = absurd m
-parameters_are i (p ∷ ps) (u ∷ us) [] ws m v h = absurd h
-parameters_are i (p ∷ ps) (u ∷ us) (x ∷ xs) [] m v h = absurd h
 parameters_are i (p ∷ ps) (u ∷ us) (x ∷ xs) (w ∷ ws) m v h =
     let a = parameter_is i p u x w v.0 m.0 h.0 in
     let b = parameters_are i ps us xs ws m.1 v.1 h.1 in
     cc (a, b)
+parameters_are i (p ∷ ps) (u ∷ us) xs ws m v h = absurd h
+parameters_are i ps us xs ws m v h = absurd m
 
 -- what fits converts
 
 fit_parameter : (c : Bool) (i : Instance) (p : Pattern) (x : Operand) → Fit c i p x → IsParameter i p (parameter_for i p x.of_type)
-fit_parameter c i (patterns.Value s e) x f = refl
-fit_parameter c i (patterns.Sampler s) x f = refl
-fit_parameter c i (patterns.Texture t) x f = refl
 fit_parameter c i (patterns.Resource r) x f = f
+fit_parameter c i p x f = refl
 
 fit_converts : (c : Bool) (i : Instance) (p : Pattern) (x : Operand) → Fit c i p x → (w : ℕ) × Converts x.of_type (parameter_for i p x.of_type) w
 fit_converts c i (patterns.Value s e) x f =
@@ -202,8 +182,6 @@ no_operands false i = record { parameters = tt; ranks = []; converts = tt; takab
 
 pub fit_ranks : (c : Bool) (i : Instance) (ps : List Pattern) (xs : List Operand) → AllFit c i ps xs → ForOperands c i ps xs
 fit_ranks c i [] [] h = no_operands c i
-fit_ranks c i [] (x ∷ xs) h = absurd h
-fit_ranks c i (p ∷ ps) [] h = absurd h
 fit_ranks c i (p ∷ ps) (x ∷ xs) h =
     let k = fit_ranks c i ps xs h.1 in
     let r = fit_converts c i p x h.0 in
@@ -213,11 +191,11 @@ fit_ranks c i (p ∷ ps) (x ∷ xs) h =
       converts = (r.1, k.converts);
       takable = fit_takable c i p x (parameters_for i ps xs) h.0 k.takable;
     }
+fit_ranks c i ps xs h = absurd h
 
 is_value : (o : Dimensions) (s : Scalar) → IsValueType (type_with o s)
 is_value Single s = tt
-is_value (Vector n) s = tt
-is_value (Matrix c r) s = tt
+is_value o s = tt
 
 fit_value : (c : Bool) (i : Instance) (p : Pattern) (x : Operand) → Fit c i p x → IsValueType x.of_type
 fit_value c i (patterns.Value s e) x f = subst IsValueType (sym (parts_again x.of_type (dimensions_in i s) f.scalar f.parts)) (is_value (dimensions_in i s) f.scalar)
@@ -227,9 +205,8 @@ fit_value c i (patterns.Resource r) x f = member_value r x.of_type i.t f
 
 pub fit_values : (c : Bool) (i : Instance) (ps : List Pattern) (xs : List Operand) → AllFit c i ps xs → AreValues xs
 fit_values c i [] [] h = tt
-fit_values c i [] (x ∷ xs) h = absurd h
-fit_values c i (p ∷ ps) [] h = absurd h
 fit_values c i (p ∷ ps) (x ∷ xs) h = (fit_value c i p x h.0, fit_values c i ps xs h.1)
+fit_values c i ps xs h = absurd h
 
 -- parameters must be concrete exactly if an operand isn't a const-expression
 
@@ -265,24 +242,17 @@ takable_constant xs us h = turn (must_be_concrete xs) refl h
 pub ranks_below : (us vs : List WgslType) (xs : List Operand) (ms ws : List ℕ) → AreValues xs → HasRanks (types_of xs) us ms → HasRanks (types_of xs) vs ws →
     IsNowhereMore (map depth us) (map depth vs) → IsNowhereMore ms ws
 ranks_below [] [] [] [] [] d h k m = tt
-ranks_below [] [] [] [] (w ∷ ws) d h k m = absurd k
-ranks_below [] [] [] (n ∷ ms) ws d h k m = absurd h
-ranks_below [] (v ∷ vs) [] ms ws d h k m = absurd k
-ranks_below (u ∷ us) vs [] ms ws d h k m = absurd h
-ranks_below [] vs (x ∷ xs) ms ws d h k m = absurd h
-ranks_below (u ∷ us) [] (x ∷ xs) ms ws d h k m = absurd k
-ranks_below (u ∷ us) (v ∷ vs) (x ∷ xs) [] ws d h k m = absurd h
-ranks_below (u ∷ us) (v ∷ vs) (x ∷ xs) (n ∷ ms) [] d h k m = absurd k
 ranks_below (u ∷ us) (v ∷ vs) (x ∷ xs) (n ∷ ms) (w ∷ ws) d h k m =
     (omega (arith, (value_converts d.0 h.0).1, (value_converts d.0 k.0).1, m.0), ranks_below us vs xs ms ws d.1 h.1 k.1 m.1)
+ranks_below [] vs [] [] ws d h k m = absurd k
+ranks_below (u ∷ us) vs (x ∷ xs) (n ∷ ms) ws d h k m = absurd k
+ranks_below us vs xs ms ws d h k m = absurd h
 
 pub ranks_less : (us vs : List WgslType) (xs : List Operand) (ms ws : List ℕ) → AreValues xs → HasRanks (types_of xs) us ms → HasRanks (types_of xs) vs ws →
     IsSomewhereLess (map depth us) (map depth vs) → IsSomewhereLess ms ws
-ranks_less [] vs xs ms ws d h k m = absurd m
-ranks_less (u ∷ us) [] xs ms ws d h k m = absurd m
-ranks_less (u ∷ us) (v ∷ vs) [] ms ws d h k m = absurd h
-ranks_less (u ∷ us) (v ∷ vs) (x ∷ xs) [] ws d h k m = absurd h
-ranks_less (u ∷ us) (v ∷ vs) (x ∷ xs) (n ∷ ms) [] d h k m = absurd k
 ranks_less (u ∷ us) (v ∷ vs) (x ∷ xs) (n ∷ ms) (w ∷ ws) d h k (inl m) =
     inl (omega (arith, (value_converts d.0 h.0).1, (value_converts d.0 k.0).1, m))
 ranks_less (u ∷ us) (v ∷ vs) (x ∷ xs) (n ∷ ms) (w ∷ ws) d h k (inr m) = inr (ranks_less us vs xs ms ws d.1 h.1 k.1 m)
+ranks_less (u ∷ us) (v ∷ vs) (x ∷ xs) (n ∷ ms) [] d h k m = absurd k
+ranks_less (u ∷ us) (v ∷ vs) xs ms ws d h k m = absurd h
+ranks_less us vs xs ms ws d h k m = absurd m

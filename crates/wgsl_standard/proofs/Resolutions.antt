@@ -23,26 +23,15 @@ use Rattle.wgsl_standard.proofs.NumberedLines.{text_there}
 
 is_scalar : (i : Instance) (p : Pattern) (t : WgslType) → i.width ≡ None → (is_scalar_or_vector p && is_vector (parameter_for i p t)) ≡ false
 is_scalar i (patterns.Value shapes.OneOrVector e) t h = ap (λ w. is_vector (type_with (one_or_vector w) (component_in i e))) h
-is_scalar i (patterns.Value shapes.One e) t h = refl
-is_scalar i (patterns.Value (shapes.Vector n) e) t h = refl
-is_scalar i (patterns.Value (shapes.Matrix c r) e) t h = refl
-is_scalar i (patterns.Sampler s) t h = refl
-is_scalar i (patterns.Texture x) t h = refl
-is_scalar i (patterns.Resource r) t h = refl
+is_scalar i p t h = refl
 
 is_one : (i : Instance) (n : ℕ) (p : Pattern) (t : WgslType) → i.width ≡ Some n → (is_scalar_or_vector p && is_vector (parameter_for i p t)) ≡ is_scalar_or_vector p
 is_one i n (patterns.Value shapes.OneOrVector e) t h = ap (λ w. is_vector (type_with (one_or_vector w) (component_in i e))) h
-is_one i n (patterns.Value shapes.One e) t h = refl
-is_one i n (patterns.Value (shapes.Vector m) e) t h = refl
-is_one i n (patterns.Value (shapes.Matrix c r) e) t h = refl
-is_one i n (patterns.Sampler s) t h = refl
-is_one i n (patterns.Texture x) t h = refl
-is_one i n (patterns.Resource r) t h = refl
+is_one i n p t h = refl
 
 none_are : (i : Instance) (ps : List Pattern) (xs : List Operand) → i.width ≡ None → are_vectors ps (parameters_for i ps xs) ≡ false
-none_are i [] xs h = refl
-none_are i (p ∷ ps) [] h = refl
 none_are i (p ∷ ps) (x ∷ xs) h = ap (λ b. b || are_vectors ps (parameters_for i ps xs)) (is_scalar i p x.of_type h) ∙ none_are i ps xs h
+none_are i ps xs h = refl
 
 all_are : (i j : Instance) (n : ℕ) (ps : List Pattern) (xs : List Operand) → i.width ≡ Some n → AreParameters j ps (parameters_for i ps xs)
     → are_vectors ps (parameters_for i ps xs) ≡ list_any is_scalar_or_vector ps

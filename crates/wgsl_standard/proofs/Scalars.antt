@@ -1,12 +1,14 @@
 -- Conversion of scalars, and the least of a kind.
 use Rattle.std.proofs.Common.{◌≡◌, ℕ, ◌+◌, ◌<◌, ◌⊎◌, ◌↔◌, List, [], ◌∷◌, Option, Some, None, Bool, true, false, cond, refl, sym, ◌∙◌, ap, subst, inl, inr, arith, true≢false}
-use Rattle.std.specs.Prelude.{IsTrue, is_some}
+use Rattle.std.specs.Prelude.{IsTrue, is_some, ◌&&◌}
+use Rattle.std.specs.List.{list_any}
+use Rattle.std.proofs.lemmas.Bool.{and_parts, or_cases}
 use Rattle.wgsl_syntax.specs.declared.scalar.Scalar.{Scalar}
-use Rattle.wgsl_syntax.specs.declared.scalar.Scalar.TheVariants.{Bool as BoolScalar, AbstractInt, AbstractFloat, I32, U32, F32, F16, I64, U64, F64}
+use Rattle.wgsl_syntax.specs.declared.scalar.Scalar.TheVariants.{Bool as BoolScalar, AbstractInt, AbstractFloat, I32, U32, F32, F16, I64, U64}
 use Rattle.wgsl_rules.specs.types.Types.{scalar}
 use Rattle.wgsl_rules.specs.conversion.Conversion.{Converts}
 use Rattle.wgsl_rules.specs.internal.Nodes.{scalar_depth}
-use Rattle.wgsl_rules.proofs.conversion.Order.{Above, above_trans, above_chain, above_converts, value_converts}
+use Rattle.wgsl_rules.proofs.conversion.Order.{Above, above_antisym, above_trans, above_chain, above_converts, value_converts}
 use Rattle.wgsl_rules.proofs.conversion.Equations.{scalar_rank, converts_scalar}
 use Rattle.wgsl_syntax.specs.declared.overload.Kind.{Kind}
 use Rattle.wgsl_rules.specs.standard.LetterKinds.{is_of_kind}
@@ -15,15 +17,7 @@ use Rattle.wgsl_standard.specs.internal.Binding.{converts, may_be, join, targets
 -- as in the table of ranks
 pub by_rank : (a b : Scalar) → converts a b ≡ is_some (scalar_rank a b)
 by_rank BoolScalar BoolScalar = refl
-by_rank AbstractInt BoolScalar = refl
-by_rank AbstractFloat BoolScalar = refl
-by_rank I32 BoolScalar = refl
-by_rank U32 BoolScalar = refl
-by_rank F32 BoolScalar = refl
-by_rank F16 BoolScalar = refl
-by_rank I64 BoolScalar = refl
-by_rank U64 BoolScalar = refl
-by_rank F64 BoolScalar = refl
+by_rank a BoolScalar = refl
 by_rank a b = refl
 
 -- a rank tells whether a scalar converts
@@ -43,27 +37,12 @@ itself c k a i m = at a (λ ss. rw (i, m) refl)
     at : (a : Scalar) → ((ss : List Scalar) → first_of_kind c k (a ∷ ss) ≡ Some a) → pick c k (Some a) ≡ Some a
     at AbstractInt h = h (I32 ∷ U32 ∷ AbstractFloat ∷ F32 ∷ F16 ∷ I64 ∷ U64 ∷ [])
     at AbstractFloat h = h (F32 ∷ F16 ∷ [])
-    at BoolScalar h = h []
-    at I32 h = h []
-    at U32 h = h []
-    at F32 h = h []
-    at F16 h = h []
-    at I64 h = h []
-    at U64 h = h []
-    at F64 h = h []
+    at s h = h []
 
 -- what is picked is the first of all scalars to which the scalar converts
 pub first_of_all : (c : Bool) (k : Kind) (a : Scalar) → first_target c k a (targets None) ≡ pick c k (Some a)
 first_of_all c k AbstractInt = refl
-first_of_all c k AbstractFloat = refl
-first_of_all c k BoolScalar = refl
-first_of_all c k I32 = refl
-first_of_all c k U32 = refl
-first_of_all c k F32 = refl
-first_of_all c k F16 = refl
-first_of_all c k I64 = refl
-first_of_all c k U64 = refl
-first_of_all c k F64 = refl
+first_of_all c k a = refl
 
 abbrev pub Reaches : Scalar → Scalar → Type 0
 Reaches a b = IsTrue (converts a b)
@@ -122,28 +101,26 @@ abbrev pub Member : Scalar → List Scalar → Type 0
 Member g [] = ⊥
 Member g (s ∷ ss) = (g ≡ s) ⊎ Member g ss
 
+-- A member is found by a test: a scalar is the one to which it converts and that converts to it.
+
+abbrev pub has : Scalar → List Scalar → Bool
+has g ss = list_any (λ s. converts s g && converts g s) ss
+
+pub find : (g : Scalar) (ss : List Scalar) → IsTrue (has g ss) → Member g ss
+find g [] h = absurd (true≢false (sym h))
+find g (s ∷ ss) h = elim (or_cases (converts s g && converts g s) (has g ss) h) [
+  | inl k ↦ let both = and_parts (converts s g) (converts g s) k in
+      let same = above_antisym (reaches_above g s both.1) (reaches_above s g both.0) in inl (cc same)
+  | inr k ↦ inr (find g ss k)
+]
+
+target_test : (a g : Scalar) → converts a g ≡ has g (targets (Some a))
+target_test BoolScalar BoolScalar = refl
+target_test a BoolScalar = refl
+target_test a g = refl
+
 pub target_member : (a g : Scalar) → Reaches a g → Member g (targets (Some a))
-target_member AbstractInt BoolScalar h = absurd (true≢false (sym h))
-target_member AbstractInt AbstractInt h = inl refl
-target_member AbstractInt I32 h = inr (inl refl)
-target_member AbstractInt U32 h = inr (inr (inl refl))
-target_member AbstractInt AbstractFloat h = inr (inr (inr (inl refl)))
-target_member AbstractInt F32 h = inr (inr (inr (inr (inl refl))))
-target_member AbstractInt F16 h = inr (inr (inr (inr (inr (inl refl)))))
-target_member AbstractInt I64 h = inr (inr (inr (inr (inr (inr (inl refl))))))
-target_member AbstractInt U64 h = inr (inr (inr (inr (inr (inr (inr (inl refl)))))))
-target_member AbstractFloat AbstractFloat h = inl refl
-target_member AbstractFloat F32 h = inr (inl refl)
-target_member AbstractFloat F16 h = inr (inr (inl refl))
-target_member BoolScalar BoolScalar h = inl refl
-target_member I32 I32 h = inl refl
-target_member U32 U32 h = inl refl
-target_member F32 F32 h = inl refl
-target_member F16 F16 h = inl refl
-target_member I64 I64 h = inl refl
-target_member U64 U64 h = inl refl
-target_member F64 F64 h = inl refl
-target_member a g h = absurd (true≢false (sym h))
+target_member a g h = find g (targets (Some a)) (sym (target_test a g) ∙ h)
 
 abbrev AllReach : Scalar → List Scalar → Type 0
 AllReach a [] = Unit {0}
@@ -152,14 +129,7 @@ AllReach a (s ∷ ss) = Reaches a s × AllReach a ss
 all_reach : (a : Scalar) → AllReach a (targets (Some a))
 all_reach AbstractInt = (refl, (refl, (refl, (refl, (refl, (refl, (refl, (refl, tt))))))))
 all_reach AbstractFloat = (refl, (refl, (refl, tt)))
-all_reach BoolScalar = (refl, tt)
-all_reach I32 = (refl, tt)
-all_reach U32 = (refl, tt)
-all_reach F32 = (refl, tt)
-all_reach F16 = (refl, tt)
-all_reach I64 = (refl, tt)
-all_reach U64 = (refl, tt)
-all_reach F64 = (refl, tt)
+all_reach a = (refl, tt)
 
 member_reaches : (a g : Scalar) (ss : List Scalar) → AllReach a ss → Member g ss → Reaches a g
 member_reaches a g [] h m = absurd m
@@ -174,14 +144,7 @@ Rising (s ∷ g ∷ ss) = (scalar_depth s < scalar_depth g) × Rising (g ∷ ss)
 rising : (a : Scalar) → Rising (targets (Some a))
 rising AbstractInt = (omega arith, (omega arith, (omega arith, (omega arith, (omega arith, (omega arith, (omega arith, tt)))))))
 rising AbstractFloat = (omega arith, (omega arith, tt))
-rising BoolScalar = tt
-rising I32 = tt
-rising U32 = tt
-rising F32 = tt
-rising F16 = tt
-rising I64 = tt
-rising U64 = tt
-rising F64 = tt
+rising a = tt
 
 rising_tail : (s : Scalar) (ss : List Scalar) → Rising (s ∷ ss) → Rising ss
 rising_tail s [] r = tt
@@ -261,26 +224,11 @@ alone a g (inr n) = absurd n
 pub concrete_reaches : (a g : Scalar) → IsTrue (may_be true a) → Reaches a g → a ≡ g
 concrete_reaches AbstractInt g m h = absurd (true≢false (sym m))
 concrete_reaches AbstractFloat g m h = absurd (true≢false (sym m))
-concrete_reaches BoolScalar g m h = alone BoolScalar g (target_member BoolScalar g h)
-concrete_reaches I32 g m h = alone I32 g (target_member I32 g h)
-concrete_reaches U32 g m h = alone U32 g (target_member U32 g h)
-concrete_reaches F32 g m h = alone F32 g (target_member F32 g h)
-concrete_reaches F16 g m h = alone F16 g (target_member F16 g h)
-concrete_reaches I64 g m h = alone I64 g (target_member I64 g h)
-concrete_reaches U64 g m h = alone U64 g (target_member U64 g h)
-concrete_reaches F64 g m h = alone F64 g (target_member F64 g h)
+concrete_reaches a g m h = alone a g (target_member a g h)
 
 pub reaches_itself : (a : Scalar) → Reaches a a
 reaches_itself BoolScalar = refl
-reaches_itself AbstractInt = refl
-reaches_itself AbstractFloat = refl
-reaches_itself I32 = refl
-reaches_itself U32 = refl
-reaches_itself F32 = refl
-reaches_itself F16 = refl
-reaches_itself I64 = refl
-reaches_itself U64 = refl
-reaches_itself F64 = refl
+reaches_itself a = refl
 
 pub may_either : (c : Bool) (s : Scalar) → IsTrue (may_be true s) → IsTrue (may_be c s)
 may_either true s m = m

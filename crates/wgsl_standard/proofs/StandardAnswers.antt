@@ -8,6 +8,9 @@ use Rattle.wgsl_rules.specs.types.Types.{WgslType}
 use Rattle.wgsl_rules.specs.standard.Overloads.{patterns_of}
 use Rattle.wgsl_rules.specs.standard.Choice.{Operand, IsPreferred, NoneTakes, parameters_for, result_for, IsChosen}
 use Rattle.wgsl_rules.specs.standard.Answers.{IsStandardAnswer}
+use Rattle.wgsl_rules.specs.standard.Tables.{IsUnambiguous}
+use Rattle.wgsl_standard.specs.internal.Binding.{first_of, must_be_concrete}
+use Rattle.wgsl_standard.proofs.Choices.{found}
 use Rattle.wgsl_standard.proofs.OneChoice.{chosen_once}
 
 -- the result of a preferred candidate is the answer
@@ -42,3 +45,14 @@ pub answer_at : (os : List Overload) (xs : List Operand) (p : ℕ × Instance) (
     IsStandardAnswer os xs (Some (result_for p.1 o xs))
 answer_at os xs p d o c e =
     subst (λ o. IsStandardAnswer os xs (Some (result_for p.1 o xs))) (sym (e ∙ get_or_from_slice_get os p.0 c.0 d c.1)) (answer_some os xs p c.0 c.1 c)
+
+pub an_answer : (os : List Overload) (xs : List Operand) → IsUnambiguous os → (r : Option (Option WgslType)) × IsStandardAnswer os xs r
+an_answer os xs u = turn (first_of (must_be_concrete xs) os xs) (found os xs u)
+  where
+    turn : (c : Option (ℕ × Instance)) → IsChosen os xs c → (r : Option (Option WgslType)) × IsStandardAnswer os xs r
+    turn (Some p) c = (_, answer_some os xs p c.0 c.1 c)
+    turn None c = (None, answer_none os xs c)
+
+pub answer_once : (os : List Overload) (xs : List Operand) (r s : Option (Option WgslType)) → IsStandardAnswer os xs r → IsStandardAnswer os xs s → r ≡ s
+answer_once os xs (Some t) s f g = sym ((g.least t).1 ((f.least t).0 refl))
+answer_once os xs None s f g = sym (g.none.1 (f.none.0 refl))

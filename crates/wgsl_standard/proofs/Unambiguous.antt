@@ -1,10 +1,10 @@
 -- What passes the test of tables is a table.
-use Rattle.std.proofs.Common.{◌≡◌, ℕ, ◌<◌, ◌≤◌, ◌==◌, ◌&&◌, ◌||◌, List, [], ◌∷◌, map, Option, Some, None, Bool, true, false, not, refl, sym, ◌∙◌, subst, inl, inr, arith, le_refl, true≢false}
+use Rattle.std.proofs.Common.{◌≡◌, ℕ, ◌<◌, ◌≤◌, ◌==◌, ◌&&◌, ◌||◌, List, [], ◌∷◌, map, Option, Some, None, Bool, true, false, not, refl, sym, ◌∙◌, subst, inl, inr, ap, arith, le_refl, true≢false}
 use Rattle.std.specs.Prelude.{IsTrue}
 use Rattle.std.specs.List.{list_all}
 use Rattle.std.proofs.lemmas.Bool.{and_from, and_parts, both_ways, eqb-false, leb-true, ltb-true, not-true, or_cases}
 use Rattle.wgsl_syntax.specs.declared.scalar.Scalar.{Scalar}
-use Rattle.wgsl_syntax.specs.declared.scalar.Scalar.TheVariants.{Bool as BoolScalar, AbstractInt, AbstractFloat, I32, U32, F32, F16, I64, U64, F64}
+use Rattle.wgsl_syntax.specs.declared.scalar.Scalar.TheVariants.{Bool as BoolScalar}
 use Rattle.wgsl_syntax.specs.Scalar.{scalars}
 use Rattle.wgsl_rules.specs.operators.Choice.{IsNowhereMore, IsSomewhereLess}
 use Rattle.wgsl_rules.specs.internal.Nodes.{scalar_depth}
@@ -18,17 +18,21 @@ use Rattle.wgsl_syntax.specs.declared.overload.Shape.TheVariants as shapes
 use Rattle.wgsl_syntax.specs.declared.overload.Pattern.{Pattern}
 use Rattle.wgsl_syntax.specs.declared.overload.Pattern.TheVariants as patterns
 use Rattle.wgsl_syntax.specs.declared.overload.Overload.{Overload}
+use Rattle.wgsl_syntax.specs.declared.overload.Dimensions.{Dimensions}
+use Rattle.wgsl_syntax.specs.declared.overload.Dimensions.TheVariants.{Single}
 use Rattle.wgsl_syntax.specs.declared.overload.Instance.{Instance}
 use Rattle.wgsl_rules.specs.standard.Choice.{Operand, parameter_for, parameters_for}
-use Rattle.wgsl_rules.specs.standard.Overloads.{count_in, one_or_vector, dimensions_in, component_in, patterns_of, IsInstance}
+use Rattle.wgsl_rules.specs.standard.Overloads.{count_in, one_or_vector, dimensions_in, component_in, patterns_of, type_with, IsInstance}
+use Rattle.wgsl_rules.specs.standard.Resources.{letter_of}
 use Rattle.wgsl_rules.specs.standard.Tables.{IsPreferredTo, IsPreferredToAll, AreInOrder, IsUnambiguous}
 use Rattle.wgsl_standard.specs.internal.Binding.{converts, must_be_concrete}
-use Rattle.wgsl_standard.specs.internal.Groups.{group_of}
+use Rattle.wgsl_standard.specs.internal.Groups.{group_of, type_group}
 use Rattle.wgsl_standard.specs.internal.FixedResults.{has_one_result}
 use Rattle.wgsl_standard.specs.internal.Ambiguity.{may_stand, all_taken, never, no_deeper, less_deep, counts_apart, shapes_apart, patterns_apart, are_apart, place_no_deeper, all_no_deeper, place_less_deep, some_less_deep, as_known, is_preferred_where, is_preferred_anywhere, differ_at, unless_they_differ, is_preferred_to, is_unambiguous}
-use Rattle.wgsl_standard.proofs.Scalars.{Member}
+use Rattle.wgsl_standard.proofs.Scalars.{Member, find, has}
 use Rattle.wgsl_standard.proofs.Boxes.{width_matrix, same_operand, Fit, AllFit}
-use Rattle.wgsl_standard.proofs.Groups.{fit_group}
+use Rattle.wgsl_standard.proofs.Letters.{group_said, letter_says}
+use Rattle.wgsl_standard.proofs.Parts.{parts_again}
 use Rattle.wgsl_standard.proofs.Ranks.{depth_type_with, ranks_below, ranks_less}
 use Rattle.wgsl_standard.proofs.Choices.{taken}
 use Rattle.wgsl_standard.proofs.FixedResults.{one_result_is}
@@ -43,28 +47,15 @@ each f (s ∷ ss) g h (inl e) = subst (λ s. IsTrue (f s)) (sym e) (and_parts (f
 each f (s ∷ ss) g h (inr m) = each f ss g (and_parts (f s) (list_all f ss) h).1 m
 
 in_scalars : (g : Scalar) → Member g scalars
-in_scalars BoolScalar = inl refl
-in_scalars AbstractInt = inr (inl refl)
-in_scalars AbstractFloat = inr (inr (inl refl))
-in_scalars I32 = inr (inr (inr (inl refl)))
-in_scalars U32 = inr (inr (inr (inr (inl refl))))
-in_scalars F32 = inr (inr (inr (inr (inr (inl refl)))))
-in_scalars F16 = inr (inr (inr (inr (inr (inr (inl refl))))))
-in_scalars I64 = inr (inr (inr (inr (inr (inr (inr (inl refl)))))))
-in_scalars U64 = inr (inr (inr (inr (inr (inr (inr (inr (inl refl))))))))
-in_scalars F64 = inr (inr (inr (inr (inr (inr (inr (inr (inr (inl refl)))))))))
+in_scalars g = find g scalars (test g)
+  where
+    test : (g : Scalar) → IsTrue (has g scalars)
+    test BoolScalar = refl
+    test g = refl
 
 itself : (s : Scalar) → IsTrue (converts s s && converts s s)
 itself BoolScalar = refl
-itself AbstractInt = refl
-itself AbstractFloat = refl
-itself I32 = refl
-itself U32 = refl
-itself F32 = refl
-itself F16 = refl
-itself I64 = refl
-itself U64 = refl
-itself F64 = refl
+itself s = refl
 
 stands : (o : Overload) (i : Instance) → IsInstance o i → (a : Component) → IsTrue (may_stand o a (component_in i a))
 stands o i h T = h.t
@@ -93,20 +84,15 @@ counts_differ i j (Exactly m) (Exactly n) h e = numbers_apart m n h e
 counts_differ i j m n h e = true≢false (sym h)
 
 shapes_differ : (i j : Instance) (a b : Shape) → IsTrue (shapes_apart a b) → dimensions_in i a ≡ dimensions_in j b → ⊥
-shapes_differ i j shapes.One (shapes.Vector n) h e = cc e
-shapes_differ i j shapes.One (shapes.Matrix c r) h e = cc e
-shapes_differ i j (shapes.Vector n) shapes.One h e = cc e
+shapes_differ i j shapes.One (shapes.Vector n) h e = cc
 shapes_differ i j (shapes.Vector n) (shapes.Vector m) h e = counts_differ i j n m h (cc e)
-shapes_differ i j (shapes.Vector n) (shapes.Matrix c r) h e = cc e
-shapes_differ i j (shapes.Matrix c r) shapes.One h e = cc e
-shapes_differ i j (shapes.Matrix c r) (shapes.Vector n) h e = cc e
 shapes_differ i j (shapes.Matrix c r) (shapes.Matrix d q) h e = elim (or_cases (counts_apart c d) (counts_apart r q) h) [
   | inl k ↦ counts_differ i j c d k (cc e)
   | inr k ↦ counts_differ i j r q k (cc e)
 ]
 shapes_differ i j (shapes.Matrix c r) shapes.OneOrVector h e = width_matrix j.width (count_in i c) (count_in i r) (sym e)
 shapes_differ i j shapes.OneOrVector (shapes.Matrix c r) h e = width_matrix i.width (count_in j c) (count_in j r) e
-shapes_differ i j a b h e = true≢false (sym h)
+shapes_differ i j a b h e = cc
 
 abbrev is_vector : Option ℕ → Bool
 is_vector None = false
@@ -118,12 +104,8 @@ IsKnown s = Unit {0}
 
 unchanged : (i : Instance) (s : Shape) (w : Bool) → IsKnown s → dimensions_in i (as_known w s) ≡ dimensions_in i s
 unchanged i shapes.OneOrVector w h = absurd h
-unchanged i shapes.One true h = refl
-unchanged i shapes.One false h = refl
-unchanged i (shapes.Vector n) true h = refl
-unchanged i (shapes.Vector n) false h = refl
-unchanged i (shapes.Matrix c r) true h = refl
-unchanged i (shapes.Matrix c r) false h = refl
+unchanged i s true h = refl
+unchanged i s w h = refl
 
 -- where it is known whether it is a scalar or a vector, another instance has the same shape there
 known : (i : Instance) (s : Shape) → (k : Instance) × (dimensions_in k (as_known (is_vector i.width) s) ≡ dimensions_in i s)
@@ -132,9 +114,18 @@ known i shapes.OneOrVector = turn i.width
     turn : (w : Option ℕ) → (k : Instance) × (dimensions_in k (as_known (is_vector w) shapes.OneOrVector) ≡ one_or_vector w)
     turn None = (i, refl)
     turn (Some n) = (record i { n = n }, refl)
-known i shapes.One = (i, unchanged i shapes.One (is_vector i.width) tt)
-known i (shapes.Vector n) = (i, unchanged i (shapes.Vector n) (is_vector i.width) tt)
-known i (shapes.Matrix c r) = (i, unchanged i (shapes.Matrix c r) (is_vector i.width) tt)
+known i s = (i, unchanged i s (is_vector i.width) tt)
+
+-- an operand that fits a parameter is of its group
+
+value_of_group : (o : Dimensions) (s : Scalar) → type_group (type_with o s) ≡ 0
+value_of_group Single s = refl
+value_of_group o s = refl
+
+fit_group : (c : Bool) (i : Instance) (p : Pattern) (x : Operand) → Fit c i p x → type_group x.of_type ≡ group_of p
+fit_group c i (patterns.Value s e) x f = ap type_group (parts_again x.of_type (dimensions_in i s) f.scalar f.parts) ∙ value_of_group (dimensions_in i s) f.scalar
+fit_group c i (patterns.Resource r) x f = group_said _ _ (letter_of r x.of_type) i.t (letter_says r x.of_type) f
+fit_group c i p x f = ap type_group f
 
 places_differ : (c : Bool) (o p : Overload) (i j : Instance) → IsInstance o i → IsInstance p j → (a b : Pattern) (x : Operand) →
     IsTrue (patterns_apart (is_vector i.width) (is_vector j.width) o p a b) → Fit c i a x → Fit c j b x → ⊥
@@ -157,15 +148,13 @@ difference c i j a b x h f k = numbers_apart (group_of a) (group_of b) h (sym (f
 none_fits : (apart : Pattern → Pattern → Bool) (c : Bool) (i j : Instance) → ((a b : Pattern) (x : Operand) → IsTrue (apart a b) → Fit c i a x → Fit c j b x → ⊥) →
     (ps qs : List Pattern) (xs : List Operand) → IsTrue (are_apart apart ps qs) → AllFit c i ps xs → AllFit c j qs xs → ⊥
 none_fits apart c i j n [] [] xs h f g = true≢false (sym h)
-none_fits apart c i j n [] (q ∷ qs) [] h f g = g
-none_fits apart c i j n [] (q ∷ qs) (x ∷ xs) h f g = f
-none_fits apart c i j n (a ∷ ps) [] [] h f g = f
-none_fits apart c i j n (a ∷ ps) [] (x ∷ xs) h f g = g
-none_fits apart c i j n (a ∷ ps) (b ∷ qs) [] h f g = f
 none_fits apart c i j n (a ∷ ps) (b ∷ qs) (x ∷ xs) h f g = elim (or_cases (apart a b) (are_apart apart ps qs) h) [
   | inl k ↦ n a b x k f.0 g.0
   | inr k ↦ none_fits apart c i j n ps qs xs k f.1 g.1
 ]
+none_fits apart c i j n [] qs [] h f g = g
+none_fits apart c i j n (a ∷ ps) [] (x ∷ xs) h f g = g
+none_fits apart c i j n ps qs xs h f g = f
 
 -- the test for what is known of two instances
 preferred_at : (w v : Bool) (o p : Overload) → IsTrue (is_preferred_anywhere o p) → IsTrue (is_preferred_where w v o p)
@@ -194,14 +183,12 @@ place_deeper c o p i j m n a b x h f k = absurd (true≢false (sym h))
 none_deeper : (c : Bool) (o p : Overload) (i j : Instance) → IsInstance o i → IsInstance p j → (ps qs : List Pattern) (xs : List Operand) → IsTrue (all_no_deeper o ps p qs) →
     AllFit c i ps xs → AllFit c j qs xs → IsNowhereMore (map depth (parameters_for i ps xs)) (map depth (parameters_for j qs xs))
 none_deeper c o p i j m n [] [] xs h f g = tt
-none_deeper c o p i j m n [] (q ∷ qs) [] h f g = absurd g
-none_deeper c o p i j m n [] (q ∷ qs) (x ∷ xs) h f g = absurd f
-none_deeper c o p i j m n (a ∷ ps) [] [] h f g = absurd f
-none_deeper c o p i j m n (a ∷ ps) [] (x ∷ xs) h f g = absurd g
-none_deeper c o p i j m n (a ∷ ps) (b ∷ qs) [] h f g = absurd f
 none_deeper c o p i j m n (a ∷ ps) (b ∷ qs) (x ∷ xs) h f g =
     let k = and_parts (place_no_deeper o a p b) (all_no_deeper o ps p qs) h in
     (place_deeper c o p i j m n a b x k.0 f.0 g.0, none_deeper c o p i j m n ps qs xs k.1 f.1 g.1)
+none_deeper c o p i j m n [] qs [] h f g = absurd g
+none_deeper c o p i j m n (a ∷ ps) [] (x ∷ xs) h f g = absurd g
+none_deeper c o p i j m n ps qs xs h f g = absurd f
 
 place_less : (c : Bool) (o p : Overload) (i j : Instance) → IsInstance o i → IsInstance p j → (a b : Pattern) (x : Operand) → IsTrue (place_less_deep o a p b) →
     Fit c i a x → Fit c j b x → depth (parameter_for i a x.of_type) < depth (parameter_for j b x.of_type)
@@ -213,14 +200,13 @@ place_less c o p i j m n a b x h f k = absurd (true≢false (sym h))
 
 some_less : (c : Bool) (o p : Overload) (i j : Instance) → IsInstance o i → IsInstance p j → (ps qs : List Pattern) (xs : List Operand) → IsTrue (some_less_deep o ps p qs) →
     AllFit c i ps xs → AllFit c j qs xs → IsSomewhereLess (map depth (parameters_for i ps xs)) (map depth (parameters_for j qs xs))
-some_less c o p i j m n [] qs xs h f g = absurd (true≢false (sym h))
-some_less c o p i j m n (a ∷ ps) [] xs h f g = absurd (true≢false (sym h))
-some_less c o p i j m n (a ∷ ps) (b ∷ qs) [] h f g = absurd f
 some_less c o p i j m n (a ∷ ps) (b ∷ qs) (x ∷ xs) h f g =
     elim (or_cases (place_less_deep o a p b) (some_less_deep o ps p qs) h) [
       | inl k ↦ inl (place_less c o p i j m n a b x k f.0 g.0)
       | inr k ↦ inr (some_less c o p i j m n ps qs xs k f.1 g.1)
     ]
+some_less c o p i j m n (a ∷ ps) (b ∷ qs) xs h f g = absurd f
+some_less c o p i j m n ps qs xs h f g = absurd (true≢false (sym h))
 
 unless_different : (o p : Overload) (y : Bool) → (IsTrue y → ⊥) → IsTrue (unless_they_differ y o p) → IsTrue (is_preferred_anywhere o p)
 unless_different o p true n h = absurd (n refl)

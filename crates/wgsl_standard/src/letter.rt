@@ -63,18 +63,13 @@ fn least_of(kind: Kind) -> Scalar
     ensures { Some result ≡ picked false kind None }
 {
     match kind {
-        Kind::AnyScalar => Scalar::Bool,
-        Kind::Number => Scalar::AbstractInt,
-        Kind::SignedNumber => Scalar::AbstractInt,
-        Kind::Integer => Scalar::AbstractInt,
-        Kind::SignedInteger => Scalar::AbstractInt,
-        Kind::Float => Scalar::AbstractFloat,
-        Kind::ConcreteScalar => Scalar::Bool,
-        Kind::ConcreteNumber => Scalar::I32,
-        Kind::ConcreteInteger => Scalar::I32,
+        Kind::AnyScalar | Kind::ConcreteScalar => Scalar::Bool,
+        Kind::Number | Kind::SignedNumber | Kind::Integer | Kind::SignedInteger => {
+            Scalar::AbstractInt
+        }
+        Kind::Float | Kind::ShortFloat => Scalar::AbstractFloat,
+        Kind::ConcreteNumber | Kind::ConcreteInteger | Kind::Number32 => Scalar::I32,
         Kind::ConcreteFloat => Scalar::F32,
-        Kind::Number32 => Scalar::I32,
-        Kind::ShortFloat => Scalar::AbstractFloat,
     }
 }
 

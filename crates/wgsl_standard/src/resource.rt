@@ -163,8 +163,7 @@ fn pointer_letter(
 {
     match resource {
         Resource::AtomicPointer => match space {
-            AddressSpace::Workgroup => atomic_letter(inner, access),
-            AddressSpace::Storage => atomic_letter(inner, access),
+            AddressSpace::Workgroup | AddressSpace::Storage => atomic_letter(inner, access),
             _ => None,
         },
         Resource::WorkgroupAtomicPointer => match space {
@@ -199,8 +198,7 @@ fn concrete_letter(held: &Type) -> Option<Option<Scalar>>
     ensures { result ≡ atomic_says (atomic (view held.now)) ReadWrite }
 {
     match held.scalar()? {
-        Scalar::AbstractInt => None,
-        Scalar::AbstractFloat => None,
+        Scalar::AbstractInt | Scalar::AbstractFloat => None,
         scalar => Some(Some(scalar)),
     }
 }
@@ -224,8 +222,7 @@ fn array_letter(inner: &Type, access: AccessMode) -> Option<Option<Scalar>>
     ensures { result ≡ array_says (view inner.now) access }
 {
     match access {
-        AccessMode::Read => runtime_array(inner),
-        AccessMode::ReadWrite => runtime_array(inner),
+        AccessMode::Read | AccessMode::ReadWrite => runtime_array(inner),
         _ => None,
     }
 }

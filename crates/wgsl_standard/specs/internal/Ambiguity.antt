@@ -1,6 +1,6 @@
 -- A test of tables: whether of each two overloads the first is preferred wherever both take operands, and whether
 -- parameters determine results.
-use Rattle.std.specs.Prelude.{ℕ, List, [], ◌∷◌, Bool, true, false, not, ◌&&◌, ◌||◌, ◌==◌, nat_lt, nat_le}
+use Rattle.std.specs.Prelude.{List, [], ◌∷◌, Bool, true, false, not, ◌&&◌, ◌||◌, ◌==◌, nat_lt, nat_le}
 use Rattle.std.specs.List.{list_all}
 use Rattle.wgsl_syntax.specs.declared.scalar.Scalar.{Scalar}
 use Rattle.wgsl_syntax.specs.Scalar.{scalars}
@@ -119,7 +119,3 @@ is_preferred_to o p = unless_they_differ (are_apart differ_at (patterns_of o) (p
 abbrev pub is_unambiguous : List Overload → Bool
 is_unambiguous [] = true
 is_unambiguous (o ∷ os) = has_one_result o && (list_all (is_preferred_to o) os && is_unambiguous os)
-
--- whether all tables of a list with names are unambiguous
-abbrev pub rows_unambiguous : List (List ℕ × List Overload) → Bool
-rows_unambiguous rows = list_all (λ row. is_unambiguous row.1) rows
