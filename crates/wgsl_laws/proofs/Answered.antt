@@ -3,8 +3,10 @@ use Rattle.std.proofs.Common.{ℕ, List, Some, None, refl, inl, inr}
 use Rattle.wgsl_rules.specs.types.Types.{WgslType, Members}
 use Rattle.wgsl_syntax.specs.declared.texel.FormatNames.{FormatNames}
 use Rattle.wgsl_standard.specs.Lines.{lines_named}
-use Rattle.wgsl_requests.specs.Answers.{Answers, WgslAnswer, WgslLayout, a_number, a_size, a_common_type, a_type, a_value, some_offsets, a_layout, a_type_of, a_resolution_of, some_lines, a_form_type, rank_is, common_is, unary_is, binary_is, size_is, offsets_are, layout_is, ctor_is, call_is, type_of_is, resolution_of_is, explanation_of_is, overloads_of_are, form_is}
-use Rattle.wgsl_requests.specs.Requests.{WgslRequest, rank, common, unary, binary, size, offsets, layout, ctor, call, type_of, resolution_of, explanation_of, overloads_of, form_of}
+use Rattle.wgsl_requests.specs.Answers.{Answers, WgslAnswer, WgslLayout, a_number, a_size, a_common_type, a_type, a_value, some_offsets, a_layout, a_type_of, a_resolution_of, some_lines, a_form_type, a_fit, rank_is, common_is, unary_is, binary_is, size_is, offsets_are, layout_is, ctor_is, call_is, type_of_is, resolution_of_is, explanation_of_is, overloads_of_are, form_is, fit_is}
+use Rattle.wgsl_rules.specs.standard.Choice.{types_of}
+use Rattle.wgsl_forms.specs.Lists.{list_fits}
+use Rattle.wgsl_requests.specs.Requests.{WgslRequest, rank, common, unary, binary, size, offsets, layout, ctor, call, type_of, resolution_of, explanation_of, overloads_of, form_of, fit_of}
 use Rattle.wgsl_laws.proofs.Calls.{a_call}
 use Rattle.wgsl_laws.proofs.Constructors.{a_constructor}
 use Rattle.wgsl_laws.proofs.Conversions.{a_rank, a_received}
@@ -48,3 +50,4 @@ some_answer (resolution_of c) = let r = some_resolution c in (a_resolution_of c 
 some_answer (explanation_of c) = let r = an_explanation_of c in (some_lines r.0, explanation_of_is r.0 r.1)
 some_answer (overloads_of name) = (some_lines (lines_named name), overloads_of_are (lines_named name) refl)
 some_answer (form_of f) = let r = some_form_type f in (a_form_type r.0, form_is r.0 r.1)
+some_answer (fit_of xs ts) = let r = list_fits ts (types_of xs) in (a_fit r, fit_is r refl)

@@ -23,7 +23,7 @@ use Rattle.wgsl_laws.proofs.WordMeanings.{a_name, same_word}
 
 -- Operands
 
-operand_shorter : {words rest : List (List ℕ)} {x : Operand} → OperandAt words x rest → length rest < length words
+pub operand_shorter : {words rest : List (List ℕ)} {x : Operand} → OperandAt words x rest → length rest < length words
 operand_shorter (constant_at d) = omega (arith, type_shorter d)
 operand_shorter (plain_at d) = type_shorter d
 

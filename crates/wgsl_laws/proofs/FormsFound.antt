@@ -2,11 +2,12 @@
 use Rattle.std.proofs.Common.{◌≡◌, ◌∙◌, ◌⊎◌, ℕ, List, [], ◌∷◌, Option, Some, None, Result, codes, refl, sym, ap, subst, inl, inr}
 use Rattle.wgsl_syntax.specs.Operator.{assignment_operators, assignment_text}
 use Rattle.wgsl_syntax.proofs.Naming.{assignment_naming}
+use Rattle.wgsl_rules.specs.standard.Choice.{types_of}
 use Rattle.wgsl_rules.specs.types.Types.{WgslType}
 use Rattle.wgsl_forms.specs.Refusals.{Refusal}
 use Rattle.wgsl_forms.specs.declared.declare.Declaration.{Declaration}
 use Rattle.wgsl_forms.specs.declared.declare.Declaration.TheVariants.{Override}
-use Rattle.wgsl_requests.specs.Forms.{WgslForm, IsFormType, member_of, index_of, load_of, declaration_of, override_of, assignment_of, increment_of, discard_of, construct_of, switch_of, variable_of, initialized_of}
+use Rattle.wgsl_requests.specs.Forms.{WgslForm, IsFormType, member_of, index_of, load_of, declaration_of, override_of, assignment_of, increment_of, discard_of, construct_of, switch_of, address_of, indirection_of, array_of, typed_array_of, variable_of, initialized_of}
 use Rattle.wgsl_text.specs.Calls.{OperandAt, OperandsAt}
 use Rattle.wgsl_text.specs.Forms.{SaidMemory, said_memory, IsAnnotation, IsForm, IsTyped}
 use Rattle.wgsl_text.specs.Grammar.{TypeAt}
@@ -19,7 +20,7 @@ use Rattle.wgsl_laws.proofs.CallsFound.{an_operand, some_operands}
 use Rattle.wgsl_text.specs.Reading.{IsText}
 use Rattle.wgsl_text.proofs.OneType.{one_type}
 use Rattle.wgsl_forms.specs.Assign.{operator_of}
-use Rattle.wgsl_forms.proofs.OnlyAnswers.{assignments}
+use Rattle.wgsl_forms.proofs.OnlyAnswers.{arrays, assignments}
 use Rattle.wgsl_laws.proofs.Found.{Found, Means, a_word}
 use Rattle.wgsl_laws.proofs.ListsFound.{a_type, whole_type}
 use Rattle.wgsl_laws.proofs.WordMeanings.{a_name, same_word}
@@ -41,7 +42,7 @@ only_two (inl ([], d)) = inr (λ p e. let same : [] ≡ p.0 ∷ p.1 ∷ [] = one
 only_two (inl (x ∷ [], d)) = inr (λ p e. let same : x ∷ [] ≡ p.0 ∷ p.1 ∷ [] = one_operands d (p.0 ∷ p.1 ∷ []) e in cc same)
 only_two (inl (x ∷ y ∷ z ∷ zs, d)) = inr (λ p e. let same : x ∷ y ∷ z ∷ zs ≡ p.0 ∷ p.1 ∷ [] = one_operands d (p.0 ∷ p.1 ∷ []) e in cc same)
 
-only_one : (words : List (List ℕ)) → Found (OperandAt words) → Means (IsOperand words)
+pub only_one : (words : List (List ℕ)) → Found (OperandAt words) → Means (IsOperand words)
 only_one words (inr none) = inr (λ x d. none x [] d)
 only_one words (inl (x, [], d)) = inl (x, d)
 only_one words (inl (x, w ∷ ws, d)) = inr (λ y e. let same : w ∷ ws ≡ [] = (one_operand words x y (w ∷ ws) [] d e).1 in cc same)
@@ -78,7 +79,7 @@ a_value words = elim (an_operand words) [
   ]
 ]
 
-either : {A : Type 0} {P Q : A → Type 0} → Means P → Means Q → Means (λ x. P x ⊎ Q x)
+pub either : {A : Type 0} {P Q : A → Type 0} → Means P → Means Q → Means (λ x. P x ⊎ Q x)
 either (inl x) q = inl (x.0, inl x.1)
 either (inr none) (inl x) = inl (x.0, inr x.1)
 either {A} {P} {Q} (inr none) (inr nor) = inr neither
@@ -170,5 +171,9 @@ some_form_type (increment_of x) = (_, refl)
 some_form_type (discard_of x) = (_, refl)
 some_form_type (construct_of t xs) = (_, refl)
 some_form_type (switch_of x ys) = (_, refl)
+some_form_type (address_of x c) = (_, refl)
+some_form_type (indirection_of x) = (_, refl)
+some_form_type (array_of xs) = let a = arrays (types_of xs) in (a.0, a.1)
+some_form_type (typed_array_of t n xs) = (_, refl)
 some_form_type (variable_of s a t) = (_, refl)
 some_form_type (initialized_of s a x t) = (_, refl)

@@ -17,7 +17,9 @@ pub mod TypesFound
 pub mod ListsFound
 pub mod CalleesFound
 pub mod CallsFound
+pub mod FitsFound
 pub mod FormsFound
+pub mod ComponentsFound
 pub mod RequestsFound
 pub mod Replied
 pub mod Printed

@@ -7,21 +7,25 @@ use Rattle.wgsl_syntax.specs.Operator.{binary_operators, binary_text, unary_oper
 use Rattle.wgsl_syntax.proofs.Naming.{binary_naming, unary_naming}
 use Rattle.wgsl_rules.specs.types.Types.{WgslType, struct, Members}
 use Rattle.wgsl_rules.specs.types.Signatures.{Signature}
+use Rattle.wgsl_requests.specs.CallForms.{type_asked}
 use Rattle.wgsl_requests.specs.Calls.{WgslCall}
+use Rattle.wgsl_requests.specs.Forms.{address_of}
 use Rattle.wgsl_text.specs.Forms.{command_text, form_commands}
 use Rattle.wgsl_text.specs.Grammar.{TypeAt, TypesAt, format_names}
 use Rattle.wgsl_text.specs.declared.form_command.FormCommand.{FormCommand}
 use Rattle.wgsl_text.proofs.Meanings.{named_text}
 use Rattle.wgsl_text.specs.Reading.{IsText}
-use Rattle.wgsl_text.specs.Requests.{Request, rank, common, unary, binary, size, laid_out, ctor, call, type_of, resolution_of, explanation_of, overloads_of, form_of, IsRequest, rank_words, common_words, unary_words, binary_words, size_words, offsets_words, layout_words, ctor_words, call_words, type_words, resolve_words, why_words, overloads_words, form_words}
+use Rattle.wgsl_text.specs.Requests.{Request, rank, common, unary, binary, size, laid_out, ctor, call, resolution_of, explanation_of, overloads_of, form_of, fit_of, IsRequest, rank_words, common_words, unary_words, binary_words, size_words, offsets_words, layout_words, ctor_words, call_words, type_words, component_words, resolve_words, why_words, overloads_words, form_words, fit_words}
 use Rattle.wgsl_text.specs.internal.Replied.{layout_by, offsets_by}
 use Rattle.wgsl_text.specs.declared.rules.RuleSet.{RuleSet}
 use Rattle.wgsl_text.specs.declared.rules.RuleSet.TheVariants.{Ported, Standard}
 use Rattle.wgsl_text.proofs.OneType.{one_list, one_type}
-use Rattle.wgsl_text.proofs.Requested.{BinaryForm, CallForm, CalleeForm, CommonForm, FormForm, OverloadsForm, PortedForm, RankForm, RequestForm, SizeForm, StandardForm, StructForm, UnaryForm, command_named, request_form}
+use Rattle.wgsl_text.proofs.Requested.{BinaryForm, CallForm, CalleeForm, TypeForm, CommonForm, FitForm, FormForm, OverloadsForm, PortedForm, RankForm, RequestForm, SizeForm, StandardForm, StructForm, UnaryForm, command_named, request_form}
 use Rattle.wgsl_laws.proofs.CalleesFound.{a_callee}
 use Rattle.wgsl_laws.proofs.CallsFound.{a_call}
-use Rattle.wgsl_laws.proofs.FormsFound.{a_form}
+use Rattle.wgsl_laws.proofs.ComponentsFound.{a_component}
+use Rattle.wgsl_laws.proofs.FitsFound.{a_fit}
+use Rattle.wgsl_laws.proofs.FormsFound.{a_form, either}
 use Rattle.wgsl_laws.proofs.Found.{Means, a_word, from_bool, from_option}
 use Rattle.wgsl_laws.proofs.ListsFound.{some_types, whole_type}
 use Rattle.wgsl_laws.proofs.TypesFound.{equal}
@@ -85,10 +89,16 @@ a_callee_form ask words = elim (a_callee words) [ inl c ↦ inl (ask c.0, (c.0, 
 a_call_form : (ask : WgslCall → Request) (words : List (List ℕ)) → Means (CallForm ask words)
 a_call_form ask words = elim (a_call words) [ inl c ↦ inl (ask c.0, (c.0, c.1, refl)) | inr none ↦ inr (λ r f. none f.0 f.1) ]
 
+a_type_form : (words : List (List ℕ)) → Means (TypeForm words)
+a_type_form words = either (a_call_form type_asked words) (a_component words)
+
 some_overloads : (words : List (List ℕ)) → Means (OverloadsForm words)
 some_overloads [] = inr (λ r f. let e = f.1 in absurd (cc e))
 some_overloads (name ∷ []) = inl (overloads_of name, (name, refl, refl))
 some_overloads (name ∷ w ∷ ws) = inr (λ r f. let e = f.1 in absurd (cc e))
+
+a_fit_request : (words : List (List ℕ)) → Means (FitForm words)
+a_fit_request words = elim (a_fit words) [ inl p ↦ inl (fit_of p.0.0 p.0.1, (p.0.0, p.0.1, p.1, refl)) | inr none ↦ inr (λ r f. none (f.0, f.1) f.2) ]
 
 a_form_request : (words : List (List ℕ)) (command : FormCommand) → Means (λ request. FormForm words request command)
 a_form_request words command = elim (a_form command words) [ inl f ↦ inl (form_of f.0, (f.0, f.1, refl)) | inr none ↦ inr (λ r f. none f.0 f.1) ]
@@ -126,7 +136,8 @@ module _ (word : List ℕ) (words : List (List ℕ)) where
       (by_word (bytes_eq word (codes "resolve")) (a_call_form resolution_of words)
       (by_word (bytes_eq word (codes "why")) (a_call_form explanation_of words)
       (by_word (bytes_eq word (codes "overloads")) (some_overloads words)
-      (by_name (command_named word) (a_call_form type_of (word ∷ words)) (a_form_request words)))))))))
+      (by_word (bytes_eq word (codes "fit")) (a_fit_request words)
+      (by_name (command_named word) (a_type_form (word ∷ words)) (a_form_request words))))))))))
 
   -- from the command and the request that are meant to those that are given
   keyed : {rules : RuleSet} {key : List ℕ} {made request : Request} → bytes_eq word key ≡ true → request ≡ made → IsRequest rules (key ∷ words) made → IsRequest rules (word ∷ words) request
@@ -144,6 +155,11 @@ module _ (word : List ℕ) (words : List (List ℕ)) where
       (from_bool (bytes_eq word (codes "ctor")) (λ e f. keyed e f.2 (ctor_words f.1))
       (from_bool (bytes_eq word (codes "call")) (λ e f. keyed e f.2 (call_words f.1)) (λ h. absurd h)))))))))
 
+  of_type_form : (request : Request) → TypeForm (word ∷ words) request → IsRequest Standard (word ∷ words) request
+  of_type_form request (inl f) = subst (λ r. IsRequest Standard (word ∷ words) r) (sym f.2) (type_words f.1)
+  of_type_form request (inr f) =
+      subst (λ r. IsRequest Standard (word ∷ words) r) (sym f.4) (subst (λ ws. IsRequest Standard ws (form_of (address_of f.0 true))) (sym f.2) (component_words f.3))
+
   standard_of : (request : Request) → StandardForm (word ∷ words) request → IsRequest Standard (word ∷ words) request
   standard_of request =
       from_bool (bytes_eq word (codes "rank")) (λ e f. keyed e f.3 (rank_words f.2))
@@ -154,9 +170,10 @@ module _ (word : List ℕ) (words : List (List ℕ)) where
       (from_bool (bytes_eq word (codes "resolve")) (λ e f. keyed e f.2 (resolve_words f.1))
       (from_bool (bytes_eq word (codes "why")) (λ e f. keyed e f.2 (why_words f.1))
       (from_bool (bytes_eq word (codes "overloads")) (λ e f. keyed e f.2 (subst (λ ws. IsRequest Standard (codes "overloads" ∷ ws) (overloads_of f.0)) (sym f.1) (overloads_words f.0)))
-      (from_option (command_named word) (λ f. subst (λ r. IsRequest Standard (word ∷ words) r) (sym f.2) (type_words f.1))
+      (from_bool (bytes_eq word (codes "fit")) (λ e f. keyed e f.3 (fit_words f.2))
+      (from_option (command_named word) (λ f. of_type_form request f)
       (λ command e f. subst (λ r. IsRequest Standard (word ∷ words) r) (sym f.2)
-      (subst (λ w. IsRequest Standard (w ∷ words) (form_of f.0)) (sym (named_text command_text form_commands word command e)) (form_words f.1)))))))))))
+      (subst (λ w. IsRequest Standard (w ∷ words) (form_of f.0)) (sym (named_text command_text form_commands word command e)) (form_words f.1))))))))))))
 
 nothing_spelled : (rules : RuleSet) (request : Request) → ¬ RequestForm rules [] request
 nothing_spelled Ported request f = f

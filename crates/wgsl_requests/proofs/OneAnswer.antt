@@ -2,6 +2,7 @@
 use Rattle.std.proofs.Common.{◌≡◌, ℕ, List, Option, Some, None, Result, refl, sym, ap, ◌∙◌}
 use Rattle.wgsl_rules.specs.types.Types.{WgslType, Members}
 use Rattle.wgsl_rules.specs.conversion.Conversion.{Converts}
+use Rattle.wgsl_rules.specs.standard.Choice.{types_of}
 use Rattle.wgsl_rules.specs.layout.Layout.{HasSize, HasAlignment, IsExactly}
 use Rattle.wgsl_rules.proofs.conversion.Commons.{left_common_once}
 use Rattle.wgsl_rules.proofs.calls.OneAnswer.{call_answer_once}
@@ -9,12 +10,12 @@ use Rattle.wgsl_rules.proofs.constructors.OneAnswer.{constructor_answer_once}
 use Rattle.wgsl_rules.proofs.layout.OneLayout.{layout_once, offsets_once}
 use Rattle.wgsl_rules.proofs.layout.StructSizes.{never_both}
 use Rattle.wgsl_rules.proofs.operators.OneAnswer.{operator_answer_once, unary_answer_once}
-use Rattle.wgsl_requests.specs.Answers.{Answers, WgslAnswer, WgslLayout, IsReceivedCommon, AreOffsetsOf, IsLayoutOf, a_number, a_size, a_common_type, a_type, a_value, some_offsets, a_layout, a_type_of, a_resolution_of, some_lines, a_form_type, rank_is, common_is, unary_is, binary_is, size_is, offsets_are, layout_is, ctor_is, call_is, type_of_is, resolution_of_is, explanation_of_is, overloads_of_are, form_is}
-use Rattle.wgsl_requests.specs.Forms.{WgslForm, IsFormType, member_of, index_of, load_of, declaration_of, override_of, assignment_of, increment_of, discard_of, construct_of, switch_of, variable_of, initialized_of}
+use Rattle.wgsl_requests.specs.Answers.{Answers, WgslAnswer, WgslLayout, IsReceivedCommon, AreOffsetsOf, IsLayoutOf, a_number, a_size, a_common_type, a_type, a_value, some_offsets, a_layout, a_type_of, a_resolution_of, some_lines, a_form_type, a_fit, rank_is, common_is, unary_is, binary_is, size_is, offsets_are, layout_is, ctor_is, call_is, type_of_is, resolution_of_is, explanation_of_is, overloads_of_are, form_is, fit_is}
+use Rattle.wgsl_requests.specs.Forms.{WgslForm, IsFormType, member_of, index_of, load_of, declaration_of, override_of, assignment_of, increment_of, discard_of, construct_of, switch_of, address_of, indirection_of, array_of, typed_array_of, variable_of, initialized_of}
 use Rattle.wgsl_requests.specs.Requests.{WgslRequest}
 use Rattle.wgsl_forms.specs.Assign.{operator_of}
 use Rattle.wgsl_forms.specs.Refusals.{Refusal}
-use Rattle.wgsl_forms.proofs.OnlyAnswers.{assignments}
+use Rattle.wgsl_forms.proofs.OnlyAnswers.{arrays, assignments}
 use Rattle.wgsl_requests.proofs.OneOverloaded.{explanation_once, resolution_once, type_once}
 
 -- at most one number is exactly that
@@ -54,6 +55,10 @@ one_form_type (increment_of x) r s h k = h ∙ sym k
 one_form_type (discard_of x) r s h k = h ∙ sym k
 one_form_type (construct_of t xs) r s h k = h ∙ sym k
 one_form_type (switch_of x ys) r s h k = h ∙ sym k
+one_form_type (address_of x c) r s h k = h ∙ sym k
+one_form_type (indirection_of x) r s h k = h ∙ sym k
+one_form_type (array_of xs) r s h k = let one = (arrays (types_of xs)).2 in one r h ∙ sym (one s k)
+one_form_type (typed_array_of t n xs) r s h k = h ∙ sym k
 one_form_type (variable_of m a t) r s h k = h ∙ sym k
 one_form_type (initialized_of m a x t) r s h k = h ∙ sym k
 
@@ -73,6 +78,7 @@ same_answer (resolution_of_is {c} r f) (resolution_of_is s g) = ap (a_resolution
 same_answer (explanation_of_is {c} r f) (explanation_of_is s g) = ap some_lines (explanation_once c r s f g)
 same_answer (overloads_of_are r f) (overloads_of_are s g) = ap some_lines (f ∙ sym g)
 same_answer (form_is {f} r h) (form_is s k) = ap a_form_type (one_form_type f r s h k)
+same_answer (fit_is r f) (fit_is s g) = ap a_fit (f ∙ sym g)
 
 pub answer_once : (request : WgslRequest) (a b : WgslAnswer) → Answers request a → Answers request b → a ≡ b
 answer_once request a b h k = same_answer h k

@@ -14,12 +14,14 @@ use Rattle.wgsl_rules.specs.layout.Layout.{AreOffsets, HasAlignment, HasNoSize, 
 use Rattle.wgsl_rules.specs.operators.Answers.{IsOperatorAnswer, IsUnaryAnswer}
 use Rattle.wgsl_rules.specs.constructors.Constructors.{IsConstructorAnswer}
 use Rattle.wgsl_rules.specs.calls.Answers.{IsCallAnswer}
+use Rattle.wgsl_rules.specs.standard.Choice.{Operand, types_of}
 use Rattle.wgsl_standard.specs.Lines.{lines_named}
+use Rattle.wgsl_forms.specs.Lists.{Fits, list_fits}
 use Rattle.wgsl_forms.specs.Refusals.{Refusal as FormRefusal}
 use Rattle.wgsl_requests.specs.Calls.{WgslCall, WgslResolution}
 use Rattle.wgsl_requests.specs.Forms.{WgslForm, IsFormType}
 use Rattle.wgsl_requests.specs.Standard.{IsExplanationOf, IsResolutionOf, IsTypeOf}
-use Rattle.wgsl_requests.specs.Requests.{WgslRequest, rank, common, unary, binary, size, offsets, layout, ctor, call, type_of, resolution_of, explanation_of, overloads_of, form_of}
+use Rattle.wgsl_requests.specs.Requests.{WgslRequest, rank, common, unary, binary, size, offsets, layout, ctor, call, type_of, resolution_of, explanation_of, overloads_of, form_of, fit_of}
 
 -- a struct's layout: the size, the alignment and the offset of each member, its own size and alignment
 pub record WgslLayout : Type 0 where
@@ -43,6 +45,7 @@ pub data WgslAnswer : Type 0 where
   -- a line for each overload
   some_lines : List (List ℕ) → WgslAnswer
   a_form_type : Result WgslType FormRefusal → WgslAnswer
+  a_fit : Fits → WgslAnswer
   -- no request has this answer
   out_of_memory : WgslAnswer
 
@@ -91,3 +94,5 @@ pub data Answers : WgslRequest → WgslAnswer → Type 0 where
       lines ≡ lines_named name → Answers (overloads_of name) (some_lines lines)
   form_is : {f : WgslForm} (r : Result WgslType FormRefusal) →
       IsFormType f r → Answers (form_of f) (a_form_type r)
+  fit_is : {xs : List Operand} {ts : List WgslType} (r : Fits) →
+      r ≡ list_fits ts (types_of xs) → Answers (fit_of xs ts) (a_fit r)

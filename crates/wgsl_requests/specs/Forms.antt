@@ -1,11 +1,13 @@
 -- Forms of expressions and statements that have no overloads, and what they are.
-use Rattle.std.specs.Prelude.{◌≡◌, ℕ, List, Option, Result, Ok, Err}
+use Rattle.std.specs.Prelude.{◌≡◌, ℕ, Bool, List, Option, Result, Ok, Err}
 use Rattle.wgsl_syntax.specs.declared.address.AccessMode.{AccessMode}
 use Rattle.wgsl_syntax.specs.declared.address.AddressSpace.{AddressSpace}
 use Rattle.wgsl_syntax.specs.declared.operator.AssignmentOperator.{AssignmentOperator}
 use Rattle.wgsl_syntax.specs.declared.scalar.Scalar.{Scalar}
 use Rattle.wgsl_rules.specs.types.Types.{WgslType, scalar}
 use Rattle.wgsl_rules.specs.standard.Choice.{Operand, types_of}
+use Rattle.wgsl_forms.specs.Address.{address_answer, indirection_answer}
+use Rattle.wgsl_forms.specs.Array.{IsInferredArray, typed_array}
 use Rattle.wgsl_forms.specs.Assign.{IsAssigned, incremented, operator_of}
 use Rattle.wgsl_forms.specs.Declare.{declared, overridden, taken}
 use Rattle.wgsl_forms.specs.Expressions.{Expression}
@@ -40,6 +42,14 @@ pub data WgslForm : Type 0 where
   construct_of : WgslType → List Operand → WgslForm
   -- `switch x { case y {} case z {} }`
   switch_of : Operand → List Operand → WgslForm
+  -- `&x`, and whether `x` is said to be a reference to a component of a vector
+  address_of : Operand → Bool → WgslForm
+  -- `*x`
+  indirection_of : Operand → WgslForm
+  -- `array(x, y)`
+  array_of : List Operand → WgslForm
+  -- `array<T, N>(x, y)`, `array<T>(x, y)`
+  typed_array_of : WgslType → Option ℕ → List Operand → WgslForm
   -- `var<storage> x: T;`
   variable_of : AddressSpace → Option AccessMode → WgslType → WgslForm
   -- `var<private> x = v;`, `var x: T = v;`
@@ -65,5 +75,9 @@ IsFormType (increment_of x) r = r ≡ incremented x.of_type
 IsFormType (discard_of x) r = r ≡ taken x.of_type
 IsFormType (construct_of t xs) r = r ≡ constructed t (types_of xs)
 IsFormType (switch_of x ys) r = r ≡ of_scalar (switch_type x ys)
+IsFormType (address_of x c) r = r ≡ type_alone (address_answer c x.of_type)
+IsFormType (indirection_of x) r = r ≡ type_alone (indirection_answer x.of_type)
+IsFormType (array_of xs) r = IsInferredArray (types_of xs) r
+IsFormType (typed_array_of t n xs) r = r ≡ typed_array t n (types_of xs)
 IsFormType (variable_of s a t) r = r ≡ variable s a t
 IsFormType (initialized_of s a x t) r = r ≡ initialized_variable s a x t

@@ -23,10 +23,10 @@ use Rattle.wgsl_forms.specs.Views.{answer_view as form_answer, form_type_view}
 use Rattle.wgsl_standard.specs.Results.{result_view}
 use Rattle.wgsl_standard.specs.Resolved.{resolved_view as resolved_call_view}
 use Rattle.wgsl_standard.specs.Texts.{line_of, note_text}
-use Rattle.wgsl_requests.specs.Requests.{WgslRequest, rank, unary, binary, size, offsets, layout, ctor, call, type_of, resolution_of, explanation_of, overloads_of, form_of}
-use Rattle.wgsl_requests.specs.Answers.{WgslAnswer, WgslLayout, a_number, a_size, a_type, a_value, some_offsets, a_layout, a_type_of, a_resolution_of, some_lines, a_form_type, out_of_memory}
+use Rattle.wgsl_requests.specs.Requests.{WgslRequest, rank, unary, binary, size, offsets, layout, ctor, call, type_of, resolution_of, explanation_of, overloads_of, form_of, fit_of}
+use Rattle.wgsl_requests.specs.Answers.{WgslAnswer, WgslLayout, a_number, a_size, a_type, a_value, some_offsets, a_layout, a_type_of, a_resolution_of, some_lines, a_form_type, a_fit, out_of_memory}
 use Rattle.wgsl_requests.specs.FormViews.{form_view}
-use Rattle.wgsl_requests.specs.StandardViews.{call_view as standard_view}
+use Rattle.wgsl_requests.specs.StandardViews.{call_view as standard_view, written_view}
 
 abbrev pub callee_view : Callee → Signature
 callee_view c = call_view c.name.now c.template c.arguments.now
@@ -46,6 +46,7 @@ request_view (requests.Resolution c) = resolution_of (standard_view c.now)
 request_view (requests.Overloads name) = overloads_of name.now
 request_view (requests.Explanation c) = explanation_of (standard_view c.now)
 request_view (requests.Form f) = form_of (form_view f.now)
+request_view (requests.Fit xs ts) = fit_of (map written_view xs.now) (map view ts.now)
 
 -- a value as `shown` shows it, or the refusal
 abbrev pub outcome : {A B : Type 0} → (Result B Refusal → WgslAnswer) → (A → B) → Result A (Fail Error) →
@@ -85,3 +86,4 @@ answer_view (answers.Resolution c r) = a_resolution_of (standard_view c.now) (op
 answer_view (answers.Overloads lines) = some_lines (map line_of lines.items)
 answer_view (answers.Notes notes) = some_lines (map note_text notes.items)
 answer_view (answers.FormType r) = a_form_type (form_answer form_type_view r)
+answer_view (answers.Fit r) = a_fit (form_answer (λ u. tt) r)

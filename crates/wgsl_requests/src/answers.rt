@@ -33,6 +33,8 @@ pub enum Answer<'r> {
     Notes(Vec<Note<'r>>),
     /// The type of a form, or why it has none.
     FormType(Result<FormType<'r>, Refusal<'r>>),
+    /// The values fit, or why they don't.
+    Fit(Result<(), Refusal<'r>>),
 }
 
 /// Operands of a binary operator.

@@ -19,6 +19,7 @@ use wgsl_core::error::{Error, Fail};
 use wgsl_core::operators::resolve::{ResolvedType, resolve_operator};
 use wgsl_core::operators::type_unary_op;
 use wgsl_core::ty::Type;
+use wgsl_forms::lists::fit;
 use wgsl_syntax::operator::BinaryOperator;
 
 /// The answer to the request.
@@ -54,6 +55,7 @@ pub fn answer<'r>(alloc: Global, request: Request<'r>) -> Result<Answer<'r>, All
         Request::Overloads(name) => Ok(Answer::Overloads(signatures_named(alloc, name)?)),
         Request::Explanation(call) => Ok(Answer::Notes(notes_on(alloc, call)?)),
         Request::Form(form) => Ok(Answer::FormType(type_of_form(form))),
+        Request::Fit(values, types) => Ok(Answer::Fit(fit(values, types))),
     }
 }
 

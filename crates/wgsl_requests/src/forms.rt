@@ -8,6 +8,8 @@ ghost use Rattle.wgsl_requests.specs.FormViews.{form_view};
 
 use crate::requests::Form;
 use wgsl_core::ty::Type;
+use wgsl_forms::address::{address_of, indirection};
+use wgsl_forms::array::{construct_array, construct_array_of};
 use wgsl_forms::assign::{assign_by, increment};
 use wgsl_forms::declare::{declare, discard, override_without_value};
 use wgsl_forms::form::{Element, Form as Expression, FormType, UnbuiltType};
@@ -37,6 +39,10 @@ pub(crate) fn type_of_form<'r>(form: &Form<'r>) -> Result<FormType<'r>, Refusal<
         Form::Discard(x) => unreferred(discard(x)),
         Form::Construct(ty, values) => existing(construct_struct(ty, values)),
         Form::Switch(x, cases) => of_scalar(switch_type(x, cases)),
+        Form::Address(x, is_component) => type_alone(address_of(x, *is_component)),
+        Form::Indirection(x) => type_alone(indirection(x)),
+        Form::Array(values) => unreferred(construct_array(values)),
+        Form::ArrayOf(ty, count, values) => unreferred(construct_array_of(ty, *count, values)),
         Form::Variable(space, access, ty) => variable(*space, *access, ty),
         Form::Initialized(space, access, x, ty) => initialized_variable(*space, *access, x, *ty),
     }

@@ -3,6 +3,7 @@
 
 pub mod answers;
 pub mod ask;
+pub mod call_forms;
 mod forms;
 mod overloads;
 pub mod requests;

@@ -36,6 +36,8 @@ pub enum Request<'r> {
     Explanation(&'r Call<'r>),
     /// The type of a form that has no overloads.
     Form(&'r Form<'r>),
+    /// Whether parameters of these types take the values: `f(x, y)`, `return x;`, `if x {}`.
+    Fit(&'r [Operand<'r>], &'r [Type]),
 }
 
 /// The call of a constructor or of a built-in function.
@@ -77,6 +79,14 @@ pub enum Form<'r> {
     Construct(&'r Type, &'r [Operand<'r>]),
     /// `switch x { case y {} case z {} }`
     Switch(Operand<'r>, &'r [Operand<'r>]),
+    /// `&x`, and whether `x` is said to be a reference to a component of a vector.
+    Address(Operand<'r>, bool),
+    /// `*x`
+    Indirection(Operand<'r>),
+    /// `array(x, y)`
+    Array(&'r [Operand<'r>]),
+    /// `array<T, N>(x, y)`, `array<T>(x, y)`
+    ArrayOf(&'r Type, Option<usize>, &'r [Operand<'r>]),
     /// `var<storage> x: T;`
     Variable(AddressSpace, Option<AccessMode>, &'r Type),
     /// `var<private> x = v;`, `var x: T = v;`

@@ -54,7 +54,7 @@ HeadForm (word ∷ words) h rest =
     (MatchBool (bytes_eq word (codes "ctor")) (Made NamedAt ctor_head words h rest)
     (MatchBool (bytes_eq word (codes "call")) (Made NamedAt function_head words h rest) ⊥)))
 
-head_form : {words rest : List (List ℕ)} {h : Head} → HeadAt words h rest → HeadForm words h rest
+pub head_form : {words rest : List (List ℕ)} {h : Head} → HeadAt words h rest → HeadForm words h rest
 head_form (unary_at o) = (o, (unary_text o, refl, refl), refl)
 head_form (binary_at o) = (o, (binary_text o, refl, refl), refl)
 head_form (ctor_at {name} {words} {rest} {p} d) = ((name, p), (words, (name, refl, refl), d), refl)
@@ -275,6 +275,26 @@ module _ (start : List (List ℕ)) (xs : List Operand) (now : List (List ℕ)) (
 
   pub listed_end : now ≡ [] → OperandsAt start xs
   listed_end e = subst (OperandsAt start) (append-nil xs) (h.forth [] (subst (λ ws. OperandsAt ws []) (sym e) no_operands_at))
+
+-- no operand begins with `component`
+
+not_component : (x : TextureType) → texture_name x ≡ codes "component" → ⊥
+not_component External e = cc e
+not_component x e = cc e
+
+no_component_operand : (words : List (List ℕ)) (x : Operand) (rest : List (List ℕ)) → OperandAt (codes "component" ∷ words) x rest → ⊥
+no_component_operand words x rest d = let f = operand_form d in let g = leaf_form (form f.1) in not_component g.0 (sym (cc g.1.1))
+
+no_component_operands : (words : List (List ℕ)) (xs : List Operand) → OperandsAt (codes "component" ∷ words) xs → ⊥
+no_component_operands words [] ds = let none : codes "component" ∷ words ≡ [] = operands_form ds in cc none
+no_component_operands words (x ∷ xs) ds = let f : OperandsForm (codes "component" ∷ words) (x ∷ xs) = operands_form ds in no_component_operand words x f.0 f.1
+
+pub no_component_call : (after : List (List ℕ)) (c : WgslCall) → ¬ IsCall (codes "unary" ∷ codes "&" ∷ codes "component" ∷ after) c
+no_component_call after c f =
+    let h : Made (OneWord (IsText unary_text)) unary_head (codes "&" ∷ codes "component" ∷ after) (c.callee, c.template) f.0 = head_form f.1 in
+    let same : codes "&" ∷ codes "component" ∷ after ≡ h.1.0 ∷ f.0 = h.1.1 in
+    let rest : f.0 ≡ codes "component" ∷ after = sym (cc same) in
+    no_component_operands after c.operands (subst (λ ws. OperandsAt ws c.operands) rest f.2)
 
 -- words are at most one call
 

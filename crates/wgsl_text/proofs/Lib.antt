@@ -2,9 +2,11 @@ pub mod CallReads
 pub mod Callees
 pub mod Columns
 pub mod Commons
+pub mod Components
 pub mod Cuts
 pub mod Digits
 pub mod FirstWord
+pub mod FitReads
 pub mod FormReads
 pub mod FormWords
 pub mod Forms

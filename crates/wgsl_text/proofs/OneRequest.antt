@@ -1,19 +1,24 @@
 -- Words spell at most one request.
-use Rattle.std.proofs.Common.{◌≡◌, ℕ, List, [], ◌∷◌, Option, sym, ap, subst, ◌∙◌}
+use Rattle.std.specs.Prelude.{true}
+use Rattle.std.proofs.Common.{◌≡◌, inl, inr, codes, ℕ, List, [], ◌∷◌, Option, sym, ap, subst, ◌∙◌}
 use Rattle.wgsl_syntax.specs.Operator.{binary_text, unary_text}
 use Rattle.wgsl_syntax.proofs.Naming.{binary_naming, unary_naming}
 use Rattle.wgsl_rules.specs.types.Types.{WgslType, struct, Members}
 use Rattle.wgsl_rules.specs.types.Signatures.{Parameter, Signature}
 use Rattle.wgsl_text.specs.Grammar.{TypeAt, TypesAt, format_names}
-use Rattle.wgsl_text.specs.Requests.{Request, rank, common, unary, binary, size, laid_out, ctor, call, type_of, resolution_of, explanation_of, overloads_of, form_of, IsCallee, IsRequest}
+use Rattle.wgsl_text.specs.Requests.{Request, rank, common, unary, binary, size, laid_out, ctor, call, resolution_of, explanation_of, overloads_of, form_of, fit_of, IsCallee, IsRequest}
 use Rattle.wgsl_text.specs.internal.Replied.{layout_by, offsets_by}
 use Rattle.wgsl_text.proofs.Meanings.{both_bool, both_option}
 use Rattle.wgsl_text.proofs.OneType.{one_list, one_type}
-use Rattle.wgsl_text.proofs.Requested.{BinaryForm, CallForm, CalleeForm, OverloadsForm, FormForm, PortedForm, StandardForm, CommonForm, RankForm, RequestForm, SizeForm, StructForm, UnaryForm, request_form}
-use Rattle.wgsl_text.proofs.CallReads.{one_call as one_call_read}
+use Rattle.wgsl_text.proofs.Requested.{BinaryForm, CallForm, CalleeForm, ComponentForm, TypeForm, OverloadsForm, FitForm, FormForm, PortedForm, StandardForm, CommonForm, RankForm, RequestForm, SizeForm, StructForm, UnaryForm, request_form}
+use Rattle.wgsl_text.specs.Calls.{IsCall, OperandAt}
+use Rattle.wgsl_text.proofs.CallReads.{no_component_call, one_call as one_call_read, one_operand}
+use Rattle.wgsl_text.proofs.FitReads.{one_fit as one_fit_read}
 use Rattle.wgsl_text.proofs.FormWords.{one_form as one_form_read}
 use Rattle.wgsl_text.proofs.TemplateReads.{one_template}
+use Rattle.wgsl_requests.specs.CallForms.{type_asked}
 use Rattle.wgsl_requests.specs.Calls.{WgslCall}
+use Rattle.wgsl_requests.specs.Forms.{address_of}
 use Rattle.wgsl_text.specs.declared.form_command.FormCommand.{FormCommand}
 use Rattle.wgsl_text.specs.declared.rules.RuleSet.{RuleSet}
 use Rattle.wgsl_text.specs.declared.rules.RuleSet.TheVariants.{Ported, Standard}
@@ -90,11 +95,32 @@ one_ported (word ∷ words) r s f g =
 one_overloaded : (ask : WgslCall → Request) → OneForm (CallForm ask)
 one_overloaded ask words r s f g = f.2 ∙ (ap ask (one_call_read words f.0 g.0 f.1 g.1) ∙ sym g.2)
 
+one_component : OneForm ComponentForm
+one_component words r s f g =
+    let same : codes "unary" ∷ codes "&" ∷ codes "component" ∷ f.1 ≡ codes "unary" ∷ codes "&" ∷ codes "component" ∷ g.1 = sym f.2 ∙ g.2 in
+    let after : f.1 ≡ g.1 = cc same in
+    let x = (one_operand g.1 f.0 g.0 [] [] (subst (λ ws. OperandAt ws f.0 []) after f.3) g.3).0 in
+    f.4 ∙ (ap (λ x. form_of (address_of x true)) x ∙ sym g.4)
+
+call_or_component : (words : List (List ℕ)) (r s : Request) → CallForm type_asked words r → ComponentForm words s → ⊥
+call_or_component words r s f g = no_component_call g.1 f.0 (subst (λ ws. IsCall ws f.0) g.2 f.1)
+
+one_type_form : OneForm TypeForm
+one_type_form words r s (inl f) (inl g) = one_overloaded type_asked words r s f g
+one_type_form words r s (inl f) (inr g) = absurd (call_or_component words r s f g)
+one_type_form words r s (inr f) (inl g) = absurd (call_or_component words s r g f)
+one_type_form words r s (inr f) (inr g) = one_component words r s f g
+
 one_overloads : OneForm OverloadsForm
 one_overloads words r s f g =
     let e : f.0 ∷ [] ≡ g.0 ∷ [] = sym f.1 ∙ g.1 in
     let name : f.0 ≡ g.0 = cc e in
     f.2 ∙ (ap overloads_of name ∙ sym g.2)
+
+one_fit : OneForm FitForm
+one_fit words r s f g =
+    let same = one_fit_read words f.0 g.0 f.1 g.1 f.2 g.2 in
+    f.3 ∙ (ap (λ xs. fit_of xs f.1) same.0 ∙ (ap (fit_of g.0) same.1 ∙ sym g.3))
 
 one_of_form : (words : List (List ℕ)) (r s : Request) (command : FormCommand) → FormForm words r command → FormForm words s command → r ≡ s
 one_of_form words r s command f g = f.2 ∙ (ap form_of (one_form_read command words f.0 g.0 f.1 g.1) ∙ sym g.2)
@@ -110,7 +136,8 @@ one_standard (word ∷ words) r s f g =
     (both_bool _ _ _ _ _ _ (one_overloaded resolution_of words r s)
     (both_bool _ _ _ _ _ _ (one_overloaded explanation_of words r s)
     (both_bool _ _ _ _ _ _ (one_overloads words r s)
-    (both_option _ _ _ _ _ _ (one_overloaded type_of (word ∷ words) r s) (one_of_form words r s))))))))) f g
+    (both_bool _ _ _ _ _ _ (one_fit words r s)
+    (both_option _ _ _ _ _ _ (one_type_form (word ∷ words) r s) (one_of_form words r s)))))))))) f g
 
 one_form : (rules : RuleSet) → OneForm (RequestForm rules)
 one_form Ported words r s f g = one_ported words r s f g

@@ -1,5 +1,5 @@
 -- What request words spell, by the first word.
-use Rattle.std.proofs.Common.{◌≡◌, ◌≢◌, ◌↔◌, ℕ, Bool, true, false, List, [], ◌∷◌, Option, None, codes, refl, sym, subst, ◌∙◌}
+use Rattle.std.proofs.Common.{◌≡◌, ◌≢◌, ◌↔◌, ◌⊎◌, inl, inr, ℕ, Bool, true, false, List, [], ◌∷◌, Option, None, codes, refl, sym, subst, ◌∙◌}
 use Rattle.std.specs.Bool.{MatchBool}
 use Rattle.std.specs.Option.{MatchOption}
 use Rattle.std.specs.Str.{bytes_eq}
@@ -10,10 +10,13 @@ use Rattle.wgsl_syntax.specs.declared.operator.BinaryOperator.{BinaryOperator}
 use Rattle.wgsl_syntax.specs.declared.operator.UnaryOperator.{UnaryOperator}
 use Rattle.wgsl_rules.specs.types.Types.{WgslType, struct, Members}
 use Rattle.wgsl_rules.specs.types.Signatures.{Parameter, Signature}
+use Rattle.wgsl_rules.specs.standard.Choice.{Operand}
 use Rattle.wgsl_standard.specs.Callees.{WgslCallee}
+use Rattle.wgsl_requests.specs.CallForms.{type_asked}
 use Rattle.wgsl_requests.specs.Calls.{WgslCall}
-use Rattle.wgsl_requests.specs.Forms.{WgslForm}
-use Rattle.wgsl_text.specs.Calls.{HeadAt, IsCall, binary_at, call_at, ctor_at, unary_at}
+use Rattle.wgsl_requests.specs.Forms.{WgslForm, address_of}
+use Rattle.wgsl_text.specs.Calls.{HeadAt, IsCall, OperandAt, binary_at, call_at, ctor_at, unary_at}
+use Rattle.wgsl_text.specs.Fits.{IsFit}
 use Rattle.wgsl_text.specs.Forms.{IsForm, command_text, form_commands}
 use Rattle.wgsl_text.specs.Grammar.{TypeAt, TypesAt, format_names}
 use Rattle.wgsl_text.specs.declared.form_command.FormCommand.{FormCommand}
@@ -24,7 +27,7 @@ use Rattle.wgsl_text.specs.declared.rules.RuleSet.TheVariants.{Ported, Standard}
 use Rattle.wgsl_text.proofs.Meanings.{past_option}
 use Rattle.wgsl_text.proofs.OneType.{one_type}
 use Rattle.wgsl_text.specs.internal.Replied.{layout_by, offsets_by}
-use Rattle.wgsl_text.specs.Requests.{Request, rank, common, unary, binary, size, laid_out, ctor, call, IsRequest, rank_words, common_words, unary_words, binary_words, size_words, offsets_words, layout_words, ctor_words, call_words, type_words, resolve_words, why_words, overloads_words, form_words, type_of, resolution_of, explanation_of, overloads_of, form_of, IsCallee, NoRequest}
+use Rattle.wgsl_text.specs.Requests.{Request, rank, common, unary, binary, size, laid_out, ctor, call, IsRequest, rank_words, common_words, unary_words, binary_words, size_words, offsets_words, layout_words, ctor_words, call_words, type_words, component_words, resolve_words, why_words, overloads_words, form_words, fit_words, resolution_of, explanation_of, overloads_of, form_of, fit_of, IsCallee, NoRequest}
 
 abbrev pub RankForm : RuleSet → List (List ℕ) → Request → Type 0
 RankForm rules words request = (t : WgslType) × (u : WgslType) × TypesAt rules words (t ∷ u ∷ []) × (request ≡ rank t u)
@@ -50,11 +53,22 @@ CalleeForm ask words request = (c : Signature) × IsCallee words c × (request �
 abbrev pub CallForm : (WgslCall → Request) → List (List ℕ) → Request → Type 0
 CallForm ask words request = (c : WgslCall) × IsCall words c × (request ≡ ask c)
 
+-- `&` of what is said to be a reference to a component
+abbrev pub ComponentForm : List (List ℕ) → Request → Type 0
+ComponentForm words request =
+    (x : Operand) × (after : List (List ℕ)) × (words ≡ codes "unary" ∷ codes "&" ∷ codes "component" ∷ after) × OperandAt after x [] × (request ≡ form_of (address_of x true))
+
+abbrev pub TypeForm : List (List ℕ) → Request → Type 0
+TypeForm words request = CallForm type_asked words request ⊎ ComponentForm words request
+
 abbrev pub OverloadsForm : List (List ℕ) → Request → Type 0
 OverloadsForm words request = (name : List ℕ) × (words ≡ name ∷ []) × (request ≡ overloads_of name)
 
 abbrev pub FormForm : List (List ℕ) → Request → FormCommand → Type 0
 FormForm words request command = (f : WgslForm) × IsForm command words f × (request ≡ form_of f)
+
+abbrev pub FitForm : List (List ℕ) → Request → Type 0
+FitForm words request = (xs : List Operand) × (ts : List WgslType) × IsFit words xs ts × (request ≡ fit_of xs ts)
 
 -- the command of a form that the word is
 abbrev pub command_named : List ℕ → Option FormCommand
@@ -90,18 +104,19 @@ StandardForm (word ∷ words) request =
     (If word (codes "resolve") (CallForm resolution_of words request)
     (If word (codes "why") (CallForm explanation_of words request)
     (If word (codes "overloads") (OverloadsForm words request)
-    (MatchOption (command_named word) (CallForm type_of (word ∷ words) request) (FormForm words request)))))))))
+    (If word (codes "fit") (FitForm words request)
+    (MatchOption (command_named word) (TypeForm (word ∷ words) request) (FormForm words request))))))))))
 
 abbrev pub RequestForm : RuleSet → List (List ℕ) → Request → Type 0
 RequestForm Ported words request = PortedForm words request
 RequestForm Standard words request = StandardForm words request
 
 -- the words of a call begin with none of the other commands
-call_form : {words after : List (List ℕ)} {h : WgslCallee × Option (List Parameter)} (request : Request) → HeadAt words h after → CallForm type_of words request → StandardForm words request
-call_form request (unary_at o) f = f
-call_form request (binary_at o) f = f
-call_form request (ctor_at d) f = f
-call_form request (call_at d) f = f
+call_form : {words after : List (List ℕ)} {h : WgslCallee × Option (List Parameter)} (request : Request) → HeadAt words h after → CallForm type_asked words request → StandardForm words request
+call_form request (unary_at o) f = inl f
+call_form request (binary_at o) f = inl f
+call_form request (ctor_at d) f = inl f
+call_form request (call_at d) f = inl f
 
 -- nor does a form
 pub command_form : (command : FormCommand) (words : List (List ℕ)) (request : Request) → StandardForm (command_text command ∷ words) request ↔ FormForm words request command
@@ -143,10 +158,12 @@ request_form (unary_words {words} {t} o d) = (o, t, words, refl, d, refl)
 request_form (binary_words {words} {t} {u} o d) = (o, t, u, words, refl, d, refl)
 request_form (ctor_words {words} {c} d) = (c, d, refl)
 request_form (call_words {words} {c} d) = (c, d, refl)
-request_form (type_words {words} {c} d) = call_form (type_of c) d.1 (c, d, refl)
+request_form (type_words {words} {c} d) = call_form (type_asked c) d.1 (c, d, refl)
+request_form (component_words {words} {x} d) = inr (x, words, refl, d, refl)
 request_form (resolve_words {words} {c} d) = (c, d, refl)
 request_form (why_words {words} {c} d) = (c, d, refl)
 request_form (overloads_words name) = (name, refl, refl)
+request_form (fit_words {words} {xs} {ts} d) = (xs, ts, d, refl)
 request_form (form_words {command} {words} {f} d) = (command_form command words (form_of f)).1 (f, d, refl)
 
 no_words_no_form : (rules : RuleSet) (request : Request) → ¬ RequestForm rules [] request
@@ -247,12 +264,18 @@ no_resolve words none request d = let f : CallForm resolution_of words request =
 pub no_why : (words : List (List ℕ)) → ((c : WgslCall) → ¬ IsCall words c) → NoRequest Standard (codes "why" ∷ words)
 no_why words none request d = let f : CallForm explanation_of words request = request_form d in none f.0 f.1
 
-pub no_type : (word : List ℕ) (words : List (List ℕ)) → word ≢ codes "rank" → word ≢ codes "common" → word ≢ codes "size" → word ≢ codes "offsets" → word ≢ codes "layout" → word ≢ codes "resolve" → word ≢ codes "why" → word ≢ codes "overloads"
+no_type_form : {word : List ℕ} {words : List (List ℕ)} {request : Request} → word ≢ codes "unary" → ((c : WgslCall) → ¬ IsCall (word ∷ words) c) → ¬ TypeForm (word ∷ words) request
+no_type_form other none (inl f) = none f.0 f.1
+no_type_form {word} {words} other none (inr f) = let same : word ∷ words ≡ codes "unary" ∷ codes "&" ∷ codes "component" ∷ f.1 = f.2 in other (cc same)
+
+pub no_type : (word : List ℕ) (words : List (List ℕ)) → word ≢ codes "rank" → word ≢ codes "common" → word ≢ codes "size" → word ≢ codes "offsets" → word ≢ codes "layout" → word ≢ codes "resolve" → word ≢ codes "why" → word ≢ codes "overloads" → word ≢ codes "fit" → word ≢ codes "unary"
     → command_named word ≡ None → ((c : WgslCall) → ¬ IsCall (word ∷ words) c) → NoRequest Standard (word ∷ words)
-no_type word words a b c d e f g h no_form none request q =
-    let k : CallForm type_of (word ∷ words) request =
-    past_option _ _ _ no_form (past _ _ _ (not_eq word _ h) (past _ _ _ (not_eq word _ g) (past _ _ _ (not_eq word _ f) (past _ _ _ (not_eq word _ e) (past _ _ _ (not_eq word _ d) (past _ _ _ (not_eq word _ c) (past _ _ _ (not_eq word _ b) (past _ _ _ (not_eq word _ a) (request_form q))))))))) in
-    none k.0 k.1
+no_type word words a b c d e f g h i j no_form none request q =
+    no_type_form j none
+    (past_option _ _ _ no_form (past _ _ _ (not_eq word _ i) (past _ _ _ (not_eq word _ h) (past _ _ _ (not_eq word _ g) (past _ _ _ (not_eq word _ f) (past _ _ _ (not_eq word _ e) (past _ _ _ (not_eq word _ d) (past _ _ _ (not_eq word _ c) (past _ _ _ (not_eq word _ b) (past _ _ _ (not_eq word _ a) (request_form q)))))))))))
+
+pub no_fit : (words : List (List ℕ)) → ((xs : List Operand) (ts : List WgslType) → ¬ IsFit words xs ts) → NoRequest Standard (codes "fit" ∷ words)
+no_fit words none request d = let f : FitForm words request = request_form d in none f.0 f.1 f.2
 
 pub no_form : (command : FormCommand) (words : List (List ℕ)) → ((f : WgslForm) → ¬ IsForm command words f) → NoRequest Standard (command_text command ∷ words)
 no_form command words none request d = let f = (command_form command words request).0 (request_form d) in none f.0 f.1

@@ -1,5 +1,6 @@
 pub mod Answers
 pub mod Calls
+pub mod Fits
 pub mod Forms
 pub mod Grammar
 pub mod Laws

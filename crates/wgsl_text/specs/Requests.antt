@@ -1,15 +1,18 @@
 -- The requests, and the words that spell each, by the set of rules.
-use Rattle.std.specs.Prelude.{◌≡◌, ℕ, List, [], ◌∷◌, codes}
+use Rattle.std.specs.Prelude.{◌≡◌, ℕ, true, List, [], ◌∷◌, codes}
 use Rattle.wgsl_syntax.specs.Operator.{binary_text, unary_text}
 use Rattle.wgsl_syntax.specs.declared.operator.BinaryOperator.{BinaryOperator}
 use Rattle.wgsl_syntax.specs.declared.operator.UnaryOperator.{UnaryOperator}
+use Rattle.wgsl_rules.specs.standard.Choice.{Operand}
 use Rattle.wgsl_rules.specs.types.Types.{WgslType, struct, Members}
 use Rattle.wgsl_rules.specs.types.Signatures.{Signature}
 use Rattle.wgsl_rules.specs.layout.Stored.{stored, stored_members}
+use Rattle.wgsl_requests.specs.CallForms.{type_asked}
 use Rattle.wgsl_requests.specs.Calls.{WgslCall}
-use Rattle.wgsl_requests.specs.Forms.{WgslForm}
-pub use Rattle.wgsl_requests.specs.Requests.{WgslRequest as Request, rank, common, unary, binary, size, offsets, layout, ctor, call, type_of, resolution_of, explanation_of, overloads_of, form_of}
-use Rattle.wgsl_text.specs.Calls.{IsCall}
+use Rattle.wgsl_requests.specs.Forms.{WgslForm, address_of}
+pub use Rattle.wgsl_requests.specs.Requests.{WgslRequest as Request, rank, common, unary, binary, size, offsets, layout, ctor, call, type_of, resolution_of, explanation_of, overloads_of, form_of, fit_of}
+use Rattle.wgsl_text.specs.Calls.{IsCall, OperandAt}
+use Rattle.wgsl_text.specs.Fits.{IsFit}
 use Rattle.wgsl_text.specs.Forms.{IsForm, command_text}
 use Rattle.wgsl_text.specs.Grammar.{TypeAt, TypesAt, format_names}
 use Rattle.wgsl_text.specs.Templates.{TemplateAt}
@@ -71,9 +74,12 @@ pub data IsRequest : RuleSet → List (List ℕ) → Request → Type 0 where
       IsRequest Ported (codes "call" ∷ words) (call c)
   -- by WGSL's own overloads
 
-  -- `binary + const i32 AbstractInt`, `call clamp - f32 AbstractInt AbstractInt`
+  -- `binary + const i32 AbstractInt`, `call clamp - f32 AbstractInt AbstractInt`; `ctor array - f32` is a form
   type_words : {words : List (List ℕ)} {c : WgslCall} → IsCall words c →
-      IsRequest Standard words (type_of c)
+      IsRequest Standard words (type_asked c)
+  -- `unary & component ref function read_write f32`
+  component_words : {words : List (List ℕ)} {x : Operand} → OperandAt words x [] →
+      IsRequest Standard (codes "unary" ∷ codes "&" ∷ codes "component" ∷ words) (form_of (address_of x true))
   -- `resolve binary + f32 AbstractInt`
   resolve_words : {words : List (List ℕ)} {c : WgslCall} → IsCall words c →
       IsRequest Standard (codes "resolve" ∷ words) (resolution_of c)
@@ -88,6 +94,9 @@ pub data IsRequest : RuleSet → List (List ℕ) → Request → Type 0 where
   -- `member vec 3 f32 zx`
   form_words : {command : FormCommand} {words : List (List ℕ)} {f : WgslForm} → IsForm command words f →
       IsRequest Standard (command_text command ∷ words) (form_of f)
+  -- `fit AbstractInt f32 > f32 f32`
+  fit_words : {words : List (List ℕ)} {xs : List Operand} {ts : List WgslType} → IsFit words xs ts →
+      IsRequest Standard (codes "fit" ∷ words) (fit_of xs ts)
 
 -- the words spell no request
 abbrev pub NoRequest : RuleSet → List (List ℕ) → Type 0

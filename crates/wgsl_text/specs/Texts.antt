@@ -7,9 +7,10 @@ use Rattle.wgsl_rules.specs.errors.Refusals.{Refusal, message}
 use Rattle.wgsl_rules.specs.standard.Choice.{types_of}
 use Rattle.wgsl_rules.specs.types.Signatures.{listed, template_text}
 use Rattle.wgsl_standard.specs.Texts.{name_of}
+use Rattle.wgsl_forms.specs.Lists.{Fits}
 use Rattle.wgsl_forms.specs.Refusals.{Refusal as FormRefusal, refusal_text}
 use Rattle.wgsl_requests.specs.Calls.{WgslCall, WgslResolution}
-use Rattle.wgsl_requests.specs.Answers.{WgslAnswer, a_number, a_size, a_common_type, a_type, a_value, some_offsets, a_layout, a_type_of, a_resolution_of, some_lines, a_form_type, out_of_memory}
+use Rattle.wgsl_requests.specs.Answers.{WgslAnswer, a_number, a_size, a_common_type, a_type, a_value, some_offsets, a_layout, a_type_of, a_resolution_of, some_lines, a_form_type, a_fit, out_of_memory}
 use Rattle.wgsl_text.specs.Layouts.{layout_text, spaced}
 use Rattle.wgsl_text.specs.declared.write.TextKind.{TextKind}
 use Rattle.wgsl_text.specs.declared.write.TextKind.TheVariants as kinds
@@ -57,6 +58,11 @@ abbrev pub form_text : Result WgslType FormRefusal → List ℕ
 form_text (Ok t) = wgsl_spelling t
 form_text (Err e) = refusal_text e
 
+-- that the values fit, or why they don't
+abbrev pub fit_text : Fits → List ℕ
+fit_text (Ok u) = codes "fits"
+fit_text (Err e) = refusal_text e
+
 -- the rules refuse an expression, or anything else is answered; no request is answered by out of memory
 abbrev pub text_kind : WgslAnswer → TextKind
 text_kind (a_type (Err e)) = kinds.Refusal
@@ -64,6 +70,7 @@ text_kind (a_value (Err e)) = kinds.Refusal
 text_kind (a_type_of c None) = kinds.Refusal
 text_kind (a_resolution_of c None) = kinds.Refusal
 text_kind (a_form_type (Err e)) = kinds.Refusal
+text_kind (a_fit (Err e)) = kinds.Refusal
 text_kind out_of_memory = kinds.Refusal
 text_kind a = kinds.Answer
 
@@ -88,4 +95,6 @@ answer_text (a_resolution_of c r) = or_no_overload resolution_text c r
 answer_text (some_lines lines) = lines_text lines
 -- `ref<function, f32, read_write>`, ``vec2<f32>` has no component `z` ``
 answer_text (a_form_type r) = form_text r
+-- `fits`, ``invalid parameter type, expected `f32`, got `i32` ``
+answer_text (a_fit r) = fit_text r
 answer_text out_of_memory = []

@@ -3,10 +3,12 @@ ghost use Rattle.std.specs.Prelude.{◌≡◌, ◌∷◌, IfOk, MatchOption, Non
 ghost use Rattle.wgsl_syntax.specs.Operator.{binary_text, unary_text};
 ghost use Rattle.wgsl_core.specs.Instances.{parameter_view};
 ghost use Rattle.wgsl_standard.specs.Callees.{callee_view};
+ghost use Rattle.wgsl_requests.specs.CallForms.{type_asked};
 ghost use Rattle.wgsl_requests.specs.StandardViews.{call_view, written_view};
 ghost use Rattle.wgsl_requests.specs.Views.{request_view};
 ghost use Rattle.wgsl_text.specs.Answers.{IsAnswer};
 ghost use Rattle.wgsl_text.specs.Reading.{IsText, OneWord, Reads};
+ghost use Rattle.wgsl_text.specs.Requests.{type_of};
 ghost use Rattle.wgsl_text.specs.internal.Asked.{NamedAt, WritesOfCall, asked, called, callee_named, command_of, operand_view};
 ghost use Rattle.wgsl_text.specs.internal.Taken.{left};
 ghost use Rattle.wgsl_text.specs.internal.Written.{Adds};
@@ -22,6 +24,7 @@ use crate::write::{TextKind, write};
 use std::alloc::{AllocError, Global};
 use wgsl_requests::answers::Answer;
 use wgsl_requests::ask::answer;
+use wgsl_requests::call_forms::form_of_call;
 use wgsl_requests::requests::{Call, Request};
 use wgsl_standard::callee::Callee;
 use wgsl_standard::operand::Operand;
@@ -269,10 +272,26 @@ fn write_answer_on(
     }
 }
 
-/// Writes the type of a call. It is inlined into the caller, unlike `write`, which has all kinds of answers.
+/// Writes the type of a call, which may be a form.
 #[inline(always)]
 fn write_type(alloc: Global, call: &Call<'_>, text: &mut String) -> Result<TextKind, AllocError>
-    ensures { IfOk result (λ kind. Adds (IsAnswer (asked Question.Type (call_view call.now)) kind)
+    ensures { IfOk result (λ kind. Adds (IsAnswer (type_asked (call_view call.now)) kind)
+        (string_bytes text.old) (string_bytes text.new)) }
+{
+    match form_of_call(call) {
+        Some(form) => write_other(alloc, Request::Form(&form), text),
+        None => write_overloaded(alloc, call, text),
+    }
+}
+
+/// Writes the type of a call by its overloads. It is inlined into the caller, unlike `write`, which has all kinds of answers.
+#[inline(always)]
+fn write_overloaded(
+    alloc: Global,
+    call: &Call<'_>,
+    text: &mut String,
+) -> Result<TextKind, AllocError>
+    ensures { IfOk result (λ kind. Adds (IsAnswer (type_of (call_view call.now)) kind)
         (string_bytes text.old) (string_bytes text.new)) }
 {
     match answer(alloc, Request::Type(call))? {

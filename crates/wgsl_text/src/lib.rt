@@ -4,7 +4,9 @@
 mod assignment;
 mod call;
 pub mod command;
+mod component;
 mod fast;
+mod fit;
 mod form;
 pub mod form_command;
 mod form_lists;

@@ -6,6 +6,8 @@ ghost use Rattle.wgsl_text.specs.internal.Taken.{left};
 
 use crate::call::{Question, answer_call};
 use crate::command::{common, layout, offsets, rank, size, write_answer_to};
+use crate::component::unary;
+use crate::fit::fit;
 use crate::form::answer_form;
 use crate::form_command::form_command;
 use crate::rules::RuleSet;
@@ -32,9 +34,11 @@ pub(crate) fn answer_standard(
         "size" => size(alloc, RuleSet::Standard, words, text),
         "offsets" => offsets(alloc, RuleSet::Standard, words, text),
         "layout" => layout(alloc, RuleSet::Standard, words, text),
+        "unary" => unary(alloc, words, text),
         "resolve" => answer_next_call(alloc, Question::Resolution, words, text),
         "why" => answer_next_call(alloc, Question::Explanation, words, text),
         "overloads" => overloads(alloc, words, text),
+        "fit" => fit(alloc, words, text),
         _ => match form_command(command) {
             Some(form) => answer_form(alloc, form, words, text),
             None => answer_call(alloc, Question::Type, command, words, text),

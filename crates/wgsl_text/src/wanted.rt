@@ -27,6 +27,7 @@ pub enum Wanted {
     Enumerant,
     Colon,
     AssignmentOperator,
+    EndOfValues,
 }
 
 impl Wanted {
@@ -57,6 +58,7 @@ impl Wanted {
             Wanted::Enumerant => "enumerant",
             Wanted::Colon => "colon",
             Wanted::AssignmentOperator => "assignment operator",
+            Wanted::EndOfValues => "`>`",
         }
     }
 

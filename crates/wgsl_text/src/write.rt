@@ -8,7 +8,7 @@ ghost use Rattle.wgsl_core.specs.internal.Resolution.{element_view, resolved_vie
 ghost use Rattle.wgsl_requests.specs.Views.{answer_view, operands_refusal, outcome};
 ghost use Rattle.wgsl_forms.specs.Views.{answer_view as form_answer, form_type_view};
 ghost use Rattle.wgsl_text.specs.Layouts.{spaced};
-ghost use Rattle.wgsl_text.specs.Texts.{answer_text, form_text, or_none, text_kind, value_text};
+ghost use Rattle.wgsl_text.specs.Texts.{answer_text, fit_text, form_text, or_none, text_kind, value_text};
 ghost use Rattle.wgsl_text.specs.internal.Written.{IsRefusal};
 
 use crate::fast::number::write_number;
@@ -51,12 +51,12 @@ fn text_kind(answer: &Answer<'_>) -> TextKind
     match answer {
         Answer::Type(Err(_)) | Answer::Value(Err(_)) | Answer::Binary(Err(_)) => TextKind::Refusal,
         Answer::TypeOf(_, None) | Answer::Resolution(_, None) => TextKind::Refusal,
-        Answer::FormType(Err(_)) => TextKind::Refusal,
+        Answer::FormType(Err(_)) | Answer::Fit(Err(_)) => TextKind::Refusal,
         Answer::Type(Ok(_)) | Answer::Value(Ok(_)) | Answer::Binary(Ok(_)) => TextKind::Answer,
         Answer::TypeOf(_, Some(_)) | Answer::Resolution(_, Some(_)) => TextKind::Answer,
         Answer::Number(_) | Answer::Size(_, _) | Answer::Offsets(_) => TextKind::Answer,
         Answer::Layout(_, _) | Answer::Overloads(_) | Answer::Notes(_) => TextKind::Answer,
-        Answer::FormType(Ok(_)) => TextKind::Answer,
+        Answer::FormType(Ok(_)) | Answer::Fit(Ok(_)) => TextKind::Answer,
     }
 }
 
@@ -83,6 +83,7 @@ fn write_text(answer: Answer<'_>, text: &mut String) -> Result<(), AllocError>
         Answer::Overloads(signatures) => write_signatures(text, signatures),
         Answer::Notes(notes) => write_notes(text, notes),
         Answer::FormType(found) => write_form_type(text, found),
+        Answer::Fit(found) => write_fit(text, found),
     }
 }
 
@@ -97,6 +98,18 @@ fn write_form_type(
 {
     match found {
         Ok(ty) => write!(text, "{ty}"),
+        Err(refusal) => write!(text, "{refusal}"),
+    }
+}
+
+/// Writes that the values fit, or why they don't.
+#[inline(never)]
+fn write_fit(text: &mut String, found: Result<(), Refusal<'_>>) -> Result<(), AllocError>
+    ensures { OnOk result (string_bytes text.new
+        ≡ string_bytes text.old ++ fit_text (form_answer (λ u. tt) found.entry)) }
+{
+    match found {
+        Ok(()) => text.push_str("fits"),
         Err(refusal) => write!(text, "{refusal}"),
     }
 }

@@ -9,12 +9,13 @@ use Rattle.wgsl_rules.specs.standard.Choice.{Operand}
 use Rattle.wgsl_rules.specs.standard.Overloads.{type_with}
 use Rattle.wgsl_core.specs.View.{view}
 use Rattle.wgsl_standard.specs.Callees.{WgslCallee, a_constructor, a_function}
+use Rattle.wgsl_requests.specs.CallForms.{type_asked}
 use Rattle.wgsl_requests.specs.Calls.{WgslCall}
 use Rattle.wgsl_text.specs.Answers.{IsAnswer}
 use Rattle.wgsl_text.specs.Calls.{HasArity, IsCall, OperandsAt}
 use Rattle.wgsl_text.specs.Reading.{Answers, Beginning, OneWord, Then}
 use Rattle.wgsl_text.specs.Templates.{TemplateAt}
-use Rattle.wgsl_text.specs.Requests.{Request, explanation_of, resolution_of, type_of}
+use Rattle.wgsl_text.specs.Requests.{Request, explanation_of, resolution_of}
 use Rattle.wgsl_text.specs.declared.call.Named.{Named}
 use Rattle.wgsl_text.specs.declared.call.Named.TheVariants as names
 use Rattle.wgsl_text.specs.declared.call.Question.{Question}
@@ -62,7 +63,7 @@ callee_named names.Function = a_function
 
 -- what is asked of a call
 abbrev pub asked : Question → WgslCall → Request
-asked questions.Type = type_of
+asked questions.Type = type_asked
 asked questions.Resolution = resolution_of
 asked questions.Explanation = explanation_of
 

@@ -1,12 +1,15 @@
 -- What a command writes.
-use Rattle.std.specs.Prelude.{◌≡◌, ℕ, List, Result, map, option_map}
+use Rattle.std.specs.Prelude.{◌≡◌, ℕ, true, List, [], Result, map, option_map}
+use Rattle.wgsl_rules.specs.standard.Choice.{Operand}
 use Rattle.wgsl_rules.specs.types.Types.{WgslType, struct, Members}
 use Rattle.wgsl_rules.specs.types.Signatures.{Signature}
 use Rattle.wgsl_core.specs.View.{view}
 use Rattle.wgsl_core.specs.Instances.{parameter_view}
+use Rattle.wgsl_requests.specs.Forms.{address_of}
 use Rattle.wgsl_text.specs.Answers.{IsAnswer, IsReply}
+use Rattle.wgsl_text.specs.Calls.{OperandAt}
 use Rattle.wgsl_text.specs.Reading.{Answers}
-use Rattle.wgsl_text.specs.Requests.{NoRequest, Request, layout, members_laid_out, offsets}
+use Rattle.wgsl_text.specs.Requests.{NoRequest, Request, form_of, layout, members_laid_out, offsets}
 use Rattle.wgsl_text.specs.declared.command.Callee.{Callee}
 use Rattle.wgsl_text.specs.declared.rules.RuleSet.{RuleSet}
 use Rattle.wgsl_core.specs.declared.error.Fail.{Fail}
@@ -43,3 +46,8 @@ callee_view callee = record {
   template = option_map (λ ps. map parameter_view ps.items) callee.template;
   arguments = map view callee.types.items;
 }
+
+-- The answer to `&` of the operand that the words are, a reference to a component, is written. The error is a misfit only if they are none.
+abbrev pub WritesOfComponent : List (List ℕ) → List ℕ → List ℕ → Result TextKind (Fail Misfit) → Type 0
+WritesOfComponent words old new r =
+    Answers (λ kind. (x : Operand) × OperandAt words x [] × Adds (IsAnswer (form_of (address_of x true)) kind) old new) ((x : Operand) → ¬ OperandAt words x []) r

@@ -28,6 +28,10 @@ pub returns-in-layout : goal.returns-in-layout
 returns-in-layout c =
     subst (λ w. Replies Standard (w ∷ left c.args.words.now) (string_bytes c.args.text.now) (string_bytes c.layout.new.text) c.layout.result) (sym c.in-layout.is) c.layout.ensures
 
+pub returns-in-unary : goal.returns-in-unary
+returns-in-unary c =
+    subst (λ w. Replies Standard (w ∷ left c.args.words.now) (string_bytes c.args.text.now) (string_bytes c.unary.new.text) c.unary.result) (sym c.in-unary.is) c.unary.ensures
+
 pub returns-in-resolve : goal.returns-in-resolve
 returns-in-resolve c =
     subst (λ w. Replies Standard (w ∷ left c.args.words.now) (string_bytes c.args.text.now) (string_bytes c.answer_next_call.new.text) c.answer_next_call.result) (sym c.in-resolve.is)
@@ -42,6 +46,10 @@ pub returns-in-overloads : goal.returns-in-overloads
 returns-in-overloads c =
     subst (λ w. Replies Standard (w ∷ left c.args.words.now) (string_bytes c.args.text.now) (string_bytes c.overloads.new.text) c.overloads.result) (sym c.in-overloads.is) c.overloads.ensures
 
+pub returns-in-fit : goal.returns-in-fit
+returns-in-fit c =
+    subst (λ w. Replies Standard (w ∷ left c.args.words.now) (string_bytes c.args.text.now) (string_bytes c.fit.new.text) c.fit.result) (sym c.in-fit.is) c.fit.ensures
+
 pub returns-in-Some : goal.returns-in-Some
 returns-in-Some c =
     let is = named_text command_text form_commands c.args.command.now c.in-Some.form (sym c.form_command.ensures ∙ c.in-Some.is) in
@@ -52,6 +60,6 @@ pub returns-in-None : goal.returns-in-None
 returns-in-None c =
     let not = c.in_default in
     type_replied _ _ _ c.answer_call.result
-    (no_type c.args.command.now (left c.args.words.now) not.not-rank not.not-common not.not-size not.not-offsets not.not-layout not.not-resolve not.not-why not.not-overloads
+    (no_type c.args.command.now (left c.args.words.now) not.not-rank not.not-common not.not-size not.not-offsets not.not-layout not.not-resolve not.not-why not.not-overloads not.not-fit not.not-unary
     (sym c.form_command.ensures ∙ c.in-None.is))
     c.answer_call.ensures

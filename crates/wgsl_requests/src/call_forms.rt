@@ -1,0 +1,136 @@
+// Calls that are forms: `&x`, `*x` and `array(x, y)`, which have no overloads.
+ghost use Rattle.std.specs.Prelude.{◌≡◌, ◌∷◌, [], map, option_map};
+ghost use Rattle.wgsl_rules.specs.templates.Templates.{count_of};
+ghost use Rattle.wgsl_core.specs.Instances.{instance_view, parameter_view};
+ghost use Rattle.wgsl_core.specs.View.{view};
+ghost use Rattle.wgsl_requests.specs.CallForms.{array_form as array_there, array_parameters as parameters_there, constructor_form as constructor_there, form_of_call, unary_form as unary_there};
+ghost use Rattle.wgsl_requests.specs.Forms.{typed_array_of};
+ghost use Rattle.wgsl_requests.specs.FormViews.{form_view};
+ghost use Rattle.wgsl_requests.specs.StandardViews.{call_view, written_view};
+
+use crate::requests::{Call, Form};
+use wgsl_core::literal::{Instance, LiteralInstance};
+use wgsl_core::signature::TpltParam;
+use wgsl_core::ty::Type;
+use wgsl_standard::callee::Callee;
+use wgsl_standard::operand::Operand;
+use wgsl_syntax::operator::UnaryOperator;
+
+/// The form that a call is: `&x`, `*x` or an array constructor. None if it has overloads, or if the template of an `array`
+/// isn't a type, or a type and a number above 0.
+#[inline(always)]
+pub fn form_of_call<'r>(call: &Call<'r>) -> Option<Form<'r>>
+    ensures { option_map form_view result ≡ form_of_call (call_view call.now) }
+{
+    match call.callee {
+        Callee::Unary(operator) => unary_form(operator, call.operands),
+        Callee::Constructor(name) => constructor_form(name, call.template, call.operands),
+        Callee::Binary(_) | Callee::Function(_) => None,
+    }
+}
+
+fn unary_form<'r>(operator: UnaryOperator, operands: &[Operand<'r>]) -> Option<Form<'r>>
+    ensures { option_map form_view result ≡ unary_there (map written_view operands.now) operator }
+{
+    match operands {
+        [x] => operator_form(operator, *x),
+        _ => None,
+    }
+}
+
+fn operator_form<'r>(operator: UnaryOperator, x: Operand<'r>) -> Option<Form<'r>>
+    ensures { option_map form_view result ≡ unary_there (written_view x.entry ∷ []) operator }
+{
+    match operator {
+        UnaryOperator::AddressOf => Some(Form::Address(x, false)),
+        UnaryOperator::Indirection => Some(Form::Indirection(x)),
+        _ => None,
+    }
+}
+
+fn constructor_form<'r>(
+    name: &str,
+    template: Option<&'r [TpltParam]>,
+    operands: &'r [Operand<'r>],
+) -> Option<Form<'r>>
+    ensures { option_map form_view result ≡ constructor_there name.now
+        (option_map (λ ps. map parameter_view ps.now) template.entry) (map written_view operands.now) }
+{
+    if name == "array" {
+        array_form(template, operands)
+    } else {
+        None
+    }
+}
+
+fn array_form<'r>(
+    template: Option<&'r [TpltParam]>,
+    operands: &'r [Operand<'r>],
+) -> Option<Form<'r>>
+    ensures { option_map form_view result ≡ array_there
+        (option_map (λ ps. map parameter_view ps.now) template.entry) (map written_view operands.now) }
+{
+    match template {
+        None => Some(Form::Array(operands)),
+        Some(parameters) => typed_array_form(parameters, operands),
+    }
+}
+
+fn typed_array_form<'r>(
+    parameters: &'r [TpltParam],
+    operands: &'r [Operand<'r>],
+) -> Option<Form<'r>>
+    ensures { option_map form_view result
+        ≡ option_map (λ p. typed_array_of p.0 p.1 (map written_view operands.now))
+        (parameters_there (map parameter_view parameters.now)) }
+{
+    let (element, count) = array_parameters(parameters)?;
+    Some(Form::ArrayOf(element, count, operands))
+}
+
+/// The element type and the number of elements.
+fn array_parameters(parameters: &[TpltParam]) -> Option<(&Type, Option<usize>)>
+    ensures { option_map (λ p. (view p.0.now, p.1)) result
+        ≡ parameters_there (map parameter_view parameters.now) }
+{
+    match parameters {
+        [TpltParam::Ty(ty)] => Some((ty, None)),
+        [TpltParam::Ty(ty), TpltParam::Instance(count)] => Some((ty, Some(element_count(count)?))),
+        _ => None,
+    }
+}
+
+/// The number of elements that a literal says, if it is an integer above 0.
+fn element_count(instance: &Instance) -> Option<usize>
+    ensures { result ≡ count_of (instance_view instance.now) }
+{
+    let Instance::Literal(literal) = instance;
+    match literal {
+        LiteralInstance::Bool(_) => None,
+        LiteralInstance::AbstractInt(n) => if *n > 0 {
+            usize::try_from(*n).ok()
+        } else {
+            None
+        },
+        LiteralInstance::I32(n) => if *n > 0 {
+            usize::try_from(*n).ok()
+        } else {
+            None
+        },
+        LiteralInstance::U32(n) => if *n > 0 {
+            usize::try_from(*n).ok()
+        } else {
+            None
+        },
+        LiteralInstance::I64(n) => if *n > 0 {
+            usize::try_from(*n).ok()
+        } else {
+            None
+        },
+        LiteralInstance::U64(n) => if *n > 0 {
+            usize::try_from(*n).ok()
+        } else {
+            None
+        },
+    }
+}
