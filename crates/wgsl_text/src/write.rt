@@ -146,9 +146,18 @@ pub(crate) fn write_resolved(text: &mut String, ty: ResolvedType<'_>) -> Result<
 {
     match ty.dimensions {
         Dimensions::Single => return write_element(text, ty.element),
-        Dimensions::Vector(components) => write!(text, "vec{components}<")?,
-        Dimensions::Matrix(columns, rows) => write!(text, "mat{columns}x{rows}<")?,
+        Dimensions::Vector(components) => {
+            text.push_str("vec")?;
+            write_number(text, u32::from(components))?;
+        }
+        Dimensions::Matrix(columns, rows) => {
+            text.push_str("mat")?;
+            write_number(text, u32::from(columns))?;
+            text.push('x')?;
+            write_number(text, u32::from(rows))?;
+        }
     }
+    text.push('<')?;
     write_element(text, ty.element)?;
     text.push('>')
 }
