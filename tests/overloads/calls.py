@@ -33,7 +33,7 @@ POINTEES = SAMPLES + [f"array<{t}>" for t in ("f32", "vec2<f32>", "mat2x2<f32>",
 SECOND = ["i32", "u32", "AbstractInt", "f32", "ref<function, i32, read>"]  # what atomic functions take beside the pointer
 POINTERS = [f"ptr<{s}, {t}, {a}>" for s in SPACES for t in POINTEES for a in ACCESSES]
 
-UNARY = ["!", "-", "~", "&", "*"]
+UNARY = ["!", "-", "~"]  # `&` and `*` have no overloads
 TEMPLATES = [shape % s for shape in ("%s", "vec2<%s>", "vec3<%s>", "vec4<%s>") for s in CONCRETE] + ["mat2x2<f32>"]
 # Functions of three and more values, which are asked with many triples.
 WIDE = ["clamp", "fma", "smoothstep", "mix", "faceForward", "refract", "select", "extractBits"]

@@ -1,5 +1,5 @@
 // The templates of types and of `bitcast` (WGSL, "Template Lists").
-mod array;
+pub mod array;
 mod atomic;
 mod bitcast;
 mod mat;

@@ -1,7 +1,6 @@
 // Calls that are forms: `&x`, `*x` and `array(x, y)`, which have no overloads.
 ghost use Rattle.std.specs.Prelude.{◌≡◌, ◌∷◌, [], map, option_map};
-ghost use Rattle.wgsl_rules.specs.templates.Templates.{count_of};
-ghost use Rattle.wgsl_core.specs.Instances.{instance_view, parameter_view};
+ghost use Rattle.wgsl_core.specs.Instances.{parameter_view};
 ghost use Rattle.wgsl_core.specs.View.{view};
 ghost use Rattle.wgsl_requests.specs.CallForms.{array_form as array_there, array_parameters as parameters_there, constructor_form as constructor_there, form_of_call, unary_form as unary_there};
 ghost use Rattle.wgsl_requests.specs.Forms.{typed_array_of};
@@ -9,7 +8,7 @@ ghost use Rattle.wgsl_requests.specs.FormViews.{form_view};
 ghost use Rattle.wgsl_requests.specs.StandardViews.{call_view, written_view};
 
 use crate::requests::{Call, Form};
-use wgsl_core::literal::{Instance, LiteralInstance};
+use wgsl_calls::template::array::element_count;
 use wgsl_core::signature::TpltParam;
 use wgsl_core::ty::Type;
 use wgsl_standard::callee::Callee;
@@ -97,40 +96,5 @@ fn array_parameters(parameters: &[TpltParam]) -> Option<(&Type, Option<usize>)>
         [TpltParam::Ty(ty)] => Some((ty, None)),
         [TpltParam::Ty(ty), TpltParam::Instance(count)] => Some((ty, Some(element_count(count)?))),
         _ => None,
-    }
-}
-
-/// The number of elements that a literal says, if it is an integer above 0.
-fn element_count(instance: &Instance) -> Option<usize>
-    ensures { result ≡ count_of (instance_view instance.now) }
-{
-    let Instance::Literal(literal) = instance;
-    match literal {
-        LiteralInstance::Bool(_) => None,
-        LiteralInstance::AbstractInt(n) => if *n > 0 {
-            usize::try_from(*n).ok()
-        } else {
-            None
-        },
-        LiteralInstance::I32(n) => if *n > 0 {
-            usize::try_from(*n).ok()
-        } else {
-            None
-        },
-        LiteralInstance::U32(n) => if *n > 0 {
-            usize::try_from(*n).ok()
-        } else {
-            None
-        },
-        LiteralInstance::I64(n) => if *n > 0 {
-            usize::try_from(*n).ok()
-        } else {
-            None
-        },
-        LiteralInstance::U64(n) => if *n > 0 {
-            usize::try_from(*n).ok()
-        } else {
-            None
-        },
     }
 }

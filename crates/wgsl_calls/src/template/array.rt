@@ -123,7 +123,7 @@ fn element_and_count(
 {
     match tplt {
         [TpltParam::Ty(ty)] => Ok((ty.clone(alloc)?, None)),
-        [TpltParam::Ty(ty), TpltParam::Instance(instance)] => match count(instance) {
+        [TpltParam::Ty(ty), TpltParam::Instance(instance)] => match element_count(instance) {
             Some(n) => Ok((ty.clone(alloc)?, Some(n))),
             None => Err(Fail::Error(Error::Builtin(message))),
         },
@@ -131,7 +131,8 @@ fn element_and_count(
     }
 }
 
-fn count(instance: &Instance) -> Option<usize>
+/// The number of elements that a literal says, if it is an integer above 0.
+pub fn element_count(instance: &Instance) -> Option<usize>
     ensures { result ≡ count_of (instance_view instance.now) }
 {
     let Instance::Literal(literal) = instance;
