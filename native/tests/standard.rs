@@ -53,6 +53,9 @@ fn expect_form(asked: &str, found: &Resolution) {
     assert!(texts.eq(types.map(|ty| form(&ty.to_string()))), "{asked}: {overload}");
 }
 
+/// Calls without overloads, whose requests are answered by the rules of forms.
+const NO_OVERLOADS: [&str; 3] = ["unary & ", "unary * ", "ctor array "];
+
 /// What is asked, in words behind the command, with its type, its resolution and, if it is refused, why.
 fn compare(
     asked: &str,
@@ -66,7 +69,9 @@ fn compare(
             expect(&format!("why {asked}"), if why.is_empty() { "none" } else { &why });
         }
     }
-    expect(asked, &type_text(ty));
+    if !NO_OVERLOADS.iter().any(|call| asked.starts_with(call)) {
+        expect(asked, &type_text(ty));
+    }
     expect(&format!("resolve {asked}"), &resolution_text(resolution));
 }
 
