@@ -50,8 +50,16 @@ module _ (words : List (List ℕ)) (other : (after : List (List ℕ)) → words 
   pub unary_replied : (old new : List ℕ) (r : Result TextKind (Fail Misfit)) → WritesOfCall type_asked (codes "unary" ∷ words) old new r → Replies Standard (codes "unary" ∷ words) old new r
   unary_replied old new r w = type_replied (codes "unary" ∷ words) old new r no_unary w
 
--- whether the next word is a key
+-- what holds by a test whose outcome is known
+pub if_true : {P : Type 0} (Q : Type 0) (b : Bool) → MatchBool b P Q → b ≡ true → P
+if_true Q true p e = p
+if_true Q false q e = cc e
 
+pub if_false : (P : Type 0) {Q : Type 0} (b : Bool) → MatchBool b P Q → b ≡ false → Q
+if_false P true p e = cc e
+if_false P false q e = q
+
+-- whether the next word is a key
 pub next_is : (words after : List (List ℕ)) (word key : List ℕ) (is : Bool) → words ≡ word ∷ after → is ≡ bytes_eq word key →
     MatchBool is (words ≡ key ∷ after) ((rest : List (List ℕ)) → words ≢ key ∷ rest)
 next_is words after word key true are test = are ∙ ap (λ w. w ∷ after) ((bytes_eq-Decides word key).0 (sym test))
