@@ -59,7 +59,11 @@ fn write_component(
     ensures { IfOk result (λ kind. Adds (IsAnswer (form_of (address_of (operand_view x.now) true)) kind)
         (string_bytes text.old) (string_bytes text.new)) }
 {
-    write_answer_to(alloc, Request::Form(&Form::Address(x.borrowed(), true)), text)
+    write_answer_to(
+        alloc,
+        Request::Form(&Form::Address(x.borrowed(), true)),
+        text,
+    )
 }
 
 /// Whether the next words are `& component`, which are consumed then.
