@@ -154,7 +154,8 @@ def count_short(program, short):
 
 def messages():
     """How messages of refusals begin: the texts in the sources of errors, of forms, and of constructors, calls and templates."""
-    paths = [os.path.join("wgsl_core", "src", "error.rt"), os.path.join("wgsl_forms", "src", "refusal.rt")]
+    paths = [os.path.join("wgsl_core", "src", "error.rt")]
+    paths += [os.path.join("wgsl_forms", "src", name) for name in ("refusal.rt", "array.rt")]
     paths.append(os.path.join("wgsl_calls", "src", "**", "*.rt"))
     texts = ["no overload of ", "`"]
     for path in (path for each in paths for path in glob.glob(os.path.join(TOP, "crates", each), recursive=True)):
