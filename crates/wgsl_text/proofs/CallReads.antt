@@ -8,6 +8,7 @@ use Rattle.wgsl_syntax.specs.Operator.{binary_text, unary_text}
 use Rattle.wgsl_syntax.specs.Texture.{texture_name}
 use Rattle.wgsl_syntax.specs.declared.operator.BinaryOperator.{BinaryOperator}
 use Rattle.wgsl_syntax.specs.declared.operator.UnaryOperator.{UnaryOperator}
+use Rattle.wgsl_syntax.specs.declared.operator.UnaryOperator.TheVariants.{AddressOf}
 use Rattle.wgsl_syntax.specs.declared.texture.TextureType.{TextureType}
 use Rattle.wgsl_syntax.specs.declared.texture.TextureType.TheVariants.{External}
 use Rattle.wgsl_syntax.proofs.Naming.{binary_naming, unary_naming}
@@ -282,19 +283,8 @@ not_component : (x : TextureType) → texture_name x ≡ codes "component" → �
 not_component External e = cc e
 not_component x e = cc e
 
-no_component_operand : (words : List (List ℕ)) (x : Operand) (rest : List (List ℕ)) → OperandAt (codes "component" ∷ words) x rest → ⊥
+pub no_component_operand : (words : List (List ℕ)) (x : Operand) (rest : List (List ℕ)) → OperandAt (codes "component" ∷ words) x rest → ⊥
 no_component_operand words x rest d = let f = operand_form d in let g = leaf_form (form f.1) in not_component g.0 (sym (cc g.1.1))
-
-no_component_operands : (words : List (List ℕ)) (xs : List Operand) → OperandsAt (codes "component" ∷ words) xs → ⊥
-no_component_operands words [] ds = let none : codes "component" ∷ words ≡ [] = operands_form ds in cc none
-no_component_operands words (x ∷ xs) ds = let f : OperandsForm (codes "component" ∷ words) (x ∷ xs) = operands_form ds in no_component_operand words x f.0 f.1
-
-pub no_component_call : (after : List (List ℕ)) (c : WgslCall) → ¬ IsCall (codes "unary" ∷ codes "&" ∷ codes "component" ∷ after) c
-no_component_call after c f =
-    let h : Made (OneWord (IsText unary_text)) unary_head (codes "&" ∷ codes "component" ∷ after) (c.callee, c.template) f.0 = head_form f.1 in
-    let same : codes "&" ∷ codes "component" ∷ after ≡ h.1.0 ∷ f.0 = h.1.1 in
-    let rest : f.0 ≡ codes "component" ∷ after = sym (cc same) in
-    no_component_operands after c.operands (subst (λ ws. OperandsAt ws c.operands) rest f.2)
 
 -- words are at most one call
 
@@ -339,6 +329,10 @@ module _ (words after : List (List ℕ)) (o : UnaryOperator) (d : OneWord (IsTex
 
   pub no_unary_operand : ((x : Operand) → ¬ OperandAt after x []) → (c : WgslCall) → ¬ IsCall (codes "unary" ∷ words) c
   no_unary_operand none = no_operands_no_call (codes "unary" ∷ words) after (a_unary o) None (Some 1) unary_at_front refl (not_alone after none)
+
+pub no_component_call : (after : List (List ℕ)) (c : WgslCall) → ¬ IsCall (codes "unary" ∷ codes "&" ∷ codes "component" ∷ after) c
+no_component_call after =
+    no_unary_operand (codes "&" ∷ codes "component" ∷ after) (codes "component" ∷ after) AddressOf (codes "&", refl, refl) (λ x. no_component_operand after x [])
 
 module _ (words after : List (List ℕ)) (o : BinaryOperator) (d : OneWord (IsText binary_text) words o after) where
   binary_at_front : HeadAt (codes "binary" ∷ words) (binary_head o) after

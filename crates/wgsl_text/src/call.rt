@@ -91,6 +91,21 @@ fn unary(
         (string_bytes text.old) (string_bytes text.new) result }
 {
     let operator = read_unary_operator(words)?;
+    answer_unary(alloc, question, operator, words, text)
+}
+
+/// `X`, after the operator.
+#[inline(always)]
+pub(crate) fn answer_unary(
+    alloc: Global,
+    question: Question,
+    operator: UnaryOperator,
+    words: &mut Words,
+    text: &mut String,
+) -> Result<TextKind, Fail<Misfit>>
+    ensures { WritesOfCall (asked question) (codes "unary" ∷ unary_text operator ∷ left words.old)
+        (string_bytes text.old) (string_bytes text.new) result }
+{
     let x = read_last_operand(alloc, words)?;
     let operands = [x.borrowed()];
     let written = write_answer_on(
@@ -105,7 +120,8 @@ fn unary(
     Ok(written?)
 }
 
-fn read_unary_operator(words: &mut Words) -> Result<UnaryOperator, Fail<Misfit>>
+#[inline(always)]
+pub(crate) fn read_unary_operator(words: &mut Words) -> Result<UnaryOperator, Fail<Misfit>>
     ensures { Reads (OneWord (IsText unary_text)) (λ o. o) (left words.old) (left words.new) result }
 {
     unary_operator(words.next(Wanted::UnaryOperator)?)

@@ -126,7 +126,21 @@ pub(crate) fn read_last_operand(
     ensures { Answers (λ x. OperandAt (left words.old) (operand_view x) [])
         ((x : WgslOperand) → ¬ OperandAt (left words.old) x []) result }
 {
-    let operand = read_next_operand(alloc, words)?;
+    let word = words.next(Wanted::Type)?;
+    read_whole_operand(alloc, word, words)
+}
+
+/// The operand that begins with this word, in all remaining words.
+#[inline(always)]
+pub(crate) fn read_whole_operand(
+    alloc: Global,
+    word: &str,
+    words: &mut Words,
+) -> Result<WrittenOperand, Fail<Misfit>>
+    ensures { Answers (λ x. OperandAt (word.now ∷ left words.old) (operand_view x) [])
+        ((x : WgslOperand) → ¬ OperandAt (word.now ∷ left words.old) x []) result }
+{
+    let operand = read_operand(alloc, word, words)?;
     if words.is_empty() {
         Ok(operand)
     } else {

@@ -1,5 +1,5 @@
 -- What a command writes.
-use Rattle.std.specs.Prelude.{◌≡◌, ℕ, true, List, [], Result, map, option_map}
+use Rattle.std.specs.Prelude.{◌≡◌, ℕ, Bool, true, false, List, [], ◌∷◌, Result, codes, map, option_map}
 use Rattle.wgsl_rules.specs.standard.Choice.{Operand}
 use Rattle.wgsl_rules.specs.types.Types.{WgslType, struct, Members}
 use Rattle.wgsl_rules.specs.types.Signatures.{Signature}
@@ -47,7 +47,13 @@ callee_view callee = record {
   arguments = map view callee.types.items;
 }
 
--- The answer to `&` of the operand that the words are, a reference to a component, is written. The error is a misfit only if they are none.
-abbrev pub WritesOfComponent : List (List ℕ) → List ℕ → List ℕ → Result TextKind (Fail Misfit) → Type 0
-WritesOfComponent words old new r =
-    Answers (λ kind. (x : Operand) × OperandAt words x [] × Adds (IsAnswer (form_of (address_of x true)) kind) old new) ((x : Operand) → ¬ OperandAt words x []) r
+-- The words are the operand of `&`, behind the word `component` if it is said to be a reference to one.
+abbrev pub IsAddressed : List (List ℕ) → Operand → Bool → Type 0
+IsAddressed words x true = (after : List (List ℕ)) × (words ≡ codes "component" ∷ after) × OperandAt after x []
+IsAddressed words x false = OperandAt words x []
+
+-- The answer to `&` of what the words are is written. The error is a misfit only if they are no operand of it.
+abbrev pub WritesOfAddress : List (List ℕ) → List ℕ → List ℕ → Result TextKind (Fail Misfit) → Type 0
+WritesOfAddress words old new r =
+    Answers (λ kind. (x : Operand) × (is_component : Bool) × IsAddressed words x is_component × Adds (IsAnswer (form_of (address_of x is_component)) kind) old new)
+    ((x : Operand) (is_component : Bool) → ¬ IsAddressed words x is_component) r

@@ -1,17 +1,18 @@
-use Rattle.std.proofs.Common.{◌∷◌, codes, string_bytes, subst}
-use Rattle.wgsl_requests.specs.CallForms.{type_asked}
-use Rattle.wgsl_text.specs.internal.Asked.{WritesOfCall}
+use Rattle.std.proofs.Common.{◌∙◌, ◌∷◌, ap}
 use Rattle.wgsl_text.specs.internal.Taken.{left}
-use Rattle.wgsl_text.proofs.Components.{component_replied, if_false, if_true, unary_replied}
+use Rattle.wgsl_text.proofs.Components.{address_replied, no_unary_request, unary_replied}
+use Rattle.wgsl_text.proofs.Readers.{fails}
 use Rattle.wgsl_text.proofs.component.unary.Goals as goal
 
-pub returns-then-takes_component : goal.returns-then-takes_component
-returns-then-takes_component c =
-    let taken = if_true _ c.takes_component.result c.takes_component.ensures c.if-takes_component.true in
-    component_replied (left c.args.words.now) _ taken _ _ c.answer_component.result c.answer_component.ensures
+pub returns-in_err-operator : goal.returns-in_err-operator
+returns-in_err-operator c = fails _ _ _ _ _ (no_unary_request (left c.args.words.now)) c.from_residual.ensures.1 c.in_err-operator.ensures
 
-pub returns-else-takes_component : goal.returns-else-takes_component
-returns-else-takes_component c =
-    let other = if_false _ c.takes_component.result c.takes_component.ensures c.if-takes_component.false in
-    unary_replied (left c.args.words.now) other.1 _ _ c.answer_call.result
-    (subst (λ ws. WritesOfCall type_asked (codes "unary" ∷ ws) (string_bytes c.args.text.now) (string_bytes c.answer_call.new.text) c.answer_call.result) other.0 c.answer_call.ensures)
+pub returns-in-AddressOf : goal.returns-in-AddressOf
+returns-in-AddressOf c =
+    let read = c.in_ok-operator.ensures in
+    address_replied (left c.args.words.now) _ _ (read.1 ∙ ap (λ w. w ∷ left c.read_unary_operator.new.words) read.2) c.in-AddressOf.is _ _ c.answer_address.result c.answer_address.ensures
+
+pub returns-in_default : goal.returns-in_default
+returns-in_default c =
+    let read = c.in_ok-operator.ensures in
+    unary_replied (left c.args.words.now) _ _ (read.1 ∙ ap (λ w. w ∷ left c.read_unary_operator.new.words) read.2) c.in_default.not-AddressOf _ _ c.answer_unary.result c.answer_unary.ensures

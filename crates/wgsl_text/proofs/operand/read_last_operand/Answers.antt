@@ -1,6 +1,8 @@
-use Rattle.wgsl_text.proofs.CallReads.{not_last}
-use Rattle.wgsl_text.proofs.Readers.{refuses_any}
+use Rattle.std.proofs.Common.{[]}
+use Rattle.wgsl_text.specs.internal.Taken.{left}
+use Rattle.wgsl_text.proofs.CallReads.{no_operand}
+use Rattle.wgsl_text.proofs.Readers.{fails_by}
 use Rattle.wgsl_text.proofs.operand.read_last_operand.Goals as goal
 
-pub returns-else-is_empty : goal.returns-else-is_empty
-returns-else-is_empty c = refuses_any _ c.surplus.result (not_last _ _ _ c.in_ok-operand.ensures (λ e. cc (c.if-is_empty.ensures.1 e)))
+pub returns-in_err-word : goal.returns-in_err-word
+returns-in_err-word c = fails_by _ _ _ _ c.from_residual.ensures.1 (λ x. no_operand (left c.args.words.now) c.in_err-word.ensures.word x [])
