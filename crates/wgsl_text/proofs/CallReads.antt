@@ -21,7 +21,7 @@ use Rattle.wgsl_text.specs.Calls.{HasArity, HeadAt, IsCall, OperandAt, OperandsA
 use Rattle.wgsl_text.specs.Grammar.{TypeAt}
 use Rattle.wgsl_text.specs.Reading.{IsText, NoneAt, OneWord}
 use Rattle.wgsl_text.specs.Templates.{TemplateAt}
-use Rattle.wgsl_text.specs.internal.Asked.{AreOperands, NamedAt, called, callee_named, command_of, plain_there}
+use Rattle.wgsl_text.specs.internal.Asked.{NamedAt, called, callee_named, command_of, plain_there}
 use Rattle.wgsl_text.specs.declared.call.Named.{Named}
 use Rattle.wgsl_text.specs.declared.call.Named.TheVariants as names
 use Rattle.wgsl_text.proofs.Forms.{form, leaf_form}
@@ -228,6 +228,10 @@ no_operand words none x rest d = no_operand_of_nothing words x rest none d
 pub not_last : (words after : List (List ℕ)) (x : Operand) → OperandAt words x after → (after ≡ [] → ⊥) → (y : Operand) → ¬ OperandAt words y []
 not_last words after x d more y e = more (one_operand words x y after [] d e).1
 
+-- as many operands as are taken
+abbrev pub AreOperands : Option ℕ → List (List ℕ) → List Operand → Type 0
+AreOperands arity words xs = OperandsAt words xs × HasArity arity xs
+
 not_alone : (words : List (List ℕ)) → ((x : Operand) → ¬ OperandAt words x []) → (xs : List Operand) → ¬ AreOperands (Some 1) words xs
 not_alone words none [] ds = absurd (cc ds.1)
 not_alone words none (x ∷ []) ds =
@@ -235,18 +239,24 @@ not_alone words none (x ∷ []) ds =
     let end : f.0 ≡ [] = operands_form f.2 in none x (subst (λ ws. OperandAt words x ws) end f.1)
 not_alone words none (x ∷ y ∷ xs) ds = let n : length (x ∷ y ∷ xs) ≡ 1 = ds.1 in absurd (omega (arith, n))
 
-pub pair_read : (words mid : List (List ℕ)) (x y : Operand) → OperandAt words x mid → OperandAt mid y [] → AreOperands (Some 2) words (x ∷ y ∷ [])
-pair_read words mid x y d e = (operand_at d (operand_at e no_operands_at), refl)
+pub two_read : (words mid : List (List ℕ)) (x y : Operand) → OperandAt words x mid → OperandAt mid y [] → OperandsAt words (x ∷ y ∷ [])
+two_read words mid x y d e = operand_at d (operand_at e no_operands_at)
 
-pub no_second : (words mid : List (List ℕ)) (first : Operand) → OperandAt words first mid → ((x : Operand) → ¬ OperandAt mid x []) → (xs : List Operand) → ¬ AreOperands (Some 2) words xs
-no_second words mid first d none [] ds = absurd (cc ds.1)
-no_second words mid first d none (x ∷ []) ds = let n : length (x ∷ []) ≡ 2 = ds.1 in absurd (omega (arith, n))
-no_second words mid first d none (x ∷ y ∷ []) ds =
-    let f : OperandsForm words (x ∷ y ∷ []) = operands_form ds.0 in
+pub no_two : (words : List (List ℕ)) → NoneAt OperandAt words → (x y : Operand) → ¬ OperandsAt words (x ∷ y ∷ [])
+no_two words none x y ds = let f : OperandsForm words (x ∷ y ∷ []) = operands_form ds in none x f.0 f.1
+
+pub not_two : (words mid : List (List ℕ)) (first : Operand) → OperandAt words first mid → ((x : Operand) → ¬ OperandAt mid x []) → (x y : Operand) → ¬ OperandsAt words (x ∷ y ∷ [])
+not_two words mid first d none x y ds =
+    let f : OperandsForm words (x ∷ y ∷ []) = operands_form ds in
     let g : OperandsForm f.0 (y ∷ []) = operands_form f.2 in
     let end : g.0 ≡ [] = operands_form g.2 in
     none y (subst (λ ws. OperandAt ws y []) (sym (one_operand words first x mid f.0 d f.1).1) (subst (λ ws. OperandAt f.0 y ws) end g.1))
-no_second words mid first d none (x ∷ y ∷ z ∷ xs) ds = let n : length (x ∷ y ∷ z ∷ xs) ≡ 2 = ds.1 in absurd (omega (arith, n))
+
+not_pair : (words : List (List ℕ)) → ((x y : Operand) → ¬ OperandsAt words (x ∷ y ∷ [])) → (xs : List Operand) → ¬ AreOperands (Some 2) words xs
+not_pair words none [] ds = absurd (cc ds.1)
+not_pair words none (x ∷ []) ds = let n : length (x ∷ []) ≡ 2 = ds.1 in absurd (omega (arith, n))
+not_pair words none (x ∷ y ∷ []) ds = none x y ds.0
+not_pair words none (x ∷ y ∷ z ∷ xs) ds = let n : length (x ∷ y ∷ z ∷ xs) ≡ 2 = ds.1 in absurd (omega (arith, n))
 
 -- all words are these operands and others, if the words from now on are the others
 pub record Listed (start : List (List ℕ)) (xs : List Operand) (now : List (List ℕ)) : Type 0 where
@@ -338,11 +348,11 @@ module _ (words after : List (List ℕ)) (o : BinaryOperator) (d : OneWord (IsTe
   binary_at_front : HeadAt (codes "binary" ∷ words) (binary_head o) after
   binary_at_front = binary_read (codes "binary") words (binary_head o) o after refl d refl
 
-  pub binary_call : (xs : List Operand) → AreOperands (Some 2) after xs → IsCall (codes "binary" ∷ words) (called (a_binary o) None xs)
-  binary_call xs e = (after, binary_at_front, e.0, e.1)
+  pub binary_call : (x y : Operand) → OperandsAt after (x ∷ y ∷ []) → IsCall (codes "binary" ∷ words) (called (a_binary o) None (x ∷ y ∷ []))
+  binary_call x y e = (after, binary_at_front, e, refl)
 
-  pub no_binary_operands : ((xs : List Operand) → ¬ AreOperands (Some 2) after xs) → (c : WgslCall) → ¬ IsCall (codes "binary" ∷ words) c
-  no_binary_operands none = no_operands_no_call (codes "binary" ∷ words) after (a_binary o) None (Some 2) binary_at_front refl none
+  pub no_binary_operands : ((x y : Operand) → ¬ OperandsAt after (x ∷ y ∷ [])) → (c : WgslCall) → ¬ IsCall (codes "binary" ∷ words) c
+  no_binary_operands none = no_operands_no_call (codes "binary" ∷ words) after (a_binary o) None (Some 2) binary_at_front refl (not_pair after none)
 
 module _ (words after : List (List ℕ)) (name : List ℕ) (p : Option (List Parameter)) (d : NamedAt words (name, p) after) where
   named_at_front : (by : Named) → HeadAt (command_of by ∷ words) (callee_named by name, p) after

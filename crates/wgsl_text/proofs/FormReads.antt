@@ -20,7 +20,7 @@ use Rattle.wgsl_text.specs.internal.Formed.{ReadsForm}
 use Rattle.wgsl_text.specs.declared.wanted.Misfit.{Misfit}
 use Rattle.wgsl_core.specs.declared.error.Fail.{Fail}
 use Rattle.wgsl_text.proofs.Readers.{answers_by}
-use Rattle.wgsl_text.proofs.CallReads.{OperandsForm, no_operand, no_second, one_operand, operands_form}
+use Rattle.wgsl_text.proofs.CallReads.{OperandsForm, no_operand, one_operand, operands_form}
 use Rattle.wgsl_text.proofs.FormWords.{AreTwo, Assigned, Declared, FormOf, IsConstruct, IsNamed, IsOperand, IsSwitch, IsValueOf, IsVariable, Whole, behind, no_colon_operand, no_underscore, of_variable}
 use Rattle.wgsl_text.proofs.OneType.{one_type}
 
@@ -215,12 +215,6 @@ module _ (words : List (List ℕ)) (m : SaidMemory) (said : said_memory words �
 
   pub no_variable_value : (after : List (List ℕ)) (word : List ℕ) → m.after ≡ word ∷ after → word ≢ codes ":" → ((x : Operand) (t : Option WgslType) → ¬ IsValue (word ∷ after) x t) → (f : WgslForm) → ¬ IsForm Var words f
   no_variable_value after word are other none = no_variable (no_initial_value (λ p. initialized_of m.space m.access p.0 p.1) (λ t. variable_of m.space m.access t) m.after after word are other none)
-
-pub no_two : (words : List (List ℕ)) → ((x : Operand) (rest : List (List ℕ)) → OperandAt words x rest → ⊥) → (x y : Operand) → ¬ OperandsAt words (x ∷ y ∷ [])
-no_two words none x y ds = let g : OperandsForm words (x ∷ y ∷ []) = operands_form ds in none x g.0 g.1
-
-pub not_two : (words after : List (List ℕ)) (first : Operand) → OperandAt words first after → ((y : Operand) → ¬ OperandAt after y []) → (x y : Operand) → ¬ OperandsAt words (x ∷ y ∷ [])
-not_two words after first d none x y ds = no_second words after first d none (x ∷ y ∷ []) (ds, refl)
 
 -- a word is no other
 pub other_word : (word key : List ℕ) → false ≡ bytes_eq word key → word ≢ key

@@ -8,8 +8,7 @@ ghost use Rattle.wgsl_text.specs.internal.Taken.{left};
 
 use crate::form::WrittenForm;
 use crate::form_command::FormCommand;
-use crate::form_words::read_two_operands;
-use crate::operand::read_last_operand;
+use crate::operand::{read_last_operand, read_two_operands};
 use crate::wanted::{Misfit, Wanted};
 use crate::words::Words;
 use std::alloc::Global;
@@ -60,22 +59,13 @@ fn assignment_named(word: &str) -> Option<AssignmentOperator>
     }
 }
 
-/// `X`.
+/// `X`, of `increment` and `decrement`.
 pub(crate) fn read_increment<'t>(
     alloc: Global,
     words: &mut Words<'t>,
 ) -> Result<WrittenForm<'t>, Fail<Misfit>>
-    ensures { ReadsForm FormCommand.Increment written_form (left words.old) result }
-{
-    Ok(WrittenForm::Increment(read_last_operand(alloc, words)?))
-}
-
-/// `X`.
-pub(crate) fn read_decrement<'t>(
-    alloc: Global,
-    words: &mut Words<'t>,
-) -> Result<WrittenForm<'t>, Fail<Misfit>>
-    ensures { ReadsForm FormCommand.Decrement written_form (left words.old) result }
+    ensures increment { ReadsForm FormCommand.Increment written_form (left words.old) result }
+    ensures decrement { ReadsForm FormCommand.Decrement written_form (left words.old) result }
 {
     Ok(WrittenForm::Increment(read_last_operand(alloc, words)?))
 }

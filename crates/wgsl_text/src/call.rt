@@ -14,7 +14,7 @@ ghost use Rattle.wgsl_text.specs.internal.Taken.{left};
 ghost use Rattle.wgsl_text.specs.internal.Written.{Adds};
 
 use crate::command::{binary_operator, unary_operator, write_answer_to};
-use crate::operand::{WrittenOperand, read_last_operand, read_operand_pair, read_operands};
+use crate::operand::{WrittenOperand, read_last_operand, read_operands, read_two_operands};
 use crate::overloaded::write_type_of;
 use crate::rules::RuleSet;
 use crate::template::read_template;
@@ -139,8 +139,8 @@ fn binary(
         (string_bytes text.old) (string_bytes text.new) result }
 {
     let operator = read_binary_operator(words)?;
-    let pair = read_operand_pair(alloc, words)?;
-    let operands = [pair[0].borrowed(), pair[1].borrowed()];
+    let pair = read_two_operands(alloc, words)?;
+    let operands = [pair.0.borrowed(), pair.1.borrowed()];
     let written = write_answer_on(
         alloc,
         question,

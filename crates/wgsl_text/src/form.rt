@@ -9,7 +9,7 @@ ghost use Rattle.wgsl_text.specs.internal.Formed.{ReadsForm, WritesOfForm, value
 ghost use Rattle.wgsl_text.specs.internal.Taken.{left};
 ghost use Rattle.wgsl_text.specs.internal.Written.{Adds};
 
-use crate::assignment::{read_assignment, read_decrement, read_increment};
+use crate::assignment::{read_assignment, read_increment};
 use crate::call::borrowed;
 use crate::command::write_answer_to;
 use crate::form_command::FormCommand;
@@ -127,8 +127,7 @@ fn read_form<'t>(
         FormCommand::Load => read_load(alloc, words),
         FormCommand::Declare(declaration) => read_declaration(alloc, declaration, words),
         FormCommand::Assign => read_assignment(alloc, words),
-        FormCommand::Increment => read_increment(alloc, words),
-        FormCommand::Decrement => read_decrement(alloc, words),
+        FormCommand::Increment | FormCommand::Decrement => read_increment(alloc, words),
         FormCommand::Construct => read_construct(alloc, words),
         FormCommand::Switch => read_switch(alloc, words),
         FormCommand::Var => read_variable(alloc, words),

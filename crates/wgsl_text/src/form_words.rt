@@ -2,17 +2,15 @@
 ghost use Rattle.std.specs.Prelude.{◌≡◌, ◌≢◌, ◌∷◌, [], ℕ, List, Option};
 ghost use Rattle.wgsl_rules.specs.standard.Choice.{Operand as WgslOperand};
 ghost use Rattle.wgsl_rules.specs.types.Types.{WgslType};
-ghost use Rattle.wgsl_text.specs.Calls.{OperandsAt};
 ghost use Rattle.wgsl_text.specs.Forms.{IsForm, IsValue};
 ghost use Rattle.wgsl_text.specs.Reading.{Answers};
-ghost use Rattle.wgsl_text.specs.internal.Asked.{operand_view};
 ghost use Rattle.wgsl_text.specs.internal.Formed.{ReadsForm, written_form};
 ghost use Rattle.wgsl_text.specs.internal.Taken.{left};
 
 use crate::form::WrittenForm;
 use crate::form_command::FormCommand;
 use crate::initializer::read_value;
-use crate::operand::{WrittenOperand, read_last_operand, read_next_operand};
+use crate::operand::{read_last_operand, read_next_operand, read_two_operands};
 use crate::read::read_last_type;
 use crate::rules::RuleSet;
 use crate::wanted::{Misfit, Wanted};
@@ -60,25 +58,6 @@ pub(crate) fn read_index<'t>(
 {
     let (x, index) = read_two_operands(alloc, words)?;
     Ok(WrittenForm::Index(x, index))
-}
-
-/// The two operands that the words that are left stand for.
-pub(crate) fn read_two_operands(
-    alloc: Global,
-    words: &mut Words,
-) -> Result<(WrittenOperand, WrittenOperand), Fail<Misfit>>
-    ensures { Answers (λ both. OperandsAt (left words.old)
-        (operand_view both.0 ∷ operand_view both.1 ∷ []))
-        ((x y : WgslOperand) → ¬ OperandsAt (left words.old) (x ∷ y ∷ [])) result }
-{
-    let first = read_next_operand(alloc, words)?;
-    match read_last_operand(alloc, words) {
-        Ok(second) => Ok((first, second)),
-        Err(fail) => {
-            drop(first);
-            Err(fail)
-        }
-    }
 }
 
 /// `X`.

@@ -13,7 +13,7 @@ ghost use Rattle.wgsl_requests.specs.StandardViews.{written_view};
 ghost use Rattle.wgsl_text.specs.Calls.{OperandAt, OperandsAt};
 ghost use Rattle.wgsl_text.specs.Grammar.{TypeAt};
 ghost use Rattle.wgsl_text.specs.Reading.{Answers, Reads};
-ghost use Rattle.wgsl_text.specs.internal.Asked.{AreOperands, IsNoScalar, operand_view, plain_there, type_view};
+ghost use Rattle.wgsl_text.specs.internal.Asked.{IsNoScalar, operand_view, plain_there, type_view};
 ghost use Rattle.wgsl_text.specs.internal.Layers.{InsideAt, OtherAt};
 ghost use Rattle.wgsl_text.specs.internal.Taken.{GoesOn, left};
 
@@ -106,15 +106,16 @@ pub(crate) fn read_operands(
 
 /// The two operands in the remaining words.
 #[inline(always)]
-pub(crate) fn read_operand_pair(
+pub(crate) fn read_two_operands(
     alloc: Global,
     words: &mut Words,
-) -> Result<[WrittenOperand; 2], Fail<Misfit>>
-    ensures { Answers (λ xs. AreOperands (Some 2) (left words.old) (map operand_view xs))
-        ((xs : List WgslOperand) → ¬ AreOperands (Some 2) (left words.old) xs) result }
+) -> Result<(WrittenOperand, WrittenOperand), Fail<Misfit>>
+    ensures { Answers (λ both. OperandsAt (left words.old)
+        (operand_view both.0 ∷ operand_view both.1 ∷ []))
+        ((x y : WgslOperand) → ¬ OperandsAt (left words.old) (x ∷ y ∷ [])) result }
 {
     let first = read_next_operand(alloc, words)?;
-    Ok([first, read_last_operand(alloc, words)?])
+    Ok((first, read_last_operand(alloc, words)?))
 }
 
 /// The operand in the remaining words.

@@ -71,7 +71,3 @@ asked questions.Explanation = explanation_of
 abbrev pub WritesOfCall : (WgslCall → Request) → List (List ℕ) → List ℕ → List ℕ → Result TextKind (Fail Misfit) → Type 0
 WritesOfCall ask words old new r =
     Answers (λ kind. (c : WgslCall) × IsCall words c × Adds (IsAnswer (ask c) kind) old new) ((c : WgslCall) → ¬ IsCall words c) r
-
--- the words are as many operands as are taken
-abbrev pub AreOperands : Option ℕ → List (List ℕ) → List Operand → Type 0
-AreOperands arity words xs = OperandsAt words xs × HasArity arity xs
