@@ -1,12 +1,15 @@
 -- Words stand for at most one thing.
-use Rattle.std.proofs.Common.{◌≡◌, ◌≢◌, ℕ, Bool, true, false, cond, List, [], ◌∷◌, Option, Some, None, codes, refl, sym, ap, subst, ◌∙◌, arith}
+use Rattle.std.proofs.Common.{◌≡◌, ◌≢◌, ◌↔◌, ℕ, Bool, true, false, cond, List, [], ◌∷◌, Option, Some, None, codes, refl, sym, ap, subst, ◌∙◌, arith}
 use Rattle.std.specs.Bool.{MatchBool}
 use Rattle.std.specs.Option.{MatchOption}
 use Rattle.std.specs.Str.{bytes_eq}
 use Rattle.std.specs.Str.Parse.{IsNumeral}
 use Rattle.std.proofs.lemmas.Slice.Eq.{bytes_eq-Decides}
+use Rattle.wgsl_syntax.specs.Address.{space_text, spaces}
 use Rattle.wgsl_syntax.specs.Attribute.{flag_text}
 use Rattle.wgsl_syntax.specs.Names.{named, table}
+use Rattle.wgsl_syntax.specs.declared.address.AddressSpace.{AddressSpace}
+use Rattle.wgsl_syntax.specs.declared.address.AddressSpace.TheVariants as space
 use Rattle.wgsl_syntax.specs.declared.attribute.AccelerationStructureFlags.{AccelerationStructureFlags}
 use Rattle.wgsl_syntax.specs.declared.attribute.AccelerationStructureFlags.TheVariants.{VertexReturn}
 use Rattle.wgsl_syntax.proofs.Naming.{flag_naming}
@@ -159,3 +162,16 @@ none_first rest v false e later = later
 pub named_none : {A : Type 0} (text : A → List ℕ) (values : List A) (s : List ℕ) → ((x : A) → s ≡ text x → ⊥) → named (table text values) s ≡ None
 named_none text [] s none = refl
 named_none text (v ∷ values) s none = none_first (named (table text values) s) v (bytes_eq s (text v)) (not_eq s (text v) (none v)) (named_none text values s none)
+
+-- what is found exactly for a text is what the table has for it
+named_exactly : {A : Type 0} (text : A → List ℕ) (values : List A) → ((x : A) → named (table text values) (text x) ≡ Some x) → (s : List ℕ) (found : Option A) → ((x : A) → (found ≡ Some x) ↔ (s ≡ text x)) →
+    found ≡ named (table text values) s
+named_exactly text values back s (Some x) exact = sym (ap (named (table text values)) ((exact x).0 refl) ∙ back x)
+named_exactly text values back s None exact = sym (named_none text values s (λ x e. let none : None ≡ Some x = (exact x).1 e in cc none))
+
+space_back : (x : AddressSpace) → named (table space_text spaces) (space_text x) ≡ Some x
+space_back space.Function = refl
+space_back _ = refl
+
+pub space_found : (s : List ℕ) (found : Option AddressSpace) → ((x : AddressSpace) → (found ≡ Some x) ↔ (s ≡ space_text x)) → found ≡ named (table space_text spaces) s
+space_found = named_exactly space_text spaces space_back

@@ -39,7 +39,7 @@ command_text Switch = codes "switch"
 command_text Var = codes "var"
 
 -- the value that the first word names, if it names one, and the words after it
-abbrev first_or : {A : Type 0} → Option A → List ℕ → List (List ℕ) → Option A × List (List ℕ)
+abbrev pub first_or : {A : Type 0} → Option A → List ℕ → List (List ℕ) → Option A × List (List ℕ)
 first_or (Some x) word words = (Some x, words)
 first_or None word words = (None, word ∷ words)
 

@@ -55,10 +55,7 @@ fn answer_address(
 }
 
 /// An operand, and whether it is said to be a reference to a component.
-fn read_addressed(
-    alloc: Global,
-    words: &mut Words,
-) -> Result<(WrittenOperand, bool), Fail<Misfit>>
+fn read_addressed(alloc: Global, words: &mut Words) -> Result<(WrittenOperand, bool), Fail<Misfit>>
     ensures { Answers (λ read. IsAddressed (left words.old) (operand_view read.0) read.1)
         ((x : WgslOperand) (is_component : «Bool») → ¬ IsAddressed (left words.old) x is_component) result }
 {

@@ -1,11 +1,14 @@
 // The layers around a type that words stand for.
+ghost use Rattle.std.specs.Prelude.{◌≡◌, ◌↔◌, Some};
 ghost use Rattle.wgsl_syntax.specs.Address.{access_text, space_text};
+ghost use Rattle.wgsl_syntax.specs.declared.address.AddressSpace.{AddressSpace};
 ghost use Rattle.wgsl_text.specs.Reading.{IsText, OneWord, Reads, ReadsWord, Then};
 ghost use Rattle.wgsl_text.specs.internal.Layers.{ReadsLayer};
 ghost use Rattle.wgsl_text.specs.internal.Taken.{GoesOn, left};
 
 use crate::wanted::{Misfit, Wanted};
 use crate::words::{Words, parsed};
+use std::str::FromStr;
 use wgsl_types::error::Fail;
 use wgsl_types::syntax::{AccessMode, AddressSpace, Around};
 
@@ -54,9 +57,19 @@ fn read_memory(words: &mut Words) -> Result<(AddressSpace, AccessMode), Fail<Mis
 fn space(word: &str) -> Result<AddressSpace, Fail<Misfit>>
     ensures { ReadsWord (IsText space_text) word.now result }
 {
-    match word {
-        "handle" => Ok(AddressSpace::Handle),
-        _ => parsed(word, Wanted::AddressSpace),
+    match space_named(word) {
+        Some(space) => Ok(space),
+        None => Err(Fail::Error(Misfit::Wrong(Wanted::AddressSpace))),
+    }
+}
+
+/// The address space of this name, which may be `handle`.
+pub(crate) fn space_named(name: &str) -> Option<AddressSpace>
+    ensures { (s : AddressSpace) → (result ≡ Some s) ↔ (name.now ≡ space_text s) }
+{
+    match name {
+        "handle" => Some(AddressSpace::Handle),
+        _ => AddressSpace::from_str(name).ok(),
     }
 }
 

@@ -9,6 +9,7 @@ ghost use Rattle.wgsl_text.specs.internal.Taken.{left};
 use crate::form::WrittenForm;
 use crate::form_command::FormCommand;
 use crate::initializer::read_value;
+use crate::outer::space_named;
 use crate::read::read_last_type;
 use crate::rules::RuleSet;
 use crate::wanted::{Misfit, Wanted};
@@ -56,21 +57,6 @@ fn space_if_any(words: &mut Words) -> Option<AddressSpace>
     }
     *words = before;
     None
-}
-
-fn space_named(word: &str) -> Option<AddressSpace>
-    ensures { result ≡ named (table space_text spaces) word.now }
-{
-    match word {
-        "function" => Some(AddressSpace::Function),
-        "private" => Some(AddressSpace::Private),
-        "workgroup" => Some(AddressSpace::Workgroup),
-        "uniform" => Some(AddressSpace::Uniform),
-        "storage" => Some(AddressSpace::Storage),
-        "handle" => Some(AddressSpace::Handle),
-        "push_constant" => Some(AddressSpace::PushConstant),
-        _ => None,
-    }
 }
 
 fn access_if_any(words: &mut Words) -> Option<AccessMode>

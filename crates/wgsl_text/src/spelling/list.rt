@@ -1,18 +1,17 @@
 // Names of types with a template list after them.
 ghost use Rattle.std.specs.Prelude.{◌↔◌, ◌≡◌, IsTrue, MatchOption, Some};
-ghost use Rattle.wgsl_syntax.specs.Address.{space_text};
 ghost use Rattle.wgsl_syntax.specs.Attribute.{flag_text};
 ghost use Rattle.wgsl_syntax.specs.Texture.{texture_name};
 ghost use Rattle.wgsl_syntax.specs.TextureName.{kind_of, parameters_of};
 ghost use Rattle.wgsl_syntax.specs.declared.attribute.AccelerationStructureFlags.{AccelerationStructureFlags};
 ghost use Rattle.wgsl_syntax.specs.declared.address.AccessMode.{AccessMode};
-ghost use Rattle.wgsl_syntax.specs.declared.address.AddressSpace.{AddressSpace};
 ghost use Rattle.wgsl_syntax.specs.declared.texel.TexelFormat.{TexelFormat};
 ghost use Rattle.wgsl_syntax.specs.declared.texture.TextureType.{TextureType};
 ghost use Rattle.wgsl_syntax.specs.declared.texture_name.TextureParameters.{TextureParameters};
 ghost use Rattle.wgsl_syntax.specs.declared.texture_name.TextureParameters.TheVariants as parameters;
 ghost use Rattle.wgsl_text.specs.spelling.internal.{AccessedOf, AreListed, AtFirst, AtLast, AtList, BeginsAsNumber, CountedOf, LayerOf, LeafSpells, MemoryOf, NumberOf, PartsOf, SidesOf, TypeOf};
 
+use crate::outer::space_named;
 use std::str::FromStr;
 use wgsl_core::ty::Type;
 use wgsl_syntax::address::{AccessMode, AddressSpace};
@@ -79,16 +78,6 @@ fn memory(list: &str) -> Option<(AddressSpace, &str, AccessMode)>
     match access {
         Some(access) => Some((space, inner, access)),
         None => Some((space, inner, space.default_access_mode())),
-    }
-}
-
-/// The address space with this name, which may be `handle`.
-fn space_named(name: &str) -> Option<AddressSpace>
-    ensures { (s : AddressSpace) → (result ≡ Some s) ↔ (name.now ≡ space_text s) }
-{
-    match name {
-        "handle" => Some(AddressSpace::Handle),
-        _ => AddressSpace::from_str(name).ok(),
     }
 }
 
