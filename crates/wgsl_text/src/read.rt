@@ -90,7 +90,7 @@ fn read_other(
 
 /// The type with this layer around what the next words stand for.
 #[cycle(reading)]
-#[inline(never)]
+#[inline(always)]
 fn read_inside(
     alloc: Global,
     rules: RuleSet,

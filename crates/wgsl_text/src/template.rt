@@ -33,7 +33,8 @@ pub fn read_template(
     }
 }
 
-/// Parameters up to `>`.
+/// Parameters up to `>`. It is not inlined, since most calls have no template.
+#[inline(never)]
 fn read_parameters(
     alloc: Global,
     rules: RuleSet,
