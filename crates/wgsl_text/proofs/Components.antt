@@ -1,5 +1,5 @@
 -- Unary operators in words, and `&` of what may be said to be a reference to a component.
-use Rattle.std.proofs.Common.{◌≡◌, ◌≢◌, ◌⊎◌, inl, inr, ℕ, Bool, true, false, List, [], ◌∷◌, codes, refl, sym, ap, subst, ◌∙◌}
+use Rattle.std.proofs.Common.{◌≡◌, ◌≢◌, inl, inr, ℕ, Bool, true, false, List, [], ◌∷◌, codes, refl, sym, ap, subst, ◌∙◌}
 use Rattle.std.specs.Prelude.{Result, Ok, Err}
 use Rattle.wgsl_syntax.specs.Operator.{unary_text}
 use Rattle.wgsl_syntax.specs.declared.operator.UnaryOperator.{UnaryOperator}
@@ -11,7 +11,6 @@ use Rattle.wgsl_core.specs.declared.error.Fail.TheVariants.{Error, Memory}
 use Rattle.wgsl_requests.specs.CallForms.{type_asked}
 use Rattle.wgsl_requests.specs.Calls.{WgslCall}
 use Rattle.wgsl_requests.specs.Forms.{address_of}
-use Rattle.wgsl_text.specs.Answers.{IsAnswer}
 use Rattle.wgsl_text.specs.Calls.{IsCall, OperandAt}
 use Rattle.wgsl_text.specs.Reading.{IsText, NoneAt, OneWord}
 use Rattle.wgsl_text.specs.Requests.{IsRequest, NoRequest, Request, component_words, form_of, type_words}
@@ -20,7 +19,6 @@ use Rattle.wgsl_text.specs.declared.wanted.Misfit.{Misfit}
 use Rattle.wgsl_text.specs.declared.write.TextKind.{TextKind}
 use Rattle.wgsl_text.specs.internal.Asked.{WritesOfCall}
 use Rattle.wgsl_text.specs.internal.Replied.{IsAddressed, Replies, WritesOfAddress}
-use Rattle.wgsl_text.specs.internal.Written.{Adds}
 use Rattle.wgsl_text.proofs.CallReads.{no_component_operand, no_operand, no_unary_call, no_unary_operand, unary_call}
 use Rattle.wgsl_text.proofs.Replied.{replied}
 use Rattle.wgsl_text.proofs.Requested.{TypeForm, request_form}

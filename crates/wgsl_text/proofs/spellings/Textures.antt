@@ -1,5 +1,5 @@
 -- Textures by their names and lists.
-use Rattle.std.proofs.Common.{◌≡◌, ◌++◌, ◌⊎◌, inl, inr, ℕ, false, List, [], ◌∷◌, Option, Some, None, codes, get_or, refl, sym, ap, subst, ◌∙◌}
+use Rattle.std.proofs.Common.{◌≡◌, ◌++◌, inl, inr, ℕ, false, List, [], ◌∷◌, Option, Some, None, codes, get_or, refl, sym, ap, subst, ◌∙◌}
 use Rattle.std.specs.Prelude.{MatchOption}
 use Rattle.std.proofs.lemmas.List.{append_assoc}
 use Rattle.wgsl_syntax.specs.Address.{access_text}

@@ -12,7 +12,7 @@ use Rattle.wgsl_standard.specs.Callees.{WgslCallee, a_constructor, a_function}
 use Rattle.wgsl_requests.specs.CallForms.{type_asked}
 use Rattle.wgsl_requests.specs.Calls.{WgslCall}
 use Rattle.wgsl_text.specs.Answers.{IsAnswer}
-use Rattle.wgsl_text.specs.Calls.{HasArity, IsCall, OperandsAt}
+use Rattle.wgsl_text.specs.Calls.{IsCall}
 use Rattle.wgsl_text.specs.Reading.{Answers, Beginning, OneWord, Then}
 use Rattle.wgsl_text.specs.Templates.{TemplateAt}
 use Rattle.wgsl_text.specs.Requests.{Request, explanation_of, resolution_of}
