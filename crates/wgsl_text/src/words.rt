@@ -1,5 +1,5 @@
 // The words of a command, consumed one after another.
-ghost use Rattle.std.specs.Prelude.{◌≡◌, ◌<◌, ◌≤◌, ◌∷◌, ◌↔◌, [], All, Err, IsTrue, IsUtf8, MatchOption, MatchResult, Ok, OnOk, OnSome, drop, length, slice_index};
+ghost use Rattle.std.specs.Prelude.{◌≡◌, ◌≢◌, ◌<◌, ◌≤◌, ◌∷◌, ◌↔◌, ◌⊎◌, [], All, Err, IsTrue, IsUtf8, MatchOption, MatchResult, Ok, OnOk, OnSome, drop, length, slice_index};
 ghost use Rattle.std.specs.Str.{IsCharBoundary};
 ghost use Rattle.wgsl_text.specs.Numbers.{IsAttribute, IsCount, IsLong, IsMedium, IsSmall};
 ghost use Rattle.wgsl_text.specs.Reading.{Answers, OneWord, Reads, ReadsWord};
@@ -114,10 +114,7 @@ impl<'t> Words<'t> {
 pub fn number(word: &str, wanted: Wanted) -> Result<u64, Fail<Misfit>>
     ensures { ReadsWord IsLong word.now result }
 {
-    if begins_with_plus(word) {
-        return Err(Fail::Error(Misfit::Wrong(wanted)));
-    }
-    parsed(word, wanted)
+    parsed_number(word, wanted)
 }
 
 /// Whether the word begins with a plus, which `parse` reads and no number of a request has.
@@ -128,23 +125,31 @@ pub fn begins_with_plus(word: &str) -> bool
     !bytes.is_empty() && bytes[0] == b'+'
 }
 
+/// What a number is read as, which has no plus in front.
+#[inline(always)]
+pub(crate) fn parsed_number<T: FromStr>(word: &str, wanted: Wanted) -> Result<T, Fail<Misfit>>
+where
+    T::Err: Drop,
+    ensures { Answers (λ x. (slice_index word.now 0 ≢ 43) × T.from_str_gives word.now (Ok x))
+        ((slice_index word.now 0 ≡ 43) ⊎ ((e : T.Err) × T.from_str_gives word.now (Err e))) result }
+{
+    if begins_with_plus(word) {
+        return Err(Fail::Error(Misfit::Wrong(wanted)));
+    }
+    parsed(word, wanted)
+}
+
 fn small(word: &str, wanted: Wanted) -> Result<u8, Fail<Misfit>>
     ensures { ReadsWord IsSmall word.now result }
 {
-    match u8::try_from(number(word, wanted)?) {
-        Ok(small) => Ok(small),
-        Err(_) => Err(Fail::Error(Misfit::Wrong(wanted))),
-    }
+    parsed_number(word, wanted)
 }
 
 /// A number of at most 32 bits.
 pub fn medium(word: &str, wanted: Wanted) -> Result<u32, Fail<Misfit>>
     ensures { ReadsWord IsMedium word.now result }
 {
-    match u32::try_from(number(word, wanted)?) {
-        Ok(medium) => Ok(medium),
-        Err(_) => Err(Fail::Error(Misfit::Wrong(wanted))),
-    }
+    parsed_number(word, wanted)
 }
 
 fn count(word: &str) -> Result<Option<usize>, Fail<Misfit>>
@@ -153,10 +158,7 @@ fn count(word: &str) -> Result<Option<usize>, Fail<Misfit>>
     if word == "*" {
         return Ok(None);
     }
-    match usize::try_from(number(word, Wanted::Elements)?) {
-        Ok(count) => Ok(Some(count)),
-        Err(_) => Err(Fail::Error(Misfit::Wrong(Wanted::Elements))),
-    }
+    Ok(Some(parsed_number(word, Wanted::Elements)?))
 }
 
 fn attribute(word: &str, wanted: Wanted) -> Result<Option<u32>, Fail<Misfit>>
