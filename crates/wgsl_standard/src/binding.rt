@@ -54,7 +54,6 @@ pub fn bind(concrete: bool, binding: &mut Binding, pattern: &Pattern, operand: &
 }
 
 /// `bind` for an operand that is a scalar, a vector or a matrix.
-#[inline(always)]
 fn bind_value(
     concrete: bool,
     binding: &mut Binding,
