@@ -1,9 +1,9 @@
 // The types that forms return, without allocating them.
-ghost use Rattle.std.specs.Prelude.{◌≡◌, IfOk};
+ghost use Rattle.std.specs.Prelude.{◌≡◌, IfOk, Some};
 ghost use Rattle.wgsl_core.specs.View.{view};
 ghost use Rattle.wgsl_rules.specs.types.Types.{within};
 ghost use Rattle.wgsl_standard.specs.Operands.{given_type};
-ghost use Rattle.wgsl_forms.specs.Views.{element_view, form_type_view, unbuilt_view};
+ghost use Rattle.wgsl_forms.specs.Views.{element_view, form_type_view, unbuilt_view, viewed};
 
 use crate::concrete::ConcreteType;
 use std::alloc::{AllocError, Global};
@@ -113,21 +113,33 @@ impl<'a> UnbuiltType<'a> {
 
 impl<'a> UnbuiltType<'a> {
     /// Builds the type in memory.
+    #[inline(always)]
     pub fn build(self, alloc: Global) -> Result<Type, AllocError>
         ensures { IfOk result (λ t. view t ≡ unbuilt_view self.entry) }
     {
-        let element = self.element.build(alloc)?;
         match self.layer {
-            None => Ok(element),
-            Some(Layer::Array(count)) => Type::array(alloc, count, element),
-            Some(Layer::Vec(components)) => Type::vector(alloc, components, element),
-            Some(Layer::Mat(columns, rows)) => Type::matrix(alloc, columns, rows, element),
+            None => self.element.build(alloc),
+            Some(layer) => layer_around(alloc, layer, self.element),
         }
+    }
+}
+
+/// Builds the type with the layer around an element.
+#[inline(never)]
+fn layer_around(alloc: Global, layer: Layer, element: Element<'_>) -> Result<Type, AllocError>
+    ensures { IfOk result (λ t. view t ≡ within layer (element_view element.entry)) }
+{
+    let element = element.build(alloc)?;
+    match layer {
+        Layer::Array(count) => Type::array(alloc, count, element),
+        Layer::Vec(components) => Type::vector(alloc, components, element),
+        Layer::Mat(columns, rows) => Type::matrix(alloc, columns, rows, element),
     }
 }
 
 impl<'a> Element<'a> {
     /// Builds the type in memory.
+    #[inline(always)]
     pub fn build(self, alloc: Global) -> Result<Type, AllocError>
         ensures { IfOk result (λ t. view t ≡ element_view self.entry) }
     {
@@ -149,20 +161,27 @@ impl<'a> FormType<'a> {
     }
 
     /// Builds the type in memory.
+    #[inline(always)]
     pub fn build(self, alloc: Global) -> Result<Type, AllocError>
         ensures { IfOk result (λ t. view t ≡ form_type_view self.entry) }
     {
-        let of = self.of.build(alloc)?;
         match self.memory {
-            None => Ok(of),
-            Some(MemoryView::Reference(space, access)) => {
-                Ok(Type::Ref(space, Box::new(alloc, of)?, access))
-            }
-            Some(MemoryView::Pointer(space, access)) => {
-                Ok(Type::Ptr(space, Box::new(alloc, of)?, access))
-            }
+            None => self.of.build(alloc),
+            Some(memory) => memory_view(alloc, memory, self.of.build(alloc)?),
         }
     }
+}
+
+/// The reference or the pointer to a type.
+#[inline(never)]
+fn memory_view(alloc: Global, memory: MemoryView, of: Type) -> Result<Type, AllocError>
+    ensures { IfOk result (λ t. view t ≡ viewed (Some memory) (view of)) }
+{
+    let of = Box::new(alloc, of)?;
+    Ok(match memory {
+        MemoryView::Reference(space, access) => Type::Ref(space, of, access),
+        MemoryView::Pointer(space, access) => Type::Ptr(space, of, access),
+    })
 }
 
 impl fmt::Display for Element<'_> {
