@@ -1,13 +1,15 @@
--- A type without elements has none when it is made concrete.
-use Rattle.std.proofs.Common.{◌≡◌, Option, Some, None, Bool, true, false, cond, refl}
+-- A type without elements has none when it is made concrete, and one that isn't abstract stays.
+use Rattle.std.proofs.Common.{◌≡◌, Option, Some, None, Bool, true, false, not, ◌||◌, cond, refl, sym}
 use Rattle.wgsl_syntax.specs.declared.scalar.Scalar.{Scalar}
 use Rattle.wgsl_syntax.specs.declared.scalar.Scalar.TheVariants.{AbstractInt, AbstractFloat}
 use Rattle.wgsl_syntax.specs.declared.result_struct.ResultFunction.{ResultFunction}
 use Rattle.wgsl_syntax.specs.declared.result_struct.ResultShape.{ResultShape}
-use Rattle.wgsl_rules.specs.types.Types.{array_of, vec_of, mat_of, WgslType, scalar, within, struct}
+use Rattle.wgsl_rules.specs.types.Types.{array_of, vec_of, mat_of, WgslType, scalar, within, struct, pointer, reference}
 use Rattle.wgsl_rules.specs.types.ResultStructs.{result_struct}
-use Rattle.wgsl_forms.specs.Concrete.{concrete_of, concrete_result, abstract_result}
+use Rattle.wgsl_forms.specs.Concrete.{concrete_of, concrete_result, abstract_result, has_abstract_type}
 use Rattle.wgsl_forms.specs.Index.{element_of}
+use Rattle.wgsl_forms.specs.Memory.{behind, is_memory}
+use Rattle.wgsl_forms.proofs.ConcreteTypes.{makes_concrete}
 
 none_in_result : (t : WgslType) (r : Option (ResultFunction × ResultShape)) → element_of t ≡ None → element_of (concrete_result t r) ≡ None
 unfolding result_struct
@@ -30,3 +32,14 @@ none_in_concrete t e = e
 pub none_stays : (stays : Bool) (t : WgslType) → element_of t ≡ None → element_of (cond stays t (concrete_of t)) ≡ None
 none_stays true t e = e
 none_stays false t e = none_in_concrete t e
+
+stays_value : (t u : WgslType) (a c : Bool) → (a ≡ false → u ≡ t) → cond (not a || c) t u ≡ cond c t u
+stays_value t u true c h = refl
+stays_value t u false true h = refl
+stays_value t u false false h = sym (h refl)
+
+-- memory has no abstract type, and what has none is the same when it is made concrete
+pub stays_abstract : (t : WgslType) (c : Bool) → cond (not (has_abstract_type t) || c) (behind t) (concrete_of (behind t)) ≡ cond (is_memory t || c) (behind t) (concrete_of (behind t))
+stays_abstract (reference s t a) c = refl
+stays_abstract (pointer s t a) c = refl
+stays_abstract t c = stays_value t (concrete_of t) (has_abstract_type t) c (makes_concrete t).1

@@ -12,3 +12,5 @@ pub mod MemberTypes
 pub mod Loads
 pub mod CommonElements
 pub mod OnlyAnswers
+pub mod Letters
+pub mod References

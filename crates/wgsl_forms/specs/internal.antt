@@ -1,3 +1,5 @@
 pub mod Results
 pub mod Parts
 pub mod Values
+pub mod References
+pub mod Letters

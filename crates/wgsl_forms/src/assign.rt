@@ -17,7 +17,7 @@ ghost use Rattle.wgsl_forms.specs.internal.Values.{result_value as value_there};
 use crate::concrete::has_abstract_type;
 use crate::convert::{converts, has_layer, has_scalar};
 use crate::form::UnbuiltType;
-use crate::kinds::is_constructible;
+use crate::kinds::operand_is_constructible;
 use crate::load::load_type;
 use crate::refusal::Refusal;
 use wgsl_core::ty::Type;
@@ -35,6 +35,7 @@ use wgsl_syntax::scalar::Scalar;
 
 /// The type to which `x = y` writes: that of what `x` refers to (WGSL, "Simple Assignment"). Refused, in this order, by
 /// `NotReference`, `NotWrite`, `NotConstructible`, the load of `y`, `WriteRefType`.
+#[inline(always)]
 pub fn assign<'a>(x: &Operand<'a>, y: &Operand<'a>) -> Result<&'a Type, Refusal<'a>>
     ensures { answer_view (λ t. view t.now) result
         ≡ assigned (given_type x.now.ty) (given_type y.now.ty) }
@@ -45,6 +46,7 @@ pub fn assign<'a>(x: &Operand<'a>, y: &Operand<'a>) -> Result<&'a Type, Refusal<
     }
 }
 
+#[inline(always)]
 fn assign_type<'a>(x: &'a Type, y: OperandType<'a>) -> Result<&'a Type, Refusal<'a>>
     ensures { answer_view (λ t. view t.now) result ≡ assigned (view x.now) (given_type y.entry) }
 {
@@ -54,6 +56,7 @@ fn assign_type<'a>(x: &'a Type, y: OperandType<'a>) -> Result<&'a Type, Refusal<
     }
 }
 
+#[inline(always)]
 fn assign_to<'a>(
     stored: &'a Type,
     access: AccessMode,
@@ -65,13 +68,14 @@ fn assign_to<'a>(
     if !access.is_write() {
         return Err(Refusal::NotWrite);
     }
-    if !is_constructible(stored) {
+    if !operand_is_constructible(OperandType::of(stored)) {
         return Err(Refusal::NotConstructible(UnbuiltType::of_type(stored)));
     }
     let loaded = load_type(y)?;
     write_to(stored, loaded)
 }
 
+#[inline(always)]
 fn write_to<'a>(stored: &'a Type, value: OperandType<'a>) -> Result<&'a Type, Refusal<'a>>
     ensures { answer_view (λ t. view t.now) result
         ≡ written (view stored.now) (given_type value.entry) }

@@ -17,6 +17,7 @@ use wgsl_syntax::overload::Dimensions;
 use wgsl_syntax::scalar::Scalar;
 
 /// Whether the type of an operand converts to a type (WGSL, "Conversion Rank").
+#[inline(always)]
 #[tactic(auto, using(crate::specs::Convert::converts_decides))]
 pub fn converts(from: OperandType<'_>, to: &Type) -> bool
     ensures { result ≡ converts_there (given_type from.entry) (view to.now) }
@@ -24,6 +25,7 @@ pub fn converts(from: OperandType<'_>, to: &Type) -> bool
     is_convertible(from, to)
 }
 
+#[inline(always)]
 fn is_convertible(from: OperandType<'_>, to: &Type) -> bool
     ensures { IsTrue result ↔ ConvertsTo (given_type from.entry) (view to.now) }
 {
@@ -33,6 +35,7 @@ fn is_convertible(from: OperandType<'_>, to: &Type) -> bool
     }
 }
 
+#[inline(always)]
 fn value_converts(dimensions: Dimensions, scalar: Scalar, to: &Type) -> bool
     ensures { IsTrue result ↔ ConvertsTo (type_with dimensions scalar) (view to.now) }
 {

@@ -11,14 +11,16 @@ use wgsl_standard::operand::{Operand, OperandType};
 
 /// Whether the operand is a const-expression: it is marked as one, or its type is abstract. A reference or a pointer
 /// never is one.
+#[inline(always)]
 pub fn is_const_expression(x: &Operand<'_>) -> bool
     ensures { result ≡ const_expression (given x.now) }
 {
     (x.is_constant || has_abstract_operand_type(x.ty)) && behind(x.ty).memory.is_none()
 }
 
+/// Whether the type of an operand is abstract.
 #[inline(always)]
-fn has_abstract_operand_type(ty: OperandType<'_>) -> bool
+pub(crate) fn has_abstract_operand_type(ty: OperandType<'_>) -> bool
     ensures { result ≡ abstract_type (given_type ty.entry) }
 {
     match ty {

@@ -1,25 +1,24 @@
 // Indexes into vectors, matrices and arrays.
-ghost use Rattle.std.specs.Prelude.{◌≡◌, ◌&&◌, ◌||◌, cond, is_some, option_map};
+ghost use Rattle.std.specs.Prelude.{◌≡◌, ◌&&◌, ◌||◌, cond, is_some, not, option_map};
 ghost use Rattle.wgsl_rules.specs.types.Types.{mat, scalar as scalar_type};
 ghost use Rattle.wgsl_rules.specs.standard.Overloads.{type_with};
 ghost use Rattle.wgsl_core.specs.View.{view};
 ghost use Rattle.wgsl_standard.specs.Operands.{given_type};
-ghost use Rattle.wgsl_forms.specs.Concrete.{concrete_of};
+ghost use Rattle.wgsl_forms.specs.Concrete.{concrete_of, has_abstract_type as abstract_type};
 ghost use Rattle.wgsl_forms.specs.Index.{element_in, element_of as element_there, index_answer, indexed_by, is_index as index_type, is_vector as vector_type};
 ghost use Rattle.wgsl_forms.specs.Expressions.{is_const_expression as const_expression};
 ghost use Rattle.wgsl_forms.specs.Load.{loaded};
 ghost use Rattle.wgsl_forms.specs.Views.{answer_view, element_view, form_view, given, unbuilt_view};
 
 use crate::concrete::{concrete_component, has_abstract_type};
-use crate::expression::is_const_expression;
-use crate::form::{Element, Form, UnbuiltType};
+use crate::expression::{has_abstract_operand_type, is_const_expression};
+use crate::form::{Element, Form, FormType, MemoryView, UnbuiltType};
 use crate::load::load_type;
-use crate::memory::{behind, in_memory};
+use crate::memory::behind;
 use crate::refusal::Refusal;
 use wgsl_core::ty::Type;
 use wgsl_core::ty::form::Form as TypeForm;
 use wgsl_standard::operand::{Operand, OperandType};
-use wgsl_syntax::address::{AccessMode, AddressSpace};
 use wgsl_syntax::layer::Layer;
 use wgsl_syntax::overload::Dimensions;
 use wgsl_syntax::scalar::Scalar;
@@ -27,36 +26,43 @@ use wgsl_syntax::scalar::Scalar;
 /// What `x[index]` is (WGSL, "Vector Access", "Matrix Access" and "Array Access"): a component, a column or an element; a
 /// reference to it in memory. An abstract value is made concrete first, unless the index is a const-expression.
 /// `NotIndexable` of another type, then what the index's load refuses, and `NotInteger`.
+#[inline(always)]
+#[tactic(auto, using(crate::proofs::Elements::stays_abstract))]
 pub fn type_of_index<'a>(x: &Operand<'a>, index: &Operand<'a>) -> Result<Form<'a>, Refusal<'a>>
     ensures { answer_view form_view result ≡ index_answer (given x.now) (given index.now) }
 {
+    let is_abstract = has_abstract_operand_type(x.ty);
     let whole = behind(x.ty);
-    match element_of(whole.ty, is_indexed_as_given(whole.memory, index)) {
-        Some(element) => indexed_by(x, index, element),
+    match element_of(whole.ty, is_indexed_as_given(is_abstract, index)) {
+        Some(element) => indexed_by(x, index, is_abstract, element),
         None => Err(Refusal::NotIndexable(UnbuiltType::of(whole.ty))),
     }
 }
 
-/// Whether an abstract type that is indexed stays abstract: in memory, or if the index is a const-expression.
-fn is_indexed_as_given(memory: Option<(AddressSpace, AccessMode)>, index: &Operand<'_>) -> bool
-    ensures { result ≡ (is_some memory || const_expression (given index.now)) }
+/// Whether the type that is indexed stays: it isn't abstract, or the index is a const-expression.
+#[inline(always)]
+fn is_indexed_as_given(is_abstract: bool, index: &Operand<'_>) -> bool
+    ensures { result ≡ (not is_abstract || const_expression (given index.now)) }
 {
-    memory.is_some() || is_const_expression(index)
+    !is_abstract || is_const_expression(index)
 }
 
 /// The element of that type, if the index is an integer.
+#[inline(always)]
 fn indexed_by<'a>(
     x: &Operand<'a>,
     index: &Operand<'a>,
+    is_abstract: bool,
     element: UnbuiltType<'a>,
 ) -> Result<Form<'a>, Refusal<'a>>
+    requires { is_abstract ≡ abstract_type (given_type x.now.ty) }
     ensures { answer_view form_view result
         ≡ indexed_by (given x.now) (given index.now) (unbuilt_view element.entry) (loaded (given_type index.now.ty)) }
 {
     match load_type(index.ty) {
         Ok(found) => {
             if is_index(found) {
-                Ok(element_in(x, index, element))
+                Ok(element_in(x, index, is_abstract, element))
             } else {
                 Err(Refusal::NotInteger(UnbuiltType::of(found)))
             }
@@ -65,32 +71,40 @@ fn indexed_by<'a>(
     }
 }
 
-fn element_in<'a>(x: &Operand<'a>, index: &Operand<'a>, element: UnbuiltType<'a>) -> Form<'a>
+#[inline(always)]
+#[tactic(auto, using(crate::proofs::References::refers, crate::proofs::References::is_there))]
+fn element_in<'a>(
+    x: &Operand<'a>,
+    index: &Operand<'a>,
+    is_abstract: bool,
+    element: UnbuiltType<'a>,
+) -> Form<'a>
+    requires { is_abstract ≡ abstract_type (given_type x.now.ty) }
     ensures { form_view result
         ≡ element_in (given x.now) (given index.now) (unbuilt_view element.entry) }
 {
     let whole = behind(x.ty);
     Form {
-        ty: in_memory(whole.memory, element),
-        is_constant: are_const_expressions(x, index),
+        ty: FormType {
+            memory: whole.memory,
+            of: element,
+        },
+        is_constant: (x.is_constant || is_abstract)
+            && whole.memory.is_none()
+            && is_const_expression(index),
         is_component: is_component(whole.memory, whole.ty),
     }
 }
 
-fn are_const_expressions(x: &Operand<'_>, y: &Operand<'_>) -> bool
-    ensures { result ≡ (const_expression (given x.now) && const_expression (given y.now)) }
-{
-    is_const_expression(x) && is_const_expression(y)
-}
-
 /// Whether an element there is a reference to a component of a vector.
-fn is_component(memory: Option<(AddressSpace, AccessMode)>, ty: OperandType<'_>) -> bool
+fn is_component(memory: Option<MemoryView>, ty: OperandType<'_>) -> bool
     ensures { result ≡ (is_some memory && vector_type (given_type ty.entry)) }
 {
     memory.is_some() && is_vector(ty)
 }
 
 /// The type of the elements, made concrete unless `stays`.
+#[inline(always)]
 fn element_of(ty: OperandType<'_>, stays: bool) -> Option<UnbuiltType<'_>>
     ensures { option_map unbuilt_view result
         ≡ element_there (cond stays (given_type ty.entry) (concrete_of (given_type ty.entry))) }
@@ -122,6 +136,7 @@ fn element_of_value<'a>(dimensions: Dimensions, scalar: Scalar) -> Option<Unbuil
     }
 }
 
+#[inline(always)]
 #[tactic(auto, using(crate::proofs::Elements::none_stays))]
 fn element_of_type(ty: &Type, stays: bool) -> Option<UnbuiltType<'_>>
     ensures { option_map unbuilt_view result
@@ -161,11 +176,12 @@ fn column(columns: u8, rows: u8, of: &Type, stays: bool) -> UnbuiltType<'_>
     ensures { Some (unbuilt_view result)
         ≡ element_there (cond stays (mat columns rows (view of.now)) (concrete_of (mat columns rows (view of.now)))) }
 {
-    if !stays && has_abstract_type(of) {
-        UnbuiltType::single(Element::Value(Dimensions::Vector(rows), Scalar::F32))
+    let element = if !stays && has_abstract_type(of) {
+        Element::Value(Dimensions::Single, Scalar::F32)
     } else {
-        UnbuiltType::within(Layer::Vec(rows), Element::Any(of))
-    }
+        Element::Any(of)
+    };
+    UnbuiltType::within(Layer::Vec(rows), element)
 }
 
 fn is_vector(ty: OperandType<'_>) -> bool

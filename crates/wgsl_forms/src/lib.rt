@@ -17,7 +17,7 @@ pub mod layout;
 pub mod lists;
 pub mod load;
 pub mod member;
-pub mod memory;
+mod memory;
 pub mod one_answer;
 pub mod refusal;
 pub mod switch;

@@ -3,17 +3,17 @@ ghost use Rattle.std.specs.Prelude.{◌≡◌};
 ghost use Rattle.wgsl_core.specs.View.{view};
 ghost use Rattle.wgsl_standard.specs.Operands.{given_type};
 ghost use Rattle.wgsl_forms.specs.Load.{is_loadable as loadable, load_answer, loaded, stored_loaded};
-ghost use Rattle.wgsl_forms.specs.Memory.{in_memory};
 ghost use Rattle.wgsl_forms.specs.Views.{answer_view, given};
+ghost use Rattle.wgsl_forms.specs.internal.References.{loaded_in};
 
 use crate::expression::is_const_expression;
-use crate::form::UnbuiltType;
+use crate::form::{MemoryView, UnbuiltType};
 use crate::kinds::{is_constructible, is_handle};
 use crate::refusal::Refusal;
 use wgsl_core::ty::Type;
 use wgsl_core::ty::form::Form;
 use wgsl_standard::operand::{Operand, OperandType};
-use wgsl_syntax::address::{AccessMode, AddressSpace};
+use wgsl_syntax::address::AccessMode;
 
 /// An operand, loaded (WGSL, "Load Rule"): what is no reference stays. `NotRead` if the reference can't be read,
 /// `NotConstructible` if it holds something else than a constructible type or a handle.
@@ -28,6 +28,7 @@ pub fn load<'a>(x: &Operand<'a>) -> Result<Operand<'a>, Refusal<'a>>
 }
 
 /// The type of an operand, loaded.
+#[inline(always)]
 pub fn load_type<'a>(ty: OperandType<'a>) -> Result<OperandType<'a>, Refusal<'a>>
     ensures { answer_view given_type result ≡ loaded (given_type ty.entry) }
 {
@@ -39,17 +40,20 @@ pub fn load_type<'a>(ty: OperandType<'a>) -> Result<OperandType<'a>, Refusal<'a>
 
 /// The type that is loaded from memory, or without memory the loaded type of an operand.
 pub(crate) fn load_in<'a>(
-    memory: Option<(AddressSpace, AccessMode)>,
+    memory: Option<MemoryView>,
     ty: OperandType<'a>,
 ) -> Result<OperandType<'a>, Refusal<'a>>
-    ensures { answer_view given_type result ≡ loaded (in_memory memory (given_type ty.entry)) }
+    ensures { answer_view given_type result ≡ loaded_in memory (given_type ty.entry) }
 {
     match memory {
-        Some((_, access)) => load_stored(ty, access),
+        Some(MemoryView::Reference(_, access) | MemoryView::Pointer(_, access)) => {
+            load_stored(ty, access)
+        }
         None => load_type(ty),
     }
 }
 
+#[inline(always)]
 fn load_any<'a>(ty: &'a Type) -> Result<OperandType<'a>, Refusal<'a>>
     ensures { answer_view given_type result ≡ loaded (view ty.now) }
 {

@@ -1,19 +1,20 @@
 // Members of structs and components of vectors.
-ghost use Rattle.std.specs.Prelude.{◌≡◌, take, option_map};
+ghost use Rattle.std.specs.Prelude.{◌≡◌, nat_eq, take, option_map};
+ghost use Rattle.std.specs.List.{list_any};
 ghost use Rattle.wgsl_rules.specs.types.Types.{struct, vec};
 ghost use Rattle.wgsl_core.specs.View.{view, struct_view};
 ghost use Rattle.wgsl_core.specs.internal.View.{members_view};
 ghost use Rattle.wgsl_standard.specs.Operands.{given_type};
 ghost use Rattle.wgsl_forms.specs.Load.{loaded};
-ghost use Rattle.wgsl_forms.specs.Memory.{in_memory as reference_in};
 ghost use Rattle.wgsl_forms.specs.Member.{are_among as all_among, are_components as all_components, member_answer, member_named as named_there, part_named as part_there, part_of_letters as letters_name};
 ghost use Rattle.wgsl_forms.specs.Views.{answer_view, element_view, form_view, given};
+ghost use Rattle.wgsl_forms.specs.internal.Letters.{letters_of};
 ghost use Rattle.wgsl_forms.specs.internal.Parts.{part_view};
 
 use crate::expression::is_const_expression;
 use crate::form::{Element, Form, FormType, UnbuiltType};
 use crate::load::load_in;
-use crate::memory::{behind, in_memory};
+use crate::memory::behind;
 use crate::refusal::Refusal;
 use wgsl_core::ty::form::Form as TypeForm;
 use wgsl_core::ty::{StructMemberType, Type};
@@ -32,9 +33,34 @@ enum Part<'a> {
     Components(u8, Element<'a>),
 }
 
+/// The letters of the components, in order.
+#[derive(Clone, Copy)]
+struct Letters {
+    first: u8,
+    second: u8,
+    third: u8,
+    fourth: u8,
+}
+
+const XYZW: Letters = Letters {
+    first: b'x',
+    second: b'y',
+    third: b'z',
+    fourth: b'w',
+};
+
+const RGBA: Letters = Letters {
+    first: b'r',
+    second: b'g',
+    third: b'b',
+    fourth: b'a',
+};
+
 /// What `x.name` is (WGSL, "Structure Access" and "Vector Access"): a member, a component, or several components. In
 /// memory the first two are references, and several components are loaded. `Component` if there is no such part, and what a
 /// load refuses.
+#[inline(always)]
+#[tactic(auto, using(crate::proofs::References::refers, crate::proofs::References::loads, crate::proofs::References::is_there))]
 pub fn type_of_member<'a>(x: &Operand<'a>, name: &'a str) -> Result<Form<'a>, Refusal<'a>>
     ensures { answer_view form_view result ≡ member_answer (given x.now) name.now }
 {
@@ -42,12 +68,18 @@ pub fn type_of_member<'a>(x: &Operand<'a>, name: &'a str) -> Result<Form<'a>, Re
     let is_constant = is_const_expression(x);
     match part_named(whole.ty, name) {
         Some(Part::Member(ty)) => Ok(Form {
-            ty: in_memory(whole.memory, UnbuiltType::of_type(ty)),
+            ty: FormType {
+                memory: whole.memory,
+                of: UnbuiltType::of_type(ty),
+            },
             is_constant,
             is_component: false,
         }),
         Some(Part::Component(element)) => Ok(Form {
-            ty: in_memory(whole.memory, UnbuiltType::single(element)),
+            ty: FormType {
+                memory: whole.memory,
+                of: UnbuiltType::single(element),
+            },
             is_constant,
             is_component: whole.memory.is_some(),
         }),
@@ -64,6 +96,7 @@ pub fn type_of_member<'a>(x: &Operand<'a>, name: &'a str) -> Result<Form<'a>, Re
 }
 
 /// What the name stands for in the type.
+#[inline(always)]
 fn part_named<'a>(ty: OperandType<'a>, name: &str) -> Option<Part<'a>>
     ensures { option_map part_view result ≡ part_there (given_type ty.entry) name.now }
 {
@@ -97,6 +130,7 @@ fn member_named<'a>(members: &'a Vec<StructMemberType>, name: &str) -> Option<&'
 }
 
 /// What the name stands for in a vector.
+#[inline(always)]
 fn component_named<'a>(n: u8, element: Element<'a>, name: &str) -> Option<Part<'a>>
     ensures { option_map part_view result
         ≡ part_there (vec n (element_view element.entry)) name.now }
@@ -121,30 +155,34 @@ fn part_of_letters<'a>(letters: &[u8], element: Element<'a>) -> Option<Part<'a>>
 }
 
 /// Whether all letters are among the first n of `xyzw`, or all among the first n of `rgba`.
+#[inline(always)]
 fn are_components(n: u8, name: &[u8]) -> bool
     ensures { result ≡ all_components n name.now }
 {
-    are_among(first(n, b"xyzw"), name) || are_among(first(n, b"rgba"), name)
+    are_among(n, XYZW, name) || are_among(n, RGBA, name)
 }
 
-fn first(n: u8, letters: &[u8]) -> &[u8]
-    ensures { result.now ≡ take n letters.now }
-{
-    let n = n as usize;
-    if n < letters.len() {
-        &letters[..n]
-    } else {
-        letters
-    }
-}
-
-fn are_among(letters: &[u8], name: &[u8]) -> bool
-    ensures { result ≡ all_among letters.now name.now }
+fn are_among(n: u8, letters: Letters, name: &[u8]) -> bool
+    ensures { result ≡ all_among (take n (letters_of letters)) name.now }
 {
     for letter in name {
-        if !letters.contains(letter) {
+        if !is_among(n, letters, *letter) {
             return false;
         }
     }
     true
+}
+
+fn is_among(n: u8, letters: Letters, letter: u8) -> bool
+    ensures { result ≡ list_any (λ l. nat_eq l letter) (take n (letters_of letters)) }
+{
+    if letters.first == letter {
+        0 < n
+    } else if letters.second == letter {
+        1 < n
+    } else if letters.third == letter {
+        2 < n
+    } else {
+        letters.fourth == letter && 3 < n
+    }
 }
