@@ -114,6 +114,13 @@ impl Operand {
     fn proved(&self) -> proved::operand::Operand<'_> {
         proved::operand::Operand::of(&self.ty, self.is_constant)
     }
+
+    /// As `proved`, for what asks the type for its form first.
+    #[inline(always)]
+    fn given(&self) -> proved::operand::Operand<'_> {
+        let ty = proved::operand::OperandType::Any(&self.ty);
+        proved::operand::Operand { ty, is_constant: self.is_constant }
+    }
 }
 
 /// An expression of that type, as [`Operand::new`] makes it.

@@ -1,6 +1,6 @@
 //! Members, indexes, loads, `&` and `*`.
 
-use super::{built, Operand, Refusal};
+use super::{Operand, Refusal};
 use crate::proved::wgsl_forms as proved;
 use crate::proved::wgsl_forms::form::{Form, FormType, UnbuiltType};
 use crate::shim::always;
@@ -25,7 +25,7 @@ use crate::ty::Type;
 /// # Ok::<(), wgsl_types_proved::ty::SpellingError>(())
 /// ```
 pub fn type_of_member(x: &Operand, name: &str) -> Result<Operand, Refusal> {
-    Ok(expression(proved::member::type_of_member(&x.proved(), name)?))
+    Ok(expression(proved::member::type_of_member(&x.given(), name)?))
 }
 
 /// What `x[index]` is (WGSL, "Vector Access Expression", "Matrix Access Expression", "Array Access Expression"): a component,
@@ -46,7 +46,7 @@ pub fn type_of_member(x: &Operand, name: &str) -> Result<Operand, Refusal> {
 /// assert_eq!(type_of_index(&list, &Operand::constant(Type::U32)).unwrap().ty, Type::AbstractInt);
 /// ```
 pub fn type_of_index(x: &Operand, index: &Operand) -> Result<Operand, Refusal> {
-    Ok(expression(proved::index::type_of_index(&x.proved(), &index.proved())?))
+    Ok(expression(proved::index::type_of_index(&x.given(), &index.given())?))
 }
 
 /// What `&x` is (WGSL, "Address-Of Expression"): the pointer for a reference.
@@ -64,7 +64,7 @@ pub fn type_of_index(x: &Operand, index: &Operand) -> Result<Operand, Refusal> {
 /// # Ok::<(), wgsl_types_proved::ty::SpellingError>(())
 /// ```
 pub fn address_of(x: &Operand) -> Result<Operand, Refusal> {
-    Ok(expression(proved::address::address_of(&x.proved(), x.is_component)?))
+    Ok(expression(proved::address::address_of(&x.given(), x.is_component)?))
 }
 
 /// What `*x` is (WGSL, "Indirection Expression"): the reference for a pointer. [`Refusal::Unary`] if `x` is no pointer.
@@ -77,7 +77,7 @@ pub fn address_of(x: &Operand) -> Result<Operand, Refusal> {
 /// # Ok::<(), wgsl_types_proved::ty::SpellingError>(())
 /// ```
 pub fn indirection(x: &Operand) -> Result<Operand, Refusal> {
-    Ok(expression(proved::address::indirection(&x.proved())?))
+    Ok(expression(proved::address::indirection(&x.given())?))
 }
 
 /// What an expression is where its value is needed (WGSL, "Load Rule"): of a reference the type that it refers to, else its
@@ -96,16 +96,18 @@ pub fn indirection(x: &Operand) -> Result<Operand, Refusal> {
 /// # Ok::<(), wgsl_types_proved::ty::SpellingError>(())
 /// ```
 pub fn load(x: &Operand) -> Result<Operand, Refusal> {
-    let loaded = proved::load::load(&x.proved())?;
-    let ty = built(UnbuiltType::of(loaded.ty));
+    let loaded = proved::load::load(&x.given())?;
+    let ty = built_form(FormType::of(UnbuiltType::of(loaded.ty)));
     Ok(Operand { ty, is_constant: loaded.is_constant, is_component: false })
 }
 
+#[inline(always)]
 fn expression(form: Form<'_>) -> Operand {
     let Form { ty, is_constant, is_component } = form;
     Operand { ty: built_form(ty), is_constant, is_component }
 }
 
+#[inline(always)]
 pub(super) fn built_form(ty: FormType<'_>) -> Type {
     always(ty.rattle_build(Global))
 }

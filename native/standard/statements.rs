@@ -3,6 +3,8 @@
 use super::expressions::built_form;
 use super::{built, with_operands, Operand, Refusal};
 use crate::proved::wgsl_forms as proved;
+use crate::shim::always;
+use crate::shim::std::alloc::Global;
 use crate::syntax::{AccessMode, AddressSpace, AssignmentOperator};
 use crate::ty::Type;
 pub use proved::declare::Declaration;
@@ -139,7 +141,7 @@ pub fn discard(x: &Operand) -> Result<Type, Refusal> {
 /// # Ok::<(), wgsl_types_proved::ty::SpellingError>(())
 /// ```
 pub fn assign(x: &Operand, y: &Operand) -> Result<Type, Refusal> {
-    Ok(proved::assign::assign(&x.proved(), &y.proved())?.clone())
+    Ok(copied(proved::assign::assign(&x.given(), &y.proved())?))
 }
 
 /// The type to which `x += y;` and its like write (WGSL, "Compound Assignment"); with `=` as [`assign`].
@@ -160,7 +162,7 @@ pub fn assign(x: &Operand, y: &Operand) -> Result<Type, Refusal> {
 /// # Ok::<(), wgsl_types_proved::ty::SpellingError>(())
 /// ```
 pub fn assign_by(operator: AssignmentOperator, x: &Operand, y: &Operand) -> Result<Type, Refusal> {
-    Ok(proved::assign::assign_by(operator, &x.proved(), &y.proved())?.clone())
+    Ok(copied(proved::assign::assign_by(operator, &x.given(), &y.proved())?))
 }
 
 /// The type of what `x++;` and `x--;` count (WGSL, "Increment and Decrement Statements").
@@ -178,7 +180,7 @@ pub fn assign_by(operator: AssignmentOperator, x: &Operand, y: &Operand) -> Resu
 /// # Ok::<(), wgsl_types_proved::ty::SpellingError>(())
 /// ```
 pub fn increment(x: &Operand) -> Result<Type, Refusal> {
-    Ok(proved::assign::increment(&x.proved())?.clone())
+    Ok(copied(proved::assign::increment(&x.given())?))
 }
 
 /// Whether values are taken by parameters of these types (WGSL, "Function Call Expression"); with one type by `return`, and
@@ -219,7 +221,7 @@ pub fn fit(values: &[Operand], types: &[Type]) -> Result<(), Refusal> {
 /// assert_eq!(refused, Err(Refusal::ParamCount("Light".to_string(), 2, 1)));
 /// ```
 pub fn construct_struct(ty: &Type, values: &[Operand]) -> Result<Type, Refusal> {
-    with_operands(values.iter(), |values| Ok(proved::lists::construct_struct(ty, values)?.clone()))
+    with_operands(values.iter(), |values| Ok(copied(proved::lists::construct_struct(ty, values)?)))
 }
 
 /// The type that `array(x, y)` makes (WGSL, "Value Constructor Built-in Functions"): its elements have the common type of the
@@ -284,4 +286,10 @@ pub fn switch_type(selector: &Operand, cases: &[Operand]) -> Result<Type, Refusa
     with_operands(cases.iter(), |cases| {
         Ok(Type::from(proved::switch::switch_type(&selector.proved(), cases)?))
     })
+}
+
+/// A copy, by the proved function, which takes fewer instructions than the derived one.
+#[inline(always)]
+fn copied(ty: &Type) -> Type {
+    always(ty.rattle_clone(Global))
 }
