@@ -105,22 +105,31 @@ impl Call {
 
 /// Forms of expressions and statements, by WGSL's rules.
 impl Call {
+    /// As `repeat`, but the answer is let go where it lies: `black_box` doesn't move it.
+    fn repeat_form<T>(&self, call: impl Fn() -> T) {
+        for _ in 0..self.times {
+            black_box(&call());
+        }
+    }
+
     fn make_form(&self) -> bool {
         let vector = Type::vector(3, Type::F32);
         let behind = |ty| Operand::new(Type::Ref(Function, Box::new(ty), ReadWrite));
         let (variable, number) = (behind(vector.clone()), behind(Type::F32));
         let (vector, i, one) = (Operand::new(vector), Operand::new(Type::U32), Operand::new(INT));
         match self.line.as_str() {
-            "member vec 3 f32 y" => self.repeat(|| type_of_member(black_box(&vector), "y")),
+            "member vec 3 f32 y" => {
+                self.repeat_form(|| type_of_member(black_box(&vector), black_box("y")))
+            }
             "member ref function read_write vec 3 f32 y" => {
-                self.repeat(|| type_of_member(black_box(&variable), "y"))
+                self.repeat_form(|| type_of_member(black_box(&variable), black_box("y")))
             }
             "index vec 3 f32 u32" => {
-                self.repeat(|| type_of_index(black_box(&vector), black_box(&i)))
+                self.repeat_form(|| type_of_index(black_box(&vector), black_box(&i)))
             }
-            "load ref function read_write f32" => self.repeat(|| load(black_box(&number))),
+            "load ref function read_write f32" => self.repeat_form(|| load(black_box(&number))),
             "assign = ref function read_write f32 AbstractInt" => {
-                self.repeat(|| assign(black_box(&number), black_box(&one)))
+                self.repeat_form(|| assign(black_box(&number), black_box(&one)))
             }
             _ => return false,
         }
