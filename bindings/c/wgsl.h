@@ -34,7 +34,7 @@ enum {
 
 enum {
     WGSL_LONGEST = 4096,           /* A longer request is unreadable. */
-    WGSL_STACK = 384 * 1024,       /* Bytes of stack that are enough for any request, */
+    WGSL_STACK = 1280 * 1024,      /* Bytes of stack that are enough for any request, */
     WGSL_SOURCE_STACK = 512 * 1024 /* and for any WGSL text: at least twice what the deepest takes. */
 };
 

@@ -6,7 +6,8 @@ use std::io;
 use std::path::{Path, PathBuf};
 
 /// The crates that users reach, with those that they depend on.
-const LIBRARY: [&str; 5] = ["wgsl_types", "wgsl_forms", "wgsl_text", "wgsl_report", "wgsl_c"];
+const LIBRARY: [&str; 5] =
+    ["wgsl_types", "wgsl_forms", "wgsl_expressions", "wgsl_report", "wgsl_c"];
 
 /// The programs, which need `std`.
 const PROGRAMS: [&str; 3] = ["wgsl_check", "wgsl_standard_check", "wgsl_layout"];

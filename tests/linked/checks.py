@@ -153,11 +153,12 @@ def count_short(program, short):
 
 
 def messages():
-    """How messages of refusals begin: the texts in the sources of errors, of forms, and of constructors, calls and templates."""
+    """How messages of refusals begin: the texts in the sources of errors, of forms, and of constructors, calls and templates; those
+    of an expression with a column."""
     paths = [os.path.join("wgsl_core", "src", "error.rt")]
     paths += [os.path.join("wgsl_forms", "src", name) for name in ("refusal.rt", "array.rt")]
     paths.append(os.path.join("wgsl_calls", "src", "**", "*.rt"))
-    texts = ["no overload of ", "`"]
+    texts = ["no overload of ", "`", "column "]
     for path in (path for each in paths for path in glob.glob(os.path.join(TOP, "crates", each), recursive=True)):
         with open(path, encoding="utf-8") as file:
             texts += [text.split("{")[0] for text in re.findall(r'"([^"\n]* [^"\n]*)"', file.read())]

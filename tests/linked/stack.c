@@ -24,6 +24,12 @@ static const char *const standard_heads[] = {
 };
 static const char *const commands[] = {"", "resolve ", "why "};
 
+/* What expressions nest in, and how deep at most. */
+static const char *const nests[][2] = {
+    {"(", ")"}, {"- ", ""}, {"abs(", ")"}, {"max(1,", ")"}, {"vec2i(0)[", "]"}, {"(1 * 1 + ", ")"}, {"array<f32,1>(", ")"},
+};
+enum { DEEPEST = 254 };
+
 typedef uint8_t Call(const uint8_t *request, size_t request_len, uint8_t *room, size_t room_len, size_t *text_len);
 
 static char request[WGSL_LONGEST + 1];
@@ -74,6 +80,24 @@ static size_t most_of(Call *answer, Call *explain, const char *command, const ch
     return most;
 }
 
+/* The most that an expression takes which is nested in this as deep as it may be. */
+static size_t most_of_nest(const char *const nest[2]) {
+    size_t base = touched(idle, WGSL_STACK), most = 0;
+    char *to = stpcpy(request, "type ");
+    for (size_t i = 0; i < DEEPEST; i++) to = stpcpy(to, nest[0]);
+    to = stpcpy(to, "1");
+    for (size_t i = 0; i < DEEPEST; i++) to = stpcpy(to, nest[1]);
+    for (int explains = 0; explains < 2; explains++) {
+        call = explains ? wgsl_standard_explain : wgsl_standard_answer;
+        size_t taken = touched(ask, WGSL_STACK) - base;
+        if (status != (explains ? WGSL_UNREADABLE : WGSL_ANSWERED) && status != WGSL_RULED_OUT)
+            exit(printf("type of %s: status %d\n", nest[0], status) != 0);
+        if (all) printf("%7zu bytes, status %d: type, nested in %s\n", taken, status, nest[0]);
+        if (taken > most) most = taken;
+    }
+    return most;
+}
+
 static size_t larger(size_t a, size_t b) { return a > b ? a : b; }
 
 int main(int arguments, char **argument) {
@@ -84,6 +108,7 @@ int main(int arguments, char **argument) {
     for (size_t c = 0; c < sizeof commands / sizeof *commands; c++)
         for (size_t h = 0; h < sizeof standard_heads / sizeof *standard_heads; h++)
             most = larger(most, most_of(wgsl_standard_answer, wgsl_standard_explain, commands[c], standard_heads[h]));
+    for (size_t n = 0; n < sizeof nests / sizeof *nests; n++) most = larger(most, most_of_nest(nests[n]));
     printf("%zu bytes of stack at most\n", most);
     return most > WGSL_STACK / 2;
 }

@@ -1,11 +1,11 @@
 -- What is returned to C.
 use Rattle.std.specs.Prelude.{◌≡◌, ◌≢◌, ◌⊎◌, ◌<◌, ◌≤◌, ◌++◌, ℕ, List, [], All, IfOk, IsUtf8, Result, Ok, Err, drop, length, string_bytes, take, true}
 use Rattle.std.specs.declared.alloc.AllocError.{AllocError}
-use Rattle.wgsl_text.specs.Replies.{IsExplanation, IsReplyTo, reply_text}
+use Rattle.wgsl_expressions.specs.Replies.{IsExplanation, IsReplyTo, reply_text}
 use Rattle.wgsl_text.specs.Words.{has_line_feed, words_of}
 use Rattle.wgsl_text.specs.declared.rules.RuleSet.{RuleSet}
-use Rattle.wgsl_text.specs.declared.request.Reply.{Reply}
-use Rattle.wgsl_text.specs.declared.request.Reply.TheVariants.{Nothing, Answer, Unreadable}
+use Rattle.wgsl_expressions.specs.declared.request.Reply.{Reply}
+use Rattle.wgsl_expressions.specs.declared.request.Reply.TheVariants.{Nothing, Answer, Unreadable}
 use Rattle.wgsl_text.specs.declared.write.TextKind.{TextKind}
 use Rattle.wgsl_text.specs.declared.write.TextKind.TheVariants as kinds
 

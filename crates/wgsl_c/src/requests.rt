@@ -3,7 +3,7 @@ ghost use Rattle.wgsl_c.specs.HandOver.{IsAnswered, IsExplained};
 
 use crate::hand_over::hand_over;
 use std::alloc::Global;
-use wgsl_text::request::{explain, reply_to};
+use wgsl_expressions::request::{explain, reply_to};
 use wgsl_text::rules::RuleSet;
 
 /// Answers one request.

@@ -3,9 +3,9 @@ ghost use Rattle.wgsl_c.specs.HandOver.{IsText, IsTold};
 
 use crate::hand_over::hand_over;
 use std::alloc::{AllocError, Global};
+use wgsl_expressions::request::{Reply, TextKind};
 use wgsl_report::report::{Format, Report, ReportOptions, report_on};
 use wgsl_report::shown::Style;
-use wgsl_text::request::{Reply, TextKind};
 
 /// Writes what `./wgsl_layout --json` writes of a text, with an empty name of the file. The status is 0, 3 or 4.
 #[unsafe(no_mangle)]

@@ -1,10 +1,8 @@
 -- Values and the types that take them are found, or the words are none.
-use Rattle.std.proofs.Common.{◌≡◌, ◌∙◌, ◌<◌, ◌≤◌, ℕ, zero, suc, List, [], ◌∷◌, length, codes, refl, sym, subst, inl, inr, arith, le_refl}
+use Rattle.std.proofs.Common.{◌≡◌, ◌∙◌, ◌≤◌, ℕ, zero, suc, List, [], ◌∷◌, length, codes, refl, sym, subst, inl, inr, arith, le_refl}
 use Rattle.wgsl_rules.specs.types.Types.{WgslType}
 use Rattle.wgsl_rules.specs.standard.Choice.{Operand}
-use Rattle.wgsl_text.specs.Calls.{OperandAt}
 use Rattle.wgsl_text.specs.Fits.{IsFit, ValuesAt, no_values_at, value_at}
-use Rattle.wgsl_text.specs.Grammar.{TypesAt}
 use Rattle.wgsl_text.specs.declared.rules.RuleSet.TheVariants.{Standard}
 use Rattle.wgsl_text.proofs.CallReads.{no_operand, one_operand}
 use Rattle.wgsl_text.proofs.FitReads.{no_fit_types, values_form}

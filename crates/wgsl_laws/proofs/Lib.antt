@@ -23,3 +23,4 @@ pub mod ComponentsFound
 pub mod RequestsFound
 pub mod Replied
 pub mod Printed
+pub mod ExpressionsFound

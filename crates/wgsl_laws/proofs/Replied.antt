@@ -1,16 +1,18 @@
 -- Any bytes have a reply, as a line and as a request.
-use Rattle.std.proofs.Common.{◌≡◌, ◌≢◌, ◌≤◌, ℕ, Bool, true, false, List, [], ◌∷◌, All, length, refl, sym, ◌∙◌, inl, inr, arith}
+use Rattle.std.proofs.Common.{◌≡◌, ◌≢◌, ◌≤◌, ◌-◌, ℕ, Option, Some, None, Bool, true, false, List, [], ◌∷◌, All, length, refl, sym, ◌∙◌, inl, inr, arith}
 use Rattle.std.specs.Prelude.{IsUtf8}
 use Rattle.std.specs.Str.{is_utf8}
 use Rattle.std.proofs.lemmas.Bool.{cases_lt}
 use Rattle.std.proofs.lemmas.List.Elements.{All-nil, All-cons, All-head, All-tail}
 use Rattle.std.proofs.lemmas.Str.{IsUtf8-from_is_utf8, is_utf8-from_IsUtf8}
-use Rattle.wgsl_text.specs.Replies.{IsLineOfText, IsReplyTo, IsReplyToLine, ReplyText, nothing, answer, unreadable, too_long, forbidden, no_text, no_request, no_words, answered, one_line}
+use Rattle.wgsl_text.specs.Replies.{IsLineOfText, IsReplyToLine as IsReplyToWords, ReplyText, nothing, answer, unreadable, too_long, no_text, no_request, no_words, answered}
 use Rattle.wgsl_text.specs.Texts.{answer_text, text_kind}
 use Rattle.wgsl_text.specs.Words.{has_line_feed, words_of}
 use Rattle.wgsl_text.specs.declared.rules.RuleSet.{RuleSet}
-use Rattle.wgsl_text.proofs.OneReply.{one_reply}
+use Rattle.wgsl_expressions.specs.Replies.{IsReplyTo, IsReplyToLine, expression_asked, expression_reply, forbidden, long_expression, no_text as no_expression_text, one_line, to_expression, to_words}
+use Rattle.wgsl_expressions.proofs.OneReply.{one_reply}
 use Rattle.wgsl_laws.proofs.Answered.{some_answer}
+use Rattle.wgsl_laws.proofs.ExpressionsFound.{some_outcome}
 use Rattle.wgsl_laws.proofs.RequestsFound.{a_request}
 
 dec_text : (word : List ℕ) → Dec (IsUtf8 word)
@@ -28,26 +30,43 @@ dec_texts (w ∷ ws) = elim (dec_text w) [
 ]
 
 module _ (rules : RuleSet) (bytes : List ℕ) where
-  to_words : IsLineOfText bytes → (words : List (List ℕ)) → words_of bytes ≡ words → (reply : ReplyText) × IsReplyToLine rules bytes reply
-  to_words line [] none = (nothing, no_words line none)
-  to_words line (w ∷ ws) some =
+  by_words : IsLineOfText bytes → (words : List (List ℕ)) → words_of bytes ≡ words → (reply : ReplyText) × IsReplyToWords rules bytes reply
+  by_words line [] none = (nothing, no_words line none)
+  by_words line (w ∷ ws) some =
       let words : words_of bytes ≢ [] = λ e. let f : w ∷ ws ≡ [] = sym some ∙ e in absurd (cc f) in
       elim (a_request rules (words_of bytes)) [
         | inr none ↦ (unreadable, no_request line words none)
         | inl r ↦ let a = some_answer r.0 in (answer (text_kind a.0) (answer_text a.0), answered (text_kind a.0) (answer_text a.0) line words (r.0, r.1, (a.0, a.1, refl, refl)))
       ]
 
-  to_short : length bytes ≤ 4096 → (reply : ReplyText) × IsReplyToLine rules bytes reply
+  to_short : length bytes ≤ 4096 → (reply : ReplyText) × IsReplyToWords rules bytes reply
   to_short short = elim (dec_texts (words_of bytes)) [
     | no other ↦ (unreadable, no_text other)
-    | yes text ↦ to_words (record { short = short; is_text = text }) (words_of bytes) refl
+    | yes text ↦ by_words (record { short = short; is_text = text }) (words_of bytes) refl
   ]
 
-  pub some_line_reply : (reply : ReplyText) × IsReplyToLine rules bytes reply
-  some_line_reply = elim (cases_lt 4096 (length bytes)) [
+  words_reply : (reply : ReplyText) × IsReplyToWords rules bytes reply
+  words_reply = elim (cases_lt 4096 (length bytes)) [
     | inl long ↦ (unreadable, too_long long)
     | inr short ↦ to_short (omega (arith, short))
   ]
+
+  by_expression : (text : List ℕ) → expression_asked rules bytes ≡ Some text → (reply : ReplyText) × IsReplyToLine rules bytes reply
+  by_expression text e = elim (cases_lt 4096 (length bytes)) [
+    | inl long ↦ (unreadable, long_expression text e long)
+    | inr short ↦ elim (dec_texts (words_of bytes)) [
+      | no other ↦ (unreadable, no_expression_text text e other)
+      | yes is_text ↦ let x = some_outcome text in
+          (expression_reply (length bytes - length text) x.0, to_expression text x.0 e (record { short = omega (arith, short); is_text = is_text }) x.1)
+    ]
+  ]
+
+  pub some_line_reply : (reply : ReplyText) × IsReplyToLine rules bytes reply
+  some_line_reply = test (expression_asked rules bytes) refl
+    where
+      test : (asked : Option (List ℕ)) → expression_asked rules bytes ≡ asked → (reply : ReplyText) × IsReplyToLine rules bytes reply
+      test None e = let r = words_reply in (r.0, to_words e r.1)
+      test (Some text) e = by_expression text e
 
   some_reply : (reply : ReplyText) × IsReplyTo rules bytes reply
   some_reply = test (has_line_feed bytes) refl

@@ -5,8 +5,9 @@ use Rattle.std.proofs.lemmas.Bool.{leb-true, leb-false}
 use Rattle.std.proofs.lemmas.List.{append-nil, take_all}
 use Rattle.std.proofs.lemmas.List.Folds.{list_all-append}
 use Rattle.std.specs.List.{list_all}
-use Rattle.wgsl_text.proofs.OneReply.{one_line_reply}
-use Rattle.wgsl_text.specs.Replies.{ReplyText, unreadable, IsReplyToLine, too_long}
+use Rattle.wgsl_expressions.proofs.OneReply.{long_line, one_line_reply}
+use Rattle.wgsl_text.specs.Replies.{ReplyText, unreadable}
+use Rattle.wgsl_expressions.specs.Replies.{IsReplyToLine}
 use Rattle.wgsl_lines.specs.Output.{is_readable, next_number, printed, printed_from}
 use Rattle.wgsl_lines.specs.Session.{number_after}
 use Rattle.wgsl_text.specs.declared.rules.RuleSet.{RuleSet}
@@ -24,7 +25,7 @@ module _ (rules : RuleSet) where
           let long : 4096 < length line = leb-false (length line) 4096 e in
           let whole : 4096 < length (line ++ more) = omega (arith, long, length-append line more) in
           let cut : 4096 < length (take 4097 line ++ more) = omega (arith, long, length-take 4097 line, length-append (take 4097 line) more) in
-          subst (IsReplyToLine rules (line ++ more)) (sym (one_line_reply rules (take 4097 line ++ more) reply unreadable is (too_long cut))) (too_long whole)
+          subst (IsReplyToLine rules (line ++ more)) (sym (one_line_reply rules (take 4097 line ++ more) reply unreadable is (long_line rules (take 4097 line ++ more) cut))) (long_line rules (line ++ more) whole)
 
   -- of a line the first 4097 bytes decide the reply
   pub of_cut : (line : List ℕ) (reply : ReplyText) → IsReplyToLine rules (take 4097 line) reply → IsReplyToLine rules line reply

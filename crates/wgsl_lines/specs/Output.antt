@@ -3,7 +3,8 @@ use Rattle.std.specs.Prelude.{◌≡◌, ◌≢◌, ◌+◌, ◌-◌, ◌^◌, �
 use Rattle.std.specs.Prelude.{Bool, true, false, List, [], ◌∷◌}
 use Rattle.std.specs.Io.{StartsWith}
 use Rattle.std.specs.List.{AllZip, list_all}
-use Rattle.wgsl_text.specs.Replies.{ReplyText, nothing, answer, unreadable, IsReplyToLine}
+use Rattle.wgsl_text.specs.Replies.{ReplyText, nothing, answer, unreadable}
+use Rattle.wgsl_expressions.specs.Replies.{IsReplyToLine}
 use Rattle.wgsl_text.specs.Words.{pieces}
 use Rattle.wgsl_text.specs.declared.rules.RuleSet.{RuleSet}
 use Rattle.wgsl_lines.specs.declared.run.RunError.{RunError}

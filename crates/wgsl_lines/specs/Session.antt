@@ -3,7 +3,8 @@ use Rattle.std.specs.Prelude.{◌≡◌, ◌≢◌, ◌++◌, ◌&&◌, ℕ, Boo
 use Rattle.std.specs.Prelude.{string_bytes}
 use Rattle.std.specs.Io.KnownBytes.{Appends}
 use Rattle.std.specs.List.{AllZip, list_all}
-use Rattle.wgsl_text.specs.Replies.{ReplyText, nothing, answer, unreadable, IsReplyToLine}
+use Rattle.wgsl_text.specs.Replies.{ReplyText, nothing, answer, unreadable}
+use Rattle.wgsl_expressions.specs.Replies.{IsReplyToLine}
 use Rattle.wgsl_text.specs.declared.request.ReplyKind.{ReplyKind}
 use Rattle.wgsl_text.specs.declared.rules.RuleSet.{RuleSet}
 use Rattle.wgsl_text.specs.declared.request.ReplyKind.TheVariants as k

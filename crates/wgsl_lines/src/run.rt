@@ -5,12 +5,12 @@ ghost use Rattle.wgsl_lines.specs.Output.{Prints, PrintsFirst, PrintsUntil, bad_
 ghost use Rattle.wgsl_lines.specs.Status.{status_of};
 ghost use Rattle.wgsl_lines.specs.declared.run.RunError.TheVariants.{Memory};
 ghost use Rattle.wgsl_lines.specs.Session.{reply_of_kind};
-ghost use Rattle.wgsl_text.specs.Replies.{IsReplyToLine};
+ghost use Rattle.wgsl_expressions.specs.Replies.{IsReplyToLine};
 
 use crate::line::{Line, split_line};
 use std::alloc::{AllocError, Global};
 use std::io::{ErrorKind, Read, Write};
-use wgsl_text::request::{ReplyKind, write_reply};
+use wgsl_expressions::request::{ReplyKind, write_reply};
 use wgsl_text::rules::RuleSet;
 use wgsl_text::why::{Why, write_why};
 
@@ -280,7 +280,7 @@ fn push_note(
 ) -> Result<(), AllocError> {
     let number = line.number;
     let before = match why {
-        Why::Word(_) => ",",
+        Why::Word(_) | Why::Expression(_, _) => ",",
         _ => ":",
     };
     write!(notes, "{program}: line {number}{before} ")?;

@@ -1,9 +1,9 @@
--- The bytes of a line have at most one reply, and so have those of a request.
-use Rattle.std.proofs.Common.{◌≡◌, ◌≢◌, ◌⊎◌, ◌∙◌, ℕ, List, [], arith, false, inl, inr, refl, subst, sym, true}
+-- The bytes of a line have at most one reply.
+use Rattle.std.proofs.Common.{◌≡◌, ◌≢◌, ◌⊎◌, ℕ, List, [], arith, inl, inr, refl, subst}
 use Rattle.wgsl_text.specs.Answers.{IsAnswer, IsReply}
-use Rattle.wgsl_text.specs.Replies.{IsLineOfText, IsReplyTo, IsReplyToLine, ReplyText, nothing, answer, unreadable, too_long, forbidden, no_text, no_request, no_words, answered, one_line}
+use Rattle.wgsl_text.specs.Replies.{IsLineOfText, IsReplyToLine, ReplyText, nothing, answer, unreadable, too_long, no_text, no_request, no_words, answered}
 use Rattle.wgsl_text.specs.Requests.{NoRequest}
-use Rattle.wgsl_text.specs.Words.{has_line_feed, words_of}
+use Rattle.wgsl_text.specs.Words.{words_of}
 use Rattle.wgsl_text.specs.declared.rules.RuleSet.{RuleSet}
 use Rattle.wgsl_text.specs.declared.write.TextKind.{TextKind}
 use Rattle.wgsl_text.proofs.OneAnswer.{one_answer}
@@ -44,21 +44,3 @@ one_form rules bytes unreadable unreadable f g = refl
 
 pub one_line_reply : (rules : RuleSet) (bytes : List ℕ) (r s : ReplyText) → IsReplyToLine rules bytes r → IsReplyToLine rules bytes s → r ≡ s
 one_line_reply rules bytes r s f g = one_form rules bytes r s (reply_form f) (reply_form g)
-
--- when the bytes of a request have a reply
-abbrev RequestForm : RuleSet → List ℕ → ReplyText → Type 0
-RequestForm rules bytes reply =
-    ((has_line_feed bytes ≡ true) × (reply ≡ unreadable)) ⊎ ((has_line_feed bytes ≡ false) × IsReplyToLine rules bytes reply)
-
-request_form : {rules : RuleSet} {bytes : List ℕ} {reply : ReplyText} → IsReplyTo rules bytes reply → RequestForm rules bytes reply
-request_form (forbidden found) = inl (found, refl)
-request_form (one_line reply none is) = inr (none, is)
-
-one_request_form : (rules : RuleSet) (bytes : List ℕ) (r s : ReplyText) → RequestForm rules bytes r → RequestForm rules bytes s → r ≡ s
-one_request_form rules bytes r s (inl f) (inl g) = f.1 ∙ sym g.1
-one_request_form rules bytes r s (inl f) (inr g) = absurd (cc (sym f.0 ∙ g.0))
-one_request_form rules bytes r s (inr f) (inl g) = absurd (cc (sym f.0 ∙ g.0))
-one_request_form rules bytes r s (inr f) (inr g) = one_line_reply rules bytes r s f.1 g.1
-
-pub one_reply : (rules : RuleSet) (bytes : List ℕ) (r s : ReplyText) → IsReplyTo rules bytes r → IsReplyTo rules bytes s → r ≡ s
-one_reply rules bytes r s f g = one_request_form rules bytes r s (request_form f) (request_form g)

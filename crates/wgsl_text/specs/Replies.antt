@@ -1,15 +1,12 @@
--- What a request gets.
-use Rattle.std.specs.Prelude.{◌≡◌, ◌≢◌, ◌<◌, ◌≤◌, ◌++◌, ◌⊎◌, ℕ, List, [], All, IsUtf8, false, length, string_bytes, true}
+-- What a line gets.
+use Rattle.std.specs.Prelude.{◌≡◌, ◌≢◌, ◌<◌, ◌≤◌, ◌++◌, ℕ, List, [], All, IsUtf8, length}
 use Rattle.wgsl_text.specs.Answers.{IsReply}
 use Rattle.wgsl_text.specs.Requests.{NoRequest}
-use Rattle.wgsl_text.specs.Words.{has_line_feed, words_of}
+use Rattle.wgsl_text.specs.Words.{words_of}
 use Rattle.wgsl_text.specs.declared.rules.RuleSet.{RuleSet}
-use Rattle.wgsl_text.specs.declared.request.Reply.{Reply}
-use Rattle.wgsl_text.specs.declared.request.Reply.TheVariants as r
 use Rattle.wgsl_text.specs.declared.request.ReplyKind.{ReplyKind}
 use Rattle.wgsl_text.specs.declared.request.ReplyKind.TheVariants as k
 use Rattle.wgsl_text.specs.declared.write.TextKind.{TextKind}
-use Rattle.wgsl_text.specs.declared.write.TextKind.TheVariants as kinds
 
 -- the reply to a request: nothing, an answer or the message of a refusal, or that it can't be read
 pub data ReplyText : Type 0 where
@@ -31,12 +28,6 @@ pub data IsReplyToLine (rules : RuleSet) (bytes : List ℕ) : ReplyText → Type
   answered : (kind : TextKind) (text : List ℕ) → IsLineOfText bytes → words_of bytes ≢ [] →
       IsReply rules (words_of bytes) kind text → IsReplyToLine rules bytes (answer kind text)
 
--- the reply to the bytes of a request: it is one line, so a line feed makes it unreadable
-pub data IsReplyTo (rules : RuleSet) (bytes : List ℕ) : ReplyText → Type 0 where
-  forbidden : has_line_feed bytes ≡ true → IsReplyTo rules bytes unreadable
-  one_line : (reply : ReplyText) → has_line_feed bytes ≡ false → IsReplyToLine rules bytes reply →
-      IsReplyTo rules bytes reply
-
 -- a request of this kind can't be read
 abbrev pub IsUnreadable : ReplyKind → Type 0
 IsUnreadable k.Nothing = ⊥
@@ -49,17 +40,3 @@ WritesReply Holds k.Nothing old new = Holds nothing
 WritesReply Holds (k.Answer kind) old new =
     (text : List ℕ) × Holds (answer kind text) × (new ≡ old ++ text)
 WritesReply Holds (k.Unreadable why) old new = Holds unreadable
-
--- a reply, without the memory that holds its text
-abbrev pub reply_text : Reply → ReplyText
-reply_text r.Nothing = nothing
-reply_text (r.Answer kind text) = answer kind (string_bytes text)
-reply_text r.Unreadable = unreadable
-
--- what is explained: a sentence for a request that is not answered, and nothing for one that is
-abbrev pub IsExplanation : RuleSet → List ℕ → Reply → Type 0
-IsExplanation rules bytes r.Nothing =
-    (kind : TextKind) × (text : List ℕ) × IsReplyTo rules bytes (answer kind text)
-IsExplanation rules bytes (r.Answer kind text) =
-    (kind ≡ kinds.Answer) × (IsReplyTo rules bytes nothing ⊎ IsReplyTo rules bytes unreadable)
-IsExplanation rules bytes r.Unreadable = ⊥

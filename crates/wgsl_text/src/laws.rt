@@ -7,7 +7,6 @@ ghost use Rattle.wgsl_text.specs.spelling.Spells.{Spells};
 ghost use Rattle.wgsl_text.specs.spelling.Written.{IsWritable};
 ghost use Rattle.wgsl_text.specs.Grammar.{TypeAt};
 ghost use Rattle.wgsl_text.specs.Laws.{OneAnswer};
-ghost use Rattle.wgsl_text.specs.Replies.{ReplyText, IsReplyTo};
 ghost use Rattle.wgsl_text.specs.Requests.{Request, IsRequest};
 ghost use Rattle.wgsl_text.specs.Words.{words_of};
 ghost use Rattle.wgsl_text.specs.declared.rules.RuleSet.{RuleSet};
@@ -48,11 +47,4 @@ pub fn answered_is_read()
 /// A request has at most one answer.
 pub fn one_answer()
     ensures { (request : Request) → OneAnswer request }
-{}
-
-/// By a set of rules, the bytes of a request have at most one reply.
-#[tactic(auto, using(crate::proofs::OneReply::one_reply))]
-pub fn one_reply()
-    ensures { (rules : RuleSet) (bytes : List ℕ) (a b : ReplyText)
-        → IsReplyTo rules bytes a → IsReplyTo rules bytes b → a ≡ b }
 {}

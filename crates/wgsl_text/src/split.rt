@@ -42,7 +42,7 @@ fn word_len(bytes: &[u8]) -> usize
 }
 
 /// Spaces, tabs and carriage returns separate words, and nothing else does.
-fn is_separator(byte: u8) -> bool
+pub fn is_separator(byte: u8) -> bool
     ensures { result ≡ is_separator byte }
 {
     matches!(byte, b' ' | b'\t' | b'\r')

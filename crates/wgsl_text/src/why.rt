@@ -10,6 +10,8 @@ pub enum Why {
     LineFeed,
     NotUtf8,
     Word(Misread),
+    /// The index of the byte from which an expression is none, and why.
+    Expression(usize, &'static str),
 }
 
 /// How many bytes of a word are written.
@@ -22,6 +24,10 @@ pub fn write_why(request: &[u8], why: Why, text: &mut String) -> Result<(), Allo
         Why::LineFeed => "a line feed",
         Why::NotUtf8 => "not UTF-8",
         Why::Word(misread) => return write_misread(request, misread, text),
+        Why::Expression(at, reason) => {
+            let column = at.saturating_add(1);
+            return write!(text, "column {column}: {reason}");
+        }
     };
     text.push_str(reason)
 }

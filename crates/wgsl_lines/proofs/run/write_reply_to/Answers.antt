@@ -4,7 +4,8 @@ use Rattle.std.proofs.lemmas.List.{nil_from_length}
 use Rattle.std.specs.Prelude.{IfOk}
 use Rattle.wgsl_text.specs.declared.request.ReplyKind.{ReplyKind}
 use Rattle.wgsl_text.specs.declared.request.ReplyKind.TheVariants as k
-use Rattle.wgsl_text.specs.Replies.{IsReplyToLine, WritesReply, answer}
+use Rattle.wgsl_text.specs.Replies.{WritesReply, answer}
+use Rattle.wgsl_expressions.specs.Replies.{IsReplyToLine}
 use Rattle.wgsl_text.specs.declared.rules.RuleSet.{RuleSet}
 use Rattle.wgsl_lines.specs.Session.{reply_of_kind}
 use Rattle.wgsl_lines.proofs.Replies.{of_cut}

@@ -1,14 +1,16 @@
 use Rattle.std.proofs.Common.{◌≡◌, ◌<◌, ◌∙◌, ℕ, Bool, true, false, List, Result, Ok, Err, arith, length, refl, rules, subst, sym}
 use Rattle.std.specs.Prelude.{IfOk}
-use Rattle.wgsl_text.specs.Replies.{IsReplyTo, IsReplyToLine, WritesReply, forbidden, nothing, one_line, too_long, unreadable}
+use Rattle.wgsl_text.specs.Replies.{WritesReply, nothing, unreadable}
+use Rattle.wgsl_expressions.specs.Replies.{IsReplyTo, IsReplyToLine, forbidden, one_line}
+use Rattle.wgsl_expressions.proofs.OneReply.{long_line}
 use Rattle.wgsl_text.specs.Words.{has_line_feed}
 use Rattle.wgsl_text.specs.declared.request.ReplyKind.{ReplyKind}
 use Rattle.wgsl_text.specs.declared.request.ReplyKind.TheVariants as k
 use Rattle.wgsl_text.specs.declared.rules.RuleSet.{RuleSet}
 use Rattle.wgsl_text.specs.declared.why.Why.{Why}
 use Rattle.wgsl_text.proofs.FirstWord.{blank-no_line_feed}
-use Rattle.wgsl_text.proofs.request.write_reply_to_request.Goals.{else-request-le-LONGEST-via-then-request-le-LONGEST+else-has_line_feed, else-request-le-LONGEST-via-else-request-le-LONGEST}
-use Rattle.wgsl_text.proofs.request.write_reply_to_request.Goals as goal
+use Rattle.wgsl_expressions.proofs.request.write_reply_to_request.Goals.{else-request-le-LONGEST-via-then-request-le-LONGEST+else-has_line_feed, else-request-le-LONGEST-via-else-request-le-LONGEST}
+use Rattle.wgsl_expressions.proofs.request.write_reply_to_request.Goals as goal
 
 module _ (rules : RuleSet) (bytes : List ℕ) where
   -- the reply to a line without line feeds is that to the request
@@ -27,7 +29,7 @@ module _ (rules : RuleSet) (bytes : List ℕ) where
     where
       test : (feed : Bool) → has_line_feed bytes ≡ feed → IsReplyTo rules bytes unreadable
       test true found = forbidden found
-      test false none = one_line unreadable none (too_long long)
+      test false none = one_line unreadable none (long_line rules bytes long)
 
   of_long : {E : Type 0} (r : Result ReplyKind E) (why : Why) (old new : List ℕ) → 4096 < length bytes → r ≡ Ok (k.Unreadable why) → IfOk r (λ kind. WritesReply (IsReplyTo rules bytes) kind old new)
   of_long r why old new long is = subst (λ r. IfOk r (λ kind. WritesReply (IsReplyTo rules bytes) kind old new)) (sym is) (unreadable_long long)

@@ -1,0 +1,11 @@
+pub mod Tokens
+pub mod Numbers
+pub mod Starts
+pub mod Operators
+pub mod Reading
+pub mod Cursors
+pub mod Outcomes
+pub mod Names
+pub mod Grammar
+pub mod Views
+pub mod Replies

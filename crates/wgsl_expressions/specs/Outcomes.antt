@@ -1,0 +1,112 @@
+-- What the parts of an expression are, by the requests about them.
+use Rattle.std.specs.Prelude.{◌≡◌, ℕ, List, [], ◌∷◌, ◌++◌, Option, Some, None, Result, Ok, Err, Bool, false, ◌&&◌, map}
+use Rattle.std.specs.List.{list_all}
+use Rattle.wgsl_syntax.specs.declared.operator.BinaryOperator.{BinaryOperator}
+use Rattle.wgsl_rules.specs.standard.Choice.{Operand}
+use Rattle.wgsl_rules.specs.types.Signatures.{Parameter}
+use Rattle.wgsl_rules.specs.types.Types.{WgslType}
+use Rattle.wgsl_standard.specs.Callees.{WgslCallee, a_binary}
+use Rattle.wgsl_forms.specs.Expressions.{Expression, is_const_expression}
+use Rattle.wgsl_forms.specs.Index.{is_vector}
+use Rattle.wgsl_forms.specs.Memory.{behind, is_memory}
+use Rattle.wgsl_requests.specs.Answers.{Answers, WgslAnswer, a_type_of, a_form_type}
+use Rattle.wgsl_requests.specs.CallForms.{type_asked}
+use Rattle.wgsl_requests.specs.Forms.{address_of, index_of, member_of, typed_array_of}
+use Rattle.wgsl_requests.specs.Requests.{WgslRequest, form_of}
+use Rattle.wgsl_text.specs.Texts.{answer_text}
+
+-- a part that has no type: the index of its first byte, and why
+pub record Refused : Type 0 where
+  pub at : ℕ
+  pub message : List ℕ
+
+-- an expression, or its first part that has no type
+abbrev pub Outcome : Type 0
+Outcome = Result Expression Refused
+
+-- expressions, or the first part of them that has no type
+abbrev pub Parts : Type 0
+Parts = Result (List Expression) Refused
+
+abbrev pub no_parts : Parts
+no_parts = Ok []
+
+-- one more part
+abbrev pub with_part : Parts → Outcome → Parts
+with_part (Ok xs) (Ok x) = Ok (xs ++ x ∷ [])
+with_part (Ok xs) (Err e) = Err e
+with_part (Err e) x = Err e
+
+-- an operand of a request
+abbrev pub operand : Expression → Operand
+operand x = record { of_type = x.of_type; is_constant = x.is_constant }
+
+abbrev pub is_constant : Expression → Bool
+is_constant x = is_const_expression (operand x)
+
+-- the type that an answer is
+abbrev pub type_of_answer : WgslAnswer → Option WgslType
+type_of_answer (a_type_of c (Some (Some t))) = Some t
+type_of_answer (a_form_type (Ok t)) = Some t
+type_of_answer a = None
+
+-- the expression of the type that an answer is, or the text of the answer
+abbrev pub outcome_by : ℕ → (WgslType → Expression) → WgslAnswer → Option WgslType → Outcome
+outcome_by at expression a (Some t) = Ok (expression t)
+outcome_by at expression a None = Err (record { at = at; message = answer_text a })
+
+-- what the request about a part answers
+abbrev pub IsOutcome : ℕ → (WgslType → Expression) → WgslRequest → Outcome → Type 0
+IsOutcome at expression request r =
+    (a : WgslAnswer) × Answers request a × (r ≡ outcome_by at expression a (type_of_answer a))
+
+-- a component of a vector in memory is marked, since there is no pointer to it
+abbrev pub part_in : Expression → Bool → WgslType → Expression
+part_in x is_constant t = record { of_type = t; is_constant = is_constant; is_component = is_memory t && is_vector (behind x.of_type) }
+
+-- `x.name`
+abbrev pub IsMember : ℕ → List ℕ → Outcome → Outcome → Type 0
+IsMember at name (Ok x) r = IsOutcome at (part_in x (is_constant x)) (form_of (member_of (operand x) name)) r
+IsMember at name (Err e) r = r ≡ Err e
+
+-- `x[i]`
+abbrev pub IsElement : ℕ → Outcome → Outcome → Outcome → Type 0
+IsElement at (Ok x) (Ok i) r = IsOutcome at (part_in x (is_constant x && is_constant i)) (form_of (index_of (operand x) (operand i))) r
+IsElement at (Ok x) (Err e) r = r ≡ Err e
+IsElement at (Err e) i r = r ≡ Err e
+
+-- what stands in front of operands
+pub data Head : Type 0 where
+  overloaded : WgslCallee → Option (List Parameter) → Head
+  -- `array<f32, 4>`
+  typed_array : WgslType → Option ℕ → Head
+
+-- the only operand is a reference to a component of a vector
+abbrev pub is_component : List Expression → Bool
+is_component (x ∷ []) = x.is_component
+is_component xs = false
+
+-- the request, which says of the operand of `&` whether it is such a reference
+abbrev pub marked : Bool → WgslRequest → WgslRequest
+marked component (form_of (address_of x c)) = form_of (address_of x component)
+marked component request = request
+
+-- what is asked of a head with these operands, as the requests have them
+abbrev pub asked_with : Head → Bool → List Operand → WgslRequest
+asked_with (overloaded callee template) component xs = marked component (type_asked (record { callee = callee; template = template; operands = xs }))
+asked_with (typed_array t n) component xs = form_of (typed_array_of t n xs)
+
+abbrev pub asked : Head → List Expression → WgslRequest
+asked head xs = asked_with head (is_component xs) (map operand xs)
+
+-- A call is a const-expression if its operands are. No table says that of some functions it never is: derivatives, subgroups.
+abbrev pub result_of : List Expression → WgslType → Expression
+result_of xs t = record { of_type = t; is_constant = list_all is_constant xs; is_component = false }
+
+-- `-x`, `x + y`, `f(x, y)`
+abbrev pub IsCalled : ℕ → Head → Parts → Outcome → Type 0
+IsCalled at head (Ok xs) r = IsOutcome at (result_of xs) (asked head xs) r
+IsCalled at head (Err e) r = r ≡ Err e
+
+abbrev pub IsBinary : ℕ → BinaryOperator → Outcome → Outcome → Outcome → Type 0
+IsBinary at o x y r = IsCalled at (overloaded (a_binary o) None) (with_part (with_part no_parts x) y) r

@@ -1,0 +1,336 @@
+// Requests about the parts of an expression.
+ghost use Rattle.std.specs.Prelude.{◌≡◌, IfOk, map, option_map, string_bytes};
+ghost use Rattle.wgsl_core.specs.View.{view};
+ghost use Rattle.wgsl_forms.specs.Index.{is_vector};
+ghost use Rattle.wgsl_forms.specs.Memory.{behind, is_memory};
+ghost use Rattle.wgsl_core.specs.Instances.{parameter_view};
+ghost use Rattle.wgsl_standard.specs.Callees.{callee_view};
+ghost use Rattle.wgsl_requests.specs.CallForms.{type_asked};
+ghost use Rattle.std.specs.List.{list_all};
+ghost use Rattle.wgsl_requests.specs.FormViews.{form_view};
+ghost use Rattle.wgsl_requests.specs.Forms.{index_of, member_of};
+ghost use Rattle.wgsl_requests.specs.Requests.{form_of};
+ghost use Rattle.wgsl_requests.specs.StandardViews.{written_view};
+ghost use Rattle.wgsl_requests.specs.Views.{request_view};
+ghost use Rattle.wgsl_text.specs.internal.Asked.{called};
+ghost use Rattle.wgsl_expressions.specs.Outcomes.{IsBinary, IsCalled, IsElement, IsMember, asked, asked_with, is_component, is_constant, marked, operand, part_in};
+ghost use Rattle.wgsl_expressions.specs.Views.{IsFound, found_outcome, head_view, outcome_view, refused_view, shown, typed_view};
+
+use crate::head::Head;
+use crate::outcome::{Outcome, Parts, Refused, Typed, with_part};
+use std::alloc::{AllocError, Global};
+use wgsl_core::signature::TpltParam;
+use wgsl_core::ty::Type;
+use wgsl_core::ty::form::Form as TypeForm;
+use wgsl_forms::expression::is_const_expression;
+use wgsl_requests::answers::Answer;
+use wgsl_requests::ask::answer;
+use wgsl_requests::call_forms::form_of_call;
+use wgsl_requests::requests::{Call, Form, Request};
+use wgsl_standard::callee::Callee;
+use wgsl_standard::instance::built;
+use wgsl_standard::operand::Operand;
+use wgsl_syntax::operator::BinaryOperator;
+use wgsl_text::write::write;
+
+/// The type that is answered to a request, or the text of the answer.
+fn type_or_text(alloc: Global, request: Request<'_>) -> Result<Result<Type, String>, AllocError>
+    ensures { IfOk result (λ found. IsFound (request_view request.entry) (shown view string_bytes found)) }
+{
+    match answer(alloc, request)? {
+        Answer::TypeOf(_, Some(found)) => match built(alloc, found)? {
+            Some(ty) => Ok(Ok(ty)),
+            None => Ok(Err(String::from_str(alloc, "no value")?)),
+        },
+        Answer::FormType(Ok(ty)) => Ok(Ok(ty.build(alloc)?)),
+        other => {
+            let mut text = String::new(alloc);
+            write(other, &mut text)?;
+            Ok(Err(text))
+        }
+    }
+}
+
+/// An expression as an operand of a request.
+fn operand_of(x: &Typed) -> Operand<'_>
+    ensures { written_view result ≡ operand (typed_view x.now) }
+{
+    Operand::of(&x.ty, x.is_constant)
+}
+
+/// Whether the expression is a const-expression.
+fn is_constant(x: &Typed) -> bool
+    ensures { result ≡ is_constant (typed_view x.now) }
+{
+    is_const_expression(&operand_of(x))
+}
+
+/// `x.name`, whose name begins at that byte.
+pub(crate) fn member(
+    alloc: Global,
+    at: usize,
+    name: &str,
+    x: Outcome,
+) -> Result<Outcome, AllocError>
+    ensures { IfOk result (λ y. IsMember at name.now (outcome_view x) (outcome_view y)) }
+{
+    let x = match x {
+        Ok(x) => x,
+        Err(refused) => return Ok(Err(refused)),
+    };
+    let found = ask_member(alloc, &x, name)?;
+    let outcome = part_of(at, &x, is_constant(&x), found);
+    drop(x);
+    Ok(outcome)
+}
+
+fn ask_member<'p>(
+    alloc: Global,
+    x: &'p Typed,
+    name: &'p str,
+) -> Result<Result<Type, String>, AllocError>
+    ensures { IfOk result (λ found. IsFound (form_of (member_of (operand (typed_view x.now)) name.now)) (shown view string_bytes found)) }
+{
+    let form = Form::Member(operand_of(x), name);
+    type_or_text(alloc, Request::Form(&form))
+}
+
+fn ask_element<'p>(
+    alloc: Global,
+    x: &'p Typed,
+    index: &'p Typed,
+) -> Result<Result<Type, String>, AllocError>
+    ensures { IfOk result (λ found. IsFound (form_of (index_of (operand (typed_view x.now)) (operand (typed_view index.now)))) (shown view string_bytes found)) }
+{
+    let form = Form::Index(operand_of(x), operand_of(index));
+    type_or_text(alloc, Request::Form(&form))
+}
+
+/// `x[i]`, whose `[` is that byte.
+pub(crate) fn element(
+    alloc: Global,
+    at: usize,
+    x: Outcome,
+    index: Outcome,
+) -> Result<Outcome, AllocError>
+    ensures { IfOk result (λ y. IsElement at (outcome_view x) (outcome_view index) (outcome_view y)) }
+{
+    let x = match x {
+        Ok(x) => x,
+        Err(refused) => {
+            drop(index);
+            return Ok(Err(refused));
+        }
+    };
+    let index = match index {
+        Ok(index) => index,
+        Err(refused) => {
+            drop(x);
+            return Ok(Err(refused));
+        }
+    };
+    let found = ask_element(alloc, &x, &index)?;
+    let outcome = part_of(at, &x, is_constant(&x) && is_constant(&index), found);
+    drop(x);
+    drop(index);
+    Ok(outcome)
+}
+
+/// The part of an expression of which this was answered.
+fn part_of(at: usize, x: &Typed, is_constant: bool, found: Result<Type, String>) -> Outcome
+    ensures { outcome_view result ≡ found_outcome at (part_in (typed_view x.now) is_constant) (shown view string_bytes found) }
+{
+    match found {
+        Ok(ty) => {
+            let is_component = is_memory(&ty) && is_vector_behind(&x.ty);
+            Ok(Typed {
+                ty,
+                is_constant,
+                is_component,
+            })
+        }
+        Err(message) => Err(Refused { at, message }),
+    }
+}
+
+fn is_memory(ty: &Type) -> bool
+    ensures { result ≡ is_memory (view ty.now) }
+{
+    matches!(
+        ty.form(),
+        TypeForm::Reference(_, _, _) | TypeForm::Pointer(_, _, _)
+    )
+}
+
+/// Whether the type, or the one behind a reference or a pointer, is a vector.
+fn is_vector_behind(ty: &Type) -> bool
+    ensures { result ≡ is_vector (behind (view ty.now)) }
+{
+    match ty.form() {
+        TypeForm::Reference(_, inner, _) | TypeForm::Pointer(_, inner, _) => is_vector(inner),
+        _ => is_vector(ty),
+    }
+}
+
+fn is_vector(ty: &Type) -> bool
+    ensures { result ≡ is_vector (view ty.now) }
+{
+    matches!(ty.form(), TypeForm::Vector(_, _))
+}
+
+/// `x + y`, whose operator is at that byte.
+pub(crate) fn binary(
+    alloc: Global,
+    at: usize,
+    operator: BinaryOperator,
+    x: Outcome,
+    y: Outcome,
+) -> Result<Outcome, AllocError>
+    ensures { IfOk result (λ z. IsBinary at operator (outcome_view x) (outcome_view y) (outcome_view z)) }
+{
+    let parts = with_part(with_part(Ok(Vec::new(alloc)), x)?, y)?;
+    call(alloc, at, &Head::Binary(operator), parts)
+}
+
+/// What stands in front of the operands with them, whose first token is at that byte.
+pub(crate) fn call(
+    alloc: Global,
+    at: usize,
+    head: &Head,
+    parts: Parts,
+) -> Result<Outcome, AllocError>
+    ensures { IfOk result (λ r. IsCalled at (head_view head.now) (shown (λ v. map typed_view v.items) refused_view parts) (outcome_view r)) }
+{
+    let parts = match parts {
+        Ok(parts) => parts,
+        Err(refused) => return Ok(Err(refused)),
+    };
+    let found = ask_of(alloc, head, &parts)?;
+    let is_constant = are_constant(&parts);
+    drop(parts);
+    match found {
+        Ok(ty) => Ok(Ok(Typed {
+            ty,
+            is_constant,
+            is_component: false,
+        })),
+        Err(message) => Ok(Err(Refused { at, message })),
+    }
+}
+
+/// Asks about what stands in front of operands with them.
+fn ask_of(alloc: Global, head: &Head, parts: &[Typed]) -> Result<Result<Type, String>, AllocError>
+    ensures { IfOk result (λ found. IsFound (asked (head_view head.now) (map typed_view parts.now)) (shown view string_bytes found)) }
+{
+    let operands = operands_of(alloc, parts)?;
+    let found = ask_with(alloc, head, is_component(parts), &operands);
+    drop(operands);
+    found
+}
+
+/// Whether the only operand is a reference to a component of a vector.
+fn is_component(parts: &[Typed]) -> bool
+    ensures { result ≡ is_component (map typed_view parts.now) }
+{
+    match parts {
+        [x] => x.is_component,
+        _ => false,
+    }
+}
+
+/// Whether all are const-expressions.
+fn are_constant(parts: &[Typed]) -> bool
+    ensures { result ≡ list_all is_constant (map typed_view parts.now) }
+{
+    for part in parts {
+        if !is_constant(part) {
+            return false;
+        }
+    }
+    true
+}
+
+fn operands_of<'p>(alloc: Global, parts: &'p [Typed]) -> Result<Vec<Operand<'p>>, AllocError>
+    ensures { IfOk result (λ v. map written_view v.items ≡ map operand (map typed_view parts.now)) }
+{
+    let mut operands = Vec::with_capacity(alloc, parts.len())?;
+    for part in parts {
+        operands.push(operand_of(part))?;
+    }
+    Ok(operands)
+}
+
+fn ask_with(
+    alloc: Global,
+    head: &Head,
+    is_component: bool,
+    operands: &[Operand<'_>],
+) -> Result<Result<Type, String>, AllocError>
+    ensures { IfOk result (λ found. IsFound (asked_with (head_view head.now) is_component (map written_view operands.now))
+        (shown view string_bytes found)) }
+{
+    match head {
+        Head::Unary(operator) => {
+            ask_call(
+                alloc,
+                Callee::Unary(*operator),
+                None,
+                is_component,
+                operands,
+            )
+        }
+        Head::Binary(operator) => {
+            ask_call(
+                alloc,
+                Callee::Binary(*operator),
+                None,
+                is_component,
+                operands,
+            )
+        }
+        Head::Constructor(name, template) => {
+            let callee = Callee::Constructor(name.as_str());
+            ask_call(alloc, callee, template.as_deref(), is_component, operands)
+        }
+        Head::Function(name, template) => {
+            let callee = Callee::Function(name.as_str());
+            ask_call(alloc, callee, template.as_deref(), is_component, operands)
+        }
+        Head::Array(ty, count) => {
+            let form = Form::ArrayOf(ty, *count, operands);
+            type_or_text(alloc, Request::Form(&form))
+        }
+    }
+}
+
+fn ask_call(
+    alloc: Global,
+    callee: Callee<'_>,
+    template: Option<&[TpltParam]>,
+    is_component: bool,
+    operands: &[Operand<'_>],
+) -> Result<Result<Type, String>, AllocError>
+    ensures { IfOk result (λ found. IsFound (marked is_component (type_asked (called (callee_view callee.entry)
+        (option_map (λ ps. map parameter_view ps.now) template.entry) (map written_view operands.now))))
+        (shown view string_bytes found)) }
+{
+    let call = Call {
+        callee,
+        template,
+        operands,
+    };
+    match form_of_call(&call) {
+        Some(form) => type_or_text(alloc, Request::Form(&marked(form, is_component))),
+        None => type_or_text(alloc, Request::Type(&call)),
+    }
+}
+
+/// The form, which says of the operand of `&` whether it is a reference to a component of a vector.
+fn marked(form: Form<'_>, is_component: bool) -> Form<'_>
+    ensures { form_of (form_view result) ≡ marked is_component (form_of (form_view form.entry)) }
+{
+    match form {
+        Form::Address(x, _) => Form::Address(x, is_component),
+        other => other,
+    }
+}

@@ -1,0 +1,183 @@
+"""Expressions by WGSL's grammar, a function for each of its rules: what `type EXPRESSION` has to read."""
+import re
+
+TOKEN = re.compile(
+    r"(?P<number>0[xX][0-9a-fA-F]*\.?[0-9a-fA-F]*(?:[pP][+-]?)?\w*|(?:[0-9]+\.?[0-9]*|\.[0-9]+)(?:[eE][+-]?[0-9]+)?\w*)"
+    r"|(?P<name>[A-Za-z_]\w*)|(?P<sign>&&|\|\||<<|<=|==|!=|--|\+\+|\S)"
+)
+FLOAT = r"(?:[0-9]+\.[0-9]*|\.[0-9]+)(?:[eE][+-]?[0-9]+)?|[0-9]+[eE][+-]?[0-9]+"
+HEX = r"0[xX](?:[0-9a-fA-F]+\.[0-9a-fA-F]*|\.[0-9a-fA-F]+)(?:[pP][+-]?[0-9]+)?|0[xX][0-9a-fA-F]+[pP][+-]?[0-9]+"
+INTEGER = r"0|[1-9][0-9]*|0[xX][0-9a-fA-F]+"
+LITERALS = [
+    (rf"{INTEGER}", "AbstractInt"),
+    (rf"(?:{INTEGER})i", "i32"),
+    (rf"(?:{INTEGER})u", "u32"),
+    (rf"{FLOAT}|{HEX}", "AbstractFloat"),
+    (rf"(?:{FLOAT}|0|[1-9][0-9]*)f|0[xX][0-9a-fA-F.]+[pP][+-]?[0-9]+f", "f32"),
+    (rf"(?:{FLOAT}|0|[1-9][0-9]*)h|0[xX][0-9a-fA-F.]+[pP][+-]?[0-9]+h", "f16"),
+]
+RELATIONAL = "<", "<=", ">", ">=", "==", "!="
+
+
+class NoExpression(Exception):
+    """A text that is no expression."""
+
+
+class Node:
+    """A part of an expression: the index of its first byte, what it is, and its parts."""
+
+    def __init__(self, at, kind, what, parts=()):
+        self.at, self.kind, self.what, self.parts = at, kind, what, list(parts)
+
+
+def literal(text):
+    return next((ty for pattern, ty in LITERALS if re.fullmatch(pattern, text)), None)
+
+
+class Reader:
+    def __init__(self, text):
+        self.tokens = [(m.group(), m.start(), m.lastgroup) for m in TOKEN.finditer(text)]
+        self.taken = 0
+
+    def next(self, behind=0):
+        index = self.taken + behind
+        return self.tokens[index] if index < len(self.tokens) else ("", -1, "end")
+
+    def take(self, *texts):
+        if self.next()[0] in texts:
+            self.taken += 1
+            return self.tokens[self.taken - 1]
+        return None
+
+    def expect(self, text):
+        if not self.take(text):
+            raise NoExpression
+
+    def operator(self):
+        """The binary operator that comes next, and how many tokens it has."""
+        text, at, _ = self.next()
+        more, behind, _ = self.next(1)
+        if text == ">" and behind == at + 1 and more in (">", "="):
+            return text + more, 2
+        return text, 1
+
+    def binary(self, operators, left, right):
+        """Operators of a rule with what stands right of each, as long as they come."""
+        while True:
+            text, count = self.operator()
+            if text not in operators:
+                return left
+            at = self.next()[1]
+            self.taken += count
+            left = Node(at, "binary", text, [left, right()])
+
+    def whole(self):
+        expression = self.expression()
+        if self.taken < len(self.tokens):
+            raise NoExpression
+        return expression
+
+    def expression(self):
+        first = self.unary()
+        for operator in "&", "^", "|":
+            if self.operator()[0] == operator:
+                return self.binary([operator], first, self.unary)
+        left = self.relational(first)
+        for operator in "&&", "||":
+            if self.operator()[0] == operator:
+                return self.binary([operator], left, lambda: self.relational(self.unary()))
+        return left
+
+    def relational(self, first):
+        left = self.shift(first)
+        text, count = self.operator()
+        if text not in RELATIONAL:
+            return left
+        at = self.next()[1]
+        self.taken += count
+        return Node(at, "binary", text, [left, self.shift(self.unary())])
+
+    def shift(self, first):
+        text, count = self.operator()
+        if text not in ("<<", ">>"):
+            return self.additive(first)
+        at = self.next()[1]
+        self.taken += count
+        return Node(at, "binary", text, [first, self.unary()])
+
+    def additive(self, first):
+        return self.binary(("+", "-"), self.multiplicative(first), lambda: self.multiplicative(self.unary()))
+
+    def multiplicative(self, first):
+        return self.binary(("*", "/", "%"), first, self.unary)
+
+    def unary(self):
+        operator = self.take("!", "-", "~", "*", "&")
+        if operator:
+            return Node(operator[1], "unary", operator[0], [self.unary()])
+        return self.postfix(self.primary())
+
+    def postfix(self, x):
+        while True:
+            bracket = self.take("[")
+            if bracket:
+                index = self.expression()
+                self.expect("]")
+                x = Node(bracket[1], "index", None, [x, index])
+            elif self.take("."):
+                text, at, kind = self.next()
+                if kind != "name":
+                    raise NoExpression
+                self.taken += 1
+                x = Node(at, "member", text, [x])
+            else:
+                return x
+
+    def primary(self):
+        text, at, kind = self.next()
+        self.taken += 1
+        if text == "(":
+            x = self.expression()
+            self.expect(")")
+            return x
+        if kind == "number":
+            if not literal(text):
+                raise NoExpression
+            return Node(at, "operand", (literal(text), True))
+        if text in ("true", "false"):
+            return Node(at, "operand", ("bool", True))
+        if text == "const" and self.next()[2] == "name":
+            name, _, _ = self.next()
+            self.taken += 1
+            return Node(at, "operand", ((name, self.list()), True))
+        if kind != "name" or text == "const":
+            raise NoExpression
+        named = text, self.list()
+        if not self.take("("):
+            return Node(at, "operand", (named, False))
+        return Node(at, "call", named, self.arguments())
+
+    def arguments(self):
+        values = []
+        while not self.take(")"):
+            values.append(self.expression())
+            if not self.take(","):
+                self.expect(")")
+                break
+        return values
+
+    def list(self):
+        """What stands between angle brackets behind a name, if they are closed and have only names, numbers and commas in them."""
+        if self.next()[0] != "<":
+            return None
+        depth, texts = 0, []
+        for behind in range(1, len(self.tokens) - self.taken):
+            text, _, kind = self.next(behind)
+            if text == ">" and depth == 0:
+                self.taken += behind + 1
+                return "".join(texts)
+            if text not in ("<", ">", ",") and kind not in ("name", "number"):
+                return None
+            depth += {"<": 1, ">": -1}.get(text, 0)
+            texts.append(", " if text == "," else text)
+        return None
