@@ -72,6 +72,7 @@ def build_wheel(wheel_directory, config_settings=None, metadata_directory=None):
         lines.append(f"{name},sha256={digest},{len(found[name])}\n")
     found[record] = ("".join(lines) + f"{record},,\n").encode()
     name = f"{distribution()}-{TAG}.whl"
+    os.makedirs(wheel_directory, exist_ok=True)
     with zipfile.ZipFile(os.path.join(wheel_directory, name), "w", zipfile.ZIP_DEFLATED) as wheel:
         for member in [*sorted(set(found) - {record}), record]:
             info = zipfile.ZipInfo(member, OLDEST)
