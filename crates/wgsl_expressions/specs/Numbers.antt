@@ -3,10 +3,7 @@ use Rattle.std.specs.Prelude.{length, ℕ, List, [], ◌∷◌, Option, Some, No
 use Rattle.std.specs.List.{take_while}
 use Rattle.wgsl_syntax.specs.declared.scalar.Scalar.{Scalar}
 use Rattle.wgsl_syntax.specs.declared.scalar.Scalar.TheVariants.{AbstractInt, AbstractFloat, I32, U32, F32, F16}
-use Rattle.wgsl_expressions.specs.Tokens.{is_between, is_digit, is_exponent, is_hexadecimal}
-
-abbrev pub is_digit_of : Bool → ℕ → Bool
-is_digit_of hex byte = is_digit byte || (hex && (is_between 97 102 byte || is_between 65 70 byte))
+use Rattle.wgsl_expressions.specs.Tokens.{is_digit_of, is_exponent, is_hexadecimal}
 
 -- the type of a float by what ends its literal: `1.0`, `1.0f`, `1.0h`
 abbrev pub float_by_suffix : List ℕ → Option Scalar

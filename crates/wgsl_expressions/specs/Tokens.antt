@@ -28,9 +28,13 @@ is_blank byte = nat_eq byte 32 || is_between 9 13 byte
 abbrev pub is_exponent : Bool → ℕ → Bool
 is_exponent is_hexadecimal byte = cond is_hexadecimal (nat_eq byte 112 || nat_eq byte 80) (nat_eq byte 101 || nat_eq byte 69)
 
+-- a digit of a number: of a hexadecimal one also `a` to `f`
+abbrev pub is_digit_of : Bool → ℕ → Bool
+is_digit_of hex byte = is_digit byte || (hex && (is_between 97 102 byte || is_between 65 70 byte))
+
 -- a byte of the digits in front of the `.` of a number: `0x1F`
 abbrev pub is_in_whole : Bool → ℕ → Bool
-is_in_whole hex byte = is_digit byte || (hex && (is_between 97 102 byte || is_between 65 70 byte || nat_eq byte 120 || nat_eq byte 88))
+is_in_whole hex byte = is_digit_of hex byte || (hex && (nat_eq byte 120 || nat_eq byte 88))
 
 -- A number goes on with this byte: `1.5e-3f`. It has a `.` behind digits alone, so `1.5.x` and `1u.x` are a number and a member.
 abbrev pub in_number : Bool → Bool → ℕ → ℕ → Bool

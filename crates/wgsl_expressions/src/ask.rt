@@ -167,15 +167,9 @@ fn is_vector_behind(ty: &Type) -> bool
     ensures { result ≡ is_vector (behind (view ty.now)) }
 {
     match ty.form() {
-        TypeForm::Reference(_, inner, _) | TypeForm::Pointer(_, inner, _) => is_vector(inner),
-        _ => is_vector(ty),
+        TypeForm::Reference(_, inner, _) | TypeForm::Pointer(_, inner, _) => inner.is_vec(),
+        _ => ty.is_vec(),
     }
-}
-
-fn is_vector(ty: &Type) -> bool
-    ensures { result ≡ is_vector (view ty.now) }
-{
-    matches!(ty.form(), TypeForm::Vector(_, _))
 }
 
 /// `x + y`, whose operator is at that byte.

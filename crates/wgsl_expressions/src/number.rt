@@ -1,9 +1,10 @@
 // The types of number literals.
 ghost use Rattle.std.specs.Prelude.{◌≡◌, ◌≤◌, length};
 ghost use Rattle.std.specs.List.{take_while};
-ghost use Rattle.wgsl_expressions.specs.Numbers.{after_digits as after_all, begins_with, float_by_digits, float_by_end, float_by_suffix, integer_by_suffix, is_digit_of, is_padded, number_by_rest, number_of, type_of_number, unsigned};
+ghost use Rattle.wgsl_expressions.specs.Numbers.{after_digits as after_all, begins_with, float_by_digits, float_by_end, float_by_suffix, integer_by_suffix, is_padded, number_by_rest, number_of, type_of_number, unsigned};
+ghost use Rattle.wgsl_expressions.specs.Tokens.{is_digit_of};
 
-use crate::token::{is_digit, is_exponent, is_hexadecimal};
+use crate::token::{is_digit_of, is_exponent, is_hexadecimal};
 use wgsl_syntax::scalar::Scalar;
 
 /// The type of the number that a text is; None if it is none.
@@ -139,10 +140,4 @@ fn digits_len(hex: bool, bytes: &[u8]) -> usize
         .iter()
         .take_while(|byte| is_digit_of(hex, **byte))
         .count()
-}
-
-fn is_digit_of(hex: bool, byte: u8) -> bool
-    ensures { result ≡ is_digit_of hex byte }
-{
-    is_digit(byte) || (hex && ((b'a' <= byte && byte <= b'f') || (b'A' <= byte && byte <= b'F')))
 }

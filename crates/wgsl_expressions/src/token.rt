@@ -1,7 +1,7 @@
 // The tokens of an expression.
 ghost use Rattle.std.specs.Prelude.{◌≡◌, ◌+◌, ◌<◌, ◌≤◌, IfOk, IsAscii, length, map};
 ghost use Rattle.std.specs.List.{take_while};
-ghost use Rattle.wgsl_expressions.specs.Tokens.{begins_number, in_number as goes_on_in_number, is_blank, is_digit, is_exponent as exponent, is_hexadecimal, is_in_name, is_in_whole, is_operator, is_pair, number_len, tail_len, token_view, tokens_of};
+ghost use Rattle.wgsl_expressions.specs.Tokens.{begins_number, in_number as goes_on_in_number, is_blank, is_digit, is_digit_of as digit_of, is_exponent as exponent, is_hexadecimal, is_in_name, is_in_whole, is_operator, is_pair, number_len, tail_len, token_view, tokens_of};
 
 use std::alloc::{AllocError, Global};
 
@@ -88,12 +88,14 @@ fn goes_on(hex: bool, is_whole: bool, before: u8, byte: u8) -> bool
 fn is_in_whole(hex: bool, byte: u8) -> bool
     ensures { result ≡ is_in_whole hex byte }
 {
-    is_digit(byte)
-        || (hex
-            && ((b'a' <= byte && byte <= b'f')
-                || (b'A' <= byte && byte <= b'F')
-                || byte == b'x'
-                || byte == b'X'))
+    is_digit_of(hex, byte) || (hex && (byte == b'x' || byte == b'X'))
+}
+
+/// Whether the byte is a digit of a number.
+pub(crate) fn is_digit_of(hex: bool, byte: u8) -> bool
+    ensures { result ≡ digit_of hex byte }
+{
+    is_digit(byte) || (hex && ((b'a' <= byte && byte <= b'f') || (b'A' <= byte && byte <= b'F')))
 }
 
 /// Whether a number has its exponent behind this letter.
