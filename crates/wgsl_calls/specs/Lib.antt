@@ -1,3 +1,4 @@
+pub mod Calls
 pub mod Constructors
 pub mod Templates
 pub mod internal

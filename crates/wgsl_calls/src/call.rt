@@ -13,7 +13,8 @@ ghost use Rattle.wgsl_core.specs.internal.Resolution.{element_view, resolved_vie
 ghost use Rattle.wgsl_core.specs.ResultStruct.{result_type};
 ghost use Rattle.wgsl_core.specs.Answer.{AnswersBy, AnswersAs, IsAnswered};
 ghost use Rattle.wgsl_calls.specs.internal.Rows.{rows_view};
-ghost use Rattle.wgsl_calls.specs.internal.Answers.{signature_of, template_of, Chooses, IsBuilt, IsMet, Answered};
+ghost use Rattle.wgsl_calls.specs.Calls.{signature_of};
+ghost use Rattle.wgsl_calls.specs.internal.Answers.{template_of, Chooses, IsBuilt, IsMet, Answered};
 ghost use Rattle.wgsl_rules.specs.conversion.Conversion.{IsValueType};
 ghost use Rattle.wgsl_rules.specs.operators.Candidates.{Name};
 ghost use Rattle.wgsl_rules.specs.Laws.{OneChoice};
@@ -26,13 +27,14 @@ mod source;
 mod table;
 
 use crate::call::find::rows_of;
-use crate::call::fit::{Call, fits};
+use crate::call::fit::fits;
 use crate::call::rows::Rows;
 use crate::call::source::{
     argument, as_long, bare, in_vector, inner, texture_size, transposed, type_of_source,
 };
 use crate::template::BitcastTemplate;
 pub use find::{find_call, names_match_table, names_sorted};
+pub use fit::NamedCall;
 use std::alloc::{AllocError, Global};
 use wgsl_core::error::{Error, Fail};
 use wgsl_core::operators::resolve::{Element, ResolvedType};
@@ -65,7 +67,7 @@ pub fn type_builtin_fn(
 {
     answer(
         alloc,
-        &Call {
+        &NamedCall {
             name,
             template,
             args,
@@ -74,7 +76,7 @@ pub fn type_builtin_fn(
 }
 
 /// The answer of a call: of the first row of its name that takes it, or the refusal if none does.
-fn answer(alloc: Global, call: &Call<'_>) -> Result<Option<Type>, Fail<Error>>
+fn answer(alloc: Global, call: &NamedCall<'_>) -> Result<Option<Type>, Fail<Error>>
     ensures { Answered (IsCallAnswer (signature_of call.now)) (template_of call.now) result }
 {
     match chosen(call) {
@@ -84,7 +86,7 @@ fn answer(alloc: Global, call: &Call<'_>) -> Result<Option<Type>, Fail<Error>>
 }
 
 /// What the first row of the call's name that takes the call returns.
-fn chosen(call: &Call<'_>) -> Option<ReturnType>
+fn chosen(call: &NamedCall<'_>) -> Option<ReturnType>
     ensures { Chooses (rows_named (signature_of call.now).name call_table)
         (signature_of call.now) result }
 {
@@ -95,7 +97,7 @@ fn chosen(call: &Call<'_>) -> Option<ReturnType>
 }
 
 /// What the first of the rows that takes the call returns.
-fn chosen_of(rows: &Rows, call: &Call<'_>) -> Option<ReturnType>
+fn chosen_of(rows: &Rows, call: &NamedCall<'_>) -> Option<ReturnType>
     ensures { Chooses (rows_view rows.now) (signature_of call.now) result }
 {
     match rows {
@@ -130,7 +132,7 @@ fn return_type(row: &Row) -> ReturnType
 }
 
 #[inline(never)]
-fn refuse(alloc: Global, call: &Call<'_>) -> Result<Option<Type>, Fail<Error>>
+fn refuse(alloc: Global, call: &NamedCall<'_>) -> Result<Option<Type>, Fail<Error>>
     ensures { IsMet (Err (signature (signature_of call.now))) result }
 {
     let refused = CallSignature::of_call(alloc, call.name, call.template, call.args)?;
@@ -140,7 +142,7 @@ fn refuse(alloc: Global, call: &Call<'_>) -> Result<Option<Type>, Fail<Error>>
 fn by_return_type(
     alloc: Global,
     return_type: ReturnType,
-    call: &Call<'_>,
+    call: &NamedCall<'_>,
 ) -> Result<Option<Type>, Fail<Error>>
     ensures { Answered (IsReturnType return_type (signature_of call.now))
         (template_of call.now) result }
@@ -218,7 +220,7 @@ fn exchanged(alloc: Global, ty: Option<&Type>) -> Option<Result<Type, AllocError
 }
 
 /// The type that `bitcast` returns: that of its template.
-fn by_template(alloc: Global, call: &Call<'_>) -> Result<Option<Type>, Fail<Error>>
+fn by_template(alloc: Global, call: &NamedCall<'_>) -> Result<Option<Type>, Fail<Error>>
     ensures { Answered (IsFromTemplate (signature_of call.now) (template_of call.now))
         (template_of call.now) result }
 {

@@ -176,7 +176,7 @@ fn loads_vector(ty: &Type, components: u8, of: Scalar) -> bool
 }
 
 /// A node of the tree of single conversions.
-#[derive(Clone, Copy, PartialEq, Eq, Debug)]
+#[derive(Clone, Copy, PartialEq, Eq)]
 enum Node {
     Scalar(Scalar),
     Result(ResultStruct),

@@ -28,8 +28,8 @@ use wgsl_requests::ask::answer;
 use wgsl_requests::call_forms::form_of_call;
 use wgsl_requests::requests::{Call, Form, Request};
 use wgsl_standard::callee::Callee;
-use wgsl_standard::instance::built;
 use wgsl_standard::operand::Operand;
+use wgsl_standard::substitution::built;
 use wgsl_syntax::operator::BinaryOperator;
 use wgsl_text::write::write;
 

@@ -1,7 +1,7 @@
 // Why a text is no expression.
 
 /// What was expected in place of a token.
-#[derive(Clone, Copy, Debug, PartialEq, Eq)]
+#[derive(Clone, Copy)]
 pub enum Wanted {
     /// A type, a literal, a call, `(`, or an operator in front of an operand.
     Operand,
@@ -42,7 +42,7 @@ impl Wanted {
 }
 
 /// The index of the byte from which a text is no expression, and what was expected there.
-#[derive(Clone, Copy, Debug, PartialEq, Eq)]
+#[derive(Clone, Copy)]
 pub struct Misread {
     pub at: usize,
     pub wanted: Wanted,

@@ -6,7 +6,7 @@ use Rattle.wgsl_syntax.specs.declared.operator.BinaryOperator.{BinaryOperator}
 use Rattle.wgsl_syntax.specs.declared.operator.BinaryOperator.TheVariants as operators
 use Rattle.wgsl_syntax.specs.declared.overload.Dimensions.{Dimensions}
 use Rattle.wgsl_syntax.specs.declared.scalar.Scalar.{Scalar}
-use Rattle.wgsl_syntax.specs.declared.overload.Instance.{Instance}
+use Rattle.wgsl_syntax.specs.declared.overload.Substitution.{Substitution}
 use Rattle.wgsl_syntax.specs.declared.overload.Overload.{Overload}
 use Rattle.wgsl_syntax.specs.declared.overload.Pattern.TheVariants as patterns
 use Rattle.wgsl_syntax.specs.declared.overload.Returns.{Returns}
@@ -45,11 +45,11 @@ value_at (p ∷ os) h (suc k) o e = value_at os (and_both (is_value (result_of p
 abbrev pub as_type : Option (Dimensions × Scalar) → Option (Option WgslType)
 as_type r = option_map (λ v. Some (type_with v.0 v.1)) r
 
-value_of_returns : (i : Instance) (us : List WgslType) (r : Returns) → is_value r ≡ true → Some (result_in i us r) ≡ as_type (value_returned i r)
+value_of_returns : (i : Substitution) (us : List WgslType) (r : Returns) → is_value r ≡ true → Some (result_in i us r) ≡ as_type (value_returned i r)
 value_of_returns i us (Gives (patterns.Value s e)) h = refl
 value_of_returns i us r h = absurd (cc h)
 
-answer_in : (op : BinaryOperator) (xs : List Operand) (p : ℕ × Instance) (d : Overload) → IsChosen (binary_overloads op) xs (Some p) →
+answer_in : (op : BinaryOperator) (xs : List Operand) (p : ℕ × Substitution) (d : Overload) → IsChosen (binary_overloads op) xs (Some p) →
     IsStandardAnswer (binary_overloads op) xs (as_type (result_value p.1 (slice_index_or (binary_overloads op) p.0 d)))
 answer_in op xs p d c =
     let o = slice_index_or (binary_overloads op) p.0 d in
@@ -57,7 +57,7 @@ answer_in op xs p d c =
     let v : is_value (result_of o) ≡ true = subst (λ o. is_value (result_of o) ≡ true) (sym w) (value_at (binary_overloads op) (binary_values op) p.0 c.0 c.1) in
     subst (λ r. IsStandardAnswer (binary_overloads op) xs r) (value_of_returns p.1 _ (result_of o) v) (answer_at (binary_overloads op) xs p d o c refl)
 
-pub value_answer : (op : BinaryOperator) (os : List Overload) (xs : List Operand) (p : ℕ × Instance) (d : Overload) (r : Option (Dimensions × Scalar)) →
+pub value_answer : (op : BinaryOperator) (os : List Overload) (xs : List Operand) (p : ℕ × Substitution) (d : Overload) (r : Option (Dimensions × Scalar)) →
     os ≡ binary_overloads op → IsChosen os xs (Some p) → r ≡ result_value p.1 (slice_index_or os p.0 d) → IsStandardAnswer (binary_overloads op) xs (as_type r)
 value_answer op os xs p d r e c h =
     let to : os ≡ binary_overloads op = e in

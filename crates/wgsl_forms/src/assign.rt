@@ -22,15 +22,15 @@ use crate::load::load_type;
 use crate::refusal::Refusal;
 use wgsl_core::ty::Type;
 use wgsl_core::ty::form::Form;
-use wgsl_standard::instance::{component_in, dimensions_in};
 use wgsl_standard::operand::{Operand, OperandType};
 use wgsl_standard::operators::binary_overloads;
 use wgsl_standard::overload::result_of;
 use wgsl_standard::resolve::resolve;
+use wgsl_standard::substitution::{component_in, dimensions_in};
 use wgsl_syntax::address::AccessMode;
 use wgsl_syntax::layer::Layer;
 use wgsl_syntax::operator::{AssignmentOperator, BinaryOperator};
-use wgsl_syntax::overload::{Dimensions, Instance, Overload, Pattern, Returns};
+use wgsl_syntax::overload::{Dimensions, Overload, Pattern, Returns, Substitution};
 use wgsl_syntax::scalar::Scalar;
 
 /// The type to which `x = y` writes: that of what `x` refers to (WGSL, "Simple Assignment"). Refused, in this order, by
@@ -236,19 +236,19 @@ fn result_by(
 {
     let overloads = binary_overloads(operator);
     match resolve(overloads, &[lhs, rhs]) {
-        Some(choice) => result_value(&choice.instance, &overloads[choice.index]),
+        Some(choice) => result_value(&choice.substitution, &overloads[choice.index]),
         None => None,
     }
 }
 
 /// The dimensions and the components of the result, if it is a scalar, a vector or a matrix.
-fn result_value(instance: &Instance, overload: &Overload) -> Option<(Dimensions, Scalar)>
-    ensures { result ≡ value_there instance.now overload.now }
+fn result_value(substitution: &Substitution, overload: &Overload) -> Option<(Dimensions, Scalar)>
+    ensures { result ≡ value_there substitution.now overload.now }
 {
     match result_of(overload) {
         Returns::Gives(Pattern::Value(shape, component)) => {
-            let dimensions = dimensions_in(instance, *shape);
-            Some((dimensions, component_in(instance, *component)))
+            let dimensions = dimensions_in(substitution, *shape);
+            Some((dimensions, component_in(substitution, *component)))
         }
         _ => None,
     }

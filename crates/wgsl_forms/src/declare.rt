@@ -23,7 +23,7 @@ use wgsl_syntax::overload::Dimensions;
 use wgsl_syntax::scalar::Scalar;
 
 /// A declaration without memory.
-#[derive(Clone, Copy, PartialEq, Eq, Debug)]
+#[derive(Clone, Copy)]
 pub enum Declaration {
     /// `let x = v;`, `let x: T = v;`
     Let,

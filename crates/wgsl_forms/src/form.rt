@@ -11,8 +11,8 @@ use std::fmt;
 use std::fmt::Write;
 use wgsl_core::ty::Type;
 use wgsl_core::ty::show::write_type;
-use wgsl_standard::instance::value_type;
 use wgsl_standard::operand::OperandType;
+use wgsl_standard::substitution::value_type;
 use wgsl_syntax::address::{AccessMode, AddressSpace};
 use wgsl_syntax::layer::Layer;
 use wgsl_syntax::overload::Dimensions;
@@ -38,7 +38,7 @@ pub struct UnbuiltType<'a> {
 }
 
 /// A reference or a pointer (WGSL, "Memory Views"), without its store type.
-#[derive(Clone, Copy, PartialEq, Eq, Debug)]
+#[derive(Clone, Copy)]
 pub enum MemoryView {
     Reference(AddressSpace, AccessMode),
     Pointer(AddressSpace, AccessMode),

@@ -1,7 +1,7 @@
 -- What a call returns and resolves to by WGSL's own overloads.
 use Rattle.std.proofs.Common.{ℕ, List, ◌∷◌, Option, Some, None, refl}
 use Rattle.std.specs.Prelude.{Bool, true, false, IsTrue, option_map}
-use Rattle.wgsl_syntax.specs.declared.overload.Instance.{Instance}
+use Rattle.wgsl_syntax.specs.declared.overload.Substitution.{Substitution}
 use Rattle.wgsl_syntax.specs.declared.overload.Overload.{Overload}
 use Rattle.wgsl_rules.specs.types.Types.{WgslType}
 use Rattle.wgsl_rules.specs.standard.Answers.{IsCallAnswer, IsNamedAnswer, IsResolution, is_template, template_operand}
@@ -20,7 +20,7 @@ use Rattle.wgsl_standard.proofs.StandardAnswers.{an_answer}
 abbrev Resolution : Type 0
 Resolution = ℕ × List WgslType × Option WgslType
 
-a_resolution : (os : List Overload) (xs : List Operand) (p : Option (ℕ × Instance)) → IsChosen os xs p → (r : Option Resolution) × IsResolution os xs r
+a_resolution : (os : List Overload) (xs : List Operand) (p : Option (ℕ × Substitution)) → IsChosen os xs p → (r : Option Resolution) × IsResolution os xs r
 a_resolution os xs None h = (None, h)
 a_resolution os xs (Some p) h = (Some (p.0, parameters_for p.1 (patterns_of h.0) xs, result_for p.1 h.0 xs), h.2)
 

@@ -22,7 +22,7 @@ struct Wide {
 }
 
 /// A line, and a column in bytes and in units of UTF-16, from 1.
-#[derive(Clone, Copy, PartialEq, Eq)]
+#[derive(Clone, Copy)]
 pub struct Place {
     /// The line, from 1.
     pub line: usize,

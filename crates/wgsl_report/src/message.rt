@@ -9,7 +9,7 @@ use wgsl_source::module::Module;
 use wgsl_source::tokens::token::next_token;
 
 /// How severe a message is.
-#[derive(Clone, Copy, Debug, PartialEq, Eq)]
+#[derive(Clone, Copy, PartialEq, Eq)]
 pub enum Severity {
     /// A declaration can't be read.
     Error,

@@ -18,7 +18,7 @@ use wgsl_source::module::{Module, read_module};
 use wgsl_source::tokens::token::tokens;
 
 /// How a report is written.
-#[derive(Clone, Copy, Debug, PartialEq, Eq)]
+#[derive(Clone, Copy, PartialEq, Eq)]
 pub enum Format {
     Tables,
     Json,
@@ -46,7 +46,7 @@ impl Format {
 }
 
 /// What to report on a text, and how.
-#[derive(Clone, Copy, Debug)]
+#[derive(Clone, Copy)]
 pub struct ReportOptions<'a> {
     /// The name of the text's file.
     pub file: &'a str,

@@ -8,7 +8,7 @@ use std::alloc::AllocError;
 use std::str::from_utf8;
 
 /// How messages for people look.
-#[derive(Clone, Copy, Debug, PartialEq, Eq)]
+#[derive(Clone, Copy, PartialEq, Eq)]
 pub enum Style {
     /// One line per message.
     Plain,

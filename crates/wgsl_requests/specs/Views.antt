@@ -1,10 +1,8 @@
 -- How the rules see requests and answers.
 use Rattle.std.specs.Prelude.{Result, Ok, Err, map, option_map}
 use Rattle.wgsl_rules.specs.errors.Refusals.{Refusal, binary as refused_operands}
-use Rattle.wgsl_rules.specs.types.Signatures.{Signature}
 use Rattle.wgsl_rules.specs.types.Types.{WgslType}
 use Rattle.wgsl_core.specs.Answer.{refusal}
-use Rattle.wgsl_core.specs.Instances.{call_view}
 use Rattle.wgsl_core.specs.Layout.{layouts_of, offsets_of}
 use Rattle.wgsl_core.specs.View.{struct_view, view}
 use Rattle.wgsl_core.specs.declared.error.Error.{Error}
@@ -13,12 +11,12 @@ use Rattle.wgsl_core.specs.declared.error.Fail.TheVariants as fails
 use Rattle.wgsl_core.specs.declared.layout.StructLayout.{StructLayout}
 use Rattle.wgsl_core.specs.declared.operators.resolve.ResolvedType.{ResolvedType}
 use Rattle.wgsl_core.specs.internal.Resolution.{resolved_view}
-use Rattle.wgsl_requests.specs.declared.requests.Callee.{Callee}
 use Rattle.wgsl_requests.specs.declared.requests.Request.{Request}
 use Rattle.wgsl_requests.specs.declared.requests.Request.TheVariants as requests
 use Rattle.wgsl_requests.specs.declared.answers.Operands.{Operands}
 use Rattle.wgsl_requests.specs.declared.answers.Answer.{Answer}
 use Rattle.wgsl_requests.specs.declared.answers.Answer.TheVariants as answers
+use Rattle.wgsl_calls.specs.Calls.{signature_of}
 use Rattle.wgsl_forms.specs.Views.{answer_view as form_answer, form_type_view}
 use Rattle.wgsl_standard.specs.Results.{result_view}
 use Rattle.wgsl_standard.specs.Resolved.{resolved_view as resolved_call_view}
@@ -28,9 +26,6 @@ use Rattle.wgsl_requests.specs.Answers.{WgslAnswer, WgslLayout, a_number, a_size
 use Rattle.wgsl_requests.specs.FormViews.{form_view}
 use Rattle.wgsl_requests.specs.StandardViews.{call_view as standard_view, written_view}
 
-abbrev pub callee_view : Callee → Signature
-callee_view c = call_view c.name.now c.template c.arguments.now
-
 abbrev pub request_view : Request → WgslRequest
 request_view (requests.Rank t u) = rank (view t.now) (view u.now)
 request_view (requests.Unary o t) = unary o (view t.now)
@@ -39,8 +34,8 @@ request_view (requests.Size t) = size (view t.now)
 request_view (requests.Offsets s) = let seen = struct_view s.now in offsets seen.name seen.members
 request_view (requests.Layout s laid) =
     let seen = struct_view s.now in layout seen.name seen.members (struct_view laid.now).members
-request_view (requests.Constructor c) = ctor (callee_view c)
-request_view (requests.Call c) = call (callee_view c)
+request_view (requests.Constructor c) = ctor (signature_of c)
+request_view (requests.Call c) = call (signature_of c)
 request_view (requests.Type c) = type_of (standard_view c.now)
 request_view (requests.Resolution c) = resolution_of (standard_view c.now)
 request_view (requests.Overloads name) = overloads_of name.now

@@ -7,9 +7,9 @@ use wgsl_core::ty::{StructType, Type};
 use wgsl_forms::form::FormType;
 use wgsl_forms::refusal::Refusal;
 use wgsl_standard::explanation::Note;
-use wgsl_standard::instance::ResultType;
 use wgsl_standard::resolved::ResolvedCall;
 use wgsl_standard::signature::Signature;
+use wgsl_standard::substitution::ResultType;
 use wgsl_syntax::operator::BinaryOperator;
 
 /// The answer to a request.

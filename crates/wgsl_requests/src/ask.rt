@@ -42,12 +42,12 @@ pub fn answer<'r>(alloc: Global, request: Request<'r>) -> Result<Answer<'r>, All
         }
         Request::Offsets(structure) => Ok(Answer::Offsets(structure.offsets(alloc)?)),
         Request::Layout(structure, laid) => Ok(Answer::Layout(structure, laid.layout(alloc)?)),
-        Request::Constructor(callee) => {
-            let made = type_ctor(alloc, callee.name, callee.template, callee.arguments);
+        Request::Constructor(named) => {
+            let made = type_ctor(alloc, named.name, named.template, named.args);
             Ok(Answer::Type(settled(made)?))
         }
-        Request::Call(callee) => {
-            let made = type_builtin_fn(alloc, callee.name, callee.template, callee.arguments);
+        Request::Call(named) => {
+            let made = type_builtin_fn(alloc, named.name, named.template, named.args);
             Ok(Answer::Value(settled(made)?))
         }
         Request::Type(call) => Ok(Answer::TypeOf(call, type_of(alloc, call)?)),

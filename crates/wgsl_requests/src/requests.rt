@@ -1,8 +1,9 @@
 // What is asked.
+pub use wgsl_calls::call::NamedCall;
 use wgsl_core::signature::TpltParam;
 use wgsl_core::ty::{StructType, Type};
 use wgsl_forms::declare::Declaration;
-use wgsl_standard::callee::Callee as OverloadedCallee;
+use wgsl_standard::callee::Callee;
 use wgsl_standard::operand::Operand;
 use wgsl_syntax::address::{AccessMode, AddressSpace};
 use wgsl_syntax::operator::{AssignmentOperator, BinaryOperator, UnaryOperator};
@@ -23,9 +24,9 @@ pub enum Request<'r> {
     /// The layout of a struct, whose members are laid out as those of the second one.
     Layout(&'r StructType, &'r StructType),
     /// The type that a constructor makes.
-    Constructor(Callee<'r>),
+    Constructor(NamedCall<'r>),
     /// What a built-in function returns.
-    Call(Callee<'r>),
+    Call(NamedCall<'r>),
     /// The type of a call by WGSL's own overloads.
     Type(&'r Call<'r>),
     /// The overload of a call, the types of its parameters, and its result.
@@ -40,18 +41,10 @@ pub enum Request<'r> {
     Fit(&'r [Operand<'r>], &'r [Type]),
 }
 
-/// The call of a constructor or of a built-in function.
-#[derive(Clone, Copy)]
-pub struct Callee<'r> {
-    pub name: &'r str,
-    pub template: Option<&'r [TpltParam]>,
-    pub arguments: &'r [Type],
-}
-
 /// The call of what has overloads of WGSL's own.
 #[derive(Clone, Copy)]
 pub struct Call<'r> {
-    pub callee: OverloadedCallee<'r>,
+    pub callee: Callee<'r>,
     pub template: Option<&'r [TpltParam]>,
     pub operands: &'r [Operand<'r>],
 }

@@ -18,8 +18,8 @@ use wgsl_core::signature::TpltParam;
 use wgsl_core::ty::Type;
 use wgsl_standard::answer::{NoOverload, type_of_call};
 use wgsl_standard::explanation::{Note, explain};
-use wgsl_standard::instance::ResultType;
 use wgsl_standard::resolved::{ResolvedCall, resolve_callee};
+use wgsl_standard::substitution::ResultType;
 
 /// The type that a template is; None if it is something else.
 #[inline(always)]

@@ -11,7 +11,7 @@ use crate::tokens::token::Kind;
 use std::alloc::{AllocError, Global};
 
 /// What a declaration declares.
-#[derive(Clone, Copy, PartialEq, Eq)]
+#[derive(Clone, Copy)]
 pub enum DeclarationKind {
     Alias,
     Struct,

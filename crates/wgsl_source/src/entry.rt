@@ -11,7 +11,7 @@ use crate::types::Types;
 use wgsl_syntax::scalar::Scalar;
 
 /// The stage of a pipeline for which a function is an entry point.
-#[derive(Clone, Copy, Debug, PartialEq, Eq)]
+#[derive(Clone, Copy)]
 pub enum Stage {
     /// `@vertex`
     Vertex,
@@ -33,7 +33,7 @@ impl Stage {
 }
 
 /// How many invocations a workgroup has in a dimension.
-#[derive(Clone, Copy, Debug, PartialEq, Eq)]
+#[derive(Clone, Copy)]
 pub enum WorkgroupExtent {
     Known(u32),
     /// The value of an override, which is known when the pipeline is created.
@@ -41,7 +41,7 @@ pub enum WorkgroupExtent {
 }
 
 /// An entry point: the function with which a pipeline stage starts.
-#[derive(Clone, Copy, Debug)]
+#[derive(Clone, Copy)]
 pub struct EntryPoint<'t> {
     pub name: &'t str,
     /// Where its name stands in the text.
@@ -51,7 +51,7 @@ pub struct EntryPoint<'t> {
 }
 
 /// An `override`: a value that is set when a pipeline is created.
-#[derive(Clone, Copy, Debug)]
+#[derive(Clone, Copy)]
 pub struct Override<'t> {
     pub name: &'t str,
     /// Where its name stands in the text.

@@ -14,7 +14,7 @@ use crate::tokens::token::Kind;
 use wgsl_syntax::scalar::Scalar;
 
 /// What is known of a value.
-#[derive(Clone, Copy, Debug, PartialEq, Eq)]
+#[derive(Clone, Copy)]
 pub enum Value {
     Integer(Integer),
     Bool(bool),

@@ -192,14 +192,14 @@ impl Cause {
 }
 
 /// What is wrong at an index of the text.
-#[derive(Clone, Copy, Debug, PartialEq, Eq)]
+#[derive(Clone, Copy, PartialEq, Eq)]
 pub struct Fault {
     pub at: usize,
     pub cause: Cause,
 }
 
 /// Why reading stopped.
-#[derive(Clone, Copy, Debug, PartialEq, Eq)]
+#[derive(Clone, Copy)]
 pub enum Stop {
     Memory(AllocError),
     Fault(Fault),

@@ -10,7 +10,7 @@ use wgsl_syntax::scalar::Scalar;
 use wgsl_syntax::texture::{SamplerType, TextureType};
 
 /// A type of a module, with its size and its alignment in bytes.
-#[derive(Clone, Copy, Debug, PartialEq, Eq)]
+#[derive(Clone, Copy)]
 pub struct MeasuredType {
     pub kind: TypeKind,
     /// None for a type that is no data, for a runtime-sized array or a struct that ends in one, and for an array whose
@@ -23,7 +23,7 @@ pub struct MeasuredType {
 }
 
 /// What a type is. Other types in it are the module's elements and structs, by their indices.
-#[derive(Clone, Copy, Debug, PartialEq, Eq)]
+#[derive(Clone, Copy)]
 pub enum TypeKind {
     Scalar(Scalar),
     /// The number of components.
@@ -42,7 +42,7 @@ pub enum TypeKind {
 }
 
 /// How many elements an array has.
-#[derive(Clone, Copy, Debug, PartialEq, Eq)]
+#[derive(Clone, Copy)]
 pub enum Count {
     Known(u32),
     Runtime,

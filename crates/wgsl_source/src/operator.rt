@@ -9,7 +9,7 @@ use crate::tokens::token::Kind;
 use std::cmp::Ordering;
 
 /// A binary operator.
-#[derive(Clone, Copy, PartialEq, Eq)]
+#[derive(Clone, Copy)]
 pub enum Operator {
     Integer(IntegerOperator),
     ShiftLeft,
@@ -19,7 +19,7 @@ pub enum Operator {
     ShortCircuitOr,
 }
 
-#[derive(Clone, Copy, PartialEq, Eq)]
+#[derive(Clone, Copy)]
 pub enum Comparison {
     Equal,
     NotEqual,

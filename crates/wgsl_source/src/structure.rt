@@ -29,7 +29,7 @@ pub struct Struct<'t> {
 }
 
 /// A member of a struct with its layout in bytes.
-#[derive(Clone, Copy, Debug)]
+#[derive(Clone, Copy)]
 pub struct Member<'t> {
     pub name: &'t str,
     /// Where its name stands in the text.

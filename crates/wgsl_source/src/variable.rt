@@ -10,7 +10,7 @@ use crate::types::Types;
 use wgsl_syntax::address::{AccessMode, AddressSpace};
 
 /// A variable with a type.
-#[derive(Clone, Copy, Debug)]
+#[derive(Clone, Copy)]
 pub struct Variable<'t> {
     pub name: &'t str,
     /// Where its name stands in the text.

@@ -1,4 +1,4 @@
--- The instances of an overload that take operands are those that agree with a binding: a condition on each letter alone.
+-- The substitutions of an overload that take operands are those that agree with a binding: a condition on each letter alone.
 use Rattle.std.proofs.Common.{◌≡◌, ℕ, ◌↔◌, ◌==◌, List, [], ◌∷◌, Option, Some, None, Bool, true, false, cond, refl, sym, ◌∙◌, ap, subst, true≢false}
 use Rattle.std.specs.Prelude.{IsTrue, option_map, option_and_then}
 use Rattle.std.proofs.lemmas.Bool.{eq-eqb, eqb-true}
@@ -18,7 +18,7 @@ use Rattle.wgsl_core.specs.Equality.{type_eq, type_eq_decides}
 use Rattle.wgsl_syntax.specs.declared.overload.Dimensions.{Dimensions}
 use Rattle.wgsl_syntax.specs.declared.overload.Dimensions.TheVariants.{Single, Vector, Matrix}
 use Rattle.wgsl_rules.specs.standard.Choice.{Operand}
-use Rattle.wgsl_syntax.specs.declared.overload.Instance.{Instance}
+use Rattle.wgsl_syntax.specs.declared.overload.Substitution.{Substitution}
 use Rattle.wgsl_standard.specs.declared.binding.Binding.{Binding}
 use Rattle.wgsl_rules.specs.standard.Overloads.{count_in, one_or_vector, dimensions_in, component_in, Names}
 use Rattle.wgsl_standard.specs.internal.Binding.{converts, may_be, join, join_to, with_t, with_u, with_v, with_w, bind_component, same_count, bind_count, same_width, with_width, bind_shape, bind_parts, bind_letter, bind_if, bind, bind_all}
@@ -36,7 +36,7 @@ Same None x = Unit {0}
 Same (Some y) x = y ≡ x
 
 -- what a binding says of the letters
-pub record Agrees (c : Bool) (b : Binding) (i : Instance) : Type 0 where
+pub record Agrees (c : Bool) (b : Binding) (i : Substitution) : Type 0 where
   pub t : Meets c b.t i.t
   pub u : Meets c b.u i.u
   pub v : Meets c b.v i.v
@@ -46,23 +46,23 @@ pub record Agrees (c : Bool) (b : Binding) (i : Instance) : Type 0 where
   pub m : Same b.m i.m
   pub k : Same b.k i.k
 
--- exactly the instances with P agree with the binding; without a binding no instance has P
-abbrev pub Boxes : Bool → (Instance → Type 0) → Option Binding → Type 0
-Boxes c P None = (i : Instance) → P i → ⊥
-Boxes c P (Some b) = (i : Instance) → P i ↔ Agrees c b i
+-- exactly the substitutions with P agree with the binding; without a binding no substitution has P
+abbrev pub Boxes : Bool → (Substitution → Type 0) → Option Binding → Type 0
+Boxes c P None = (i : Substitution) → P i → ⊥
+Boxes c P (Some b) = (i : Substitution) → P i ↔ Agrees c b i
 
-same_box : (c : Bool) (P Q : Instance → Type 0) → ((i : Instance) → P i ↔ Q i) → (r : Option Binding) → Boxes c P r → Boxes c Q r
+same_box : (c : Bool) (P Q : Substitution → Type 0) → ((i : Substitution) → P i ↔ Q i) → (r : Option Binding) → Boxes c P r → Boxes c Q r
 same_box c P Q e None h = λ i q. h i ((e i).1 q)
 same_box c P Q e (Some b) h = λ i. (λ q. (h i).0 ((e i).1 q), λ a. (e i).0 ((h i).1 a))
 
 -- one requirement after another
-chain : (c : Bool) (P Q : Instance → Type 0) (f : Binding → Option Binding) → ((b : Binding) → Boxes c (λ i. Agrees c b i × Q i) (f b)) →
+chain : (c : Bool) (P Q : Substitution → Type 0) (f : Binding → Option Binding) → ((b : Binding) → Boxes c (λ i. Agrees c b i × Q i) (f b)) →
     (r : Option Binding) → Boxes c P r → Boxes c (λ i. P i × Q i) (option_and_then f r)
 chain c P Q f k None h = λ i q. h i q.0
 chain c P Q f k (Some b) h = same_box c (λ i. Agrees c b i × Q i) (λ i. P i × Q i) (λ i. (λ q. ((h i).1 q.0, q.1), λ q. ((h i).0 q.0, q.1))) (f b) (k b)
 
 -- what one letter requires, if there is anything that it can stand for
-boxed : {A : Type 0} (c : Bool) (P : Instance → Type 0) (Q : Option A → Type 0) (put : A → Binding) → (Q None → Boxes c P None) → ((x : A) → Q (Some x) → Boxes c P (Some (put x))) →
+boxed : {A : Type 0} (c : Bool) (P : Substitution → Type 0) (Q : Option A → Type 0) (put : A → Binding) → (Q None → Boxes c P None) → ((x : A) → Q (Some x) → Boxes c P (Some (put x))) →
     (r : Option A) → Q r → Boxes c P (option_map put r)
 boxed c P Q put none some None q = none q
 boxed c P Q put none some (Some x) q = some x q
@@ -82,7 +82,7 @@ letter_box c (Some a) s = turn (join a s) (joins a s)
     turn (Some j) f = λ g. (λ h. ((f g).0 (h.0.0, h.1), h.2), λ h. let q = (f g).1 h.0 in ((q.0, h.1), q.1, h.1))
 
 -- the operand's scalar converts to the component, which may be abstract or need not
-abbrev pub Receives : Bool → Instance → Component → Scalar → Type 0
+abbrev pub Receives : Bool → Substitution → Component → Scalar → Type 0
 Receives c i p s = Reaches s (component_in i p) × IsTrue (may_be c (component_in i p))
 
 component_boxes : (c : Bool) (b : Binding) (p : Component) (s : Scalar) → Boxes c (λ i. Agrees c b i × Receives c i p s) (bind_component c b p s)
@@ -185,7 +185,7 @@ shape_boxes c b shapes.OneOrVector (Matrix k l) = λ i h. width_matrix i.width k
 shape_boxes c b p o = λ i h. cc h.1
 
 -- a parameter that is a value takes an operand that has these parts
-abbrev FitsParts : Bool → Instance → Shape → Component → Dimensions × Scalar → Type 0
+abbrev FitsParts : Bool → Substitution → Shape → Component → Dimensions × Scalar → Type 0
 FitsParts c i s e d = (dimensions_in i s ≡ d.0) × Receives c i e d.1
 
 parts_boxes : (c : Bool) (b : Binding) (s : Shape) (e : Component) (d : Dimensions × Scalar) → Boxes c (λ i. Agrees c b i × FitsParts c i s e d) (bind_parts c b s e d)
@@ -197,19 +197,19 @@ parts_boxes c b s e d =
     (λ b. component_boxes c b e d.1) (bind_shape b s d.0) (shape_boxes c b s d.0))
 
 -- a parameter that is a value takes an operand of a type
-pub record FitsValue (c : Bool) (i : Instance) (s : Shape) (e : Component) (t : WgslType) : Type 0 where
+pub record FitsValue (c : Bool) (i : Substitution) (s : Shape) (e : Component) (t : WgslType) : Type 0 where
   pub scalar : Scalar
   pub parts : parts_of t ≡ Some (dimensions_in i s, scalar)
   pub receives : Receives c i e scalar
 
 -- two parameters that take an operand
-pub same_operand : (c : Bool) (i j : Instance) (s : Shape) (e : Component) (r : Shape) (g : Component) (t : WgslType) → (f : FitsValue c i s e t) → FitsValue c j r g t →
+pub same_operand : (c : Bool) (i j : Substitution) (s : Shape) (e : Component) (r : Shape) (g : Component) (t : WgslType) → (f : FitsValue c i s e t) → FitsValue c j r g t →
     (dimensions_in i s ≡ dimensions_in j r) × Reaches f.scalar (component_in j g)
 same_operand c i j s e r g t f h =
     let k = pair_of (dimensions_in i s, f.scalar) (dimensions_in j r, h.scalar) (sym f.parts ∙ h.parts) in
     (k.0, subst (λ a. Reaches a (component_in j g)) (sym k.1) h.receives.0)
 
-fits_so : (c : Bool) (i : Instance) (s : Shape) (e : Component) (t : WgslType) (d : Dimensions × Scalar) → parts_of t ≡ Some d → FitsParts c i s e d ↔ FitsValue c i s e t
+fits_so : (c : Bool) (i : Substitution) (s : Shape) (e : Component) (t : WgslType) (d : Dimensions × Scalar) → parts_of t ≡ Some d → FitsParts c i s e d ↔ FitsValue c i s e t
 fits_so c i s e t d q = (
   λ h. record { scalar = d.1; parts = q ∙ ap (λ o. Some (o, d.1)) (sym h.0); receives = h.1 },
   λ f. let k = pair_of d (dimensions_in i s, f.scalar) (sym q ∙ f.parts) in (sym k.0, subst (Receives c i e) (sym k.1) f.receives),
@@ -248,7 +248,7 @@ letter_boxes c b P y (Some (Some s)) m =
     (bind_component c b T s) (component_boxes c b T s)
 
 -- a parameter takes an operand
-abbrev pub Fit : Bool → Instance → Pattern → Operand → Type 0
+abbrev pub Fit : Bool → Substitution → Pattern → Operand → Type 0
 Fit c i (patterns.Value s e) x = FitsValue c i s e x.of_type
 Fit c i (patterns.Sampler s) x = x.of_type ≡ sampler s
 Fit c i (patterns.Texture t) x = x.of_type ≡ texture t
@@ -260,7 +260,7 @@ bind_boxes c b (patterns.Sampler s) x = exact_boxes c b x.of_type (sampler s)
 bind_boxes c b (patterns.Texture t) x = exact_boxes c b x.of_type (texture t)
 bind_boxes c b (patterns.Resource r) x = letter_boxes c b _ _ (letter_of r x.of_type) (letter_says r x.of_type)
 
-abbrev pub AllFit : Bool → Instance → List Pattern → List Operand → Type 0
+abbrev pub AllFit : Bool → Substitution → List Pattern → List Operand → Type 0
 AllFit c i [] [] = Unit {0}
 AllFit c i (p ∷ ps) (x ∷ xs) = Fit c i p x × AllFit c i ps xs
 AllFit c i ps xs = ⊥

@@ -4,31 +4,31 @@ use Rattle.std.specs.Prelude.{IsTrue, option_and_then, slice_get}
 use Rattle.wgsl_syntax.specs.declared.overload.Pattern.{Pattern}
 use Rattle.wgsl_syntax.specs.declared.overload.Overload.{Overload}
 use Rattle.wgsl_rules.specs.standard.Choice.{Operand, parameters_for}
-use Rattle.wgsl_syntax.specs.declared.overload.Instance.{Instance}
+use Rattle.wgsl_syntax.specs.declared.overload.Substitution.{Substitution}
 use Rattle.wgsl_standard.specs.declared.binding.Binding.{Binding}
 use Rattle.wgsl_rules.specs.standard.Overloads.{patterns_of}
 use Rattle.wgsl_rules.specs.standard.Refusal.{TakesFirst, SomeTakesFirst, IsRefusedAt}
 use Rattle.std.proofs.lemmas.List.{take-map, length-map}
-use Rattle.wgsl_standard.specs.internal.Binding.{must_be_concrete, bind, bind_all, bind_first, free, settle, is_instance, takes_first, some_takes_first}
+use Rattle.wgsl_standard.specs.internal.Binding.{must_be_concrete, bind, bind_all, bind_first, free, settle, is_substitution, takes_first, some_takes_first}
 use Rattle.wgsl_standard.proofs.Ranks.{ranks_fit, fit_ranks, fit_values, constant_takable, takable_constant}
 use Rattle.wgsl_standard.proofs.Lengths.{and_then_same}
-use Rattle.wgsl_standard.proofs.LeastInstances.{LeastOr, least_among}
+use Rattle.wgsl_standard.proofs.LeastSubstitutions.{LeastOr, least_among}
 
 first_all : (c : Bool) (b : Binding) (ps : List Pattern) (xs : List Operand) → bind_first c b ps xs ≡ bind_all c b (take (length xs) ps) xs
 first_all c b [] [] = refl
 first_all c b (p ∷ ps) (x ∷ xs) = and_then_same (λ b. bind_first c b ps xs) (λ b. bind_all c b (take (length xs) ps) xs) (λ b. first_all c b ps xs) (bind c b p x)
 first_all c b ps xs = refl
 
-takes_first_so : (o : Overload) (xs : List Operand) (r : Option Instance) → LeastOr (must_be_concrete xs) o (take (length xs) (patterns_of o)) xs r → IsTrue (is_instance r) ↔ TakesFirst o xs
+takes_first_so : (o : Overload) (xs : List Operand) (r : Option Substitution) → LeastOr (must_be_concrete xs) o (take (length xs) (patterns_of o)) xs r → IsTrue (is_substitution r) ↔ TakesFirst o xs
 takes_first_so o xs None n = (
   λ h. absurd (true≢false (sym h)),
-  λ h. absurd (n h.instance h.admitted (ranks_fit (must_be_concrete xs) h.instance (take (length xs) (patterns_of o)) h.types xs h.ranks h.parameters h.takes.values h.takes.converts
+  λ h. absurd (n h.substitution h.admitted (ranks_fit (must_be_concrete xs) h.substitution (take (length xs) (patterns_of o)) h.types xs h.ranks h.parameters h.takes.values h.takes.converts
       (constant_takable xs h.types h.takes.constant))),
 )
 takes_first_so o xs (Some i) l = (
   λ h. let k = fit_ranks (must_be_concrete xs) i (take (length xs) (patterns_of o)) xs l.fits in
       record {
-        instance = i;
+        substitution = i;
         admitted = l.admitted;
         types = parameters_for i (take (length xs) (patterns_of o)) xs;
         parameters = k.parameters;
@@ -43,7 +43,7 @@ takes_first_so o xs (Some i) l = (
 )
 
 pub takes_first_is : (o : Overload) (xs : List Operand) → IsTrue (takes_first o xs) ↔ TakesFirst o xs
-takes_first_is o xs = subst (λ r. IsTrue (is_instance (option_and_then (settle (must_be_concrete xs) o) r)) ↔ TakesFirst o xs)
+takes_first_is o xs = subst (λ r. IsTrue (is_substitution (option_and_then (settle (must_be_concrete xs) o) r)) ↔ TakesFirst o xs)
     (sym (first_all (must_be_concrete xs) free (patterns_of o) xs))
     (takes_first_so o xs (option_and_then (settle (must_be_concrete xs) o) (bind_all (must_be_concrete xs) free (take (length xs) (patterns_of o)) xs))
     (least_among (must_be_concrete xs) o (take (length xs) (patterns_of o)) xs))

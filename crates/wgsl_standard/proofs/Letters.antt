@@ -97,7 +97,7 @@ group_said P y None s d n = absurd n
 group_said P y (Some None) s d n = d.0
 group_said P y l s d n = d.0
 
--- T is the same for two instances that it fits, if it says what T is
+-- T is the same for two substitutions that it fits, if it says what T is
 pub letter_once : (P : Type 0) (y : Bool) (l : Option (Option Scalar)) → IsTrue y → (a b : Scalar) → Says P y l → Names l a → Names l b → a ≡ b
 letter_once P y None i a b d h k = absurd h
 letter_once P y (Some None) i a b d h k = absurd (true≢false (sym i ∙ d.1))

@@ -5,7 +5,7 @@ pub mod Boxes
 pub mod Ranks
 pub mod BoundLetters
 pub mod Bound
-pub mod LeastInstances
+pub mod LeastSubstitutions
 pub mod Choices
 pub mod OneChoice
 pub mod Lengths

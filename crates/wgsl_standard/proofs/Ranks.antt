@@ -1,4 +1,4 @@
--- Ranks of operands at the parameters of an instance: an operand fits exactly if it converts, and ranks compare as depths do.
+-- Ranks of operands at the parameters of a substitution: an operand fits exactly if it converts, and ranks compare as depths do.
 use Rattle.std.proofs.Common.{◌≡◌, ℕ, ◌+◌, ◌⊎◌, List, [], ◌∷◌, map, Some, Bool, true, false, cond, refl, sym, ◌∙◌, ap, subst, inl, inr, arith, true≢false}
 use Rattle.std.specs.Prelude.{IsTrue}
 use Rattle.wgsl_syntax.specs.declared.scalar.Scalar.{Scalar}
@@ -16,7 +16,7 @@ use Rattle.wgsl_syntax.specs.declared.overload.Pattern.TheVariants as patterns
 use Rattle.wgsl_syntax.specs.declared.overload.Dimensions.{Dimensions}
 use Rattle.wgsl_syntax.specs.declared.overload.Dimensions.TheVariants.{Single, Vector, Matrix}
 use Rattle.wgsl_rules.specs.standard.Choice.{Operand, types_of, AreValues, AreConstant, AreConcrete, parameter_for, parameters_for}
-use Rattle.wgsl_syntax.specs.declared.overload.Instance.{Instance}
+use Rattle.wgsl_syntax.specs.declared.overload.Substitution.{Substitution}
 use Rattle.wgsl_rules.specs.standard.Overloads.{type_with, dimensions_in, component_in, Names, IsParameter, AreParameters}
 use Rattle.wgsl_rules.specs.standard.Resources.{letter_of}
 use Rattle.wgsl_standard.proofs.Letters.{only_itself, to_itself, member_alone, member_concrete, member_value}
@@ -111,7 +111,7 @@ converts_value c o e t w v h =
     let f = flat k.0 o k.1 e w q in
     (k.1, ap parts_of k.2 ∙ (parts_once k.0 k.1 ∙ ap (λ d. Some (d, k.1)) (sym f.dimensions)), f.reaches)
 
-converts_fits : (c : Bool) (i : Instance) (p : Pattern) (u : WgslType) (us : List WgslType) (x : Operand) (w : ℕ) → IsValueType x.of_type → IsParameter i p u →
+converts_fits : (c : Bool) (i : Substitution) (p : Pattern) (u : WgslType) (us : List WgslType) (x : Operand) (w : ℕ) → IsValueType x.of_type → IsParameter i p u →
     Converts x.of_type u w → AreTakable c (u ∷ us) → Fit c i p x
 converts_fits c i (patterns.Value s e) u us x w v m h k =
     let q = converts_value c (dimensions_in i s) (component_in i e) x.of_type w v (subst (λ u. Converts x.of_type u w) m h) in
@@ -122,7 +122,7 @@ converts_fits c i (patterns.Resource r) u us x w v m h k =
     let e = only_itself x.of_type u w v (member_alone r u i.t m) h in
     subst (λ t. Names (letter_of r t) i.t) (sym e) m
 
-pub ranks_fit : (c : Bool) (i : Instance) (ps : List Pattern) (us : List WgslType) (xs : List Operand) (ws : List ℕ) → AreParameters i ps us → AreValues xs →
+pub ranks_fit : (c : Bool) (i : Substitution) (ps : List Pattern) (us : List WgslType) (xs : List Operand) (ws : List ℕ) → AreParameters i ps us → AreValues xs →
     HasRanks (types_of xs) us ws → AreTakable c us → AllFit c i ps xs
 ranks_fit c i [] [] [] ws m v h k = tt
 ranks_fit c i (p ∷ ps) (u ∷ us) (x ∷ xs) (w ∷ ws) m v h k =
@@ -133,11 +133,11 @@ ranks_fit c i ps us xs ws m v h k = absurd m
 
 -- the parameters are then those for the operands
 
-parameter_is : (i : Instance) (p : Pattern) (u : WgslType) (x : Operand) (w : ℕ) → IsValueType x.of_type → IsParameter i p u → Converts x.of_type u w → u ≡ parameter_for i p x.of_type
+parameter_is : (i : Substitution) (p : Pattern) (u : WgslType) (x : Operand) (w : ℕ) → IsValueType x.of_type → IsParameter i p u → Converts x.of_type u w → u ≡ parameter_for i p x.of_type
 parameter_is i (patterns.Resource r) u x w v m h = sym (only_itself x.of_type u w v (member_alone r u i.t m) h)
 parameter_is i p u x w v m h = m
 
-pub parameters_are : (i : Instance) (ps : List Pattern) (us : List WgslType) (xs : List Operand) (ws : List ℕ) → AreParameters i ps us → AreValues xs →
+pub parameters_are : (i : Substitution) (ps : List Pattern) (us : List WgslType) (xs : List Operand) (ws : List ℕ) → AreParameters i ps us → AreValues xs →
     HasRanks (types_of xs) us ws → us ≡ parameters_for i ps xs
 parameters_are i [] [] xs ws m v h = refl
 parameters_are i (p ∷ ps) (u ∷ us) (x ∷ xs) (w ∷ ws) m v h =
@@ -149,11 +149,11 @@ parameters_are i ps us xs ws m v h = absurd m
 
 -- what fits converts
 
-fit_parameter : (c : Bool) (i : Instance) (p : Pattern) (x : Operand) → Fit c i p x → IsParameter i p (parameter_for i p x.of_type)
+fit_parameter : (c : Bool) (i : Substitution) (p : Pattern) (x : Operand) → Fit c i p x → IsParameter i p (parameter_for i p x.of_type)
 fit_parameter c i (patterns.Resource r) x f = f
 fit_parameter c i p x f = refl
 
-fit_converts : (c : Bool) (i : Instance) (p : Pattern) (x : Operand) → Fit c i p x → (w : ℕ) × Converts x.of_type (parameter_for i p x.of_type) w
+fit_converts : (c : Bool) (i : Substitution) (p : Pattern) (x : Operand) → Fit c i p x → (w : ℕ) × Converts x.of_type (parameter_for i p x.of_type) w
 fit_converts c i (patterns.Value s e) x f =
     let r = reaches_rank f.scalar (component_in i e) f.receives.0 in
     let m = type_with_converts (dimensions_in i s) f.scalar (component_in i e) r.0 r.1 in
@@ -163,24 +163,24 @@ fit_converts c i (patterns.Sampler s) x f = (0, to_itself x.of_type (sampler s) 
 fit_converts c i (patterns.Texture t) x f = (0, to_itself x.of_type (texture t) tt f)
 fit_converts c i (patterns.Resource r) x f = (0, to_itself x.of_type x.of_type (member_alone r x.of_type i.t f) refl)
 
-fit_takable : (c : Bool) (i : Instance) (p : Pattern) (x : Operand) (us : List WgslType) → Fit c i p x → AreTakable c us → AreTakable c (parameter_for i p x.of_type ∷ us)
+fit_takable : (c : Bool) (i : Substitution) (p : Pattern) (x : Operand) (us : List WgslType) → Fit c i p x → AreTakable c us → AreTakable c (parameter_for i p x.of_type ∷ us)
 fit_takable c i (patterns.Value s e) x us f k = takable_cons c (dimensions_in i s) (component_in i e) us f.receives.1 k
 fit_takable c i (patterns.Sampler s) x us f k = concrete_cons c (sampler s) us (λ a. true≢false (sym a)) k
 fit_takable c i (patterns.Texture t) x us f k = concrete_cons c (texture t) us (λ a. true≢false (sym a)) k
 fit_takable c i (patterns.Resource r) x us f k = concrete_cons c x.of_type us (member_concrete r x.of_type i.t f) k
 
 -- the parameters for operands that fit
-pub record ForOperands (c : Bool) (i : Instance) (ps : List Pattern) (xs : List Operand) : Type 0 where
+pub record ForOperands (c : Bool) (i : Substitution) (ps : List Pattern) (xs : List Operand) : Type 0 where
   pub parameters : AreParameters i ps (parameters_for i ps xs)
   pub ranks : List ℕ
   pub converts : HasRanks (types_of xs) (parameters_for i ps xs) ranks
   pub takable : AreTakable c (parameters_for i ps xs)
 
-no_operands : (c : Bool) (i : Instance) → ForOperands c i [] []
+no_operands : (c : Bool) (i : Substitution) → ForOperands c i [] []
 no_operands true i = record { parameters = tt; ranks = []; converts = tt; takable = tt }
 no_operands false i = record { parameters = tt; ranks = []; converts = tt; takable = tt }
 
-pub fit_ranks : (c : Bool) (i : Instance) (ps : List Pattern) (xs : List Operand) → AllFit c i ps xs → ForOperands c i ps xs
+pub fit_ranks : (c : Bool) (i : Substitution) (ps : List Pattern) (xs : List Operand) → AllFit c i ps xs → ForOperands c i ps xs
 fit_ranks c i [] [] h = no_operands c i
 fit_ranks c i (p ∷ ps) (x ∷ xs) h =
     let k = fit_ranks c i ps xs h.1 in
@@ -197,13 +197,13 @@ is_value : (o : Dimensions) (s : Scalar) → IsValueType (type_with o s)
 is_value Single s = tt
 is_value o s = tt
 
-fit_value : (c : Bool) (i : Instance) (p : Pattern) (x : Operand) → Fit c i p x → IsValueType x.of_type
+fit_value : (c : Bool) (i : Substitution) (p : Pattern) (x : Operand) → Fit c i p x → IsValueType x.of_type
 fit_value c i (patterns.Value s e) x f = subst IsValueType (sym (parts_again x.of_type (dimensions_in i s) f.scalar f.parts)) (is_value (dimensions_in i s) f.scalar)
 fit_value c i (patterns.Sampler s) x f = subst IsValueType (sym f) tt
 fit_value c i (patterns.Texture t) x f = subst IsValueType (sym f) tt
 fit_value c i (patterns.Resource r) x f = member_value r x.of_type i.t f
 
-pub fit_values : (c : Bool) (i : Instance) (ps : List Pattern) (xs : List Operand) → AllFit c i ps xs → AreValues xs
+pub fit_values : (c : Bool) (i : Substitution) (ps : List Pattern) (xs : List Operand) → AllFit c i ps xs → AreValues xs
 fit_values c i [] [] h = tt
 fit_values c i (p ∷ ps) (x ∷ xs) h = (fit_value c i p x h.0, fit_values c i ps xs h.1)
 fit_values c i ps xs h = absurd h

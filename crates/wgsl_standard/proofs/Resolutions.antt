@@ -3,7 +3,7 @@ use Rattle.std.proofs.Common.{◌≡◌, ◌∙◌, ◌+◌, ◌&&◌, ◌||◌,
 use Rattle.std.specs.Prelude.{IsTrue, is_some, slice_get}
 use Rattle.std.specs.List.{list_any}
 use Rattle.std.proofs.lemmas.Option.{get_or_from_slice_get}
-use Rattle.wgsl_syntax.specs.declared.overload.Instance.{Instance}
+use Rattle.wgsl_syntax.specs.declared.overload.Substitution.{Substitution}
 use Rattle.wgsl_syntax.specs.declared.overload.Overload.{Overload}
 use Rattle.wgsl_syntax.specs.declared.overload.Pattern.{Pattern}
 use Rattle.wgsl_syntax.specs.declared.overload.Pattern.TheVariants as patterns
@@ -21,26 +21,26 @@ use Rattle.wgsl_standard.proofs.NumberedLines.{text_there}
 
 -- whether parameters that may be vectors are: by what their letter stands for
 
-is_scalar : (i : Instance) (p : Pattern) (t : WgslType) → i.width ≡ None → (is_scalar_or_vector p && is_vector (parameter_for i p t)) ≡ false
+is_scalar : (i : Substitution) (p : Pattern) (t : WgslType) → i.width ≡ None → (is_scalar_or_vector p && is_vector (parameter_for i p t)) ≡ false
 is_scalar i (patterns.Value shapes.OneOrVector e) t h = ap (λ w. is_vector (type_with (one_or_vector w) (component_in i e))) h
 is_scalar i p t h = refl
 
-is_one : (i : Instance) (n : ℕ) (p : Pattern) (t : WgslType) → i.width ≡ Some n → (is_scalar_or_vector p && is_vector (parameter_for i p t)) ≡ is_scalar_or_vector p
+is_one : (i : Substitution) (n : ℕ) (p : Pattern) (t : WgslType) → i.width ≡ Some n → (is_scalar_or_vector p && is_vector (parameter_for i p t)) ≡ is_scalar_or_vector p
 is_one i n (patterns.Value shapes.OneOrVector e) t h = ap (λ w. is_vector (type_with (one_or_vector w) (component_in i e))) h
 is_one i n p t h = refl
 
-none_are : (i : Instance) (ps : List Pattern) (xs : List Operand) → i.width ≡ None → are_vectors ps (parameters_for i ps xs) ≡ false
+none_are : (i : Substitution) (ps : List Pattern) (xs : List Operand) → i.width ≡ None → are_vectors ps (parameters_for i ps xs) ≡ false
 none_are i (p ∷ ps) (x ∷ xs) h = ap (λ b. b || are_vectors ps (parameters_for i ps xs)) (is_scalar i p x.of_type h) ∙ none_are i ps xs h
 none_are i ps xs h = refl
 
-all_are : (i j : Instance) (n : ℕ) (ps : List Pattern) (xs : List Operand) → i.width ≡ Some n → AreParameters j ps (parameters_for i ps xs)
+all_are : (i j : Substitution) (n : ℕ) (ps : List Pattern) (xs : List Operand) → i.width ≡ Some n → AreParameters j ps (parameters_for i ps xs)
     → are_vectors ps (parameters_for i ps xs) ≡ list_any is_scalar_or_vector ps
 all_are i j n [] xs h k = refl
 all_are i j n (p ∷ ps) [] h k = absurd k
 all_are i j n (p ∷ ps) (x ∷ xs) h k =
     ap (λ b. b || are_vectors ps (parameters_for i ps xs)) (is_one i n p x.of_type h) ∙ ap (λ b. is_scalar_or_vector p || b) (all_are i j n ps xs h k.1)
 
-by_width : (i j : Instance) (ps : List Pattern) (xs : List Operand) → AreParameters j ps (parameters_for i ps xs)
+by_width : (i j : Substitution) (ps : List Pattern) (xs : List Operand) → AreParameters j ps (parameters_for i ps xs)
     → (list_any is_scalar_or_vector ps && is_some i.width) ≡ are_vectors ps (parameters_for i ps xs)
 by_width i j ps xs k = turn i.width refl
   where
@@ -60,11 +60,11 @@ abbrev Resolution : Type 0
 Resolution = ℕ × List WgslType × Option WgslType
 
 -- what the choice resolves to, if the lines of the overloads in front are that many
-abbrev pub resolved_to : ℕ → Instance → List Operand → Overload → Resolution
+abbrev pub resolved_to : ℕ → Substitution → List Operand → Overload → Resolution
 resolved_to line i xs o =
     (cond (list_any is_scalar_or_vector (patterns_of o) && is_some i.width) (line + 1) line, parameters_for i (patterns_of o) xs, result_for i o xs)
 
-resolves_listed : (c : WgslCallee) (t : Bool) (xs : List Operand) (p : ℕ × Instance) (d : Overload) (line : ℕ) (r : Resolution) → IsChosen (or_none (overloads_listed c t)) xs (Some p)
+resolves_listed : (c : WgslCallee) (t : Bool) (xs : List Operand) (p : ℕ × Substitution) (d : Overload) (line : ℕ) (r : Resolution) → IsChosen (or_none (overloads_listed c t)) xs (Some p)
     → line ≡ length (lines_before c t (take p.0 (or_none (overloads_listed c t)))) → r ≡ resolved_to line p.1 xs (get_or (or_none (overloads_listed c t)) p.0 d) → IsNamedResolution c t xs (Some r)
 resolves_listed c t xs p d line r chosen e f =
     let os = or_none (overloads_listed c t) in
@@ -73,9 +73,9 @@ resolves_listed c t xs p d line r chosen e f =
     let candidate = chosen.2.candidate in
     let own : Some candidate.overload ≡ Some o = sym candidate.here ∙ chosen.1 in
     let same : candidate.overload ≡ o = cc own in
-    let parameters : AreParameters candidate.candidate.instance (patterns_of o) us = subst (λ o. AreParameters candidate.candidate.instance (patterns_of o) us) same candidate.candidate.parameters in
+    let parameters : AreParameters candidate.candidate.substitution (patterns_of o) us = subst (λ o. AreParameters candidate.candidate.substitution (patterns_of o) us) same candidate.candidate.parameters in
     let vectors : (list_any is_scalar_or_vector (patterns_of o) && is_some p.1.width) ≡ is_of_vectors (slice_get os p.0) us =
-    by_width p.1 candidate.candidate.instance (patterns_of o) xs parameters ∙ ap (λ o. is_of_vectors o us) (sym chosen.1) in
+    by_width p.1 candidate.candidate.substitution (patterns_of o) xs parameters ∙ ap (λ o. is_of_vectors o us) (sym chosen.1) in
     let index : cond (list_any is_scalar_or_vector (patterns_of o) && is_some p.1.width) (line + 1) line ≡ line_of_candidate c t p.0 us =
     ap (λ b. cond b (line + 1) line) vectors ∙ ap (λ n. cond (is_of_vectors (slice_get os p.0) us) (n + 1) n) e in (
       Some (p.0, us, result_for p.1 o xs),
@@ -83,7 +83,7 @@ resolves_listed c t xs p d line r chosen e f =
       ap Some (f ∙ ap (resolved_to line p.1 xs) (get_or_from_slice_get os p.0 o d chosen.1) ∙ λ i. (index i, us, result_for p.1 o xs)),
     )
 
-pub resolves : (c : WgslCallee) (t : Bool) (os : List Overload) (xs : List Operand) (p : ℕ × Instance) (d : Overload) (line : ℕ) (r : Resolution)
+pub resolves : (c : WgslCallee) (t : Bool) (os : List Overload) (xs : List Operand) (p : ℕ × Substitution) (d : Overload) (line : ℕ) (r : Resolution)
     → os ≡ or_none (overloads_listed c t) → IsChosen os xs (Some p) → line ≡ length (lines_before c t (take p.0 os)) → r ≡ resolved_to line p.1 xs (get_or os p.0 d) → IsNamedResolution c t xs (Some r)
 resolves c t os xs p d line r e =
     subst (λ os. IsChosen os xs (Some p) → line ≡ length (lines_before c t (take p.0 os)) → r ≡ resolved_to line p.1 xs (get_or os p.0 d) → IsNamedResolution c t xs (Some r)) (sym e)

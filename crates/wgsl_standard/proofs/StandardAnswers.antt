@@ -3,7 +3,7 @@ use Rattle.std.proofs.Common.{◌≡◌, ℕ, List, Option, Some, None, refl, sy
 use Rattle.std.specs.Prelude.{slice_get, slice_index_or}
 use Rattle.std.proofs.lemmas.Option.{get_or_from_slice_get}
 use Rattle.wgsl_syntax.specs.declared.overload.Overload.{Overload}
-use Rattle.wgsl_syntax.specs.declared.overload.Instance.{Instance}
+use Rattle.wgsl_syntax.specs.declared.overload.Substitution.{Substitution}
 use Rattle.wgsl_rules.specs.types.Types.{WgslType}
 use Rattle.wgsl_rules.specs.standard.Overloads.{patterns_of}
 use Rattle.wgsl_rules.specs.standard.Choice.{Operand, IsPreferred, NoneTakes, parameters_for, result_for, IsChosen}
@@ -26,7 +26,7 @@ answer_of os xs at us r q = record {
   );
 }
 
-pub answer_some : (os : List Overload) (xs : List Operand) (p : ℕ × Instance) (o : Overload) → slice_get os p.0 ≡ Some o → IsChosen os xs (Some p) →
+pub answer_some : (os : List Overload) (xs : List Operand) (p : ℕ × Substitution) (o : Overload) → slice_get os p.0 ≡ Some o → IsChosen os xs (Some p) →
     IsStandardAnswer os xs (Some (result_for p.1 o xs))
 answer_some os xs p o e c =
     let s : Some c.0 ≡ Some o = sym c.1 ∙ e in
@@ -41,7 +41,7 @@ answer_none os xs n = record {
   none = (λ h. n, λ h. refl);
 }
 
-pub answer_at : (os : List Overload) (xs : List Operand) (p : ℕ × Instance) (d : Overload) (o : Overload) → IsChosen os xs (Some p) → o ≡ slice_index_or os p.0 d →
+pub answer_at : (os : List Overload) (xs : List Operand) (p : ℕ × Substitution) (d : Overload) (o : Overload) → IsChosen os xs (Some p) → o ≡ slice_index_or os p.0 d →
     IsStandardAnswer os xs (Some (result_for p.1 o xs))
 answer_at os xs p d o c e =
     subst (λ o. IsStandardAnswer os xs (Some (result_for p.1 o xs))) (sym (e ∙ get_or_from_slice_get os p.0 c.0 d c.1)) (answer_some os xs p c.0 c.1 c)
@@ -49,7 +49,7 @@ answer_at os xs p d o c e =
 pub an_answer : (os : List Overload) (xs : List Operand) → IsUnambiguous os → (r : Option (Option WgslType)) × IsStandardAnswer os xs r
 an_answer os xs u = turn (first_of (must_be_concrete xs) os xs) (found os xs u)
   where
-    turn : (c : Option (ℕ × Instance)) → IsChosen os xs c → (r : Option (Option WgslType)) × IsStandardAnswer os xs r
+    turn : (c : Option (ℕ × Substitution)) → IsChosen os xs c → (r : Option (Option WgslType)) × IsStandardAnswer os xs r
     turn (Some p) c = (_, answer_some os xs p c.0 c.1 c)
     turn None c = (None, answer_none os xs c)
 

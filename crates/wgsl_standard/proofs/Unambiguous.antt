@@ -20,9 +20,9 @@ use Rattle.wgsl_syntax.specs.declared.overload.Pattern.TheVariants as patterns
 use Rattle.wgsl_syntax.specs.declared.overload.Overload.{Overload}
 use Rattle.wgsl_syntax.specs.declared.overload.Dimensions.{Dimensions}
 use Rattle.wgsl_syntax.specs.declared.overload.Dimensions.TheVariants.{Single}
-use Rattle.wgsl_syntax.specs.declared.overload.Instance.{Instance}
+use Rattle.wgsl_syntax.specs.declared.overload.Substitution.{Substitution}
 use Rattle.wgsl_rules.specs.standard.Choice.{Operand, parameter_for, parameters_for}
-use Rattle.wgsl_rules.specs.standard.Overloads.{count_in, one_or_vector, dimensions_in, component_in, patterns_of, type_with, IsInstance}
+use Rattle.wgsl_rules.specs.standard.Overloads.{count_in, one_or_vector, dimensions_in, component_in, patterns_of, type_with, IsSubstitution}
 use Rattle.wgsl_rules.specs.standard.Resources.{letter_of}
 use Rattle.wgsl_rules.specs.standard.Tables.{IsPreferredTo, IsPreferredToAll, AreInOrder, IsUnambiguous}
 use Rattle.wgsl_standard.specs.internal.Binding.{converts, must_be_concrete}
@@ -57,7 +57,7 @@ itself : (s : Scalar) → IsTrue (converts s s && converts s s)
 itself BoolScalar = refl
 itself s = refl
 
-stands : (o : Overload) (i : Instance) → IsInstance o i → (a : Component) → IsTrue (may_stand o a (component_in i a))
+stands : (o : Overload) (i : Substitution) → IsSubstitution o i → (a : Component) → IsTrue (may_stand o a (component_in i a))
 stands o i h T = h.t
 stands o i h U = h.u
 stands o i h V = h.v
@@ -79,11 +79,11 @@ taken_at f o a p b t g h s j k m n =
 numbers_apart : (m n : ℕ) → IsTrue (not (m == n)) → m ≡ n → ⊥
 numbers_apart m n h = eqb-false m n (not-true (m == n) h)
 
-counts_differ : (i j : Instance) (m n : Count) → IsTrue (counts_apart m n) → count_in i m ≡ count_in j n → ⊥
+counts_differ : (i j : Substitution) (m n : Count) → IsTrue (counts_apart m n) → count_in i m ≡ count_in j n → ⊥
 counts_differ i j (Exactly m) (Exactly n) h e = numbers_apart m n h e
 counts_differ i j m n h e = true≢false (sym h)
 
-shapes_differ : (i j : Instance) (a b : Shape) → IsTrue (shapes_apart a b) → dimensions_in i a ≡ dimensions_in j b → ⊥
+shapes_differ : (i j : Substitution) (a b : Shape) → IsTrue (shapes_apart a b) → dimensions_in i a ≡ dimensions_in j b → ⊥
 shapes_differ i j shapes.One (shapes.Vector n) h e = cc
 shapes_differ i j (shapes.Vector n) (shapes.Vector m) h e = counts_differ i j n m h (cc e)
 shapes_differ i j (shapes.Matrix c r) (shapes.Matrix d q) h e = elim (or_cases (counts_apart c d) (counts_apart r q) h) [
@@ -102,16 +102,16 @@ abbrev IsKnown : Shape → Type 0
 IsKnown shapes.OneOrVector = ⊥
 IsKnown s = Unit {0}
 
-unchanged : (i : Instance) (s : Shape) (w : Bool) → IsKnown s → dimensions_in i (as_known w s) ≡ dimensions_in i s
+unchanged : (i : Substitution) (s : Shape) (w : Bool) → IsKnown s → dimensions_in i (as_known w s) ≡ dimensions_in i s
 unchanged i shapes.OneOrVector w h = absurd h
 unchanged i s true h = refl
 unchanged i s w h = refl
 
--- where it is known whether it is a scalar or a vector, another instance has the same shape there
-known : (i : Instance) (s : Shape) → (k : Instance) × (dimensions_in k (as_known (is_vector i.width) s) ≡ dimensions_in i s)
+-- where it is known whether it is a scalar or a vector, another substitution has the same shape there
+known : (i : Substitution) (s : Shape) → (k : Substitution) × (dimensions_in k (as_known (is_vector i.width) s) ≡ dimensions_in i s)
 known i shapes.OneOrVector = turn i.width
   where
-    turn : (w : Option ℕ) → (k : Instance) × (dimensions_in k (as_known (is_vector w) shapes.OneOrVector) ≡ one_or_vector w)
+    turn : (w : Option ℕ) → (k : Substitution) × (dimensions_in k (as_known (is_vector w) shapes.OneOrVector) ≡ one_or_vector w)
     turn None = (i, refl)
     turn (Some n) = (record i { n = n }, refl)
 known i s = (i, unchanged i s (is_vector i.width) tt)
@@ -122,12 +122,12 @@ value_of_group : (o : Dimensions) (s : Scalar) → type_group (type_with o s) �
 value_of_group Single s = refl
 value_of_group o s = refl
 
-fit_group : (c : Bool) (i : Instance) (p : Pattern) (x : Operand) → Fit c i p x → type_group x.of_type ≡ group_of p
+fit_group : (c : Bool) (i : Substitution) (p : Pattern) (x : Operand) → Fit c i p x → type_group x.of_type ≡ group_of p
 fit_group c i (patterns.Value s e) x f = ap type_group (parts_again x.of_type (dimensions_in i s) f.scalar f.parts) ∙ value_of_group (dimensions_in i s) f.scalar
 fit_group c i (patterns.Resource r) x f = group_said _ _ (letter_of r x.of_type) i.t (letter_says r x.of_type) f
 fit_group c i p x f = ap type_group f
 
-places_differ : (c : Bool) (o p : Overload) (i j : Instance) → IsInstance o i → IsInstance p j → (a b : Pattern) (x : Operand) →
+places_differ : (c : Bool) (o p : Overload) (i j : Substitution) → IsSubstitution o i → IsSubstitution p j → (a b : Pattern) (x : Operand) →
     IsTrue (patterns_apart (is_vector i.width) (is_vector j.width) o p a b) → Fit c i a x → Fit c j b x → ⊥
 places_differ c o p i j m n (patterns.Value s e) (patterns.Value r g) x h f k =
     elim (or_cases (shapes_apart (as_known (is_vector i.width) s) (as_known (is_vector j.width) r)) (all_taken never o e p g) h) [
@@ -140,12 +140,12 @@ places_differ c o p i j m n (patterns.Value s e) (patterns.Value r g) x h f k =
     ]
 places_differ c o p i j m n a b x h f k = numbers_apart (group_of a) (group_of b) h (sym (fit_group c i a x f) ∙ fit_group c j b x k)
 
-difference : (c : Bool) (i j : Instance) (a b : Pattern) (x : Operand) → IsTrue (differ_at a b) → Fit c i a x → Fit c j b x → ⊥
+difference : (c : Bool) (i j : Substitution) (a b : Pattern) (x : Operand) → IsTrue (differ_at a b) → Fit c i a x → Fit c j b x → ⊥
 difference c i j (patterns.Value s e) (patterns.Value r g) x h f k = shapes_differ i j s r h (same_operand c i j s e r g x.of_type f k).0
 difference c i j a b x h f k = numbers_apart (group_of a) (group_of b) h (sym (fit_group c i a x f) ∙ fit_group c j b x k)
 
 -- no operands fit lists of parameters that are apart, if none fits parameters that are
-none_fits : (apart : Pattern → Pattern → Bool) (c : Bool) (i j : Instance) → ((a b : Pattern) (x : Operand) → IsTrue (apart a b) → Fit c i a x → Fit c j b x → ⊥) →
+none_fits : (apart : Pattern → Pattern → Bool) (c : Bool) (i j : Substitution) → ((a b : Pattern) (x : Operand) → IsTrue (apart a b) → Fit c i a x → Fit c j b x → ⊥) →
     (ps qs : List Pattern) (xs : List Operand) → IsTrue (are_apart apart ps qs) → AllFit c i ps xs → AllFit c j qs xs → ⊥
 none_fits apart c i j n [] [] xs h f g = true≢false (sym h)
 none_fits apart c i j n (a ∷ ps) (b ∷ qs) (x ∷ xs) h f g = elim (or_cases (apart a b) (are_apart apart ps qs) h) [
@@ -156,7 +156,7 @@ none_fits apart c i j n [] qs [] h f g = g
 none_fits apart c i j n (a ∷ ps) [] (x ∷ xs) h f g = g
 none_fits apart c i j n ps qs xs h f g = f
 
--- the test for what is known of two instances
+-- the test for what is known of two substitutions
 preferred_at : (w v : Bool) (o p : Overload) → IsTrue (is_preferred_anywhere o p) → IsTrue (is_preferred_where w v o p)
 preferred_at w v o p h =
     let k = and_parts (is_preferred_where true true o p && is_preferred_where true false o p) (is_preferred_where false true o p && is_preferred_where false false o p) h in
@@ -169,7 +169,7 @@ preferred_at w v o p h =
     choose false true a b = b.0
     choose false false a b = b.1
 
-place_deeper : (c : Bool) (o p : Overload) (i j : Instance) → IsInstance o i → IsInstance p j → (a b : Pattern) (x : Operand) → IsTrue (place_no_deeper o a p b) →
+place_deeper : (c : Bool) (o p : Overload) (i j : Substitution) → IsSubstitution o i → IsSubstitution p j → (a b : Pattern) (x : Operand) → IsTrue (place_no_deeper o a p b) →
     Fit c i a x → Fit c j b x → depth (parameter_for i a x.of_type) ≤ depth (parameter_for j b x.of_type)
 place_deeper c o p i j m n (patterns.Value s e) (patterns.Value r g) x h f k =
     let d = leb-true (scalar_depth (component_in i e)) (scalar_depth (component_in j g))
@@ -180,7 +180,7 @@ place_deeper c o p i j m n (patterns.Texture s) (patterns.Texture r) x h f k = o
 place_deeper c o p i j m n (patterns.Resource s) (patterns.Resource r) x h f k = le_refl (depth x.of_type)
 place_deeper c o p i j m n a b x h f k = absurd (true≢false (sym h))
 
-none_deeper : (c : Bool) (o p : Overload) (i j : Instance) → IsInstance o i → IsInstance p j → (ps qs : List Pattern) (xs : List Operand) → IsTrue (all_no_deeper o ps p qs) →
+none_deeper : (c : Bool) (o p : Overload) (i j : Substitution) → IsSubstitution o i → IsSubstitution p j → (ps qs : List Pattern) (xs : List Operand) → IsTrue (all_no_deeper o ps p qs) →
     AllFit c i ps xs → AllFit c j qs xs → IsNowhereMore (map depth (parameters_for i ps xs)) (map depth (parameters_for j qs xs))
 none_deeper c o p i j m n [] [] xs h f g = tt
 none_deeper c o p i j m n (a ∷ ps) (b ∷ qs) (x ∷ xs) h f g =
@@ -190,7 +190,7 @@ none_deeper c o p i j m n [] qs [] h f g = absurd g
 none_deeper c o p i j m n (a ∷ ps) [] (x ∷ xs) h f g = absurd g
 none_deeper c o p i j m n ps qs xs h f g = absurd f
 
-place_less : (c : Bool) (o p : Overload) (i j : Instance) → IsInstance o i → IsInstance p j → (a b : Pattern) (x : Operand) → IsTrue (place_less_deep o a p b) →
+place_less : (c : Bool) (o p : Overload) (i j : Substitution) → IsSubstitution o i → IsSubstitution p j → (a b : Pattern) (x : Operand) → IsTrue (place_less_deep o a p b) →
     Fit c i a x → Fit c j b x → depth (parameter_for i a x.of_type) < depth (parameter_for j b x.of_type)
 place_less c o p i j m n (patterns.Value s e) (patterns.Value r g) x h f k =
     let d = ltb-true (scalar_depth (component_in i e)) (scalar_depth (component_in j g))
@@ -198,7 +198,7 @@ place_less c o p i j m n (patterns.Value s e) (patterns.Value r g) x h f k =
     omega (arith, d, depth_type_with (dimensions_in i s) (component_in i e), depth_type_with (dimensions_in j r) (component_in j g))
 place_less c o p i j m n a b x h f k = absurd (true≢false (sym h))
 
-some_less : (c : Bool) (o p : Overload) (i j : Instance) → IsInstance o i → IsInstance p j → (ps qs : List Pattern) (xs : List Operand) → IsTrue (some_less_deep o ps p qs) →
+some_less : (c : Bool) (o p : Overload) (i j : Substitution) → IsSubstitution o i → IsSubstitution p j → (ps qs : List Pattern) (xs : List Operand) → IsTrue (some_less_deep o ps p qs) →
     AllFit c i ps xs → AllFit c j qs xs → IsSomewhereLess (map depth (parameters_for i ps xs)) (map depth (parameters_for j qs xs))
 some_less c o p i j m n (a ∷ ps) (b ∷ qs) (x ∷ xs) h f g =
     elim (or_cases (place_less_deep o a p b) (some_less_deep o ps p qs) h) [
@@ -218,23 +218,23 @@ preferred_is o p h xs us vs r s ranks ws q k n m =
     let f = taken o xs us r ranks q k in
     let g = taken p xs vs s ws n m in
     let t = unless_different o p (are_apart differ_at (patterns_of o) (patterns_of p))
-    (λ d. none_fits differ_at c f.instance g.instance (difference c f.instance g.instance) (patterns_of o) (patterns_of p) xs d f.fits g.fits) h in
-    let w = is_vector f.instance.width in
-    let v = is_vector g.instance.width in
+    (λ d. none_fits differ_at c f.substitution g.substitution (difference c f.substitution g.substitution) (patterns_of o) (patterns_of p) xs d f.fits g.fits) h in
+    let w = is_vector f.substitution.width in
+    let v = is_vector g.substitution.width in
     elim (or_cases (are_apart (patterns_apart w v o p) (patterns_of o) (patterns_of p))
     (all_no_deeper o (patterns_of o) p (patterns_of p) && some_less_deep o (patterns_of o) p (patterns_of p)) (preferred_at w v o p t)) [
-      | inl t ↦ absurd (none_fits (patterns_apart w v o p) c f.instance g.instance (places_differ c o p f.instance g.instance f.admitted g.admitted)
+      | inl t ↦ absurd (none_fits (patterns_apart w v o p) c f.substitution g.substitution (places_differ c o p f.substitution g.substitution f.admitted g.admitted)
           (patterns_of o) (patterns_of p) xs t f.fits g.fits)
       | inr t ↦
           let b = and_parts (all_no_deeper o (patterns_of o) p (patterns_of p)) (some_less_deep o (patterns_of o) p (patterns_of p)) t in
-          let below = none_deeper (must_be_concrete xs) o p f.instance g.instance f.admitted g.admitted (patterns_of o) (patterns_of p) xs b.0 f.fits g.fits in
-          let less = some_less (must_be_concrete xs) o p f.instance g.instance f.admitted g.admitted (patterns_of o) (patterns_of p) xs b.1 f.fits g.fits in (
+          let below = none_deeper (must_be_concrete xs) o p f.substitution g.substitution f.admitted g.admitted (patterns_of o) (patterns_of p) xs b.0 f.fits g.fits in
+          let less = some_less (must_be_concrete xs) o p f.substitution g.substitution f.admitted g.admitted (patterns_of o) (patterns_of p) xs b.1 f.fits g.fits in (
             ranks_below us vs xs ranks ws k.values k.converts m.converts
                 (subst (λ us. IsNowhereMore (map depth us) (map depth vs)) (sym f.parameters)
-                (subst (λ vs. IsNowhereMore (map depth (parameters_for f.instance (patterns_of o) xs)) (map depth vs)) (sym g.parameters) below)),
+                (subst (λ vs. IsNowhereMore (map depth (parameters_for f.substitution (patterns_of o) xs)) (map depth vs)) (sym g.parameters) below)),
             ranks_less us vs xs ranks ws k.values k.converts m.converts
                 (subst (λ us. IsSomewhereLess (map depth us) (map depth vs)) (sym f.parameters)
-                (subst (λ vs. IsSomewhereLess (map depth (parameters_for f.instance (patterns_of o) xs)) (map depth vs)) (sym g.parameters) less)),
+                (subst (λ vs. IsSomewhereLess (map depth (parameters_for f.substitution (patterns_of o) xs)) (map depth vs)) (sym g.parameters) less)),
           )
     ]
 

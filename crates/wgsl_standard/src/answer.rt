@@ -11,17 +11,17 @@ ghost use Rattle.wgsl_standard.specs.Results.{result_view};
 ghost use Rattle.wgsl_standard.specs.Texts.{types_given};
 
 use crate::callee::{Callee, overloads};
-use crate::instance::{ResultType, result_type};
 use crate::operand::Operand;
 use crate::resolve::resolve;
+use crate::substitution::{ResultType, result_type};
 use std::alloc::{AllocError, Global};
 use wgsl_core::error::Fail;
 use wgsl_core::ty::Type;
 use wgsl_core::ty::form::Form;
-use wgsl_syntax::overload::{Instance, Overload};
+use wgsl_syntax::overload::{Overload, Substitution};
 
 /// No candidate takes the operands, or nothing has the name.
-#[derive(Clone, Copy, Debug)]
+#[derive(Clone, Copy)]
 pub struct NoOverload;
 
 /// The type of a call, or None if it has no value. It is allocated only if it isn't a scalar, a vector or a matrix.
@@ -100,7 +100,12 @@ fn type_by(
         return Err(Fail::Error(NoOverload));
     };
     match chosen(overloads, operands) {
-        Some((overload, instance)) => Ok(result_type(alloc, &instance, overload, operands)?),
+        Some((overload, substitution)) => Ok(result_type(
+            alloc,
+            &substitution,
+            overload,
+            operands,
+        )?),
         None => Err(Fail::Error(NoOverload)),
     }
 }
@@ -110,13 +115,13 @@ fn type_by(
 fn chosen<'a>(
     overloads: &'a [Overload],
     operands: &[Operand<'_>],
-) -> Option<(&'a Overload, Instance)>
+) -> Option<(&'a Overload, Substitution)>
     requires { IsUnambiguous overloads.now }
     ensures { IsStandardAnswer overloads.now (operands_view operands.now)
         (option_map (λ c. result_there c.1 c.0.now (operands_view operands.now)) result) }
 {
     match resolve(overloads, operands) {
-        Some(choice) => Some((&overloads[choice.index], choice.instance)),
+        Some(choice) => Some((&overloads[choice.index], choice.substitution)),
         None => None,
     }
 }

@@ -55,7 +55,7 @@ fn takes_first(overload: &Overload, operands: &[Operand]) -> bool
 }
 
 /// Why an overload doesn't take the operands.
-#[derive(Clone, Copy, PartialEq, Eq, Debug)]
+#[derive(Clone, Copy)]
 pub enum Mismatch {
     /// It has this number of parameters.
     Count(usize),

@@ -3,7 +3,7 @@ ghost use Rattle.std.specs.Prelude.{◌≡◌, option_map};
 ghost use Rattle.wgsl_rules.specs.standard.Choice.{IsChosen, ChoiceIsUnique};
 ghost use Rattle.wgsl_rules.specs.standard.Tables.{IsUnambiguous};
 ghost use Rattle.wgsl_standard.specs.Operands.{operands_view};
-ghost use Rattle.wgsl_standard.specs.internal.Binding.{must_be_concrete as must_all_be_concrete, instance_at as instance_there, settle as settled, instance_of as least_instance, first_of as first_chosen};
+ghost use Rattle.wgsl_standard.specs.internal.Binding.{must_be_concrete as must_all_be_concrete, substitution_at as substitution_there, settle as settled, substitution_of as least_substitution, first_of as first_chosen};
 ghost use Rattle.wgsl_standard.specs.internal.Choices.{choice_view};
 
 use crate::binding::{Binding, FREE};
@@ -11,14 +11,14 @@ use crate::fitting::bind_all;
 use crate::letter::pick;
 use crate::operand::Operand;
 use crate::overload::{kinds_of, parameters_of};
-use wgsl_syntax::overload::{Instance, Overload};
+use wgsl_syntax::overload::{Overload, Substitution};
 use wgsl_syntax::scalar::Scalar;
 
 /// An overload that is chosen, by its index, and what its letters stand for.
 #[derive(Clone, Copy)]
 pub struct Choice {
     pub index: usize,
-    pub instance: Instance,
+    pub substitution: Substitution,
 }
 
 /// The overload of a table that is preferred for operands, if one takes them.
@@ -36,8 +36,11 @@ fn first_of(concrete: bool, overloads: &[Overload], operands: &[Operand]) -> Opt
     ensures { option_map choice_view result ≡ first_chosen concrete overloads.now (operands_view operands.now) }
 {
     for index in 0..overloads.len() {
-        if let Some(instance) = instance_of(concrete, &overloads[index], operands) {
-            return Some(Choice { index, instance });
+        if let Some(substitution) = substitution_of(concrete, &overloads[index], operands) {
+            return Some(Choice {
+                index,
+                substitution,
+            });
         }
     }
     None
@@ -55,10 +58,14 @@ pub fn must_be_concrete(operands: &[Operand]) -> bool
     false
 }
 
-/// The least instance of the overload that takes the operands.
+/// The least substitution of the overload that takes the operands.
 #[inline(always)]
-fn instance_of(concrete: bool, overload: &Overload, operands: &[Operand]) -> Option<Instance>
-    ensures { result ≡ least_instance concrete overload.now (operands_view operands.now) }
+fn substitution_of(
+    concrete: bool,
+    overload: &Overload,
+    operands: &[Operand],
+) -> Option<Substitution>
+    ensures { result ≡ least_substitution concrete overload.now (operands_view operands.now) }
 {
     let mut binding = FREE;
     if bind_all(concrete, &mut binding, parameters_of(overload), operands) {
@@ -70,7 +77,7 @@ fn instance_of(concrete: bool, overload: &Overload, operands: &[Operand]) -> Opt
 
 /// The scalars that the letters finally stand for.
 #[inline(always)]
-pub fn settle(concrete: bool, overload: &Overload, binding: &Binding) -> Option<Instance>
+pub fn settle(concrete: bool, overload: &Overload, binding: &Binding) -> Option<Substitution>
     ensures { result ≡ settled concrete overload.now binding.now }
 {
     // Each kind is read by itself, so that the compiler knows the kind of a letter that the overload doesn't have.
@@ -78,14 +85,14 @@ pub fn settle(concrete: bool, overload: &Overload, binding: &Binding) -> Option<
     let u = pick(concrete, kinds_of(overload).1, binding.u)?;
     let v = pick(concrete, kinds_of(overload).2, binding.v)?;
     let w = pick(concrete, kinds_of(overload).3, binding.w)?;
-    Some(instance_at(binding, t, u, v, w))
+    Some(substitution_at(binding, t, u, v, w))
 }
 
 #[inline(always)]
-fn instance_at(binding: &Binding, t: Scalar, u: Scalar, v: Scalar, w: Scalar) -> Instance
-    ensures { result ≡ instance_there binding.now t u v w }
+fn substitution_at(binding: &Binding, t: Scalar, u: Scalar, v: Scalar, w: Scalar) -> Substitution
+    ensures { result ≡ substitution_there binding.now t u v w }
 {
-    Instance {
+    Substitution {
         t,
         u,
         v,

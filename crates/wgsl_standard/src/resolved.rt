@@ -12,16 +12,16 @@ ghost use Rattle.wgsl_standard.specs.Resolved.{resolved_view, IsNamedResolution,
 
 use crate::answer::{NoOverload, is_template, operands_with};
 use crate::callee::{Callee, listed_overloads};
-use crate::instance::{built, parameter_for, result_type};
 use crate::lines::lines_before;
 use crate::operand::Operand;
 use crate::overload::parameters_of;
 use crate::resolve::resolve;
+use crate::substitution::{built, parameter_for, result_type};
 use crate::written::{parameter_count, patterns_of, takes_either};
 use std::alloc::{AllocError, Global};
 use wgsl_core::error::Fail;
 use wgsl_core::ty::Type;
-use wgsl_syntax::overload::{Instance, Overload, Parameters};
+use wgsl_syntax::overload::{Overload, Parameters, Substitution};
 
 /// An overload that is chosen, with the types that a compiler converts the operands to.
 #[derive(Drop)]
@@ -70,7 +70,7 @@ fn resolve_by(
         Some(choice) => {
             let line = lines_before(callee, has_template, &overloads[..choice.index]);
             let overload = &overloads[choice.index];
-            let call = resolved(alloc, line, overload, &choice.instance, operands)?;
+            let call = resolved(alloc, line, overload, &choice.substitution, operands)?;
             Ok(call)
         }
         None => Err(Fail::Error(NoOverload)),
@@ -81,21 +81,21 @@ fn resolved(
     alloc: Global,
     first_line: usize,
     overload: &Overload,
-    instance: &Instance,
+    substitution: &Substitution,
     operands: &[Operand<'_>],
 ) -> Result<ResolvedCall, AllocError>
     requires { first_line < 2 ^ 11 }
     ensures { IfOk result (λ r. resolved_view r
         ≡ (
-          cond (list_any is_scalar_or_vector (patterns_there overload.now) && is_some instance.now.width) (first_line + 1) first_line,
-          parameters_for instance.now (patterns_there overload.now) (operands_view operands.now),
-          result_there instance.now overload.now (operands_view operands.now),
+          cond (list_any is_scalar_or_vector (patterns_there overload.now) && is_some substitution.now.width) (first_line + 1) first_line,
+          parameters_for substitution.now (patterns_there overload.now) (operands_view operands.now),
+          result_there substitution.now overload.now (operands_view operands.now),
         )) }
 {
-    let parameters = parameter_types(alloc, instance, parameters_of(overload), operands)?;
-    let found = result_type(alloc, instance, overload, operands)?;
+    let parameters = parameter_types(alloc, substitution, parameters_of(overload), operands)?;
+    let found = result_type(alloc, substitution, overload, operands)?;
     let result = built(alloc, found)?;
-    let of_vectors = takes_either(parameters_of(overload)) && instance.width.is_some();
+    let of_vectors = takes_either(parameters_of(overload)) && substitution.width.is_some();
     Ok(ResolvedCall {
         index: if of_vectors {
             first_line + 1
@@ -114,17 +114,17 @@ pub fn index_names_line()
 
 fn parameter_types(
     alloc: Global,
-    instance: &Instance,
+    substitution: &Substitution,
     parameters: &Parameters,
     operands: &[Operand<'_>],
 ) -> Result<Vec<Type>, AllocError>
-    ensures { IfOk result (λ v. map view v.items ≡ parameters_for instance.now (in_order parameters.now) (operands_view operands.now)) }
+    ensures { IfOk result (λ v. map view v.items ≡ parameters_for substitution.now (in_order parameters.now) (operands_view operands.now)) }
 {
     let mut types = Vec::with_capacity(alloc, operands.len())?;
     let patterns = patterns_of(parameters);
     for index in 0..operands.len().min(parameter_count(parameters)) {
         let pattern = *patterns[index.min(6)];
-        types.push(parameter_for(alloc, instance, pattern, &operands[index])?)?;
+        types.push(parameter_for(alloc, substitution, pattern, &operands[index])?)?;
     }
     Ok(types)
 }

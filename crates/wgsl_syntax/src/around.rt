@@ -3,7 +3,7 @@
 use crate::address::{AccessMode, AddressSpace};
 
 /// What stands around one other type.
-#[derive(Clone, Copy, PartialEq, Eq, Debug)]
+#[derive(Clone, Copy)]
 pub enum Around {
     /// The number of elements; None if the array is runtime-sized.
     Array(Option<usize>),

@@ -158,7 +158,7 @@ pub enum Dimensions {
 
 /// What the letters of an overload stand for.
 #[derive(Clone, Copy)]
-pub struct Instance {
+pub struct Substitution {
     pub t: Scalar,
     pub u: Scalar,
     pub v: Scalar,

@@ -1,14 +1,14 @@
 // The structs that `frexp` and `modf` return, by name.
 
 /// The function that returns a result struct.
-#[derive(Clone, Copy, PartialEq, Eq, Hash, Debug)]
+#[derive(Clone, Copy, PartialEq, Eq)]
 pub enum ResultFunction {
     Frexp,
     Modf,
 }
 
 /// The shape of the function's argument: a scalar, or a vector of two to four components.
-#[derive(Clone, Copy, PartialEq, Eq, Hash, Debug)]
+#[derive(Clone, Copy, PartialEq, Eq)]
 pub enum ResultShape {
     Scalar,
     Vec2,
@@ -17,7 +17,7 @@ pub enum ResultShape {
 }
 
 /// The float type of the function's argument.
-#[derive(Clone, Copy, PartialEq, Eq, Hash, Debug)]
+#[derive(Clone, Copy, PartialEq, Eq)]
 pub enum ResultPrecision {
     /// `__modf_result_vec4_abstract`
     Abstract,
@@ -28,7 +28,7 @@ pub enum ResultPrecision {
 }
 
 /// One of the 24 structs that `frexp` and `modf` return (WGSL, "frexp" and "modf").
-#[derive(Clone, Copy, PartialEq, Eq, Hash, Debug)]
+#[derive(Clone, Copy, PartialEq, Eq)]
 pub struct ResultStruct {
     pub function: ResultFunction,
     pub shape: ResultShape,

@@ -9,7 +9,7 @@ use std::fmt::Write;
 use std::str::FromStr;
 
 /// Whose names texel formats have.
-#[derive(Clone, Copy, PartialEq, Eq, Hash, Debug)]
+#[derive(Clone, Copy, PartialEq, Eq)]
 pub enum FormatNames {
     /// naga's: `rg11b10float`
     Naga,

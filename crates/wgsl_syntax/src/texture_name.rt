@@ -11,7 +11,7 @@ use std::fmt::Write;
 use std::str::FromStr;
 
 /// The name of a texture's type, without its parameters (WGSL, "Texture and Sampler Types").
-#[derive(Clone, Copy, PartialEq, Eq, Hash, Debug)]
+#[derive(Clone, Copy)]
 pub enum TextureName {
     /// `texture_1d`
     Sampled1D,
@@ -56,7 +56,7 @@ pub enum TextureName {
 }
 
 /// Which parameters the template of a texture has.
-#[derive(Clone, Copy, PartialEq, Eq, Hash, Debug)]
+#[derive(Clone, Copy)]
 pub enum TextureParameterKind {
     /// There is no template.
     None,
@@ -65,7 +65,7 @@ pub enum TextureParameterKind {
 }
 
 /// The parameters in the template of a texture.
-#[derive(Clone, Copy, PartialEq, Eq, Hash, Debug)]
+#[derive(Clone, Copy)]
 pub enum TextureParameters {
     /// There is no template.
     None,

@@ -17,7 +17,7 @@ use Rattle.wgsl_text.specs.Grammar.{TypeAt, TypesAt}
 use Rattle.wgsl_text.specs.Requests.{Request, rank, unary, binary, offsets, laid_out, members_laid_out, IsRequest, rank_words, unary_words, binary_words, offsets_words, layout_words}
 use Rattle.wgsl_text.specs.Answers.{IsAnswer, IsReply}
 use Rattle.wgsl_text.specs.Texts.{text_kind}
-use Rattle.wgsl_text.specs.declared.command.Callee.{Callee}
+use Rattle.wgsl_text.specs.declared.command.ReadCall.{ReadCall}
 use Rattle.wgsl_text.specs.declared.rules.RuleSet.{RuleSet}
 use Rattle.wgsl_text.specs.declared.rules.RuleSet.TheVariants.{Ported, Standard}
 use Rattle.wgsl_core.specs.declared.error.Fail.{Fail}
@@ -26,7 +26,7 @@ use Rattle.wgsl_text.specs.declared.write.TextKind.{TextKind}
 use Rattle.wgsl_text.specs.declared.write.TextKind.TheVariants as kinds
 use Rattle.wgsl_core.specs.declared.error.Fail.TheVariants.{Error, Memory}
 use Rattle.wgsl_text.proofs.Requested.{no_offsets, no_layout, other_struct}
-use Rattle.wgsl_text.specs.internal.Replied.{callee_view, layout_by, Replies, WritesOfStruct}
+use Rattle.wgsl_text.specs.internal.Replied.{layout_by, Replies, signature_read, WritesOfStruct}
 use Rattle.wgsl_text.specs.internal.Written.{Adds}
 
 -- what a list of two shows
@@ -93,8 +93,8 @@ same_shown now items f (Some r) None e = absurd (cc e)
 same_shown now items f (Some r) (Some t) e = ap (option_map f) e
 
 -- the call that is made is the one that was read
-pub call_seen : (callee : Callee) (r : Option (Bor (List TpltParam))) (args : List «Type») → option_map (λ y. y.now) r ≡ option_map vec_items callee.template → args ≡ callee.types.items → call_view callee.name.now r args ≡ callee_view callee
-call_seen callee r args e f =
-    let template = same_shown (λ (y : Bor (List TpltParam)). y.now) vec_items (λ ps. map parameter_view ps) r callee.template e in
+pub call_seen : (call : ReadCall) (r : Option (Bor (List TpltParam))) (args : List «Type») → option_map (λ y. y.now) r ≡ option_map vec_items call.template → args ≡ call.args.items → call_view call.name.now r args ≡ signature_read call
+call_seen call r args e f =
+    let template = same_shown (λ (y : Bor (List TpltParam)). y.now) vec_items (λ ps. map parameter_view ps) r call.template e in
     let arguments = ap (map view) f in
-    λ i. record { name = callee.name.now; template = template i; arguments = arguments i }
+    λ i. record { name = call.name.now; template = template i; arguments = arguments i }

@@ -6,11 +6,12 @@ ghost use Rattle.wgsl_core.specs.View.{struct_view, view};
 ghost use Rattle.wgsl_rules.specs.Headline.{Receives};
 ghost use Rattle.wgsl_requests.specs.Answers.{IsReceivedCommon};
 ghost use Rattle.wgsl_requests.specs.Requests.{common as common_request, offsets as offsets_request};
-ghost use Rattle.wgsl_requests.specs.Views.{callee_view as asked_view, request_view};
+ghost use Rattle.wgsl_calls.specs.Calls.{signature_of};
+ghost use Rattle.wgsl_requests.specs.Views.{request_view};
 ghost use Rattle.wgsl_text.specs.Answers.{IsAnswer, IsReply};
 ghost use Rattle.wgsl_text.specs.Reading.{Answers, ReadsWord};
 ghost use Rattle.wgsl_text.specs.Requests.{IsCallee, NoRequest, laid_out};
-ghost use Rattle.wgsl_text.specs.internal.Replied.{Replies, WritesOfStruct, callee_view, layout_by};
+ghost use Rattle.wgsl_text.specs.internal.Replied.{Replies, WritesOfStruct, layout_by, signature_read};
 ghost use Rattle.wgsl_text.specs.internal.Taken.{left};
 ghost use Rattle.wgsl_text.specs.internal.Written.{Adds};
 
@@ -24,7 +25,7 @@ use crate::write::{TextKind, write, write_type_or_none};
 use std::alloc::{AllocError, Global};
 use wgsl_core::conversion::lists::common_of;
 use wgsl_requests::ask::answer;
-use wgsl_requests::requests::{Callee as AskedCallee, Request};
+use wgsl_requests::requests::{NamedCall, Request};
 use wgsl_syntax::texel::FormatNames;
 use wgsl_types::error::Fail;
 use wgsl_types::syntax::{BinaryOperator, UnaryOperator};
@@ -319,39 +320,39 @@ fn write_layout_by(
     }
 }
 
-/// The name of a constructor or a built-in function, with its template and the types of its arguments.
+/// The call of a constructor or of a built-in function, as it was read.
 #[derive(Drop)]
-struct Callee<'t> {
+struct ReadCall<'t> {
     name: &'t str,
     template: Option<Vec<TpltParam>>,
-    types: Vec<Type>,
+    args: Vec<Type>,
 }
 
-impl Callee<'_> {
+impl ReadCall<'_> {
     #[inline(always)]
-    fn as_asked(&self) -> AskedCallee<'_>
-        ensures { asked_view result ≡ callee_view self.now }
+    fn as_named(&self) -> NamedCall<'_>
+        ensures { signature_of result ≡ signature_read self.now }
     {
-        AskedCallee {
+        NamedCall {
             name: self.name,
             template: self.template.as_deref(),
-            arguments: &self.types,
+            args: &self.args,
         }
     }
 }
 
 #[inline(always)]
-fn read_callee<'t>(alloc: Global, words: &mut Words<'t>) -> Result<Callee<'t>, Fail<Misfit>>
-    ensures { Answers (λ callee. IsCallee (left words.old) (callee_view callee))
+fn read_call<'t>(alloc: Global, words: &mut Words<'t>) -> Result<ReadCall<'t>, Fail<Misfit>>
+    ensures { Answers (λ read. IsCallee (left words.old) (signature_read read))
         ((call : Signature) → ¬ IsCallee (left words.old) call) result }
 {
     let name = words.next(Wanted::Name)?;
     let template = read_template(alloc, RuleSet::Ported, words)?;
-    let types = read_types(alloc, RuleSet::Ported, words)?;
-    Ok(Callee {
+    let args = read_types(alloc, RuleSet::Ported, words)?;
+    Ok(ReadCall {
         name,
         template,
-        types,
+        args,
     })
 }
 
@@ -360,9 +361,9 @@ fn ctor(alloc: Global, words: &mut Words, text: &mut String) -> Result<TextKind,
     ensures { Replies RuleSet.Ported (codes "ctor" ∷ left words.old)
         (string_bytes text.old) (string_bytes text.new) result }
 {
-    let callee = read_callee(alloc, words)?;
-    let written = write_answer_to(alloc, Request::Constructor(callee.as_asked()), text);
-    drop(callee);
+    let read = read_call(alloc, words)?;
+    let written = write_answer_to(alloc, Request::Constructor(read.as_named()), text);
+    drop(read);
     Ok(written?)
 }
 
@@ -371,8 +372,8 @@ fn call(alloc: Global, words: &mut Words, text: &mut String) -> Result<TextKind,
     ensures { Replies RuleSet.Ported (codes "call" ∷ left words.old)
         (string_bytes text.old) (string_bytes text.new) result }
 {
-    let callee = read_callee(alloc, words)?;
-    let written = write_answer_to(alloc, Request::Call(callee.as_asked()), text);
-    drop(callee);
+    let read = read_call(alloc, words)?;
+    let written = write_answer_to(alloc, Request::Call(read.as_named()), text);
+    drop(read);
     Ok(written?)
 }

@@ -5,7 +5,7 @@ ghost use Rattle.wgsl_text.specs.Grammar.{format_names};
 use wgsl_syntax::texel::FormatNames;
 
 /// By which rules a request is answered.
-#[derive(Clone, Copy, PartialEq, Eq, Debug)]
+#[derive(Clone, Copy)]
 pub enum RuleSet {
     /// Those of wgsl-types.
     Ported,

@@ -19,12 +19,12 @@ pub use wgsl_standard::answer::NoOverload;
 use wgsl_standard::answer::type_of_call;
 pub use wgsl_standard::callee::{Callee, overloads};
 pub use wgsl_standard::explanation::{Note, explain};
-use wgsl_standard::instance::built;
 pub use wgsl_standard::operand::{Operand, OperandType};
 pub use wgsl_standard::refusal::{Mismatch, refused_by};
 pub use wgsl_standard::resolved::ResolvedCall;
 use wgsl_standard::resolved::resolve_callee;
 pub use wgsl_standard::signature::{Signature, signatures};
+use wgsl_standard::substitution::built;
 use wgsl_syntax::operator::{BinaryOperator, UnaryOperator};
 pub use wgsl_syntax::overload::{Dimensions, Overload};
 

@@ -10,18 +10,15 @@ use Rattle.wgsl_syntax.specs.declared.call.ReturnType.{ReturnType}
 use Rattle.wgsl_rules.specs.calls.Rows.{IsReturnType}
 use Rattle.wgsl_rules.specs.calls.Answers.{IsAnswerOf}
 use Rattle.wgsl_core.specs.View.{view}
-use Rattle.wgsl_core.specs.Instances.{call_view}
 use Rattle.wgsl_core.specs.Answer.{refusal}
 use Rattle.wgsl_core.specs.declared.ty.Type.{«Type»}
 use Rattle.wgsl_core.specs.declared.error.Error.{Error}
 use Rattle.wgsl_core.specs.declared.error.Fail.{Fail}
 use Rattle.wgsl_core.specs.declared.error.Fail.TheVariants as fails
-use Rattle.wgsl_calls.specs.declared.call.fit.Call.{Call}
+use Rattle.wgsl_calls.specs.declared.call.fit.NamedCall.{NamedCall}
+use Rattle.wgsl_calls.specs.Calls.{signature_of}
 
-abbrev pub signature_of : Call → Signature
-signature_of c = call_view (c.name).now c.template (c.args).now
-
-abbrev pub template_of : Call → Option (List Parameter)
+abbrev pub template_of : NamedCall → Option (List Parameter)
 template_of c = (signature_of c).template
 
 -- Out of memory may stand for this answer: any but no value and leaf types.

@@ -2,7 +2,8 @@
 ghost use Rattle.std.specs.Prelude.{◌≡◌, ◌↔◌, IsTrue, IsSome, None, length, map};
 ghost use Rattle.wgsl_rules.specs.calls.Rows.{shapes_of, AllAre, BeginAs, HaveSameAbstractness, HaveEqualLengths, Holds, Fits};
 ghost use Rattle.wgsl_core.specs.View.{view};
-ghost use Rattle.wgsl_calls.specs.internal.Answers.{signature_of, template_of};
+ghost use Rattle.wgsl_calls.specs.Calls.{signature_of};
+ghost use Rattle.wgsl_calls.specs.internal.Answers.{template_of};
 
 use crate::call::shape::is;
 use wgsl_core::signature::TpltParam;
@@ -10,9 +11,9 @@ use wgsl_core::ty::Type;
 use wgsl_core::ty::form::Form;
 use wgsl_syntax::call::{Arguments, Condition, Row, Shape};
 
-/// A call: its name, its template parameters if it has a template, and the types of its arguments.
+/// A call by name: its template parameters if it has a template, and the types of its arguments.
 #[derive(Clone, Copy)]
-pub struct Call<'a> {
+pub struct NamedCall<'a> {
     pub name: &'a str,
     pub template: Option<&'a [TpltParam]>,
     pub args: &'a [Type],
@@ -20,7 +21,7 @@ pub struct Call<'a> {
 
 /// Whether the row takes the call.
 #[inline(always)]
-pub fn fits(row: &Row, call: &Call<'_>) -> bool
+pub fn fits(row: &Row, call: &NamedCall<'_>) -> bool
     ensures { IsTrue result ↔ Fits row.now (signature_of call.now) }
 {
     match row {
@@ -34,7 +35,7 @@ pub fn fits(row: &Row, call: &Call<'_>) -> bool
 }
 
 #[tactic(auto, using(crate::proofs::Fitting::none_or_some))]
-fn has_template(call: &Call<'_>) -> bool
+fn has_template(call: &NamedCall<'_>) -> bool
     ensures some { IsTrue result ↔ IsSome (template_of call.now) }
     ensures none { ¬ IsTrue result ↔ (template_of call.now ≡ None) }
 {

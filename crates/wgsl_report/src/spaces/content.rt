@@ -5,7 +5,7 @@ ghost use Rattle.wgsl_report.specs.spaces.Spaces.{IsShared, MayBeInnermost, Take
 use wgsl_syntax::address::{AccessMode, AddressSpace};
 
 /// What the rules see of the type that is innermost in arrays, vectors and structs.
-#[derive(Clone, Copy, Debug, PartialEq, Eq)]
+#[derive(Clone, Copy)]
 pub enum Content {
     Bool,
     Atomic,

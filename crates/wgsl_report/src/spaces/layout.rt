@@ -6,7 +6,7 @@ ghost use Rattle.wgsl_report.specs.spaces.Spaces.{AreApart, Breaks, IsAlignAttri
 use wgsl_syntax::address::AddressSpace;
 
 /// What the rules see of a type: its size and its alignment in bytes, and whether it is an array or a struct.
-#[derive(Clone, Copy, Debug, PartialEq, Eq)]
+#[derive(Clone, Copy)]
 pub struct Extent {
     pub shape: Shape,
     pub size: u32,
@@ -14,7 +14,7 @@ pub struct Extent {
 }
 
 /// The kinds of types that have rules of their own.
-#[derive(Clone, Copy, Debug, PartialEq, Eq)]
+#[derive(Clone, Copy)]
 pub enum Shape {
     Array,
     Struct,
@@ -22,7 +22,7 @@ pub enum Shape {
 }
 
 /// A member of a struct: what the rules see of its type, its attributes, its offset, and that of the next member.
-#[derive(Clone, Copy, Debug, PartialEq, Eq)]
+#[derive(Clone, Copy)]
 pub struct Position {
     pub extent: Extent,
     pub size: Option<u32>,
@@ -32,7 +32,7 @@ pub struct Position {
 }
 
 /// A rule for the members of a struct.
-#[derive(Clone, Copy, Debug, PartialEq, Eq)]
+#[derive(Clone, Copy, PartialEq, Eq)]
 pub enum Rule {
     /// The offset is a multiple of the alignment that the type must have.
     Offset,

@@ -4,7 +4,7 @@ use Rattle.wgsl_syntax.specs.declared.address.AccessMode.TheVariants.{Read, Read
 use Rattle.wgsl_syntax.specs.declared.overload.Pattern.{Pattern}
 use Rattle.wgsl_syntax.specs.declared.overload.Pattern.TheVariants as patterns
 use Rattle.wgsl_syntax.specs.declared.overload.Overload.{Overload}
-use Rattle.wgsl_syntax.specs.declared.overload.Instance.{Instance}
+use Rattle.wgsl_syntax.specs.declared.overload.Substitution.{Substitution}
 use Rattle.wgsl_rules.specs.types.Types.{WgslType, reference, texture, sampler}
 use Rattle.wgsl_rules.specs.conversion.Conversion.{IsValueType}
 use Rattle.wgsl_rules.specs.conversion.Concrete.{IsAbstract}
@@ -62,22 +62,22 @@ abbrev pub NoneTakes : List Overload → List Operand → Type 0
 NoneTakes os xs = (at : ℕ) (us : List WgslType) (r : Option WgslType) (ranks : List ℕ) → IsCandidateAt os at us r → ¬ TakesOperands us xs ranks
 
 -- the types of the parameters that take operands, where textures and pointers are those of the operands
-abbrev pub parameter_for : Instance → Pattern → WgslType → WgslType
+abbrev pub parameter_for : Substitution → Pattern → WgslType → WgslType
 parameter_for i (patterns.Value s e) t = type_with (dimensions_in i s) (component_in i e)
 parameter_for i (patterns.Sampler s) t = sampler s
 parameter_for i (patterns.Texture x) t = texture x
 parameter_for i (patterns.Resource r) t = t
 
-abbrev pub parameters_for : Instance → List Pattern → List Operand → List WgslType
+abbrev pub parameters_for : Substitution → List Pattern → List Operand → List WgslType
 parameters_for i (p ∷ ps) (x ∷ xs) = parameter_for i p x.of_type ∷ parameters_for i ps xs
 parameters_for i ps xs = []
 
-abbrev pub result_for : Instance → Overload → List Operand → Option WgslType
+abbrev pub result_for : Substitution → Overload → List Operand → Option WgslType
 result_for i o xs = result_in i (parameters_for i (patterns_of o) xs) (result_of o)
 
 -- The answer for operands: the index of an overload and what its letters stand for, so that its candidate there is
 -- preferred to all others; or none, and then no candidate takes the operands.
-abbrev pub IsChosen : List Overload → List Operand → Option (ℕ × Instance) → Type 0
+abbrev pub IsChosen : List Overload → List Operand → Option (ℕ × Substitution) → Type 0
 IsChosen os xs (Some p) = (o : Overload) × (slice_get os p.0 ≡ Some o) × IsPreferred os xs p.0 (parameters_for p.1 (patterns_of o) xs) (result_for p.1 o xs)
 IsChosen os xs None = NoneTakes os xs
 

@@ -19,7 +19,7 @@ use Rattle.wgsl_syntax.specs.declared.overload.Overload.{Overload}
 use Rattle.wgsl_syntax.specs.declared.overload.Overload.TheVariants.{Plain, WithT, WithTAndU, WithThree, WithFour}
 use Rattle.wgsl_syntax.specs.declared.overload.Dimensions.{Dimensions}
 use Rattle.wgsl_syntax.specs.declared.overload.Dimensions.TheVariants.{Single, Vector, Matrix}
-use Rattle.wgsl_syntax.specs.declared.overload.Instance.{Instance}
+use Rattle.wgsl_syntax.specs.declared.overload.Substitution.{Substitution}
 use Rattle.wgsl_rules.specs.types.Types.{WgslType, scalar, texture, sampler}
 use Rattle.wgsl_rules.specs.types.Dimensions.{with_dimensions}
 use Rattle.wgsl_rules.specs.types.Inner.{inner_of}
@@ -32,9 +32,9 @@ use Rattle.wgsl_rules.specs.standard.Resources.{letter_of, precision_of}
 abbrev pub type_with : Dimensions → Scalar → WgslType
 type_with d s = with_dimensions d (scalar s)
 
--- what a letter stands for in an instance
+-- what a letter stands for in a substitution
 
-abbrev pub count_in : Instance → Count → ℕ
+abbrev pub count_in : Substitution → Count → ℕ
 count_in i N = i.n
 count_in i M = i.m
 count_in i K = i.k
@@ -44,13 +44,13 @@ abbrev pub one_or_vector : Option ℕ → Dimensions
 one_or_vector None = Single
 one_or_vector (Some n) = Vector n
 
-abbrev pub dimensions_in : Instance → Shape → Dimensions
+abbrev pub dimensions_in : Substitution → Shape → Dimensions
 dimensions_in i shapes.One = Single
 dimensions_in i (shapes.Vector n) = Vector (count_in i n)
 dimensions_in i (shapes.Matrix c r) = Matrix (count_in i c) (count_in i r)
 dimensions_in i shapes.OneOrVector = one_or_vector i.width
 
-abbrev pub component_in : Instance → Component → Scalar
+abbrev pub component_in : Substitution → Component → Scalar
 component_in i T = i.t
 component_in i U = i.u
 component_in i V = i.v
@@ -64,20 +64,20 @@ Names (Some None) s = Unit {0}
 Names (Some (Some g)) s = g ≡ s
 
 -- the type of a parameter or a result, if the letters say what it is; a texture or a pointer may be any one of a set
-abbrev pub type_in : Instance → Pattern → Option WgslType
+abbrev pub type_in : Substitution → Pattern → Option WgslType
 type_in i (patterns.Value s e) = Some (type_with (dimensions_in i s) (component_in i e))
 type_in i (patterns.Sampler s) = Some (sampler s)
 type_in i (patterns.Texture t) = Some (texture t)
 type_in i (patterns.Resource r) = None
 
--- A type may stand for a parameter in an instance.
-abbrev pub IsParameter : Instance → Pattern → WgslType → Type 0
+-- A type may stand for a parameter in a substitution.
+abbrev pub IsParameter : Substitution → Pattern → WgslType → Type 0
 IsParameter i (patterns.Value s e) u = u ≡ type_with (dimensions_in i s) (component_in i e)
 IsParameter i (patterns.Sampler s) u = u ≡ sampler s
 IsParameter i (patterns.Texture t) u = u ≡ texture t
 IsParameter i (patterns.Resource r) u = Names (letter_of r u) i.t
 
-abbrev pub AreParameters : Instance → List Pattern → List WgslType → Type 0
+abbrev pub AreParameters : Substitution → List Pattern → List WgslType → Type 0
 AreParameters i [] [] = Unit {0}
 AreParameters i (p ∷ ps) (u ∷ us) = IsParameter i p u × AreParameters i ps us
 AreParameters i ps us = ⊥
@@ -88,7 +88,7 @@ pointee_of [] = None
 pointee_of (u ∷ us) = Some (inner_of u)
 
 -- the type of the result, or None if there is no value
-abbrev pub result_in : Instance → List WgslType → Returns → Option WgslType
+abbrev pub result_in : Substitution → List WgslType → Returns → Option WgslType
 result_in i us NoValue = None
 result_in i us (Gives p) = type_in i p
 result_in i us (GivesStruct f s) = Some (result_struct f s (precision_of i.t))
@@ -135,7 +135,7 @@ abbrev pub patterns_of : Overload → List Pattern
 patterns_of o = in_order (parameters_of o)
 
 -- The letters for scalars stand for scalars of their kinds.
-pub record IsInstance (o : Overload) (i : Instance) : Type 0 where
+pub record IsSubstitution (o : Overload) (i : Substitution) : Type 0 where
   pub t : IsTrue (is_of_kind (kinds_of o).0 i.t)
   pub u : IsTrue (is_of_kind (kinds_of o).1 i.u)
   pub v : IsTrue (is_of_kind (kinds_of o).2 i.v)
@@ -143,7 +143,7 @@ pub record IsInstance (o : Overload) (i : Instance) : Type 0 where
 
 -- A candidate of an overload: parameters us, and the result r, or None.
 pub record IsCandidateOf (o : Overload) (us : List WgslType) (r : Option WgslType) : Type 0 where
-  pub instance : Instance
-  pub admitted : IsInstance o instance
-  pub parameters : AreParameters instance (patterns_of o) us
-  pub result : r ≡ result_in instance us (result_of o)
+  pub substitution : Substitution
+  pub admitted : IsSubstitution o substitution
+  pub parameters : AreParameters substitution (patterns_of o) us
+  pub result : r ≡ result_in substitution us (result_of o)

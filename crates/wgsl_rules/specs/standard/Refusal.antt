@@ -1,17 +1,17 @@
 -- Which operand is refused: the first that no overload takes after the operands before it.
 use Rattle.std.specs.Prelude.{ℕ, ◌+◌, ◌<◌, List, ◌≡◌, Option, Some, None, length, take, slice_get}
 use Rattle.wgsl_syntax.specs.declared.overload.Overload.{Overload}
-use Rattle.wgsl_syntax.specs.declared.overload.Instance.{Instance}
+use Rattle.wgsl_syntax.specs.declared.overload.Substitution.{Substitution}
 use Rattle.wgsl_rules.specs.types.Types.{WgslType}
-use Rattle.wgsl_rules.specs.standard.Overloads.{AreParameters, IsInstance, patterns_of}
+use Rattle.wgsl_rules.specs.standard.Overloads.{AreParameters, IsSubstitution, patterns_of}
 use Rattle.wgsl_rules.specs.standard.Choice.{Operand, TakesOperands}
 
--- The first parameters of some instance of the overload take the operands.
+-- The first parameters of some substitution of the overload take the operands.
 pub record TakesFirst (o : Overload) (xs : List Operand) : Type 0 where
-  pub instance : Instance
-  pub admitted : IsInstance o instance
+  pub substitution : Substitution
+  pub admitted : IsSubstitution o substitution
   pub types : List WgslType
-  pub parameters : AreParameters instance (take (length xs) (patterns_of o)) types
+  pub parameters : AreParameters substitution (take (length xs) (patterns_of o)) types
   pub ranks : List ℕ
   pub takes : TakesOperands types xs ranks
 

@@ -1,7 +1,7 @@
 // Integers that are known at compile time.
 
 /// An integer with its type (WGSL, "Integer Types").
-#[derive(Clone, Copy, PartialEq, Eq, Debug)]
+#[derive(Clone, Copy)]
 pub enum Integer {
     /// An AbstractInt.
     Abstract(i64),
@@ -10,7 +10,7 @@ pub enum Integer {
 }
 
 /// Two integers of one type.
-#[derive(Clone, Copy, PartialEq, Eq, Debug)]
+#[derive(Clone, Copy)]
 pub enum IntegerPair {
     Abstract(i64, i64),
     I32(i32, i32),
@@ -18,7 +18,7 @@ pub enum IntegerPair {
 }
 
 /// A binary operator on two integers of one type (WGSL, "Arithmetic Expressions", "Bit Expressions").
-#[derive(Clone, Copy, PartialEq, Eq, Debug)]
+#[derive(Clone, Copy)]
 pub enum IntegerOperator {
     Addition,
     Subtraction,
@@ -31,7 +31,7 @@ pub enum IntegerOperator {
 }
 
 /// Why an expression on integers has no value.
-#[derive(Clone, Copy, PartialEq, Eq, Debug)]
+#[derive(Clone, Copy)]
 pub enum IntegerError {
     /// The type can't hold the value.
     Overflow,

@@ -5,7 +5,7 @@ use crate::tokens::gap::{blank_len, gap_end};
 use std::alloc::{AllocError, Global};
 
 /// What a token is.
-#[derive(Clone, Copy, Debug, PartialEq, Eq)]
+#[derive(Clone, Copy, PartialEq, Eq)]
 pub enum Kind {
     /// A name or a keyword.
     Name,
@@ -20,7 +20,7 @@ pub enum Kind {
 }
 
 /// A token: what it is, and where it begins and ends.
-#[derive(Clone, Copy, Debug, PartialEq, Eq)]
+#[derive(Clone, Copy)]
 pub struct Token {
     pub kind: Kind,
     pub start: usize,

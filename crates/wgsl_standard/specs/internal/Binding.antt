@@ -17,7 +17,7 @@ use Rattle.wgsl_syntax.specs.declared.overload.Dimensions.TheVariants.{Single, V
 use Rattle.wgsl_rules.specs.types.Types.{WgslType, texture, sampler}
 use Rattle.wgsl_rules.specs.standard.Resources.{letter_of}
 use Rattle.wgsl_rules.specs.standard.Choice.{Operand}
-use Rattle.wgsl_syntax.specs.declared.overload.Instance.{Instance}
+use Rattle.wgsl_syntax.specs.declared.overload.Substitution.{Substitution}
 use Rattle.wgsl_standard.specs.declared.binding.Binding.{Binding}
 use Rattle.wgsl_rules.specs.standard.Overloads.{kinds_of, patterns_of}
 use Rattle.wgsl_rules.specs.standard.LetterKinds.{is_of_kind}
@@ -182,35 +182,35 @@ abbrev pub or_none : Option (Option ℕ) → Option ℕ
 or_none None = None
 or_none (Some w) = w
 
-abbrev pub instance_at : Binding → Scalar → Scalar → Scalar → Scalar → Instance
-instance_at b t u v w = record { t = t; u = u; v = v; w = w; width = or_none b.width; n = or_zero b.n; m = or_zero b.m; k = or_zero b.k }
+abbrev pub substitution_at : Binding → Scalar → Scalar → Scalar → Scalar → Substitution
+substitution_at b t u v w = record { t = t; u = u; v = v; w = w; width = or_none b.width; n = or_zero b.n; m = or_zero b.m; k = or_zero b.k }
 
-abbrev pub settle : Bool → Overload → Binding → Option Instance
+abbrev pub settle : Bool → Overload → Binding → Option Substitution
 settle c o b =
     option_and_then (λ t.
     option_and_then (λ u.
     option_and_then (λ v.
-    option_map (instance_at b t u v) (pick c (kinds_of o).3 b.w))
+    option_map (substitution_at b t u v) (pick c (kinds_of o).3 b.w))
     (pick c (kinds_of o).2 b.v))
     (pick c (kinds_of o).1 b.u))
     (pick c (kinds_of o).0 b.t)
 
--- the least instance of the overload that takes the operands
-abbrev pub instance_of : Bool → Overload → List Operand → Option Instance
-instance_of c o xs = option_and_then (settle c o) (bind_all c free (patterns_of o) xs)
+-- the least substitution of the overload that takes the operands
+abbrev pub substitution_of : Bool → Overload → List Operand → Option Substitution
+substitution_of c o xs = option_and_then (settle c o) (bind_all c free (patterns_of o) xs)
 
--- the first overload that takes the operands: its index, and its least instance
+-- the first overload that takes the operands: its index, and its least substitution
 
-abbrev pub later : ℕ × Instance → ℕ × Instance
+abbrev pub later : ℕ × Substitution → ℕ × Substitution
 later p = (suc p.0, p.1)
 
-abbrev pub or_later : Option Instance → Option (ℕ × Instance) → Option (ℕ × Instance)
+abbrev pub or_later : Option Substitution → Option (ℕ × Substitution) → Option (ℕ × Substitution)
 or_later None r = option_map later r
 or_later (Some i) r = Some (0, i)
 
-abbrev pub first_of : Bool → List Overload → List Operand → Option (ℕ × Instance)
+abbrev pub first_of : Bool → List Overload → List Operand → Option (ℕ × Substitution)
 first_of c [] xs = None
-first_of c (o ∷ os) xs = or_later (instance_of c o xs) (first_of c os xs)
+first_of c (o ∷ os) xs = or_later (substitution_of c o xs) (first_of c os xs)
 
 -- the first parameters, as many as there are operands
 abbrev pub bind_first : Bool → Binding → List Pattern → List Operand → Option Binding
@@ -218,12 +218,12 @@ bind_first c b ps [] = Some b
 bind_first c b (p ∷ ps) (x ∷ xs) = option_and_then (λ b. bind_first c b ps xs) (bind c b p x)
 bind_first c b [] (x ∷ xs) = None
 
-abbrev pub is_instance : Option Instance → Bool
-is_instance None = false
-is_instance (Some i) = true
+abbrev pub is_substitution : Option Substitution → Bool
+is_substitution None = false
+is_substitution (Some i) = true
 
 abbrev pub takes_first : Overload → List Operand → Bool
-takes_first o xs = is_instance (option_and_then (settle (must_be_concrete xs) o) (bind_first (must_be_concrete xs) free (patterns_of o) xs))
+takes_first o xs = is_substitution (option_and_then (settle (must_be_concrete xs) o) (bind_first (must_be_concrete xs) free (patterns_of o) xs))
 
 abbrev pub some_takes_first : List Overload → List Operand → Bool
 some_takes_first [] xs = false

@@ -10,7 +10,7 @@ use Rattle.wgsl_text.specs.Answers.{IsAnswer, IsReply}
 use Rattle.wgsl_text.specs.Calls.{OperandAt}
 use Rattle.wgsl_text.specs.Reading.{Answers}
 use Rattle.wgsl_text.specs.Requests.{NoRequest, Request, form_of, layout, members_laid_out, offsets}
-use Rattle.wgsl_text.specs.declared.command.Callee.{Callee}
+use Rattle.wgsl_text.specs.declared.command.ReadCall.{ReadCall}
 use Rattle.wgsl_text.specs.declared.rules.RuleSet.{RuleSet}
 use Rattle.wgsl_core.specs.declared.error.Fail.{Fail}
 use Rattle.wgsl_text.specs.declared.wanted.Misfit.{Misfit}
@@ -40,11 +40,11 @@ WritesOfStruct ask t old new r =
     ((name : List ℕ) (ms : Members) → ¬ t ≡ struct name ms) r
 
 -- the call that is made
-abbrev pub callee_view : Callee → Signature
-callee_view callee = record {
-  name = callee.name.now;
-  template = option_map (λ ps. map parameter_view ps.items) callee.template;
-  arguments = map view callee.types.items;
+abbrev pub signature_read : ReadCall → Signature
+signature_read call = record {
+  name = call.name.now;
+  template = option_map (λ ps. map parameter_view ps.items) call.template;
+  arguments = map view call.args.items;
 }
 
 -- The words are the operand of `&`, behind the word `component` if it is said to be a reference to one.

@@ -1,5 +1,5 @@
 use Rattle.std.proofs.Common.{refl}
-use Rattle.wgsl_calls.specs.internal.Answers.{signature_of}
+use Rattle.wgsl_calls.specs.Calls.{signature_of}
 use Rattle.wgsl_calls.proofs.Named.{by_chosen, by_none}
 use Rattle.wgsl_calls.proofs.call.answer.Goals as goal
 

@@ -1,5 +1,5 @@
 use Rattle.std.proofs.Common.{[], ◌∷◌, None, sym, ◌∙◌}
-use Rattle.wgsl_calls.specs.internal.Answers.{signature_of}
+use Rattle.wgsl_calls.specs.Calls.{signature_of}
 use Rattle.wgsl_calls.proofs.OutOfMemory.{later_row, no_row}
 use Rattle.wgsl_calls.proofs.call.chosen_of.Goals as goal
 

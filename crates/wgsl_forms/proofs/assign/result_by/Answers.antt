@@ -13,7 +13,7 @@ returns-in-Some c =
     let os = c.binary_overloads-overloads.result.now in
     let xs = operand_view c.args.lhs ∷ operand_view c.args.rhs ∷ [] in
     let chosen = subst (λ r. IsChosen os xs (option_map choice_view r)) c.in-Some.is c.resolve.ensures in
-    value_answer c.args.operator os xs (c.in-Some.choice.index, c.in-Some.choice.instance) _ _ c.binary_overloads-overloads.ensures chosen c.result_value.ensures
+    value_answer c.args.operator os xs (c.in-Some.choice.index, c.in-Some.choice.substitution) _ _ c.binary_overloads-overloads.ensures chosen c.result_value.ensures
 
 pub returns-in-None : goal.returns-in-None
 returns-in-None c =

@@ -6,7 +6,7 @@ use Rattle.wgsl_rules.specs.calls.Answers.{IsCallAnswer}
 use Rattle.wgsl_core.specs.View.{struct_view, view}
 use Rattle.wgsl_requests.specs.Requests.{unary, ctor, call}
 use Rattle.wgsl_requests.specs.Answers.{a_type, a_value, rank_is, unary_is, binary_is, size_is, offsets_are, layout_is, ctor_is, call_is, type_of_is, resolution_of_is, explanation_of_is, overloads_of_are, form_is, fit_is}
-use Rattle.wgsl_requests.specs.Views.{callee_view}
+use Rattle.wgsl_calls.specs.Calls.{signature_of}
 use Rattle.wgsl_forms.specs.Lists.{list_fits}
 use Rattle.wgsl_requests.proofs.Noted.{same_types}
 use Rattle.wgsl_requests.proofs.Settled.{settles, offsets_seen, layout_seen}
@@ -40,13 +40,13 @@ returns-in_ok-layout-in-Layout c =
 
 pub returns-in_ok-settled-in-Constructor : goal.returns-in_ok-settled-in-Constructor
 returns-in_ok-settled-in-Constructor c =
-    let made = callee_view c.in-Constructor.callee in
+    let made = signature_of c.in-Constructor.named in
     let h = c.in_ok-settled-in-Constructor in
     rw c.in-Constructor.is (settles a_type view (IsConstructorAnswer made) (ctor made) h.field-0 h.ensures c.type_ctor-made.ensures.row (λ r d. ctor_is r d))
 
 pub returns-in_ok-settled-in-Call : goal.returns-in_ok-settled-in-Call
 returns-in_ok-settled-in-Call c =
-    let made = callee_view c.in-Call.callee in
+    let made = signature_of c.in-Call.named in
     let h = c.in_ok-settled-in-Call in
     rw c.in-Call.is (settles a_value (option_map view) (IsCallAnswer made) (call made) h.field-0 h.ensures c.type_builtin_fn-made.ensures.row (λ r d. call_is r d))
 

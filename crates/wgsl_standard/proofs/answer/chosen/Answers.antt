@@ -9,7 +9,7 @@ use Rattle.wgsl_standard.proofs.answer.chosen.Goals as goal
 pub returns-in-Some : goal.returns-in-Some
 returns-in-Some c =
     let chosen = subst (λ r. IsChosen c.args.overloads.now (operands_view c.args.operands.now) (option_map choice_view r)) c.in-Some.is c.resolve.ensures in
-    answer_at c.args.overloads.now (operands_view c.args.operands.now) (c.in-Some.choice.index, c.in-Some.choice.instance) _ _ chosen refl
+    answer_at c.args.overloads.now (operands_view c.args.operands.now) (c.in-Some.choice.index, c.in-Some.choice.substitution) _ _ chosen refl
 
 pub returns-in-None : goal.returns-in-None
 returns-in-None c =

@@ -6,7 +6,7 @@ use Rattle.wgsl_core.specs.View.{view}
 use Rattle.wgsl_core.specs.declared.ty.Type.{«Type»}
 use Rattle.std.specs.Prelude.{map}
 use Rattle.wgsl_syntax.specs.declared.overload.Pattern.{Pattern}
-use Rattle.wgsl_syntax.specs.declared.overload.Instance.{Instance}
+use Rattle.wgsl_syntax.specs.declared.overload.Substitution.{Substitution}
 use Rattle.wgsl_rules.specs.types.Types.{WgslType}
 use Rattle.wgsl_rules.specs.standard.Choice.{Operand, parameter_for, parameters_for}
 use Rattle.wgsl_rules.specs.standard.Overloads.{in_order}
@@ -15,17 +15,17 @@ use Rattle.wgsl_standard.proofs.Listed.{listed_at, operand_at, pattern_there}
 use Rattle.wgsl_standard.proofs.resolved.parameter_types.Goals as goal
 
 -- without operands there are no parameters
-no_operands : (i : Instance) (ps : List Pattern) → parameters_for i ps [] ≡ []
+no_operands : (i : Substitution) (ps : List Pattern) → parameters_for i ps [] ≡ []
 no_operands i [] = refl
 no_operands i (p ∷ ps) = refl
 
-all_made : (i : Instance) (ps : List Pattern) (xs : List Operand) (ts us : List WgslType) → xs ≡ [] → ts ++ parameters_for i ps xs ≡ us → ts ≡ us
+all_made : (i : Substitution) (ps : List Pattern) (xs : List Operand) (ts us : List WgslType) → xs ≡ [] → ts ++ parameters_for i ps xs ≡ us → ts ≡ us
 all_made i ps xs ts us e h = sym (append-nil ts) ∙ (ap (λ q. ts ++ q) (sym (no_operands i ps)) ∙ (ap (λ xs. ts ++ parameters_for i ps xs) (sym e) ∙ h))
 
-no_more : (i : Instance) (ps : List Pattern) (xs : List Operand) (ts us : List WgslType) → ps ≡ [] → ts ++ parameters_for i ps xs ≡ us → ts ≡ us
+no_more : (i : Substitution) (ps : List Pattern) (xs : List Operand) (ts us : List WgslType) → ps ≡ [] → ts ++ parameters_for i ps xs ≡ us → ts ≡ us
 no_more i ps xs ts us e h = sym (append-nil ts) ∙ (ap (λ ps. ts ++ parameters_for i ps xs) (sym e) ∙ h)
 
-one_more : (i : Instance) (p : Pattern) (ps qs : List Pattern) (x : Operand) (xs ys : List Operand) (ts us vs : List WgslType)
+one_more : (i : Substitution) (p : Pattern) (ps qs : List Pattern) (x : Operand) (xs ys : List Operand) (ts us vs : List WgslType)
     → qs ≡ p ∷ ps → ys ≡ x ∷ xs → vs ≡ ts ++ (parameter_for i p x.of_type ∷ []) → ts ++ parameters_for i qs ys ≡ us → vs ++ parameters_for i ps xs ≡ us
 one_more i p ps qs x xs ys ts us vs e f g h =
     ap (λ vs. vs ++ parameters_for i ps xs) g ∙ append_assoc ts (parameter_for i p x.of_type ∷ []) (parameters_for i ps xs)
@@ -37,7 +37,7 @@ made ts t vs u e f =
     ap (map view) e ∙ (both ∙ ap (λ u. map view ts ++ u ∷ []) f)
 
 pub loop-index-preserved : goal.loop-index-preserved
-loop-index-preserved c = one_more c.args.instance.now _ (drop (c.loop-index.index + 1) (in_order c.args.parameters.now)) (drop c.loop-index.index (in_order c.args.parameters.now))
+loop-index-preserved c = one_more c.args.substitution.now _ (drop (c.loop-index.index + 1) (in_order c.args.parameters.now)) (drop c.loop-index.index (in_order c.args.parameters.now))
     (operand_view c.index-operands-index.result) (operands_view (drop (c.loop-index.index + 1) c.args.operands.now)) (operands_view (drop c.loop-index.index c.args.operands.now)) _ _ _
     (pattern_there (in_order c.args.parameters.now) c.loop-index.index _
     (listed_at (in_order c.args.parameters.now) c.patterns_of-patterns.result c.loop-index.index c.min.result _ c.patterns_of-patterns.ensures
@@ -48,8 +48,8 @@ loop-index-preserved c = one_more c.args.instance.now _ (drop (c.loop-index.inde
 
 pub returns : goal.returns
 returns c = elim (dec_lt c.loop-index.index (length c.args.operands.now)) [
-  | yes h ↦ no_more c.args.instance.now (drop c.loop-index.index (in_order c.args.parameters.now)) (operands_view (drop c.loop-index.index c.args.operands.now)) _ _
+  | yes h ↦ no_more c.args.substitution.now (drop c.loop-index.index (in_order c.args.parameters.now)) (operands_view (drop c.loop-index.index c.args.operands.now)) _ _
       (drop_of_length-le (in_order c.args.parameters.now) (omega (arith, h, c.loop-index-test.false, c.min-index-end.ensures, c.parameter_count.ensures))) c.loop-index.invariant
-  | no n ↦ all_made c.args.instance.now (drop c.loop-index.index (in_order c.args.parameters.now)) (operands_view (drop c.loop-index.index c.args.operands.now)) _ _
+  | no n ↦ all_made c.args.substitution.now (drop c.loop-index.index (in_order c.args.parameters.now)) (operands_view (drop c.loop-index.index c.args.operands.now)) _ _
       (ap operands_view (drop_of_length-le c.args.operands.now (omega (arith, n)))) c.loop-index.invariant
 ]

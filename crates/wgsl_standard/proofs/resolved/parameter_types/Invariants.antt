@@ -6,4 +6,4 @@ use Rattle.wgsl_standard.specs.Operands.{operands_view}
 use Rattle.wgsl_standard.proofs.resolved.parameter_types.Given as goal
 
 abbrev pub invariant-loop-index : goal.invariant-loop-index
-invariant-loop-index l = map view l.types.items ++ parameters_for l.instance (drop l.index (in_order l.parameters)) (operands_view (drop l.index l.operands)) ≡ parameters_for l.instance (in_order l.parameters) (operands_view l.operands)
+invariant-loop-index l = map view l.types.items ++ parameters_for l.substitution (drop l.index (in_order l.parameters)) (operands_view (drop l.index l.operands)) ≡ parameters_for l.substitution (in_order l.parameters) (operands_view l.operands)

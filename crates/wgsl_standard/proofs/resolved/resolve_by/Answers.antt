@@ -11,7 +11,7 @@ pub returns-in_ok-call-in-Some : goal.returns-in_ok-call-in-Some
 returns-in_ok-call-in-Some c =
     let chosen = subst (λ r. IsChosen c.listed_overloads-overloads.result.now (operands_view c.args.operands.now) (option_map choice_view r)) c.in-Some.is c.resolve.ensures in
     resolves (callee_view c.args.callee) c.args.has_template c.listed_overloads-overloads.result.now (operands_view c.args.operands.now)
-    (c.in-Some.choice.index, c.in-Some.choice.instance) _ c.lines_before-line.result _ c.listed_overloads-overloads.ensures.list chosen c.lines_before-line.ensures.lines c.in_ok-call-in-Some.ensures
+    (c.in-Some.choice.index, c.in-Some.choice.substitution) _ c.lines_before-line.result _ c.listed_overloads-overloads.ensures.list chosen c.lines_before-line.ensures.lines c.in_ok-call-in-Some.ensures
 
 pub returns-in-None : goal.returns-in-None
 returns-in-None c =

@@ -7,10 +7,10 @@ use Rattle.wgsl_text.proofs.Requested.{no_ctor}
 use Rattle.wgsl_text.proofs.Replied.{replied}
 use Rattle.wgsl_text.proofs.command.ctor.Goals as goal
 
-pub returns-in_err-callee : goal.returns-in_err-callee
-returns-in_err-callee c = fails _ _ _ _ _ (no_ctor _) c.from_residual.ensures.1 c.in_err-callee.ensures
+pub returns-in_err-read : goal.returns-in_err-read
+returns-in_err-read c = fails _ _ _ _ _ (no_ctor _) c.from_residual.ensures.1 c.in_err-read.ensures
 
 pub returns : goal.returns
 returns c =
-    replied _ _ _ (ctor_words c.in_ok-callee.ensures)
-    (subst (λ made. Adds (IsAnswer (ctor made) c.in_ok-written.field-0) (string_bytes c.args.text.now) (string_bytes c.write_answer_to-written.new.text)) c.as_asked.ensures c.in_ok-written.ensures)
+    replied _ _ _ (ctor_words c.in_ok-read.ensures)
+    (subst (λ made. Adds (IsAnswer (ctor made) c.in_ok-written.field-0) (string_bytes c.args.text.now) (string_bytes c.write_answer_to-written.new.text)) c.as_named.ensures c.in_ok-written.ensures)

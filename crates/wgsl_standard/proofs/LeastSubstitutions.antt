@@ -1,4 +1,4 @@
--- The instance that is found: it takes the operands, and no other that takes them has a lower scalar anywhere.
+-- The substitution that is found: it takes the operands, and no other that takes them has a lower scalar anywhere.
 use Rattle.std.proofs.Common.{◌≡◌, ℕ, ◌<◌, ◌⊎◌, List, [], ◌∷◌, Option, Some, None, Bool, true, false, cond, refl, sym, ◌∙◌, subst, inl, inr, true≢false}
 use Rattle.std.specs.Prelude.{IsTrue, option_map, option_and_then}
 use Rattle.wgsl_syntax.specs.declared.scalar.Scalar.{Scalar}
@@ -11,11 +11,11 @@ use Rattle.wgsl_syntax.specs.declared.overload.Pattern.{Pattern}
 use Rattle.wgsl_syntax.specs.declared.overload.Pattern.TheVariants as patterns
 use Rattle.wgsl_syntax.specs.declared.overload.Overload.{Overload}
 use Rattle.wgsl_rules.specs.standard.Choice.{Operand}
-use Rattle.wgsl_syntax.specs.declared.overload.Instance.{Instance}
+use Rattle.wgsl_syntax.specs.declared.overload.Substitution.{Substitution}
 use Rattle.wgsl_standard.specs.declared.binding.Binding.{Binding}
-use Rattle.wgsl_rules.specs.standard.Overloads.{component_in, patterns_of, kinds_of, IsInstance}
+use Rattle.wgsl_rules.specs.standard.Overloads.{component_in, patterns_of, kinds_of, IsSubstitution}
 use Rattle.wgsl_rules.specs.standard.LetterKinds.{is_of_kind}
-use Rattle.wgsl_standard.specs.internal.Binding.{may_be, bind_all, free, targets, is_bound, first_of_kind, pick, or_zero, or_none, instance_at, settle, instance_of}
+use Rattle.wgsl_standard.specs.internal.Binding.{may_be, bind_all, free, targets, is_bound, first_of_kind, pick, or_zero, or_none, substitution_at, settle, substitution_of}
 use Rattle.wgsl_standard.proofs.Scalars.{Member, IsPicked, find, has, picked}
 use Rattle.wgsl_standard.proofs.Boxes.{Meets, Same, Agrees, Boxes, AllFit, all_boxes}
 use Rattle.wgsl_standard.proofs.BoundLetters.{Binds, BindsFor, BindsAll, binding_binds}
@@ -74,28 +74,28 @@ letter c k (Some a) = turn (pick c k (Some a)) (picked c k a)
     turn None f = λ g h m. f g h m.1 m.0
 
 -- no lower, and where it isn't the same lower
-abbrev pub IsNear : Instance → Instance → Component → Type 0
+abbrev pub IsNear : Substitution → Substitution → Component → Type 0
 IsNear i j p = (component_in j p ≡ component_in i p) ⊎ (scalar_depth (component_in i p) < scalar_depth (component_in j p))
 
-abbrev pub IsNearFor : Instance → Instance → Pattern → Type 0
+abbrev pub IsNearFor : Substitution → Substitution → Pattern → Type 0
 IsNearFor i j (patterns.Value s e) = IsNear i j e
 IsNearFor i j p = Unit {0}
 
-abbrev pub AllNear : Instance → Instance → List Pattern → Type 0
+abbrev pub AllNear : Substitution → Substitution → List Pattern → Type 0
 AllNear i j [] = Unit {0}
 AllNear i j (p ∷ ps) = IsNearFor i j p × AllNear i j ps
 
--- the instance that is found, or none that takes the operands
-pub record IsLeastInstance (c : Bool) (o : Overload) (ps : List Pattern) (xs : List Operand) (i : Instance) : Type 0 where
-  pub admitted : IsInstance o i
+-- the substitution that is found, or none that takes the operands
+pub record IsLeastSubstitution (c : Bool) (o : Overload) (ps : List Pattern) (xs : List Operand) (i : Substitution) : Type 0 where
+  pub admitted : IsSubstitution o i
   pub fits : AllFit c i ps xs
-  pub least : (j : Instance) → IsInstance o j → AllFit c j ps xs → AllNear i j ps
+  pub least : (j : Substitution) → IsSubstitution o j → AllFit c j ps xs → AllNear i j ps
 
-abbrev pub LeastOr : Bool → Overload → List Pattern → List Operand → Option Instance → Type 0
-LeastOr c o ps xs (Some i) = IsLeastInstance c o ps xs i
-LeastOr c o ps xs None = (j : Instance) → IsInstance o j → AllFit c j ps xs → ⊥
+abbrev pub LeastOr : Bool → Overload → List Pattern → List Operand → Option Substitution → Type 0
+LeastOr c o ps xs (Some i) = IsLeastSubstitution c o ps xs i
+LeastOr c o ps xs None = (j : Substitution) → IsSubstitution o j → AllFit c j ps xs → ⊥
 
-free_agrees : (c : Bool) (i : Instance) → Agrees c free i
+free_agrees : (c : Bool) (i : Substitution) → Agrees c free i
 free_agrees c i = record { t = tt; u = tt; v = tt; w = tt; width = tt; n = tt; m = tt; k = tt }
 
 same_or_zero : (l : Option ℕ) → Same l (or_zero l)
@@ -113,34 +113,34 @@ record AreLetters (c : Bool) (o : Overload) (b : Binding) (t u v w : Scalar) : T
   for_v : IsLetter c (kinds_of o).2 b.v v
   for_w : IsLetter c (kinds_of o).3 b.w w
 
-near : (c : Bool) (o : Overload) (b : Binding) (t u v w : Scalar) → AreLetters c o b t u v w → (j : Instance) → IsInstance o j → Agrees c b j →
-    (p : Component) → Binds b p → IsNear (instance_at b t u v w) j p
+near : (c : Bool) (o : Overload) (b : Binding) (t u v w : Scalar) → AreLetters c o b t u v w → (j : Substitution) → IsSubstitution o j → Agrees c b j →
+    (p : Component) → Binds b p → IsNear (substitution_at b t u v w) j p
 near c o b t u v w f j a q T h = f.for_t.least h j.t a.t q.t
 near c o b t u v w f j a q U h = f.for_u.least h j.u a.u q.u
 near c o b t u v w f j a q V h = f.for_v.least h j.v a.v q.v
 near c o b t u v w f j a q W h = f.for_w.least h j.w a.w q.w
 near c o b t u v w f j a q (The s) h = inl refl
 
-near_for : (c : Bool) (o : Overload) (b : Binding) (t u v w : Scalar) → AreLetters c o b t u v w → (j : Instance) → IsInstance o j → Agrees c b j →
-    (p : Pattern) → BindsFor p b → IsNearFor (instance_at b t u v w) j p
+near_for : (c : Bool) (o : Overload) (b : Binding) (t u v w : Scalar) → AreLetters c o b t u v w → (j : Substitution) → IsSubstitution o j → Agrees c b j →
+    (p : Pattern) → BindsFor p b → IsNearFor (substitution_at b t u v w) j p
 near_for c o b t u v w f j a q (patterns.Value s e) h = near c o b t u v w f j a q e h
 near_for c o b t u v w f j a q p h = tt
 
-all_near : (c : Bool) (o : Overload) (b : Binding) (t u v w : Scalar) → AreLetters c o b t u v w → (j : Instance) → IsInstance o j → Agrees c b j →
-    (ps : List Pattern) → BindsAll ps b → AllNear (instance_at b t u v w) j ps
+all_near : (c : Bool) (o : Overload) (b : Binding) (t u v w : Scalar) → AreLetters c o b t u v w → (j : Substitution) → IsSubstitution o j → Agrees c b j →
+    (ps : List Pattern) → BindsAll ps b → AllNear (substitution_at b t u v w) j ps
 all_near c o b t u v w f j a q [] h = tt
 all_near c o b t u v w f j a q (p ∷ ps) h = (near_for c o b t u v w f j a q p h.0, all_near c o b t u v w f j a q ps h.1)
 
 abbrev IsBox : Bool → Binding → List Pattern → List Operand → Type 0
-IsBox c b ps xs = (i : Instance) → (Agrees c free i × AllFit c i ps xs → Agrees c b i) × (Agrees c b i → Agrees c free i × AllFit c i ps xs)
+IsBox c b ps xs = (i : Substitution) → (Agrees c free i × AllFit c i ps xs → Agrees c b i) × (Agrees c b i → Agrees c free i × AllFit c i ps xs)
 
 settled : (c : Bool) (o : Overload) (ps : List Pattern) (xs : List Operand) (b : Binding) → IsBox c b ps xs → BindsAll ps b → LeastOr c o ps xs (settle c o b)
 settled c o ps xs b f h = at_t (pick c (kinds_of o).0 b.t) (letter c (kinds_of o).0 b.t)
   where
-    at_all : (t u v w : Scalar) → AreLetters c o b t u v w → IsLeastInstance c o ps xs (instance_at b t u v w)
+    at_all : (t u v w : Scalar) → AreLetters c o b t u v w → IsLeastSubstitution c o ps xs (substitution_at b t u v w)
     at_all t u v w k = record {
       admitted = record { t = k.for_t.kind; u = k.for_u.kind; v = k.for_v.kind; w = k.for_w.kind };
-      fits = ((f (instance_at b t u v w)).1 (record {
+      fits = ((f (substitution_at b t u v w)).1 (record {
         t = k.for_t.meets;
         u = k.for_u.meets;
         v = k.for_v.meets;
@@ -154,22 +154,22 @@ settled c o ps xs b f h = at_t (pick c (kinds_of o).0 b.t) (letter c (kinds_of o
     }
 
     at_w : (t u v : Scalar) → IsLetter c (kinds_of o).0 b.t t → IsLetter c (kinds_of o).1 b.u u → IsLetter c (kinds_of o).2 b.v v → (x : Option Scalar) → LetterOr c (kinds_of o).3 b.w x →
-        LeastOr c o ps xs (option_map (instance_at b t u v) x)
+        LeastOr c o ps xs (option_map (substitution_at b t u v) x)
     at_w t u v k m n None g = λ j a q. g j.w a.w ((f j).0 (free_agrees c j, q)).w
     at_w t u v k m n (Some w) g = at_all t u v w (record { for_t = k; for_u = m; for_v = n; for_w = g })
 
     at_v : (t u : Scalar) → IsLetter c (kinds_of o).0 b.t t → IsLetter c (kinds_of o).1 b.u u → (x : Option Scalar) → LetterOr c (kinds_of o).2 b.v x →
-        LeastOr c o ps xs (option_and_then (λ v. option_map (instance_at b t u v) (pick c (kinds_of o).3 b.w)) x)
+        LeastOr c o ps xs (option_and_then (λ v. option_map (substitution_at b t u v) (pick c (kinds_of o).3 b.w)) x)
     at_v t u k m None g = λ j a q. g j.v a.v ((f j).0 (free_agrees c j, q)).v
     at_v t u k m (Some v) g = at_w t u v k m g (pick c (kinds_of o).3 b.w) (letter c (kinds_of o).3 b.w)
 
     at_u : (t : Scalar) → IsLetter c (kinds_of o).0 b.t t → (x : Option Scalar) → LetterOr c (kinds_of o).1 b.u x →
-        LeastOr c o ps xs (option_and_then (λ u. option_and_then (λ v. option_map (instance_at b t u v) (pick c (kinds_of o).3 b.w)) (pick c (kinds_of o).2 b.v)) x)
+        LeastOr c o ps xs (option_and_then (λ u. option_and_then (λ v. option_map (substitution_at b t u v) (pick c (kinds_of o).3 b.w)) (pick c (kinds_of o).2 b.v)) x)
     at_u t k None g = λ j a q. g j.u a.u ((f j).0 (free_agrees c j, q)).u
     at_u t k (Some u) g = at_v t u k g (pick c (kinds_of o).2 b.v) (letter c (kinds_of o).2 b.v)
 
     at_t : (x : Option Scalar) → LetterOr c (kinds_of o).0 b.t x →
-        LeastOr c o ps xs (option_and_then (λ t. option_and_then (λ u. option_and_then (λ v. option_map (instance_at b t u v) (pick c (kinds_of o).3 b.w)) (pick c (kinds_of o).2 b.v)) (pick c (kinds_of o).1 b.u)) x)
+        LeastOr c o ps xs (option_and_then (λ t. option_and_then (λ u. option_and_then (λ v. option_map (substitution_at b t u v) (pick c (kinds_of o).3 b.w)) (pick c (kinds_of o).2 b.v)) (pick c (kinds_of o).1 b.u)) x)
     at_t None g = λ j a q. g j.t a.t ((f j).0 (free_agrees c j, q)).t
     at_t (Some t) g = at_u t g (pick c (kinds_of o).1 b.u) (letter c (kinds_of o).1 b.u)
 
@@ -181,5 +181,5 @@ least_among c o ps xs = turn (bind_all c free ps xs) refl (all_boxes c free ps x
     turn None e f = λ j a q. f j (free_agrees c j, q)
     turn (Some b) e f = settled c o ps xs b (λ i. ((f i).0, (f i).1)) (binding_binds c free b ps xs e)
 
-pub least_instance : (c : Bool) (o : Overload) (xs : List Operand) → LeastOr c o (patterns_of o) xs (instance_of c o xs)
-least_instance c o xs = least_among c o (patterns_of o) xs
+pub least_substitution : (c : Bool) (o : Overload) (xs : List Operand) → LeastOr c o (patterns_of o) xs (substitution_of c o xs)
+least_substitution c o xs = least_among c o (patterns_of o) xs

@@ -16,7 +16,7 @@ use wgsl_core::operators::resolve::ResolvedType;
 use wgsl_core::ty::Type;
 use wgsl_core::ty::result_type::{exchange_result, result_struct};
 use wgsl_syntax::overload::{
-    Component, Count, Dimensions, Instance, Overload, Parameters, Pattern, Returns, Shape,
+    Component, Count, Dimensions, Overload, Parameters, Pattern, Returns, Shape, Substitution,
 };
 use wgsl_syntax::result_struct::{ResultPrecision, ResultStruct};
 use wgsl_syntax::scalar::Scalar;
@@ -73,17 +73,17 @@ fn type_around(alloc: Global, dimensions: Dimensions, scalar: Scalar) -> Result<
 #[inline(always)]
 pub fn result_type(
     alloc: Global,
-    instance: &Instance,
+    substitution: &Substitution,
     overload: &Overload,
     operands: &[Operand<'_>],
 ) -> Result<Option<ResultType>, AllocError>
-    ensures { IfOk result (λ r. option_map result_view r ≡ result_there instance.now overload.now (operands_view operands.now)) }
+    ensures { IfOk result (λ r. option_map result_view r ≡ result_there substitution.now overload.now (operands_view operands.now)) }
 {
     match result_of(overload) {
         Returns::Gives(Pattern::Value(shape, component)) => {
-            Ok(Some(value_in(instance, *shape, *component)))
+            Ok(Some(value_in(substitution, *shape, *component)))
         }
-        _ => other_result(alloc, instance, overload, operands),
+        _ => other_result(alloc, substitution, overload, operands),
     }
 }
 
@@ -91,17 +91,17 @@ pub fn result_type(
 #[inline(never)]
 fn other_result(
     alloc: Global,
-    instance: &Instance,
+    substitution: &Substitution,
     overload: &Overload,
     operands: &[Operand<'_>],
 ) -> Result<Option<ResultType>, AllocError>
-    ensures { IfOk result (λ r. option_map result_view r ≡ result_there instance.now overload.now (operands_view operands.now)) }
+    ensures { IfOk result (λ r. option_map result_view r ≡ result_there substitution.now overload.now (operands_view operands.now)) }
 {
     match result_of(overload) {
         Returns::NoValue => Ok(None),
-        Returns::Gives(pattern) => Ok(type_in(instance, *pattern)),
+        Returns::Gives(pattern) => Ok(type_in(substitution, *pattern)),
         Returns::GivesStruct(function, shape) => {
-            let precision = precision_of(instance.t);
+            let precision = precision_of(substitution.t);
             let of = ResultStruct {
                 function: *function,
                 shape: *shape,
@@ -110,10 +110,10 @@ fn other_result(
             Ok(Some(ResultType::Built(result_struct(alloc, of)?)))
         }
         Returns::GivesExchange => {
-            let exchanged = exchange_result(alloc, &Type::from(instance.t))?;
+            let exchanged = exchange_result(alloc, &Type::from(substitution.t))?;
             Ok(Some(ResultType::Built(exchanged)))
         }
-        Returns::GivesPointee => pointee(alloc, instance, parameters_of(overload), operands),
+        Returns::GivesPointee => pointee(alloc, substitution, parameters_of(overload), operands),
     }
 }
 
@@ -130,17 +130,17 @@ fn precision_of(scalar: Scalar) -> ResultPrecision
 /// The type to which the first parameter points.
 fn pointee(
     alloc: Global,
-    instance: &Instance,
+    substitution: &Substitution,
     parameters: &Parameters,
     operands: &[Operand<'_>],
 ) -> Result<Option<ResultType>, AllocError>
     ensures { IfOk result (λ r. option_map result_view r
-        ≡ pointee_of (parameters_for instance.now (in_order parameters.now) (operands_view operands.now))) }
+        ≡ pointee_of (parameters_for substitution.now (in_order parameters.now) (operands_view operands.now))) }
 {
     match first_pattern(parameters) {
         Some(pattern) => match operands.first() {
             Some(operand) => {
-                let parameter = parameter_for(alloc, instance, pattern, operand)?;
+                let parameter = parameter_for(alloc, substitution, pattern, operand)?;
                 let inner = parameter.inner().clone(alloc)?;
                 Ok(Some(ResultType::Built(inner)))
             }
@@ -160,14 +160,14 @@ fn first_pattern(parameters: &Parameters) -> Option<Pattern>
 /// The type of a parameter for its operand.
 pub fn parameter_for(
     alloc: Global,
-    instance: &Instance,
+    substitution: &Substitution,
     pattern: Pattern,
     operand: &Operand<'_>,
 ) -> Result<Type, AllocError>
-    ensures { IfOk result (λ t. view t ≡ parameter_there instance.now pattern (operand_view operand.now).of_type) }
+    ensures { IfOk result (λ t. view t ≡ parameter_there substitution.now pattern (operand_view operand.now).of_type) }
 {
     match pattern {
-        Pattern::Value(shape, component) => build(alloc, value_in(instance, shape, component)),
+        Pattern::Value(shape, component) => build(alloc, value_in(substitution, shape, component)),
         Pattern::Sampler(sampler) => Ok(Type::Sampler(sampler)),
         Pattern::Texture(texture) => Ok(Type::Texture(texture)),
         Pattern::Resource(_) => loaded_type(alloc, operand.ty),
@@ -185,11 +185,11 @@ fn loaded_type(alloc: Global, ty: OperandType<'_>) -> Result<Type, AllocError>
 }
 
 /// The type of a result, if the letters say what it is.
-fn type_in(instance: &Instance, pattern: Pattern) -> Option<ResultType>
-    ensures { option_map result_view result ≡ type_there instance.now pattern }
+fn type_in(substitution: &Substitution, pattern: Pattern) -> Option<ResultType>
+    ensures { option_map result_view result ≡ type_there substitution.now pattern }
 {
     match pattern {
-        Pattern::Value(shape, component) => Some(value_in(instance, shape, component)),
+        Pattern::Value(shape, component) => Some(value_in(substitution, shape, component)),
         Pattern::Sampler(sampler) => Some(ResultType::Built(Type::Sampler(sampler))),
         Pattern::Texture(texture) => Some(ResultType::Built(Type::Texture(texture))),
         Pattern::Resource(_) => None,
@@ -197,26 +197,29 @@ fn type_in(instance: &Instance, pattern: Pattern) -> Option<ResultType>
 }
 
 #[inline(always)]
-fn value_in(instance: &Instance, shape: Shape, component: Component) -> ResultType
+fn value_in(substitution: &Substitution, shape: Shape, component: Component) -> ResultType
     ensures { result_view result
-        ≡ type_with (dimensions_there instance.now shape) (component_there instance.now component) }
+        ≡ type_with (dimensions_there substitution.now shape) (component_there substitution.now component) }
 {
     ResultType::Value(
-        dimensions_in(instance, shape),
-        component_in(instance, component),
+        dimensions_in(substitution, shape),
+        component_in(substitution, component),
     )
 }
 
 /// The dimensions of a shape, for what the letters stand for.
 #[inline(always)]
-pub fn dimensions_in(instance: &Instance, shape: Shape) -> Dimensions
-    ensures { result ≡ dimensions_there instance.now shape }
+pub fn dimensions_in(substitution: &Substitution, shape: Shape) -> Dimensions
+    ensures { result ≡ dimensions_there substitution.now shape }
 {
     match shape {
         Shape::One => Dimensions::Single,
-        Shape::Vector(n) => Dimensions::Vector(count_in(instance, n)),
-        Shape::Matrix(c, r) => Dimensions::Matrix(count_in(instance, c), count_in(instance, r)),
-        Shape::OneOrVector => match instance.width {
+        Shape::Vector(n) => Dimensions::Vector(count_in(substitution, n)),
+        Shape::Matrix(c, r) => Dimensions::Matrix(
+            count_in(substitution, c),
+            count_in(substitution, r),
+        ),
+        Shape::OneOrVector => match substitution.width {
             None => Dimensions::Single,
             Some(n) => Dimensions::Vector(n),
         },
@@ -224,27 +227,27 @@ pub fn dimensions_in(instance: &Instance, shape: Shape) -> Dimensions
 }
 
 #[inline(always)]
-fn count_in(instance: &Instance, count: Count) -> u8
-    ensures { result ≡ count_there instance.now count }
+fn count_in(substitution: &Substitution, count: Count) -> u8
+    ensures { result ≡ count_there substitution.now count }
 {
     match count {
-        Count::N => instance.n,
-        Count::M => instance.m,
-        Count::K => instance.k,
+        Count::N => substitution.n,
+        Count::M => substitution.m,
+        Count::K => substitution.k,
         Count::Exactly(n) => n,
     }
 }
 
 /// The scalar that a component is, for what the letters stand for.
 #[inline(always)]
-pub fn component_in(instance: &Instance, component: Component) -> Scalar
-    ensures { result ≡ component_there instance.now component }
+pub fn component_in(substitution: &Substitution, component: Component) -> Scalar
+    ensures { result ≡ component_there substitution.now component }
 {
     match component {
-        Component::T => instance.t,
-        Component::U => instance.u,
-        Component::V => instance.v,
-        Component::W => instance.w,
+        Component::T => substitution.t,
+        Component::U => substitution.u,
+        Component::V => substitution.v,
+        Component::W => substitution.w,
         Component::The(scalar) => scalar,
     }
 }
