@@ -27,7 +27,7 @@ argument_at args i x lt is =
 pub no_argument_at : (args : List «Type») (i : ℕ) → length args ≤ i → map view (drop i args) ≡ []
 no_argument_at args i le = ap (map view) (drop_all i args le)
 
--- what holds of all holds of each
+-- a property of all is one of each
 pub of_argument : (P : WgslType → Type 0) (args : List «Type») (i : ℕ) (x : «Type») → i < length args → x ≡ slice_index_or args i x →
     All P (map view args) → P (view x)
 of_argument P args i x lt is all =

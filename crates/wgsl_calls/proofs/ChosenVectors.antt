@@ -58,7 +58,7 @@ has_scalar_or_vector t (scalar s) h = tt
 has_scalar_or_vector t (within (vec_of m) e) h = tt
 has_scalar_or_vector t u h = absurd h
 
--- what converts to a scalar or a vector is one, with as many components
+-- a type that converts to a scalar or a vector is one, with as many components
 pub converted_shape : (t u : WgslType) → Above t u → IsScalarOrVector u → IsScalarOrVector t × (components t ≡ components u)
 converted_shape t u a h =
     let k = above_admits a scalar_or_vector tt h in

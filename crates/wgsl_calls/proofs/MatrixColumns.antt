@@ -110,7 +110,7 @@ becomes_float : (t : WgslType) → Admits a_float t → IsFloatScalar (component
 becomes_float (scalar AbstractInt) h = tt
 becomes_float t h = h
 
--- what converts to one of these is one
+-- a type that converts to one of these is one
 pub float_before : (t u : WgslType) → Above t u → IsFloatScalar (component_of u) → IsFloatScalar (component_of t)
 float_before t u a h =
     elim (float_or_int u h) [

@@ -52,7 +52,7 @@ by_other P Q p (Ok t) f k = f _ k
 by_other P Q p (Err (fails.Error x)) f k = f _ k
 by_other P Q p (Err (fails.Memory m)) f k = λ n. let j = k n in (j.0, f j.0 j.1, j.2)
 
--- what the first row that takes the call returns gives its answer
+-- the answer is that of the first row that takes the call
 pub first_row : (row : Row) (rows : List Row) (c : Signature) → Fits row c → Chooses (row ∷ rows) c (Some (return_type_of row))
 first_row row rows c f = λ a o. inl (f, o)
 

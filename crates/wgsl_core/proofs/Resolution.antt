@@ -233,7 +233,7 @@ vector_by_other {e = e} {n} {f} p q v o h = by_forms (λ a b. HasCandidate o a b
     apart (scalar i) f v x = x
     apart e f v x = x
 
--- what is built is the least candidate; if none is found, no candidate takes the operands
+-- the least candidate is built; if none is found, no candidate takes the operands
 
 pub chosen_result : {o : BinaryOperator} {a b t : WgslType} {found : BinaryCandidate} → HasCandidate o a b (Some found) → t ≡ found.result → IsChosenResult o a b (Ok t)
 unfolding IsChosenResult

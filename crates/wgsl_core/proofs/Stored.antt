@@ -50,7 +50,7 @@ struct_stored s items as_many e =
 abbrev Level : Type 0
 Level = Type-F «Type» StructMemberType StructType
 
--- what is no bool, no struct and has no layer stays as it is
+-- a type that is no bool, no struct and has no layer stays as it is
 
 kept_at : (level : Level) → (roll-Type level ≡ v.Bool → ⊥) → ((s : Box StructType Global) → roll-Type level ≡ v.Struct s → ⊥)
     → ((t : Box «Type» Global) (n : Option ℕ) → roll-Type level ≡ v.Array t n → ⊥) → ((n : ℕ) (t : Box «Type» Global) → roll-Type level ≡ v.Vec n t → ⊥)

@@ -51,7 +51,7 @@ has_words bytes text e none =
     let first = words_of-first bytes rest gap len refl refl refl (omega (arith, four)) in
     cc (sym none ∙ first)
 
--- what is no UTF-8 is no ASCII either
+-- a text that isn't UTF-8 isn't ASCII either
 pub not_utf8 : (text : List ℕ) → ¬ IsUtf8 text → IsTyped text None
 not_utf8 text other = not_ascii (λ all. other (IsUtf8-from_ascii text all))
 

@@ -20,7 +20,7 @@ use Rattle.wgsl_expressions.specs.declared.start.Start.TheVariants as starts
 abbrev pub given : Bool → WgslType → Expression
 given is_constant t = record { of_type = t; is_constant = is_constant; is_component = false }
 
--- what operands and the operators between them are: how loosely the one that is applied last binds, and the outcome
+-- operands with operators between them: how loosely the operator that is applied last binds, and the outcome of all
 
 abbrev pub Group : Type 0
 Group = ℕ × Outcome

@@ -81,7 +81,7 @@ is_constructor name = bytes_eq name (codes "array") || is_some (overloads_listed
 abbrev pub callee_named : List ℕ → WgslCallee
 callee_named name = cond (is_constructor name) (a_constructor name) (a_function name)
 
--- what has a name that is no type: a constructor or a function, and the type that is its list, as in `bitcast<f32>`
+-- A name that is no type may be that of a constructor or a function, whose list may be a type, as in `bitcast<f32>`.
 abbrev pub IsOther : Named → Option Head → Type 0
 IsOther (name, None) r = r ≡ Some (overloaded (callee_named name) None)
 IsOther (name, Some list) r =

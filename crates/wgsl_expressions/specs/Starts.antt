@@ -41,7 +41,7 @@ abbrev pub sign_start : List ℕ → Option UnaryOperator → Start
 sign_start text (Some o) = starts.Operator o
 sign_start text None = cond (bytes_eq text (codes "(")) starts.Bracket starts.Nothing
 
--- what an expression whose first token has this text begins with
+-- the beginning of an expression whose first token has this text
 abbrev pub start_of : List ℕ → Start
 start_of [] = starts.Nothing
 start_of (byte ∷ bytes) =

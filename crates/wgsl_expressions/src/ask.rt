@@ -186,7 +186,7 @@ pub(crate) fn binary(
     call(alloc, at, &Head::Binary(operator), parts)
 }
 
-/// What stands in front of the operands with them, whose first token is at that byte.
+/// The outcome of a call or a constructor with its operands, whose first token is at that byte.
 pub(crate) fn call(
     alloc: Global,
     at: usize,

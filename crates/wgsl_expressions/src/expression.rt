@@ -12,7 +12,7 @@ use wgsl_core::error::Fail;
 /// How deep brackets, lists and operators in front may be nested.
 const DEEPEST: u8 = 255;
 
-/// What an expression is that a text spells (WGSL, "Expressions"): its type, or its first part that has none and why. Operands
+/// The type of the expression that a text spells (WGSL, "Expressions"), or its first part without a type and why. Operands
 /// are types as WGSL spells them, `const` and such a type, or literals. The error says from where on the text is no expression.
 pub fn type_of_expression(alloc: Global, text: &str) -> Result<Outcome, Fail<Misread>>
     ensures { IsTypedText text.now result }

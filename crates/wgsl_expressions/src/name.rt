@@ -128,7 +128,7 @@ pub(crate) fn type_named(alloc: Global, named: &Named<'_>) -> Result<Option<Type
     found
 }
 
-/// What is called by a name with its list: the constructor of the type that it spells, or what has the name.
+/// The constructor of the type that a name spells with its list, or the constructor or function of that name.
 pub(crate) fn head_of(alloc: Global, named: &Named<'_>) -> Result<Option<Head>, AllocError>
     ensures { IfOk result (λ found. IsHead (named_view named.now) (option_map head_view found)) }
 {

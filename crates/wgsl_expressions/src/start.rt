@@ -31,7 +31,7 @@ pub enum Start {
     Nothing,
 }
 
-/// What an expression begins with whose first token has this text.
+/// The beginning of an expression whose first token has this text.
 pub(crate) fn start_of(text: &str) -> Start
     ensures { result ≡ start_of text.now }
 {

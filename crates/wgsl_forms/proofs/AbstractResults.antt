@@ -26,7 +26,7 @@ among_step : (b : Bool) (r : Name) (o : Option Name) (t : WgslType) (p : Name) �
 among_step true r o t p d h e = let q : r ≡ p = cc e in subst (λ r. t ≡ struct_of r) q (d.0 refl)
 among_step false r o t p d h e = h e
 
--- what is found among them is one that the type is
+-- the type is the one that is found among them
 pub among_is : (rs : List Name) (t : WgslType) (p : Name) → result_among rs t ≡ Some p → t ≡ struct_of p
 among_is [] t p e = absurd (cc e)
 among_is (r ∷ rs) t p e = among_step (type_eq t (struct_of r)) r (result_among rs t) t p (type_eq_decides t (struct_of r)) (among_is rs t p) e

@@ -1,4 +1,4 @@
--- What is made concrete has no abstract type.
+-- A type that was made concrete has no abstract type in it.
 use Rattle.std.proofs.Common.{◌≡◌, ℕ, List, Option, Some, None, Bool, true, false, cond, refl, sym, ap, ◌∙◌, arith}
 use Rattle.wgsl_syntax.specs.declared.scalar.Scalar.TheVariants.{AbstractInt, AbstractFloat, F32}
 use Rattle.wgsl_syntax.specs.declared.result_struct.ResultFunction.{ResultFunction}

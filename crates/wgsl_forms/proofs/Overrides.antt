@@ -1,4 +1,4 @@
--- What is no scalar is no override, also made concrete.
+-- An override is a scalar, also once it is made concrete.
 use Rattle.std.proofs.Common.{◌≡◌, Bool, true, false, Option, Some, None, cond, refl}
 use Rattle.wgsl_syntax.specs.declared.result_struct.ResultFunction.{ResultFunction}
 use Rattle.wgsl_syntax.specs.declared.result_struct.ResultShape.{ResultShape}

@@ -19,7 +19,7 @@ abbrev pub may_be_let : WgslType → Bool
 may_be_let (pointer s t a) = true
 may_be_let t = is_constructible t || is_handle t
 
--- what stands behind the colon of a `let`, or of a parameter: such a type, and concrete
+-- the types that may be written behind the colon of a `let` or of a parameter: those that `let` can name, if they are concrete
 abbrev pub is_let_type : WgslType → Bool
 is_let_type t = may_be_let t && not (has_abstract_type t)
 

@@ -23,6 +23,6 @@ PointersCompose s t a name i = (c : Bool) →
 abbrev pub AddressesInvert : WgslType → Type 0
 AddressesInvert t = (e : Expression) → address_answer false t ≡ Ok e → (d : Expression) × (indirection_answer e.of_type ≡ Ok d) × (d.of_type ≡ t)
 
--- What is made concrete has no abstract type, and only what has an abstract type changes.
+-- A type that was made concrete has no abstract type in it; one that has none stays as it is.
 abbrev pub MakesConcrete : WgslType → Type 0
 MakesConcrete t = (has_abstract_type (concrete_of t) ≡ false) × (has_abstract_type t ≡ false → concrete_of t ≡ t)

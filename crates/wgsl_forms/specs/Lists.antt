@@ -56,7 +56,7 @@ member_types (member name t size align ms) = t ∷ member_types ms
 abbrev pub members_fit : List ℕ → List WgslType → List WgslType → Fits
 members_fit name ts xs = if length xs == 0 then Ok tt else values_fit name ts xs
 
--- `S(1, vec3f())`, where `S` has an `i32` and a `vec3<f32>`; `S()`. What is no struct is refused
+-- `S(1, vec3f())`, where `S` has an `i32` and a `vec3<f32>`; `S()`. A type that is no struct is refused
 abbrev pub constructed : WgslType → List WgslType → Result WgslType Refusal
 constructed (struct name ms) xs =
     asks (is_constructible (struct name ms)) (error (not_constructible (struct name ms)))

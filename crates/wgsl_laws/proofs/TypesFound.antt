@@ -157,7 +157,7 @@ a_layer (word ∷ words) = same_as (LayerForm (word ∷ words)) (LayerAt (word �
     memory = and_then (OneWord (IsText space_text)) (OneWord (IsText access_text)) (one_word (IsText space_text) (text_one space_text space_naming.distinct)) words
         (a_word (IsText space_text) (a_name space_text spaces space_naming) words) (a_word (IsText access_text) (a_name access_text access_modes access_naming))
 
--- What is read is taken off the words
+-- Each reader takes off the words that it reads
 
 pub layer_shorter : {words rest : List (List ℕ)} {l : Around} → LayerAt words l rest → length rest < length words
 layer_shorter (vec_at h) = omega arith

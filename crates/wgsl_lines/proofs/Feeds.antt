@@ -12,7 +12,7 @@ use Rattle.std.proofs.lemmas.List.Sums.{prefix_len-le-length, prefix_len_passes}
 no_feed : (byte : ℕ) → not (byte == 10) ≡ true → byte ≢ 10
 no_feed byte said is = grind (arith, said, is)
 
--- what comes before the first line feed has none
+-- the bytes before the first line feed have none
 none_before : (bytes : List ℕ) → All (λ byte. byte ≢ 10) (take (prefix_len (λ byte. not (byte == 10)) bytes) bytes)
 none_before bytes k d below is =
     let n = prefix_len (λ byte. not (byte == 10)) bytes in

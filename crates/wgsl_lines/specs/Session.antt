@@ -76,7 +76,7 @@ pub record HasPrinted (rules : RuleSet) (input : List ℕ) (start now : Option (
   pub written : Appends start now text
   pub prints : Prints rules input text readable
 
--- what the input prints until the run stops is written
+-- The text that the input prints until the run stops is written.
 pub record HasStopped (rules : RuleSet) (input : List ℕ) (start now : Option (List ℕ)) (error : RunError) : Type 0 where
   pub text : List ℕ
   pub written : Appends start now text

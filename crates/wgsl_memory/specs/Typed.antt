@@ -17,6 +17,6 @@ typed x = (view x.ty, x.line)
 abbrev pub typed_to : Typed → WgslType → Option (WgslType × ℕ)
 typed_to x t = on_line x.line (converted (view x.ty) t)
 
--- what is converted to a type has that type
+-- a value that is converted to a type has that type
 pub typed_has_type : (x : Typed) (t : WgslType) (y : Typed) → typed_to x t ≡ Some (typed y) → view y.ty ≡ t
 typed_has_type x t y h = paired_has_type x.line y.line x.ty y.ty t h

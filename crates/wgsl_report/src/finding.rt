@@ -79,7 +79,7 @@ impl Trouble {
         }
     }
 
-    /// The message after the number in what would fix it.
+    /// The end of the message, after the number that would fix the member.
     fn end(self) -> &'static str {
         match self {
             Trouble::Offset { .. } | Trouble::Behind { .. } => ")`",

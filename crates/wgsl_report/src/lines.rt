@@ -17,7 +17,7 @@ pub struct Lines<'a> {
 struct Wide {
     /// The index of its first byte.
     at: usize,
-    /// The bytes of the text up to the end of this character, less its units of UTF-16.
+    /// How many more bytes than units of UTF-16 the text has up to the end of this character.
     excess: usize,
 }
 
@@ -82,7 +82,7 @@ impl<'a> Lines<'a> {
         }
     }
 
-    /// The bytes in front of an index, less their units of UTF-16.
+    /// How many more bytes than units of UTF-16 stand in front of an index.
     fn excess(&self, at: usize) -> usize {
         let before = self.wide.partition_point(|wide| wide.at < at);
         match before.checked_sub(1) {

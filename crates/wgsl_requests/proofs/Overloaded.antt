@@ -26,7 +26,7 @@ same_operands (x ∷ xs) = ap (λ ys. operand_view x ∷ ys) (same_operands xs)
 abbrev pub shown : Option (Bor «Type») → Option WgslType
 shown t = option_map (λ t. view t.now) t
 
--- what was made, or None, is answered as what was made is
+-- None is answered as anything that was made is
 resolved : {A B : Type 0} (seen : A → B) (P : Option B → Type 0) (made : Result A (Fail NoOverload)) (r : Result (Option A) AllocError) →
     IfOk r (λ found. MatchOption found (made ≡ Err (Error no_overload)) (λ x. made ≡ Ok x)) → Answers seen P made → IfOk r (λ found. P (option_map seen found))
 resolved seen P made (Ok None) is h = subst (Answers seen P) is h

@@ -365,7 +365,7 @@ fn first_meaning(is_faulty: bool) -> Meaning {
     }
 }
 
-/// What a constant stands for that has this value, and perhaps a declared type.
+/// The meaning of a constant with this value, converted to its declared type if it has one.
 fn declared_value(value: Value, declared: Option<Scalar>) -> Result<Meaning, Cause> {
     let value = match (declared, value) {
         (None, _) | (Some(Scalar::Bool), Value::Bool(_)) => value,

@@ -94,7 +94,7 @@ pub fn predeclared(name: &str) -> Option<PredeclaredType> {
     }
 }
 
-/// What a name stands for that is a vector's or a matrix's, or has no number in it.
+/// The meaning of a vector's or a matrix's name, or of a name without a number.
 fn other_type(name: &str) -> Option<PredeclaredType> {
     if let Some(rest) = name.strip_prefix("vec") {
         vector_type(rest.as_bytes())

@@ -1,4 +1,4 @@
--- What an operand with dimensions and components requires is what its type does.
+-- An operand with dimensions and components requires the same as its type.
 use Rattle.std.proofs.Common.{◌≡◌, Bool, true, false, None, refl}
 use Rattle.std.specs.Prelude.{Decides}
 use Rattle.wgsl_syntax.specs.declared.scalar.Scalar.{Scalar}

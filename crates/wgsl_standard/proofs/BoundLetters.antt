@@ -114,7 +114,7 @@ parts_bind c b s e d =
     kept_chain (λ b. Unit {0}) (λ b. Binds b e) (λ b. bind_component c b e d.1) (λ b h. component_binds c b e d.1)
     (bind_shape b s d.0) (always (bind_shape b s d.0))
 
--- what each binding has that is made for the parts, if there are any
+-- a property of each binding that is made for the parts, if there are any
 if_parts : (Q : Binding → Type 0) (f : Dimensions × Scalar → Option Binding) → ((d : Dimensions × Scalar) → Kept Q (f d)) → (r : Option (Dimensions × Scalar)) → Kept Q (option_and_then f r)
 if_parts Q f h None = tt
 if_parts Q f h (Some d) = h d

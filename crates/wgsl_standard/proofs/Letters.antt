@@ -28,8 +28,8 @@ use Rattle.wgsl_standard.specs.internal.Binding.{may_be}
 use Rattle.wgsl_standard.specs.internal.FixedResults.{says_letter}
 use Rattle.wgsl_standard.specs.internal.Groups.{resource_group, texture_group, type_group}
 
--- What is said of the letter T by what has P: a concrete scalar, or nothing unless it must say something. What isn't of the set says
--- none of both.
+-- Types with P may say that the letter T stands for a concrete scalar; they may also say nothing, unless they must say something.
+-- Types outside the set say neither.
 abbrev pub Says : Type 0 → Bool → Option (Option Scalar) → Type 0
 Says P must None = Unit {0}
 Says P must (Some None) = P × (must ≡ false)
@@ -124,7 +124,7 @@ only_itself t u w v a h = above_alone (value_converts v h).0 a
 pub to_itself : (t u : WgslType) → StandsAlone u → t ≡ u → Converts t u 0
 to_itself t u a e = subst (λ t. Converts t u 0) (sym e) ((converts_alone u u 0 a).1 (refl, refl))
 
--- what is of a set is a texture or a pointer
+-- each type of a set is a texture or a pointer
 
 pub member_alone : (r : Resource) (u : WgslType) (s : Scalar) → Names (letter_of r u) s → StandsAlone u
 member_alone r (texture x) s h = tt

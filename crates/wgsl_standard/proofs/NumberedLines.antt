@@ -37,7 +37,7 @@ regroup a b c d = simp append_assoc
 regroup_all : {A : Type 0} (a b c d e : List A) → (a ++ ((b ++ c) ++ d)) ++ e ≡ ((a ++ b) ++ c) ++ (d ++ e)
 regroup_all a b c d e = simp append_assoc
 
--- what is called stands among all that has its name
+-- the callee stands among all that have its name
 
 texts_of_one : (cs : List WgslCallee) (c : WgslCallee) → cs ≡ c ∷ [] → flat_map texts_listed cs ≡ texts_listed c
 texts_of_one cs c e = ap (flat_map texts_listed) e ∙ append-nil (texts_listed c)

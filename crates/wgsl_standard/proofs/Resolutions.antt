@@ -19,7 +19,7 @@ use Rattle.wgsl_standard.specs.Resolved.{IndexNamesLine, IsNamedResolution, with
 use Rattle.wgsl_standard.specs.Texts.{is_vector, name_of}
 use Rattle.wgsl_standard.proofs.NumberedLines.{text_there}
 
--- whether parameters that may be vectors are: by what their letter stands for
+-- Parameters that may be scalars or vectors are vectors exactly if their letter stands for a number of components.
 
 is_scalar : (i : Substitution) (p : Pattern) (t : WgslType) → i.width ≡ None → (is_scalar_or_vector p && is_vector (parameter_for i p t)) ≡ false
 is_scalar i (patterns.Value shapes.OneOrVector e) t h = ap (λ w. is_vector (type_with (one_or_vector w) (component_in i e))) h

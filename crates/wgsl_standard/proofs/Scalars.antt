@@ -39,7 +39,7 @@ itself c k a i m = at a (λ ss. rw (i, m) refl)
     at AbstractFloat h = h (F32 ∷ F16 ∷ [])
     at s h = h []
 
--- what is picked is the first of all scalars to which the scalar converts
+-- of all scalars to which the scalar converts, the first is picked
 pub first_of_all : (c : Bool) (k : Kind) (a : Scalar) → first_target c k a (targets None) ≡ pick c k (Some a)
 first_of_all c k AbstractInt = refl
 first_of_all c k a = refl

@@ -76,7 +76,7 @@ words-gap cuts (b ∷ bs) = step (cuts b) refl (words-gap cuts bs)
     step true e h = ap (words cuts) (after_cut cuts b bs e) ∙ (h ∙ sym (words-cut cuts b bs e))
     step false e h = ap (words cuts) (after_no_cut cuts b bs e)
 
--- what is left after the separators in front is nothing, or begins with a word
+-- after the separators in front nothing is left, or a word comes
 abbrev pub BeginsWithWord : (ℕ → Bool) → List ℕ → Type 0
 BeginsWithWord cuts rest = 0 < length rest
     → words cuts rest ≡ take (word_len cuts rest) rest ∷ words cuts (drop (word_len cuts rest) rest)

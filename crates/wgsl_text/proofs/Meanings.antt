@@ -163,7 +163,7 @@ pub named_none : {A : Type 0} (text : A → List ℕ) (values : List A) (s : Lis
 named_none text [] s none = refl
 named_none text (v ∷ values) s none = none_first (named (table text values) s) v (bytes_eq s (text v)) (not_eq s (text v) (none v)) (named_none text values s none)
 
--- what is found exactly for a text is what the table has for it
+-- the one value that is found for a text is the table's
 named_exactly : {A : Type 0} (text : A → List ℕ) (values : List A) → ((x : A) → named (table text values) (text x) ≡ Some x) → (s : List ℕ) (found : Option A) → ((x : A) → (found ≡ Some x) ↔ (s ≡ text x)) →
     found ≡ named (table text values) s
 named_exactly text values back s (Some x) exact = sym (ap (named (table text values)) ((exact x).0 refl) ∙ back x)

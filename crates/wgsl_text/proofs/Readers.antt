@@ -31,7 +31,7 @@ pub answers_by : {B : Type 0} (P Q : B → Type 0) (N M : Type 0) → ((x : B) �
 answers_by P Q N M f g (Ok x) p = f x p
 answers_by P Q N M f g (Err e) p = refuses N M g e p
 
--- what was read is shown alike once it is built, or memory was out
+-- a type that was read is shown alike once it is built, or memory was out
 pub built_read : {A B C : Type 0} (At : Beginning C) (view : A → C) (seen : B → C) (words after : List (List ℕ)) (read : Result A (Fail Misfit)) (r : Result B (Fail Misfit)) → Reads At view words after read →
     MatchResult read (λ x. Answers (λ y. seen y ≡ view x) ⊥ r) (λ e. r ≡ Err e) → Reads At seen words after r
 built_read At view seen words after (Ok x) r d h =

@@ -58,7 +58,7 @@ pub binary_spelled : (words after : List (List ℕ)) (word : List ℕ) (o : Bina
 binary_spelled words after word o types t u e f d pair =
     subst (λ ws. IsRequest Ported (codes "binary" ∷ ws) (binary o t u)) (sym (e ∙ ap (λ w. w ∷ after) f)) (binary_words o (subst (TypesAt Ported after) pair d))
 
--- what is laid out as a struct is one
+-- a type that is laid out as a struct is one
 struct_laid_out : (rules : RuleSet) (t : WgslType) (name : List ℕ) (laid : Members) → laid_out rules t ≡ struct name laid → (ms : Members) × (t ≡ struct name ms) × (members_laid_out rules ms ≡ laid)
 struct_laid_out Ported t name laid e = (laid, e, refl)
 struct_laid_out Standard (struct n ms) name laid e = (ms, ap (λ n. struct n ms) (cc e), cc e)

@@ -112,7 +112,7 @@ fn read_inside(
 
 /// The type with this layer, and those that begin with this word, around what comes after them.
 ///
-/// While they are read, the layers are in an array. Those for which it has no room are read as the type inside.
+/// While they are read, the layers are in an array. A layer for which it has no room is read with the type inside.
 #[cycle(reading)]
 #[inline(always)]
 pub(crate) fn read_layers(

@@ -27,7 +27,7 @@ MayBeOutOfMemory (Err e) = Unit {0}
 MayBeOutOfMemory (Ok None) = ⊥
 MayBeOutOfMemory (Ok (Some t)) = ¬ IsLeaf t
 
--- What was built is the type, if there is one. Out of memory stands for any but leaf types.
+-- The type is built, if there is one. Out of memory stands for any but leaf types.
 abbrev pub IsBuilt : Option WgslType → Option (Result «Type» AllocError) → Type 0
 IsBuilt None None = Unit {0}
 IsBuilt (Some t) (Some (Ok u)) = t ≡ view u
@@ -46,7 +46,7 @@ Answered P p (Ok t) = P (Ok (option_map view t))
 Answered P p (Err (fails.Error e)) = P (Err (refusal e))
 Answered P p (Err (fails.Memory m)) = p ≡ None → (a : Result (Option WgslType) Refusal) × P a × MayBeOutOfMemory a
 
--- What this return type gives is the answer by the rows; without one, the refusal is.
+-- The answer by the rows is the type that this return type gives, or the refusal if there is none.
 abbrev pub Chooses : List Row → Signature → Option ReturnType → Type 0
 Chooses rows c None = IsAnswerOf rows c (Err (signature c))
 Chooses rows c (Some o) = (a : Result (Option WgslType) Refusal) → IsReturnType o c a → IsAnswerOf rows c a

@@ -65,7 +65,7 @@ Breaks Behind space m = ¬ IsBehind space m.extent.shape m.extent.size m.offset 
 Breaks Align space m = ¬ IsAlignAttribute space m.extent m.align
 Breaks Size space m = ¬ IsSizeAttribute m.extent m.size
 
--- `requires uniform_buffer_standard_layout;` gives `uniform` the rules of `storage`: what is kept there is lifted
+-- `requires uniform_buffer_standard_layout;` gives `uniform` the rules of `storage`: a rule that `storage` doesn't break is lifted
 abbrev pub IsLifted : Rule → Position → Type 0
 IsLifted rule m = ¬ Breaks rule Storage m
 

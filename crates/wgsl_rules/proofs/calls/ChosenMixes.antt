@@ -167,7 +167,7 @@ first_mix x y z (within (vec_of n) e) m i r =
     first x y n f r = r
 first_mix x y z d m i r = absurd i
 
--- what candidates of three types take, the second row takes
+-- the second row takes the operands that candidates of three types take
 mix_down : (c : WgslType) → Admits (or_vector a_float) c → (ts : List WgslType) → All IsValueType ts → TakenBy (c ∷ c ∷ c ∷ []) ts → Fits mix_row (its mix ts) ⊎ RefusedThoughTaken mix ts
 mix_down c i ts v t =
     let m = three_taken ts c c c v t in

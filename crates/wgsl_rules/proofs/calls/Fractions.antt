@@ -1,4 +1,4 @@
--- What `frexp` and `modf` take has a unique shape and precision.
+-- Each type that `frexp` and `modf` take has one shape and one precision.
 use Rattle.std.proofs.Common.{◌≡◌, ℕ, zero, suc, refl, sym, ap, ◌∙◌}
 use Rattle.wgsl_syntax.specs.declared.scalar.Scalar.{Scalar}
 use Rattle.wgsl_syntax.specs.declared.scalar.Scalar.TheVariants.{Bool, F32, F16}

@@ -13,8 +13,8 @@ use Rattle.wgsl_rules.specs.calls.Answers.{RefusedThoughTaken}
 use Rattle.wgsl_rules.proofs.conversion.Order.{Above, above_to_within}
 use Rattle.wgsl_rules.proofs.operators.FamilyKinds.{Kind, any_type, a_number, a_float, or_vector, vector_of, Admits, above_admits, above_admitted, float_above}
 
--- What a row asks of its first argument: it is of the kind then, with all that it converts to. What converts to a type of
--- the kind has the shape, or its call is one of `RefusedThoughTaken`.
+-- What a row asks of its first argument: it is of the kind then, with all that it converts to.
+-- A type that converts to one of the kind has the shape, or its call is one of `RefusedThoughTaken`.
 pub record Shaped (n : Name) (s : Shape) (k : Kind) : Type 0 where
   pub up : (a c : WgslType) → Is s a → Above a c → Admits k c
   pub down : (a c : WgslType) (ts : List WgslType) → Above a c → Admits k c → Is s a ⊎ RefusedThoughTaken n (a ∷ ts)

@@ -98,7 +98,7 @@ base_admits float_to_f16 k d h = admits_float k F16 d (λ n. n) (λ n. n) h
 base_admits (result_to_f32 m s) k d h = admits_result k m s precision.F32 precision.Abstract h
 base_admits (result_to_f16 m s) k d h = admits_result k m s precision.F16 precision.Abstract h
 
--- what holds of the types inside a layer holds of the layer
+-- a property of the types inside a layer is one of the layer
 abbrev Passes : (Kind → Type 0) → WgslType → WgslType → Type 0
 Passes Q t u = (k : Kind) → Q k → Admits k t → Admits k u
 
@@ -238,7 +238,7 @@ float_step (base b) h = float_base b h
     float_base (result_to_f16 m s) h = inl (admits_result a_float m s precision.F16 precision.Abstract h)
 float_step (inside l s) h = absurd h
 
--- what converts to a float is a float or an abstract integer
+-- a type that converts to a float is a float or an abstract integer
 pub float_above : {t u : WgslType} → Above t u → Admits a_float u → Admits a_float t ⊎ (t ≡ scalar AbstractInt) × Above (scalar AbstractFloat) u
 float_above here h = inl h
 float_above {t} (further {v = v} a s) h = past a s (float_step s h) (float_above a)

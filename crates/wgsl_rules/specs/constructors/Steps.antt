@@ -15,7 +15,7 @@ abbrev pub Then : Result WgslType Refusal → (WgslType → Result WgslType Refu
 Then (Ok t) made r = made t r
 Then (Err e) made r = r ≡ Err e
 
--- What follows the common type of a list; the message says that there is none.
+-- The common type of a list, and then the next step; without a common type, the refusal with this message.
 abbrev pub ThenCommon : List WgslType → List ℕ → (WgslType → Result WgslType Refusal → Type 0) → Result WgslType Refusal → Type 0
 ThenCommon ts message made r = (c : Option WgslType) × IsLeftCommon ts c × Then (ok_or c (builtin message)) made r
 

@@ -57,7 +57,7 @@ component_in i V = i.v
 component_in i W = i.w
 component_in i (The s) = s
 
--- What a texture or a pointer says of the letter T: nothing, or what it stands for. It may also not be of the set.
+-- A texture or a pointer says nothing of the letter T, or what T stands for. It may also not be of the set.
 abbrev pub Names : Option (Option Scalar) → Scalar → Type 0
 Names None s = ⊥
 Names (Some None) s = Unit {0}

@@ -86,7 +86,7 @@ lacks_after text after i c is none = lacks_of c after (λ k less e.
     let long : length after ≡ length text - (i + 1) = ap length is ∙ length-drop (i + 1) text in
     none (i + 1 + k) (omega arith) (omega (arith, less, long)) (sym (get_or-drop (i + 1) text k 0) ∙ (ap (λ s. get_or s k 0) (sym is) ∙ e)))
 
--- what ends with a byte ends with no text that lacks it
+-- a text that ends with a byte ends with no text that lacks it
 pub no_such_end : (c : ℕ) (a ds z : List ℕ) → Lacks c ds → 0 < length ds → ¬ (a ++ ds ≡ z ++ (c ∷ []))
 no_such_end c [] ds z l some e = lacks_in c z [] (subst (Lacks c) e l)
 no_such_end c (d ∷ a) ds [] l some e =

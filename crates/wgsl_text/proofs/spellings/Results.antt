@@ -38,7 +38,7 @@ pub leaf_plain : (text : List ℕ) → ((name list : List ℕ) → ¬ AtList tex
 leaf_plain text none (Some ty) is = plain_spells text (view ty) is
 leaf_plain text none None no_plain = only_aliases text none no_plain
 
--- what is inside is shorter
+-- the text inside is shorter
 
 ended_short : {A : Type 0} (text : A → List ℕ) (inner : List ℕ) (said : Option A) → length inner ≤ length (ended_list text inner said)
 ended_short text inner None = omega arith

@@ -12,7 +12,7 @@ use Rattle.wgsl_text.proofs.spellings.Cuts.{lacks_of}
 own : IsNumeralModel (AllDigits 10) (digits_value 10)
 own = numerals_by_value (AllDigits 10) tells_digits
 
--- what is no digit stands in no number
+-- a byte that is no digit stands in no number
 pub lacks_decimal : (n c : ℕ) → n < 2 ^ 64 → ¬ IsInRange 48 57 c → Lacks c (decimal n)
 lacks_decimal n c fits other = lacks_of c (decimal n) (not_in_digits own (decimal n) c (digits_decimal own n fits) other)
 

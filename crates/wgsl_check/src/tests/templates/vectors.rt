@@ -3,7 +3,7 @@ use super::{expect_refusal, expect_rows};
 use crate::tests::support::expect_answers;
 use std::test::Fail;
 
-/// What is refused by every template that takes one type.
+/// Parameters that every template of one type refuses.
 const NOT_ONE_TYPE: [&str; 7] = [
     "",
     "n 2",

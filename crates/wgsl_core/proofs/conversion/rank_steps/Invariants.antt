@@ -4,7 +4,7 @@ use Rattle.wgsl_core.specs.internal.Forms.{layers}
 use Rattle.wgsl_core.proofs.Ranks.{IsRank, Steps}
 use Rattle.wgsl_core.proofs.conversion.rank_steps.Given as goal
 
--- what holds of the types inside holds of the types
+-- a property of the types inside is one of the types
 abbrev pub invariant-loop-element : goal.invariant-loop-element
 invariant-loop-element l = record {
   rank : (o : Option ℕ) → IsRank o (view l.from) (view l.to) → IsRank o (view l.a) (view l.b);

@@ -6,7 +6,7 @@ use Rattle.wgsl_standard.specs.Texts.{types_given}
 use Rattle.wgsl_forms.specs.Array.{referred}
 use Rattle.wgsl_forms.proofs.array.common_element.Given as goal
 
--- what the rest gives from here is what the whole gives
+-- the rest gives from here the same as the whole
 abbrev pub invariant-loop-value : goal.invariant-loop-value
 invariant-loop-value l = (r : Option WgslType) →
     IsFoldedFrom (Some (given_type l.common)) (map referred (types_given (drop l.value-index l.rest))) r →

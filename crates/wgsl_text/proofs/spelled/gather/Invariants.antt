@@ -6,7 +6,7 @@ use Rattle.wgsl_text.specs.internal.Spelled.{behind}
 use Rattle.wgsl_text.specs.internal.Taken.{GoesOn, left}
 use Rattle.wgsl_text.proofs.spelled.gather.Given as goal
 
--- what is written and what is behind the last word are the run
+-- the run is the text that is written and the bytes behind the last word
 abbrev pub invariant-loop-next : goal.invariant-loop-next
 invariant-loop-next l =
     shadow (Utf8 l.last) × GoesOn l.fn.words l.words × (spaced (run (l.word ∷ left l.fn.words)) ≡ string_bytes l.text ++ spaced (behind l.last (left l.words)))

@@ -4,7 +4,7 @@ use denote.Shadow.{shadow}
 use Rattle.wgsl_text.specs.Spelled.{spaced}
 use Rattle.wgsl_text.proofs.spelled.push_spaced.Given as goal
 
--- what is written and what the rest will add are what the word adds
+-- the word adds the text that is written and the text that the rest will add
 abbrev pub invariant-loop-before : goal.invariant-loop-before
 invariant-loop-before l = shadow (Utf8 l.rest) × (string_bytes l.fn.text ++ spaced l.word ≡ string_bytes l.text ++ spaced l.rest)
 
