@@ -1,18 +1,22 @@
 //! Reads the words of a request.
+// Each test that has this module uses a part of it.
+#![allow(dead_code)]
+
+mod parameters;
 
 use std::iter::Peekable;
-use std::str::{FromStr, Split};
+use std::str::{FromStr, SplitTerminator};
 use wgsl_types_proved::standard::Operand;
 use wgsl_types_proved::syntax::{AccessMode, AddressSpace};
 use wgsl_types_proved::ty::{StructMemberType, StructType};
 use wgsl_types_proved::Type;
 
 /// The words that aren't read yet.
-pub struct Words<'a>(Peekable<Split<'a, char>>);
+pub struct Words<'a>(Peekable<SplitTerminator<'a, char>>);
 
 impl<'a> Words<'a> {
     pub fn new(request: &'a str) -> Words<'a> {
-        Words(request.split(' ').peekable())
+        Words(request.split_terminator(' ').peekable())
     }
 
     pub fn is_empty(&mut self) -> bool {
@@ -139,12 +143,14 @@ impl<'a> Words<'a> {
         }
     }
 
-    /// A type that is spelled with its words in brackets.
+    /// A type that is spelled with its words in brackets. `-` stands for no flag of a type of rays.
     fn leaf(&mut self, head: &str) -> Type {
-        let unsampled = ["texture_depth", "texture_external", "sampler"];
+        let with_word = ["texture", "ray_query", "acceleration_structure"];
+        let without = ["texture_depth", "texture_external"];
+        let begins = |heads: &[&str]| heads.iter().any(|of| head.starts_with(of));
         let spelled = if head.starts_with("texture_storage") {
             format!("{head}<{}, {}>", self.next(), self.next())
-        } else if head.starts_with("texture") && !unsampled.iter().any(|of| head.starts_with(of)) {
+        } else if begins(&with_word) && !begins(&without) && !self.take("-") {
             format!("{head}<{}>", self.next())
         } else {
             head.to_string()
