@@ -2,8 +2,8 @@
 
 use super::{with_operands, Called, NoOverload, Operand, Resolution};
 use crate::proved::wgsl_core::error::Fail;
-use crate::proved::wgsl_standard::substitution::built;
 use crate::proved::wgsl_standard::operand::Operand as Asked;
+use crate::proved::wgsl_standard::substitution::built;
 use crate::proved::wgsl_standard::{answer, resolved};
 use crate::shim::always;
 use crate::shim::settled;
