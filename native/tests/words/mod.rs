@@ -11,6 +11,25 @@ use wgsl_types_proved::syntax::{AccessMode, AddressSpace};
 use wgsl_types_proved::ty::{StructMemberType, StructType};
 use wgsl_types_proved::Type;
 
+/// The type that the words stand for.
+pub fn one_type(text: &str) -> Type {
+    let mut words = Words::new(text);
+    let ty = words.ty();
+    assert!(words.is_empty(), "more than a type: `{text}`");
+    ty
+}
+
+/// The types that the words stand for; an empty text has none.
+pub fn types(text: &str) -> Vec<Type> {
+    if text.is_empty() {
+        return Vec::new();
+    }
+    let mut words = Words::new(text);
+    let types = words.types();
+    assert!(words.is_empty(), "more than types: `{text}`");
+    types
+}
+
 /// The words that aren't read yet.
 pub struct Words<'a>(Peekable<SplitTerminator<'a, char>>);
 
@@ -145,12 +164,14 @@ impl<'a> Words<'a> {
 
     /// A type that is spelled with its words in brackets. `-` stands for no flag of a type of rays.
     fn leaf(&mut self, head: &str) -> Type {
-        let with_word = ["texture", "ray_query", "acceleration_structure"];
-        let without = ["texture_depth", "texture_external"];
-        let begins = |heads: &[&str]| heads.iter().any(|of| head.starts_with(of));
+        let unsampled = ["texture_depth", "texture_external", "sampler"];
+        let has_list = match head {
+            "ray_query" | "acceleration_structure" => !self.take("-"),
+            _ => head.starts_with("texture") && !unsampled.iter().any(|of| head.starts_with(of)),
+        };
         let spelled = if head.starts_with("texture_storage") {
             format!("{head}<{}, {}>", self.next(), self.next())
-        } else if begins(&with_word) && !begins(&without) && !self.take("-") {
+        } else if has_list {
             format!("{head}<{}>", self.next())
         } else {
             head.to_string()

@@ -1,5 +1,14 @@
-// Calls of built-in functions.
+// Counts that the calls return beside their answers.
 use wgsl_types::builtin::find_call;
+use wgsl_types::conv::rank_steps;
+use wgsl_types::ty::Type;
+
+#[test]
+fn the_steps_of_a_rank_are_counted(rt: HostRuntime) {
+    assert_eq!(rt; rank_steps(&Type::AbstractInt, &Type::F32), (Some(6), 2));
+    assert_eq!(rt; rank_steps(&Type::AbstractInt, &Type::I32), (Some(3), 1));
+    assert_eq!(rt; rank_steps(&Type::I32, &Type::I32), (Some(0), 0));
+}
 
 #[test]
 fn names_are_found_by_one_comparison(rt: HostRuntime) {
