@@ -15,9 +15,8 @@ pub struct Lines<W> {
 
 impl<W: Write> Lines<W> {
     /// A call that answers a value.
-    pub fn value<N, T, E>(&mut self, name: N, answer: Result<T, E>) -> io::Result<()>
+    pub fn value<T, E>(&mut self, name: &str, answer: Result<T, E>) -> io::Result<()>
     where
-        N: fmt::Display + Drop,
         T: fmt::Display + Drop,
         E: fmt::Display + Drop,
     {
@@ -28,9 +27,8 @@ impl<W: Write> Lines<W> {
     }
 
     /// A call that answers a value or `None`.
-    pub fn option<N, T, E>(&mut self, name: N, answer: Result<Option<T>, E>) -> io::Result<()>
+    pub fn option<T, E>(&mut self, name: &str, answer: Result<Option<T>, E>) -> io::Result<()>
     where
-        N: fmt::Display + Drop,
         T: fmt::Display + Drop,
         E: fmt::Display + Drop,
     {
@@ -92,9 +90,8 @@ impl<W: Write> Lines<W> {
     }
 
     /// A call that answers the candidate of an operator.
-    pub fn candidate<N, E>(&mut self, name: N, answer: Result<Candidate, E>) -> io::Result<()>
+    pub fn candidate<E>(&mut self, name: &str, answer: Result<Candidate, E>) -> io::Result<()>
     where
-        N: fmt::Display + Drop,
         E: fmt::Display + Drop,
     {
         match answer {

@@ -1,19 +1,15 @@
-// The program: it makes each public call that takes an allocator twice, on the same arguments, and prints what it answers.
-// If one allocation fails, the call that made it reports out of memory. The same call, made the other time, answers as
-// without fault, and so do all others.
+// The program: it makes each call that takes an allocator and that no request makes, twice, on the same arguments, and
+// prints what it answers. If one allocation fails, the call that made it reports out of memory. The same call, made the
+// other time, answers as without fault, and so do all others.
 #![tactic(auto)]
 
 mod arguments;
-mod calls;
 mod lines;
-mod never;
-mod operators;
-mod standard;
 mod templates;
 mod typed;
 mod types;
 
-use arguments::{Arguments, both, make_arguments};
+use arguments::{Arguments, make_arguments};
 use lines::Lines;
 use std::alloc::AllocError;
 use std::io;
@@ -28,20 +24,19 @@ fn main(rt: HostRuntime) -> ExitCode {
         alloc: rt.alloc(),
         output: rt.stdout(),
     };
-    let made = both(make_arguments(lines.alloc), make_arguments(lines.alloc));
-    let status = print_all(&mut lines, &made);
-    drop(made);
+    let arguments = make_arguments(lines.alloc);
+    let status = print_all(&mut lines, &arguments);
+    drop(arguments);
     status
 }
 
-/// Prints each call twice if there are arguments. These were made twice: the second ones show whether a call changes
-/// the first.
+/// Prints each call twice if there are arguments.
 fn print_all<W: Write>(
     lines: &mut Lines<W>,
-    made: &Result<(Arguments, Arguments), AllocError>,
+    arguments: &Result<Arguments, AllocError>,
 ) -> ExitCode {
-    match made {
-        Ok((arguments, as_made)) => match print_twice(lines, arguments, as_made) {
+    match arguments {
+        Ok(arguments) => match print_twice(lines, arguments) {
             Ok(()) => ExitCode::SUCCESS,
             Err(_) => ExitCode::FAILURE,
         },
@@ -49,30 +44,12 @@ fn print_all<W: Write>(
     }
 }
 
-fn print_twice<W: Write>(
-    lines: &mut Lines<W>,
-    arguments: &Arguments,
-    as_made: &Arguments,
-) -> io::Result<()> {
-    print_calls(lines, arguments, as_made)?;
-    print_calls(lines, arguments, as_made)
+fn print_twice<W: Write>(lines: &mut Lines<W>, arguments: &Arguments) -> io::Result<()> {
+    print_calls(lines, arguments)?;
+    print_calls(lines, arguments)
 }
 
-fn print_calls<W: Write>(
-    lines: &mut Lines<W>,
-    arguments: &Arguments,
-    as_made: &Arguments,
-) -> io::Result<()> {
+fn print_calls<W: Write>(lines: &mut Lines<W>, arguments: &Arguments) -> io::Result<()> {
     types::print_types(lines, arguments)?;
-    operators::print_operators(lines, &arguments.types)?;
-    templates::print_templates(lines, &arguments.templates)?;
-    calls::print_calls(lines, arguments)?;
-    standard::print_standard(lines, arguments)?;
-    never::print_never(lines, arguments)?;
-    let state = if arguments == as_made {
-        "unchanged"
-    } else {
-        "changed"
-    };
-    writeln!(lines.output, "never arguments: {state}")
+    templates::print_templates(lines, &arguments.templates)
 }

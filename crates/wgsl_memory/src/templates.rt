@@ -108,14 +108,6 @@ fn atomic_type(alloc: Global, tplt: &[TpltParam]) -> Result<Type, Fail<Error>> {
     Ok(ty?)
 }
 
-/// The type inside the atomic of this template.
-pub fn atomic_inner(alloc: Global, tplt: &[TpltParam]) -> Result<Type, Fail<Error>> {
-    let template = AtomicTemplate::parse(alloc, tplt)?;
-    let ty = template.inner_ty(alloc);
-    drop(template);
-    Ok(ty?)
-}
-
 fn pointer_access(alloc: Global, tplt: &[TpltParam]) -> Result<AccessMode, Fail<Error>> {
     let template = PtrTemplate::parse(alloc, tplt)?;
     let access = template.access;
@@ -138,7 +130,7 @@ fn bitcast_inner(alloc: Global, tplt: &[TpltParam]) -> Result<Type, Fail<Error>>
 }
 
 /// The type of the channels of the `texture_2d` of this template.
-pub fn texture_channel(alloc: Global, tplt: &[TpltParam]) -> Result<SampledType, Fail<Error>> {
+fn texture_channel(alloc: Global, tplt: &[TpltParam]) -> Result<SampledType, Fail<Error>> {
     let template = TextureTemplate::parse(alloc, "texture_2d", tplt)?;
     Ok(template.ty().channel_type())
 }

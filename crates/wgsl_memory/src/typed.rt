@@ -8,7 +8,7 @@ use wgsl_types::conv::Convert;
 use wgsl_types::ty::{Ty, Type};
 
 /// A type with the number of its input line.
-#[derive(PartialEq, Drop)]
+#[derive(Drop)]
 pub struct Typed {
     pub ty: Type,
     pub line: u64,

@@ -1,13 +1,15 @@
-// Copies, built types, the trait `Ty`, conversions, layouts.
+// Copies, built types, the trait `Ty`, conversions, layouts, candidates, constructors of structs.
 use crate::arguments::{Arguments, Structs, both};
 use crate::lines::Lines;
 use crate::typed::Typed;
 use std::alloc::{AllocError, Global};
 use std::io;
 use std::io::Write;
+use wgsl_types::builtin::{binary_candidate, typecheck_struct_ctor};
 use wgsl_types::conv::{
     Convert, convert, convert_all, convert_all_inner_to, convert_all_to, convert_inner,
 };
+use wgsl_types::syntax::BinaryOperator;
 use wgsl_types::ty::{StructType, Ty, try_from_type};
 use wgsl_types::{CallSignature, Type};
 
@@ -17,7 +19,12 @@ pub fn print_types<W: Write>(lines: &mut Lines<W>, arguments: &Arguments) -> io:
     print_signatures(lines, arguments)?;
     print_nested(lines, &arguments.types.nested)?;
     print_typed(lines, &arguments.types.typed)?;
-    print_conversions(lines, &arguments.types.vectors)
+    print_conversions(lines, &arguments.types.vectors)?;
+    print_checks(
+        lines,
+        &arguments.structs.structure,
+        &arguments.types.vectors,
+    )
 }
 
 fn print_structs<W: Write>(lines: &mut Lines<W>, structs: &Structs) -> io::Result<()> {
@@ -26,7 +33,6 @@ fn print_structs<W: Write>(lines: &mut Lines<W>, structs: &Structs) -> io::Resul
         member,
         structure,
         ty,
-        ..
     } = structs;
     lines.copy("Type::clone", ty, ty.clone(alloc))?;
     lines.copy("StructType::clone", structure, structure.clone(alloc))?;
@@ -62,7 +68,7 @@ fn print_signatures<W: Write>(lines: &mut Lines<W>, arguments: &Arguments) -> io
     let alloc = lines.alloc;
     let [parameter] = &arguments.templates.element;
     let call = &arguments.call;
-    let refusal = &arguments.refusals.signature;
+    let refusal = &arguments.refusal;
     lines.copy("TpltParam::clone", parameter, parameter.clone(alloc))?;
     lines.copy("CallSignature::clone", call, call.clone(alloc))?;
     lines.value(
@@ -112,5 +118,22 @@ fn print_conversions<W: Write>(lines: &mut Lines<W>, vectors: &[Type; 2]) -> io:
     lines.list(
         "convert_all_inner_to",
         convert_all_inner_to(alloc, vectors, &Type::U32),
+    )
+}
+
+fn print_checks<W: Write>(
+    lines: &mut Lines<W>,
+    structure: &StructType,
+    vectors: &[Type; 2],
+) -> io::Result<()> {
+    let alloc = lines.alloc;
+    let [lhs, rhs] = vectors;
+    lines.candidate(
+        "binary_candidate",
+        binary_candidate(alloc, BinaryOperator::Addition, lhs, rhs),
+    )?;
+    lines.check(
+        "typecheck_struct_ctor, refused",
+        typecheck_struct_ctor(alloc, structure, &[Type::F32]),
     )
 }
