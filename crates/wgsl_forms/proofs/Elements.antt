@@ -38,7 +38,7 @@ stays_value t u true c h = refl
 stays_value t u false true h = refl
 stays_value t u false false h = sym (h refl)
 
--- memory has no abstract type, and what has none is the same when it is made concrete
+-- types in memory have no abstract type in them, and a type without one stays the same when it is made concrete
 pub stays_abstract : (t : WgslType) (c : Bool) → cond (not (has_abstract_type t) || c) (behind t) (concrete_of (behind t)) ≡ cond (is_memory t || c) (behind t) (concrete_of (behind t))
 stays_abstract (reference s t a) c = refl
 stays_abstract (pointer s t a) c = refl

@@ -38,7 +38,7 @@ pub no_feed_left : (bytes : List ℕ) (at : ℕ) → All (λ byte. byte ≢ 10) 
     → All (λ byte. byte ≢ 10) (take (length bytes - at) (drop at bytes)) → All (λ byte. byte ≢ 10) bytes
 no_feed_left bytes at none left = rw (sym (take-append-drop at bytes)) (All-append (λ byte. byte ≢ 10) (take at bytes) (drop at bytes) none (rw (sym (all_left bytes at)) left))
 
--- what is passed, and then what is before the first line feed of what is left
+-- the bytes that were passed, and then those in front of the first line feed of the rest
 pub record IsCut (bytes : List ℕ) (end : ℕ) : Type 0 where
   pub none : All (λ byte. byte ≢ 10) (take end bytes)
   pub bytes_are : bytes ≡ take end bytes ++ 10 ∷ take (length bytes - (end + 1)) (drop (end + 1) bytes)

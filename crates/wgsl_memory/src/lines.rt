@@ -1,5 +1,5 @@
 // The lines of the program, each of a call's name and what it answered.
-use std::alloc::{AllocError, Global};
+use std::alloc::Global;
 use std::fmt::Write as _;
 use std::io::Write;
 use std::{fmt, io};

@@ -9,7 +9,7 @@ use crate::call::shape::is;
 use wgsl_core::signature::TpltParam;
 use wgsl_core::ty::Type;
 use wgsl_core::ty::form::Form;
-use wgsl_syntax::call::{Arguments, Condition, Row, Shape};
+use wgsl_syntax::call::{Arguments, Condition, Row};
 
 /// A call by name: its template parameters if it has a template, and the types of its arguments.
 #[derive(Clone, Copy)]

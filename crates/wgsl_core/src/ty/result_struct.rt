@@ -37,6 +37,7 @@ impl StructType {
 }
 
 /// The shape and the precision of a type, if `frexp` and `modf` take it.
+#[inline(always)]
 pub fn shaped_float(ty: &Type) -> Option<(ResultShape, ResultPrecision)>
     ensures { result ≡ shape_in (view ty.now) }
 {

@@ -133,7 +133,7 @@ fn pair(
         (plain_member first_name.now (view first)
         (plain_member second_name.now (view second) no_members))) }
 {
-    let mut members = Vec::with_capacity(alloc, 2)?;
+    let mut members = Vec::new(alloc);
     push(&mut members, alloc, first_name, first)?;
     push(&mut members, alloc, second_name, second)?;
     struct_of(alloc, name, members)
