@@ -192,18 +192,3 @@ fn the_last_of_a_rising_list_is_its_common_type() {
     assert_eq!(convert_ty(first, second), Some(second));
     assert_eq!(convert_all_ty(&rising), Some(third));
 }
-
-#[test]
-fn laws_of_ranks_common_types_and_sizes_hold() {
-    for (request, wanted) in [
-        ("rank vec 4 AbstractInt vec 4 AbstractFloat", "5"),
-        ("rank vec 4 AbstractFloat vec 4 f16", "2"),
-        ("rank vec 4 AbstractInt vec 4 f16", "7"),
-        ("common AbstractInt AbstractFloat f16", "f16"),
-        ("common f16 AbstractFloat AbstractInt", "f16"),
-        ("size mat 3 4 f32", "48 16"),
-        ("size array 3 vec 4 f32", "48 16"),
-    ] {
-        assert_eq!(answer(request).as_deref(), Ok(wanted), "{request}");
-    }
-}

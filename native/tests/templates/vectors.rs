@@ -1,7 +1,6 @@
 //! Templates of one type: those of vectors, matrices, atomics and of `bitcast`.
 
 use super::{expect_refusal, expect_rows, Make};
-use wgsl_types_proved::requests;
 use wgsl_types_proved::tplt::{
     AtomicTemplate, BitcastTemplate, MatTemplate, TpltParam, VecTemplate,
 };
@@ -78,17 +77,6 @@ fn matrices_are_of_floats() {
     ];
     expect_refusal(matrix, "matrix template type must be f32 or f16", &rows);
     expect_refusal(matrix, "invalid template arguments to `matrix`", &NOT_ONE_TYPE);
-}
-
-#[test]
-fn vectors_and_matrices_are_of_the_shape_asked_for() {
-    for (request, made) in [
-        ("ctor vec2 < t f32 >", "vec2<f32>"),
-        ("ctor mat4x2 < t f32 >", "mat4x2<f32>"),
-        ("ctor mat4x3 < t f32 >", "mat4x3<f32>"),
-    ] {
-        assert_eq!(requests::answer(request).as_deref(), Ok(made), "{request}");
-    }
 }
 
 #[test]
