@@ -21,9 +21,6 @@ pub fn one_type(text: &str) -> Type {
 
 /// The types that the words stand for; an empty text has none.
 pub fn types(text: &str) -> Vec<Type> {
-    if text.is_empty() {
-        return Vec::new();
-    }
     let mut words = Words::new(text);
     let types = words.types();
     assert!(words.is_empty(), "more than types: `{text}`");
