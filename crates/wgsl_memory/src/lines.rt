@@ -4,7 +4,6 @@ use std::fmt::Write as _;
 use std::io::Write;
 use std::{fmt, io};
 use wgsl_types::builtin::Candidate;
-use wgsl_types::mem::{PlacedMember, StructLayout};
 
 /// The allocator for the calls, and the output for their lines. Printing doesn't allocate.
 #[derive(Drop)]
@@ -65,30 +64,6 @@ impl<W: Write> Lines<W> {
         }
     }
 
-    /// A call that answers the layout of a struct or `None`: offset, size and alignment of each member, then size and
-    /// alignment of the whole.
-    pub fn layout<E>(
-        &mut self,
-        name: &str,
-        answer: Result<Option<StructLayout>, E>,
-    ) -> io::Result<()>
-    where
-        E: fmt::Display + Drop,
-    {
-        match answer {
-            Ok(Some(layout)) => {
-                let StructLayout {
-                    members,
-                    size,
-                    align,
-                } = &layout;
-                writeln!(self.output, "{name}:{} {size} {align}", Placed(members))
-            }
-            Ok(None) => writeln!(self.output, "{name}: none"),
-            Err(refusal) => writeln!(self.output, "{name}: {refusal}"),
-        }
-    }
-
     /// A call that answers the candidate of an operator.
     pub fn candidate<E>(&mut self, name: &str, answer: Result<Candidate, E>) -> io::Result<()>
     where
@@ -144,24 +119,6 @@ impl<'a, T: fmt::Display> fmt::Display for Spaced<'a, T> {
     fn fmt<W: fmt::Write>(&self, f: &mut fmt::Formatter<W>) -> fmt::Result {
         for value in self.0 {
             write!(f, " {value}")?;
-        }
-        Ok(())
-    }
-}
-
-/// Members of a struct, each with its offset, its size and its alignment.
-#[derive(Drop)]
-struct Placed<'a>(&'a Vec<PlacedMember>);
-
-impl<'a> fmt::Display for Placed<'a> {
-    fn fmt<W: fmt::Write>(&self, f: &mut fmt::Formatter<W>) -> fmt::Result {
-        for member in self.0 {
-            let PlacedMember {
-                offset,
-                size,
-                align,
-            } = member;
-            write!(f, " ({offset}, {size}, {align})")?;
         }
         Ok(())
     }

@@ -1,4 +1,4 @@
-// Copies, built types, the trait `Ty`, conversions, layouts, candidates, constructors of structs.
+// Copies, built types, the trait `Ty`, conversions, candidates, constructors of structs.
 use crate::arguments::{Arguments, Structs, both};
 use crate::lines::Lines;
 use crate::typed::Typed;
@@ -37,9 +37,7 @@ fn print_structs<W: Write>(lines: &mut Lines<W>, structs: &Structs) -> io::Resul
     lines.copy("Type::clone", ty, ty.clone(alloc))?;
     lines.copy("StructType::clone", structure, structure.clone(alloc))?;
     lines.copy("StructMemberType::clone", member, member.clone(alloc))?;
-    lines.value("Type::from_struct", struct_as_type(alloc, structure))?;
-    lines.layout("layout", structure.layout(alloc))?;
-    lines.list("offsets", structure.offsets(alloc))
+    lines.value("Type::from_struct", struct_as_type(alloc, structure))
 }
 
 fn print_built<W: Write>(lines: &mut Lines<W>, structure: &StructType) -> io::Result<()> {

@@ -1,11 +1,13 @@
 -- Lists as they are written, over values and over what these are seen as.
-use Rattle.std.proofs.Common.{◌≡◌, ◌∙◌, ◌++◌, ℕ, List, [], ◌∷◌, Option, codes, decimal, map, refl, sym, ap, append_assoc}
+use Rattle.std.proofs.Common.{◌≡◌, ◌∙◌, ◌++◌, ℕ, List, [], ◌∷◌, Option, Some, codes, decimal, map, refl, sym, ap, append_assoc}
 use Rattle.std.specs.List.{flat_map}
 use Rattle.wgsl_rules.specs.types.Types.{WgslType}
-use Rattle.wgsl_rules.specs.types.Signatures.{listed}
+use Rattle.wgsl_rules.specs.types.Signatures.{listed, parameter_text, template_text}
 use Rattle.wgsl_rules.specs.types.Spelling.{wgsl_spelling}
 use Rattle.wgsl_rules.specs.standard.Choice.{types_of}
+use Rattle.wgsl_core.specs.Instances.{parameter_view}
 use Rattle.wgsl_core.specs.View.{view}
+use Rattle.wgsl_core.specs.declared.signature.TpltParam.{TpltParam}
 use Rattle.wgsl_core.specs.declared.ty.Type.{«Type»}
 use Rattle.wgsl_standard.specs.Operands.{given_type}
 use Rattle.wgsl_standard.specs.declared.operand.Operand.{Operand}
@@ -30,15 +32,27 @@ lines_seen text (x ∷ xs) = ap (λ rest. text x ++ rest) (flat_map-map (λ line
 
 -- the text of a resolution, of which the result is written last
 
-resolution_parts : (old n opened types close r : List ℕ) → (old ++ (n ++ (opened ++ (types ++ close)))) ++ r ≡ old ++ (n ++ opened ++ types ++ close ++ r)
+resolution_parts : (old n opened types close r : List ℕ) → (((old ++ (n ++ opened)) ++ types) ++ close) ++ r ≡ old ++ (n ++ opened ++ types ++ close ++ r)
 resolution_parts old n opened types close r = simp append_assoc
 
-pub resolution_written : (old mid : List ℕ) (n : ℕ) (types items : List «Type») (r : Option WgslType) → types ≡ items
-    → mid ≡ old ++ (decimal n ++ (codes " (" ++ (listed (λ t. wgsl_spelling (view t)) types ++ codes ")"))) → mid ++ result_text r ≡ old ++ resolution_text (n, map view items, r)
-resolution_written old mid n types items r same e =
+pub resolution_written : (old opened shown closed : List ℕ) (n : ℕ) (types items : List «Type») (r : Option WgslType) → types ≡ items
+    → opened ≡ old ++ (decimal n ++ codes " (") → shown ≡ opened ++ listed (λ t. wgsl_spelling (view t)) types → closed ≡ shown ++ codes ")"
+    → closed ++ result_text r ≡ old ++ resolution_text (n, map view items, r)
+resolution_written old opened shown closed n types items r same a b c =
     let all : listed (λ t. wgsl_spelling (view t)) types ≡ listed wgsl_spelling (map view items) = ap (listed (λ t. wgsl_spelling (view t))) same ∙ sym (listed_seen wgsl_spelling view items) in
-    ap (λ m. m ++ result_text r) (e ∙ ap (λ y. old ++ (decimal n ++ (codes " (" ++ (y ++ codes ")")))) all)
+    let so_far : shown ≡ (old ++ (decimal n ++ codes " (")) ++ listed wgsl_spelling (map view items) = b ∙ ap (λ y. opened ++ y) all ∙ ap (λ y. y ++ listed wgsl_spelling (map view items)) a in
+    ap (λ y. y ++ result_text r) (c ∙ ap (λ y. y ++ codes ")") so_far)
     ∙ resolution_parts old (decimal n) (codes " (") (listed wgsl_spelling (map view items)) (codes ")") (result_text r)
+
+-- the text of a template, in the parts in which it is written
+pub template_written : (old opened shown : List ℕ) (ps : List TpltParam) → opened ≡ old ++ codes "<" → shown ≡ opened ++ listed (λ p. parameter_text (parameter_view p)) ps
+    → shown ++ codes ">" ≡ old ++ template_text (Some (map parameter_view ps))
+template_written old opened shown ps a b =
+    ap (λ y. y ++ codes ">") (b ∙ ap (λ y. y ++ listed (λ p. parameter_text (parameter_view p)) ps) a ∙ ap (λ y. (old ++ codes "<") ++ y) (sym (listed_seen parameter_text parameter_view ps)))
+    ∙ parts (listed parameter_text (map parameter_view ps))
+  where
+    parts : (list : List ℕ) → ((old ++ codes "<") ++ list) ++ codes ">" ≡ old ++ (codes "<" ++ list ++ codes ">")
+    parts list = simp append_assoc
 
 -- the text of a refusal, in the parts in which it is written
 

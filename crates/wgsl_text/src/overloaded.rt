@@ -1,7 +1,7 @@
 // Writes the answers about WGSL's own overloads.
 ghost use Rattle.std.specs.Prelude.{◌≡◌, ◌++◌, OnOk, map, option_map, string_bytes};
 ghost use Rattle.wgsl_rules.specs.types.Signatures.{listed, template_text};
-ghost use Rattle.wgsl_rules.specs.types.Spelling.{spelling, wgsl_spelling};
+ghost use Rattle.wgsl_rules.specs.types.Spelling.{wgsl_spelling};
 ghost use Rattle.wgsl_core.specs.Instances.{parameter_view};
 ghost use Rattle.wgsl_core.specs.View.{view};
 ghost use Rattle.wgsl_standard.specs.Operands.{given_type};
@@ -11,11 +11,10 @@ ghost use Rattle.wgsl_standard.specs.Texts.{callee_text, line_of, note_text};
 ghost use Rattle.wgsl_requests.specs.StandardViews.{call_view};
 ghost use Rattle.wgsl_text.specs.Texts.{lines_text, no_overload_text, or_no_overload, resolution_text, result_text, value_text};
 
-use crate::lists::{Notes, Parameters, Signatures, Types};
-use crate::write::{write_resolved, write_type};
+use crate::lists::{write_lines, write_parameters, write_types};
+use crate::write::{write_built, write_resolved, write_shown};
 use std::alloc::AllocError;
 use wgsl_core::operators::resolve::ResolvedType;
-use wgsl_core::ty::show::ShownType;
 use wgsl_requests::requests::Call;
 use wgsl_standard::callee::Callee;
 use wgsl_standard::explanation::Note;
@@ -48,15 +47,6 @@ pub(crate) fn write_type_of(
     }
 }
 
-#[inline(never)]
-fn write_built(text: &mut String, ty: Type) -> Result<(), AllocError>
-    ensures { OnOk result (string_bytes text.new ≡ string_bytes text.old ++ spelling (view ty)) }
-{
-    let written = write_type(text, &ty);
-    drop(ty);
-    written
-}
-
 /// Writes what a call resolves to, or that no overload takes its operands.
 pub(crate) fn write_resolution_of(
     text: &mut String,
@@ -83,7 +73,9 @@ fn write_resolved_call(text: &mut String, resolved: &ResolvedCall) -> Result<(),
         parameters,
         result,
     } = resolved;
-    write!(text, "{index} ({})", Types(parameters))?;
+    write!(text, "{index} (")?;
+    write_types(text, parameters)?;
+    text.push_str(")")?;
     write_result(text, result)
 }
 
@@ -92,14 +84,10 @@ fn write_result(text: &mut String, ty: &Option<Type>) -> Result<(), AllocError>
         ≡ string_bytes text.old ++ result_text (option_map view ty.now)) }
 {
     match ty {
-        Some(ty) => write!(
-            text,
-            " -> {}",
-            ShownType {
-                ty,
-                names: FormatNames::Wgsl
-            }
-        ),
+        Some(ty) => {
+            text.push_str(" -> ")?;
+            write_shown(text, FormatNames::Wgsl, ty)
+        }
         None => Ok(()),
     }
 }
@@ -164,7 +152,11 @@ fn write_template(text: &mut String, template: Option<&[TpltParam]>) -> Result<(
         ++ template_text (option_map (λ ps. map parameter_view ps.now) template.entry)) }
 {
     match template {
-        Some(parameters) => write!(text, "<{}>", Parameters(parameters)),
+        Some(parameters) => {
+            text.push_str("<")?;
+            write_parameters(text, parameters)?;
+            text.push_str(">")
+        }
         None => Ok(()),
     }
 }
@@ -177,7 +169,7 @@ pub(crate) fn write_signatures(
     ensures { OnOk result (string_bytes text.new
         ≡ string_bytes text.old ++ lines_text (map line_of signatures.entry.items)) }
 {
-    let written = write!(text, "{}", Signatures(&signatures));
+    let written = write_lines(text, &signatures);
     drop(signatures);
     written
 }
@@ -187,7 +179,7 @@ pub(crate) fn write_notes(text: &mut String, notes: Vec<Note<'_>>) -> Result<(),
     ensures { OnOk result (string_bytes text.new
         ≡ string_bytes text.old ++ lines_text (map note_text notes.entry.items)) }
 {
-    let written = write!(text, "{}", Notes(&notes));
+    let written = write_lines(text, &notes);
     drop(notes);
     written
 }

@@ -18,6 +18,7 @@ use wgsl_types::syntax::Enumerant;
 use wgsl_types::tplt::TpltParam;
 
 /// The template of a call: `-` for none, or `<`, parameters and `>`.
+#[inline(always)]
 pub fn read_template(
     alloc: Global,
     rules: RuleSet,

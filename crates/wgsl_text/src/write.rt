@@ -8,7 +8,7 @@ ghost use Rattle.wgsl_core.specs.internal.Resolution.{element_view, resolved_vie
 ghost use Rattle.wgsl_requests.specs.Views.{answer_view, operands_refusal, outcome};
 ghost use Rattle.wgsl_forms.specs.Views.{answer_view as form_answer, form_type_view};
 ghost use Rattle.wgsl_text.specs.Layouts.{spaced};
-ghost use Rattle.wgsl_text.specs.Texts.{answer_text, fit_text, form_text, or_none, text_kind, value_text};
+ghost use Rattle.wgsl_text.specs.Texts.{answer_text, fit_text, form_text, or_none, text_kind};
 ghost use Rattle.wgsl_text.specs.internal.Written.{IsRefusal};
 
 use crate::fast::number::write_number;
@@ -134,9 +134,21 @@ pub(crate) fn write_type_or_none(
         ≡ string_bytes text.old ++ or_none (spelling_by names) (option_map (λ t. view t.now) ty.entry)) }
 {
     match ty {
-        Some(ty) => write!(text, "{}", ShownType { ty, names }),
+        Some(ty) => write_shown(text, names, ty),
         None => text.push_str("none"),
     }
+}
+
+/// Writes a type by these names of texel formats.
+pub(crate) fn write_shown(
+    text: &mut String,
+    names: FormatNames,
+    ty: &Type,
+) -> Result<(), AllocError>
+    ensures { OnOk result (string_bytes text.new
+        ≡ string_bytes text.old ++ spelling_by names (view ty.now)) }
+{
+    write!(text, "{}", ShownType { ty, names })
 }
 
 /// Writes a type that isn't built.
@@ -185,6 +197,7 @@ fn write_operands(text: &mut String, operands: Operands<'_>) -> Result<(), Alloc
 }
 
 /// Writes a type, or the message of a refusal.
+#[inline(always)]
 fn write_type_or_refusal(
     text: &mut String,
     made: Result<Type, Fail<Error>>,
@@ -192,15 +205,14 @@ fn write_type_or_refusal(
     ensures { OnOk result (string_bytes text.new
         ≡ string_bytes text.old ++ answer_text (outcome a_type view made)) }
 {
-    let written = match &made {
-        Ok(ty) => write_type(text, ty),
-        Err(refused) => write_message(text, refused),
-    };
-    drop(made);
-    written
+    match made {
+        Ok(ty) => write_built(text, ty),
+        Err(refused) => write_refusal(text, refused),
+    }
 }
 
 /// Writes the type of a call, `no value`, or the message of a refusal.
+#[inline(always)]
 fn write_value_or_refusal(
     text: &mut String,
     returned: Result<Option<Type>, Fail<Error>>,
@@ -208,29 +220,38 @@ fn write_value_or_refusal(
     ensures { OnOk result (string_bytes text.new
         ≡ string_bytes text.old ++ answer_text (outcome a_value (option_map view) returned)) }
 {
-    let written = match &returned {
-        Ok(value) => write_value(text, value),
-        Err(refused) => write_message(text, refused),
-    };
-    drop(returned);
-    written
+    match returned {
+        Ok(Some(ty)) => write_built(text, ty),
+        Ok(None) => text.push_str("no value"),
+        Err(refused) => write_refusal(text, refused),
+    }
 }
 
-#[inline(always)]
-fn write_value(text: &mut String, value: &Option<Type>) -> Result<(), AllocError>
-    ensures { OnOk result (string_bytes text.new
-        ≡ string_bytes text.old ++ value_text (option_map view value.now)) }
+/// Writes a type that is dropped then.
+#[inline(never)]
+pub(crate) fn write_built(text: &mut String, ty: Type) -> Result<(), AllocError>
+    ensures { OnOk result (string_bytes text.new ≡ string_bytes text.old ++ spelling (view ty)) }
 {
-    match value {
-        Some(ty) => write_type(text, ty),
-        None => text.push_str("no value"),
-    }
+    let written = write_type(text, &ty);
+    drop(ty);
+    written
 }
 
 pub(crate) fn write_type(text: &mut String, ty: &Type) -> Result<(), AllocError>
     ensures { OnOk result (string_bytes text.new ≡ string_bytes text.old ++ spelling (view ty.now)) }
 {
     write!(text, "{ty}")
+}
+
+/// Writes the message of a refusal that is dropped then.
+#[inline(never)]
+fn write_refusal(text: &mut String, refused: Fail<Error>) -> Result<(), AllocError>
+    ensures { OnOk result (IsRefusal
+        (λ e. string_bytes text.new ≡ string_bytes text.old ++ message e) refused) }
+{
+    let written = write_message(text, &refused);
+    drop(refused);
+    written
 }
 
 /// Writes the message of a refusal.
