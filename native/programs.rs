@@ -1,16 +1,28 @@
 //! The programs: the `main` of each proved program, and the code that starts it.
 
-use crate::proved::{wgsl_check, wgsl_layout, wgsl_standard_check};
+pub use crate::proved::wgsl_lines::run::RunError;
+use crate::proved::wgsl_text::rules::RuleSet;
+use crate::proved::{wgsl_check, wgsl_layout, wgsl_lines, wgsl_standard_check};
 use crate::shim::host::HostRuntime;
+use crate::shim::std::alloc::Global;
 use crate::shim::std::process::ExitCode;
 use alloc::format;
 use alloc::string::String;
 use alloc::vec::Vec;
-use rust_std::io::Write;
+use rust_std::io::{Read, Write};
 
 /// `wgsl_check`: requests on standard input, answered by the rules of wgsl-types.
 pub fn check() -> ExitCode {
     start("wgsl_check", "", wgsl_check::main)
+}
+
+/// Answers each line of the input as `wgsl_check` does, and says whether every one was readable.
+pub fn run(
+    input: &mut impl Read,
+    output: &mut impl Write,
+    notes: &mut impl Write,
+) -> Result<bool, RunError> {
+    wgsl_lines::run::run(Global, RuleSet::Ported, "wgsl_check", input, output, notes)
 }
 
 /// `wgsl_standard`: requests on standard input, answered by WGSL's own overloads.

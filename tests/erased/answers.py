@@ -21,8 +21,10 @@ def compare_answers(folder):
     compare_lines(native)
     compare_modules(native)
     checked = os.path.join(folder, "checked")
-    settings = {"CARGO_TARGET_DIR": checked, "CARGO_PROFILE_RELEASE_OVERFLOW_CHECKS": "true"}
-    cargo(folder, "build", "--release", "--quiet", **settings)
+    # A build for one run: it checks for overflow, and the compiler takes little time.
+    profile = {"OVERFLOW_CHECKS": "true", "OPT_LEVEL": "1", "LTO": "off", "CODEGEN_UNITS": "16"}
+    settings = {f"CARGO_PROFILE_RELEASE_{name}": value for name, value in profile.items()}
+    cargo(folder, "build", "--release", "--quiet", CARGO_TARGET_DIR=checked, **settings)
     compare_builds(native, os.path.join(checked, "release"))
 
 

@@ -1,4 +1,4 @@
-// The npm package beside the native programs, which are in the folder that PROGRAMS names. REQUESTS is a file of requests, SOURCED
+// The npm package beside the proved programs, which are in the folder that PROGRAMS names. REQUESTS is a file of requests, SOURCED
 // a folder of WGSL files.
 import assert from "node:assert/strict";
 import { execFileSync, spawnSync } from "node:child_process";
