@@ -12,7 +12,6 @@ mod types;
 use arguments::{Arguments, make_arguments};
 use lines::Lines;
 use std::alloc::AllocError;
-use std::io;
 use std::io::Write;
 use std::process::ExitCode;
 
@@ -23,6 +22,7 @@ fn main(rt: HostRuntime) -> ExitCode {
     let mut lines = Lines {
         alloc: rt.alloc(),
         output: rt.stdout(),
+        is_whole: true,
     };
     let arguments = make_arguments(lines.alloc);
     let status = print_all(&mut lines, &arguments);
@@ -35,21 +35,15 @@ fn print_all<W: Write>(
     lines: &mut Lines<W>,
     arguments: &Result<Arguments, AllocError>,
 ) -> ExitCode {
-    match arguments {
-        Ok(arguments) => match print_twice(lines, arguments) {
-            Ok(()) => ExitCode::SUCCESS,
-            Err(_) => ExitCode::FAILURE,
-        },
-        Err(_) => ExitCode::from(NO_ARGUMENTS),
-    }
+    let Ok(arguments) = arguments else {
+        return ExitCode::from(NO_ARGUMENTS);
+    };
+    print_calls(lines, arguments);
+    print_calls(lines, arguments);
+    ExitCode::from(u8::from(!lines.is_whole))
 }
 
-fn print_twice<W: Write>(lines: &mut Lines<W>, arguments: &Arguments) -> io::Result<()> {
-    print_calls(lines, arguments)?;
-    print_calls(lines, arguments)
-}
-
-fn print_calls<W: Write>(lines: &mut Lines<W>, arguments: &Arguments) -> io::Result<()> {
-    types::print_types(lines, arguments)?;
-    templates::print_templates(lines, &arguments.templates)
+fn print_calls<W: Write>(lines: &mut Lines<W>, arguments: &Arguments) {
+    types::print_types(lines, arguments);
+    templates::print_templates(lines, &arguments.templates);
 }

@@ -2,7 +2,6 @@
 use crate::arguments::Templates;
 use crate::lines::Lines;
 use std::alloc::Global;
-use std::io;
 use std::io::Write;
 use wgsl_types::syntax::{AccessMode, SampledType};
 use wgsl_types::tplt::{
@@ -11,52 +10,52 @@ use wgsl_types::tplt::{
 };
 use wgsl_types::{Error, Fail, Type};
 
-pub fn print_templates<W: Write>(lines: &mut Lines<W>, templates: &Templates) -> io::Result<()> {
-    print_arrays(lines, &templates.array)?;
-    print_scalars(lines, &templates.scalar)?;
-    print_pointers(lines, templates)?;
+pub fn print_templates<W: Write>(lines: &mut Lines<W>, templates: &Templates) {
+    print_arrays(lines, &templates.array);
+    print_scalars(lines, &templates.scalar);
+    print_pointers(lines, templates);
     let alloc = lines.alloc;
     lines.value(
         "BitcastTemplate::inner_ty",
         bitcast_inner(alloc, &templates.element),
-    )?;
+    );
     lines.value(
         "TextureTemplate::parse",
         texture_channel(alloc, &templates.element),
-    )
+    );
 }
 
-fn print_arrays<W: Write>(lines: &mut Lines<W>, tplt: &[TpltParam]) -> io::Result<()> {
+fn print_arrays<W: Write>(lines: &mut Lines<W>, tplt: &[TpltParam]) {
     let alloc = lines.alloc;
-    lines.value("ArrayTemplate::ty", array_type(alloc, tplt))?;
-    lines.value("ArrayTemplate::inner_ty", array_inner(alloc, tplt))?;
-    lines.value("BindingArrayTemplate::ty", binding_array_type(alloc, tplt))?;
+    lines.value("ArrayTemplate::ty", array_type(alloc, tplt));
+    lines.value("ArrayTemplate::inner_ty", array_inner(alloc, tplt));
+    lines.value("BindingArrayTemplate::ty", binding_array_type(alloc, tplt));
     lines.value(
         "BindingArrayTemplate::inner_ty",
         binding_array_inner(alloc, tplt),
-    )
+    );
 }
 
-fn print_scalars<W: Write>(lines: &mut Lines<W>, tplt: &[TpltParam]) -> io::Result<()> {
+fn print_scalars<W: Write>(lines: &mut Lines<W>, tplt: &[TpltParam]) {
     let alloc = lines.alloc;
-    lines.value("VecTemplate::ty", vector_type(alloc, tplt))?;
-    lines.value("MatTemplate::ty", matrix_type(alloc, tplt))?;
-    lines.value("AtomicTemplate::ty", atomic_type(alloc, tplt))
+    lines.value("VecTemplate::ty", vector_type(alloc, tplt));
+    lines.value("MatTemplate::ty", matrix_type(alloc, tplt));
+    lines.value("AtomicTemplate::ty", atomic_type(alloc, tplt));
 }
 
-fn print_pointers<W: Write>(lines: &mut Lines<W>, templates: &Templates) -> io::Result<()> {
+fn print_pointers<W: Write>(lines: &mut Lines<W>, templates: &Templates) {
     let alloc = lines.alloc;
     let Templates {
         pointer,
         push_constant,
         ..
     } = templates;
-    lines.value("PtrTemplate::parse", pointer_access(alloc, pointer))?;
-    lines.value("PtrTemplate::ty", pointer_type(alloc, pointer))?;
+    lines.value("PtrTemplate::parse", pointer_access(alloc, pointer));
+    lines.value("PtrTemplate::ty", pointer_type(alloc, pointer));
     lines.value(
         "PtrTemplate::parse, refused",
         pointer_access(alloc, push_constant),
-    )
+    );
 }
 
 fn array_type(alloc: Global, tplt: &[TpltParam]) -> Result<Type, Fail<Error>> {
