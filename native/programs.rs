@@ -1,8 +1,7 @@
 //! The programs: the `main` of each proved program, and the code that starts it.
 
-pub use crate::proved::wgsl_lines::run::RunError;
-use crate::proved::wgsl_text::rules::RuleSet;
-use crate::proved::{wgsl_check, wgsl_layout, wgsl_lines, wgsl_standard_check};
+pub use crate::proved::wgsl_check::RunError;
+use crate::proved::{wgsl_check, wgsl_layout, wgsl_standard_check};
 use crate::shim::host::HostRuntime;
 use crate::shim::std::alloc::Global;
 use crate::shim::std::process::ExitCode;
@@ -16,13 +15,9 @@ pub fn check() -> ExitCode {
     start("wgsl_check", "", wgsl_check::main)
 }
 
-/// Answers each line of the input as `wgsl_check` does, and says whether every one was readable.
-pub fn run(
-    input: &mut impl Read,
-    output: &mut impl Write,
-    notes: &mut impl Write,
-) -> Result<bool, RunError> {
-    wgsl_lines::run::run(Global, RuleSet::Ported, "wgsl_check", input, output, notes)
+/// Answers each line of the input as `wgsl_check` does, without notes, and says whether every one was readable.
+pub fn run(input: &mut impl Read, output: &mut impl Write) -> Result<bool, RunError> {
+    wgsl_check::run(Global, input, output)
 }
 
 /// `wgsl_standard`: requests on standard input, answered by WGSL's own overloads.

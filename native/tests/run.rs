@@ -119,13 +119,20 @@ fn lines_in(input: &[u8]) -> usize {
 
 /// Runs, and compares the outcome and what was written.
 fn expect(mut source: Source, mut target: Target, outcome: Result<bool, RunError>, output: &str) {
-    assert_eq!(run(&mut source, &mut target, &mut io::sink()), outcome);
+    assert_eq!(run(&mut source, &mut target), outcome);
     assert_eq!(target.taken, output.as_bytes());
     assert_eq!(target.flushed, output.len());
 }
 
 fn source(text: &str, most: usize, fault: Option<Fault>) -> Source<'_> {
     Source { rest: text.as_bytes(), most, fault }
+}
+
+#[test]
+fn run_answers() {
+    let lines = "rank AbstractInt f16\nsize vec 3 f16\ncommon\nfoo\ncall storageBarrier -\n";
+    let output = "7\n6 8\nnone\nbad line 4\nno value\n";
+    expect(source(lines, WHOLE, None), Target::new(WHOLE), Ok(false), output);
 }
 
 /// Each read fails in a run of its own, which writes what was answered before. A run makes no more reads than that.
@@ -164,7 +171,7 @@ fn expect_writes(most_read: usize, most_written: usize, writes: usize) {
     let (input, answers) = (input(), answers(LINES.len()));
     for before in 0..writes {
         let mut target = Target { fault: failing(before), ..Target::new(most_written) };
-        let outcome = run(&mut source(&input, most_read, None), &mut target, &mut io::sink());
+        let outcome = run(&mut source(&input, most_read, None), &mut target);
         assert_eq!(outcome, Err(RunError::Write));
         assert!(answers.as_bytes().starts_with(&target.taken));
         assert!(most_written > 1 || target.taken.len() == before);
@@ -186,7 +193,7 @@ fn a_run_ends_at_the_write_that_fails() {
 fn nothing_is_written_after_a_failed_write() {
     let lines = "binary + i32 i32\nbinary + u32 u32\n";
     let mut target = Target { fault: failing(1), ..Target::new(WHOLE) };
-    let outcome = run(&mut source(lines, 17, None), &mut target, &mut io::sink());
+    let outcome = run(&mut source(lines, 17, None), &mut target);
     assert_eq!((outcome, target.taken), (Err(RunError::Write), b"i32\n".to_vec()));
 }
 
@@ -203,7 +210,7 @@ fn an_interrupted_write_changes_nothing() {
 fn a_run_ends_at_the_flush_that_fails() {
     let input = input();
     let mut target = Target { stuck: failing(0), ..Target::new(WHOLE) };
-    let outcome = run(&mut source(&input, WHOLE, None), &mut target, &mut io::sink());
+    let outcome = run(&mut source(&input, WHOLE, None), &mut target);
     assert_eq!(outcome, Err(RunError::Write));
     assert_eq!(target.taken, answers(LINES.len()).as_bytes());
 }
@@ -216,17 +223,10 @@ fn a_writer_that_takes_nothing_ends_every_run() {
     expect(source(" \n\n", WHOLE, None), Target::new(0), Ok(true), "");
 }
 
-#[test]
-fn notes_that_cannot_be_written_are_left_out() {
-    let mut target = Target::new(WHOLE);
-    let outcome = run(&mut source(&input(), WHOLE, None), &mut target, &mut Target::new(0));
-    assert_eq!((outcome, target.taken), (Ok(false), answers(LINES.len()).into_bytes()));
-}
-
 /// Each line that ended is answered, and so is the one that didn't end.
 fn expect_part(part: &str, most_read: usize) {
     let mut target = Target::new(1);
-    let outcome = run(&mut source(part, most_read, None), &mut target, &mut io::sink());
+    let outcome = run(&mut source(part, most_read, None), &mut target);
     let printed = String::from_utf8(target.taken).expect("answers are text");
     let last = printed.strip_prefix(&answers(lines_in(part.as_bytes()))).expect("answers in order");
     assert_eq!(last.is_empty(), part.ends_with('\n'), "{part:?}");
