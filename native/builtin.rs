@@ -4,6 +4,8 @@
 mod operators;
 
 use crate::error::Error;
+#[doc(hidden)]
+pub use crate::proved::wgsl_calls::call::find_call;
 use crate::proved::wgsl_calls::{call, constructor};
 use crate::proved::wgsl_core::operators as proved;
 pub use crate::proved::wgsl_core::operators::Candidate;

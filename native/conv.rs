@@ -7,6 +7,8 @@
 //! assert!(!Type::F32.is_convertible_to(&Type::AbstractFloat));
 //! ```
 
+#[doc(hidden)]
+pub use crate::proved::wgsl_core::conversion::rank_steps;
 use crate::proved::wgsl_core::conversion::value::Convert as _;
 use crate::proved::wgsl_core::conversion::{self as proved, lists};
 use crate::shim::always;

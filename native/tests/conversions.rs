@@ -5,7 +5,7 @@ mod words;
 use wgsl_types_proved::builtin::binary_candidate;
 use wgsl_types_proved::conv::{
     convert, convert_all, convert_all_inner_to, convert_all_to, convert_all_ty, convert_inner,
-    convert_ty, Convert,
+    convert_ty, rank_steps, Convert,
 };
 use wgsl_types_proved::inst::LiteralInstance;
 use wgsl_types_proved::requests::answer;
@@ -191,4 +191,11 @@ fn the_last_of_a_rising_list_is_its_common_type() {
     assert!(!second.is_convertible_to(first));
     assert_eq!(convert_ty(first, second), Some(second));
     assert_eq!(convert_all_ty(&rising), Some(third));
+}
+
+#[test]
+fn the_steps_of_a_rank_are_counted() {
+    assert_eq!(rank_steps(&Type::AbstractInt, &Type::F32), (Some(6), 2));
+    assert_eq!(rank_steps(&Type::AbstractInt, &Type::I32), (Some(3), 1));
+    assert_eq!(rank_steps(&Type::I32, &Type::I32), (Some(0), 0));
 }

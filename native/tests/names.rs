@@ -2,7 +2,7 @@
 
 use std::fmt::{Debug, Display};
 use std::str::FromStr;
-use wgsl_types_proved::builtin::is_ctor;
+use wgsl_types_proved::builtin::{find_call, is_ctor};
 use wgsl_types_proved::syntax::{
     AccessMode, AddressSpace, AssignmentOperator, BuiltinValue, ConservativeDepth,
     DiagnosticSeverity, Enumerant, InterpolationSampling, InterpolationType, SampledType,
@@ -205,5 +205,21 @@ fn constructors_are_known_by_their_names() {
         ["", "vec1", "vec5", "mat1x2", "mat5x2", "AbstractInt", "vec2f", "Array", "atomic"];
     for name in others {
         assert!(!is_ctor(name), "{name}");
+    }
+}
+
+#[test]
+fn functions_are_found_by_one_comparison() {
+    for (name, is_found) in [
+        ("abs", true),
+        ("workgroupUniformLoad", true),
+        ("pack4xU8Clamp", true),
+        ("", false),
+        ("ab", false),
+        ("absA", false),
+        ("zz", false),
+    ] {
+        let (index, compared) = find_call(name);
+        assert_eq!((index.is_some(), compared), (is_found, 1), "{name}");
     }
 }

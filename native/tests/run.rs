@@ -190,6 +190,19 @@ fn a_run_ends_at_the_write_that_fails() {
 }
 
 #[test]
+fn short_reads_and_writes_change_nothing() {
+    let lines = "binary + i32 i32\n\nno\nbinary + bool i32\nbinary + f32 f32";
+    let output = "i32
+bad line 3
+cannot use binary operator `+` with operands `bool` and `i32`
+f32
+";
+    for (most_read, most_written) in [(WHOLE, WHOLE), (1, WHOLE), (WHOLE, 1), (1, 1), (7, 3)] {
+        expect(source(lines, most_read, None), Target::new(most_written), Ok(false), output);
+    }
+}
+
+#[test]
 fn nothing_is_written_after_a_failed_write() {
     let lines = "binary + i32 i32\nbinary + u32 u32\n";
     let mut target = Target { fault: failing(1), ..Target::new(WHOLE) };
