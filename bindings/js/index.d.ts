@@ -158,7 +158,10 @@ export type Type =
   | { kind: "accelerationStructure" }
   | Handle;
 
-/** A number; a list, nested or flat; an object of a struct's members, of which some may be left out. */
+/**
+ * A number, a boolean for a `bool`, also a bigint for an integer; a list, nested or flat; an object of a struct's members, of which
+ * some may be left out.
+ */
 export type Value = number | bigint | boolean | Iterable<Value> | { readonly [member: string]: Value };
 /** A number, a boolean, or a bigint for 64-bit integers; a list; an object of a struct's members. */
 export type Read = number | bigint | boolean | Read[] | { [member: string]: Read };
@@ -173,13 +176,19 @@ export interface View {
   readonly size: number;
   /** How many elements the runtime-sized array has, if there is one. */
   readonly count: number;
-  /** Writes a value. What it lacks stays as it is. Throws if it doesn't fit, with its path. */
+  /**
+   * Writes a value. What it lacks stays as it is. Throws with the path of what doesn't fit: `TypeError` if it is of another kind,
+   * `RangeError` if an integer type lacks the number, as `u32` does -1, 1.5 and NaN, or if a list has another length.
+   */
   set(value: Value): void;
   /** Reads the value. */
   get(): Read;
 }
 
-/** A view of a buffer by the layout of a struct, of a member or of a variable. */
+/**
+ * A view of a buffer by the layout of a struct, of a member or of a variable. Throws `TypeError` for what is no such layout and what
+ * is no ArrayBuffer, `RangeError` if the buffer is too short.
+ */
 export function view(
   layout: StructLayout | Member | Variable,
   options?: {

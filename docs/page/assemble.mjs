@@ -1,9 +1,11 @@
-// node assemble.mjs PACKAGE FILE: writes the page as one file, which works from a server and from a disk. What index.html links to,
-// its style sheet and its modules by the import map, stands in it as data URLs. PACKAGE is the folder of the npm package.
+// node assemble.mjs PACKAGE FILE ADDRESS: writes the page as one file, which works from a server and from a disk. What index.html
+// links to, its style sheet and its modules by the import map, stands in it as data URLs. PACKAGE is the folder of the npm package,
+// ADDRESS that of the repository as git has it. Without one that a browser can open, a page in a folder of the clone links to the
+// README there, and another one to none.
 import { readFileSync, writeFileSync } from "node:fs";
-import { join } from "node:path";
+import { dirname, join, resolve } from "node:path";
 
-const [packageFolder, target] = process.argv.slice(2);
+const [packageFolder, target, address = ""] = process.argv.slice(2);
 const read = (folder, name) => readFileSync(join(folder, name), "utf8");
 const dataUrl = (text) => `data:text/javascript;charset=utf-8,${encodeURIComponent(text)}`;
 
@@ -15,11 +17,21 @@ function packageModules() {
   return { ...modules, "wgsl-types-proved": dataUrl(named(read(packageFolder, "inline.js"))) };
 }
 
-const here = import.meta.dirname;
+/** The address for a browser, without a name or a password in it; null if there is none. */
+function addressForBrowsers(address) {
+  const [, host, path] = /^(?:ssh:\/\/)?git@([\w.-]+)[:/](.+)$/.exec(address) ?? [], text = host ? `https://${host}/${path}` : address;
+  if (!/^https?:\/\//.test(text) || !URL.canParse(text)) return null;
+  const { origin, pathname } = new URL(text);
+  return origin + pathname.replace(/(?:\.git)?\/?$/, "");
+}
+
+const here = import.meta.dirname, isInClone = resolve(dirname(target), "..") === resolve(here, "../..");
+const repository = addressForBrowsers(address) ?? (isInClone ? "../README.md" : null);
 const html = read(here, "index.html");
 const imports = packageModules();
 for (const [, name] of html.matchAll(/"page\/(\w+)": "\.\/\1\.js"/g)) imports[`page/${name}`] = dataUrl(read(here, `${name}.js`));
 const map = JSON.stringify({ imports }).replaceAll("</", "<\\/");
 writeFileSync(target, html
+  .replace(/ <a href="REPOSITORY">([^<]*)<\/a>/, (_, name) => (repository ? ` <a href="${repository}">${name}</a>` : ""))
   .replace('<link rel="stylesheet" href="page.css">', () => `<style>\n${read(here, "page.css")}</style>`)
   .replace(/<script type="importmap">[^]*?<\/script>/, () => `<script type="importmap">${map}</script>`));

@@ -1,39 +1,74 @@
-// The calculator: a request, or an expression with types for its operands, is answered by both sets of rules.
-import { Refused, Unreadable, answer, standardAnswer } from "wgsl-types-proved";
+// The calculator: an expression with types for its operands, or a request in words. The library answers; why it does so, and what the
+// ported rules say, is shown of a request, and of an expression that is one operator or call.
+import { Refused, Unreadable, answer, standardAnswer, standardExplain } from "wgsl-types-proved";
 import { coded, h } from "page/dom";
-import { Unread, requestOf } from "page/expression";
+import { Unread, requestOf, startsRequest } from "page/expression";
 
-/** The answers to a text, as elements; and in words what was asked. */
+/** The answers to a text, as elements; and in words what was asked. An expression goes to `type` of the library as it stands. */
 export function answersTo(text) {
-  if (!text.trim()) return { asked: "", elements: [] };
-  let request;
-  try {
-    request = requestOf(text);
-  } catch (error) {
-    if (!(error instanceof Unread)) throw error;
-    return { asked: "", elements: [unread(text, error.at, error.message)] };
-  }
-  const asked = request === text.trim() ? "" : request;
-  const ours = askOf(standardAnswer, request), ported = askOf(answer, withoutConst(request));
-  if (ours.error instanceof Unreadable && ported.error instanceof Unreadable) {
-    const { index, message } = ours.error;
-    return { asked, elements: [unread(request, index ?? request.length, message.replace(/^column \d+, word \d+: /, ""))] };
-  }
-  return { asked, elements: /^(unary|binary|call|ctor) /.test(request) ? ofExpression(request, ours, ported) : ofRequest(ours, ported) };
+  const asked = text.trim().toWellFormed();
+  if (!asked) return { asked: "", elements: [] };
+  if (isRequest(asked) && !isTyped(asked)) return { asked: "", elements: ofRequest(asked) };
+  const expression = asked.replace(TYPED, "");
+  return ofExpression(expression, inWords(expression));
 }
 
-function ofExpression(request, ours, ported) {
+const TYPED = /^type(?:\s+|$)/, isTyped = (text) => TYPED.test(text);
+
+/** Whether a text is a request and no expression. `const` may begin either, and `const f32` is an expression. */
+function isRequest(text) {
+  if (!/^const\b/.test(text)) return startsRequest(text);
+  return standardExplain(text) === null && standardExplain(START + text) !== null;
+}
+
+/** The request for an expression of one operator or call, or null if it is another one. */
+function inWords(expression) {
+  try {
+    return requestOf(expression);
+  } catch (error) {
+    if (error instanceof Unread) return null;
+    throw error;
+  }
+}
+
+const START = "type ", PLACE = /^column (\d+)(?:, word \d+)?: /;
+
+/** What the library answers to `type`; and of the request for the same expression, if it has the same answer, what is known beside it. */
+function ofExpression(expression, request) {
+  const ours = askOf(standardAnswer, START + expression), message = ours.error?.message ?? "", told = message.replace(PLACE, "");
+  if (ours.error instanceof Unreadable) {
+    const { index } = ours.error;
+    return { asked: "", elements: [unread(expression, index === null ? expression.length : index - START.length, told)] };
+  }
+  if (ours.error) ours.error = new Refused(told);
+  const own = request && askOf(standardAnswer, request);
+  if (own && own.text === ours.text && own.error?.message === ours.error?.message) {
+    return { asked: request, elements: ofCall(request, ours, askOf(answer, withoutConst(request))) };
+  }
+  const [, column] = PLACE.exec(message) ?? [], marked = column ? [unread(expression, column - 1 - START.length, "")] : [];
+  return { asked: "", elements: [verdicts(verdict("WGSL’s own overloads", ours, "")), ...marked] };
+}
+
+/** The answers to a request about an operator or a call, with the overloads. */
+function ofCall(request, ours, ported) {
   const resolution = ours.error ? null : resolutionOf(request);
   const note = resolution && resolution.parameters !== "()" ? `The operands convert to ${resolution.parameters}` : "";
-  const verdicts = h("div", { className: "verdicts" }, verdict("WGSL’s own overloads", ours, note), verdict("Rules of the crate wgsl-types", ported, ""));
-  return ours.error instanceof Unreadable ? [verdicts] : [verdicts, ...reasons(request, resolution)];
+  const both = verdicts(verdict("WGSL’s own overloads", ours, note), verdict("Rules of the crate wgsl-types", ported, ""));
+  return ours.error instanceof Unreadable ? [both] : [both, ...reasons(request, resolution)];
 }
 
-function ofRequest(ours, ported) {
-  const isSame = ours.text === ported.text && ours.error?.message === ported.error?.message;
-  const verdicts = isSame ? [verdict("By both sets of rules", ours, "")] : [verdict("WGSL’s own overloads", ours, ""), verdict("Rules of the crate wgsl-types", ported, "")];
-  return [h("div", { className: "verdicts" }, ...verdicts)];
+function ofRequest(request) {
+  const ours = askOf(standardAnswer, request), ported = askOf(answer, withoutConst(request)), isOurs = ported.error instanceof Unreadable;
+  if (isOurs && ours.error instanceof Unreadable) {
+    const { index, message } = ours.error;
+    return [unread(request, index ?? request.length, message.replace(PLACE, ""))];
+  }
+  if (/^(unary|binary|call|ctor) /.test(request)) return ofCall(request, ours, ported);
+  if (ours.text === ported.text && ours.error?.message === ported.error?.message) return [verdicts(verdict("By both sets of rules", ours, ""))];
+  return [verdicts(verdict("WGSL’s own overloads", ours, ""), ...(isOurs ? [] : [verdict("Rules of the crate wgsl-types", ported, "")]))];
 }
+
+const verdicts = (...shown) => h("div", { className: "verdicts" }, ...shown);
 
 // The ported rules know no const-expressions.
 const withoutConst = (request) => request.replace(/ const (?=\S)/g, " ");
@@ -126,5 +161,5 @@ function linesOf(request) {
 
 function unread(text, at, message) {
   const before = text.slice(0, at).replace(/./gsu, " ");
-  return h("pre", { className: "request" }, text, "\n", before, h("b", {}, "^"), ` ${message}`);
+  return h("pre", { className: "request" }, text, "\n", before, h("b", {}, "^"), message && ` ${message}`);
 }

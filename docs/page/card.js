@@ -1,8 +1,11 @@
-// A struct: its map, and the table of its members.
-import { h } from "page/dom";
+// A struct: its map, and the table of its members; or why it has no layout.
+import { colored } from "page/colors";
+import { coded, h } from "page/dom";
 import { ByteMap, bytes, hueOf } from "page/map";
 import { rowCount } from "page/pieces";
+import { problem } from "page/problems";
 
+const SHOWN_ERRORS = 10; // in a card
 const EAGER_CARDS = 8; // more are filled when they come near to the window
 const fillers = new WeakMap();
 
@@ -27,6 +30,25 @@ export function newCard(struct, variables, index) {
   return card;
 }
 
+/** The card of a struct that is left out, with its errors. */
+export function newBrokenCard({ name, errors, needs }) {
+  const causes = needs.length ? needs.map((other) => `\`${other}\``).join(", ") : "a declaration that it names";
+  const why = errors.length ? errors.slice(0, SHOWN_ERRORS).map((error) => problem("error", error)) : [h("p", { className: "where" }, ...coded(`Left out, as ${causes} has an error.`))];
+  return h("section", { className: "card struct broken", ariaLabel: `struct ${name}, which is left out` },
+    h("div", { className: "head" }, h("h2", {}, h("span", {}, "struct "), name), h("p", { className: "facts" }, "no layout")), ...why);
+}
+
+/** What is said of a text that is of another language, or that has neither structs nor variables. */
+export function newNote(foreign) {
+  const code = (text) => h("code", {}, ...colored(text)), line = (...parts) => h("p", {}, ...parts);
+  const note = (...parts) => h("section", { className: "card note" }, ...parts);
+  if (!foreign) {
+    return note(line("Here is no struct and no variable. Write a struct, and its bytes are drawn: "), line(code("struct Light { color: vec3f, power: f32 }")));
+  }
+  const rows = foreign.words.map(([word, wgsl]) => h("li", {}, h("code", {}, word), wgsl ? code(wgsl) : h("span", {}, "nothing")));
+  return note(h("h2", {}, `This looks like ${foreign.language}`), line("This page reads WGSL, which writes:"), h("ul", {}, ...rows));
+}
+
 function partsOf(struct, variables) {
   const mark = (member) => rows.forEach((row, index) => row.classList.toggle("of", index === member));
   const map = new ByteMap(struct, mark), rows = struct.members.map((member, index) => rowOf(member, index));
@@ -38,9 +60,14 @@ function partsOf(struct, variables) {
 }
 
 function rowOf(member, index) {
-  const cell = (n, className = "") => h("td", { className: `${className} ${n === null || n === 0 ? "none" : ""}` }, n === null ? "–" : n.toLocaleString("en"));
-  const name = h("td", { className: "wide" }, h("span", { className: "swatch", style: `--hue:${hueOf(index)}` }), `${member.name}: `, h("span", { className: "type" }, member.type));
-  return h("tr", {}, name, h("td", {}, member.offset.toLocaleString("en")), cell(member.size), cell(member.align), cell(member.stride, "optional"), cell(member.padding));
+  const cell = (n, className = "") => h("td", { className: `${className} ${n === null || n === 0 ? "none" : "number"}` }, n === null ? "–" : n.toLocaleString("en"));
+  const name = h("td", { className: "wide" }, h("span", { className: "swatch", style: `--hue:${hueOf(index)}` }), ...typed(member));
+  return h("tr", {}, name, h("td", { className: "number" }, member.offset.toLocaleString("en")), cell(member.size), cell(member.align), cell(member.stride, "optional"), cell(member.padding));
+}
+
+/** `name: type` in colours, in which each name behind the colon is that of a type. */
+export function typed({ name, type }) {
+  return [h("span", { className: "name" }, name), ": ", ...colored(type, { has: () => true })];
 }
 
 function tableOf(struct, rows) {
@@ -53,13 +80,13 @@ function headOf(struct, variables) {
   const facts = h("p", { className: "facts" }, h("span", {}, h("b", {}, bytes(struct.size)), struct.runtimeSized ? ", with one element at the end" : ""),
     h("span", {}, "alignment ", h("b", {}, String(struct.align))));
   const head = h("div", { className: "head" }, h("h2", {}, h("span", {}, "struct "), struct.name), facts);
-  for (const variable of variables) head.append(h("p", { className: "where" }, h("code", {}, declared(variable))));
+  for (const variable of variables) head.append(h("p", { className: "where" }, h("code", {}, ...declared(variable))));
   return head;
 }
 
 export const spaceOf = ({ space, access }) => (space === "handle" ? "" : `<${space}${space === "storage" ? `, ${access}` : ""}>`);
 
 function declared(variable) {
-  const { name, type, group, binding } = variable;
-  return `${group === null ? "" : `@group(${group}) `}${binding === null ? "" : `@binding(${binding}) `}var${spaceOf(variable)} ${name}: ${type};`;
+  const { group, binding } = variable, start = `${group === null ? "" : `@group(${group}) `}${binding === null ? "" : `@binding(${binding}) `}`;
+  return [...colored(start), `var${spaceOf(variable)} `, ...typed(variable), ";"];
 }

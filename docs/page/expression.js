@@ -1,7 +1,7 @@
-// An expression with types for its operands, as a request in words.
+// An expression of one operator or call, with types for its operands, as a request in words.
 
 const COMMANDS = new Set(["rank", "common", "size", "offsets", "layout", "unary", "binary", "ctor", "call", "resolve", "why", "overloads",
-  "member", "index", "load", "let", "const", "override", "var", "assign", "increment", "decrement", "construct", "switch"]);
+  "type", "fit", "member", "index", "load", "let", "const", "override", "var", "assign", "increment", "decrement", "construct", "switch"]);
 const BINARY = ["||", "&&", "<<", ">>", "==", "!=", "<=", ">=", "+", "-", "*", "/", "%", "<", ">", "|", "&", "^"];
 const UNARY = ["!", "-", "~", "&", "*"];
 const SUFFIXES = { i: "i32", u: "u32", f: "f32", h: "f16" };
@@ -16,10 +16,11 @@ export class Unread extends Error {
   }
 }
 
-/** The request in words for an expression, or the text itself if it is one. */
+/** Whether the first word of a text is a command. */
+export const startsRequest = (text) => COMMANDS.has(/^\s*(\S*)/.exec(text)[1]);
+
+/** The request in words for an expression. */
 export function requestOf(text) {
-  const first = /^\s*(\S*)/.exec(text)[1];
-  if (COMMANDS.has(first)) return text.trim();
   const reader = new Reader(text), request = reader.expression();
   reader.skip();
   if (reader.at < text.length) throw new Unread(reader.at, "an operator or the end is wanted");

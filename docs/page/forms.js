@@ -1,4 +1,4 @@
-// The structs as C, Rust and TypeScript.
+// The structs as C, Rust, numpy and TypeScript.
 //
 // Padding is written out, and C and Rust check each offset and size when they are compiled. Vectors are arrays of their components,
 // matrices arrays of columns with their padding, and a runtime-sized array has one element.
@@ -6,6 +6,7 @@ import { layersOf, scalarOf, sizeOf } from "page/pieces";
 
 const C_SCALARS = { bool: "uint32_t", i32: "int32_t", u32: "uint32_t", f32: "float", f16: "uint16_t", i64: "int64_t", u64: "uint64_t", f64: "double" };
 const RUST_SCALARS = { bool: "u32", f16: "u16" };
+const NUMPY_SCALARS = { bool: "<u4", i32: "<i4", u32: "<u4", f32: "<f4", f16: "<f2", i64: "<i8", u64: "<u8", f64: "<f8" };
 const words = (text) => new Set(text.trim().split(/\s+/));
 
 // Names that the languages keep. Rust's field names can be raw.
@@ -15,14 +16,18 @@ const C_KEPT = words(`alignas alignof and and_eq asm auto bitand bitor bool brea
   noexcept not not_eq nullptr operator or or_eq private protected public register reinterpret_cast requires restrict return
   short signed sizeof static static_assert static_cast struct switch template this thread_local throw true try typedef typeid
   typename typeof typeof_unqual union unsigned using virtual void volatile wchar_t while xor xor_eq assert linux unix offsetof NULL`);
-const C_LIBRARY = /^(?:u?int(?:_fast|_least)?(?:8|16|32|64|max|ptr)_t|(?:ptrdiff|size|max_align|nullptr)_t|U?INT\w*_(?:C|MAX|MIN|WIDTH))$/;
+const C_LIBRARY = /^(?:_[A-Z]\w*|u?int(?:_fast|_least)?(?:8|16|32|64|max|ptr)_t|(?:ptrdiff|size|max_align|nullptr)_t|U?INT\w*_(?:C|MAX|MIN|WIDTH))$/;
 const RUST_KEPT = words(`abstract as async await become box break const continue do dyn else enum extern false final fn for gen if
   impl in let loop macro match mod move mut override priv pub ref return static struct trait true try type typeof unsafe
   unsized use virtual where while yield`);
 const RUST_UNRAW = words("_ crate self Self super");
 const RUST_TYPES = words("bool char str Clone Copy std i8 i16 i32 i64 i128 u8 u16 u32 u64 u128 f32 f64");
 
+const PYTHON_KEPT = words(`False None True and as assert async await break class continue def del elif else except finally for from
+  global if import in is lambda nonlocal not numpy or pass raise return try while with yield`);
+
 const cName = (name) => (C_KEPT.has(name) || C_LIBRARY.test(name) ? `${name}_` : name);
+const pythonName = (name) => (PYTHON_KEPT.has(name) ? `${name}_` : name);
 const rustField = (name) => (RUST_UNRAW.has(name) ? `${name}_` : RUST_KEPT.has(name) ? `r#${name}` : name);
 const rustStruct = (name) => (RUST_TYPES.has(name) ? `${name}_` : rustField(name));
 
@@ -139,6 +144,28 @@ export function toC({ structs }) {
 
 export function toRust({ structs }) {
   return written(structs, RUST);
+}
+
+/** Dtypes of numpy, as `wgsl_layout --numpy` prints them. */
+export function toNumpy({ structs }) {
+  const names = ownNames(structs.map(({ name }) => name), pythonName);
+  const counted = (base, counts) => (counts.length ? `(${base}, (${counts.join(", ")},))` : base);
+  const padded = (format, stride) => `numpy.dtype({'names': ['value'], 'formats': [${format}], 'offsets': [0], 'itemsize': ${stride}})`;
+  const formatOf = (type) => {
+    const { base, layers } = layered(type);
+    let format = base.kind === "struct" ? names.get(base.name) : `'${NUMPY_SCALARS[scalarOf(base)]}'`, counts = [];
+    for (const { count, size, stride } of layers) {
+      if (stride > size) [format, counts] = [padded(counted(format, counts), stride), []];
+      counts.unshift(count);
+    }
+    return counted(format, counts);
+  };
+  const dtype = ({ name, size, members }) => {
+    const list = (key, write) => `    '${key}': [${members.map(write).join(", ")}],\n`;
+    const lists = [list("names", ({ name }) => `'${name}'`), list("formats", ({ typeTree }) => formatOf(typeTree)), list("offsets", ({ offset }) => offset)];
+    return `\n${names.get(name)} = numpy.dtype({\n${lists.join("")}    'itemsize': ${size},\n})\n`;
+  };
+  return `import numpy\n${inOrder(structs).map(dtype).join("")}`;
 }
 
 /** Tables of offsets, as constants of TypeScript. */

@@ -2,25 +2,28 @@
 import { SourceError, layouts } from "wgsl-types-proved";
 import { hashOf, stateOf } from "page/address";
 import { answersTo } from "page/calculator";
-import { newCard, spaceOf } from "page/card";
+import { newBrokenCard, newCard, newNote, spaceOf, typed } from "page/card";
+import { colored } from "page/colors";
 import { counted, h, replaceChildren } from "page/dom";
 import { examples, tries } from "page/examples";
-import { toC, toRust, toTypeScript } from "page/forms";
+import { toC, toNumpy, toRust, toTypeScript } from "page/forms";
 import { follow, showProblems } from "page/problems";
+import { foreignOf, leftOut } from "page/wgsl";
 
 const at = (id) => document.getElementById(id);
 const source = at("source"), request = at("request");
-const LANGUAGES = { c: ["C", toC], rust: ["Rust", toRust], typescript: ["TypeScript", toTypeScript] };
+const LANGUAGES = { c: ["C", toC], rust: ["Rust", toRust], numpy: ["numpy", toNumpy], typescript: ["TypeScript", toTypeScript] };
 const SAVED_AFTER = 400, DRAWN_AFTER = 120; // milliseconds without a key
 const DRAWN_AT_ONCE = 4; // cards
-let told = { structs: [], variables: [], errors: [], findings: [] };
+const NONE = { count: 0, structs: [] }; // left out
+let told = { structs: [], variables: [], errors: [], findings: [] }, broken = NONE, foreign = null;
 
 // What is shown of a text.
 
 /** What the text lays out, errors or not. */
 function read(text) {
   try {
-    return layouts(text);
+    return layouts(text.toWellFormed());
   } catch (error) {
     if (error instanceof SourceError) return error.layouts;
     throw error;
@@ -29,7 +32,12 @@ function read(text) {
 
 function tellProblems() {
   told = read(source.value);
-  const { structs, variables, errors, findings } = told, numbers = [counted(structs.length, "struct"), counted(variables.length, "variable")];
+  const { structs, variables, errors, findings } = told, numbers = [];
+  broken = errors.length ? leftOut(source.value, told) : NONE;
+  foreign = errors.length && structs.length + variables.length === 0 ? foreignOf(source.value) : null;
+  if (foreign) numbers.push(`looks like ${foreign.language}`);
+  else numbers.push(counted(structs.length, "struct"), counted(variables.length, "variable"));
+  if (broken.count) numbers.push(`${broken.count.toLocaleString("en")} left out`);
   if (errors.length) numbers.push(counted(errors.length, "error"));
   if (findings.length) numbers.push(counted(findings.length, "finding"));
   at("counts").textContent = numbers.join(" · ");
@@ -45,21 +53,31 @@ function drawAll(wanted = wantedCards()) {
 
 let cards = new Map(); // by what they show, so that a card stays if its struct does
 
-/** The structs to be shown, each with its variables, by what their cards show. */
+/** The cards to be shown, by what they show, and how each is made. Structs that are bound come first. */
 function wantedCards() {
-  const bound = Map.groupBy(told.variables, ({ type }) => type), keys = new Map(), wanted = new Map();
+  const keys = new Map(), bound = Map.groupBy(told.variables, ({ typeTree }) => innermost(typeTree).struct), cards = [];
   for (const struct of told.structs) {
-    const variables = bound.get(struct.name) ?? [], places = variables.map(({ name, group, binding, space, access }) => [name, group, binding, space, access]);
-    wanted.set(keyOf(struct, keys) + places.join(";"), [struct, variables]);
+    const variables = bound.get(struct) ?? [], places = variables.map(({ name, type, group, binding, space, access }) => [name, type, group, binding, space, access]);
+    const make = (index) => newCard(struct, variables, index);
+    cards.push({ index: struct.index, isBound: variables.some(({ binding }) => binding !== null), key: keyOf(struct, keys) + places.join(";"), make });
   }
-  return wanted;
+  for (const struct of broken.structs) cards.push({ ...struct, key: struct, make: () => newBrokenCard(struct) });
+  cards.sort((a, b) => b.isBound - a.isBound || a.index - b.index);
+  if (foreign || (cards.length === 0 && told.variables.length === 0)) cards.unshift({ key: JSON.stringify(foreign), make: () => newNote(foreign) });
+  return new Map(cards.map(({ key, make }) => [key, make]));
 }
 
 function showStructs(wanted) {
   const made = new Map();
-  for (const [key, [struct, variables]] of wanted) made.set(key, cards.get(key) ?? newCard(struct, variables, made.size));
+  for (const [key, make] of wanted) made.set(key, cards.get(key) ?? make(made.size));
   replaceChildren(at("structs"), [...made.values()]);
   cards = made;
+}
+
+/** The type inside all arrays. */
+function innermost(type) {
+  while (type.element) type = type.element;
+  return type;
 }
 
 /** What a card shows of a struct: its members, and the structs that stand in it. */
@@ -67,9 +85,9 @@ function keyOf(struct, keys) {
   if (keys.has(struct)) return keys.get(struct);
   keys.set(struct, ""); // no struct stands in itself, but names may be there twice
   const inner = new Set();
-  for (let { typeTree } of struct.members) {
-    while (typeTree.element) typeTree = typeTree.element;
-    if (typeTree.struct) inner.add(typeTree.struct);
+  for (const { typeTree } of struct.members) {
+    const { struct: other } = innermost(typeTree);
+    if (other) inner.add(other);
   }
   const members = struct.members.map(({ name, type, offset, size, align }) => `${name}:${type},${offset},${size},${align}`).join();
   const key = `${struct.name} ${struct.size} ${struct.align} {${members}}${[...inner].map((other) => keyOf(other, keys)).join("")}`;
@@ -84,10 +102,10 @@ function showVariables() {
   if (key === shownVariables) return;
   shownVariables = key;
   at("variables").hidden = told.variables.length === 0;
-  const cell = (n) => h("td", { className: n === null ? "none" : "" }, n === null ? "–" : n.toLocaleString("en"));
+  const cell = (n) => h("td", { className: n === null ? "none" : "number" }, n === null ? "–" : n.toLocaleString("en"));
   const rows = told.variables.map((variable) => {
-    const { name, type, group, binding, minBindingSize } = variable;
-    const named = h("td", { className: "wide" }, `${name}: `, h("span", { className: "type" }, type), h("span", { className: "space" }, `var${spaceOf(variable)}`));
+    const { group, binding, minBindingSize } = variable;
+    const named = h("td", { className: "wide" }, ...typed(variable), h("span", { className: "space" }, `var${spaceOf(variable)}`));
     return h("tr", {}, cell(group), cell(binding), named, cell(minBindingSize));
   });
   at("variables").querySelector("tbody").replaceChildren(...rows);
@@ -112,7 +130,7 @@ function showCode() {
 
 function writeCode() {
   codeIsOld = false;
-  at("code-text").textContent = LANGUAGES[language][1](told);
+  at("code-text").replaceChildren(...colored(LANGUAGES[language][1](told)));
 }
 
 function choose(name) {

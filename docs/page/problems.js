@@ -1,5 +1,6 @@
 // What is wrong: beside the lines, under the words, and in a list.
 import { coded, h } from "page/dom";
+import { followColors, showColors } from "page/editor";
 
 const SHOWN_MARKS = 200, SHOWN_PROBLEMS = 100;
 const at = (id) => document.getElementById(id), source = at("source");
@@ -10,8 +11,9 @@ export function showProblems({ errors, findings }) {
   const all = [...errors.map((message) => ["error", message]), ...findings.map((message) => ["finding", message])];
   const placed = all.slice(0, SHOWN_MARKS).map(([kind, message]) => [kind, message, placeOf(message)]);
   showNumbers(placed);
+  showColors();
   fill(at("marks"), placed.map(([kind, message, { before, word }]) => h("div", { className: kind, style: topOf(message.line) }, before, h("span", {}, word || " "))));
-  const items = placed.slice(0, SHOWN_PROBLEMS).map(([kind, message, place]) => h("li", { className: kind }, problem(kind, message, place)));
+  const items = placed.slice(0, SHOWN_PROBLEMS).map(([kind, message, place]) => h("li", {}, problem(kind, message, place)));
   if (all.length > SHOWN_PROBLEMS) items.push(h("li", { className: "place" }, `and ${(all.length - SHOWN_PROBLEMS).toLocaleString("en")} more`));
   fill(at("problems"), items);
 }
@@ -43,10 +45,11 @@ function placeOf({ index }) {
   return { before, word, after: line.slice(before.length + word.length) };
 }
 
-function problem(kind, message, { before, word, after }) {
+/** A button that leads to the place of an error or a finding. */
+export function problem(kind, message, { before, word, after } = placeOf(message)) {
   const cut = before.trimStart().slice(-48), caret = "^".padEnd(Math.max(1, [...word].length), "~");
   const line = h("pre", { ariaHidden: "true" }, `${cut}${word}${after.slice(0, 60)}\n${cut.replace(/./gsu, " ")}`, h("b", {}, caret));
-  return h("button", { type: "button", onclick: () => goTo(message.index, word.length) },
+  return h("button", { type: "button", className: `problem ${kind}`, onclick: () => goTo(message.index, word.length) },
     h("span", { className: "kind" }, kind), " ", h("span", { className: "place" }, `${message.line}:${message.column}`), " ", ...coded(message.message), line);
 }
 
@@ -62,4 +65,5 @@ function goTo(index, length) {
 export function follow() {
   at("numbers").scrollTop = source.scrollTop;
   at("marks").style.transform = `translate(${-source.scrollLeft}px, ${-source.scrollTop}px)`;
+  followColors();
 }

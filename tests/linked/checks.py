@@ -35,6 +35,7 @@ def requests():
     """The requests of tests/lines, some that can't be read or only by WGSL's own overloads, and a long answer."""
     lines = lines_of("lines") + ["unary - const f32", "overloads cross", "why unary - f32"]
     lines += ["", " \t\r", "\0", " \0 ", "foo", "binary + i32", "unary - " + "atomic " * 500 + "f32"]
+    lines += ["\v", " \f\u0085", "\u3000 ", "\x1c", "rank\rf32\r\tf32"]
     lines += ["size struct a\0b 1 x - - f32", "layout struct S\0 2 \0 - - f32 a\0\0b - - vec 3 f32", "call a\0 - f32"]
     lines += ["rank f32 f32" + " " * 4085, "rank f32 f32" + " " * 4084, " " * 4096, " " * 4097]
     return [line.encode() for line in lines] + [b"call \xff - f32", b"rank f32 f32\r"]
@@ -43,7 +44,7 @@ def requests():
 def standard_requests():
     """The same by WGSL's own overloads, with some calls of tests/standard, and all lists of overloads."""
     lines = lines_of("lines", "standard") + standard_calls.requests(CALLED)
-    lines += ["", " \t\r", "\0", "foo", "why", "unary - " + "atomic " * 500 + "f32", " " * 4096, " " * 4097]
+    lines += ["", " \t\r", "\v", "size\rf32", "\0", "foo", "why", "unary - " + "atomic " * 500 + "f32", " " * 4096, " " * 4097]
     return [line.encode() for line in lines] + [b"overloads \xff", b"unary - f32\r"]
 
 

@@ -76,8 +76,10 @@ def compare_calls():
 
 
 def compare_types():
-    """Ranks, common types, sizes; and refusals have a note for each overload."""
+    """Ranks, common types, sizes, also of types in words."""
     rng, types = random.Random(62), [ty for ty in UNIVERSE if ty not in STRUCTS]
+    for ty in UNIVERSE:
+        expect_same(f"common {words(ty)} {words(ty)}", wgsl.common([words(ty), f" {words(ty)} "]))
     for ty in types:
         size = wgsl.size(ty)
         expect_same(f"size {words(ty)}", " ".join("none" if n is None else str(n) for n in size))

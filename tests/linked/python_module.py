@@ -26,20 +26,23 @@ def check_python(top, folder, asked, wanted, standard_asked, standard_wanted):
     program = os.path.join(LINKED, "python_threads.py")
     threads = run(sys.executable, program, asked=asked, where=top, WGSL_LIB=name, **FOUND)
     print(f"link: Python: {threads.decode().strip()}")
-    calls = run(sys.executable, os.path.join(LINKED, "python_calls.py"), where=top, WGSL_LIB=name, **FOUND)
-    print(f"link: Python: {calls.decode().strip()}")
+    for program in ("python_calls.py", "python_errors.py"):
+        printed = run(sys.executable, os.path.join(LINKED, program), where=top, WGSL_LIB=name, **FOUND)
+        print(f"link: Python: {printed.decode().strip()}")
     check_json(where)
 
 
 def check_json(where):
-    """With `--json` the package prints the layouts of a file and what is wrong with it, as the program does, and its status."""
+    """With `--json` the package prints the layouts of a file, indented, and what is wrong with it, as the program does, and its
+    status."""
     for path in MODULES:
         told = json.loads(program_json(read(path)))
         faults = [(kind, fault) for kind in ("error", "finding") for fault in told[f"{kind}s"]]
         for name, asked in ((path, b""), ("-", read(path))):
             notes = [f"{name}:{fault['line']}:{fault['column']}: {kind}: {fault['message']}\n" for kind, fault in faults]
             done = end(*PROGRAM, "--json", name, asked=asked, statuses=(1 if faults else 0,), **where)
-            if json.loads(done.stdout) != told or done.stderr.decode() != "".join(notes):
+            shown = json.dumps(told, ensure_ascii=False, indent=2) + "\n"
+            if done.stdout.decode() != shown or done.stderr.decode() != "".join(notes):
                 sys.exit(f"link: in Python the layouts of {path} are {done.stdout}, and {done.stderr}")
     if "No such file" not in failure(*PROGRAM, "--json", "none", status=2, **where):
         sys.exit("link: python -m wgsl doesn't say that a file isn't there")

@@ -2,6 +2,7 @@
  * returned:
  *
  *   say TEXT    the answer TEXT
+ *   why TEXT    the answer TEXT
  *   refuse TEXT the message TEXT of a refusal
  *   meet TEXT   the answer TEXT, once another thread has its answer in its room too
  *   memory      out of memory
@@ -56,6 +57,7 @@ uint8_t wgsl_answer(const uint8_t *bytes, size_t len, uint8_t *room, size_t room
     *text_len = 0;
     if (!request) return 255;
     if ((rest = after("say", request, len))) return say(rest, end, room, room_len, text_len);
+    if ((rest = after("why", request, len))) return say(rest, end, room, room_len, text_len);
     if ((rest = after("refuse", request, len))) return write(WGSL_RULED_OUT, rest, end, room, room_len, text_len);
     if ((rest = after("meet", request, len))) {
         uint8_t status = say(rest, end, room, room_len, text_len);

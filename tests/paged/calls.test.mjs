@@ -49,6 +49,9 @@ test("a request that can't be read is thrown", () => {
   assert.throws(() => wgsl.answer("unary - vec 3"), { name: "Unreadable", message: "column 14, word 5: a type is missing", index: 13 });
   assert.throws(() => wgsl.standardAnswer(""), { name: "Unreadable", message: "no words", index: null });
   assert.throws(() => wgsl.answer("size ü"), { index: 5 });
+  for (const [request, found] of [["call 🦀🦀 - f33", "f33"], ["call é漢\u0085🦀 - vec 3 f33 f32", "f33"], ["call 🦀 - ü🦀", "ü🦀"]]) {
+    assert.throws(() => wgsl.answer(request), { index: request.indexOf(found) });
+  }
   assert.throws(() => wgsl.answer("rank f32 f32\nrank f32 f32"), wgsl.Unreadable);
   assert.throws(() => wgsl.answer(`size struct ${"é".repeat(3000)} 0`), wgsl.Unreadable);
 });
@@ -84,6 +87,24 @@ test("errors of a text are thrown with their places, also behind each line break
   assert.deepEqual(error.errors.map(({ line, column, utf16Column }) => [line, column, utf16Column]), [[2, 28, 25], [4, 1, 1]]);
   assert.match(error.message, /^line 2, column 28: no declaration has this name: `nowhere`, and 1 more$/);
   assert.deepEqual(error.layouts.structs.map(({ name, index }) => [name, text.slice(index, index + 1)]), [["T", "T"]]);
+  for (const end of ["\n", "\v", "\f", "\r", "\r\n", "\u0085", "\u2028", "\u2029"]) {
+    const lines = `// é🦀${end}${end}/* 🦀 */ bad`;
+    assert.deepEqual(sourceError(lines).errors.map(({ line, index }) => [line, index]), [[3, lines.indexOf("bad")]], JSON.stringify(end));
+  }
+});
+
+test("who prints an error sees its errors alone", () => {
+  const error = sourceError("struct S { a: nowhere }");
+  assert.deepEqual(Object.keys(error).sort(), ["errors", "name"]);
+  assert.deepEqual(JSON.parse(JSON.stringify(error)), { name: "SourceError", errors: error.errors });
+});
+
+test("each type that is a struct has it, behind pointers and arrays too", () => {
+  const { structs: [inner, outer], variables } = wgsl.layouts(`struct Inner { a: f32 } struct Outer { list: array<array<Inner, 2>, 3>, one: Inner }
+    var<private> near: ptr<function, Inner>; var<private> far: ptr<private, array<Outer, 2>>; @group(0) @binding(0) var<storage> some: binding_array<Outer, 4>;`);
+  assert.equal(outer.members[0].typeTree.element.element.struct, inner);
+  assert.equal(outer.members[1].typeTree.struct, inner);
+  assert.deepEqual(variables.map(({ typeTree: { target, element } }) => (target?.struct ?? target?.element.struct ?? element.struct).name), ["Inner", "Outer", "Outer"]);
 });
 
 test("an empty text, and what is no text", () => {
@@ -125,8 +146,10 @@ test("the deepest types, and a text of any size", () => {
   assert.equal(wgsl.layouts(many).structs.at(-1).name, "S19999");
 });
 
-test("if the memory can't grow, a call says so, and the next one answers", () => {
-  const { grow } = WebAssembly.Memory.prototype, text = LIGHT.repeat(200_000);
+test("if the memory can't grow, a call says so, and the next one answers, in a memory as at the start", () => {
+  const { grow } = WebAssembly.Memory.prototype, text = LIGHT.repeat(200_000), before = memorySize();
+  assert.equal(sourceError(LIGHT.repeat(20_000)).errors.length > 0, true);
+  const grown = memorySize();
   WebAssembly.Memory.prototype.grow = () => {
     throw new RangeError("no more");
   };
@@ -135,8 +158,26 @@ test("if the memory can't grow, a call says so, and the next one answers", () =>
   } finally {
     WebAssembly.Memory.prototype.grow = grow;
   }
+  assert.ok(memorySize() < grown && memorySize() <= before, `${before}, ${grown}, ${memorySize()}`);
   assert.equal(wgsl.layouts(LIGHT).structs.length, 2);
 });
+
+test("after a call that trapped the next one has a module as at the start", async () => {
+  const fresh = await import(new URL("calls.js?trap", PACKAGE).href);
+  fresh.initSync(trappingOnce());
+  for (let turn = 0; turn < 3; turn++) assert.throws(() => fresh.answer("a"), { name: "RangeError", message: /32 bits of memory are too few.*unreachable/ });
+});
+
+/** A module whose `wgsl_answer` traps at its first call, and then has the answer "". */
+function trappingOnce() {
+  const name = (text) => [text.length, ...Buffer.from(text)], section = (id, ...bytes) => [id, bytes.length, ...bytes];
+  const answered = [0x20, 4, 0x41, 0, 0x36, 2, 0, 0x41, 0, 0x0f]; // *text_len = 0; return WGSL_ANSWERED;
+  const body = [0, 0x23, 0, 0x04, 0x40, ...answered, 0x0b, 0x41, 1, 0x24, 0, 0, 0x0b]; // if (called) { .. } called = 1; trap
+  const type = [1, 0x60, 5, ...Array(5).fill(0x7f), 1, 0x7f], global = [1, 0x7f, 1, 0x41, 0, 0x0b];
+  const exports = [2, ...name("memory"), 2, 0, ...name("wgsl_answer"), 0, 0];
+  const sections = [section(1, ...type), section(3, 1, 0), section(5, 1, 0, 1), section(6, ...global), section(7, ...exports), section(10, 1, body.length, ...body)];
+  return new Uint8Array([...Buffer.from("\0asm"), 1, 0, 0, 0, ...sections.flat()]);
+}
 
 test("a million calls leave the memory as it is", { timeout: 300_000 }, () => {
   const big = LIGHT.replaceAll(/(Light|Scene|Color|COUNT|scene)/g, "$1_1") + LIGHT;
@@ -189,6 +230,22 @@ test("the entry for browsers takes an address, bytes, a response, a module; a 40
   await assert.rejects(load(new Uint8Array(8)), WebAssembly.CompileError);
   for (const source of [MODULE, new WebAssembly.Module(MODULE), address]) browser.initSync(source);
   assert.throws(() => browser.initSync("wgsl.wasm"), TypeError);
+});
+
+test("an init that failed can be tried again, and two at once fetch once", async () => {
+  const program = `import { parentPort, workerData } from "node:worker_threads";
+    const { init, answer } = await import(workerData.entry), fetched = [];
+    globalThis.fetch = async (url) => (fetched.push(String(url)), new Response(fetched.length === 1 ? "" : workerData.bytes, { status: fetched.length === 1 ? 503 : 200 }));
+    const first = await init().catch((error) => error.message);
+    const called = (() => { try { return answer("size f32"); } catch (error) { return error.message; } })();
+    await Promise.all([init(), init()]);
+    await init();
+    parentPort.postMessage({ first, called, last: answer("size f32"), fetched });`;
+  const entry = new URL("index.js", PACKAGE).href, worker = new Worker(new URL(`data:text/javascript,${encodeURIComponent(program)}`), { workerData: { entry, bytes: MODULE } });
+  const told = await new Promise((resolve, reject) => worker.once("message", resolve).once("error", reject));
+  const wanted = new URL("wgsl.wasm", PACKAGE).href;
+  assert.match(told.first, /503/);
+  assert.deepEqual(told, { first: told.first, called: "wgsl-types-proved: call `await init()` first", last: "4 4", fetched: [wanted, wanted] });
 });
 
 test("before init a call says what is missing", async () => {

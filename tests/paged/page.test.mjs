@@ -1,4 +1,4 @@
-// The page in a browser. PAGE is its file, BROWSER the program, SOURCED a folder of WGSL files.
+// The page in a browser. PAGE is its file, BROWSER the program, TOP the folder of the repository.
 import assert from "node:assert/strict";
 import { execFileSync } from "node:child_process";
 import { mkdtempSync, readFileSync, readdirSync, rmSync, writeFileSync } from "node:fs";
@@ -6,9 +6,9 @@ import { tmpdir } from "node:os";
 import { join } from "node:path";
 import { test, before, after } from "node:test";
 import { pathToFileURL } from "node:url";
-import { openBrowser, serve } from "./browser.mjs";
+import { ask, fill, openBrowser, serve, texts } from "./browser.mjs";
 
-const { PAGE, SOURCED } = process.env;
+const { PAGE, TOP } = process.env, SOURCED = join(TOP, "tests/sourced");
 const WIDTHS = [320, 360, 768, 1280, 1920];
 let browser, server;
 
@@ -21,11 +21,6 @@ after(async () => {
   server.close();
 });
 
-const fill = (text) => `{ const source = document.getElementById("source"); source.focus(); source.value = ${JSON.stringify(text)};
-  source.dispatchEvent(new Event("input")); new Promise((done) => requestAnimationFrame(() => setTimeout(done, 200))) }`;
-const ask = (text) => `{ const request = document.getElementById("request"); request.value = ${JSON.stringify(text)}; request.dispatchEvent(new Event("input")) }`;
-const texts = (selector) => `[...document.querySelectorAll(${JSON.stringify(selector)})].map((element) => element.textContent)`;
-
 async function opened(look = {}, address = server.url) {
   const page = await browser.openPage(look);
   await page.goTo(address);
@@ -35,7 +30,7 @@ async function opened(look = {}, address = server.url) {
 test("it starts from a server and from one file, without an error", async () => {
   for (const address of [server.url, pathToFileURL(PAGE).href]) {
     const page = await opened({}, address);
-    assert.deepEqual(await page.run(texts(".struct h2")), ["struct Light", "struct Scene", "struct Particles"]);
+    assert.deepEqual(await page.run(texts(".struct h2")), ["struct Scene", "struct Particles", "struct Light"]);
     assert.match(await page.run("document.getElementById('answers').textContent"), /vec3<f32>/);
     assert.deepEqual(page.errors, []);
   }
@@ -53,6 +48,7 @@ test("nothing is wider than the window, in any example, in light and dark", asyn
           await page.run(ask(request));
           const wide = await page.run("document.documentElement.scrollWidth");
           assert.ok(wide <= width, `${name}, ${request}: ${wide} of ${width}`);
+          assert.ok(await page.run("(({ clientWidth, scrollWidth }) => scrollWidth <= clientWidth)(document.querySelector('.source > .bar'))"), `${name}: ${width}`);
         }
       }
     }
@@ -115,8 +111,7 @@ test("all that can be reached has a name and a ring", async () => {
 test("texts have a contrast of 4.5 or more, in light and dark", async () => {
   for (const dark of [false, true]) {
     const page = await opened({ dark });
-    await page.run(fill("struct S { a: f32, b: vec3f, c: f32, d: f32, e: f32, f: f32, g: f32, h: f32, i: u32, x: mat4x4f, y: array<f32, 900> }\nbad"));
-    const low = await page.run(`(() => {
+    const low = `(() => {
       const canvas = Object.assign(document.createElement("canvas"), { width: 1, height: 1 }).getContext("2d", { willReadFrequently: true });
       const rgba = (color) => { canvas.clearRect(0, 0, 1, 1); canvas.fillStyle = color; canvas.fillRect(0, 0, 1, 1); return [...canvas.getImageData(0, 0, 1, 1).data] };
       const light = ([r, g, b]) => [r, g, b].map((x) => (x /= 255) <= 0.04045 ? x / 12.92 : ((x + 0.055) / 1.055) ** 2.4).reduce((sum, x, i) => sum + x * [0.2126, 0.7152, 0.0722][i], 0);
@@ -128,8 +123,13 @@ test("texts have a contrast of 4.5 or more, in light and dark", async () => {
         if (contrast < 4.5) found.push(element.tagName + "." + element.className + " " + contrast.toFixed(2) + " " + element.textContent.slice(0, 20));
       }
       return found;
-    })()`);
-    assert.deepEqual([...new Set(low)], []);
+    })()`;
+    for (const text of ["struct S { a: f32, b: vec3f, c: f32, d: f32, e: f32, f: f32, g: f32, h: f32, i: u32, x: mat4x4f, y: array<f32, 900> } struct B { b: S, c: nowhere } struct C { b: B }\nbad // a comment",
+      "cbuffer C { float4x4 m; };", "", "@group(0) @binding(0) var<uniform> a: array<f32, 4>;"]) {
+      await page.run(fill(text));
+      await page.run(ask(text ? "vec3f + 1" : "f32 + (1 + bool)"));
+      assert.deepEqual([...new Set(await page.run(low))], [], text);
+    }
   }
 });
 
@@ -152,7 +152,7 @@ test("the address keeps the text and the request", async () => {
 test("code is copied in each language, and a link", async () => {
   const page = await opened();
   await page.run("globalThis.copied = null; navigator.clipboard.writeText = async (text) => { copied = text }");
-  for (const [tab, begin] of [["rust", /^#\[allow\(non_camel/], ["typescript", /^export const structs/], ["c", /^#pragma once/]]) {
+  for (const [tab, begin] of [["rust", /^#\[allow\(non_camel/], ["numpy", /^import numpy\n\nLight = /], ["typescript", /^export const structs/], ["c", /^#pragma once/]]) {
     await page.run(`document.getElementById("tab-${tab}").click()`);
     await page.run("document.getElementById('copy-code').click()");
     assert.match(await page.run("copied"), begin);
@@ -164,9 +164,13 @@ test("code is copied in each language, and a link", async () => {
   assert.equal(await page.run("document.getElementById('toast').textContent"), "Link copied");
 });
 
+// Behind the structs in C nothing is packed, and the file may be included twice.
+const TWICE = '#include "twice.h"\n#include "twice.h"\nstruct after { char a; int b; };\nstatic_assert(sizeof(struct after) == 2 * sizeof(int), "");\n';
+
 /** Whether a compiler takes a text. */
 function compiles(folder, name, text, ...command) {
-  writeFileSync(join(folder, name), text);
+  writeFileSync(join(folder, "twice.h"), text);
+  writeFileSync(join(folder, name), name.endsWith(".h") ? TWICE : text);
   execFileSync(command[0], [...command.slice(1), name], { cwd: folder, stdio: ["ignore", "ignore", "pipe"] });
 }
 
@@ -182,8 +186,8 @@ function isThere(program) {
 
 test("what the page writes in C, Rust and TypeScript is compiled, and each offset is checked", async () => {
   const page = await opened(), folder = mkdtempSync(join(tmpdir(), "code-"));
-  const compilers = [["c", "forms.h", "cc", "-std=c11", "-fsyntax-only", "-x", "c"], ["rust", "forms.rs", "rustc", "--edition=2021", "--crate-type=lib", "--emit=metadata", "-Adead_code"], ["typescript", "forms.ts", "tsc", "--noEmit", "--strict"]];
-  const names = "struct int { float: f32, static_: u32, static: u32 } struct Padded0 { type: vec3f, r: array<vec3f, 2>, self: f32, fn: mat3x3f } struct Outer { a: array<Padded0, 2>, b: array<array<vec2<f16>, 3>, 2>, int: array<int, 2> }";
+  const compilers = [["c", "forms.h", "cc", "-std=gnu11", "-fsyntax-only", "-x", "c"], ["rust", "forms.rs", "rustc", "--edition=2021", "--crate-type=lib", "--emit=metadata", "-Adead_code"], ["typescript", "forms.ts", "tsc", "--noEmit", "--strict"]];
+  const names = "struct linux { linux: f32, unix: u32, _Bool: f32 } struct int { float: f32, static_: u32, static: u32 } struct Padded0 { type: vec3f, r: array<vec3f, 2>, self: f32, fn: mat3x3f } struct Outer { a: array<Padded0, 2>, b: array<array<vec2<f16>, 3>, 2>, int: array<int, 2> }";
   const files = readdirSync(SOURCED).filter((name) => name.endsWith(".wgsl")).map((name) => readFileSync(join(SOURCED, name), "utf8"));
   for (const [tab, name, ...command] of compilers) {
     if (!isThere(command[0])) continue;
@@ -215,9 +219,21 @@ test("the calculator answers expressions, words, and what it can't read", async 
     ["1 << const u32", ["AbstractInt", "AbstractInt"], "<<(T, u32) -> T, T: integer"],
     ["vec3<f32>(vec3i)", ["vec3<f32>", "vec3<f32>"], "vec3<T>(vec3<U>) -> vec3<T>, T: concrete scalar, U: scalar"],
     ["true + true", ["no overload of + takes (bool, bool)", "bool"], null],
-    ["i32 < f32", null, null],
-    ["array<f32, 4>", null, null],
+    ["array<f32, 4>", ["array<f32, 4>"], null],
     ["size vec 3 bool", ["12 16", "12 none"], null],
+    ["mix(vec3f, vec3f, 1) * f32", ["vec3<f32>"], null],
+    ["  type  -vec3f ", ["vec3<f32>", "cannot use unary operator - on type vec3<f32>"], "-(vecN<T>) -> vecN<T>, T: signed number"],
+    ["mat4x3f[u32].xy + const f32", ["vec2<f32>"], null],
+    ["const f32", ["f32"], null],
+    ["const const f32", ["f32"], null],
+    ["const AbstractInt : f32", ["f32"], null],
+    ["const f32 + 1", ["f32", "f32"], "+(T, T) -> T, T: number"],
+    ["1.5f + 0x1f", ["f32", "f32"], "+(T, T) -> T, T: number"],
+    ["i32 < u32", ["no overload of < takes (i32, u32)", "cannot use binary operator < with operands i32 and u32"], null],
+    ["atomicLoad(ptr<workgroup, atomic<u32>>)", ["u32", "u32"], "atomicLoad(ptr<S, atomic<T>, read_write>) -> T, T: concrete integer, S: workgroup or storage"],
+    ["why unary - u32", ["-(T) -> T, T: signed number: argument 1 is u32"], null],
+    ["why unary - i32", ["none"], null],
+    ["common bool f32", ["none"], null],
   ];
   for (const [request, answers, taken] of cases) {
     await page.run(ask(request));
@@ -227,7 +243,7 @@ test("the calculator answers expressions, words, and what it can't read", async 
   await page.run(ask("layout struct S 2 a - - f32 b - - vec 3"));
   assert.match(await page.run("document.querySelector('#answers .request').textContent"), /vec 3\n {39}\^ a type is missing$/);
   await page.run(ask("vec3f + "));
-  assert.match(await page.run("document.querySelector('#answers .request').textContent"), /\^ a type is wanted/);
+  assert.match(await page.run("document.querySelector('#answers .request').textContent"), /^vec3f \+\n {7}\^ \w/);
   assert.deepEqual(page.errors, []);
 });
 

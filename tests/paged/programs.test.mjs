@@ -5,6 +5,7 @@ import { execFileSync, spawnSync } from "node:child_process";
 import { readFileSync, readdirSync } from "node:fs";
 import { join } from "node:path";
 import test from "node:test";
+import { toNumpy } from "page/forms";
 import * as wgsl from "wgsl-types-proved";
 
 const { PROGRAMS, REQUESTS, SOURCED } = process.env;
@@ -79,4 +80,11 @@ test("the layouts of each file are those of wgsl_layout, and each place is an in
     for (const struct of told.structs) assert.equal(wgsl.view(struct).size, struct.size, `${file}: ${struct.name}`);
   }
   assert.equal(execFileSync(join(PROGRAMS, "wgsl_layout"), ["--version"], { encoding: "utf8" }).trim().split(" ").at(-1), wgsl.version());
+});
+
+test("the page writes the dtypes of numpy that wgsl_layout prints", () => {
+  for (const file of readdirSync(SOURCED).filter((name) => name.endsWith(".wgsl"))) {
+    const path = join(SOURCED, file), { stdout } = spawnSync(join(PROGRAMS, "wgsl_layout"), ["--numpy", path], { encoding: "utf8", maxBuffer: 1 << 28 });
+    assertSame(toNumpy(layoutsOf(readFileSync(path, "utf8"))), stdout, `dtypes of ${file}`);
+  }
 });

@@ -34,3 +34,12 @@ view(struct!, { length: 2 });
 made.set(() => 1);
 // @ts-expect-error: a layout isn't written
 told.structs[0].offset;
+// @ts-expect-error: a layout is no name
+view("Light");
+// @ts-expect-error: a layout may be missing
+view(told.structs.find(({ name }) => name === "Light"));
+// @ts-expect-error: a buffer is given by its name
+view(struct!, new ArrayBuffer(16));
+// @ts-expect-error: an offset is no text
+view(struct!, { offset: "16" });
+view(struct!, { buffer: new ArrayBuffer(64), offset: 16 }).set({ a: [1n, 2, 3], b: false });

@@ -15,9 +15,9 @@ The library libwgsl.so is beside this package. For another, the environment vari
 from ._library import VERSION as __version__
 from .requests import (Refused, Resolution, Size, Unreadable, answer, binary, call, common, construct, overloads, rank, resolve_call,
                        size, unary)
-from .source import dtype, source_dtypes, source_layout
+from .source import SourceError, dtype, source_dtypes, source_layout
 
 __all__ = [
-    "Refused", "Resolution", "Size", "Unreadable", "__version__", "answer", "binary", "call", "common", "construct", "dtype",
-    "overloads", "rank", "resolve_call", "size", "source_dtypes", "source_layout", "unary",
+    "Refused", "Resolution", "Size", "SourceError", "Unreadable", "__version__", "answer", "binary", "call", "common", "construct",
+    "dtype", "overloads", "rank", "resolve_call", "size", "source_dtypes", "source_layout", "unary",
 ]

@@ -3,8 +3,10 @@ from __future__ import annotations
 
 import re
 from dataclasses import dataclass
-from typing import Iterable, NamedTuple
+from functools import cached_property
+from typing import TYPE_CHECKING, Any, Iterable, NamedTuple
 
+from ._arguments import Argument, bare, constructor_of, is_word, reason, text_of, type_of, types_of
 from ._library import ANSWERED, REFUSED, ask
 
 # The calls that answer and explain, by the rules that they ask.
@@ -14,22 +16,29 @@ RULES = {"wgsl": ("wgsl_standard_answer", "wgsl_standard_explain"), "wgsl-types"
 class Unreadable(ValueError):
     """The request is no command, is blank, isn't one line of text, or has more than 4096 bytes.
 
-    Its text says why: the column in bytes, the number of the word, and what was expected there. `request` is the request.
+    Its text says why: for a request in words the column in bytes, the number of the word, and what was expected there; for any
+    other call the argument, and what is wrong with it. `request` is the request.
 
-    >>> try:
-    ...     unary("-", "vec3<f33>")
-    ... except Unreadable as unreadable:
-    ...     print(unreadable)
+    >>> for ask in (lambda: answer("unary - vec3<f33>"), lambda: binary("+", "f32", "vec3<f33>")):
+    ...     try:
+    ...         ask()
+    ...     except Unreadable as unreadable:
+    ...         print(unreadable)
     column 9, word 3: `vec3<f33>` is no type
+    right: `vec3<f33>` is no type
     """
 
     def __init__(self, why: str, request: str) -> None:
         super().__init__(why)
         self.request = request
 
+    def __reduce__(self) -> tuple[Any, ...]:
+        return type(self), (str(self), self.request)
+
 
 class Refused(Exception):
-    """The rules give an expression no type. Its text is their message, `request` the request.
+    """The rules give an expression no type. Its text is their message, `request` the request. From Python 3.11 on a traceback has
+    the notes too.
 
     >>> try:
     ...     binary("+", "vec3<f32>", "vec3<i32>")
@@ -44,11 +53,25 @@ class Refused(Exception):
         super().__init__(message)
         self.request, self.rules = request, rules
 
+    def __reduce__(self) -> tuple[Any, ...]:
+        return type(self), (str(self), self.request, self.rules)
+
     @property
     def notes(self) -> list[str]:
-        """For each overload of WGSL's own why it doesn't take the operands. The rules of wgsl-types have no notes."""
+        """For each overload of WGSL's own why it doesn't take the operands. There are none by the rules of wgsl-types, nor of what
+        has no overloads, as `member`."""
         asked = re.sub(r"^[ \t\r]*resolve(?=[ \t\r])", "", self.request)
-        return _lines(answer(f"why {asked}")) if self.rules == "wgsl" else []
+        try:
+            return _lines(answer(f"why {asked}")) if self.rules == "wgsl" else []
+        except Unreadable:
+            return []
+
+    if not TYPE_CHECKING:  # whose `__notes__` is a list that can be set
+
+        @cached_property
+        def __notes__(self):
+            """What a traceback prints, asked for when it does. `add_note` adds to it."""
+            return self.notes
 
 
 def _lines(text: str) -> list[str]:
@@ -61,11 +84,6 @@ def _value(text: str) -> str | None:
 
 def _number(text: str) -> int | None:
     return None if text == "none" else int(text)
-
-
-def _word(ty: str) -> str:
-    """A type without the blanks that WGSL allows in a list, since blanks separate the words of a request."""
-    return re.sub(r"\s+(?=[<>,])|(?<=[<,])\s+", "", ty)
 
 
 def answer(request: str, rules: str = "wgsl") -> str:
@@ -92,13 +110,46 @@ def answer(request: str, rules: str = "wgsl") -> str:
     return text
 
 
+def _asked(command: str, *arguments: Argument) -> str:
+    """The answer to a request of a command and its arguments. If it can't be read, Unreadable names the argument."""
+    request = " ".join([command, *(argument.words for argument in arguments)])
+    try:
+        return answer(request)
+    except Unreadable as unreadable:
+        raise Unreadable(reason(str(unreadable), command, arguments), request) from None
+
+
+def _one(argument: Argument, command: str) -> Argument:
+    """An argument that a command with one argument reads. In another request two types would be read as two arguments."""
+    if not is_word(argument.words):
+        _asked(command, argument)
+    return argument
+
+
+def _word(name: str, kind: str, value: str) -> Argument:
+    """An operator or a name."""
+    return _one(Argument(name, text_of(name, kind, value)), "overloads")
+
+
+def _operand(operand: Argument) -> Argument:
+    """An operand in a request with others."""
+    if not is_word(operand.words):
+        _one(bare(operand), "size")
+    return operand
+
+
+def _callee(name: str, arguments: Iterable[str], template: str | None) -> list[Argument]:
+    words = "-" if template is None else f"< t {_operand(type_of('template', template)).words} >"
+    return [Argument("name", name), Argument("template", words), *map(_operand, types_of("arguments", "argument", arguments))]
+
+
 def unary(operator: str, operand: str) -> str:
     """The type of a unary expression. An operand is a type as WGSL spells it, with `const ` in front of a const-expression.
 
     >>> unary("-", "vec3<f32>")
     'vec3<f32>'
     """
-    return answer(f"unary {operator} {_word(operand)}")
+    return _asked("unary", _word("operator", "an operator", operator), type_of("operand", operand))
 
 
 def binary(operator: str, left: str, right: str) -> str:
@@ -107,12 +158,8 @@ def binary(operator: str, left: str, right: str) -> str:
     >>> binary("*", "mat4x3f", "vec4<f32>"), binary("<<", "const AbstractInt", "u32")
     ('vec3<f32>', 'i32')
     """
-    return answer(f"binary {operator} {_word(left)} {_word(right)}")
-
-
-def _callee(name: str, operands: Iterable[str], template: str | None) -> str:
-    given = "-" if template is None else f"< t {_word(template)} >"
-    return " ".join([name, given, *map(_word, operands)])
+    first = _word("operator", "an operator", operator)
+    return _asked("binary", first, _operand(type_of("left", left)), _operand(type_of("right", right)))
 
 
 def call(name: str, arguments: Iterable[str], template: str | None = None) -> str | None:
@@ -121,16 +168,17 @@ def call(name: str, arguments: Iterable[str], template: str | None = None) -> st
     >>> call("clamp", ["vec3f", "vec3f", "vec3f"]), call("bitcast", ["f32"], template="i32"), call("storageBarrier", [])
     ('vec3<f32>', 'i32', None)
     """
-    return _value(answer(f"call {_callee(name, arguments, template)}"))
+    return _value(_asked("call", *_callee(_word("name", "a name", name).words, arguments, template)))
 
 
 def construct(name: str, arguments: Iterable[str], template: str | None = None) -> str:
-    """The type that a constructor makes.
+    """The type that a constructor makes. Its name may be an alias that WGSL predeclares, as `vec3f`.
 
-    >>> construct("vec3", ["f32", "vec2<f32>"]), construct("mat2x2", ["vec2h", "vec2h"], template="f16")
-    ('vec3<f32>', 'mat2x2<f16>')
+    >>> construct("vec3", ["f32", "vec2<f32>"]), construct("mat2x2", ["vec2h", "vec2h"], template="f16"), construct("vec2u", [])
+    ('vec3<f32>', 'mat2x2<f16>', 'vec2<u32>')
     """
-    return answer(f"ctor {_callee(name, arguments, template)}")
+    named, given = constructor_of(_word("name", "a name", name).words, template)
+    return _asked("ctor", *_callee(named, arguments, given))
 
 
 @dataclass(frozen=True)
@@ -155,7 +203,7 @@ def resolve_call(name: str, arguments: Iterable[str], template: str | None = Non
     >>> overloads("mix")[2]
     'mix(vecN<T>, vecN<T>, T) -> vecN<T>, T: float'
     """
-    index, _, rest = answer(f"resolve call {_callee(name, arguments, template)}").partition(" (")
+    index, _, rest = _asked("resolve call", *_callee(_word("name", "a name", name).words, arguments, template)).partition(" (")
     parameters, _, result = rest.partition(")")
     types: list[str] = []
     for part in parameters.split(", ") if parameters else []:
@@ -173,7 +221,7 @@ def overloads(name: str) -> list[str]:
     >>> overloads("cross")
     ['cross(vec3<T>, vec3<T>) -> vec3<T>, T: float']
     """
-    return _lines(answer(f"overloads {name}"))
+    return _lines(_asked("overloads", _word("name", "a name", name)))
 
 
 def rank(source: str, target: str) -> int | None:
@@ -182,7 +230,7 @@ def rank(source: str, target: str) -> int | None:
     >>> rank("AbstractInt", "f32"), rank("f32", "i32")
     (6, None)
     """
-    return _number(answer(f"rank {_word(source)} {_word(target)}"))
+    return _number(_asked("rank", _operand(type_of("source", source)), _operand(type_of("target", target))))
 
 
 def common(types: Iterable[str]) -> str | None:
@@ -191,7 +239,7 @@ def common(types: Iterable[str]) -> str | None:
     >>> common(["AbstractInt", "f16", "AbstractFloat"]), common(["i32", "u32"])
     ('f16', None)
     """
-    return _value(answer(" ".join(["common", *map(_word, types)])))
+    return _value(_asked("common", *map(_operand, types_of("types", "type", types))))
 
 
 class Size(NamedTuple):
@@ -211,4 +259,4 @@ def size(ty: str) -> Size:
     >>> size("array<mat4x3f, 4>"), size("array<vec3<f32>>")
     (Size(size=256, align=16), Size(size=None, align=16))
     """
-    return Size(*map(_number, answer(f"size {_word(ty)}").split(" ")))
+    return Size(*map(_number, _asked("size", type_of("ty", ty)).split(" ")))

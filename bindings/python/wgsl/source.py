@@ -5,9 +5,31 @@ import json
 from importlib import import_module
 from typing import Any
 
+from ._arguments import text_of
 from ._library import ask
 
 _SCALARS = {"bool": "<u4", "i32": "<i4", "u32": "<u4", "f32": "<f4", "f16": "<f2", "i64": "<i8", "u64": "<u8", "f64": "<f8"}
+
+
+class SourceError(ValueError):
+    """A WGSL text has errors. Its text has the `line`, the `column` in bytes and the `reason` of the first. `errors` are all of them,
+    as `source_layout` has them, and `layouts` are those of the rest.
+
+    >>> try:
+    ...     dtype("struct Light { color: Color, power: f32 }", "Light")
+    ... except SourceError as error:
+    ...     print(error)
+    line 1, column 23: no declaration has this name: `Color`
+    """
+
+    def __init__(self, layouts: dict[str, Any]) -> None:
+        self.layouts, self.errors = layouts, layouts["errors"]
+        self.line, self.column, self.reason = (self.errors[0][name] for name in ("line", "column", "message"))
+        more = f", and {len(self.errors) - 1} more" if len(self.errors) > 1 else ""
+        super().__init__(f"line {self.line}, column {self.column}: {self.reason}{more}")
+
+    def __reduce__(self) -> tuple[Any, ...]:
+        return type(self), (self.layouts,)
 
 
 def source_layout(text: str | bytes) -> dict[str, Any]:
@@ -20,19 +42,32 @@ def source_layout(text: str | bytes) -> dict[str, Any]:
     >>> told["variables"][0]["minBindingSize"]
     16
     """
+    if not isinstance(text, (str, bytes, bytearray, memoryview)):
+        raise TypeError(f"a text is a str or bytes, not {type(text).__name__}")
     data = text.encode("utf-8", "surrogatepass") if isinstance(text, str) else bytes(text)
     layouts: dict[str, Any] = json.loads(ask("wgsl_source_layout", data)[1])
     return layouts
 
 
-def source_dtypes(text: str | bytes) -> dict[str, Any]:
-    """The structs of a WGSL module as dtypes of numpy, by their names. Raises ImportError without numpy.
+def _without_errors(text: str | bytes | dict[str, Any]) -> dict[str, Any]:
+    """The layouts of a text, which has no errors, or those that are given."""
+    if isinstance(text, dict):
+        return text
+    layouts = source_layout(text)
+    if layouts["errors"]:
+        raise SourceError(layouts)
+    return layouts
+
+
+def source_dtypes(text: str | bytes | dict[str, Any]) -> dict[str, Any]:
+    """The structs of a WGSL module as dtypes of numpy, by their names. Raises SourceError if the module has errors; of layouts, as
+    the error has them, it makes dtypes all the same. Raises ImportError without numpy.
 
     >>> sorted(source_dtypes("struct Light { color: vec3f, power: f32 }"))
     ['Light']
     """
+    structs = {struct["name"]: struct for struct in _without_errors(text)["structs"]}
     as_dtype = import_module("numpy").dtype  # only who asks for dtypes needs it
-    structs = {struct["name"]: struct for struct in source_layout(text)["structs"]}
 
     def of_struct(name: str) -> Any:
         members = structs[name]["members"]
@@ -66,11 +101,12 @@ def source_dtypes(text: str | bytes) -> dict[str, Any]:
     return {name: of_struct(name) for name in structs}
 
 
-def dtype(text: str | bytes, name: str) -> Any:
-    """The struct of that name of a WGSL module as a dtype of numpy. Raises KeyError if it isn't there, ImportError without
-    numpy.
+def dtype(text: str | bytes | dict[str, Any], name: str) -> Any:
+    """The struct of that name of a WGSL module, or of its layouts, as a dtype of numpy. Raises SourceError if the module has errors,
+    KeyError if the struct isn't there, ImportError without numpy.
 
     >>> dtype("struct Light { color: vec3f, power: f32 }", "Light").itemsize
     16
     """
+    text_of("name", "a name", name)
     return source_dtypes(text)[name]

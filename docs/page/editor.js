@@ -1,0 +1,39 @@
+// The text in colours, under the textarea, whose own letters can't be seen. Only the lines near to those in view are drawn.
+import { colored, declaredTypes } from "page/colors";
+import { commentsOf } from "page/wgsl";
+
+const at = (id) => document.getElementById(id), source = at("source");
+const NEAR = 20; // lines
+let starts = [0], comments = [], declared = new Set(), drawn = [0, 0];
+let view = { line: 20, top: 0, height: 0 }; // as it was measured last: at a key that would lay out the page once more
+
+/** Colours the text again, as it has changed. */
+export function showColors() {
+  const text = source.value;
+  [starts, comments, declared] = [[0], commentsOf(text), declaredTypes(text)];
+  for (let end = text.indexOf("\n"); end >= 0; end = text.indexOf("\n", end + 1)) starts.push(end + 1);
+  draw();
+}
+
+/** The first line in view, and the one behind the last. */
+function linesInView() {
+  const first = Math.floor(view.top / view.line);
+  return [Math.min(first, starts.length), Math.min(first + Math.ceil(view.height / view.line) + 1, starts.length)];
+}
+
+function draw() {
+  const [first, last] = linesInView(), text = source.value, colors = at("colors");
+  drawn = [Math.max(0, first - NEAR), Math.min(starts.length, last + NEAR)];
+  colors.style.paddingTop = `${drawn[0] * 1.25 + 0.75}rem`;
+  colors.replaceChildren(...colored(text, declared, comments, starts[drawn[0]] ?? text.length, starts[drawn[1]] ?? text.length));
+}
+
+/** Moves the colours to where the text is scrolled to. */
+export function followColors() {
+  view = { line: parseFloat(getComputedStyle(source).lineHeight), top: source.scrollTop, height: source.clientHeight };
+  const [first, last] = linesInView();
+  if (first < drawn[0] || last > drawn[1]) draw();
+  at("colors").style.transform = `translate(${-source.scrollLeft}px, ${-source.scrollTop}px)`;
+}
+
+new ResizeObserver(followColors).observe(source);

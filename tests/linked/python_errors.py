@@ -1,0 +1,207 @@
+"""What the calls of the Python package say of arguments that they don't take, of what the rules refuse, and of faults of a shader."""
+import pickle
+import re
+import traceback
+
+import wgsl
+
+ATOMIC = "struct S 1 a - - atomic u32"
+
+# Arguments of a wrong type, with the message.
+WRONG_TYPES = [
+    (wgsl.answer, (b"size f32",), "a request is a str, not bytes"),
+    (wgsl.unary, (None, "f32"), "operator: an operator is a str, not NoneType"),
+    (wgsl.unary, ("-", None), "operand: a type is a str, not NoneType"),
+    (wgsl.binary, (1, 2, 3), "operator: an operator is a str, not int"),
+    (wgsl.binary, ("+", 1, 2), "left: a type is a str, not int"),
+    (wgsl.binary, ("+", "f32", b"f32"), "right: a type is a str, not bytes"),
+    (wgsl.call, (7, []), "name: a name is a str, not int"),
+    (wgsl.call, ("max", "f32"), "arguments: a list of types is wanted, not str"),
+    (wgsl.call, ("max", b"f32"), "arguments: a list of types is wanted, not bytes"),
+    (wgsl.call, ("max", None), "arguments: a list of types is wanted, not NoneType"),
+    (wgsl.call, ("max", ["f32", 2]), "argument 2: a type is a str, not int"),
+    (wgsl.call, ("bitcast", ["f32"], 2), "template: a type is a str, not int"),
+    (wgsl.construct, (b"vec3f", []), "name: a name is a str, not bytes"),
+    (wgsl.construct, ("vec3", "f32"), "arguments: a list of types is wanted, not str"),
+    (wgsl.construct, ("vec3", [["f32"]]), "argument 1: a type is a str, not list"),
+    (wgsl.resolve_call, (None, []), "name: a name is a str, not NoneType"),
+    (wgsl.resolve_call, ("max", 7), "arguments: a list of types is wanted, not int"),
+    (wgsl.overloads, (None,), "name: a name is a str, not NoneType"),
+    (wgsl.rank, (1, "f32"), "source: a type is a str, not int"),
+    (wgsl.rank, ("f32", ("f32",)), "target: a type is a str, not tuple"),
+    (wgsl.common, ("f32",), "types: a list of types is wanted, not str"),
+    (wgsl.common, (["f32", None],), "type 2: a type is a str, not NoneType"),
+    (wgsl.size, (None,), "ty: a type is a str, not NoneType"),
+    (wgsl.source_layout, (None,), "a text is a str or bytes, not NoneType"),
+    (wgsl.source_layout, (5,), "a text is a str or bytes, not int"),
+    (wgsl.source_dtypes, (["a"],), "a text is a str or bytes, not list"),
+    (wgsl.dtype, ("", None), "name: a name is a str, not NoneType"),
+]
+
+# Arguments that can't be read: which it is, and a request that has the same fault.
+MISREAD = [
+    (wgsl.unary, ("~~", "f32"), "operator", "unary ~~ f32"),
+    (wgsl.unary, ("- f32", ""), "operator", "overloads - f32"),
+    (wgsl.unary, ("-", "int"), "operand", "size int"),
+    (wgsl.unary, ("-", "const int"), "operand", "size int"),
+    (wgsl.unary, ("-", "f32 f32"), "operand", "size f32 f32"),
+    (wgsl.unary, ("-", ""), "operand", "size"),
+    (wgsl.binary, ("", "f32", "f32"), "operator", "overloads"),
+    (wgsl.binary, ("+\n", "f32", "f32"), "operator", "overloads \n"),
+    (wgsl.binary, ("++", "int", "f32"), "operator", "binary ++ f32 f32"),
+    (wgsl.binary, ("+ f32", "", "f32"), "operator", "overloads + f32"),
+    (wgsl.binary, ("+", "int", "f32"), "left", "size int"),
+    (wgsl.binary, ("+", "x", "f32"), "left", "size x"),
+    (wgsl.binary, ("+", "f32 f32", ""), "left", "size f32 f32"),
+    (wgsl.binary, ("+", "", "f32 f32"), "left", "size"),
+    (wgsl.binary, ("+", "const ", "f32"), "left", "size"),
+    (wgsl.binary, ("+", "f32", "const const f32"), "right", "size const f32"),
+    (wgsl.binary, ("+", "f32", "vec 3 f33"), "right", "size vec 3 f33"),
+    (wgsl.binary, ("+", "f32", "f32\nf32"), "right", "size \n"),
+    (wgsl.binary, ("+", "f32", "\ud800"), "right", "size \ud800"),
+    (wgsl.call, ("max f32", []), "name", "overloads max f32"),
+    (wgsl.call, ("ß", ["f32", "ü", "f32"]), "argument 2", "size ü"),
+    (wgsl.call, ("max", ["ü", "f32"]), "argument 1", "size ü"),
+    (wgsl.call, ("max", ["f32", "f32 "] + ["f33"]), "argument 3", "size f33"),
+    (wgsl.call, ("max", ["f32 f32"]), "argument 1", "size f32 f32"),
+    (wgsl.call, ("max", ["f32", ""]), "argument 2", "size"),
+    (wgsl.call, ("bitcast", ["f32"], "int"), "template", "size int"),
+    (wgsl.call, ("bitcast", [], "i32 f32"), "template", "size i32 f32"),
+    (wgsl.construct, ("vec3f", ["f32", "int"]), "argument 2", "size int"),
+    (wgsl.construct, ("", []), "name", "overloads"),
+    (wgsl.construct, ("vec3", [], "vec3<f32"), "template", "size vec3<f32"),
+    (wgsl.resolve_call, ("max", ["int", "f32"]), "argument 1", "size int"),
+    (wgsl.resolve_call, ("max - f32", []), "name", "overloads max - f32"),
+    (wgsl.overloads, ("a b",), "name", "overloads a b"),
+    (wgsl.overloads, ("",), "name", "overloads"),
+    (wgsl.rank, ("int", "f32"), "source", "size int"),
+    (wgsl.rank, ("f32", "int"), "target", "size int"),
+    (wgsl.rank, ("f32 f32", ""), "source", "size f32 f32"),
+    (wgsl.common, (["f32", "f32", "int"],), "type 3", "size int"),
+    (wgsl.common, (["f32 f32"],), "type 1", "size f32 f32"),
+    (wgsl.size, ("int",), "ty", "size int"),
+    (wgsl.size, ("const f32",), "ty", "size const f32"),
+    (wgsl.size, ("array<\u00a0f32, 4>",), "ty", "size array<\u00a0f32,4>"),
+    (wgsl.size, ("f" * 4097,), "ty", "size" + "f" * 4097),
+]
+
+
+def expect(condition, what):
+    if not condition:
+        raise SystemExit(f"link: in Python {what}")
+
+
+def raised(kind, ask, given):
+    """What a call raises, which is of that kind."""
+    try:
+        found = ask(*given)
+    except Exception as error:
+        expect(type(error) is kind, f"{ask.__name__}{given!r:.90} raises {error!r:.200}")
+        return error
+    return expect(False, f"{ask.__name__}{given!r:.90} is {found!r:.90}")
+
+
+def check_arguments():
+    """What is no argument is told by its name."""
+    for ask, given, message in WRONG_TYPES:
+        error = raised(TypeError, ask, given)
+        expect(str(error) == message, f"{ask.__name__}{given!r} raises {error!r}, not {message!r}")
+    for ask, given, argument, request in MISREAD:
+        error = raised(wgsl.Unreadable, ask, given)
+        why = re.sub(r"^column \d+, word \d+: ", "", str(raised(wgsl.Unreadable, wgsl.answer, (request,))))
+        expect(str(error) == f"{argument}: {why}", f"{ask.__name__}{given!r:.90} raises {error!r:.200}, not {argument}: {why}")
+        expect(str(raised(wgsl.Unreadable, wgsl.answer, (error.request,))).endswith(why), f"{error!r} has the request {error.request!r}")
+        expect("column" not in "".join(traceback.format_exception(type(error), error, None)), f"{error!r} is printed with a column")
+    long = raised(wgsl.Unreadable, wgsl.common, (["f32"] * 1100,))
+    expect(str(long) == str(raised(wgsl.Unreadable, wgsl.answer, ("size" * 1025,))), f"a long request raises {long!r}")
+
+
+def check_words():
+    """An operand may be in words. Each blank of WGSL may stand around a type and in its list."""
+    for blank in "\t\n\v\f\r \x85\u200e\u200f\u2028\u2029":
+        size = wgsl.size("".join(f"{blank}{token}" for token in ("array", "<", "vec3f", ",", "4", ">", "")))
+        expect(size == (64, 16), f"with {blank!r} between tokens a size is {size}")
+    found = wgsl.binary("*", " const vec 3 f32\n", "const\t f32 "), wgsl.call("max", ["vec 2 f32", "const  vec 2 f32"]), wgsl.common([ATOMIC, ATOMIC])
+    expect(found == ("vec3<f32>", "vec2<f32>", "S"), f"operands in words make {found}")
+    component = raised(wgsl.Refused, wgsl.unary, ("&", "component ref<function, f32, read_write>"))
+    expect("component" in str(component) and component.notes == [], f"& of a component raises {component!r}")
+
+
+def check_refused():
+    """A refusal has its notes, and a traceback prints them; what has no overloads has none."""
+    for command in ("binary + vec3<f32> vec3<i32>", "resolve call max - f32 vec2f", " \tresolve unary ! f32"):
+        refused, wanted = raised(wgsl.Refused, wgsl.answer, (command,)), wgsl.answer(f"why {command.replace('resolve', '')}").split("\n")
+        expect(refused.notes == wanted == refused.__notes__, f"{command!r} has the notes {refused.notes}")
+        if hasattr(refused, "add_note"):
+            refused.add_note("as a note of the caller")
+            printed = "".join(traceback.format_exception(refused))
+            expect(printed.endswith("\n".join([f"wgsl.requests.Refused: {refused}", *wanted, "as a note of the caller", ""])), f"a traceback is {printed}")
+    for command in ("member f32 x", "index f32 i32", "let f32 : i32", "type f32 + bool", "fit f32 > i32", "call max - bool" + " " * 4081):
+        refused = raised(wgsl.Refused, wgsl.answer, (command,))
+        expect(refused.notes == refused.__notes__ == [], f"{command[:90]!r} has the notes {refused.notes}")
+    expect(not wgsl.Refused("", "unary ! f32", "wgsl-types").__notes__, "the rules of wgsl-types have notes")
+
+
+def check_copies():
+    """What is raised in another process has the same text and fields here."""
+    raises = [(wgsl.Refused, wgsl.answer, ("unary ! f32", "wgsl-types")), (wgsl.Refused, wgsl.unary, ("!", "f32"))]
+    raises += [(wgsl.Unreadable, wgsl.size, ("int",)), (wgsl.SourceError, wgsl.dtype, ("struct A { a: Nowhere } struct B { a: f32 }", "B"))]
+    for kind, ask, given in raises:
+        error = raised(kind, ask, given)
+        copy = pickle.loads(pickle.dumps(error))
+        expect((type(copy), str(copy), vars(copy)) == (kind, str(error), vars(error)), f"{error!r} is copied as {copy!r}")
+
+
+def check_aliases():
+    """A constructor's alias is its name with a template, also in what is refused."""
+    scalars, asked = {"i": "i32", "u": "u32", "f": "f32", "h": "f16"}, []
+    asked += [(f"vec{n}", s, [scalars[s]] * int(n)) for n in "234" for s in scalars]
+    asked += [(f"mat{c}x{r}", s, [f"vec{r}<{scalars[s]}>"] * int(c)) for c in "234" for r in "234" for s in "fh"]
+    for name, letter, operands in asked:
+        alias, scalar = name + letter, scalars[letter]
+        found = wgsl.construct(alias, operands)
+        expect(found == f"{name}<{scalar}>", f"{alias} of {operands} makes {found}")
+        refused = [raised(wgsl.Refused, wgsl.construct, given) for given in ((alias, ["sampler"]), (name, ["sampler"], scalar))]
+        expect(str(refused[0]) == str(refused[1]) and refused[0].notes == refused[1].notes != [], f"{alias} of a sampler raises {refused[0]!r}")
+    for given in (("vec3f", ["f32"], "f32"), ("mat2x2i", []), ("vec5f", []), ("vec3fh", []), ("avec3f", [])):
+        refused = raised(wgsl.Refused, wgsl.construct, given)
+        expect(f"`{given[0]}" in str(refused), f"{given[0]} raises {refused!r}")
+
+
+def check_source():
+    """A fault of the shader is told with its line, its column and the reason, and has the layouts of the rest."""
+    text = "struct A { a: f32 }\nstruct B { ü: Nowhere }\nstruct C { b: B }\nother"
+    told = wgsl.source_layout(text)
+    first, (line, column) = told["errors"][0]["message"], (2, 16)
+    for ask in (wgsl.source_dtypes, lambda text: wgsl.dtype(text, "A"), lambda text: wgsl.dtype(text, "B"), lambda text: wgsl.dtype(text, "C")):
+        for given in (text, text.encode()):
+            error = raised(wgsl.SourceError, ask, (given,))
+            expect(str(error) == f"line {line}, column {column}: {first}, and 1 more", f"a fault is {error!r}")
+            found = error.line, error.column, error.reason, error.errors, error.layouts
+            expect(found == (line, column, first, told["errors"], told), f"a fault has {found}")
+    error = raised(wgsl.SourceError, wgsl.dtype, ("struct B { a: Nowhere }", "B"))
+    expect(str(error) == f"line 1, column 15: {first}" and isinstance(error, ValueError), f"one fault is {error!r}")
+    expect(wgsl.source_layout(bytearray(text.encode())) == told == wgsl.source_layout(memoryview(text.encode())), "bytes have other layouts")
+
+
+def check_dtypes():
+    """With numpy: the rest of a text with a fault has dtypes, and a struct that isn't there is a KeyError."""
+    try:
+        import numpy
+    except ImportError:
+        return "without numpy"
+    error = raised(wgsl.SourceError, wgsl.source_dtypes, ("struct A { a: vec3f, b: f32 } struct B { a: Nowhere }",))
+    light = numpy.zeros(2, wgsl.dtype(error.layouts, "A"))
+    expect(light.nbytes == 32 and list(wgsl.source_dtypes(error.layouts)) == ["A"], "the rest of a text has other dtypes")
+    for given in (error.layouts, "struct A { a: f32 }", b"", {"structs": []}):
+        expect(raised(KeyError, wgsl.dtype, (given, "B")).args == ("B",), "a struct that isn't there has another error")
+    return "and dtypes"
+
+
+check_arguments()
+check_words()
+check_refused()
+check_copies()
+check_aliases()
+check_source()
+print(f"{len(WRONG_TYPES) + len(MISREAD)} wrong arguments are told by name, faults of a shader by line, {check_dtypes()}")
