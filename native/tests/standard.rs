@@ -3,6 +3,7 @@
 mod random;
 
 use random::{words, Random};
+use std::collections::BTreeSet;
 use wgsl_types_proved::builtin::is_ctor;
 use wgsl_types_proved::requests::standard_answer;
 use wgsl_types_proved::standard::*;
@@ -162,4 +163,62 @@ fn refusals_are_plain_data() {
 fn deeper_operands_are_answered() {
     let deep = (1..300).fold(Type::F32, |ty, _| Type::array(None, ty));
     assert!(type_unary_op(UnaryOperator::Negation, &Operand::new(deep)).is_err());
+}
+
+/// Lists of const-expressions. Each function takes one of them, if it takes no pointer and has a value.
+const ARGUMENTS: [&str; 23] = [
+    "",
+    "1",
+    "1, 1",
+    "1, 1, 1",
+    "1, 1, 1, 1",
+    "true",
+    "1, 1, true",
+    "vec2(1)",
+    "vec3(1), vec3(1)",
+    "vec3(1), vec3(1), 1",
+    "vec3(1), vec3(1), vec3(1)",
+    "vec4(1)",
+    "mat2x2f()",
+    "const texture_2d<f32>",
+    "const texture_2d_array<f32>",
+    "const texture_multisampled_2d<f32>",
+    "const texture_2d<f32>, vec2(1), 1",
+    "const texture_2d<f32>, const sampler, vec2(1)",
+    "const texture_2d<f32>, const sampler, vec2(1), 1",
+    "const texture_2d<f32>, const sampler, vec2(1), vec2(1), vec2(1)",
+    "const texture_depth_2d, const sampler, vec2(1)",
+    "const texture_depth_2d, const sampler_comparison, vec2(1), 1",
+    "1, const texture_2d<f32>, const sampler, vec2(1)",
+];
+
+/// Whether its calls can be const-expressions, as the type of an expression with such a call shows.
+fn is_const_function(name: &str) -> Option<bool> {
+    let parts = ["", ".fract", "[0]"];
+    let calls = ARGUMENTS.iter().flat_map(|list| parts.map(|part| format!("{name}({list}){part}")));
+    calls.into_iter().find_map(|call| {
+        match standard_answer(&format!("type select(1, 2, all({call} == {call}))")).as_deref() {
+            Ok("AbstractInt") => Some(true),
+            Ok("i32") => Some(false),
+            _ => None,
+        }
+    })
+}
+
+#[test]
+fn calls_that_can_be_const_expressions() {
+    let begins = |name: &str, groups: &[&str]| groups.iter().any(|group| name.starts_with(group));
+    let lines = std::fs::read_to_string("tests/lines/built_ins.txt").unwrap();
+    let names = lines.lines().filter_map(|line| line.strip_prefix("call ")?.split(' ').next());
+    let without_template = |name: &&str| overloads(name).iter().any(|listed| !listed.has_template());
+    let names: BTreeSet<&str> = names.filter(without_template).collect();
+    assert!(names.len() > 140);
+    for name in names {
+        let hidden = ["arrayLength", "atomic", "workgroup", "storageBarrier", "textureBarrier", "textureStore"];
+        let expected = match begins(name, &["dpd", "fwidth", "quad", "subgroup", "texture"]) {
+            _ if begins(name, &hidden) => None,
+            at_run_time => Some(!at_run_time),
+        };
+        assert_eq!(is_const_function(name), expected, "{name}");
+    }
 }

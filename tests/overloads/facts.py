@@ -85,7 +85,7 @@ def repository_functions():
 
 def table_names():
     """The functions and constructors that have a table."""
-    return set(re.findall(r'\("(\w+)", \w+\)', read(NAMES)))
+    return set(re.findall(r'\("(\w+)", (?:\w+, )?\w+\)', read(NAMES)))
 
 
 def spelled(name, candidate):

@@ -87,7 +87,7 @@ module _ (answered : EachAnswered) (spelled : EachSpelled) where
   some_element at (Err e) i = (Err e, refl)
 
   some_called : (at : ℕ) (head : Head) (xs : Parts) → (r : Outcome) × IsCalled at head xs r
-  some_called at head (Ok xs) = some_answer_about at (result_of xs) (asked head xs)
+  some_called at head (Ok xs) = some_answer_about at (result_of head xs) (asked head xs)
   some_called at head (Err e) = (Err e, refl)
 
   -- operands with operators between them

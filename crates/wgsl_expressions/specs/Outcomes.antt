@@ -1,11 +1,11 @@
 -- What the parts of an expression are, by the requests about them.
-use Rattle.std.specs.Prelude.{◌≡◌, ℕ, List, [], ◌∷◌, ◌++◌, Option, Some, None, Result, Ok, Err, Bool, false, ◌&&◌, map}
+use Rattle.std.specs.Prelude.{◌≡◌, ℕ, List, [], ◌∷◌, ◌++◌, Option, Some, None, Result, Ok, Err, Bool, true, false, ◌&&◌, map}
 use Rattle.std.specs.List.{list_all}
 use Rattle.wgsl_syntax.specs.declared.operator.BinaryOperator.{BinaryOperator}
 use Rattle.wgsl_rules.specs.standard.Choice.{Operand}
 use Rattle.wgsl_rules.specs.types.Signatures.{Parameter}
 use Rattle.wgsl_rules.specs.types.Types.{WgslType}
-use Rattle.wgsl_standard.specs.Callees.{WgslCallee, a_binary}
+use Rattle.wgsl_standard.specs.Callees.{WgslCallee, a_binary, can_be_const_expression}
 use Rattle.wgsl_forms.specs.Expressions.{Expression, is_const_expression}
 use Rattle.wgsl_forms.specs.Index.{is_vector}
 use Rattle.wgsl_forms.specs.Memory.{behind, is_memory}
@@ -99,13 +99,18 @@ asked_with (typed_array t n) component xs = form_of (typed_array_of t n xs)
 abbrev pub asked : Head → List Expression → WgslRequest
 asked head xs = asked_with head (is_component xs) (map operand xs)
 
--- A call is a const-expression if its operands are. No table says that of some functions it never is: derivatives, subgroups.
-abbrev pub result_of : List Expression → WgslType → Expression
-result_of xs t = record { of_type = t; is_constant = list_all is_constant xs; is_component = false }
+-- whether it makes a const-expression of const-expressions
+abbrev pub makes_constant : Head → Bool
+makes_constant (overloaded callee template) = can_be_const_expression callee
+makes_constant (typed_array t n) = true
+
+-- `max(1u, 2u)` is a const-expression, and `subgroupAdd(1u)` isn't
+abbrev pub result_of : Head → List Expression → WgslType → Expression
+result_of head xs t = record { of_type = t; is_constant = list_all is_constant xs && makes_constant head; is_component = false }
 
 -- `-x`, `x + y`, `f(x, y)`
 abbrev pub IsCalled : ℕ → Head → Parts → Outcome → Type 0
-IsCalled at head (Ok xs) r = IsOutcome at (result_of xs) (asked head xs) r
+IsCalled at head (Ok xs) r = IsOutcome at (result_of head xs) (asked head xs) r
 IsCalled at head (Err e) r = r ≡ Err e
 
 abbrev pub IsBinary : ℕ → BinaryOperator → Outcome → Outcome → Outcome → Type 0

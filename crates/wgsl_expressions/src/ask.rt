@@ -13,7 +13,7 @@ ghost use Rattle.wgsl_requests.specs.Requests.{form_of};
 ghost use Rattle.wgsl_requests.specs.StandardViews.{written_view};
 ghost use Rattle.wgsl_requests.specs.Views.{request_view};
 ghost use Rattle.wgsl_text.specs.internal.Asked.{called};
-ghost use Rattle.wgsl_expressions.specs.Outcomes.{IsBinary, IsCalled, IsElement, IsMember, asked, asked_with, is_component, is_constant, marked, operand, part_in};
+ghost use Rattle.wgsl_expressions.specs.Outcomes.{IsBinary, IsCalled, IsElement, IsMember, asked, asked_with, is_component, is_constant, makes_constant, marked, operand, part_in};
 ghost use Rattle.wgsl_expressions.specs.Views.{IsFound, found_outcome, head_view, outcome_view, refused_view, shown, typed_view};
 
 use crate::head::Head;
@@ -27,7 +27,7 @@ use wgsl_requests::answers::Answer;
 use wgsl_requests::ask::answer;
 use wgsl_requests::call_forms::form_of_call;
 use wgsl_requests::requests::{Call, Form, Request};
-use wgsl_standard::callee::Callee;
+use wgsl_standard::callee::{Callee, can_be_const_expression};
 use wgsl_standard::operand::Operand;
 use wgsl_standard::substitution::built;
 use wgsl_syntax::operator::BinaryOperator;
@@ -200,7 +200,7 @@ pub(crate) fn call(
         Err(refused) => return Ok(Err(refused)),
     };
     let found = ask_of(alloc, head, &parts)?;
-    let is_constant = are_constant(&parts);
+    let is_constant = are_constant(&parts) && makes_constant(head);
     drop(parts);
     match found {
         Ok(ty) => Ok(Ok(Typed {
@@ -242,6 +242,16 @@ fn are_constant(parts: &[Typed]) -> bool
         }
     }
     true
+}
+
+/// Whether it makes a const-expression of const-expressions.
+fn makes_constant(head: &Head) -> bool
+    ensures { result ≡ makes_constant (head_view head.now) }
+{
+    match head {
+        Head::Function(name, _) => can_be_const_expression(Callee::Function(name.as_str())),
+        Head::Unary(_) | Head::Binary(_) | Head::Constructor(_, _) | Head::Array(_, _) => true,
+    }
 }
 
 fn operands_of<'p>(alloc: Global, parts: &'p [Typed]) -> Result<Vec<Operand<'p>>, AllocError>

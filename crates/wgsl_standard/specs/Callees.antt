@@ -5,6 +5,7 @@ use Rattle.wgsl_syntax.specs.declared.operator.UnaryOperator.{UnaryOperator}
 use Rattle.wgsl_syntax.specs.declared.overload.Overload.{Overload}
 use Rattle.wgsl_rules.specs.standard.Operators.{binary_overloads, unary_overloads}
 use Rattle.wgsl_rules.specs.standard.Names.{function_table, template_function_table, overloads_named}
+use Rattle.wgsl_rules.specs.standard.Evaluation.{is_const_function}
 use Rattle.wgsl_rules.specs.standard.ConstructorNames.{constructor_table, template_constructor_table}
 use Rattle.wgsl_standard.specs.declared.callee.Callee.{Callee}
 use Rattle.wgsl_standard.specs.declared.callee.Callee.TheVariants as callees
@@ -35,3 +36,8 @@ overloads_listed (a_constructor name) true = overloads_named name template_const
 
 abbrev pub overloads_of : Callee → Bool → Option (List Overload)
 overloads_of callee has_template = overloads_listed (callee_view callee) has_template
+
+-- Whether a call can be a const-expression. The operators and constructors always can.
+abbrev pub can_be_const_expression : WgslCallee → Bool
+can_be_const_expression (a_function name) = is_const_function name
+can_be_const_expression callee = true

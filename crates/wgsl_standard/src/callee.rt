@@ -1,13 +1,13 @@
 // What is called, and its overloads.
 ghost use Rattle.std.specs.Prelude.{◌≡◌, ◌<◌, ◌^◌, length, option_map, IfSome};
 ghost use Rattle.wgsl_rules.specs.standard.Tables.{IsUnambiguous};
-ghost use Rattle.wgsl_standard.specs.Callees.{overloads_of};
+ghost use Rattle.wgsl_standard.specs.Callees.{callee_view, can_be_const_expression as can_be_there, overloads_of};
 ghost use Rattle.wgsl_standard.specs.Explained.{or_none};
 
-use crate::names::{constructors, find, find_function, templates};
+use crate::names::{constructors, evaluation, find, find_function, templates};
 use crate::operators::{binary_overloads, unary_overloads};
 use wgsl_syntax::operator::{BinaryOperator, UnaryOperator};
-use wgsl_syntax::overload::Overload;
+use wgsl_syntax::overload::{Evaluation, Overload};
 use wgsl_tables::names::TEMPLATE_FUNCTIONS;
 
 /// What is called: an operator, a built-in function or a constructor.
@@ -52,5 +52,15 @@ pub fn listed_overloads(callee: Callee<'_>, has_template: bool) -> &'static [Ove
     match overloads(callee, has_template) {
         Some(overloads) => overloads,
         None => &[],
+    }
+}
+
+/// Whether a call can be a const-expression. It is one if its operands are too.
+pub fn can_be_const_expression(callee: Callee<'_>) -> bool
+    ensures { result ≡ can_be_there (callee_view callee.entry) }
+{
+    match callee {
+        Callee::Function(name) => !matches!(evaluation(name), Some(Evaluation::Runtime)),
+        Callee::Unary(_) | Callee::Binary(_) | Callee::Constructor(_) => true,
     }
 }

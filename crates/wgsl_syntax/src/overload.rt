@@ -138,6 +138,15 @@ pub enum Parameters {
     AndTimes(Pattern, u8, Pattern),
 }
 
+/// When the calls of a function are evaluated.
+#[derive(Clone, Copy)]
+pub enum Evaluation {
+    /// Before the shader runs if all arguments are const-expressions: then the call is one too.
+    Constant,
+    /// While the shader runs: no call is a const-expression.
+    Runtime,
+}
+
 /// An overload: its parameters, its result, and the kinds of its letters for scalars, T, U, V and W.
 #[derive(Clone, Copy)]
 pub enum Overload {

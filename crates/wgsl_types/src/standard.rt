@@ -17,7 +17,7 @@ use wgsl_core::error::Fail;
 use wgsl_core::ty::Type;
 pub use wgsl_standard::answer::NoOverload;
 use wgsl_standard::answer::type_of_call;
-pub use wgsl_standard::callee::{Callee, overloads};
+pub use wgsl_standard::callee::{Callee, can_be_const_expression, overloads};
 pub use wgsl_standard::explanation::{Note, explain};
 pub use wgsl_standard::operand::{Operand, OperandType};
 pub use wgsl_standard::refusal::{Mismatch, refused_by};
