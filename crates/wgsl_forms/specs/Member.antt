@@ -54,7 +54,7 @@ are_distinct [] = true
 are_distinct (c ∷ cs) = not (list_any (λ l. nat_eq l c) cs) && are_distinct cs
 
 -- Several components of a vector that can be loaded. They can be assigned to if no letter stands twice.
-abbrev loaded_components : Operand → List ℕ → WgslType → Result WgslType Refusal → Result Expression Refusal
+abbrev pub loaded_components : Operand → List ℕ → WgslType → Result WgslType Refusal → Result Expression Refusal
 loaded_components x name t (Ok whole) = Ok (cond (are_distinct name) (part_of x referents.Swizzle t) (value_from x t))
 loaded_components x name t (Err r) = Err r
 
