@@ -52,6 +52,7 @@ mod refusal;
 mod resolve;
 mod statements;
 
+pub use crate::proved::wgsl_forms::form::Referent;
 use crate::proved::wgsl_standard as proved;
 use crate::syntax::{BinaryOperator, UnaryOperator};
 use crate::ty::Type;
@@ -76,8 +77,8 @@ pub struct Operand {
     pub ty: Type,
     /// Whether it is a const-expression. If one operand isn't, no operand converts to an abstract type.
     pub is_constant: bool,
-    /// Whether it is a reference to a component of a vector, of which there is no pointer. Its type doesn't say so.
-    pub is_component: bool,
+    /// What it refers to, if it is a reference to components of a vector. Its type doesn't say so.
+    pub referent: Referent,
 }
 
 impl Operand {
@@ -91,7 +92,7 @@ impl Operand {
     /// ```
     pub fn new(ty: Type) -> Operand {
         let is_constant = ty.is_abstract();
-        Operand { ty, is_constant, is_component: false }
+        Operand { ty, is_constant, referent: Referent::Whole }
     }
 
     /// A const-expression of that type, such as a literal, a constant, or what is computed from these alone.
@@ -107,7 +108,26 @@ impl Operand {
     /// assert_eq!(shifted(Operand::new(Type::U32)), Ok(Type::I32));
     /// ```
     pub fn constant(ty: Type) -> Operand {
-        Operand { ty, is_constant: true, is_component: false }
+        Operand { ty, is_constant: true, referent: Referent::Whole }
+    }
+
+    /// The type as requests show it: of a swizzle that of its value, although it can be assigned to.
+    ///
+    /// ```
+    /// use wgsl_types_proved::standard::{assign, type_of_member, Operand};
+    ///
+    /// let v = Operand::new("ref<function, vec3<f32>, read_write>".parse()?);
+    /// let swizzle = type_of_member(&v, "zx").unwrap();
+    /// assert_eq!(swizzle.ty, "ref<function, vec2<f32>, read_write>".parse()?);
+    /// assert_eq!(*swizzle.shown_type(), "vec2<f32>".parse()?);
+    /// assert_eq!(assign(&swizzle, &swizzle), Ok("vec2<f32>".parse()?));
+    /// # Ok::<(), wgsl_types_proved::ty::SpellingError>(())
+    /// ```
+    pub fn shown_type(&self) -> &Type {
+        match (self.referent, &self.ty) {
+            (Referent::Swizzle, Type::Ref(_, value, _)) => value,
+            (_, ty) => ty,
+        }
     }
 
     #[inline(always)]

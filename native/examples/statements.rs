@@ -101,7 +101,7 @@ fn one() -> Expr {
 }
 
 fn show_expressions(scope: &Scope) {
-    let show_type = |what, expr| show(what, scope.type_of(&expr).map(|x| x.ty));
+    let show_type = |what, expr| show(what, scope.type_of(&expr).map(|x| x.shown_type().clone()));
     show_type("light.position.zy", of(of(Name("light"), "position"), "zy"));
     show_type("&c", Unary(AddressOf, Box::new(Name("c"))));
     show_type("&c.x", Unary(AddressOf, Box::new(of(Name("c"), "x"))));

@@ -1,6 +1,6 @@
 //! Members, indexes, loads, `&` and `*`.
 
-use super::{Operand, Refusal};
+use super::{Operand, Referent, Refusal};
 use crate::proved::wgsl_forms as proved;
 use crate::proved::wgsl_forms::form::{Form, FormType, UnbuiltType};
 use crate::shim::always;
@@ -10,8 +10,9 @@ use crate::ty::Type;
 /// What `x.name` is (WGSL, "Vector Access Expression", "Structure Access Expression"): a member of a struct, a component of a
 /// vector, or several components.
 ///
-/// In memory, behind a reference or a pointer, a member or a component is a reference to it; several components are loaded.
-/// [`Refusal::Component`] if there is no such part, [`Refusal::NotRead`] if several components can't be loaded.
+/// In memory, behind a reference or a pointer, it is a reference to that part. Several components are one if no letter stands
+/// twice, a [swizzle](Referent::Swizzle) that can be assigned to; else they are a value. [`Refusal::Component`] if there is no
+/// such part, [`Refusal::NotRead`] if several components can't be loaded.
 ///
 /// ```
 /// use wgsl_types_proved::standard::{type_of_member, Operand, Refusal};
@@ -19,7 +20,8 @@ use crate::ty::Type;
 ///
 /// let v = Operand::new("ref<storage, vec3<f32>, read>".parse()?);
 /// assert_eq!(type_of_member(&v, "z").unwrap().ty, "ref<storage, f32, read>".parse()?);
-/// assert_eq!(type_of_member(&v, "zyx").unwrap().ty, Type::vector(3, Type::F32));
+/// assert_eq!(type_of_member(&v, "zyx").unwrap().ty, v.ty);
+/// assert_eq!(type_of_member(&v, "zzz").unwrap().ty, Type::vector(3, Type::F32));
 /// let refused = type_of_member(&v, "w").unwrap_err();
 /// assert_eq!(refused, Refusal::Component(Type::vector(3, Type::F32), "w".to_string()));
 /// # Ok::<(), wgsl_types_proved::ty::SpellingError>(())
@@ -52,7 +54,7 @@ pub fn type_of_index(x: &Operand, index: &Operand) -> Result<Operand, Refusal> {
 /// What `&x` is (WGSL, "Address-Of Expression"): the pointer for a reference.
 ///
 /// [`Refusal::Unary`] if `x` is no reference, [`Refusal::PtrHandle`] if it is one in the handle space,
-/// [`Refusal::PtrVecComp`] if it is one to a component of a vector.
+/// [`Refusal::PtrVecComp`] if it is one to components of a vector.
 ///
 /// ```
 /// use wgsl_types_proved::standard::{address_of, type_of_member, Operand, Refusal};
@@ -64,7 +66,7 @@ pub fn type_of_index(x: &Operand, index: &Operand) -> Result<Operand, Refusal> {
 /// # Ok::<(), wgsl_types_proved::ty::SpellingError>(())
 /// ```
 pub fn address_of(x: &Operand) -> Result<Operand, Refusal> {
-    Ok(expression(proved::address::address_of(&x.given(), x.is_component)?))
+    Ok(expression(proved::address::address_of(&x.given(), x.referent)?))
 }
 
 /// What `*x` is (WGSL, "Indirection Expression"): the reference for a pointer. [`Refusal::Unary`] if `x` is no pointer.
@@ -98,13 +100,13 @@ pub fn indirection(x: &Operand) -> Result<Operand, Refusal> {
 pub fn load(x: &Operand) -> Result<Operand, Refusal> {
     let loaded = proved::load::load(&x.given())?;
     let ty = built_form(FormType::of(UnbuiltType::of(loaded.ty)));
-    Ok(Operand { ty, is_constant: loaded.is_constant, is_component: false })
+    Ok(Operand { ty, is_constant: loaded.is_constant, referent: Referent::Whole })
 }
 
 #[inline(always)]
 fn expression(form: Form<'_>) -> Operand {
-    let Form { ty, is_constant, is_component } = form;
-    Operand { ty: built_form(ty), is_constant, is_component }
+    let Form { ty, is_constant } = form;
+    Operand { ty: built_form(ty), is_constant, referent: ty.referent() }
 }
 
 #[inline(always)]

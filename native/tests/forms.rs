@@ -62,19 +62,20 @@ fn parts_are_operands() {
         assert_eq!(part(type_of_index(&vector, &one)).is_constant, constant);
         assert_eq!(part(load(&vector)).is_constant, constant);
         let element = part(type_of_index(&vector, &i));
-        assert_eq!((element.is_constant, element.is_component), (false, false));
+        assert_eq!((element.is_constant, element.referent), (false, Referent::Whole));
     }
 
     let matrix = Operand::new("ref<function, mat2x3<f32>, read_write>".parse().unwrap());
     let column = part(type_of_index(&matrix, &i));
     let component = part(type_of_index(&column, &i));
-    assert_eq!((column.is_component, component.is_component), (false, true));
+    assert_eq!((column.referent, component.referent), (Referent::Whole, Referent::Component));
     let pointer = part(address_of(&column));
     assert_eq!(part(indirection(&pointer)), column);
     assert_eq!(part(type_of_member(&pointer, "y")), component);
-    assert!(!part(type_of_member(&pointer, "yx")).is_component);
+    assert_eq!(part(type_of_member(&pointer, "yx")).referent, Referent::Swizzle);
+    assert_eq!(part(type_of_member(&pointer, "yy")).referent, Referent::Whole);
     assert_eq!(address_of(&component), Err(Refusal::PtrVecComp));
-    assert!(!part(load(&component)).is_component);
+    assert_eq!(part(load(&component)).referent, Referent::Whole);
 }
 
 /// The answer to a question.
@@ -104,14 +105,15 @@ fn answer(words: &mut Words) -> Result<String, Refusal> {
 }
 
 fn typed(found: Result<Operand, Refusal>) -> Result<Type, Refusal> {
-    found.map(|operand| operand.ty)
+    found.map(|operand| operand.shown_type().clone())
 }
 
 fn memory_operator(words: &mut Words) -> Result<Operand, Refusal> {
     match words.name() {
         Some(UnaryOperator::AddressOf) => {
             let is_component = words.take("component");
-            address_of(&Operand { is_component, ..words.operand() })
+            let referent = if is_component { Referent::Component } else { Referent::Whole };
+            address_of(&Operand { referent, ..words.operand() })
         }
         _ => indirection(&words.operand()),
     }

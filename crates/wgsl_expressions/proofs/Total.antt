@@ -14,7 +14,7 @@ use Rattle.wgsl_requests.specs.Requests.{WgslRequest, form_of}
 use Rattle.wgsl_expressions.specs.Grammar.{ArgumentsAt, CallOf, Closed, ExpressionOf, Group, IsGrouped, IsJoinedIf, IsTyped, Made, NamedAt, NamedPart, OperandOf, OperandsAt, PartAt, PostfixAt, PrimaryAt, TypeAt, TypeBy, UnaryAt, argument_and_more, closed_with, element_at, found_group, given, last_argument, last_operand, member_at, no_argument, no_element, no_member, no_operand, no_postfix, not_ascii, nothing, nothing_left, nothing_right, of_tokens, operand_and_more, operand_is, operator_is, too_many, typed_at, whole}
 use Rattle.wgsl_expressions.specs.Names.{HeadBy, IsHead, IsOther, IsSpelled, Named, callee_named, constructor_of, named_at, text_of, with_type}
 use Rattle.wgsl_expressions.specs.Operators.{binding_of, last_applied, operator_at, takes_left, takes_right}
-use Rattle.wgsl_expressions.specs.Outcomes.{Head, IsCalled, IsElement, IsMember, IsOutcome, Outcome, Parts, asked, is_constant, no_parts, operand, outcome_by, overloaded, part_in, result_of, type_of_answer, with_part}
+use Rattle.wgsl_expressions.specs.Outcomes.{Head, IsCalled, IsElement, IsMember, IsOutcome, Outcome, Parts, asked, is_constant, member_in, no_parts, operand, outcome_by, overloaded, part_in, result_of, type_of_answer, with_part}
 use Rattle.wgsl_expressions.specs.Reading.{Found, Only, Reader, Then, behind_sign}
 use Rattle.wgsl_expressions.specs.Starts.{name_at, start_of}
 use Rattle.wgsl_expressions.specs.Tokens.{Token, tokens_of}
@@ -78,7 +78,7 @@ module _ (answered : EachAnswered) (spelled : EachSpelled) where
   some_answer_about at expression request = let a = answered request in (outcome_by at expression a.0 (type_of_answer a.0), (a.0, a.1, refl))
 
   some_member : (at : ℕ) (name : List ℕ) (x : Outcome) → (r : Outcome) × IsMember at name x r
-  some_member at name (Ok x) = some_answer_about at (part_in x (is_constant x)) (form_of (member_of (operand x) name))
+  some_member at name (Ok x) = some_answer_about at (member_in x name) (form_of (member_of (operand x) name))
   some_member at name (Err e) = (Err e, refl)
 
   some_element : (at : ℕ) (x i : Outcome) → (r : Outcome) × IsElement at x i r

@@ -6,6 +6,7 @@ use Rattle.wgsl_rules.specs.types.Types.{WgslType, scalar}
 use Rattle.wgsl_standard.specs.Callees.{a_unary}
 use Rattle.wgsl_forms.specs.Concrete.{has_abstract_type}
 use Rattle.wgsl_forms.specs.Expressions.{Expression}
+use Rattle.wgsl_forms.specs.declared.form.Referent.TheVariants.{Whole}
 use Rattle.wgsl_expressions.specs.Names.{Named, IsHead, IsSpelled, named_at, text_of}
 use Rattle.wgsl_expressions.specs.Operators.{binding_of, last_applied, operator_at, takes_left, takes_right}
 use Rattle.wgsl_expressions.specs.Outcomes.{Head, IsBinary, IsCalled, IsElement, IsMember, Outcome, Parts, no_parts, overloaded, with_part}
@@ -18,7 +19,7 @@ use Rattle.wgsl_expressions.specs.declared.start.Start.TheVariants as starts
 
 -- an operand that is given by its type; what has an abstract type is a const-expression
 abbrev pub given : Bool → WgslType → Expression
-given is_constant t = record { of_type = t; is_constant = is_constant; is_component = false }
+given is_constant t = record { of_type = t; is_constant = is_constant; referent = Whole }
 
 -- operands with operators between them: how loosely the operator that is applied last binds, and the outcome of all
 

@@ -1,14 +1,18 @@
 -- What the parts of an expression are, by the requests about them.
-use Rattle.std.specs.Prelude.{◌≡◌, ℕ, List, [], ◌∷◌, ◌++◌, Option, Some, None, Result, Ok, Err, Bool, true, false, ◌&&◌, map}
+use Rattle.std.specs.Prelude.{◌≡◌, ℕ, List, [], ◌∷◌, ◌++◌, Option, Some, None, Result, Ok, Err, Bool, true, cond, ◌&&◌, map}
 use Rattle.std.specs.List.{list_all}
 use Rattle.wgsl_syntax.specs.declared.operator.BinaryOperator.{BinaryOperator}
+use Rattle.wgsl_syntax.specs.declared.operator.UnaryOperator.TheVariants.{AddressOf}
 use Rattle.wgsl_rules.specs.standard.Choice.{Operand}
 use Rattle.wgsl_rules.specs.types.Signatures.{Parameter}
 use Rattle.wgsl_rules.specs.types.Types.{WgslType}
-use Rattle.wgsl_standard.specs.Callees.{WgslCallee, a_binary, can_be_const_expression}
-use Rattle.wgsl_forms.specs.Expressions.{Expression, is_const_expression}
+use Rattle.wgsl_standard.specs.Callees.{WgslCallee, a_binary, a_unary, can_be_const_expression}
+use Rattle.wgsl_forms.specs.Expressions.{Expression, is_const_expression, shown_type}
 use Rattle.wgsl_forms.specs.Index.{is_vector}
-use Rattle.wgsl_forms.specs.Memory.{behind, is_memory}
+use Rattle.wgsl_forms.specs.Member.{is_swizzle}
+use Rattle.wgsl_forms.specs.Memory.{behind, formed_from, is_memory}
+use Rattle.wgsl_forms.specs.declared.form.Referent.{Referent}
+use Rattle.wgsl_forms.specs.declared.form.Referent.TheVariants.{Whole, Component, Swizzle}
 use Rattle.wgsl_requests.specs.Answers.{Answers, WgslAnswer, a_type_of, a_form_type}
 use Rattle.wgsl_requests.specs.CallForms.{type_asked}
 use Rattle.wgsl_requests.specs.Forms.{address_of, index_of, member_of, typed_array_of}
@@ -62,11 +66,18 @@ IsOutcome at expression request r =
 
 -- a component of a vector in memory is marked, since there is no pointer to it
 abbrev pub part_in : Expression → Bool → WgslType → Expression
-part_in x is_constant t = record { of_type = t; is_constant = is_constant; is_component = is_memory t && is_vector (behind x.of_type) }
+part_in x is_constant t = record { of_type = t; is_constant = is_constant; referent = cond (is_memory t && is_vector (behind x.of_type)) Component Whole }
+
+-- A swizzle of a reference is one again. What is answered is the type of its value.
+abbrev pub swizzle_in : Expression → WgslType → Expression
+swizzle_in x t = record { of_type = formed_from x.of_type t; is_constant = is_constant x; referent = Swizzle }
+
+abbrev pub member_in : Expression → List ℕ → WgslType → Expression
+member_in x name t = cond (is_swizzle (operand x) name) (swizzle_in x t) (part_in x (is_constant x) t)
 
 -- `x.name`
 abbrev pub IsMember : ℕ → List ℕ → Outcome → Outcome → Type 0
-IsMember at name (Ok x) r = IsOutcome at (part_in x (is_constant x)) (form_of (member_of (operand x) name)) r
+IsMember at name (Ok x) r = IsOutcome at (member_in x name) (form_of (member_of (operand x) name)) r
 IsMember at name (Err e) r = r ≡ Err e
 
 -- `x[i]`
@@ -81,23 +92,28 @@ pub data Head : Type 0 where
   -- `array<f32, 4>`
   typed_array : WgslType → Option ℕ → Head
 
--- the only operand is a reference to a component of a vector
-abbrev pub is_component : List Expression → Bool
-is_component (x ∷ []) = x.is_component
-is_component xs = false
+-- what the only operand refers to
+abbrev pub referent_of : List Expression → Referent
+referent_of (x ∷ []) = x.referent
+referent_of xs = Whole
 
--- the request, which says of the operand of `&` whether it is such a reference
-abbrev pub marked : Bool → WgslRequest → WgslRequest
-marked component (form_of (address_of x c)) = form_of (address_of x component)
-marked component request = request
+-- the request, which says of the operand of `&` what it refers to
+abbrev pub marked : Referent → WgslRequest → WgslRequest
+marked referent (form_of (address_of x r)) = form_of (address_of x referent)
+marked referent request = request
+
+-- an operand of a head: a swizzle counts as its value, but `&` is asked of the reference
+abbrev pub operand_by : Head → Expression → Operand
+operand_by (overloaded (a_unary AddressOf) template) x = operand x
+operand_by head x = record { of_type = shown_type x; is_constant = x.is_constant }
 
 -- what is asked of a head with these operands, as the requests have them
-abbrev pub asked_with : Head → Bool → List Operand → WgslRequest
-asked_with (overloaded callee template) component xs = marked component (type_asked (record { callee = callee; template = template; operands = xs }))
-asked_with (typed_array t n) component xs = form_of (typed_array_of t n xs)
+abbrev pub asked_with : Head → Referent → List Operand → WgslRequest
+asked_with (overloaded callee template) referent xs = marked referent (type_asked (record { callee = callee; template = template; operands = xs }))
+asked_with (typed_array t n) referent xs = form_of (typed_array_of t n xs)
 
 abbrev pub asked : Head → List Expression → WgslRequest
-asked head xs = asked_with head (is_component xs) (map operand xs)
+asked head xs = asked_with head (referent_of xs) (map (operand_by head) xs)
 
 -- whether it makes a const-expression of const-expressions
 abbrev pub makes_constant : Head → Bool
@@ -106,7 +122,7 @@ makes_constant (typed_array t n) = true
 
 -- `max(1u, 2u)` is a const-expression, and `subgroupAdd(1u)` isn't
 abbrev pub result_of : Head → List Expression → WgslType → Expression
-result_of head xs t = record { of_type = t; is_constant = list_all is_constant xs && makes_constant head; is_component = false }
+result_of head xs t = record { of_type = t; is_constant = list_all is_constant xs && makes_constant head; referent = Whole }
 
 -- `-x`, `x + y`, `f(x, y)`
 abbrev pub IsCalled : ℕ → Head → Parts → Outcome → Type 0

@@ -3,6 +3,7 @@ use Rattle.std.specs.Prelude.{◌≡◌, ◌<◌, ◌-◌, ◌+◌, ◌++◌, �
 use Rattle.std.specs.List.{take_while}
 use Rattle.std.specs.Str.{bytes_eq}
 use Rattle.wgsl_rules.specs.types.Spelling.{wgsl_spelling}
+use Rattle.wgsl_forms.specs.Expressions.{shown_type}
 use Rattle.wgsl_text.specs.Replies.{IsLineOfText, IsReplyToLine as IsReplyToWords, ReplyText, answer, nothing, unreadable}
 use Rattle.wgsl_text.specs.Words.{has_line_feed, is_separator, words_of}
 use Rattle.wgsl_syntax.specs.declared.rules.RuleSet.{RuleSet}
@@ -34,7 +35,7 @@ outcome_kind (Ok x) = kinds.Answer
 outcome_kind (Err e) = kinds.Refusal
 
 abbrev pub outcome_text : ℕ → Outcome → List ℕ
-outcome_text before (Ok x) = wgsl_spelling x.of_type
+outcome_text before (Ok x) = wgsl_spelling (shown_type x)
 outcome_text before (Err e) = codes "column " ++ (decimal (before + e.at + 1) ++ (codes ": " ++ e.message))
 
 abbrev pub expression_reply : ℕ → Option Outcome → ReplyText

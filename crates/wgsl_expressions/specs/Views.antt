@@ -23,7 +23,7 @@ use Rattle.wgsl_expressions.specs.declared.outcome.Typed.{Typed}
 use Rattle.wgsl_expressions.specs.declared.outcome.Refused.{Refused as CodeRefused}
 
 abbrev pub typed_view : Typed → Expression
-typed_view x = record { of_type = view x.ty; is_constant = x.is_constant; is_component = x.is_component }
+typed_view x = record { of_type = view x.ty; is_constant = x.is_constant; referent = x.referent }
 
 abbrev pub refused_view : CodeRefused → Refused
 refused_view e = record { at = e.at; message = string_bytes e.message }

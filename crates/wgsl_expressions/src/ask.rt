@@ -1,8 +1,7 @@
 // Requests about the parts of an expression.
 ghost use Rattle.std.specs.Prelude.{◌≡◌, IfOk, map, option_map, string_bytes};
 ghost use Rattle.wgsl_core.specs.View.{view};
-ghost use Rattle.wgsl_forms.specs.Index.{is_vector};
-ghost use Rattle.wgsl_forms.specs.Memory.{behind, is_memory};
+ghost use Rattle.wgsl_forms.specs.Memory.{formed_from, is_memory};
 ghost use Rattle.wgsl_core.specs.Instances.{parameter_view};
 ghost use Rattle.wgsl_standard.specs.Callees.{callee_view};
 ghost use Rattle.wgsl_requests.specs.CallForms.{type_asked};
@@ -13,16 +12,18 @@ ghost use Rattle.wgsl_requests.specs.Requests.{form_of};
 ghost use Rattle.wgsl_requests.specs.StandardViews.{written_view};
 ghost use Rattle.wgsl_requests.specs.Views.{request_view};
 ghost use Rattle.wgsl_text.specs.internal.Asked.{called};
-ghost use Rattle.wgsl_expressions.specs.Outcomes.{IsBinary, IsCalled, IsElement, IsMember, asked, asked_with, is_component, is_constant, makes_constant, marked, operand, part_in};
+ghost use Rattle.wgsl_expressions.specs.Outcomes.{IsBinary, IsCalled, IsElement, IsMember, asked, asked_with, is_constant, makes_constant, marked, member_in, operand, operand_by, part_in, referent_of, swizzle_in};
 ghost use Rattle.wgsl_expressions.specs.Views.{IsFound, found_outcome, head_view, outcome_view, refused_view, shown, typed_view};
 
 use crate::head::Head;
-use crate::outcome::{Outcome, Parts, Refused, Typed, with_part};
+use crate::outcome::{Outcome, Parts, Refused, Typed, behind, shown_type, with_part};
 use std::alloc::{AllocError, Global};
 use wgsl_core::signature::TpltParam;
 use wgsl_core::ty::Type;
 use wgsl_core::ty::form::Form as TypeForm;
 use wgsl_forms::expression::is_const_expression;
+use wgsl_forms::form::Referent;
+use wgsl_forms::member::is_swizzle;
 use wgsl_requests::answers::Answer;
 use wgsl_requests::ask::answer;
 use wgsl_requests::call_forms::form_of_call;
@@ -30,7 +31,7 @@ use wgsl_requests::requests::{Call, Form, Request};
 use wgsl_standard::callee::{Callee, can_be_const_expression};
 use wgsl_standard::operand::Operand;
 use wgsl_standard::substitution::built;
-use wgsl_syntax::operator::BinaryOperator;
+use wgsl_syntax::operator::{BinaryOperator, UnaryOperator};
 use wgsl_text::write::write;
 
 /// The type that is answered to a request, or the text of the answer.
@@ -79,9 +80,57 @@ pub(crate) fn member(
         Err(refused) => return Ok(Err(refused)),
     };
     let found = ask_member(alloc, &x, name)?;
-    let outcome = part_of(at, &x, is_constant(&x), found);
+    let outcome = member_of(alloc, at, name, &x, found);
     drop(x);
-    Ok(outcome)
+    outcome
+}
+
+/// The member of an expression of which this was answered.
+fn member_of(
+    alloc: Global,
+    at: usize,
+    name: &str,
+    x: &Typed,
+    found: Result<Type, String>,
+) -> Result<Outcome, AllocError>
+    ensures { IfOk result (λ y. outcome_view y ≡ found_outcome at (member_in (typed_view x.now) name.now) (shown view string_bytes found)) }
+{
+    if is_swizzle(&operand_of(x), name) {
+        swizzle_of(alloc, at, x, found)
+    } else {
+        Ok(part_of(at, x, is_constant(x), found))
+    }
+}
+
+/// The swizzle of an expression of which this was answered.
+fn swizzle_of(
+    alloc: Global,
+    at: usize,
+    x: &Typed,
+    found: Result<Type, String>,
+) -> Result<Outcome, AllocError>
+    ensures { IfOk result (λ y. outcome_view y ≡ found_outcome at (swizzle_in (typed_view x.now)) (shown view string_bytes found)) }
+{
+    match found {
+        Ok(ty) => Ok(Ok(Typed {
+            ty: formed_from(alloc, &x.ty, ty)?,
+            is_constant: is_constant(x),
+            referent: Referent::Swizzle,
+        })),
+        Err(message) => Ok(Err(Refused { at, message })),
+    }
+}
+
+/// What is formed from a type, with the type of a part: in memory a reference to the part.
+fn formed_from(alloc: Global, ty: &Type, part: Type) -> Result<Type, AllocError>
+    ensures { IfOk result (λ t. view t ≡ formed_from (view ty.now) (view part)) }
+{
+    match ty.form() {
+        TypeForm::Reference(space, _, access) | TypeForm::Pointer(space, _, access) => {
+            Ok(Type::Ref(space, Box::new(alloc, part)?, access))
+        }
+        _ => Ok(part),
+    }
 }
 
 fn ask_member<'p>(
@@ -142,11 +191,15 @@ fn part_of(at: usize, x: &Typed, is_constant: bool, found: Result<Type, String>)
 {
     match found {
         Ok(ty) => {
-            let is_component = is_memory(&ty) && is_vector_behind(&x.ty);
+            let referent = if is_memory(&ty) && behind(&x.ty).is_vec() {
+                Referent::Component
+            } else {
+                Referent::Whole
+            };
             Ok(Typed {
                 ty,
                 is_constant,
-                is_component,
+                referent,
             })
         }
         Err(message) => Err(Refused { at, message }),
@@ -160,16 +213,6 @@ fn is_memory(ty: &Type) -> bool
         ty.form(),
         TypeForm::Reference(_, _, _) | TypeForm::Pointer(_, _, _)
     )
-}
-
-/// Whether the type, or the one behind a reference or a pointer, is a vector.
-fn is_vector_behind(ty: &Type) -> bool
-    ensures { result ≡ is_vector (behind (view ty.now)) }
-{
-    match ty.form() {
-        TypeForm::Reference(_, inner, _) | TypeForm::Pointer(_, inner, _) => inner.is_vec(),
-        _ => ty.is_vec(),
-    }
 }
 
 /// `x + y`, whose operator is at that byte.
@@ -206,7 +249,7 @@ pub(crate) fn call(
         Ok(ty) => Ok(Ok(Typed {
             ty,
             is_constant,
-            is_component: false,
+            referent: Referent::Whole,
         })),
         Err(message) => Ok(Err(Refused { at, message })),
     }
@@ -216,19 +259,19 @@ pub(crate) fn call(
 fn ask_of(alloc: Global, head: &Head, parts: &[Typed]) -> Result<Result<Type, String>, AllocError>
     ensures { IfOk result (λ found. IsFound (asked (head_view head.now) (map typed_view parts.now)) (shown view string_bytes found)) }
 {
-    let operands = operands_of(alloc, parts)?;
-    let found = ask_with(alloc, head, is_component(parts), &operands);
+    let operands = operands_of(alloc, head, parts)?;
+    let found = ask_with(alloc, head, referent_of(parts), &operands);
     drop(operands);
     found
 }
 
-/// Whether the only operand is a reference to a component of a vector.
-fn is_component(parts: &[Typed]) -> bool
-    ensures { result ≡ is_component (map typed_view parts.now) }
+/// What the only operand refers to.
+fn referent_of(parts: &[Typed]) -> Referent
+    ensures { result ≡ referent_of (map typed_view parts.now) }
 {
     match parts {
-        [x] => x.is_component,
-        _ => false,
+        [x] => x.referent,
+        _ => Referent::Whole,
     }
 }
 
@@ -254,51 +297,58 @@ fn makes_constant(head: &Head) -> bool
     }
 }
 
-fn operands_of<'p>(alloc: Global, parts: &'p [Typed]) -> Result<Vec<Operand<'p>>, AllocError>
-    ensures { IfOk result (λ v. map written_view v.items ≡ map operand (map typed_view parts.now)) }
+fn operands_of<'p>(
+    alloc: Global,
+    head: &Head,
+    parts: &'p [Typed],
+) -> Result<Vec<Operand<'p>>, AllocError>
+    ensures { IfOk result (λ v. map written_view v.items
+        ≡ map (operand_by (head_view head.now)) (map typed_view parts.now)) }
 {
     let mut operands = Vec::with_capacity(alloc, parts.len())?;
     for part in parts {
-        operands.push(operand_of(part))?;
+        operands.push(operand_by(head, part))?;
     }
     Ok(operands)
+}
+
+/// An operand of what stands in front of it.
+fn operand_by<'p>(head: &Head, x: &'p Typed) -> Operand<'p>
+    ensures { written_view result ≡ operand_by (head_view head.now) (typed_view x.now) }
+{
+    match head {
+        Head::Unary(UnaryOperator::AddressOf) => operand_of(x),
+        Head::Unary(_)
+        | Head::Binary(_)
+        | Head::Constructor(_, _)
+        | Head::Function(_, _)
+        | Head::Array(_, _) => Operand::of(shown_type(x), x.is_constant),
+    }
 }
 
 fn ask_with(
     alloc: Global,
     head: &Head,
-    is_component: bool,
+    referent: Referent,
     operands: &[Operand<'_>],
 ) -> Result<Result<Type, String>, AllocError>
-    ensures { IfOk result (λ found. IsFound (asked_with (head_view head.now) is_component (map written_view operands.now))
+    ensures { IfOk result (λ found. IsFound (asked_with (head_view head.now) referent (map written_view operands.now))
         (shown view string_bytes found)) }
 {
     match head {
         Head::Unary(operator) => {
-            ask_call(
-                alloc,
-                Callee::Unary(*operator),
-                None,
-                is_component,
-                operands,
-            )
+            ask_call(alloc, Callee::Unary(*operator), None, referent, operands)
         }
         Head::Binary(operator) => {
-            ask_call(
-                alloc,
-                Callee::Binary(*operator),
-                None,
-                is_component,
-                operands,
-            )
+            ask_call(alloc, Callee::Binary(*operator), None, referent, operands)
         }
         Head::Constructor(name, template) => {
             let callee = Callee::Constructor(name.as_str());
-            ask_call(alloc, callee, template.as_deref(), is_component, operands)
+            ask_call(alloc, callee, template.as_deref(), referent, operands)
         }
         Head::Function(name, template) => {
             let callee = Callee::Function(name.as_str());
-            ask_call(alloc, callee, template.as_deref(), is_component, operands)
+            ask_call(alloc, callee, template.as_deref(), referent, operands)
         }
         Head::Array(ty, count) => {
             let form = Form::ArrayOf(ty, *count, operands);
@@ -311,10 +361,10 @@ fn ask_call(
     alloc: Global,
     callee: Callee<'_>,
     template: Option<&[TpltParam]>,
-    is_component: bool,
+    referent: Referent,
     operands: &[Operand<'_>],
 ) -> Result<Result<Type, String>, AllocError>
-    ensures { IfOk result (λ found. IsFound (marked is_component (type_asked (called (callee_view callee.entry)
+    ensures { IfOk result (λ found. IsFound (marked referent (type_asked (called (callee_view callee.entry)
         (option_map (λ ps. map parameter_view ps.now) template.entry) (map written_view operands.now))))
         (shown view string_bytes found)) }
 {
@@ -324,17 +374,17 @@ fn ask_call(
         operands,
     };
     match form_of_call(&call) {
-        Some(form) => type_or_text(alloc, Request::Form(&marked(form, is_component))),
+        Some(form) => type_or_text(alloc, Request::Form(&marked(form, referent))),
         None => type_or_text(alloc, Request::Type(&call)),
     }
 }
 
-/// The form, which says of the operand of `&` whether it is a reference to a component of a vector.
-fn marked(form: Form<'_>, is_component: bool) -> Form<'_>
-    ensures { form_of (form_view result) ≡ marked is_component (form_of (form_view form.entry)) }
+/// The form, which says of the operand of `&` what it refers to.
+fn marked(form: Form<'_>, referent: Referent) -> Form<'_>
+    ensures { form_of (form_view result) ≡ marked referent (form_of (form_view form.entry)) }
 {
     match form {
-        Form::Address(x, _) => Form::Address(x, is_component),
+        Form::Address(x, _) => Form::Address(x, referent),
         other => other,
     }
 }

@@ -22,6 +22,7 @@ use std::alloc::Global;
 use wgsl_core::error::Fail;
 use wgsl_core::ty::Type;
 use wgsl_forms::concrete::has_abstract_type;
+use wgsl_forms::form::Referent;
 
 /// How many operators may stand side by side.
 const MOST_OPERATORS: usize = 255;
@@ -106,7 +107,7 @@ fn given(ty: Type, is_constant: bool) -> Typed
     Typed {
         ty,
         is_constant,
-        is_component: false,
+        referent: Referent::Whole,
     }
 }
 

@@ -3,7 +3,7 @@ ghost use Rattle.std.specs.Prelude.{◌≡◌, ◌++◌, IfOk, string_bytes};
 ghost use Rattle.wgsl_expressions.specs.Replies.{outcome_kind, outcome_text};
 ghost use Rattle.wgsl_expressions.specs.Views.{outcome_view};
 
-use crate::outcome::Outcome;
+use crate::outcome::{Outcome, shown_type};
 use std::alloc::AllocError;
 use wgsl_core::ty::show::ShownType;
 use wgsl_syntax::texel::FormatNames;
@@ -20,7 +20,7 @@ pub(crate) fn write_outcome(
 {
     match outcome {
         Ok(typed) => {
-            let ty = &typed.ty;
+            let ty = shown_type(&typed);
             let names = FormatNames::Wgsl;
             let written = write!(text, "{}", ShownType { ty, names });
             drop(typed);

@@ -14,3 +14,4 @@ pub mod CommonElements
 pub mod OnlyAnswers
 pub mod Letters
 pub mod References
+pub mod Swizzles

@@ -1,21 +1,23 @@
 -- References to what is formed from a type in memory.
-use Rattle.std.proofs.Common.{◌≡◌, Option, Some, None, is_some, refl}
+use Rattle.std.proofs.Common.{◌≡◌, Option, Some, None, cond, is_some, refl}
 use Rattle.wgsl_syntax.specs.declared.address.AddressSpace.{AddressSpace}
 use Rattle.wgsl_syntax.specs.declared.address.AccessMode.{AccessMode}
 use Rattle.wgsl_rules.specs.types.Types.{WgslType}
 use Rattle.wgsl_forms.specs.Load.{loaded}
 use Rattle.wgsl_forms.specs.Memory.{in_memory}
-use Rattle.wgsl_forms.specs.Views.{viewed}
+use Rattle.wgsl_forms.specs.Views.{referent_of, viewed}
+use Rattle.wgsl_forms.specs.declared.form.Referent.{Referent}
+use Rattle.wgsl_forms.specs.declared.form.Referent.TheVariants.{Whole}
 use Rattle.wgsl_forms.specs.internal.References.{reference_to, loaded_in}
 
-pub refers : (m : Option (AddressSpace × AccessMode)) (t : WgslType) → viewed (reference_to m) t ≡ in_memory m t
-refers None t = refl
-refers (Some m) t = refl
+pub refers : (m : Option (AddressSpace × AccessMode)) (r : Referent) (t : WgslType) → viewed (reference_to m r) t ≡ in_memory m t
+refers None r t = refl
+refers (Some m) r t = refl
 
-pub loads : (m : Option (AddressSpace × AccessMode)) (t : WgslType) → loaded_in (reference_to m) t ≡ loaded (in_memory m t)
+pub refers_to : (m : Option (AddressSpace × AccessMode)) (r : Referent) → referent_of (reference_to m r) ≡ cond (is_some m) r Whole
+refers_to None r = refl
+refers_to (Some m) r = refl
+
+pub loads : (m : Option (AddressSpace × AccessMode)) (t : WgslType) → loaded_in m t ≡ loaded (in_memory m t)
 loads None t = refl
 loads (Some m) t = refl
-
-pub is_there : (m : Option (AddressSpace × AccessMode)) → is_some (reference_to m) ≡ is_some m
-is_there None = refl
-is_there (Some m) = refl

@@ -1,24 +1,31 @@
 -- The operators `&` and `*` (WGSL, "Address-Of Expression" and "Indirection Expression").
-use Rattle.std.specs.Prelude.{Result, Ok, Err, Bool, false, cond}
+use Rattle.std.specs.Prelude.{Result, Ok, Err, Bool, true, false, cond}
 use Rattle.wgsl_syntax.specs.declared.address.AddressSpace.TheVariants.{Handle}
 use Rattle.wgsl_syntax.specs.declared.operator.UnaryOperator.TheVariants.{AddressOf, Indirection}
 use Rattle.wgsl_rules.specs.types.Types.{WgslType, pointer, reference}
 use Rattle.wgsl_rules.specs.errors.Refusals.{unary, ptr_handle, ptr_vec_comp}
 use Rattle.wgsl_forms.specs.Expressions.{Expression}
 use Rattle.wgsl_forms.specs.Refusals.{Refusal, error}
+use Rattle.wgsl_forms.specs.declared.form.Referent.{Referent}
+use Rattle.wgsl_forms.specs.declared.form.Referent.TheVariants.{Whole}
 
 -- an expression that is no const-expression
 abbrev pub at_run_time : WgslType → Expression
-at_run_time t = record { of_type = t; is_constant = false; is_component = false }
+at_run_time t = record { of_type = t; is_constant = false; referent = Whole }
 
--- what `&x` is, where x may be a reference to a component of a vector
-abbrev pub address_answer : Bool → WgslType → Result Expression Refusal
+-- no pointers point to components of a vector
+abbrev pub has_address : Referent → Bool
+has_address Whole = true
+has_address r = false
+
+-- what `&x` is, where x may be a reference to components of a vector
+abbrev pub address_answer : Referent → WgslType → Result Expression Refusal
 -- no pointers point to textures and samplers
-address_answer c (reference Handle t a) = Err (error ptr_handle)
--- `&x` of `ref<function, i32, read_write>` : ptr<function, i32, read_write>; `&v.x` is refused
-address_answer c (reference s t a) = cond c (Err (error ptr_vec_comp)) (Ok (at_run_time (pointer s t a)))
+address_answer r (reference Handle t a) = Err (error ptr_handle)
+-- `&x` of `ref<function, i32, read_write>` : ptr<function, i32, read_write>; `&v.x` and `&v.xy` are refused
+address_answer r (reference s t a) = cond (has_address r) (Ok (at_run_time (pointer s t a))) (Err (error ptr_vec_comp))
 -- `&1` is refused
-address_answer c t = Err (error (unary AddressOf t))
+address_answer r t = Err (error (unary AddressOf t))
 
 -- what `*x` is
 abbrev pub indirection_answer : WgslType → Result Expression Refusal

@@ -6,9 +6,11 @@ use Rattle.wgsl_rules.specs.errors.Refusals.{not_indexable}
 use Rattle.wgsl_rules.specs.standard.Choice.{Operand}
 use Rattle.wgsl_forms.specs.Memory.{behind, formed_from, is_memory}
 use Rattle.wgsl_forms.specs.Concrete.{concrete_of}
-use Rattle.wgsl_forms.specs.Expressions.{Expression, is_const_expression}
+use Rattle.wgsl_forms.specs.Expressions.{Expression, is_const_expression, referent_in}
 use Rattle.wgsl_forms.specs.Load.{loaded}
 use Rattle.wgsl_forms.specs.Refusals.{Refusal, error, not_integer}
+use Rattle.wgsl_forms.specs.declared.form.Referent.{Referent}
+use Rattle.wgsl_forms.specs.declared.form.Referent.TheVariants.{Whole, Component}
 
 abbrev pub element_of : WgslType → Option WgslType
 -- vec3<f32> : f32
@@ -23,6 +25,10 @@ element_of t = None
 abbrev pub is_vector : WgslType → Bool
 is_vector (vec n e) = true
 is_vector t = false
+
+-- what a reference to an element refers to
+abbrev pub element_referent : WgslType → Referent
+element_referent t = cond (is_vector t) Component Whole
 
 -- `i32`, `u32`, or an integer literal
 abbrev pub is_index : WgslType → Bool
@@ -40,7 +46,7 @@ abbrev pub element_in : Operand → Operand → WgslType → Expression
 element_in x i e = record {
   of_type = formed_from x.of_type e;
   is_constant = is_const_expression x && is_const_expression i;
-  is_component = is_memory x.of_type && is_vector (behind x.of_type);
+  referent = referent_in x.of_type (element_referent (behind x.of_type));
 }
 
 abbrev pub indexed_by : Operand → Operand → WgslType → Result WgslType Refusal → Result Expression Refusal

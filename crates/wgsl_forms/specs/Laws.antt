@@ -1,14 +1,16 @@
 -- Laws of members, indexes and addresses.
-use Rattle.std.specs.Prelude.{◌≡◌, ℕ, List, Bool, false, Ok}
+use Rattle.std.specs.Prelude.{◌≡◌, ◌↔◌, ℕ, List, Bool, false, IsTrue, Ok}
 use Rattle.wgsl_syntax.specs.declared.address.AddressSpace.{AddressSpace}
 use Rattle.wgsl_syntax.specs.declared.address.AccessMode.{AccessMode}
 use Rattle.wgsl_rules.specs.types.Types.{WgslType, pointer, reference}
 use Rattle.wgsl_rules.specs.standard.Choice.{Operand}
 use Rattle.wgsl_forms.specs.Address.{address_answer, indirection_answer}
 use Rattle.wgsl_forms.specs.Concrete.{concrete_of, has_abstract_type}
-use Rattle.wgsl_forms.specs.Expressions.{Expression}
+use Rattle.wgsl_forms.specs.Expressions.{Expression, shown_type}
 use Rattle.wgsl_forms.specs.Index.{index_answer}
-use Rattle.wgsl_forms.specs.Member.{member_answer}
+use Rattle.wgsl_forms.specs.Load.{loaded}
+use Rattle.wgsl_forms.specs.Member.{is_swizzle, member_answer}
+use Rattle.wgsl_forms.specs.declared.form.Referent.TheVariants.{Whole, Swizzle}
 
 abbrev operand : WgslType → Bool → Operand
 operand t c = record { of_type = t; is_constant = c }
@@ -21,7 +23,13 @@ PointersCompose s t a name i = (c : Bool) →
 
 -- `*&x` has the type of `x`, if `x` has an address.
 abbrev pub AddressesInvert : WgslType → Type 0
-AddressesInvert t = (e : Expression) → address_answer false t ≡ Ok e → (d : Expression) × (indirection_answer e.of_type ≡ Ok d) × (d.of_type ≡ t)
+AddressesInvert t = (e : Expression) → address_answer Whole t ≡ Ok e → (d : Expression) × (indirection_answer e.of_type ≡ Ok d) × (d.of_type ≡ t)
+
+-- Of what `x.name` can be, `is_swizzle` tells the swizzles, and one loads as the type that is shown of it: `v.zx` as
+-- `vec2<f32>`.
+abbrev pub SwizzlesLoad : Operand → List ℕ → Type 0
+SwizzlesLoad x name = (e : Expression) → member_answer x name ≡ Ok e →
+    (IsTrue (is_swizzle x name) ↔ (e.referent ≡ Swizzle)) × (e.referent ≡ Swizzle → loaded e.of_type ≡ Ok (shown_type e))
 
 -- A type that was made concrete has no abstract type in it; one that has none stays as it is.
 abbrev pub MakesConcrete : WgslType → Type 0

@@ -1,14 +1,15 @@
 -- Members of structs and components of vectors (WGSL, "Structure Access" and "Vector Access").
-use Rattle.std.specs.Prelude.{ℕ, List, [], ◌∷◌, take, codes, nat_eq, Option, Some, None, option_map, Result, Ok, Err, Bool, false, ◌||◌, cond}
+use Rattle.std.specs.Prelude.{ℕ, List, [], ◌∷◌, take, codes, nat_eq, Option, Some, None, option_map, Result, Ok, Err, Bool, true, false, not, ◌&&◌, ◌||◌, cond}
 use Rattle.std.specs.List.{list_all, list_any}
 use Rattle.std.specs.Str.{bytes_eq}
 use Rattle.wgsl_rules.specs.types.Types.{WgslType, Members, no_members, member, struct, vec}
 use Rattle.wgsl_rules.specs.errors.Refusals.{component}
 use Rattle.wgsl_rules.specs.standard.Choice.{Operand}
-use Rattle.wgsl_forms.specs.Memory.{behind, formed_from}
-use Rattle.wgsl_forms.specs.Expressions.{Expression, is_const_expression, part_of, component_of}
+use Rattle.wgsl_forms.specs.Memory.{behind, formed_from, is_memory}
+use Rattle.wgsl_forms.specs.Expressions.{Expression, part_of, value_from}
 use Rattle.wgsl_forms.specs.Load.{loaded}
 use Rattle.wgsl_forms.specs.Refusals.{Refusal, error}
+use Rattle.wgsl_forms.specs.declared.form.Referent.TheVariants as referents
 
 -- what a name stands for in a type
 pub data Part : Type 0 where
@@ -47,21 +48,36 @@ part_named (struct s ms) name = option_map a_member (member_named ms name)
 part_named (vec n e) name = cond (are_components n name) (part_of_letters name e) None
 part_named t name = None
 
--- several components of a vector that is loaded
-abbrev loaded_components : Operand → ℕ → WgslType → Result WgslType Refusal → Result Expression Refusal
-loaded_components x k e (Ok t) = Ok (record { of_type = vec k e; is_constant = is_const_expression x; is_component = false })
-loaded_components x k e (Err r) = Err r
+-- No letter stands twice in the name.
+abbrev pub are_distinct : List ℕ → Bool
+are_distinct [] = true
+are_distinct (c ∷ cs) = not (list_any (λ l. nat_eq l c) cs) && are_distinct cs
+
+-- Several components of a vector that can be loaded. They can be assigned to if no letter stands twice.
+abbrev pub loaded_components : Operand → List ℕ → WgslType → Result WgslType Refusal → Result Expression Refusal
+loaded_components x name t (Ok whole) = Ok (cond (are_distinct name) (part_of x referents.Swizzle t) (value_from x t))
+loaded_components x name t (Err r) = Err r
 
 abbrev pub expression_of_part : Operand → List ℕ → Option Part → Result Expression Refusal
 -- `s.a` : i32, and of `ref<uniform, S, read>` it is `ref<uniform, i32, read>`
-expression_of_part x name (Some (a_member t)) = Ok (part_of x t)
+expression_of_part x name (Some (a_member t)) = Ok (part_of x referents.Whole t)
 -- `v.g` : f32, and of `ref<private, vec2<f32>, read_write>` it is `ref<private, f32, read_write>`
-expression_of_part x name (Some (a_component e)) = Ok (component_of x e)
--- `v.zz` : vec2<f32>, also of `ref<private, vec3<f32>, read_write>`, which is loaded
-expression_of_part x name (Some (components k e)) = loaded_components x k e (loaded (formed_from x.of_type (behind x.of_type)))
+expression_of_part x name (Some (a_component e)) = Ok (part_of x referents.Component e)
+-- `v.zz` : vec2<f32>, also of `ref<private, vec3<f32>, read_write>`; there `v.zx` is the swizzle
+-- `ref<private, vec2<f32>, read_write>`
+expression_of_part x name (Some (components k e)) = loaded_components x name (vec k e) (loaded (formed_from x.of_type (behind x.of_type)))
 -- `f32` has no component `x`; nor has `ref<private, f32, read_write>`, of which the refusal names `f32`
 expression_of_part x name None = Err (error (component (behind x.of_type) name))
 
 -- what `x.name` is
 abbrev pub member_answer : Operand → List ℕ → Result Expression Refusal
 member_answer x name = expression_of_part x name (part_named (behind x.of_type) name)
+
+abbrev pub are_several : Option Part → Bool
+are_several (Some (components k e)) = true
+are_several p = false
+
+-- `x.name` is a swizzle of a reference, if it has a type: `v.zx` of `ref<private, vec3<f32>, read_write>`, but neither `v.zz`
+-- nor `v.z`
+abbrev pub is_swizzle : Operand → List ℕ → Bool
+is_swizzle x name = is_memory x.of_type && (are_several (part_named (behind x.of_type) name) && are_distinct name)

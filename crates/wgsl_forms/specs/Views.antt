@@ -13,6 +13,8 @@ use Rattle.wgsl_forms.specs.Refusals.{Refusal, error, not_reference, not_integer
 use Rattle.wgsl_forms.specs.declared.form.Element.{Element}
 use Rattle.wgsl_forms.specs.declared.form.Element.TheVariants as elements
 use Rattle.wgsl_forms.specs.declared.form.UnbuiltType.{UnbuiltType}
+use Rattle.wgsl_forms.specs.declared.form.Referent.{Referent}
+use Rattle.wgsl_forms.specs.declared.form.Referent.TheVariants.{Whole}
 use Rattle.wgsl_forms.specs.declared.form.MemoryView.{MemoryView}
 use Rattle.wgsl_forms.specs.declared.form.MemoryView.TheVariants.{Reference, Pointer}
 use Rattle.wgsl_forms.specs.declared.form.FormType.{FormType}
@@ -40,14 +42,18 @@ unbuilt_view u = layered u.layer (element_view u.element)
 -- the reference or the pointer to the type, if there is one
 abbrev pub viewed : Option MemoryView → WgslType → WgslType
 viewed None t = t
-viewed (Some (Reference s a)) t = reference s t a
+viewed (Some (Reference r s a)) t = reference s t a
 viewed (Some (Pointer s a)) t = pointer s t a
 
 abbrev pub form_type_view : FormType → WgslType
 form_type_view f = viewed f.memory (unbuilt_view f.of)
 
+abbrev pub referent_of : Option MemoryView → Referent
+referent_of (Some (Reference r s a)) = r
+referent_of m = Whole
+
 abbrev pub form_view : Form → Expression
-form_view f = record { of_type = form_type_view f.ty; is_constant = f.is_constant; is_component = f.is_component }
+form_view f = record { of_type = form_type_view f.ty; is_constant = f.is_constant; referent = referent_of f.ty.memory }
 
 abbrev pub refusal_view : CodeRefusal → Refusal
 refusal_view (refusals.Component t name) = error (component (unbuilt_view t) name.now)

@@ -1,13 +1,13 @@
 // The operators `&` and `*`.
-ghost use Rattle.std.specs.Prelude.{◌≡◌};
+ghost use Rattle.std.specs.Prelude.{◌≡◌, Some, false};
 ghost use Rattle.wgsl_rules.specs.errors.Refusals.{unary};
 ghost use Rattle.wgsl_core.specs.View.{view};
 ghost use Rattle.wgsl_standard.specs.Operands.{given_type};
-ghost use Rattle.wgsl_forms.specs.Address.{address_answer, at_run_time, indirection_answer};
+ghost use Rattle.wgsl_forms.specs.Address.{address_answer, has_address, indirection_answer};
 ghost use Rattle.wgsl_forms.specs.Refusals.{error};
-ghost use Rattle.wgsl_forms.specs.Views.{answer_view, form_view, refusal_view, viewed};
+ghost use Rattle.wgsl_forms.specs.Views.{answer_view, form_view, referent_of, refusal_view, viewed};
 
-use crate::form::{Form, FormType, MemoryView, UnbuiltType};
+use crate::form::{Form, FormType, MemoryView, Referent, UnbuiltType};
 use crate::refusal::Refusal;
 use wgsl_core::ty::Type;
 use wgsl_core::ty::form::Form as TypeForm;
@@ -15,20 +15,20 @@ use wgsl_standard::operand::{Operand, OperandType};
 use wgsl_syntax::address::AddressSpace;
 use wgsl_syntax::operator::UnaryOperator;
 
-/// What `&x` is (WGSL, "Address-Of Expression"); `is_component` says that `x` is a reference to a component of a vector.
-/// `Unary` if `x` is no reference, `PtrHandle` in the handle space, `PtrVecComp` of a component.
-pub fn address_of<'a>(x: &Operand<'a>, is_component: bool) -> Result<Form<'a>, Refusal<'a>>
-    ensures { answer_view form_view result ≡ address_answer is_component (given_type x.now.ty) }
+/// What `&x` is (WGSL, "Address-Of Expression"), where `x` refers to `referent`. `Unary` if `x` is no reference, `PtrHandle` in
+/// the handle space, `PtrVecComp` of components of a vector.
+pub fn address_of<'a>(x: &Operand<'a>, referent: Referent) -> Result<Form<'a>, Refusal<'a>>
+    ensures { answer_view form_view result ≡ address_answer referent (given_type x.now.ty) }
 {
     match x.ty {
         OperandType::Value(_, _) => Err(no_operand(UnaryOperator::AddressOf, x.ty)),
         OperandType::Any(ty) => match ty.form() {
             TypeForm::Reference(AddressSpace::Handle, _, _) => Err(Refusal::PtrHandle),
             TypeForm::Reference(space, stored, access) => {
-                if is_component {
-                    Err(Refusal::PtrVecComp)
-                } else {
+                if has_address(referent) {
                     Ok(at_run_time(MemoryView::Pointer(space, access), stored))
+                } else {
+                    Err(Refusal::PtrVecComp)
                 }
             }
             _ => Err(no_operand(UnaryOperator::AddressOf, x.ty)),
@@ -44,11 +44,19 @@ pub fn indirection<'a>(x: &Operand<'a>) -> Result<Form<'a>, Refusal<'a>>
         OperandType::Value(_, _) => Err(no_operand(UnaryOperator::Indirection, x.ty)),
         OperandType::Any(ty) => match ty.form() {
             TypeForm::Pointer(space, stored, access) => {
-                Ok(at_run_time(MemoryView::Reference(space, access), stored))
+                let memory = MemoryView::Reference(Referent::Whole, space, access);
+                Ok(at_run_time(memory, stored))
             }
             _ => Err(no_operand(UnaryOperator::Indirection, x.ty)),
         },
     }
+}
+
+/// Whether pointers can point to it.
+fn has_address(referent: Referent) -> bool
+    ensures { result ≡ has_address referent }
+{
+    matches!(referent, Referent::Whole)
 }
 
 fn no_operand(operator: UnaryOperator, ty: OperandType<'_>) -> Refusal<'_>
@@ -59,7 +67,11 @@ fn no_operand(operator: UnaryOperator, ty: OperandType<'_>) -> Refusal<'_>
 
 /// A reference or a pointer to a type, which is no const-expression.
 fn at_run_time<'a>(memory: MemoryView, stored: &'a Type) -> Form<'a>
-    ensures { form_view result ≡ at_run_time (viewed (Some memory) (view stored.now)) }
+    ensures { form_view result ≡ record {
+      of_type = viewed (Some memory) (view stored.now);
+      is_constant = false;
+      referent = referent_of (Some memory);
+    } }
 {
     Form {
         ty: FormType {
@@ -67,6 +79,5 @@ fn at_run_time<'a>(memory: MemoryView, stored: &'a Type) -> Form<'a>
             of: UnbuiltType::of_type(stored),
         },
         is_constant: false,
-        is_component: false,
     }
 }

@@ -3,7 +3,8 @@ ghost use Rattle.std.specs.Prelude.{◌≡◌, IfOk, Some};
 ghost use Rattle.wgsl_core.specs.View.{view};
 ghost use Rattle.wgsl_rules.specs.types.Types.{within};
 ghost use Rattle.wgsl_standard.specs.Operands.{given_type};
-ghost use Rattle.wgsl_forms.specs.Views.{element_view, form_type_view, unbuilt_view, viewed};
+ghost use Rattle.wgsl_forms.specs.Expressions.{shown_as};
+ghost use Rattle.wgsl_forms.specs.Views.{element_view, form_type_view, referent_of, unbuilt_view, viewed};
 
 use crate::concrete::ConcreteType;
 use std::alloc::{AllocError, Global};
@@ -37,10 +38,21 @@ pub struct UnbuiltType<'a> {
     pub element: Element<'a>,
 }
 
+/// What a reference refers to, as far as its type doesn't say so; of all other expressions `Whole`.
+#[derive(Clone, Copy)]
+pub enum Referent {
+    /// Neither of the others.
+    Whole,
+    /// A component of a vector.
+    Component,
+    /// Several components of a vector, each once.
+    Swizzle,
+}
+
 /// A reference or a pointer (WGSL, "Memory Views"), without its store type.
 #[derive(Clone, Copy)]
 pub enum MemoryView {
-    Reference(AddressSpace, AccessMode),
+    Reference(Referent, AddressSpace, AccessMode),
     Pointer(AddressSpace, AccessMode),
 }
 
@@ -57,8 +69,6 @@ pub struct Form<'a> {
     pub ty: FormType<'a>,
     /// Whether it is a const-expression.
     pub is_constant: bool,
-    /// Whether it is a reference to a component of a vector, of which there is no pointer.
-    pub is_component: bool,
 }
 
 impl<'a> UnbuiltType<'a> {
@@ -160,6 +170,29 @@ impl<'a> FormType<'a> {
         FormType { memory: None, of }
     }
 
+    /// What it refers to.
+    #[inline(always)]
+    pub fn referent(self) -> Referent
+        ensures { result ≡ referent_of self.entry.memory }
+    {
+        match self.memory {
+            Some(MemoryView::Reference(referent, _, _)) => referent,
+            _ => Referent::Whole,
+        }
+    }
+
+    /// The type that is shown: of a swizzle that of its value.
+    #[inline(always)]
+    pub fn shown(self) -> FormType<'a>
+        ensures { form_type_view result
+            ≡ shown_as (referent_of self.entry.memory) (form_type_view self.entry) }
+    {
+        match self.memory {
+            Some(MemoryView::Reference(Referent::Swizzle, _, _)) => FormType::of(self.of),
+            _ => self,
+        }
+    }
+
     /// Builds the type in memory.
     #[inline(always)]
     pub fn build(self, alloc: Global) -> Result<Type, AllocError>
@@ -179,7 +212,7 @@ fn memory_view(alloc: Global, memory: MemoryView, of: Type) -> Result<Type, Allo
 {
     let of = Box::new(alloc, of)?;
     Ok(match memory {
-        MemoryView::Reference(space, access) => Type::Ref(space, of, access),
+        MemoryView::Reference(_, space, access) => Type::Ref(space, of, access),
         MemoryView::Pointer(space, access) => Type::Ptr(space, of, access),
     })
 }
@@ -232,7 +265,9 @@ impl fmt::Display for FormType<'_> {
         let of = self.of;
         match self.memory {
             None => write!(f, "{of}"),
-            Some(MemoryView::Reference(space, access)) => write!(f, "ref<{space}, {of}, {access}>"),
+            Some(MemoryView::Reference(_, space, access)) => {
+                write!(f, "ref<{space}, {of}, {access}>")
+            }
             Some(MemoryView::Pointer(space, access)) => write!(f, "ptr<{space}, {of}, {access}>"),
         }
     }

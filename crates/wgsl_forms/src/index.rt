@@ -1,20 +1,20 @@
 // Indexes into vectors, matrices and arrays.
-ghost use Rattle.std.specs.Prelude.{◌≡◌, ◌&&◌, ◌||◌, cond, is_some, not, option_map};
+ghost use Rattle.std.specs.Prelude.{◌≡◌, ◌||◌, cond, not, option_map};
 ghost use Rattle.wgsl_rules.specs.types.Types.{mat, scalar as scalar_type};
 ghost use Rattle.wgsl_rules.specs.standard.Overloads.{type_with};
 ghost use Rattle.wgsl_core.specs.View.{view};
 ghost use Rattle.wgsl_standard.specs.Operands.{given_type};
 ghost use Rattle.wgsl_forms.specs.Concrete.{concrete_of, has_abstract_type as abstract_type};
-ghost use Rattle.wgsl_forms.specs.Index.{element_in, element_of as element_there, index_answer, indexed_by, is_index as index_type, is_vector as vector_type};
+ghost use Rattle.wgsl_forms.specs.Index.{element_in, element_of as element_there, element_referent, index_answer, indexed_by, is_index as index_type, is_vector as vector_type};
 ghost use Rattle.wgsl_forms.specs.Expressions.{is_const_expression as const_expression};
 ghost use Rattle.wgsl_forms.specs.Load.{loaded};
 ghost use Rattle.wgsl_forms.specs.Views.{answer_view, element_view, form_view, given, unbuilt_view};
 
 use crate::concrete::{concrete_component, has_abstract_type};
 use crate::expression::{has_abstract_operand_type, is_const_expression};
-use crate::form::{Element, Form, FormType, MemoryView, UnbuiltType};
+use crate::form::{Element, Form, FormType, Referent, UnbuiltType};
 use crate::load::load_type;
-use crate::memory::behind;
+use crate::memory::{behind, reference_to};
 use crate::refusal::Refusal;
 use wgsl_core::ty::Type;
 use wgsl_core::ty::form::Form as TypeForm;
@@ -72,7 +72,7 @@ fn indexed_by<'a>(
 }
 
 #[inline(always)]
-#[tactic(auto, using(crate::proofs::References::refers, crate::proofs::References::is_there))]
+#[tactic(auto, using(crate::proofs::References::refers, crate::proofs::References::refers_to))]
 fn element_in<'a>(
     x: &Operand<'a>,
     index: &Operand<'a>,
@@ -86,21 +86,24 @@ fn element_in<'a>(
     let whole = behind(x.ty);
     Form {
         ty: FormType {
-            memory: whole.memory,
+            memory: reference_to(whole.memory, element_referent(whole.ty)),
             of: element,
         },
         is_constant: (x.is_constant || is_abstract)
             && whole.memory.is_none()
             && is_const_expression(index),
-        is_component: is_component(whole.memory, whole.ty),
     }
 }
 
-/// Whether an element there is a reference to a component of a vector.
-fn is_component(memory: Option<MemoryView>, ty: OperandType<'_>) -> bool
-    ensures { result ≡ (is_some memory && vector_type (given_type ty.entry)) }
+/// What a reference to an element refers to.
+fn element_referent(ty: OperandType<'_>) -> Referent
+    ensures { result ≡ element_referent (given_type ty.entry) }
 {
-    memory.is_some() && is_vector(ty)
+    if is_vector(ty) {
+        Referent::Component
+    } else {
+        Referent::Whole
+    }
 }
 
 /// The type of the elements, made concrete unless `stays`.

@@ -1,6 +1,6 @@
 // Laws of forms: each function returns nothing, and its contract is the law.
 ghost use Rattle.wgsl_core.specs.View.{view};
-ghost use Rattle.wgsl_forms.specs.Laws.{AddressesInvert, MakesConcrete, PointersCompose};
+ghost use Rattle.wgsl_forms.specs.Laws.{AddressesInvert, MakesConcrete, PointersCompose, SwizzlesLoad};
 ghost use Rattle.wgsl_forms.specs.Views.{given};
 
 use wgsl_core::ty::Type;
@@ -23,6 +23,12 @@ pub fn pointers_compose(
 #[tactic(auto, using(crate::proofs::Composition::invert))]
 pub fn addresses_invert(ty: &Type)
     ensures { AddressesInvert (view ty.now) }
+{}
+
+/// A swizzle of a reference loads as the type that is shown of it.
+#[tactic(auto, using(crate::proofs::Swizzles::load))]
+pub fn swizzles_load(x: &Operand<'_>, name: &str)
+    ensures { SwizzlesLoad (given x.now) name.now }
 {}
 
 /// A type that is made concrete has no abstract type in it, and a type without one stays as it is (WGSL, "Abstract

@@ -7,13 +7,13 @@ ghost use Rattle.wgsl_forms.specs.Views.{answer_view, given};
 ghost use Rattle.wgsl_forms.specs.internal.References.{loaded_in};
 
 use crate::expression::is_const_expression;
-use crate::form::{MemoryView, UnbuiltType};
+use crate::form::UnbuiltType;
 use crate::kinds::{is_constructible, is_handle};
 use crate::refusal::Refusal;
 use wgsl_core::ty::Type;
 use wgsl_core::ty::form::Form;
 use wgsl_standard::operand::{Operand, OperandType};
-use wgsl_syntax::address::AccessMode;
+use wgsl_syntax::address::{AccessMode, AddressSpace};
 
 /// An operand, loaded (WGSL, "Load Rule"): what is no reference stays. `NotRead` if the reference can't be read,
 /// `NotConstructible` if it holds something else than a constructible type or a handle.
@@ -40,15 +40,13 @@ pub fn load_type<'a>(ty: OperandType<'a>) -> Result<OperandType<'a>, Refusal<'a>
 
 /// The type that is loaded from memory, or without memory the loaded type of an operand.
 pub(crate) fn load_in<'a>(
-    memory: Option<MemoryView>,
+    memory: Option<(AddressSpace, AccessMode)>,
     ty: OperandType<'a>,
 ) -> Result<OperandType<'a>, Refusal<'a>>
     ensures { answer_view given_type result ≡ loaded_in memory (given_type ty.entry) }
 {
     match memory {
-        Some(MemoryView::Reference(_, access) | MemoryView::Pointer(_, access)) => {
-            load_stored(ty, access)
-        }
+        Some((_, access)) => load_stored(ty, access),
         None => load_type(ty),
     }
 }

@@ -1,20 +1,20 @@
 // Members of structs and components of vectors.
-ghost use Rattle.std.specs.Prelude.{◌≡◌, nat_eq, take, option_map};
+ghost use Rattle.std.specs.Prelude.{◌≡◌, nat_eq, not, take, option_map};
 ghost use Rattle.std.specs.List.{list_any};
 ghost use Rattle.wgsl_rules.specs.types.Types.{struct, vec};
 ghost use Rattle.wgsl_core.specs.View.{view, struct_view};
 ghost use Rattle.wgsl_core.specs.internal.View.{members_view};
 ghost use Rattle.wgsl_standard.specs.Operands.{given_type};
 ghost use Rattle.wgsl_forms.specs.Load.{loaded};
-ghost use Rattle.wgsl_forms.specs.Member.{are_among as all_among, are_components as all_components, member_answer, member_named as named_there, part_named as part_there, part_of_letters as letters_name};
+ghost use Rattle.wgsl_forms.specs.Member.{are_among as all_among, are_components as all_components, are_distinct as all_distinct, are_several, is_swizzle as swizzle, member_answer, member_named as named_there, part_named as part_there, part_of_letters as letters_name};
 ghost use Rattle.wgsl_forms.specs.Views.{answer_view, element_view, form_view, given};
 ghost use Rattle.wgsl_forms.specs.internal.Letters.{letters_of};
 ghost use Rattle.wgsl_forms.specs.internal.Parts.{part_view};
 
 use crate::expression::is_const_expression;
-use crate::form::{Element, Form, FormType, UnbuiltType};
+use crate::form::{Element, Form, FormType, Referent, UnbuiltType};
 use crate::load::load_in;
-use crate::memory::behind;
+use crate::memory::{behind, reference_to};
 use crate::refusal::Refusal;
 use wgsl_core::ty::form::Form as TypeForm;
 use wgsl_core::ty::{StructMemberType, Type};
@@ -56,11 +56,11 @@ const RGBA: Letters = Letters {
     fourth: b'a',
 };
 
-/// What `x.name` is (WGSL, "Structure Access" and "Vector Access"): a member, a component, or several components. In
-/// memory the first two are references, and several components are loaded. `Component` if there is no such part, and what a
-/// load refuses.
+/// What `x.name` is (WGSL, "Structure Access" and "Vector Access"): a member, a component, or several components. In memory it
+/// is a reference, unless a letter of several components stands twice. `Component` if there is no such part, and of several
+/// components what a load refuses.
 #[inline(always)]
-#[tactic(auto, using(crate::proofs::References::refers, crate::proofs::References::loads, crate::proofs::References::is_there))]
+#[tactic(auto, using(crate::proofs::References::refers, crate::proofs::References::loads, crate::proofs::References::refers_to))]
 pub fn type_of_member<'a>(x: &Operand<'a>, name: &'a str) -> Result<Form<'a>, Refusal<'a>>
     ensures { answer_view form_view result ≡ member_answer (given x.now) name.now }
 {
@@ -69,30 +69,72 @@ pub fn type_of_member<'a>(x: &Operand<'a>, name: &'a str) -> Result<Form<'a>, Re
     match part_named(whole.ty, name) {
         Some(Part::Member(ty)) => Ok(Form {
             ty: FormType {
-                memory: whole.memory,
+                memory: reference_to(whole.memory, Referent::Whole),
                 of: UnbuiltType::of_type(ty),
             },
             is_constant,
-            is_component: false,
         }),
         Some(Part::Component(element)) => Ok(Form {
             ty: FormType {
-                memory: whole.memory,
+                memory: reference_to(whole.memory, Referent::Component),
                 of: UnbuiltType::single(element),
             },
             is_constant,
-            is_component: whole.memory.is_some(),
         }),
         Some(Part::Components(count, element)) => {
             load_in(whole.memory, whole.ty)?;
+            let memory = if are_distinct(name.as_bytes()) {
+                reference_to(whole.memory, Referent::Swizzle)
+            } else {
+                None
+            };
             Ok(Form {
-                ty: FormType::of(UnbuiltType::within(Layer::Vec(count), element)),
+                ty: FormType {
+                    memory,
+                    of: UnbuiltType::within(Layer::Vec(count), element),
+                },
                 is_constant,
-                is_component: false,
             })
         }
         None => Err(Refusal::Component(UnbuiltType::of(whole.ty), name)),
     }
+}
+
+/// Whether `x.name` is a swizzle of a reference, if it has a type: several components in memory, each once.
+pub fn is_swizzle(x: &Operand<'_>, name: &str) -> bool
+    ensures { result ≡ swizzle (given x.now) name.now }
+{
+    let whole = behind(x.ty);
+    whole.memory.is_some()
+        && is_several(part_named(whole.ty, name))
+        && are_distinct(name.as_bytes())
+}
+
+fn is_several(part: Option<Part<'_>>) -> bool
+    ensures { result ≡ are_several (option_map part_view part.entry) }
+{
+    matches!(part, Some(Part::Components(_, _)))
+}
+
+/// Whether no letter stands twice.
+fn are_distinct(letters: &[u8]) -> bool
+    ensures { result ≡ all_distinct letters.now }
+{
+    match letters {
+        [first, rest @ ..] => !contains(rest, *first) && are_distinct(rest),
+        [] => true,
+    }
+}
+
+fn contains(letters: &[u8], letter: u8) -> bool
+    ensures { result ≡ list_any (λ l. nat_eq l letter) letters.now }
+{
+    for other in letters {
+        if *other == letter {
+            return true;
+        }
+    }
+    false
 }
 
 /// What the name stands for in the type.

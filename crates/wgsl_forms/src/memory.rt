@@ -3,25 +3,26 @@ ghost use Rattle.std.specs.Prelude.{◌≡◌};
 ghost use Rattle.wgsl_core.specs.View.{view};
 ghost use Rattle.wgsl_standard.specs.Operands.{given_type};
 ghost use Rattle.wgsl_forms.specs.Memory.{behind as lies_behind, memory_of};
-ghost use Rattle.wgsl_forms.specs.internal.References.{reference_to};
+ghost use Rattle.wgsl_forms.specs.internal.References.{reference_to as reference_there};
 
-use crate::form::MemoryView;
+use crate::form::{MemoryView, Referent};
 use wgsl_core::ty::Type;
 use wgsl_core::ty::form::Form;
 use wgsl_standard::operand::OperandType;
+use wgsl_syntax::address::{AccessMode, AddressSpace};
 
 /// The type to which a reference or a pointer refers; any other type itself.
 #[derive(Clone, Copy)]
 pub(crate) struct Whole<'a> {
-    /// If it is behind a reference or a pointer, the reference to it.
-    pub memory: Option<MemoryView>,
+    /// If it is behind a reference or a pointer, where it lies.
+    pub memory: Option<(AddressSpace, AccessMode)>,
     pub ty: OperandType<'a>,
 }
 
 /// The type to which the type of an operand refers.
 #[inline(always)]
 pub(crate) fn behind(ty: OperandType<'_>) -> Whole<'_>
-    ensures memory { result.memory ≡ reference_to (memory_of (given_type ty.entry)) }
+    ensures memory { result.memory ≡ memory_of (given_type ty.entry) }
     ensures ty { given_type result.ty ≡ lies_behind (given_type ty.entry) }
 {
     match ty {
@@ -32,17 +33,31 @@ pub(crate) fn behind(ty: OperandType<'_>) -> Whole<'_>
 
 #[inline(always)]
 fn behind_type(ty: &Type) -> Whole<'_>
-    ensures memory { result.memory ≡ reference_to (memory_of (view ty.now)) }
+    ensures memory { result.memory ≡ memory_of (view ty.now) }
     ensures ty { given_type result.ty ≡ lies_behind (view ty.now) }
 {
     match ty.form() {
         Form::Reference(space, stored, access) | Form::Pointer(space, stored, access) => Whole {
-            memory: Some(MemoryView::Reference(space, access)),
+            memory: Some((space, access)),
             ty: OperandType::Any(stored),
         },
         _ => Whole {
             memory: None,
             ty: OperandType::Any(ty),
         },
+    }
+}
+
+/// The reference to a part of what lies there.
+#[inline(always)]
+pub(crate) fn reference_to(
+    memory: Option<(AddressSpace, AccessMode)>,
+    referent: Referent,
+) -> Option<MemoryView>
+    ensures { result ≡ reference_there memory referent }
+{
+    match memory {
+        Some((space, access)) => Some(MemoryView::Reference(referent, space, access)),
+        None => None,
     }
 }

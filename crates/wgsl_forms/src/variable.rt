@@ -10,7 +10,7 @@ ghost use Rattle.wgsl_forms.specs.Views.{answer_view, form_type_view, given, ref
 use crate::concrete::has_abstract_type;
 use crate::declare::{concrete, convert_to, is_const_type};
 use crate::expression::is_const_expression;
-use crate::form::{FormType, MemoryView, UnbuiltType};
+use crate::form::{FormType, MemoryView, Referent, UnbuiltType};
 use crate::kinds::{
     has_fixed_footprint, have_fixed_footprint, is_constructible, is_handle, is_host_shareable,
     operand_is_constructible,
@@ -156,7 +156,7 @@ fn reference<'a>(space: AddressSpace, access: AccessMode, of: UnbuiltType<'a>) -
     ensures { form_type_view result ≡ reference space (unbuilt_view of.entry) access }
 {
     FormType {
-        memory: Some(MemoryView::Reference(space, access)),
+        memory: Some(MemoryView::Reference(Referent::Whole, space, access)),
         of,
     }
 }

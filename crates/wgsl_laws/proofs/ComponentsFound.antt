@@ -1,5 +1,6 @@
 -- `&` of a reference to a component is found, or the words are something else.
-use Rattle.std.proofs.Common.{◌≡◌, ◌≢◌, ◌∙◌, ◌⊎◌, ℕ, true, List, [], ◌∷◌, codes, refl, sym, ap, subst, inl, inr}
+use Rattle.std.proofs.Common.{◌≡◌, ◌≢◌, ◌∙◌, ◌⊎◌, ℕ, List, [], ◌∷◌, codes, refl, sym, ap, subst, inl, inr}
+use Rattle.wgsl_forms.specs.declared.form.Referent.TheVariants.{Component}
 use Rattle.wgsl_requests.specs.Forms.{address_of}
 use Rattle.wgsl_text.specs.Calls.{OperandAt}
 use Rattle.wgsl_text.specs.Requests.{form_of}
@@ -37,7 +38,7 @@ pub a_component : (words : List (List ℕ)) → Means (ComponentForm words)
 a_component words = elim (behind_component words) [
   | inr none ↦ inr (λ r f. none f.1 f.2)
   | inl k ↦ elim (only_one k.0 (an_operand k.0)) [
-    | inl x ↦ inl (form_of (address_of x.0 true), (x.0, k.0, k.1, x.1, refl))
+    | inl x ↦ inl (form_of (address_of x.0 Component), (x.0, k.0, k.1, x.1, refl))
     | inr none ↦ inr (λ r f.
         let same : codes "unary" ∷ codes "&" ∷ codes "component" ∷ k.0 ≡ codes "unary" ∷ codes "&" ∷ codes "component" ∷ f.1 = sym k.1 ∙ f.2 in
         let after : f.1 ≡ k.0 = sym (cc same) in

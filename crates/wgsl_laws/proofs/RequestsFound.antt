@@ -12,6 +12,7 @@ use Rattle.wgsl_rules.specs.types.Types.{WgslType, struct, Members}
 use Rattle.wgsl_rules.specs.types.Signatures.{Signature}
 use Rattle.wgsl_requests.specs.CallForms.{type_asked}
 use Rattle.wgsl_requests.specs.Calls.{WgslCall}
+use Rattle.wgsl_forms.specs.declared.form.Referent.TheVariants.{Component}
 use Rattle.wgsl_requests.specs.Forms.{address_of}
 use Rattle.wgsl_text.specs.Forms.{command_text, form_commands}
 use Rattle.wgsl_text.specs.Grammar.{TypeAt, TypesAt}
@@ -159,7 +160,7 @@ module _ (word : List ℕ) (words : List (List ℕ)) where
   of_type_form : (request : Request) → TypeForm (word ∷ words) request → IsRequest Standard (word ∷ words) request
   of_type_form request (inl f) = subst (λ r. IsRequest Standard (word ∷ words) r) (sym f.2) (type_words f.1)
   of_type_form request (inr f) =
-      subst (λ r. IsRequest Standard (word ∷ words) r) (sym f.4) (subst (λ ws. IsRequest Standard ws (form_of (address_of f.0 true))) (sym f.2) (component_words f.3))
+      subst (λ r. IsRequest Standard (word ∷ words) r) (sym f.4) (subst (λ ws. IsRequest Standard ws (form_of (address_of f.0 Component))) (sym f.2) (component_words f.3))
 
   standard_of : (request : Request) → StandardForm (word ∷ words) request → IsRequest Standard (word ∷ words) request
   standard_of request =

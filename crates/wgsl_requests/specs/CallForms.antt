@@ -1,5 +1,5 @@
 -- Calls that are forms: `&x`, `*x` and `array(x, y)`, which have no overloads.
-use Rattle.std.specs.Prelude.{ℕ, List, [], ◌∷◌, Option, Some, None, false, codes, cond, option_map}
+use Rattle.std.specs.Prelude.{ℕ, List, [], ◌∷◌, Option, Some, None, codes, cond, option_map}
 use Rattle.std.specs.Str.{bytes_eq}
 use Rattle.wgsl_syntax.specs.declared.operator.UnaryOperator.{UnaryOperator}
 use Rattle.wgsl_syntax.specs.declared.operator.UnaryOperator.TheVariants.{AddressOf, Indirection}
@@ -8,13 +8,14 @@ use Rattle.wgsl_rules.specs.templates.Templates.{count_of}
 use Rattle.wgsl_rules.specs.types.Signatures.{Parameter, of_literal, of_type}
 use Rattle.wgsl_rules.specs.types.Types.{WgslType}
 use Rattle.wgsl_standard.specs.Callees.{WgslCallee, a_constructor, a_unary}
+use Rattle.wgsl_forms.specs.declared.form.Referent.TheVariants.{Whole}
 use Rattle.wgsl_requests.specs.Calls.{WgslCall}
 use Rattle.wgsl_requests.specs.Forms.{WgslForm, address_of, array_of, indirection_of, typed_array_of}
 use Rattle.wgsl_requests.specs.Requests.{WgslRequest, form_of, type_of}
 
 abbrev pub unary_form : List Operand → UnaryOperator → Option WgslForm
 -- `&x`
-unary_form (x ∷ []) AddressOf = Some (address_of x false)
+unary_form (x ∷ []) AddressOf = Some (address_of x Whole)
 -- `*x`
 unary_form (x ∷ []) Indirection = Some (indirection_of x)
 unary_form xs o = None

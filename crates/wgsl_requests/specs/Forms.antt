@@ -1,5 +1,5 @@
 -- Forms of expressions and statements that have no overloads, and what they are.
-use Rattle.std.specs.Prelude.{◌≡◌, ℕ, Bool, List, Option, Result, Ok, Err}
+use Rattle.std.specs.Prelude.{◌≡◌, ℕ, List, Option, Result, Ok, Err}
 use Rattle.wgsl_syntax.specs.declared.address.AccessMode.{AccessMode}
 use Rattle.wgsl_syntax.specs.declared.address.AddressSpace.{AddressSpace}
 use Rattle.wgsl_syntax.specs.declared.operator.AssignmentOperator.{AssignmentOperator}
@@ -10,7 +10,7 @@ use Rattle.wgsl_forms.specs.Address.{address_answer, indirection_answer}
 use Rattle.wgsl_forms.specs.Array.{IsInferredArray, typed_array}
 use Rattle.wgsl_forms.specs.Assign.{IsAssigned, incremented, operator_of}
 use Rattle.wgsl_forms.specs.Declare.{declared, overridden, taken}
-use Rattle.wgsl_forms.specs.Expressions.{Expression}
+use Rattle.wgsl_forms.specs.Expressions.{Expression, shown_type}
 use Rattle.wgsl_forms.specs.Index.{index_answer}
 use Rattle.wgsl_forms.specs.Lists.{constructed}
 use Rattle.wgsl_forms.specs.Load.{loaded}
@@ -19,6 +19,7 @@ use Rattle.wgsl_forms.specs.Refusals.{Refusal}
 use Rattle.wgsl_forms.specs.Switch.{switch_type}
 use Rattle.wgsl_forms.specs.Variable.{initialized_variable, variable}
 use Rattle.wgsl_forms.specs.declared.declare.Declaration.{Declaration}
+use Rattle.wgsl_forms.specs.declared.form.Referent.{Referent}
 
 -- a form with its operands, as they are written, before a reference is loaded
 pub data WgslForm : Type 0 where
@@ -42,8 +43,8 @@ pub data WgslForm : Type 0 where
   construct_of : WgslType → List Operand → WgslForm
   -- `switch x { case y {} case z {} }`
   switch_of : Operand → List Operand → WgslForm
-  -- `&x`, and whether `x` is said to be a reference to a component of a vector
-  address_of : Operand → Bool → WgslForm
+  -- `&x`, and what `x` is said to refer to
+  address_of : Operand → Referent → WgslForm
   -- `*x`
   indirection_of : Operand → WgslForm
   -- `array(x, y)`
@@ -55,8 +56,9 @@ pub data WgslForm : Type 0 where
   -- `var<private> x = v;`, `var x: T = v;`
   initialized_of : AddressSpace → Option AccessMode → Operand → Option WgslType → WgslForm
 
+-- the type that is shown: `v.xy` : vec2<f32>, also where `v` is a variable
 abbrev pub type_alone : Result Expression Refusal → Result WgslType Refusal
-type_alone (Ok e) = Ok e.of_type
+type_alone (Ok e) = Ok (shown_type e)
 type_alone (Err e) = Err e
 
 abbrev pub of_scalar : Result Scalar Refusal → Result WgslType Refusal
@@ -75,7 +77,7 @@ IsFormType (increment_of x) r = r ≡ incremented x.of_type
 IsFormType (discard_of x) r = r ≡ taken x.of_type
 IsFormType (construct_of t xs) r = r ≡ constructed t (types_of xs)
 IsFormType (switch_of x ys) r = r ≡ of_scalar (switch_type x ys)
-IsFormType (address_of x c) r = r ≡ type_alone (address_answer c x.of_type)
+IsFormType (address_of x referent) r = r ≡ type_alone (address_answer referent x.of_type)
 IsFormType (indirection_of x) r = r ≡ type_alone (indirection_answer x.of_type)
 IsFormType (array_of xs) r = IsInferredArray (types_of xs) r
 IsFormType (typed_array_of t n xs) r = r ≡ typed_array t n (types_of xs)

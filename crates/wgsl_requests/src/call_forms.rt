@@ -11,6 +11,7 @@ use crate::requests::{Call, Form};
 use wgsl_calls::template::array::element_count;
 use wgsl_core::signature::TpltParam;
 use wgsl_core::ty::Type;
+use wgsl_forms::form::Referent;
 use wgsl_standard::callee::Callee;
 use wgsl_standard::operand::Operand;
 use wgsl_syntax::operator::UnaryOperator;
@@ -41,7 +42,7 @@ fn operator_form<'r>(operator: UnaryOperator, x: Operand<'r>) -> Option<Form<'r>
     ensures { option_map form_view result ≡ unary_there (written_view x.entry ∷ []) operator }
 {
     match operator {
-        UnaryOperator::AddressOf => Some(Form::Address(x, false)),
+        UnaryOperator::AddressOf => Some(Form::Address(x, Referent::Whole)),
         UnaryOperator::Indirection => Some(Form::Indirection(x)),
         _ => None,
     }

@@ -39,7 +39,7 @@ pub(crate) fn type_of_form<'r>(form: &Form<'r>) -> Result<FormType<'r>, Refusal<
         Form::Discard(x) => unreferred(discard(x)),
         Form::Construct(ty, values) => existing(construct_struct(ty, values)),
         Form::Switch(x, cases) => of_scalar(switch_type(x, cases)),
-        Form::Address(x, is_component) => type_alone(address_of(x, *is_component)),
+        Form::Address(x, referent) => type_alone(address_of(x, *referent)),
         Form::Indirection(x) => type_alone(indirection(x)),
         Form::Array(values) => unreferred(construct_array(values)),
         Form::ArrayOf(ty, count, values) => unreferred(construct_array_of(ty, *count, values)),
@@ -52,7 +52,7 @@ fn type_alone<'r>(found: Result<Expression<'r>, Refusal<'r>>) -> Result<FormType
     ensures { answer_view form_type_view result
         ≡ type_alone (answer_view expression_view found.entry) }
 {
-    Ok(found?.ty)
+    Ok(found?.ty.shown())
 }
 
 fn unlayered<'r>(found: Result<OperandType<'r>, Refusal<'r>>) -> Result<FormType<'r>, Refusal<'r>>

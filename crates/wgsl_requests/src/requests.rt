@@ -3,6 +3,7 @@ pub use wgsl_calls::call::NamedCall;
 use wgsl_core::signature::TpltParam;
 use wgsl_core::ty::{StructType, Type};
 use wgsl_forms::declare::Declaration;
+use wgsl_forms::form::Referent;
 use wgsl_standard::callee::Callee;
 use wgsl_standard::operand::Operand;
 use wgsl_syntax::address::{AccessMode, AddressSpace};
@@ -72,8 +73,8 @@ pub enum Form<'r> {
     Construct(&'r Type, &'r [Operand<'r>]),
     /// `switch x { case y {} case z {} }`
     Switch(Operand<'r>, &'r [Operand<'r>]),
-    /// `&x`, and whether `x` is said to be a reference to a component of a vector.
-    Address(Operand<'r>, bool),
+    /// `&x`, and what `x` is said to refer to.
+    Address(Operand<'r>, Referent),
     /// `*x`
     Indirection(Operand<'r>),
     /// `array(x, y)`

@@ -1,5 +1,5 @@
 -- Unary operators in words, and `&` of what may be said to be a reference to a component.
-use Rattle.std.proofs.Common.{◌≡◌, ◌≢◌, inl, inr, ℕ, Bool, true, false, List, [], ◌∷◌, codes, refl, sym, ap, subst, ◌∙◌}
+use Rattle.std.proofs.Common.{◌≡◌, ◌≢◌, inl, inr, ℕ, List, [], ◌∷◌, codes, refl, sym, ap, subst, ◌∙◌}
 use Rattle.std.specs.Prelude.{Result, Ok, Err}
 use Rattle.wgsl_syntax.specs.Operator.{unary_text}
 use Rattle.wgsl_syntax.specs.declared.operator.UnaryOperator.{UnaryOperator}
@@ -9,6 +9,8 @@ use Rattle.wgsl_syntax.proofs.Naming.{unary_naming}
 use Rattle.wgsl_rules.specs.standard.Choice.{Operand}
 use Rattle.wgsl_core.specs.declared.error.Fail.{Fail}
 use Rattle.wgsl_core.specs.declared.error.Fail.TheVariants.{Error, Memory}
+use Rattle.wgsl_forms.specs.declared.form.Referent.{Referent}
+use Rattle.wgsl_forms.specs.declared.form.Referent.TheVariants.{Whole, Component, Swizzle}
 use Rattle.wgsl_requests.specs.CallForms.{type_asked}
 use Rattle.wgsl_requests.specs.Calls.{WgslCall}
 use Rattle.wgsl_requests.specs.Forms.{address_of}
@@ -50,16 +52,17 @@ module _ (words after : List (List ℕ)) (o : UnaryOperator) (are : words ≡ un
 -- `&`
 
 module _ (words : List (List ℕ)) where
-  no_addressed_type : ((x : Operand) (is_component : Bool) → ¬ IsAddressed words x is_component) → (request : Request) → ¬ TypeForm (codes "unary" ∷ codes "&" ∷ words) request
-  no_addressed_type none request (inl f) = no_unary_operand (codes "&" ∷ words) words AddressOf (codes "&", refl, refl) (λ x d. none x false d) f.0 f.1
-  no_addressed_type none request (inr f) = none f.0 true (f.1, cc f.2, f.3)
+  no_addressed_type : ((x : Operand) (referent : Referent) → ¬ IsAddressed words x referent) → (request : Request) → ¬ TypeForm (codes "unary" ∷ codes "&" ∷ words) request
+  no_addressed_type none request (inl f) = no_unary_operand (codes "&" ∷ words) words AddressOf (codes "&", refl, refl) (λ x d. none x Whole d) f.0 f.1
+  no_addressed_type none request (inr f) = none f.0 Component (f.1, cc f.2, f.3)
 
-  no_addressed : ((x : Operand) (is_component : Bool) → ¬ IsAddressed words x is_component) → NoRequest Standard (codes "unary" ∷ codes "&" ∷ words)
+  no_addressed : ((x : Operand) (referent : Referent) → ¬ IsAddressed words x referent) → NoRequest Standard (codes "unary" ∷ codes "&" ∷ words)
   no_addressed none request d = no_addressed_type none request (request_form d)
 
-  address_spelled : (x : Operand) (is_component : Bool) → IsAddressed words x is_component → IsRequest Standard (codes "unary" ∷ codes "&" ∷ words) (form_of (address_of x is_component))
-  address_spelled x true d = subst (λ ws. IsRequest Standard (codes "unary" ∷ codes "&" ∷ ws) (form_of (address_of x true))) (sym d.1) (component_words d.2)
-  address_spelled x false d = type_words (unary_call (codes "&" ∷ words) words AddressOf (codes "&", refl, refl) x d)
+  address_spelled : (x : Operand) (referent : Referent) → IsAddressed words x referent → IsRequest Standard (codes "unary" ∷ codes "&" ∷ words) (form_of (address_of x referent))
+  address_spelled x Component d = subst (λ ws. IsRequest Standard (codes "unary" ∷ codes "&" ∷ ws) (form_of (address_of x Component))) (sym d.1) (component_words d.2)
+  address_spelled x Whole d = type_words (unary_call (codes "&" ∷ words) words AddressOf (codes "&", refl, refl) x d)
+  address_spelled x Swizzle d = absurd d
 
   address_written : (old new : List ℕ) (r : Result TextKind (Fail Misfit)) → WritesOfAddress words old new r → Replies Standard (codes "unary" ∷ codes "&" ∷ words) old new r
   address_written old new (Ok kind) w = replied kind old new (address_spelled w.0 w.1 w.2) w.3
@@ -73,16 +76,19 @@ address_replied words after o are is old new r w =
 
 -- what is read after `&`
 
-pub nothing_addressed : (words : List (List ℕ)) → words ≡ [] → (x : Operand) (is_component : Bool) → ¬ IsAddressed words x is_component
-nothing_addressed words none x true d = let same : [] ≡ codes "component" ∷ d.0 = sym none ∙ d.1 in cc same
-nothing_addressed words none x false d = no_operand words none x [] d
+pub nothing_addressed : (words : List (List ℕ)) → words ≡ [] → (x : Operand) (referent : Referent) → ¬ IsAddressed words x referent
+nothing_addressed words none x Component d = let same : [] ≡ codes "component" ∷ d.0 = sym none ∙ d.1 in cc same
+nothing_addressed words none x Whole d = no_operand words none x [] d
+nothing_addressed words none x Swizzle d = d
 
 module _ (words after : List (List ℕ)) (word : List ℕ) (are : words ≡ word ∷ after) where
-  pub no_component : word ≡ codes "component" → ((x : Operand) → ¬ OperandAt after x []) → (x : Operand) (is_component : Bool) → ¬ IsAddressed words x is_component
-  no_component is none x true d =
+  pub no_component : word ≡ codes "component" → ((x : Operand) → ¬ OperandAt after x []) → (x : Operand) (referent : Referent) → ¬ IsAddressed words x referent
+  no_component is none x Component d =
       let same : word ∷ after ≡ codes "component" ∷ d.0 = sym are ∙ d.1 in let rest : d.0 ≡ after = sym (cc same) in none x (subst (λ ws. OperandAt ws x []) rest d.2)
-  no_component is none x false d = no_component_operand after x [] (subst (λ ws. OperandAt ws x []) (are ∙ ap (λ w. w ∷ after) is) d)
+  no_component is none x Whole d = no_component_operand after x [] (subst (λ ws. OperandAt ws x []) (are ∙ ap (λ w. w ∷ after) is) d)
+  no_component is none x Swizzle d = d
 
-  pub no_address : word ≢ codes "component" → ((x : Operand) → ¬ OperandAt (word ∷ after) x []) → (x : Operand) (is_component : Bool) → ¬ IsAddressed words x is_component
-  no_address other none x true d = let same : word ∷ after ≡ codes "component" ∷ d.0 = sym are ∙ d.1 in other (cc same)
-  no_address other none x false d = none x (subst (λ ws. OperandAt ws x []) are d)
+  pub no_address : word ≢ codes "component" → ((x : Operand) → ¬ OperandAt (word ∷ after) x []) → (x : Operand) (referent : Referent) → ¬ IsAddressed words x referent
+  no_address other none x Component d = let same : word ∷ after ≡ codes "component" ∷ d.0 = sym are ∙ d.1 in other (cc same)
+  no_address other none x Whole d = none x (subst (λ ws. OperandAt ws x []) are d)
+  no_address other none x Swizzle d = d

@@ -21,6 +21,7 @@ use Rattle.wgsl_text.proofs.FormWords.{one_form as one_form_read}
 use Rattle.wgsl_text.proofs.TemplateReads.{one_template}
 use Rattle.wgsl_requests.specs.CallForms.{type_asked}
 use Rattle.wgsl_requests.specs.Calls.{WgslCall}
+use Rattle.wgsl_forms.specs.declared.form.Referent.TheVariants.{Component}
 use Rattle.wgsl_requests.specs.Forms.{address_of}
 use Rattle.wgsl_text.specs.declared.form_command.FormCommand.{FormCommand}
 
@@ -101,7 +102,7 @@ one_component words r s f g =
     let same : codes "unary" ∷ codes "&" ∷ codes "component" ∷ f.1 ≡ codes "unary" ∷ codes "&" ∷ codes "component" ∷ g.1 = sym f.2 ∙ g.2 in
     let after : f.1 ≡ g.1 = cc same in
     let x = (one_operand g.1 f.0 g.0 [] [] (subst (λ ws. OperandAt ws f.0 []) after f.3) g.3).0 in
-    f.4 ∙ (ap (λ x. form_of (address_of x true)) x ∙ sym g.4)
+    f.4 ∙ (ap (λ x. form_of (address_of x Component)) x ∙ sym g.4)
 
 call_or_component : (words : List (List ℕ)) (r s : Request) → CallForm type_asked words r → ComponentForm words s → ⊥
 call_or_component words r s f g = no_component_call g.1 f.0 (subst (λ ws. IsCall ws f.0) g.2 f.1)

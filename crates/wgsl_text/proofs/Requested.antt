@@ -17,6 +17,7 @@ use Rattle.wgsl_rules.specs.standard.Choice.{Operand}
 use Rattle.wgsl_standard.specs.Callees.{WgslCallee}
 use Rattle.wgsl_requests.specs.CallForms.{type_asked}
 use Rattle.wgsl_requests.specs.Calls.{WgslCall}
+use Rattle.wgsl_forms.specs.declared.form.Referent.TheVariants.{Component}
 use Rattle.wgsl_requests.specs.Forms.{WgslForm, address_of}
 use Rattle.wgsl_text.specs.Calls.{HeadAt, IsCall, OperandAt, binary_at, call_at, ctor_at, unary_at}
 use Rattle.wgsl_text.specs.Fits.{IsFit}
@@ -57,7 +58,7 @@ CallForm ask words request = (c : WgslCall) × IsCall words c × (request ≡ as
 -- `&` of what is said to be a reference to a component
 abbrev pub ComponentForm : List (List ℕ) → Request → Type 0
 ComponentForm words request =
-    (x : Operand) × (after : List (List ℕ)) × (words ≡ codes "unary" ∷ codes "&" ∷ codes "component" ∷ after) × OperandAt after x [] × (request ≡ form_of (address_of x true))
+    (x : Operand) × (after : List (List ℕ)) × (words ≡ codes "unary" ∷ codes "&" ∷ codes "component" ∷ after) × OperandAt after x [] × (request ≡ form_of (address_of x Component))
 
 abbrev pub TypeForm : List (List ℕ) → Request → Type 0
 TypeForm words request = CallForm type_asked words request ⊎ ComponentForm words request

@@ -12,6 +12,7 @@ use Rattle.wgsl_rules.specs.types.Signatures.{Signature}
 use Rattle.wgsl_rules.specs.layout.Stored.{stored, stored_members}
 use Rattle.wgsl_requests.specs.CallForms.{type_asked}
 use Rattle.wgsl_requests.specs.Calls.{WgslCall}
+use Rattle.wgsl_forms.specs.declared.form.Referent.TheVariants.{Component}
 use Rattle.wgsl_requests.specs.Forms.{WgslForm, address_of}
 pub use Rattle.wgsl_requests.specs.Requests.{WgslRequest as Request, rank, common, unary, binary, size, offsets, layout, ctor, call, type_of, resolution_of, explanation_of, overloads_of, form_of, fit_of}
 use Rattle.wgsl_text.specs.Calls.{IsCall, OperandAt}
@@ -80,7 +81,7 @@ pub data IsRequest : RuleSet → List (List ℕ) → Request → Type 0 where
       IsRequest Standard words (type_asked c)
   -- `unary & component ref function read_write f32`
   component_words : {words : List (List ℕ)} {x : Operand} → OperandAt words x [] →
-      IsRequest Standard (codes "unary" ∷ codes "&" ∷ codes "component" ∷ words) (form_of (address_of x true))
+      IsRequest Standard (codes "unary" ∷ codes "&" ∷ codes "component" ∷ words) (form_of (address_of x Component))
   -- `resolve binary + f32 AbstractInt`
   resolve_words : {words : List (List ℕ)} {c : WgslCall} → IsCall words c →
       IsRequest Standard (codes "resolve" ∷ words) (resolution_of c)

@@ -1,5 +1,5 @@
 // What is answered to a unary operator, which may be `&` of what is said to be a reference to a component of a vector.
-ghost use Rattle.std.specs.Prelude.{◌∷◌, IfOk, codes, string_bytes, «Bool»};
+ghost use Rattle.std.specs.Prelude.{◌∷◌, IfOk, codes, string_bytes};
 ghost use Rattle.wgsl_rules.specs.standard.Choice.{Operand as WgslOperand};
 ghost use Rattle.wgsl_requests.specs.Forms.{address_of};
 ghost use Rattle.wgsl_text.specs.Answers.{IsAnswer};
@@ -17,6 +17,7 @@ use crate::wanted::{Misfit, Wanted};
 use crate::words::Words;
 use crate::write::TextKind;
 use std::alloc::{AllocError, Global};
+use wgsl_forms::form::Referent;
 use wgsl_requests::requests::{Form, Request};
 use wgsl_syntax::rules::RuleSet;
 use wgsl_types::error::Fail;
@@ -48,37 +49,41 @@ fn answer_address(
     ensures { WritesOfAddress (left words.old)
         (string_bytes text.old) (string_bytes text.new) result }
 {
-    let (x, is_component) = read_addressed(alloc, words)?;
-    let written = write_address(alloc, &x, is_component, text);
+    let (x, referent) = read_addressed(alloc, words)?;
+    let written = write_address(alloc, &x, referent, text);
     drop(x);
     Ok(written?)
 }
 
-/// An operand, and whether it is said to be a reference to a component.
-fn read_addressed(alloc: Global, words: &mut Words) -> Result<(WrittenOperand, bool), Fail<Misfit>>
+/// An operand, and what it is said to refer to.
+fn read_addressed(
+    alloc: Global,
+    words: &mut Words,
+) -> Result<(WrittenOperand, Referent), Fail<Misfit>>
     ensures { Answers (λ read. IsAddressed (left words.old) (operand_view read.0) read.1)
-        ((x : WgslOperand) (is_component : «Bool») → ¬ IsAddressed (left words.old) x is_component) result }
+        ((x : WgslOperand) (referent : Referent) → ¬ IsAddressed (left words.old) x referent) result }
 {
     let word = words.next(Wanted::Type)?;
     if word == "component" {
-        Ok((read_last_operand(alloc, words)?, true))
+        Ok((read_last_operand(alloc, words)?, Referent::Component))
     } else {
-        Ok((read_whole_operand(alloc, word, words)?, false))
+        let x = read_whole_operand(alloc, word, words)?;
+        Ok((x, Referent::Whole))
     }
 }
 
 fn write_address(
     alloc: Global,
     x: &WrittenOperand,
-    is_component: bool,
+    referent: Referent,
     text: &mut String,
 ) -> Result<TextKind, AllocError>
-    ensures { IfOk result (λ kind. Adds (IsAnswer (form_of (address_of (operand_view x.now) is_component)) kind)
+    ensures { IfOk result (λ kind. Adds (IsAnswer (form_of (address_of (operand_view x.now) referent)) kind)
         (string_bytes text.old) (string_bytes text.new)) }
 {
     write_answer_to(
         alloc,
-        Request::Form(&Form::Address(x.borrowed(), is_component)),
+        Request::Form(&Form::Address(x.borrowed(), referent)),
         text,
     )
 }

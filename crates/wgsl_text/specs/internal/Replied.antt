@@ -1,10 +1,12 @@
 -- What a command writes.
-use Rattle.std.specs.Prelude.{◌≡◌, ℕ, Bool, true, false, List, [], ◌∷◌, Result, codes, map, option_map}
+use Rattle.std.specs.Prelude.{◌≡◌, ℕ, List, [], ◌∷◌, Result, codes, map, option_map}
 use Rattle.wgsl_rules.specs.standard.Choice.{Operand}
 use Rattle.wgsl_rules.specs.types.Types.{WgslType, struct, Members}
 use Rattle.wgsl_rules.specs.types.Signatures.{Signature}
 use Rattle.wgsl_core.specs.View.{view}
 use Rattle.wgsl_core.specs.Instances.{parameter_view}
+use Rattle.wgsl_forms.specs.declared.form.Referent.{Referent}
+use Rattle.wgsl_forms.specs.declared.form.Referent.TheVariants as referents
 use Rattle.wgsl_requests.specs.Forms.{address_of}
 use Rattle.wgsl_text.specs.Answers.{IsAnswer, IsReply}
 use Rattle.wgsl_text.specs.Calls.{OperandAt}
@@ -47,13 +49,15 @@ signature_read call = record {
   arguments = map view call.args.items;
 }
 
--- The words are the operand of `&`, behind the word `component` if it is said to be a reference to one.
-abbrev pub IsAddressed : List (List ℕ) → Operand → Bool → Type 0
-IsAddressed words x true = (after : List (List ℕ)) × (words ≡ codes "component" ∷ after) × OperandAt after x []
-IsAddressed words x false = OperandAt words x []
+-- The words are the operand of `&`, behind the word `component` if it is said to be a reference to one. There is no word for a
+-- swizzle, of which `&` is what it is of a component.
+abbrev pub IsAddressed : List (List ℕ) → Operand → Referent → Type 0
+IsAddressed words x referents.Whole = OperandAt words x []
+IsAddressed words x referents.Component = (after : List (List ℕ)) × (words ≡ codes "component" ∷ after) × OperandAt after x []
+IsAddressed words x referents.Swizzle = ⊥
 
 -- The answer to `&` of what the words are is written. The error is a misfit only if they are no operand of it.
 abbrev pub WritesOfAddress : List (List ℕ) → List ℕ → List ℕ → Result TextKind (Fail Misfit) → Type 0
 WritesOfAddress words old new r =
-    Answers (λ kind. (x : Operand) × (is_component : Bool) × IsAddressed words x is_component × Adds (IsAnswer (form_of (address_of x is_component)) kind) old new)
-    ((x : Operand) (is_component : Bool) → ¬ IsAddressed words x is_component) r
+    Answers (λ kind. (x : Operand) × (referent : Referent) × IsAddressed words x referent × Adds (IsAnswer (form_of (address_of x referent)) kind) old new)
+    ((x : Operand) (referent : Referent) → ¬ IsAddressed words x referent) r
