@@ -1,6 +1,6 @@
 -- Address spaces and access modes: their names, and how memory may be accessed (WGSL, "Address Spaces" and
 -- "Memory Access Mode").
-use Rattle.std.specs.Prelude.{◌≡◌, ◌⊎◌, ℕ, List, [], ◌∷◌, codes}
+use Rattle.std.specs.Prelude.{◌≡◌, ◌⊎◌, ℕ, List, [], ◌∷◌, Bool, true, false, codes}
 use Rattle.wgsl_syntax.specs.declared.address.AddressSpace.{AddressSpace}
 use Rattle.wgsl_syntax.specs.declared.address.AddressSpace.TheVariants.{Function, Private, Workgroup, Uniform, Storage, Handle, PushConstant}
 use Rattle.wgsl_syntax.specs.declared.address.AccessMode.{AccessMode}
@@ -37,6 +37,13 @@ default_access Function = ReadWrite
 default_access Private = ReadWrite
 default_access Workgroup = ReadWrite
 default_access _ = Read
+
+-- An access mode may be said for `storage` alone: `var<storage, read_write> v: f32;`, `ptr<storage, f32, read>`. Elsewhere
+-- not even the one that would be there anyway: `var<uniform, read> v: f32;`, `ptr<function, f32, read_write>`.
+abbrev pub may_say : AddressSpace → AccessMode → Bool
+may_say Storage Read = true
+may_say Storage ReadWrite = true
+may_say s a = false
 
 abbrev pub MayRead : AccessMode → Type 0
 MayRead access = (access ≡ Read) ⊎ (access ≡ ReadWrite)

@@ -1,7 +1,7 @@
 // Address spaces and access modes.
 ghost use Rattle.std.specs.Prelude.{◌≡◌, ◌↔◌, IsTrue};
 ghost use Rattle.wgsl_syntax.specs.Names.{named, table, Reads, ReadsBut};
-ghost use Rattle.wgsl_syntax.specs.Address.{access_modes, access_text, default_access, space_text, spaces, written_spaces, MayRead, MayWrite};
+ghost use Rattle.wgsl_syntax.specs.Address.{access_modes, access_text, default_access, may_say as said_there, space_text, spaces, written_spaces, MayRead, MayWrite};
 ghost use Rattle.wgsl_syntax.specs.declared.address.AddressSpace.TheVariants.{Handle};
 
 use std::fmt;
@@ -37,6 +37,16 @@ impl AddressSpace {
                 AccessMode::ReadWrite
             }
             _ => AccessMode::Read,
+        }
+    }
+
+    /// Whether a variable or a pointer type may say this access mode (WGSL, "Variable Declarations").
+    pub fn may_say(self, access: AccessMode) -> bool
+        ensures { result ≡ said_there self access }
+    {
+        match self {
+            AddressSpace::Storage => matches!(access, AccessMode::Read | AccessMode::ReadWrite),
+            _ => false,
         }
     }
 
