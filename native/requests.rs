@@ -1,7 +1,7 @@
 //! Requests in text, answered in text: each is a line of the programs `wgsl_check` and `wgsl_standard`.
 
 use crate::proved::wgsl_expressions::request::{self, reply_to, Reply, TextKind};
-use crate::proved::wgsl_text::rules::RuleSet;
+use crate::proved::wgsl_syntax::rules::RuleSet;
 use crate::shim::always;
 use crate::shim::std::alloc::Global;
 use alloc::string::String;

@@ -7,7 +7,7 @@ use Rattle.std.proofs.lemmas.Bool.{cases_lt}
 use Rattle.std.proofs.lemmas.Str.{IsUtf8-string_bytes}
 use Rattle.wgsl_text.specs.Words.{words_of}
 use Rattle.wgsl_expressions.specs.Replies.{IsExplanation}
-use Rattle.wgsl_text.specs.declared.rules.RuleSet.{RuleSet}
+use Rattle.wgsl_syntax.specs.declared.rules.RuleSet.{RuleSet}
 use Rattle.wgsl_expressions.specs.declared.request.Reply.{Reply}
 use Rattle.wgsl_expressions.specs.declared.request.Reply.TheVariants.{Nothing, Answer, Unreadable}
 use Rattle.wgsl_text.specs.declared.write.TextKind.{TextKind}

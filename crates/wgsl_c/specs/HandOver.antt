@@ -3,7 +3,7 @@ use Rattle.std.specs.Prelude.{◌≡◌, ◌≢◌, ◌⊎◌, ◌<◌, ◌≤�
 use Rattle.std.specs.declared.alloc.AllocError.{AllocError}
 use Rattle.wgsl_expressions.specs.Replies.{IsExplanation, IsReplyTo, reply_text}
 use Rattle.wgsl_text.specs.Words.{has_line_feed, words_of}
-use Rattle.wgsl_text.specs.declared.rules.RuleSet.{RuleSet}
+use Rattle.wgsl_syntax.specs.declared.rules.RuleSet.{RuleSet}
 use Rattle.wgsl_expressions.specs.declared.request.Reply.{Reply}
 use Rattle.wgsl_expressions.specs.declared.request.Reply.TheVariants.{Nothing, Answer, Unreadable}
 use Rattle.wgsl_text.specs.declared.write.TextKind.{TextKind}

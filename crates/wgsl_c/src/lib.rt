@@ -16,7 +16,7 @@ ghost use Rattle.wgsl_c.specs.HandOver.{IsAnswered, IsExplained};
 use requests::{answer_by, explain_by};
 pub use source::wgsl_source_layout;
 use std::alloc::Global;
-use wgsl_text::rules::RuleSet;
+use wgsl_syntax::rules::RuleSet;
 
 /// Answers one request, as the program wgsl_check answers a line: by the ported rules.
 #[unsafe(no_mangle)]

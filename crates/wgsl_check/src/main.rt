@@ -5,14 +5,14 @@
 ghost use Rattle.std.specs.Prelude.{ℕ, List, IfErr, IfOk, IfSome};
 ghost use Rattle.std.specs.Io.KnownBytes.{Appends};
 ghost use Rattle.wgsl_lines.specs.Output.{Prints, PrintsFirst, PrintsUntil};
-ghost use Rattle.wgsl_text.specs.declared.rules.RuleSet.TheVariants.{Ported};
+ghost use Rattle.wgsl_syntax.specs.declared.rules.RuleSet.TheVariants.{Ported};
 
 use std::alloc::Global;
 use std::io::{Read, Write, sink};
 use std::process::ExitCode;
 use wgsl_lines::run::run as run_with_notes;
 pub use wgsl_lines::run::{RunError, status};
-use wgsl_text::rules::RuleSet;
+use wgsl_syntax::rules::RuleSet;
 
 /// Answers each line of the input by the rules of wgsl-types, and says whether every one was readable.
 ///

@@ -11,8 +11,8 @@ use Rattle.wgsl_text.specs.Replies.{IsReplyToLine as IsReplyToWords, WritesReply
 use Rattle.wgsl_text.specs.Words.{is_separator, words_of}
 use Rattle.wgsl_text.specs.declared.request.ReplyKind.{ReplyKind}
 use Rattle.wgsl_text.specs.declared.request.ReplyKind.TheVariants as k
-use Rattle.wgsl_text.specs.declared.rules.RuleSet.{RuleSet}
-use Rattle.wgsl_text.specs.declared.rules.RuleSet.TheVariants.{Standard}
+use Rattle.wgsl_syntax.specs.declared.rules.RuleSet.{RuleSet}
+use Rattle.wgsl_syntax.specs.declared.rules.RuleSet.TheVariants.{Standard}
 use Rattle.wgsl_text.proofs.FirstWord.{words_of-first}
 use Rattle.wgsl_expressions.specs.Grammar.{IsTyped, not_ascii}
 use Rattle.wgsl_expressions.specs.Replies.{IsReplyToLine, begins_separated, expression_asked, to_words}

@@ -2,7 +2,7 @@
 use Rattle.std.proofs.Common.{◌≡◌, ◌<◌, ◌-◌, ◌⊎◌, ◌∙◌, ℕ, List, Option, Some, None, arith, false, inl, inr, length, refl, subst, sym, true}
 use Rattle.wgsl_text.specs.Replies.{ReplyText, too_long, unreadable}
 use Rattle.wgsl_text.specs.Words.{has_line_feed}
-use Rattle.wgsl_text.specs.declared.rules.RuleSet.{RuleSet}
+use Rattle.wgsl_syntax.specs.declared.rules.RuleSet.{RuleSet}
 use Rattle.wgsl_text.proofs.OneReply.{one_line_reply as one_reply_to_words}
 use Rattle.wgsl_expressions.specs.Grammar.{IsTyped}
 use Rattle.wgsl_expressions.specs.Replies.{IsReplyTo, IsReplyToLine, expression_asked, expression_reply, forbidden, long_expression, no_text, one_line, to_expression, to_words}

@@ -5,8 +5,8 @@ use Rattle.std.specs.Str.{bytes_eq}
 use Rattle.wgsl_rules.specs.types.Spelling.{wgsl_spelling}
 use Rattle.wgsl_text.specs.Replies.{IsLineOfText, IsReplyToLine as IsReplyToWords, ReplyText, answer, nothing, unreadable}
 use Rattle.wgsl_text.specs.Words.{has_line_feed, is_separator, words_of}
-use Rattle.wgsl_text.specs.declared.rules.RuleSet.{RuleSet}
-use Rattle.wgsl_text.specs.declared.rules.RuleSet.TheVariants.{Ported, Standard}
+use Rattle.wgsl_syntax.specs.declared.rules.RuleSet.{RuleSet}
+use Rattle.wgsl_syntax.specs.declared.rules.RuleSet.TheVariants.{Ported, Standard}
 use Rattle.wgsl_text.specs.declared.write.TextKind.{TextKind}
 use Rattle.wgsl_text.specs.declared.write.TextKind.TheVariants as kinds
 use Rattle.wgsl_expressions.specs.Grammar.{IsTyped}

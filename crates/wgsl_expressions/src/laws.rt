@@ -1,7 +1,7 @@
 // Laws of requests: each function returns nothing, and its contract is the law.
 ghost use Rattle.std.specs.Prelude.{◌≡◌, ℕ, List, Option};
 ghost use Rattle.wgsl_text.specs.Replies.{ReplyText};
-ghost use Rattle.wgsl_text.specs.declared.rules.RuleSet.{RuleSet};
+ghost use Rattle.wgsl_syntax.specs.declared.rules.RuleSet.{RuleSet};
 ghost use Rattle.wgsl_expressions.specs.Grammar.{IsTyped};
 ghost use Rattle.wgsl_expressions.specs.Outcomes.{Outcome};
 ghost use Rattle.wgsl_expressions.specs.Replies.{IsReplyTo};

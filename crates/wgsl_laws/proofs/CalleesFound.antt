@@ -5,8 +5,8 @@ use Rattle.wgsl_text.specs.Grammar.{TypesAt}
 use Rattle.wgsl_text.specs.Requests.{IsCallee}
 use Rattle.wgsl_text.specs.Templates.{IsEnumerant, IsLiteral, ParameterAt, ParametersAt, TemplateAt, end_at, no_template_at, of_enumerant_at, of_literal_at, of_type_at, parameter_at, template_at}
 use Rattle.wgsl_text.proofs.TemplateReads.{MoreParameters, enumerant_read, literal_read, no_enumerant, no_kind, no_literal, no_type, one_parameter, one_template, type_read}
-use Rattle.wgsl_text.specs.declared.rules.RuleSet.{RuleSet}
-use Rattle.wgsl_text.specs.declared.rules.RuleSet.TheVariants.{Ported}
+use Rattle.wgsl_syntax.specs.declared.rules.RuleSet.{RuleSet}
+use Rattle.wgsl_syntax.specs.declared.rules.RuleSet.TheVariants.{Ported}
 use Rattle.wgsl_laws.proofs.Found.{Found, Means, a_word}
 use Rattle.wgsl_laws.proofs.ListsFound.{a_type, some_types}
 use Rattle.wgsl_laws.proofs.TypesFound.{type_shorter}

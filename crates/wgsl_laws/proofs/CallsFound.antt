@@ -2,6 +2,7 @@
 use Rattle.std.proofs.Common.{◌≡◌, ◌<◌, ℕ, List, [], ◌∷◌, length, Option, Some, None, codes, refl, sym, ap, subst, inl, inr, arith}
 use native.Mathlib.Decide.{ℕ_discrete}
 use Rattle.wgsl_syntax.specs.Operator.{binary_operators, binary_text, unary_operators, unary_text}
+use Rattle.wgsl_syntax.specs.declared.rules.RuleSet.TheVariants.{Standard}
 use Rattle.wgsl_syntax.proofs.Naming.{binary_naming, unary_naming}
 use Rattle.std.specs.Prelude.{true}
 use Rattle.wgsl_rules.specs.conversion.Concrete.{is_abstract}
@@ -14,7 +15,6 @@ use Rattle.wgsl_text.specs.Templates.{TemplateAt}
 use Rattle.wgsl_text.specs.internal.Asked.{NamedAt}
 use Rattle.wgsl_text.proofs.CallReads.{binary_head, binary_read, call_read, constant_read, ctor_read, no_binary, no_call, no_constant, no_ctor, no_head, no_head_no_call, no_operands_no_call, no_plain, no_unary, one_operand, one_operands, unary_head, unary_read}
 use Rattle.wgsl_text.proofs.Meanings.{OneMeaning, one_word}
-use Rattle.wgsl_text.specs.declared.rules.RuleSet.TheVariants.{Standard}
 use Rattle.wgsl_laws.proofs.CalleesFound.{a_template}
 use Rattle.wgsl_laws.proofs.Found.{Found, IsListOf, ListForm, Means, a_word, all_of, and_then}
 use Rattle.wgsl_laws.proofs.ListsFound.{a_type}

@@ -3,7 +3,7 @@ use Rattle.std.proofs.Common.{◌≡◌, ◌∙◌, ◌≤◌, ℕ, zero, suc, L
 use Rattle.wgsl_rules.specs.types.Types.{WgslType}
 use Rattle.wgsl_rules.specs.standard.Choice.{Operand}
 use Rattle.wgsl_text.specs.Fits.{IsFit, ValuesAt, no_values_at, value_at}
-use Rattle.wgsl_text.specs.declared.rules.RuleSet.TheVariants.{Standard}
+use Rattle.wgsl_syntax.specs.declared.rules.RuleSet.TheVariants.{Standard}
 use Rattle.wgsl_text.proofs.CallReads.{no_operand, one_operand}
 use Rattle.wgsl_text.proofs.FitReads.{no_fit_types, values_form}
 use Rattle.wgsl_laws.proofs.CallsFound.{an_operand, operand_shorter}

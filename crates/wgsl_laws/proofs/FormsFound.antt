@@ -1,6 +1,7 @@
 -- The words after a command are a form, or none; and a form has a type, or a refusal.
 use Rattle.std.proofs.Common.{◌≡◌, ◌∙◌, ◌⊎◌, ℕ, List, [], ◌∷◌, Option, Some, None, Result, codes, refl, sym, ap, subst, inl, inr}
 use Rattle.wgsl_syntax.specs.Operator.{assignment_operators, assignment_text}
+use Rattle.wgsl_syntax.specs.declared.rules.RuleSet.TheVariants.{Standard}
 use Rattle.wgsl_syntax.proofs.Naming.{assignment_naming}
 use Rattle.wgsl_rules.specs.standard.Choice.{types_of}
 use Rattle.wgsl_rules.specs.types.Types.{WgslType}
@@ -11,7 +12,6 @@ use Rattle.wgsl_requests.specs.Forms.{WgslForm, IsFormType, member_of, index_of,
 use Rattle.wgsl_text.specs.Calls.{OperandAt, OperandsAt}
 use Rattle.wgsl_text.specs.Forms.{SaidMemory, said_memory, IsAnnotation, IsForm, IsTyped}
 use Rattle.wgsl_text.specs.Grammar.{TypeAt}
-use Rattle.wgsl_text.specs.declared.rules.RuleSet.TheVariants.{Standard}
 use Rattle.wgsl_text.specs.declared.form_command.FormCommand.{FormCommand}
 use Rattle.wgsl_text.specs.declared.form_command.FormCommand.TheVariants.{Member, Index, Load, Declare, Assign, Increment, Decrement, Construct, Switch, Var}
 use Rattle.wgsl_text.proofs.CallReads.{one_operand, one_operands}

@@ -3,6 +3,7 @@ use Rattle.std.proofs.Common.{◌≡◌, ◌≤◌, ℕ, zero, suc, List, [], �
 use Rattle.std.specs.Str.{bytes_eq}
 use Rattle.wgsl_syntax.specs.Names.{named, table}
 use Rattle.wgsl_syntax.specs.Scalar.{scalar_text, scalars}
+use Rattle.wgsl_syntax.specs.declared.rules.RuleSet.{RuleSet}
 use Rattle.wgsl_rules.specs.types.Around.{around}
 use Rattle.wgsl_rules.specs.types.Types.{WgslType, scalar, struct, Members, no_members, member}
 use Rattle.wgsl_core.specs.View.{Member}
@@ -16,7 +17,6 @@ use Rattle.wgsl_text.proofs.Meanings.{named_text}
 use Rattle.wgsl_text.proofs.Members.{no_member_align, no_member_size, no_struct_count, one_member, struct_made, struct_members}
 use Rattle.wgsl_text.proofs.Nested.{scalar_read}
 use Rattle.wgsl_text.proofs.OneType.{MoreAt, members_form, one_type, types_form}
-use Rattle.wgsl_text.specs.declared.rules.RuleSet.{RuleSet}
 use Rattle.wgsl_laws.proofs.Found.{Found, IsListOf, ListForm, Means, a_word, all_of, by_bool, by_option, from_bool, from_option, same_as}
 use Rattle.wgsl_laws.proofs.TypesFound.{a_layer, a_leaf, equal, layer_shorter, type_shorter}
 use Rattle.wgsl_laws.proofs.WordMeanings.{a_long, an_attribute}

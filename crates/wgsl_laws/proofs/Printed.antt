@@ -5,7 +5,7 @@ use Rattle.wgsl_lines.specs.Output.{Prints, is_readable, lines_of, printed_from}
 use Rattle.wgsl_lines.proofs.OneText.{one_text}
 use Rattle.wgsl_text.specs.Replies.{ReplyText}
 use Rattle.wgsl_expressions.specs.Replies.{IsReplyToLine}
-use Rattle.wgsl_text.specs.declared.rules.RuleSet.{RuleSet}
+use Rattle.wgsl_syntax.specs.declared.rules.RuleSet.{RuleSet}
 use Rattle.wgsl_laws.proofs.Replied.{some_line_reply}
 
 some_replies : (rules : RuleSet) (lines : List (List ℕ)) → (replies : List ReplyText) × AllZip (IsReplyToLine rules) lines replies

@@ -8,7 +8,7 @@ use Rattle.std.proofs.lemmas.Str.{IsUtf8-from_is_utf8, is_utf8-from_IsUtf8}
 use Rattle.wgsl_text.specs.Replies.{IsLineOfText, IsReplyToLine as IsReplyToWords, ReplyText, nothing, answer, unreadable, too_long, no_text, no_request, no_words, answered}
 use Rattle.wgsl_text.specs.Texts.{answer_text, text_kind}
 use Rattle.wgsl_text.specs.Words.{has_line_feed, words_of}
-use Rattle.wgsl_text.specs.declared.rules.RuleSet.{RuleSet}
+use Rattle.wgsl_syntax.specs.declared.rules.RuleSet.{RuleSet}
 use Rattle.wgsl_expressions.specs.Replies.{IsReplyTo, IsReplyToLine, expression_asked, expression_reply, forbidden, long_expression, no_text as no_expression_text, one_line, to_expression, to_words}
 use Rattle.wgsl_expressions.proofs.OneReply.{one_reply}
 use Rattle.wgsl_laws.proofs.Answered.{some_answer}

@@ -4,6 +4,9 @@ use Rattle.std.specs.Bool.{MatchBool}
 use Rattle.std.specs.Option.{MatchOption}
 use Rattle.std.specs.Str.{bytes_eq}
 use Rattle.wgsl_syntax.specs.Operator.{binary_operators, binary_text, unary_operators, unary_text}
+use Rattle.wgsl_syntax.specs.Texel.{format_names}
+use Rattle.wgsl_syntax.specs.declared.rules.RuleSet.{RuleSet}
+use Rattle.wgsl_syntax.specs.declared.rules.RuleSet.TheVariants.{Ported, Standard}
 use Rattle.wgsl_syntax.proofs.Naming.{binary_naming, unary_naming}
 use Rattle.wgsl_rules.specs.types.Types.{WgslType, struct, Members}
 use Rattle.wgsl_rules.specs.types.Signatures.{Signature}
@@ -11,14 +14,12 @@ use Rattle.wgsl_requests.specs.CallForms.{type_asked}
 use Rattle.wgsl_requests.specs.Calls.{WgslCall}
 use Rattle.wgsl_requests.specs.Forms.{address_of}
 use Rattle.wgsl_text.specs.Forms.{command_text, form_commands}
-use Rattle.wgsl_text.specs.Grammar.{TypeAt, TypesAt, format_names}
+use Rattle.wgsl_text.specs.Grammar.{TypeAt, TypesAt}
 use Rattle.wgsl_text.specs.declared.form_command.FormCommand.{FormCommand}
 use Rattle.wgsl_text.proofs.Meanings.{named_text}
 use Rattle.wgsl_text.specs.Reading.{IsText}
 use Rattle.wgsl_text.specs.Requests.{Request, rank, common, unary, binary, size, laid_out, ctor, call, resolution_of, explanation_of, overloads_of, form_of, fit_of, IsRequest, rank_words, common_words, unary_words, binary_words, size_words, offsets_words, layout_words, ctor_words, call_words, type_words, component_words, resolve_words, why_words, overloads_words, form_words, fit_words}
 use Rattle.wgsl_text.specs.internal.Replied.{layout_by, offsets_by}
-use Rattle.wgsl_text.specs.declared.rules.RuleSet.{RuleSet}
-use Rattle.wgsl_text.specs.declared.rules.RuleSet.TheVariants.{Ported, Standard}
 use Rattle.wgsl_text.proofs.OneType.{one_list, one_type}
 use Rattle.wgsl_text.proofs.Requested.{BinaryForm, CallForm, CalleeForm, TypeForm, CommonForm, FitForm, FormForm, OverloadsForm, PortedForm, RankForm, RequestForm, SizeForm, StandardForm, StructForm, UnaryForm, command_named, request_form}
 use Rattle.wgsl_laws.proofs.CalleesFound.{a_callee}

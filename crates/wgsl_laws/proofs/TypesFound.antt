@@ -4,12 +4,14 @@ use Rattle.std.specs.Str.{bytes_eq}
 use Rattle.std.proofs.lemmas.Slice.Eq.{bytes_eq-Decides}
 use Rattle.wgsl_syntax.specs.Address.{access_modes, access_text, space_text, spaces}
 use Rattle.wgsl_syntax.specs.Names.{named, table}
-use Rattle.wgsl_syntax.specs.Texel.{IsTexel, texel_formats, texel_text, texel_text_by}
+use Rattle.wgsl_syntax.specs.Texel.{IsTexel, format_names, texel_formats, texel_text, texel_text_by}
 use Rattle.wgsl_syntax.specs.Texture.{sampled_text, sampled_types, sampler_text, samplers}
 use Rattle.wgsl_syntax.specs.TextureName.{parameter_kind, parameters_of, texture_name_text, texture_names, texture_with}
 use Rattle.wgsl_syntax.specs.declared.around.Around.{Around}
 use Rattle.wgsl_syntax.specs.declared.around.Around.TheVariants as arounds
 use Rattle.wgsl_syntax.specs.declared.attribute.AccelerationStructureFlags.{AccelerationStructureFlags}
+use Rattle.wgsl_syntax.specs.declared.rules.RuleSet.{RuleSet}
+use Rattle.wgsl_syntax.specs.declared.rules.RuleSet.TheVariants.{Ported, Standard}
 use Rattle.wgsl_syntax.specs.declared.texel.FormatNames.{FormatNames}
 use Rattle.wgsl_syntax.specs.declared.texel.TexelFormat.{TexelFormat}
 use Rattle.wgsl_syntax.specs.declared.texel.TexelFormat.TheVariants as texels
@@ -22,13 +24,11 @@ use Rattle.wgsl_syntax.specs.declared.texture_name.TextureParameters.TheVariants
 use Rattle.wgsl_syntax.proofs.Naming.{access_naming, sampled_naming, space_naming, texel_naming, texture_naming}
 use Rattle.wgsl_syntax.proofs.Texels.{naga_or_other, one_texel}
 use Rattle.wgsl_rules.specs.types.Types.{WgslType, texture, sampler, ray_query, acceleration_structure, Members}
-use Rattle.wgsl_text.specs.Grammar.{FlagAt, IsFlag, TextureListAt, format_names, LayerAt, LeafAt, MembersAt, TypeAt, acceleration_structure_at, array_at, atomic_at, binding_array_at, flag_at, layer_at, leaf_at, mat_at, member_at, no_flag_at, no_members_at, ptr_at, ray_query_at, ref_at, sampler_at, scalar_at, spelled_at, struct_at, texture_at, vec_at}
+use Rattle.wgsl_text.specs.Grammar.{FlagAt, IsFlag, TextureListAt, LayerAt, LeafAt, MembersAt, TypeAt, acceleration_structure_at, array_at, atomic_at, binding_array_at, flag_at, layer_at, leaf_at, mat_at, member_at, no_flag_at, no_members_at, ptr_at, ray_query_at, ref_at, sampler_at, scalar_at, spelled_at, struct_at, texture_at, vec_at}
 use Rattle.wgsl_text.specs.Numbers.{IsCount, IsSmall}
 use Rattle.wgsl_text.specs.Reading.{IsText, OneWord}
 use Rattle.wgsl_text.specs.Spelled.{after_run, ends_in_comma, run, spaced}
 use Rattle.wgsl_text.specs.internal.Leaves.{ParametersAt, SpelledAt, TextureAt, begins_spelling}
-use Rattle.wgsl_text.specs.declared.rules.RuleSet.{RuleSet}
-use Rattle.wgsl_text.specs.declared.rules.RuleSet.TheVariants.{Ported, Standard}
 use Rattle.wgsl_text.proofs.Forms.{LayerForm, LeafForm, MemoryAt, TwoSmall, layer_form, leaf_form}
 use Rattle.wgsl_text.proofs.LayerReads.{array_read, atomic_read, binding_array_read, mat_read, ptr_read, ref_read, vec_read}
 use Rattle.wgsl_text.proofs.LeafReads.{flag_read, no_flag, query_read, sampler_read, spelled_or_texture_by, structure_read}

@@ -7,7 +7,7 @@ ghost use Rattle.wgsl_text.specs.Replies.{ReplyText};
 ghost use Rattle.wgsl_expressions.specs.Grammar.{IsTyped};
 ghost use Rattle.wgsl_expressions.specs.Outcomes.{Outcome};
 ghost use Rattle.wgsl_expressions.specs.Replies.{IsReplyTo};
-ghost use Rattle.wgsl_text.specs.declared.rules.RuleSet.{RuleSet};
+ghost use Rattle.wgsl_syntax.specs.declared.rules.RuleSet.{RuleSet};
 
 /// Every request has an answer, whatever types it names.
 #[tactic(auto, using(crate::proofs::Answered::some_answer))]

@@ -11,7 +11,7 @@ use Rattle.wgsl_lines.specs.declared.run.RunError.TheVariants.{Read, Write, Memo
 use Rattle.wgsl_lines.specs.Output.{is_readable, lines_of, printed_from, Prints, PrintsFirst, PrintsUntil, PrintsUpTo}
 use Rattle.wgsl_lines.specs.Session.{number_after}
 use Rattle.wgsl_lines.proofs.Replies.{printed-append}
-use Rattle.wgsl_text.specs.declared.rules.RuleSet.{RuleSet}
+use Rattle.wgsl_syntax.specs.declared.rules.RuleSet.{RuleSet}
 
 module _ (rules : RuleSet) where
   -- the replies to some lines, and to these and more

@@ -10,7 +10,7 @@ use Rattle.wgsl_text.specs.Replies.{ReplyText, unreadable}
 use Rattle.wgsl_expressions.specs.Replies.{IsReplyToLine}
 use Rattle.wgsl_lines.specs.Output.{is_readable, next_number, printed, printed_from}
 use Rattle.wgsl_lines.specs.Session.{number_after}
-use Rattle.wgsl_text.specs.declared.rules.RuleSet.{RuleSet}
+use Rattle.wgsl_syntax.specs.declared.rules.RuleSet.{RuleSet}
 
 module _ (rules : RuleSet) where
   -- of the first bytes of a line 4097 decide the reply, whatever comes after them

@@ -13,7 +13,7 @@ use Rattle.wgsl_lines.specs.Session.{AnswersLine, HasPrinted, HasStopped, HasTak
 use Rattle.wgsl_lines.proofs.Bytes.{appends_more, appends_none}
 use Rattle.wgsl_lines.proofs.OneText.{prints_first}
 use Rattle.wgsl_lines.proofs.Taken.{cut_of_all, cut_of_first, taken_last, taken_none, taken_so_far, until_none}
-use Rattle.wgsl_text.specs.declared.rules.RuleSet.{RuleSet}
+use Rattle.wgsl_syntax.specs.declared.rules.RuleSet.{RuleSet}
 
 -- a write failed after a beginning of the answers
 pub record IsCutOff (answers : List ℕ) (before now : Option (List ℕ)) : Type 0 where

@@ -11,7 +11,7 @@ use Rattle.wgsl_lines.specs.Output.{is_readable, lines_of, next_number, printed,
 use Rattle.wgsl_lines.specs.Session.{AnswersLine, HasTaken, IsAtStart, StopsAfter}
 use Rattle.wgsl_lines.proofs.Lines.{NoLineFeed, ends_last, ends_line, ends_more, ends_none, lines-some}
 use Rattle.wgsl_lines.proofs.Replies.{number-push, of_cut_first, printed-push, readable-push, take-cut}
-use Rattle.wgsl_text.specs.declared.rules.RuleSet.{RuleSet}
+use Rattle.wgsl_syntax.specs.declared.rules.RuleSet.{RuleSet}
 
 -- of the block some bytes are taken, and the rest is left
 pub record TakesPart (rules : RuleSet) (bytes before block rest : List ℕ) (session : Session) : Type 0 where

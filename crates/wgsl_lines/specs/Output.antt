@@ -6,7 +6,7 @@ use Rattle.std.specs.List.{AllZip, list_all}
 use Rattle.wgsl_text.specs.Replies.{ReplyText, nothing, answer, unreadable}
 use Rattle.wgsl_expressions.specs.Replies.{IsReplyToLine}
 use Rattle.wgsl_text.specs.Words.{pieces}
-use Rattle.wgsl_text.specs.declared.rules.RuleSet.{RuleSet}
+use Rattle.wgsl_syntax.specs.declared.rules.RuleSet.{RuleSet}
 use Rattle.wgsl_lines.specs.declared.run.RunError.{RunError}
 use Rattle.wgsl_lines.specs.declared.run.RunError.TheVariants.{Read, Write, Memory}
 

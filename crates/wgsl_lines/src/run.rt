@@ -11,7 +11,7 @@ use crate::line::{Line, split_line};
 use std::alloc::{AllocError, Global};
 use std::io::{ErrorKind, Read, Write};
 use wgsl_expressions::request::{ReplyKind, write_reply};
-use wgsl_text::rules::RuleSet;
+use wgsl_syntax::rules::RuleSet;
 use wgsl_text::why::{Why, write_why};
 
 /// Why a run stopped.

@@ -4,7 +4,7 @@
 
 use std::process::ExitCode;
 use wgsl_lines::run::{run, status};
-use wgsl_text::rules::RuleSet;
+use wgsl_syntax::rules::RuleSet;
 
 fn main(rt: HostRuntime) -> ExitCode {
     let mut input = rt.stdin();

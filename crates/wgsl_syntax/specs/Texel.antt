@@ -1,10 +1,12 @@
 -- Texel formats: their names, and what the names say about the channels (WGSL, "Texel Formats").
 use Rattle.std.specs.Prelude.{◌≡◌, ◌⊎◌, ℕ, List, [], ◌∷◌, Bool, codes, if◌then◌else◌, nat_eq}
 use Rattle.std.specs.List.{ends_with, starts_with}
+use Rattle.wgsl_syntax.specs.declared.rules.RuleSet.{RuleSet}
+use Rattle.wgsl_syntax.specs.declared.rules.RuleSet.TheVariants.{Ported, Standard}
 use Rattle.wgsl_syntax.specs.declared.texture.SampledType.{SampledType}
 use Rattle.wgsl_syntax.specs.declared.texture.SampledType.TheVariants.{I32, U32, F32}
 use Rattle.wgsl_syntax.specs.declared.texel.FormatNames.{FormatNames}
-use Rattle.wgsl_syntax.specs.declared.texel.FormatNames.TheVariants.{Wgsl}
+use Rattle.wgsl_syntax.specs.declared.texel.FormatNames.TheVariants.{Naga, Wgsl}
 use Rattle.wgsl_syntax.specs.declared.texel.TexelFormat.{TexelFormat}
 use Rattle.wgsl_syntax.specs.declared.texel.TexelFormat.TheVariants.{Rgba8Unorm, Rgba8Snorm, Rgba8Uint, Rgba8Sint, R8Unorm, R8Snorm, R8Uint, R8Sint, Rg8Unorm, Rg8Snorm, Rg8Uint, Rg8Sint, Rgba16Unorm, Rgba16Snorm, Rgba16Uint, Rgba16Sint, Rgba16Float, R16Unorm, R16Snorm, R16Uint, R16Sint, R16Float, Rg16Unorm, Rg16Snorm, Rg16Uint, Rg16Sint, Rg16Float, R32Uint, R32Sint, R32Float, Rg32Uint, Rg32Sint, Rg32Float, Rgba32Uint, Rgba32Sint, Rgba32Float, Bgra8Unorm, Rgb10a2Uint, Rgb10a2Unorm, Rg11b10Float, R64Uint}
 
@@ -53,6 +55,11 @@ texel_text Rgb10a2Uint = codes "rgb10a2uint"
 texel_text Rgb10a2Unorm = codes "rgb10a2unorm"
 texel_text Rg11b10Float = codes "rg11b10float"
 texel_text R64Uint = codes "r64uint"
+
+-- whose names texel formats have
+abbrev pub format_names : RuleSet → FormatNames
+format_names Ported = Naga
+format_names Standard = Wgsl
 
 -- the format's name among these: WGSL calls `rg11b10ufloat` what naga calls `rg11b10float`
 abbrev pub texel_text_by : FormatNames → TexelFormat → List ℕ

@@ -13,6 +13,7 @@ pub mod names;
 pub mod operator;
 pub mod overload;
 pub mod result_struct;
+pub mod rules;
 pub mod scalar;
 pub mod texel;
 pub mod texture;

@@ -9,6 +9,7 @@ use Rattle.wgsl_syntax.specs.Texture.{texture_name}
 use Rattle.wgsl_syntax.specs.declared.operator.BinaryOperator.{BinaryOperator}
 use Rattle.wgsl_syntax.specs.declared.operator.UnaryOperator.{UnaryOperator}
 use Rattle.wgsl_syntax.specs.declared.operator.UnaryOperator.TheVariants.{AddressOf}
+use Rattle.wgsl_syntax.specs.declared.rules.RuleSet.TheVariants.{Standard}
 use Rattle.wgsl_syntax.specs.declared.texture.TextureType.{TextureType}
 use Rattle.wgsl_syntax.specs.declared.texture.TextureType.TheVariants.{External}
 use Rattle.wgsl_syntax.proofs.Naming.{binary_naming, unary_naming}
@@ -28,7 +29,6 @@ use Rattle.wgsl_text.proofs.Forms.{form, leaf_form}
 use Rattle.wgsl_text.proofs.Meanings.{Made, OneMeaning, OneThing, both_bool, not_eq, one_made, one_then, one_word, past, text_one}
 use Rattle.wgsl_text.proofs.OneType.{one_type}
 use Rattle.wgsl_text.proofs.TemplateReads.{one_template}
-use Rattle.wgsl_text.specs.declared.rules.RuleSet.TheVariants.{Standard}
 
 abbrev Head : Type 0
 Head = WgslCallee × Option (List Parameter)

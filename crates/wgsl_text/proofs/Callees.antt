@@ -7,7 +7,7 @@ use Rattle.wgsl_text.specs.Reading.{NoneAt}
 use Rattle.wgsl_text.specs.Requests.{IsCallee}
 use Rattle.wgsl_text.specs.Templates.{TemplateAt}
 use Rattle.wgsl_text.proofs.TemplateReads.{one_template}
-use Rattle.wgsl_text.specs.declared.rules.RuleSet.TheVariants.{Ported}
+use Rattle.wgsl_syntax.specs.declared.rules.RuleSet.TheVariants.{Ported}
 
 -- no call
 pub no_name : (words : List (List ℕ)) → words ≡ [] → (c : Signature) → ¬ IsCallee words c

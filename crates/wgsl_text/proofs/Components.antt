@@ -4,6 +4,7 @@ use Rattle.std.specs.Prelude.{Result, Ok, Err}
 use Rattle.wgsl_syntax.specs.Operator.{unary_text}
 use Rattle.wgsl_syntax.specs.declared.operator.UnaryOperator.{UnaryOperator}
 use Rattle.wgsl_syntax.specs.declared.operator.UnaryOperator.TheVariants.{AddressOf}
+use Rattle.wgsl_syntax.specs.declared.rules.RuleSet.TheVariants.{Standard}
 use Rattle.wgsl_syntax.proofs.Naming.{unary_naming}
 use Rattle.wgsl_rules.specs.standard.Choice.{Operand}
 use Rattle.wgsl_core.specs.declared.error.Fail.{Fail}
@@ -14,7 +15,6 @@ use Rattle.wgsl_requests.specs.Forms.{address_of}
 use Rattle.wgsl_text.specs.Calls.{IsCall, OperandAt}
 use Rattle.wgsl_text.specs.Reading.{IsText, NoneAt, OneWord}
 use Rattle.wgsl_text.specs.Requests.{IsRequest, NoRequest, Request, component_words, form_of, type_words}
-use Rattle.wgsl_text.specs.declared.rules.RuleSet.TheVariants.{Standard}
 use Rattle.wgsl_text.specs.declared.wanted.Misfit.{Misfit}
 use Rattle.wgsl_text.specs.declared.write.TextKind.{TextKind}
 use Rattle.wgsl_text.specs.internal.Asked.{WritesOfCall}

@@ -2,6 +2,7 @@
 use Rattle.std.proofs.Common.{◌≡◌, ◌≢◌, ◌⊎◌, inl, inr, ◌++◌, ℕ, List, [], ◌∷◌, codes, refl, sym, ap, subst, ◌∙◌}
 use Rattle.std.proofs.lemmas.List.{append-nil}
 use Rattle.wgsl_syntax.specs.Texture.{texture_name}
+use Rattle.wgsl_syntax.specs.declared.rules.RuleSet.TheVariants.{Standard}
 use Rattle.wgsl_syntax.specs.declared.texture.TextureType.{TextureType}
 use Rattle.wgsl_syntax.specs.declared.texture.TextureType.TheVariants.{External}
 use Rattle.wgsl_rules.specs.types.Types.{WgslType}
@@ -10,7 +11,6 @@ use Rattle.wgsl_text.specs.Calls.{OperandAt}
 use Rattle.wgsl_text.specs.Fits.{IsFit, ValuesAt, no_values_at, value_at}
 use Rattle.wgsl_text.specs.Grammar.{TypesAt}
 use Rattle.wgsl_text.specs.Reading.{NoneAt}
-use Rattle.wgsl_text.specs.declared.rules.RuleSet.TheVariants.{Standard}
 use Rattle.wgsl_text.proofs.CallReads.{no_operand, one_operand, operand_form}
 use Rattle.wgsl_text.proofs.Forms.{form, leaf_form}
 use Rattle.wgsl_text.proofs.OneType.{one_list}

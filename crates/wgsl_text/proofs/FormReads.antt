@@ -2,6 +2,7 @@
 use Rattle.std.proofs.Common.{◌≡◌, ◌≢◌, ◌⊎◌, inl, inr, ℕ, true, false, List, [], ◌∷◌, Option, Some, None, codes, refl, sym, ap, subst, ◌∙◌}
 use Rattle.wgsl_syntax.specs.Operator.{assignment_text}
 use Rattle.wgsl_syntax.specs.declared.operator.AssignmentOperator.{AssignmentOperator}
+use Rattle.wgsl_syntax.specs.declared.rules.RuleSet.TheVariants.{Standard}
 use Rattle.std.specs.Prelude.{Result}
 use Rattle.std.specs.Str.{bytes_eq}
 use Rattle.std.proofs.lemmas.Slice.Eq.{bytes_eq-Decides}
@@ -13,7 +14,6 @@ use Rattle.wgsl_requests.specs.Forms.{WgslForm, member_of, index_of, load_of, de
 use Rattle.wgsl_text.specs.Calls.{OperandAt, OperandsAt}
 use Rattle.wgsl_text.specs.Forms.{SaidMemory, said_memory, IsAnnotation, IsForm, IsTyped, IsValue, member_words, assignment_words, discard_words}
 use Rattle.wgsl_text.specs.declared.form_command.FormCommand.TheVariants.{Member, Index, Load, Declare, Assign, Increment, Decrement, Construct, Switch, Var}
-use Rattle.wgsl_text.specs.declared.rules.RuleSet.TheVariants.{Standard}
 use Rattle.wgsl_text.specs.Grammar.{TypeAt}
 use Rattle.wgsl_text.specs.Reading.{Answers}
 use Rattle.wgsl_text.specs.internal.Formed.{ReadsForm}

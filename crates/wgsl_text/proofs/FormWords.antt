@@ -5,6 +5,7 @@ use Rattle.wgsl_syntax.specs.Operator.{assignment_operators, assignment_text}
 use Rattle.wgsl_syntax.specs.Texture.{texture_name}
 use Rattle.wgsl_syntax.specs.declared.operator.AssignmentOperator.{AssignmentOperator}
 use Rattle.wgsl_syntax.specs.declared.operator.AssignmentOperator.TheVariants.{Equal}
+use Rattle.wgsl_syntax.specs.declared.rules.RuleSet.TheVariants.{Standard}
 use Rattle.wgsl_syntax.proofs.Naming.{assignment_naming}
 use Rattle.wgsl_syntax.specs.declared.texture.TextureType.{TextureType}
 use Rattle.wgsl_syntax.specs.declared.texture.TextureType.TheVariants.{External}
@@ -17,7 +18,6 @@ use Rattle.wgsl_text.specs.Calls.{OperandAt, OperandsAt}
 use Rattle.wgsl_text.specs.Forms.{SaidMemory, said_memory, IsAnnotation, IsForm, IsTyped, IsValue, member_words, index_words, load_words, declaration_words, override_words, assignment_words, discard_words, increment_words, decrement_words, construct_words, switch_words, variable_words, initialized_words}
 use Rattle.wgsl_text.specs.declared.form_command.FormCommand.{FormCommand}
 use Rattle.wgsl_text.specs.declared.form_command.FormCommand.TheVariants.{Member, Index, Load, Declare, Assign, Increment, Decrement, Construct, Switch, Var}
-use Rattle.wgsl_text.specs.declared.rules.RuleSet.TheVariants.{Standard}
 use Rattle.wgsl_text.specs.Grammar.{TypeAt}
 use Rattle.wgsl_text.proofs.CallReads.{one_operand, one_operands, operand_form}
 use Rattle.wgsl_text.proofs.Forms.{form, leaf_form}

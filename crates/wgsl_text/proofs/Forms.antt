@@ -22,6 +22,8 @@ use Rattle.wgsl_syntax.specs.declared.around.Around.{Around}
 use Rattle.wgsl_syntax.specs.declared.around.Around.TheVariants as arounds
 use Rattle.wgsl_rules.specs.types.Around.{around}
 use Rattle.wgsl_syntax.specs.declared.attribute.AccelerationStructureFlags.{AccelerationStructureFlags}
+use Rattle.wgsl_syntax.specs.declared.rules.RuleSet.{RuleSet}
+use Rattle.wgsl_syntax.specs.declared.rules.RuleSet.TheVariants.{Ported, Standard}
 use Rattle.wgsl_text.specs.spelling.Spells.{Spells}
 use Rattle.wgsl_text.proofs.spellings.Single.{one_spelled}
 use Rattle.wgsl_text.specs.Grammar.{FlagAt, IsFlag, LayerAt, LeafAt, TypeAt, acceleration_structure_at, array_at, atomic_at, binding_array_at, flag_at, layer_at, leaf_at, mat_at, no_flag_at, ptr_at, ray_query_at, ref_at, sampler_at, scalar_at, spelled_at, struct_at, TextureListAt, texture_at, vec_at}
@@ -31,8 +33,6 @@ use Rattle.wgsl_text.specs.internal.Layers.{InLayerAt, OtherAt}
 use Rattle.wgsl_text.specs.internal.Leaves.{SpelledAt, SpelledOrTextureAt, TextureAt}
 use Rattle.wgsl_text.specs.internal.Structs.{StructAt}
 use Rattle.wgsl_text.specs.Spelled.{after_run, is_spelled, run, spaced}
-use Rattle.wgsl_text.specs.declared.rules.RuleSet.{RuleSet}
-use Rattle.wgsl_text.specs.declared.rules.RuleSet.TheVariants.{Ported, Standard}
 use Rattle.wgsl_text.proofs.Meanings.{Made, OneThing, both_bool, both_option, count_one, flag_one, into_here, into_option, into_past, one_made, one_then, one_word, past, past_option, small_one, text_one}
 use Rattle.wgsl_text.proofs.SpelledKeys.{no_layer_word, no_sampler_word, no_scalar_word, no_such_word}
 use Rattle.wgsl_text.proofs.Textures.{one_texture}

@@ -4,6 +4,8 @@ use Rattle.std.specs.Bool.{MatchBool}
 use Rattle.std.specs.Prelude.{Result}
 use Rattle.wgsl_syntax.specs.Texture.{sampler_text, samplers}
 use Rattle.wgsl_syntax.specs.declared.attribute.AccelerationStructureFlags.{AccelerationStructureFlags}
+use Rattle.wgsl_syntax.specs.declared.rules.RuleSet.{RuleSet}
+use Rattle.wgsl_syntax.specs.declared.rules.RuleSet.TheVariants.{Ported, Standard}
 use Rattle.wgsl_syntax.specs.declared.texture.SamplerType.{SamplerType}
 use Rattle.wgsl_syntax.specs.declared.texture.TextureType.{TextureType}
 use Rattle.wgsl_rules.specs.types.Types.{WgslType, texture, sampler, ray_query, acceleration_structure}
@@ -13,8 +15,6 @@ use Rattle.wgsl_text.specs.Grammar.{FlagAt, IsFlag, LeafAt, acceleration_structu
 use Rattle.wgsl_text.specs.Reading.{NoneAt, OneWord, Reads}
 use Rattle.wgsl_text.specs.Spelled.{is_spelled}
 use Rattle.wgsl_text.specs.internal.Leaves.{SpelledAt, SpelledOrTextureAt, TextureAt, begins_spelling}
-use Rattle.wgsl_text.specs.declared.rules.RuleSet.{RuleSet}
-use Rattle.wgsl_text.specs.declared.rules.RuleSet.TheVariants.{Ported, Standard}
 use Rattle.wgsl_text.proofs.Meanings.{Made, here, into_here, into_past, named_none, not_eq, past, past_option}
 use Rattle.wgsl_text.proofs.Readers.{answers_by}
 use Rattle.wgsl_text.proofs.Forms.{leaf_form}

@@ -8,7 +8,7 @@ use Rattle.wgsl_text.specs.Reading.{NoneAt, OneWord}
 use Rattle.wgsl_text.specs.internal.Structs.{MemberAt, StructAt}
 use Rattle.wgsl_text.proofs.Meanings.{long_one}
 use Rattle.wgsl_text.proofs.OneType.{MoreAt, members_form, one_type}
-use Rattle.wgsl_text.specs.declared.rules.RuleSet.{RuleSet}
+use Rattle.wgsl_syntax.specs.declared.rules.RuleSet.{RuleSet}
 
 module _ (words : List (List ℕ)) where
   pub no_member_size : {rules : RuleSet} (name : List ℕ) (mid : List (List ℕ)) → words ≡ name ∷ mid → NoneAt (OneWord IsAttribute) mid → NoneAt (MemberAt rules) words

@@ -12,6 +12,7 @@ use Rattle.wgsl_syntax.specs.declared.texture.TextureType.{TextureType}
 use Rattle.wgsl_syntax.specs.declared.texture.TextureType.TheVariants.{External}
 use Rattle.wgsl_rules.specs.types.Types.{WgslType, scalar, struct}
 use Rattle.wgsl_syntax.specs.declared.around.Around.{Around}
+use Rattle.wgsl_syntax.specs.declared.rules.RuleSet.{RuleSet}
 use Rattle.wgsl_core.specs.declared.error.Fail.{Fail}
 use Rattle.wgsl_text.specs.declared.wanted.Misfit.{Misfit}
 use Rattle.wgsl_rules.specs.types.Around.{around}
@@ -25,7 +26,6 @@ use Rattle.wgsl_text.proofs.Forms.{form, layer_both, one_layer}
 use Rattle.wgsl_text.specs.spelling.internal.{wrapped}
 use Rattle.wgsl_text.proofs.spellings.Wrapped.{wrapped-last}
 use Rattle.wgsl_text.proofs.SpelledKeys.{no_layer_word}
-use Rattle.wgsl_text.specs.declared.rules.RuleSet.{RuleSet}
 
 -- the words begin with the word of a layer
 abbrev pub BeginsLayer : List (List ℕ) → Type 0

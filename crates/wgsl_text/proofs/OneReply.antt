@@ -4,7 +4,7 @@ use Rattle.wgsl_text.specs.Answers.{IsAnswer, IsReply}
 use Rattle.wgsl_text.specs.Replies.{IsLineOfText, IsReplyToLine, ReplyText, nothing, answer, unreadable, too_long, no_text, no_request, no_words, answered}
 use Rattle.wgsl_text.specs.Requests.{NoRequest}
 use Rattle.wgsl_text.specs.Words.{words_of}
-use Rattle.wgsl_text.specs.declared.rules.RuleSet.{RuleSet}
+use Rattle.wgsl_syntax.specs.declared.rules.RuleSet.{RuleSet}
 use Rattle.wgsl_text.specs.declared.write.TextKind.{TextKind}
 use Rattle.wgsl_text.proofs.OneAnswer.{one_answer}
 use Rattle.wgsl_text.proofs.OneRequest.{one_request}

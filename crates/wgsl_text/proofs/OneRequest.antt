@@ -2,10 +2,13 @@
 use Rattle.std.specs.Prelude.{true}
 use Rattle.std.proofs.Common.{◌≡◌, inl, inr, codes, ℕ, List, [], ◌∷◌, Option, sym, ap, subst, ◌∙◌}
 use Rattle.wgsl_syntax.specs.Operator.{binary_text, unary_text}
+use Rattle.wgsl_syntax.specs.Texel.{format_names}
+use Rattle.wgsl_syntax.specs.declared.rules.RuleSet.{RuleSet}
+use Rattle.wgsl_syntax.specs.declared.rules.RuleSet.TheVariants.{Ported, Standard}
 use Rattle.wgsl_syntax.proofs.Naming.{binary_naming, unary_naming}
 use Rattle.wgsl_rules.specs.types.Types.{WgslType, struct, Members}
 use Rattle.wgsl_rules.specs.types.Signatures.{Parameter, Signature}
-use Rattle.wgsl_text.specs.Grammar.{TypeAt, TypesAt, format_names}
+use Rattle.wgsl_text.specs.Grammar.{TypeAt, TypesAt}
 use Rattle.wgsl_text.specs.Requests.{Request, rank, common, unary, binary, size, laid_out, ctor, call, resolution_of, explanation_of, overloads_of, form_of, fit_of, IsCallee, IsRequest}
 use Rattle.wgsl_text.specs.internal.Replied.{layout_by, offsets_by}
 use Rattle.wgsl_text.proofs.Meanings.{both_bool, both_option}
@@ -20,8 +23,6 @@ use Rattle.wgsl_requests.specs.CallForms.{type_asked}
 use Rattle.wgsl_requests.specs.Calls.{WgslCall}
 use Rattle.wgsl_requests.specs.Forms.{address_of}
 use Rattle.wgsl_text.specs.declared.form_command.FormCommand.{FormCommand}
-use Rattle.wgsl_text.specs.declared.rules.RuleSet.{RuleSet}
-use Rattle.wgsl_text.specs.declared.rules.RuleSet.TheVariants.{Ported, Standard}
 
 -- words have this form for at most one request
 abbrev OneForm : (List (List ℕ) → Request → Type 0) → Type 0

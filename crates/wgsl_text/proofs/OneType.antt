@@ -9,7 +9,7 @@ use Rattle.wgsl_text.specs.internal.Layers.{InLayerAt}
 use Rattle.wgsl_text.specs.internal.Structs.{MemberAt, StructAt}
 use Rattle.wgsl_text.proofs.Meanings.{attribute_one, long_one}
 use Rattle.wgsl_text.proofs.Forms.{form, layer_both, leaf_both, one_layer, one_leaf, scalar_both}
-use Rattle.wgsl_text.specs.declared.rules.RuleSet.{RuleSet}
+use Rattle.wgsl_syntax.specs.declared.rules.RuleSet.{RuleSet}
 
 -- a member, and others
 pub record MoreAt (rules : RuleSet) (n : ℕ) (words : List (List ℕ)) (ms : Members) (rest : List (List ℕ)) : Type 0 where

@@ -5,6 +5,8 @@ use Rattle.std.specs.Borrow.{Bor}
 use Rattle.wgsl_syntax.specs.Operator.{binary_text, unary_text}
 use Rattle.wgsl_syntax.specs.declared.operator.BinaryOperator.{BinaryOperator}
 use Rattle.wgsl_syntax.specs.declared.operator.UnaryOperator.{UnaryOperator}
+use Rattle.wgsl_syntax.specs.declared.rules.RuleSet.{RuleSet}
+use Rattle.wgsl_syntax.specs.declared.rules.RuleSet.TheVariants.{Ported, Standard}
 use Rattle.wgsl_syntax.specs.declared.scalar.Scalar.TheVariants.{Bool}
 use Rattle.wgsl_rules.specs.types.Types.{WgslType, scalar, struct, Members}
 use Rattle.wgsl_core.specs.View.{view}
@@ -18,8 +20,6 @@ use Rattle.wgsl_text.specs.Requests.{Request, rank, unary, binary, offsets, laid
 use Rattle.wgsl_text.specs.Answers.{IsAnswer, IsReply}
 use Rattle.wgsl_text.specs.Texts.{text_kind}
 use Rattle.wgsl_text.specs.declared.command.ReadCall.{ReadCall}
-use Rattle.wgsl_text.specs.declared.rules.RuleSet.{RuleSet}
-use Rattle.wgsl_text.specs.declared.rules.RuleSet.TheVariants.{Ported, Standard}
 use Rattle.wgsl_core.specs.declared.error.Fail.{Fail}
 use Rattle.wgsl_text.specs.declared.wanted.Misfit.{Misfit}
 use Rattle.wgsl_text.specs.declared.write.TextKind.{TextKind}

@@ -6,8 +6,11 @@ use Rattle.std.specs.Str.{bytes_eq}
 use Rattle.std.proofs.lemmas.Slice.Eq.{bytes_eq-Decides}
 use Rattle.wgsl_syntax.specs.Names.{named, table}
 use Rattle.wgsl_syntax.specs.Operator.{binary_text, unary_text}
+use Rattle.wgsl_syntax.specs.Texel.{format_names}
 use Rattle.wgsl_syntax.specs.declared.operator.BinaryOperator.{BinaryOperator}
 use Rattle.wgsl_syntax.specs.declared.operator.UnaryOperator.{UnaryOperator}
+use Rattle.wgsl_syntax.specs.declared.rules.RuleSet.{RuleSet}
+use Rattle.wgsl_syntax.specs.declared.rules.RuleSet.TheVariants.{Ported, Standard}
 use Rattle.wgsl_rules.specs.types.Types.{WgslType, struct, Members}
 use Rattle.wgsl_rules.specs.types.Signatures.{Parameter, Signature}
 use Rattle.wgsl_rules.specs.standard.Choice.{Operand}
@@ -18,12 +21,10 @@ use Rattle.wgsl_requests.specs.Forms.{WgslForm, address_of}
 use Rattle.wgsl_text.specs.Calls.{HeadAt, IsCall, OperandAt, binary_at, call_at, ctor_at, unary_at}
 use Rattle.wgsl_text.specs.Fits.{IsFit}
 use Rattle.wgsl_text.specs.Forms.{IsForm, command_text, form_commands}
-use Rattle.wgsl_text.specs.Grammar.{TypeAt, TypesAt, format_names}
+use Rattle.wgsl_text.specs.Grammar.{TypeAt, TypesAt}
 use Rattle.wgsl_text.specs.declared.form_command.FormCommand.{FormCommand}
 use Rattle.wgsl_text.specs.declared.form_command.FormCommand.TheVariants.{Member, Declare}
 use Rattle.wgsl_forms.specs.declared.declare.Declaration.TheVariants.{Let, Const, Override}
-use Rattle.wgsl_text.specs.declared.rules.RuleSet.{RuleSet}
-use Rattle.wgsl_text.specs.declared.rules.RuleSet.TheVariants.{Ported, Standard}
 use Rattle.wgsl_text.proofs.Meanings.{past_option}
 use Rattle.wgsl_text.proofs.OneType.{one_type}
 use Rattle.wgsl_text.specs.internal.Replied.{layout_by, offsets_by}

@@ -18,6 +18,7 @@ use Rattle.wgsl_syntax.specs.declared.around.Around.{Around}
 use Rattle.wgsl_syntax.specs.declared.around.Around.TheVariants.{Array, Vec, Mat, BindingArray, Atomic, Ptr, Ref}
 use Rattle.wgsl_syntax.specs.declared.attribute.AccelerationStructureFlags.{AccelerationStructureFlags}
 use Rattle.wgsl_syntax.specs.declared.attribute.AccelerationStructureFlags.TheVariants.{VertexReturn}
+use Rattle.wgsl_syntax.specs.declared.rules.RuleSet.TheVariants.{Standard}
 use Rattle.wgsl_syntax.specs.declared.scalar.Scalar.{Scalar}
 use Rattle.wgsl_syntax.specs.declared.scalar.Scalar.TheVariants as scalars
 use Rattle.wgsl_syntax.specs.declared.texel.FormatNames.{FormatNames}
@@ -48,7 +49,6 @@ use Rattle.wgsl_text.specs.Grammar.{IsFlag, TextureListAt, TypeAt, acceleration_
 use Rattle.wgsl_text.specs.Reading.{NoneAt, OneWord}
 use Rattle.wgsl_text.specs.Spelled.{after_run, ends_in_comma, has_list, is_alias, is_spelled, run, spaced, spaced_byte}
 use Rattle.wgsl_text.specs.Words.{has_bytes, into_first, is_separator, pieces, words_of}
-use Rattle.wgsl_text.specs.declared.rules.RuleSet.TheVariants.{Standard}
 use Rattle.wgsl_text.proofs.OneType.{one_type}
 use Rattle.wgsl_text.proofs.Runs.{ends_comma, spaced_plain}
 

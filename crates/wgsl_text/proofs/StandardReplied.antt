@@ -14,7 +14,7 @@ use Rattle.wgsl_text.specs.Forms.{command_text}
 use Rattle.wgsl_text.specs.Requests.{NoRequest, explanation_of, fit_of, form_words, resolution_of, resolve_words, type_words, why_words}
 use Rattle.wgsl_text.specs.declared.form_command.FormCommand.{FormCommand}
 use Rattle.wgsl_text.specs.declared.operand.WrittenOperand.{WrittenOperand}
-use Rattle.wgsl_text.specs.declared.rules.RuleSet.TheVariants.{Standard}
+use Rattle.wgsl_syntax.specs.declared.rules.RuleSet.TheVariants.{Standard}
 use Rattle.wgsl_core.specs.declared.error.Fail.{Fail}
 use Rattle.wgsl_text.specs.declared.wanted.Misfit.{Misfit}
 use Rattle.wgsl_text.specs.declared.write.TextKind.{TextKind}

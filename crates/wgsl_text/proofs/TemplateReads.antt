@@ -3,6 +3,7 @@ use Rattle.std.proofs.Common.{◌≡◌, ◌≢◌, ◌++◌, ℕ, List, [], ◌
 use Rattle.std.specs.Bool.{MatchBool}
 use Rattle.std.specs.Str.{bytes_eq}
 use Rattle.wgsl_syntax.specs.declared.enumerant.Enumerant.{Enumerant}
+use Rattle.wgsl_syntax.specs.declared.rules.RuleSet.{RuleSet}
 use Rattle.wgsl_syntax.proofs.Naming.{enumerant_naming}
 use Rattle.wgsl_rules.specs.types.Types.{WgslType}
 use Rattle.wgsl_rules.specs.types.Literals.{Literal}
@@ -13,7 +14,6 @@ use Rattle.wgsl_text.specs.Templates.{IsEnumerant, IsLiteral, ParameterAt, Param
 use Rattle.wgsl_text.proofs.Meanings.{Made, OneMeaning, OneThing, both_bool, not_eq, one_made, one_word, past}
 use Rattle.wgsl_text.proofs.Literals.{literal_one}
 use Rattle.wgsl_text.proofs.OneType.{one_type}
-use Rattle.wgsl_text.specs.declared.rules.RuleSet.{RuleSet}
 
 enumerant_one : OneMeaning IsEnumerant
 enumerant_one word x y f g = enumerant_naming.distinct x y (sym f.0 ∙ g.0)

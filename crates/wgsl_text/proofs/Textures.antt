@@ -1,9 +1,10 @@
 -- A texture in words is its name with its parameters, and no two stand at the front of the same words.
 use Rattle.std.proofs.Common.{◌≡◌, ℕ, List, [], ◌∷◌, Some, None, refl, sym, subst, ap, ◌∙◌}
 use Rattle.wgsl_syntax.specs.Address.{access_text}
-use Rattle.wgsl_syntax.specs.Texel.{IsTexel}
+use Rattle.wgsl_syntax.specs.Texel.{IsTexel, format_names}
 use Rattle.wgsl_syntax.specs.Texture.{sampled_text}
 use Rattle.wgsl_syntax.specs.TextureName.{kind_of, name_of, parameter_kind, parameters_of, texture_name_text, texture_with}
+use Rattle.wgsl_syntax.specs.declared.rules.RuleSet.{RuleSet}
 use Rattle.wgsl_syntax.specs.declared.texture.TextureType.{TextureType}
 use Rattle.wgsl_syntax.specs.declared.texture_name.TextureName.{TextureName}
 use Rattle.wgsl_syntax.specs.declared.texture_name.TextureParameterKind.{TextureParameterKind}
@@ -13,9 +14,8 @@ use Rattle.wgsl_syntax.specs.declared.texture_name.TextureParameters.TheVariants
 use Rattle.wgsl_syntax.proofs.Naming.{access_naming, sampled_naming, texture_naming}
 use Rattle.wgsl_syntax.proofs.Texels.{one_texel}
 use Rattle.wgsl_syntax.proofs.Textures.{same_kind, texture_is}
-use Rattle.wgsl_text.specs.Grammar.{TextureListAt, format_names}
+use Rattle.wgsl_text.specs.Grammar.{TextureListAt}
 use Rattle.wgsl_text.specs.Reading.{IsText, NoneAt, OneWord, Then}
-use Rattle.wgsl_text.specs.declared.rules.RuleSet.{RuleSet}
 use Rattle.wgsl_text.specs.internal.Leaves.{ParametersAt, TextureAt}
 use Rattle.wgsl_text.proofs.Meanings.{OneThing}
 

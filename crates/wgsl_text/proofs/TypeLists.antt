@@ -4,7 +4,7 @@ use Rattle.wgsl_rules.specs.types.Types.{WgslType}
 use Rattle.wgsl_text.specs.Grammar.{TypeAt, TypesAt, no_types_at, type_at}
 use Rattle.wgsl_text.specs.Reading.{NoneAt}
 use Rattle.wgsl_text.proofs.OneType.{TypesForm, no_type_of_nothing, one_type, types_form}
-use Rattle.wgsl_text.specs.declared.rules.RuleSet.{RuleSet}
+use Rattle.wgsl_syntax.specs.declared.rules.RuleSet.{RuleSet}
 
 pub not_last : {rules : RuleSet} (words after : List (List ℕ)) (t : WgslType) → TypeAt rules words t after → (after ≡ [] → ⊥) → (u : WgslType) → TypeAt rules words u [] → ⊥
 not_last words after t d more u e = more (one_type d u [] e).1

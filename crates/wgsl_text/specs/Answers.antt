@@ -3,7 +3,7 @@ use Rattle.std.specs.Prelude.{◌≡◌, ℕ, List}
 use Rattle.wgsl_requests.specs.Answers.{Answers, WgslAnswer}
 use Rattle.wgsl_text.specs.Requests.{Request, IsRequest}
 use Rattle.wgsl_text.specs.Texts.{answer_text, text_kind}
-use Rattle.wgsl_text.specs.declared.rules.RuleSet.{RuleSet}
+use Rattle.wgsl_syntax.specs.declared.rules.RuleSet.{RuleSet}
 use Rattle.wgsl_text.specs.declared.write.TextKind.{TextKind}
 
 -- the text of this kind answers the request

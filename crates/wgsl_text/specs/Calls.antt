@@ -3,6 +3,7 @@ use Rattle.std.specs.Prelude.{◌≡◌, ℕ, true, List, [], ◌∷◌, Option,
 use Rattle.wgsl_syntax.specs.Operator.{binary_text, unary_text}
 use Rattle.wgsl_syntax.specs.declared.operator.BinaryOperator.{BinaryOperator}
 use Rattle.wgsl_syntax.specs.declared.operator.UnaryOperator.{UnaryOperator}
+use Rattle.wgsl_syntax.specs.declared.rules.RuleSet.TheVariants.{Standard}
 use Rattle.wgsl_rules.specs.types.Types.{WgslType}
 use Rattle.wgsl_rules.specs.types.Signatures.{Parameter}
 use Rattle.wgsl_rules.specs.conversion.Concrete.{is_abstract}
@@ -11,7 +12,6 @@ use Rattle.wgsl_standard.specs.Callees.{WgslCallee, a_binary, a_constructor, a_f
 use Rattle.wgsl_requests.specs.Calls.{WgslCall}
 use Rattle.wgsl_text.specs.Grammar.{TypeAt}
 use Rattle.wgsl_text.specs.Templates.{TemplateAt}
-use Rattle.wgsl_text.specs.declared.rules.RuleSet.TheVariants.{Standard}
 
 -- The words begin with an operand, and the rest comes after it.
 pub data OperandAt : List (List ℕ) → Operand → List (List ℕ) → Type 0 where

@@ -4,7 +4,7 @@ use Rattle.wgsl_rules.specs.standard.Choice.{Operand}
 use Rattle.wgsl_rules.specs.types.Types.{WgslType}
 use Rattle.wgsl_text.specs.Calls.{OperandAt}
 use Rattle.wgsl_text.specs.Grammar.{TypesAt}
-use Rattle.wgsl_text.specs.declared.rules.RuleSet.TheVariants.{Standard}
+use Rattle.wgsl_syntax.specs.declared.rules.RuleSet.TheVariants.{Standard}
 
 -- The words begin with operands up to `>`, and the rest comes after it.
 pub data ValuesAt : List (List ℕ) → List Operand → List (List ℕ) → Type 0 where

@@ -8,6 +8,7 @@ use Rattle.wgsl_syntax.specs.declared.address.AccessMode.TheVariants.{Read, Writ
 use Rattle.wgsl_syntax.specs.declared.address.AddressSpace.{AddressSpace}
 use Rattle.wgsl_syntax.specs.declared.address.AddressSpace.TheVariants.{Function}
 use Rattle.wgsl_syntax.specs.declared.operator.AssignmentOperator.{AssignmentOperator}
+use Rattle.wgsl_syntax.specs.declared.rules.RuleSet.TheVariants.{Standard}
 use Rattle.wgsl_rules.specs.standard.Choice.{Operand}
 use Rattle.wgsl_rules.specs.types.Types.{WgslType}
 use Rattle.wgsl_forms.specs.declared.declare.Declaration.{Declaration}
@@ -17,7 +18,6 @@ use Rattle.wgsl_text.specs.Calls.{OperandAt, OperandsAt}
 use Rattle.wgsl_text.specs.Grammar.{TypeAt}
 use Rattle.wgsl_text.specs.declared.form_command.FormCommand.{FormCommand}
 use Rattle.wgsl_text.specs.declared.form_command.FormCommand.TheVariants.{Member, Index, Load, Declare, Assign, Increment, Decrement, Construct, Switch, Var}
-use Rattle.wgsl_text.specs.declared.rules.RuleSet.TheVariants.{Standard}
 
 -- the commands, each a word
 abbrev pub form_commands : List FormCommand

@@ -3,14 +3,12 @@ use Rattle.std.specs.Prelude.{◌≡◌, ℕ, suc, true, List, [], ◌∷◌, Op
 use Rattle.wgsl_syntax.specs.Address.{access_text, space_text}
 use Rattle.wgsl_syntax.specs.Attribute.{flag_text}
 use Rattle.wgsl_syntax.specs.Scalar.{scalar_text}
-use Rattle.wgsl_syntax.specs.Texel.{IsTexel}
+use Rattle.wgsl_syntax.specs.Texel.{IsTexel, format_names}
 use Rattle.wgsl_syntax.specs.Texture.{sampled_text, sampler_text, texture_name}
 use Rattle.wgsl_syntax.specs.declared.address.AccessMode.{AccessMode}
 use Rattle.wgsl_syntax.specs.declared.address.AddressSpace.{AddressSpace}
 use Rattle.wgsl_syntax.specs.declared.attribute.AccelerationStructureFlags.{AccelerationStructureFlags}
 use Rattle.wgsl_syntax.specs.declared.scalar.Scalar.{Scalar}
-use Rattle.wgsl_syntax.specs.declared.texel.FormatNames.{FormatNames}
-use Rattle.wgsl_syntax.specs.declared.texel.FormatNames.TheVariants.{Naga, Wgsl}
 use Rattle.wgsl_syntax.specs.declared.texture.SamplerType.{SamplerType}
 use Rattle.wgsl_syntax.specs.declared.texture.TextureType.{TextureType}
 use Rattle.wgsl_syntax.specs.declared.texture_name.TextureParameters.{TextureParameters}
@@ -20,12 +18,12 @@ use Rattle.wgsl_rules.specs.types.Around.{around}
 use Rattle.wgsl_rules.specs.types.Types.{WgslType, scalar, struct, texture, sampler, ray_query, acceleration_structure, Members, no_members, member}
 use Rattle.wgsl_syntax.specs.declared.around.Around.{Around}
 use Rattle.wgsl_syntax.specs.declared.around.Around.TheVariants as arounds
+use Rattle.wgsl_syntax.specs.declared.rules.RuleSet.{RuleSet}
+use Rattle.wgsl_syntax.specs.declared.rules.RuleSet.TheVariants.{Standard}
 use Rattle.wgsl_text.specs.spelling.Spells.{Spells}
 use Rattle.wgsl_text.specs.Numbers.{IsSmall, IsLong, IsCount, IsAttribute}
 use Rattle.wgsl_text.specs.Reading.{NoneAt, OneWord}
 use Rattle.wgsl_text.specs.Spelled.{after_run, is_spelled, run, spaced}
-use Rattle.wgsl_text.specs.declared.rules.RuleSet.{RuleSet}
-use Rattle.wgsl_text.specs.declared.rules.RuleSet.TheVariants.{Ported, Standard}
 
 -- the name of a flag, or `-` for none
 abbrev pub IsFlag : List ℕ → Option AccelerationStructureFlags → Type 0
@@ -38,11 +36,6 @@ pub data FlagAt : RuleSet → List (List ℕ) → Option AccelerationStructureFl
       {rest : List (List ℕ)} → IsFlag flag f → FlagAt rules (flag ∷ rest) f rest
   -- by WGSL's own overloads nothing stands for none, where neither comes next
   no_flag_at : {words : List (List ℕ)} → NoneAt (OneWord IsFlag) words → FlagAt Standard words None words
-
--- whose names texel formats have
-abbrev pub format_names : RuleSet → FormatNames
-format_names Ported = Naga
-format_names Standard = Wgsl
 
 -- the words begin with the parameters of a texture: its sampled type, or its texel format and its access mode
 abbrev pub TextureListAt : RuleSet → List (List ℕ) → TextureParameters → List (List ℕ) → Type 0

@@ -1,8 +1,11 @@
 -- The requests, and the words that spell each, by the set of rules.
 use Rattle.std.specs.Prelude.{◌≡◌, ℕ, true, List, [], ◌∷◌, codes}
 use Rattle.wgsl_syntax.specs.Operator.{binary_text, unary_text}
+use Rattle.wgsl_syntax.specs.Texel.{format_names}
 use Rattle.wgsl_syntax.specs.declared.operator.BinaryOperator.{BinaryOperator}
 use Rattle.wgsl_syntax.specs.declared.operator.UnaryOperator.{UnaryOperator}
+use Rattle.wgsl_syntax.specs.declared.rules.RuleSet.{RuleSet}
+use Rattle.wgsl_syntax.specs.declared.rules.RuleSet.TheVariants.{Ported, Standard}
 use Rattle.wgsl_rules.specs.standard.Choice.{Operand}
 use Rattle.wgsl_rules.specs.types.Types.{WgslType, struct, Members}
 use Rattle.wgsl_rules.specs.types.Signatures.{Signature}
@@ -14,11 +17,9 @@ pub use Rattle.wgsl_requests.specs.Requests.{WgslRequest as Request, rank, commo
 use Rattle.wgsl_text.specs.Calls.{IsCall, OperandAt}
 use Rattle.wgsl_text.specs.Fits.{IsFit}
 use Rattle.wgsl_text.specs.Forms.{IsForm, command_text}
-use Rattle.wgsl_text.specs.Grammar.{TypeAt, TypesAt, format_names}
+use Rattle.wgsl_text.specs.Grammar.{TypeAt, TypesAt}
 use Rattle.wgsl_text.specs.Templates.{TemplateAt}
 use Rattle.wgsl_text.specs.declared.form_command.FormCommand.{FormCommand}
-use Rattle.wgsl_text.specs.declared.rules.RuleSet.{RuleSet}
-use Rattle.wgsl_text.specs.declared.rules.RuleSet.TheVariants.{Ported, Standard}
 
 -- the words are a name, a template or `-`, and the types of the arguments
 abbrev pub IsCallee : List (List ℕ) → Signature → Type 0

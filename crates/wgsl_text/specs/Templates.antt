@@ -4,12 +4,12 @@ use Rattle.wgsl_syntax.specs.Enumerant.{enumerant_text}
 use Rattle.wgsl_syntax.specs.declared.address.AddressSpace.TheVariants.{Handle}
 use Rattle.wgsl_syntax.specs.declared.enumerant.Enumerant.{Enumerant}
 use Rattle.wgsl_syntax.specs.declared.enumerant.Enumerant.TheVariants.{AddressSpace}
+use Rattle.wgsl_syntax.specs.declared.rules.RuleSet.{RuleSet}
 use Rattle.wgsl_rules.specs.types.Types.{WgslType}
 use Rattle.wgsl_rules.specs.types.Literals.{Literal, bool, abstract_int, i32, u32, i64, u64}
 use Rattle.wgsl_rules.specs.types.Signatures.{Parameter, of_type, of_literal, of_enumerant}
 use Rattle.wgsl_text.specs.Numbers.{IsMedium, IsLong, IsI32, IsI64}
 use Rattle.wgsl_text.specs.Grammar.{TypeAt}
-use Rattle.wgsl_text.specs.declared.rules.RuleSet.{RuleSet}
 
 -- The word is a literal: a number has the suffix of its type, or none if it is abstract.
 pub data IsLiteral : List ℕ → Literal → Type 0 where

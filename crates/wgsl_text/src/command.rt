@@ -16,7 +16,6 @@ ghost use Rattle.wgsl_text.specs.internal.Taken.{left};
 ghost use Rattle.wgsl_text.specs.internal.Written.{Adds};
 
 use crate::read::{read_last_type, read_pair, read_types};
-use crate::rules::RuleSet;
 use crate::standard::answer_standard;
 use crate::template::read_template;
 use crate::wanted::{Misfit, Misread, Wanted};
@@ -26,6 +25,7 @@ use std::alloc::{AllocError, Global};
 use wgsl_core::conversion::lists::common_of;
 use wgsl_requests::ask::answer;
 use wgsl_requests::requests::{NamedCall, Request};
+use wgsl_syntax::rules::RuleSet;
 use wgsl_syntax::texel::FormatNames;
 use wgsl_types::error::Fail;
 use wgsl_types::syntax::{BinaryOperator, UnaryOperator};

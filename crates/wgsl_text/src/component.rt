@@ -13,12 +13,12 @@ ghost use Rattle.wgsl_text.specs.internal.Written.{Adds};
 use crate::call::{Question, answer_unary, read_unary_operator};
 use crate::command::write_answer_to;
 use crate::operand::{WrittenOperand, read_last_operand, read_whole_operand};
-use crate::rules::RuleSet;
 use crate::wanted::{Misfit, Wanted};
 use crate::words::Words;
 use crate::write::TextKind;
 use std::alloc::{AllocError, Global};
 use wgsl_requests::requests::{Form, Request};
+use wgsl_syntax::rules::RuleSet;
 use wgsl_types::error::Fail;
 use wgsl_types::syntax::UnaryOperator;
 

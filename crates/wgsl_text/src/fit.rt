@@ -16,12 +16,12 @@ use crate::call::borrowed;
 use crate::command::write_answer_to;
 use crate::operand::{WrittenOperand, read_operand};
 use crate::read::read_types;
-use crate::rules::RuleSet;
 use crate::wanted::{Misfit, Wanted};
 use crate::words::Words;
 use crate::write::TextKind;
 use std::alloc::{AllocError, Global};
 use wgsl_requests::requests::Request;
+use wgsl_syntax::rules::RuleSet;
 use wgsl_types::error::Fail;
 use wgsl_types::ty::Type;
 

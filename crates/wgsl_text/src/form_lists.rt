@@ -6,10 +6,10 @@ use crate::form::WrittenForm;
 use crate::form_command::FormCommand;
 use crate::operand::{read_next_operand, read_operands};
 use crate::read::read_type;
-use crate::rules::RuleSet;
 use crate::wanted::Misfit;
 use crate::words::Words;
 use std::alloc::Global;
+use wgsl_syntax::rules::RuleSet;
 use wgsl_types::error::Fail;
 
 /// `S X..`.

@@ -12,11 +12,11 @@ use crate::form_command::FormCommand;
 use crate::initializer::read_value;
 use crate::operand::{read_last_operand, read_next_operand, read_two_operands};
 use crate::read::read_last_type;
-use crate::rules::RuleSet;
 use crate::wanted::{Misfit, Wanted};
 use crate::words::Words;
 use std::alloc::Global;
 use wgsl_forms::declare::Declaration;
+use wgsl_syntax::rules::RuleSet;
 use wgsl_types::error::Fail;
 
 /// `X NAME`.

@@ -10,10 +10,10 @@ ghost use Rattle.wgsl_text.specs.internal.Taken.{left};
 
 use crate::operand::{WrittenOperand, read_operand};
 use crate::read::read_last_type;
-use crate::rules::RuleSet;
 use crate::wanted::{Misfit, Wanted};
 use crate::words::Words;
 use std::alloc::Global;
+use wgsl_syntax::rules::RuleSet;
 use wgsl_types::error::Fail;
 use wgsl_types::ty::Type;
 

@@ -1,5 +1,6 @@
 // Laws of the requests: each function returns nothing, and its contract is the law.
 ghost use Rattle.std.specs.Prelude.{◌≡◌, [], ℕ, List};
+ghost use Rattle.wgsl_syntax.specs.declared.rules.RuleSet.{RuleSet};
 ghost use Rattle.wgsl_syntax.specs.declared.texel.FormatNames.{FormatNames};
 ghost use Rattle.wgsl_rules.specs.types.Spelling.{spelling_by};
 ghost use Rattle.wgsl_rules.specs.types.Types.{WgslType};
@@ -9,7 +10,6 @@ ghost use Rattle.wgsl_text.specs.Grammar.{TypeAt};
 ghost use Rattle.wgsl_text.specs.Laws.{OneAnswer};
 ghost use Rattle.wgsl_text.specs.Requests.{Request, IsRequest};
 ghost use Rattle.wgsl_text.specs.Words.{words_of};
-ghost use Rattle.wgsl_text.specs.declared.rules.RuleSet.{RuleSet};
 
 /// By a set of rules, words spell at most one request.
 #[tactic(auto, using(crate::proofs::OneRequest::one_request))]

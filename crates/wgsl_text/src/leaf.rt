@@ -2,22 +2,22 @@
 ghost use Rattle.std.specs.Prelude.{◌≡◌, ◌∷◌, MatchOption, Option};
 ghost use Rattle.wgsl_core.specs.View.{view};
 ghost use Rattle.wgsl_syntax.specs.Address.{access_text};
-ghost use Rattle.wgsl_syntax.specs.Texel.{IsTexel};
+ghost use Rattle.wgsl_syntax.specs.Texel.{IsTexel, format_names};
 ghost use Rattle.wgsl_syntax.specs.Texture.{sampled_text};
 ghost use Rattle.wgsl_syntax.specs.TextureName.{texture_name_text};
 ghost use Rattle.wgsl_syntax.specs.declared.attribute.AccelerationStructureFlags.{AccelerationStructureFlags};
-ghost use Rattle.wgsl_text.specs.Grammar.{FlagAt, IsFlag, LeafAt, format_names};
+ghost use Rattle.wgsl_text.specs.Grammar.{FlagAt, IsFlag, LeafAt};
 ghost use Rattle.wgsl_text.specs.Reading.{IsText, OneWord, Reads, ReadsWord, Then};
 ghost use Rattle.wgsl_text.specs.internal.Leaves.{ParametersAt, SpelledOrTextureAt, TextureAt, begins_spelling};
 ghost use Rattle.wgsl_text.specs.internal.Taken.{GoesOn, left};
 
 use crate::outer::access;
-use crate::rules::RuleSet;
 use crate::spelled::{is_spelled, read_spelled};
 use crate::wanted::{Misfit, Wanted};
 use crate::words::{Words, parsed};
 use std::alloc::Global;
 use std::str::FromStr;
+use wgsl_syntax::rules::RuleSet;
 use wgsl_types::error::Fail;
 use wgsl_types::syntax::{AccelerationStructureFlags, AccessMode, SampledType, TexelFormat};
 use wgsl_types::ty::{

@@ -21,7 +21,6 @@ mod overloaded;
 pub mod read;
 mod report;
 pub mod request;
-pub mod rules;
 mod spelled;
 pub mod spelling;
 pub mod split;

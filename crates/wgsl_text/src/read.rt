@@ -12,12 +12,12 @@ ghost use Rattle.wgsl_text.specs.internal.Taken.{GoesOn, left};
 
 use crate::leaf::read_leaf;
 use crate::outer::read_outer;
-use crate::rules::RuleSet;
 use crate::spelling::spelled::wrap;
 use crate::wanted::{Misfit, Wanted};
 use crate::words::Words;
 use std::alloc::Global;
 use std::str::FromStr;
+use wgsl_syntax::rules::RuleSet;
 use wgsl_types::error::Fail;
 use wgsl_types::syntax::{Around, Scalar};
 use wgsl_types::ty::{StructMemberType, StructType, Type};

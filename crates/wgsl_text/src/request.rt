@@ -4,12 +4,12 @@ ghost use Rattle.wgsl_text.specs.Replies.{IsReplyToLine, IsUnreadable, WritesRep
 ghost use Rattle.wgsl_text.specs.Words.{words_of};
 
 use crate::command::write_answer;
-use crate::rules::RuleSet;
 use crate::wanted::Wanted;
 use crate::why::Why;
 use crate::words::Words;
 pub use crate::write::TextKind;
 use std::alloc::{AllocError, Global};
+use wgsl_syntax::rules::RuleSet;
 
 /// How many bytes a request may have.
 pub const LONGEST: usize = 4096;

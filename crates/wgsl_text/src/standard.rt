@@ -10,12 +10,12 @@ use crate::component::unary;
 use crate::fit::fit;
 use crate::form::answer_form;
 use crate::form_command::form_command;
-use crate::rules::RuleSet;
 use crate::wanted::{Misfit, Wanted};
 use crate::words::Words;
 use crate::write::TextKind;
 use std::alloc::Global;
 use wgsl_requests::requests::Request;
+use wgsl_syntax::rules::RuleSet;
 use wgsl_types::error::Fail;
 
 /// Writes the answer to the command and the words after it.

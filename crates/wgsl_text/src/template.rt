@@ -8,10 +8,10 @@ ghost use Rattle.wgsl_text.specs.Templates.{IsEnumerant, IsLiteral, ParameterAt,
 ghost use Rattle.wgsl_text.specs.internal.Taken.{GoesOn, left};
 
 use crate::read::read_type;
-use crate::rules::RuleSet;
 use crate::wanted::{Misfit, Wanted};
 use crate::words::{Words, begins_with_plus, medium, number, parsed};
 use std::alloc::Global;
+use wgsl_syntax::rules::RuleSet;
 use wgsl_types::error::Fail;
 use wgsl_types::inst::{Instance, LiteralInstance};
 use wgsl_types::syntax::Enumerant;

@@ -11,10 +11,10 @@ use crate::form_command::FormCommand;
 use crate::initializer::read_value;
 use crate::outer::space_named;
 use crate::read::read_last_type;
-use crate::rules::RuleSet;
 use crate::wanted::{Misfit, Wanted};
 use crate::words::Words;
 use std::alloc::Global;
+use wgsl_syntax::rules::RuleSet;
 use wgsl_types::error::Fail;
 use wgsl_types::syntax::{AccessMode, AddressSpace};
 

@@ -1,6 +1,7 @@
 -- How calls that are read from words are seen, and what is asked of them.
 use Rattle.std.specs.Prelude.{◌≡◌, ℕ, List, Option, Result, codes}
 use Rattle.wgsl_syntax.specs.Scalar.{scalar_text}
+use Rattle.wgsl_syntax.specs.declared.rules.RuleSet.TheVariants.{Standard}
 use Rattle.wgsl_syntax.specs.declared.scalar.Scalar.{Scalar}
 use Rattle.wgsl_rules.specs.types.Types.{WgslType}
 use Rattle.wgsl_rules.specs.types.Signatures.{Parameter}
@@ -27,7 +28,6 @@ use Rattle.wgsl_core.specs.declared.error.Fail.{Fail}
 use Rattle.wgsl_text.specs.declared.wanted.Misfit.{Misfit}
 use Rattle.wgsl_text.specs.declared.write.TextKind.{TextKind}
 use Rattle.wgsl_text.specs.internal.Written.{Adds}
-use Rattle.wgsl_text.specs.declared.rules.RuleSet.TheVariants.{Standard}
 
 abbrev pub type_view : WrittenType → WgslType
 type_view (Value d s) = type_with d s

@@ -5,12 +5,12 @@ use Rattle.std.specs.List.{list_any}
 use Rattle.std.specs.Str.{bytes_eq}
 use Rattle.wgsl_rules.specs.types.Types.{WgslType}
 use Rattle.wgsl_syntax.specs.declared.around.Around.{Around}
+use Rattle.wgsl_syntax.specs.declared.rules.RuleSet.{RuleSet}
 use Rattle.wgsl_core.specs.declared.error.Fail.{Fail}
 use Rattle.wgsl_text.specs.declared.wanted.Misfit.{Misfit}
 use Rattle.wgsl_text.specs.Reading.{NoneAt, Refuses}
 use Rattle.wgsl_rules.specs.types.Around.{around}
 use Rattle.wgsl_text.specs.Grammar.{LayerAt, LeafAt, TypeAt}
-use Rattle.wgsl_text.specs.declared.rules.RuleSet.{RuleSet}
 
 -- the words that layers begin with
 abbrev pub layer_words : List (List ℕ)

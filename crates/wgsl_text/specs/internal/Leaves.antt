@@ -3,6 +3,8 @@ use Rattle.std.specs.Prelude.{◌≡◌, ℕ, Bool, false, List, [], ◌∷◌}
 use Rattle.std.specs.Bool.{MatchBool}
 use Rattle.wgsl_syntax.specs.Texture.{texture_name}
 use Rattle.wgsl_syntax.specs.TextureName.{kind_of, parameters_of}
+use Rattle.wgsl_syntax.specs.declared.rules.RuleSet.{RuleSet}
+use Rattle.wgsl_syntax.specs.declared.rules.RuleSet.TheVariants.{Ported, Standard}
 use Rattle.wgsl_syntax.specs.declared.texture.TextureType.{TextureType}
 use Rattle.wgsl_syntax.specs.declared.texture_name.TextureParameterKind.{TextureParameterKind}
 use Rattle.wgsl_syntax.specs.declared.texture_name.TextureParameters.{TextureParameters}
@@ -10,8 +12,6 @@ use Rattle.wgsl_rules.specs.types.Types.{WgslType, texture}
 use Rattle.wgsl_text.specs.spelling.Spells.{Spells}
 use Rattle.wgsl_text.specs.Grammar.{TextureListAt}
 use Rattle.wgsl_text.specs.Spelled.{after_run, is_spelled, run, spaced}
-use Rattle.wgsl_text.specs.declared.rules.RuleSet.{RuleSet}
-use Rattle.wgsl_text.specs.declared.rules.RuleSet.TheVariants.{Ported, Standard}
 
 -- the words begin with a texture
 abbrev pub TextureAt : RuleSet → List (List ℕ) → TextureType → List (List ℕ) → Type 0

@@ -11,7 +11,7 @@ use Rattle.wgsl_text.specs.Calls.{OperandAt}
 use Rattle.wgsl_text.specs.Reading.{Answers}
 use Rattle.wgsl_text.specs.Requests.{NoRequest, Request, form_of, layout, members_laid_out, offsets}
 use Rattle.wgsl_text.specs.declared.command.ReadCall.{ReadCall}
-use Rattle.wgsl_text.specs.declared.rules.RuleSet.{RuleSet}
+use Rattle.wgsl_syntax.specs.declared.rules.RuleSet.{RuleSet}
 use Rattle.wgsl_core.specs.declared.error.Fail.{Fail}
 use Rattle.wgsl_text.specs.declared.wanted.Misfit.{Misfit}
 use Rattle.wgsl_text.specs.declared.write.TextKind.{TextKind}

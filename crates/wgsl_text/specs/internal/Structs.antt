@@ -4,7 +4,7 @@ use Rattle.wgsl_rules.specs.types.Types.{WgslType, struct, Members}
 use Rattle.wgsl_core.specs.View.{Member}
 use Rattle.wgsl_text.specs.Grammar.{MembersAt, TypeAt}
 use Rattle.wgsl_text.specs.Numbers.{IsAttribute, IsLong}
-use Rattle.wgsl_text.specs.declared.rules.RuleSet.{RuleSet}
+use Rattle.wgsl_syntax.specs.declared.rules.RuleSet.{RuleSet}
 
 -- the words begin with what stands behind `struct`
 pub record StructAt (rules : RuleSet) (words : List (List ℕ)) (t : WgslType) (rest : List (List ℕ)) : Type 0 where

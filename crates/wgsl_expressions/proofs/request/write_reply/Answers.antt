@@ -1,7 +1,7 @@
 use Rattle.std.proofs.Common.{refl, string_bytes, subst, sym}
 use Rattle.std.specs.Prelude.{IfOk}
 use Rattle.wgsl_text.specs.Replies.{WritesReply}
-use Rattle.wgsl_text.specs.declared.rules.RuleSet.TheVariants.{Ported}
+use Rattle.wgsl_syntax.specs.declared.rules.RuleSet.TheVariants.{Ported}
 use Rattle.wgsl_expressions.specs.Replies.{IsReplyToLine}
 use Rattle.wgsl_expressions.proofs.Asked.{of_words}
 use Rattle.wgsl_expressions.proofs.request.write_reply.Goals as goal

@@ -6,7 +6,7 @@ use Rattle.wgsl_expressions.proofs.OneReply.{long_line}
 use Rattle.wgsl_text.specs.Words.{has_line_feed}
 use Rattle.wgsl_text.specs.declared.request.ReplyKind.{ReplyKind}
 use Rattle.wgsl_text.specs.declared.request.ReplyKind.TheVariants as k
-use Rattle.wgsl_text.specs.declared.rules.RuleSet.{RuleSet}
+use Rattle.wgsl_syntax.specs.declared.rules.RuleSet.{RuleSet}
 use Rattle.wgsl_text.specs.declared.why.Why.{Why}
 use Rattle.wgsl_text.proofs.FirstWord.{blank-no_line_feed}
 use Rattle.wgsl_expressions.proofs.request.write_reply_to_request.Goals.{else-request-le-LONGEST-via-then-request-le-LONGEST+else-has_line_feed, else-request-le-LONGEST-via-else-request-le-LONGEST}

@@ -1,7 +1,7 @@
 use Rattle.std.proofs.Common.{◌≤◌, ◌-◌, All, IsUtf8, None, Some, length, subst, sym, arith, rules}
 use Rattle.wgsl_text.specs.Replies.{IsLineOfText, answer}
 use Rattle.wgsl_text.specs.Words.{words_of}
-use Rattle.wgsl_text.specs.declared.rules.RuleSet.TheVariants.{Standard}
+use Rattle.wgsl_syntax.specs.declared.rules.RuleSet.TheVariants.{Standard}
 use Rattle.wgsl_expressions.specs.Grammar.{IsTyped}
 use Rattle.wgsl_expressions.specs.Reading.{Refuses}
 use Rattle.wgsl_expressions.specs.Replies.{IsReplyToLine, long_expression, no_text, outcome_text, to_expression}

@@ -6,7 +6,7 @@ use Rattle.wgsl_text.specs.declared.request.ReplyKind.{ReplyKind}
 use Rattle.wgsl_text.specs.declared.request.ReplyKind.TheVariants as k
 use Rattle.wgsl_text.specs.Replies.{WritesReply, answer}
 use Rattle.wgsl_expressions.specs.Replies.{IsReplyToLine}
-use Rattle.wgsl_text.specs.declared.rules.RuleSet.{RuleSet}
+use Rattle.wgsl_syntax.specs.declared.rules.RuleSet.{RuleSet}
 use Rattle.wgsl_lines.specs.Session.{reply_of_kind}
 use Rattle.wgsl_lines.proofs.Replies.{of_cut}
 use Rattle.wgsl_lines.proofs.run.write_reply_to.Goals as goal

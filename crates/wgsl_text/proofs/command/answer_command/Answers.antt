@@ -1,7 +1,7 @@
 use Rattle.std.proofs.Common.{◌∷◌, string_bytes, subst, sym}
 use Rattle.wgsl_text.specs.internal.Replied.{Replies}
 use Rattle.wgsl_text.specs.internal.Taken.{left}
-use Rattle.wgsl_text.specs.declared.rules.RuleSet.TheVariants.{Ported}
+use Rattle.wgsl_syntax.specs.declared.rules.RuleSet.TheVariants.{Ported}
 use Rattle.wgsl_text.proofs.Requested.{no_command}
 use Rattle.wgsl_text.proofs.command.answer_command.Goals as goal
 

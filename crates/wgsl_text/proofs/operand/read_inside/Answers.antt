@@ -4,7 +4,7 @@ use Rattle.wgsl_core.specs.View.{view}
 use Rattle.wgsl_text.specs.internal.Asked.{type_view}
 use Rattle.wgsl_text.specs.internal.Layers.{InsideAt}
 use Rattle.wgsl_text.specs.internal.Taken.{left}
-use Rattle.wgsl_text.specs.declared.rules.RuleSet.TheVariants.{Standard}
+use Rattle.wgsl_syntax.specs.declared.rules.RuleSet.TheVariants.{Standard}
 use Rattle.wgsl_text.proofs.Nested.{read_on, scalar_inside}
 use Rattle.wgsl_text.proofs.Readers.{built_read}
 use Rattle.wgsl_text.proofs.operand.read_inside.Goals as goal

@@ -3,7 +3,7 @@ use Rattle.wgsl_core.specs.View.{view}
 use Rattle.wgsl_text.specs.internal.Asked.{type_view}
 use Rattle.wgsl_text.specs.internal.Layers.{OtherAt}
 use Rattle.wgsl_text.specs.internal.Taken.{left}
-use Rattle.wgsl_text.specs.declared.rules.RuleSet.TheVariants.{Standard}
+use Rattle.wgsl_syntax.specs.declared.rules.RuleSet.TheVariants.{Standard}
 use Rattle.wgsl_text.proofs.Nested.{inside_read, layer_of, leaf_read, no_layer_of}
 use Rattle.wgsl_text.proofs.Readers.{built_read}
 use Rattle.wgsl_text.proofs.operand.read_other.Goals as goal

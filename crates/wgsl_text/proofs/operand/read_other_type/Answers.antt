@@ -2,7 +2,7 @@ use Rattle.wgsl_core.specs.View.{view}
 use Rattle.wgsl_text.specs.internal.Asked.{type_view}
 use Rattle.wgsl_text.specs.internal.Structs.{StructAt}
 use Rattle.wgsl_text.specs.internal.Taken.{left}
-use Rattle.wgsl_text.specs.declared.rules.RuleSet.TheVariants.{Standard}
+use Rattle.wgsl_syntax.specs.declared.rules.RuleSet.TheVariants.{Standard}
 use Rattle.wgsl_text.proofs.Nested.{other_read, struct_read}
 use Rattle.wgsl_text.proofs.Readers.{built_read}
 use Rattle.wgsl_text.proofs.operand.read_other_type.Goals as goal

@@ -2,7 +2,7 @@ use Rattle.std.proofs.Common.{refl, subst, sym}
 use Rattle.wgsl_rules.specs.types.Types.{scalar}
 use Rattle.wgsl_text.specs.Grammar.{TypeAt}
 use Rattle.wgsl_text.specs.internal.Taken.{left}
-use Rattle.wgsl_text.specs.declared.rules.RuleSet.TheVariants.{Standard}
+use Rattle.wgsl_syntax.specs.declared.rules.RuleSet.TheVariants.{Standard}
 use Rattle.wgsl_text.proofs.Nested.{scalar_read}
 use Rattle.wgsl_text.proofs.operand.read_type.Goals as goal
 

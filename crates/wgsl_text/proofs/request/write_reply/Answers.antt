@@ -5,7 +5,7 @@ use Rattle.wgsl_text.specs.Requests.{NoRequest}
 use Rattle.wgsl_text.specs.internal.Written.{Adds}
 use Rattle.wgsl_text.specs.Replies.{IsLineOfText, too_long, no_text, no_request, no_words, answered}
 use Rattle.wgsl_text.specs.Words.{words_of}
-use Rattle.wgsl_text.specs.declared.rules.RuleSet.{RuleSet}
+use Rattle.wgsl_syntax.specs.declared.rules.RuleSet.{RuleSet}
 use Rattle.wgsl_text.specs.declared.write.TextKind.{TextKind}
 use Rattle.wgsl_text.proofs.request.write_reply.Goals as goal
 

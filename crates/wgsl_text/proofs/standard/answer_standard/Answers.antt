@@ -1,5 +1,5 @@
 use Rattle.std.proofs.Common.{◌∷◌, ◌∙◌, string_bytes, subst, sym}
-use Rattle.wgsl_text.specs.declared.rules.RuleSet.TheVariants.{Standard}
+use Rattle.wgsl_syntax.specs.declared.rules.RuleSet.TheVariants.{Standard}
 use Rattle.wgsl_text.specs.Forms.{command_text, form_commands}
 use Rattle.wgsl_text.specs.internal.Replied.{Replies}
 use Rattle.wgsl_text.specs.internal.Taken.{left}

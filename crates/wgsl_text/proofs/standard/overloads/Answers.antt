@@ -1,6 +1,6 @@
 use Rattle.std.proofs.Common.{◌∷◌, codes, rules, subst, sym, ap, ◌∙◌}
 use Rattle.wgsl_text.specs.Requests.{IsRequest, overloads_of, overloads_words}
-use Rattle.wgsl_text.specs.declared.rules.RuleSet.TheVariants.{Standard}
+use Rattle.wgsl_syntax.specs.declared.rules.RuleSet.TheVariants.{Standard}
 use Rattle.wgsl_text.proofs.Readers.{fails_by}
 use Rattle.wgsl_text.proofs.Replied.{replied}
 use Rattle.wgsl_text.proofs.Requested.{no_overloads_name}

@@ -1,21 +1,21 @@
-// The sets of rules that answer requests.
+// The two sets of rules.
 ghost use Rattle.std.specs.Prelude.{◌≡◌};
-ghost use Rattle.wgsl_text.specs.Grammar.{format_names};
+ghost use Rattle.wgsl_syntax.specs.Texel.{format_names};
 
-use wgsl_syntax::texel::FormatNames;
+use crate::texel::FormatNames;
 
-/// By which rules a request is answered.
+/// By whose rules a question is answered.
 #[derive(Clone, Copy)]
 pub enum RuleSet {
-    /// Those of wgsl-types.
+    /// Those of wgsl-types, with naga's extensions.
     Ported,
-    /// WGSL's own overloads.
+    /// WGSL's own.
     Standard,
 }
 
 impl RuleSet {
     /// Whose names texel formats have.
-    pub(crate) fn format_names(self) -> FormatNames
+    pub fn format_names(self) -> FormatNames
         ensures { result ≡ format_names self }
     {
         match self {
