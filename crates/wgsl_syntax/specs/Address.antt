@@ -3,6 +3,8 @@
 use Rattle.std.specs.Prelude.{◌≡◌, ◌⊎◌, ℕ, List, [], ◌∷◌, Bool, true, false, codes}
 use Rattle.wgsl_syntax.specs.declared.address.AddressSpace.{AddressSpace}
 use Rattle.wgsl_syntax.specs.declared.address.AddressSpace.TheVariants.{Function, Private, Workgroup, Uniform, Storage, Handle, PushConstant}
+use Rattle.wgsl_syntax.specs.declared.rules.RuleSet.{RuleSet}
+use Rattle.wgsl_syntax.specs.declared.rules.RuleSet.TheVariants.{Standard}
 use Rattle.wgsl_syntax.specs.declared.address.AccessMode.{AccessMode}
 use Rattle.wgsl_syntax.specs.declared.address.AccessMode.TheVariants.{Read, Write, ReadWrite, Atomic}
 
@@ -21,6 +23,15 @@ space_text Uniform = codes "uniform"
 space_text Storage = codes "storage"
 space_text Handle = codes "handle"
 space_text PushConstant = codes "push_constant"
+
+-- the name by these rules: WGSL calls `immediate` what naga calls `push_constant`
+abbrev pub space_text_by : RuleSet → AddressSpace → List ℕ
+space_text_by Standard PushConstant = codes "immediate"
+space_text_by rules s = space_text s
+
+-- the word is the name by these rules, or naga's
+abbrev pub IsSpace : RuleSet → List ℕ → AddressSpace → Type 0
+IsSpace rules word s = (word ≡ space_text_by rules s) ⊎ (word ≡ space_text s)
 
 abbrev pub access_modes : List AccessMode
 access_modes = Read ∷ Write ∷ ReadWrite ∷ Atomic ∷ []
