@@ -5,7 +5,7 @@ use crate::proved::wgsl_core::ty::show::ShownType;
 use crate::proved::wgsl_standard::explanation;
 use crate::shim::always;
 use crate::shim::std::alloc::Global;
-use crate::syntax::FormatNames;
+use crate::syntax::RuleSet;
 use crate::ty::Type;
 use alloc::string::String;
 use alloc::string::ToString;
@@ -86,7 +86,7 @@ impl fmt::Display for NoOverload {
         f.write_str("` takes (")?;
         for (index, operand) in self.operands.iter().enumerate() {
             let separator = if index == 0 { "" } else { ", " };
-            let shown = ShownType { ty: &operand.ty, names: FormatNames::Wgsl };
+            let shown = ShownType { ty: &operand.ty, rules: RuleSet::Standard };
             write!(f, "{separator}{shown}")?;
         }
         f.write_str(")")

@@ -36,13 +36,14 @@ fn questions_are_answered() {
     let mut count = 0;
     for (question, expected) in rows.filter_map(|row| row.split_once('\t')) {
         let mut words = Words::new(question);
-        let found = answer(&mut words);
+        let found = answer(&mut words).map(in_wgsl);
         if !NO_REQUESTS.iter().any(|form| question.starts_with(form)) {
             let refused = |refusal: Refusal| requests::Error::Refused(refusal.to_string());
             let answered = found.clone().map_err(refused);
             assert_eq!(standard_answer(question), answered, "{question}");
         }
-        let found = found.unwrap_or_else(|refusal| format!("refused\t{}", variant(&refusal)));
+        let refused = |refusal| format!("refused\t{}", in_wgsl(variant(&refusal)));
+        let found = found.unwrap_or_else(refused);
         assert_eq!(found, expected, "{question}");
         assert!(words.is_empty(), "{question}");
         count += 1;
@@ -76,6 +77,11 @@ fn parts_are_operands() {
     assert_eq!(part(type_of_member(&pointer, "yy")).referent, Referent::Whole);
     assert_eq!(address_of(&component), Err(Refusal::PtrVecComp));
     assert_eq!(part(load(&component)).referent, Referent::Whole);
+}
+
+/// A text with WGSL's name of the address space that values display by naga's.
+fn in_wgsl(text: String) -> String {
+    text.replace("push_constant", "immediate")
 }
 
 /// The answer to a question.

@@ -117,6 +117,48 @@ fn variables_and_findings_are_told() {
     assert!(text.contains("stride 4"), "{text}");
 }
 
+/// Declarations, and whether a browser's compiler takes them. Functions aren't read, so the types of pointers that were asked as
+/// their parameters stand in aliases.
+const SPACES: [(&str, bool); 25] = [
+    ("var<uniform, read> x: i32;", false),
+    ("var<private, read_write> x: i32;", false),
+    ("var<workgroup, read_write> x: i32;", false),
+    ("alias P = ptr<uniform, i32, read>;", false),
+    ("alias P = ptr<private, i32, read_write>;", false),
+    ("alias P = ptr<function, i32, read_write>;", false),
+    ("alias P = ptr<storage, i32, read>;", true),
+    ("alias P = ptr<storage, i32>;", true),
+    ("@group(0) @binding(0) var<storage, read> x: i32;", true),
+    ("@group(0) @binding(0) var<storage, write> x: i32;", false),
+    ("var<immediate> x: u32;", true),
+    ("var<immediate> x: vec4f;", true),
+    ("var<immediate> x: mat4x4f;", true),
+    ("struct S { a: u32 } var<immediate> x: S;", true),
+    ("var<immediate> x: array<u32, 2>;", false),
+    ("struct S { a: array<u32, 2> } var<immediate> x: S;", false),
+    ("var<immediate> x: bool;", false),
+    ("var<immediate> x: atomic<u32>;", false),
+    ("enable f16; var<immediate> x: f16;", true),
+    ("var<immediate> x: u32 = 1;", false),
+    ("@group(0) @binding(0) var<immediate> x: u32;", false),
+    ("var<immediate, read> x: u32;", false),
+    ("var<immediate> x: u32; alias P = ptr<immediate, u32>; fn f() { let a = g(&x); }", true),
+    ("var<immediate> x: u32; var<immediate> y: u32; fn f() { let a = x + y; }", true),
+    ("var<push_constant> x: u32;", false),
+];
+
+#[test]
+fn address_spaces_hold_what_browsers_let_them_hold() {
+    for (text, is_taken) in SPACES {
+        let module = layouts(text);
+        let told: Vec<&Message> = module.errors.iter().chain(&module.findings).collect();
+        assert_eq!(told.is_empty(), is_taken, "{text}: {told:?}");
+        assert!(told.len() < 2, "{text}: {told:?}");
+    }
+    let array = layouts("struct S { a: array<u32, 2> } var<immediate> x: S;");
+    assert_eq!(array.findings[0].kind, "Array");
+}
+
 #[test]
 fn faults_are_told_and_reading_goes_on() {
     let module = layouts("struct A { a: \"x\", }\nstruct B { b: f32 }");

@@ -2,7 +2,7 @@
 import random
 
 SCALARS = "bool AbstractInt AbstractFloat i32 u32 f32 f16 i64 u64 f64".split()
-SPACES = "function private workgroup uniform storage handle push_constant".split()
+SPACES = "function private workgroup uniform storage handle immediate push_constant".split()
 ACCESS = "read write read_write atomic".split()
 SAMPLED = "texture_1d texture_2d texture_2d_array texture_3d texture_cube texture_cube_array texture_multisampled_2d".split()
 LEAVES = """sampler sampler_comparison texture_depth_2d texture_depth_2d_array texture_depth_cube texture_external

@@ -34,6 +34,10 @@ def is_runtime_sized(t):
     return name == "array" and len(parts) == 1
 
 
+def is_array(t):
+    return parts_of(t)[0] == "array"
+
+
 def is_binding_array(t):
     """One of naga's arrays, which is neither constructible nor stored."""
     return parts_of(t)[0] == "binding_array"

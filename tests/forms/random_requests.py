@@ -82,7 +82,7 @@ class Random(random.Random):
     def memory(self, layer, t=None):
         if t in HANDLES:
             return f"{layer}<handle, {t}, read>"
-        space = self.choice(SPACES[:5])
+        space = self.choice(SPACES[:6])
         return f"{layer}<{space}, {t or self.stored()}, {self.access(space)}>"
 
     def type(self):
@@ -155,7 +155,7 @@ class Random(random.Random):
         return f"{form} {said(x)} : {words(self.target(loaded(x.type)))}"
 
     def variable(self):
-        space = self.choice(["", *SPACES[:6]])
+        space = self.choice(["", *SPACES])
         access = self.choice(ACCESSES[:3]) if space and self.random() < 0.3 else ""
         start = " ".join(filter(None, ["var", space, access]))
         if self.random() < (0.3 if space in ("", "function", "private") else 0.9):

@@ -6,7 +6,7 @@ from spelling import STRUCTS
 # A type, and whether the request says `const` in front of it.
 Operand = namedtuple("Operand", "type says_const")
 
-SPACES = "function private workgroup uniform storage handle push_constant".split()
+SPACES = "function private workgroup uniform storage immediate handle".split()
 ACCESSES = "read write read_write atomic".split()
 # The attributes `size` and `align` of the members that have one, by the names of struct and member.
 ATTRIBUTES = {}

@@ -5,7 +5,7 @@ Types are spelled as in WGSL. A function has the rule of one form: it returns a 
 import functools
 
 from facts import read_facts
-from kinds import can_be_named_value, common_type, concrete, contains, converts, element_of, is_abstract, is_atomic
+from kinds import can_be_named_value, common_type, concrete, contains, converts, element_of, is_abstract, is_array, is_atomic
 from kinds import is_binding_array, is_constructible, is_handle, is_matrix, is_pointer, is_runtime_sized, is_vector
 from search import Search
 from spelling import STRUCTS, parts_of
@@ -167,7 +167,7 @@ def override(x, declared):
 # Variable Declarations
 
 def default_access(space):
-    return "read" if space in ("uniform", "storage", "handle") else "read_write"
+    return "read" if space in ("uniform", "storage", "immediate", "handle") else "read_write"
 
 
 def is_host_shareable(t):
@@ -202,6 +202,8 @@ def holds(space, access, t):
         return has_fixed_footprint(t)
     if space == "uniform":
         return is_host_shareable(t) and is_constructible(t)
+    if space == "immediate":
+        return is_host_shareable(t) and is_constructible(t) and not contains(is_array, t)
     if space == "storage":
         may_be_there = access == "read_write" or not contains(is_atomic, t)
         return may_be_there and all(map(is_host_shareable, without_runtime_sized_end(t)))
@@ -217,7 +219,7 @@ def hold(space, access, t):
 
 def variable(space, access, x, declared):
     space = space or "function"
-    if access not in (None, default_access(space)) and (space, access) != ("storage", "read_write"):
+    if access is not None and (space != "storage" or access not in ("read", "read_write")):
         raise Refused("AccessMode", space, access)
     access = access or default_access(space)
     if x is not None and space not in ("function", "private"):

@@ -27,7 +27,7 @@ FEW_FORMATS = ["rgba8unorm", "r32sint", "rg11b10ufloat", "rgba16uint"]
 TEXTURES = [f"texture_{kind}<{s}>" for kind in SAMPLED for s in ("i32", "u32", "f32")]
 TEXTURES += [f"texture_{kind}" for kind in DEPTH]
 
-SPACES = ["function", "private", "workgroup", "uniform", "storage", "push_constant"]
+SPACES = ["function", "private", "workgroup", "uniform", "storage", "immediate"]
 ACCESSES = ["read", "write", "read_write"]
 POINTEES = SAMPLES + [f"array<{t}>" for t in ("f32", "vec2<f32>", "mat2x2<f32>", "array<f32, 4>", "Counter")]
 SECOND = ["i32", "u32", "AbstractInt", "f32", "ref<function, i32, read>"]  # what atomic functions take beside the pointer

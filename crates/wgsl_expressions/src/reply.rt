@@ -6,7 +6,7 @@ ghost use Rattle.wgsl_expressions.specs.Views.{outcome_view};
 use crate::outcome::{Outcome, shown_type};
 use std::alloc::AllocError;
 use wgsl_core::ty::show::ShownType;
-use wgsl_syntax::texel::FormatNames;
+use wgsl_syntax::rules::RuleSet;
 use wgsl_text::write::TextKind;
 
 /// Writes the outcome of an expression behind that many bytes of its line, and returns of which kind the text is.
@@ -21,8 +21,8 @@ pub(crate) fn write_outcome(
     match outcome {
         Ok(typed) => {
             let ty = shown_type(&typed);
-            let names = FormatNames::Wgsl;
-            let written = write!(text, "{}", ShownType { ty, names });
+            let rules = RuleSet::Standard;
+            let written = write!(text, "{}", ShownType { ty, rules });
             drop(typed);
             written?;
             Ok(TextKind::Answer)

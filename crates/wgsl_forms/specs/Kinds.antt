@@ -48,3 +48,14 @@ abbrev mutual
   pub are_host_shareable : Members → Bool
   are_host_shareable no_members = true
   are_host_shareable (member name t size align ms) = is_host_shareable t && are_host_shareable ms
+
+-- The type is no array, and no struct with one inside.
+abbrev mutual
+  pub has_no_array : WgslType → Bool
+  has_no_array (within (array_of n) t) = false
+  has_no_array (struct name ms) = have_no_array ms
+  has_no_array t = true
+
+  pub have_no_array : Members → Bool
+  have_no_array no_members = true
+  have_no_array (member name t size align ms) = has_no_array t && have_no_array ms

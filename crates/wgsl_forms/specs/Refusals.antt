@@ -1,9 +1,9 @@
 -- Why a form has no type, and the message that says so.
 use Rattle.std.specs.Prelude.{ℕ, List, ◌++◌, codes}
-use Rattle.wgsl_syntax.specs.Address.{space_text, access_text}
+use Rattle.wgsl_syntax.specs.Address.{space_text_by, access_text}
 use Rattle.wgsl_syntax.specs.declared.address.AddressSpace.{AddressSpace}
 use Rattle.wgsl_syntax.specs.declared.address.AccessMode.{AccessMode}
-use Rattle.wgsl_syntax.specs.declared.texel.FormatNames.TheVariants.{Wgsl}
+use Rattle.wgsl_syntax.specs.declared.rules.RuleSet.TheVariants.{Standard}
 use Rattle.wgsl_rules.specs.types.Types.{WgslType}
 use Rattle.wgsl_rules.specs.types.Spelling.{wgsl_spelling}
 use Rattle.wgsl_rules.specs.errors.Refusals.{Refusal as Error, message_by}
@@ -19,12 +19,12 @@ pub data Refusal : Type 0 where
   access_mode : AddressSpace → AccessMode → Refusal
 
 abbrev pub refusal_text : Refusal → List ℕ
-refusal_text (error e) = message_by Wgsl e
+refusal_text (error e) = message_by Standard e
 refusal_text (not_reference t) = codes "`" ++ wgsl_spelling t ++ codes "` is not a reference"
 refusal_text (not_integer t) = codes "expected `i32` or `u32`, got `" ++ wgsl_spelling t ++ codes "`"
 refusal_text not_const = codes "expected a const-expression"
 refusal_text (not_in_space s t) =
-    codes "a variable in the address space `" ++ space_text s ++ codes "` cannot hold a `" ++ wgsl_spelling t ++ codes "`"
-refusal_text (initialized s) = codes "a variable in the address space `" ++ space_text s ++ codes "` has no initializer"
+    codes "a variable in the address space `" ++ space_text_by Standard s ++ codes "` cannot hold a `" ++ wgsl_spelling t ++ codes "`"
+refusal_text (initialized s) = codes "a variable in the address space `" ++ space_text_by Standard s ++ codes "` has no initializer"
 refusal_text (access_mode s a) =
-    codes "access mode `" ++ access_text a ++ codes "` is not valid in the address space `" ++ space_text s ++ codes "`"
+    codes "access mode `" ++ access_text a ++ codes "` is not valid in the address space `" ++ space_text_by Standard s ++ codes "`"

@@ -1,6 +1,6 @@
 -- Variables (WGSL, "Variable Declarations" and "Address Spaces").
 use Rattle.std.specs.Prelude.{Bool, true, false, not, ◌&&◌, Option, Some, None, Result, Ok}
-use Rattle.wgsl_syntax.specs.Address.{default_access}
+use Rattle.wgsl_syntax.specs.Address.{default_access, may_say}
 use Rattle.wgsl_syntax.specs.declared.address.AddressSpace.{AddressSpace}
 use Rattle.wgsl_syntax.specs.declared.address.AddressSpace.TheVariants.{Function, Private, Workgroup, Uniform, Storage, Handle, PushConstant}
 use Rattle.wgsl_syntax.specs.declared.address.AccessMode.{AccessMode}
@@ -12,7 +12,7 @@ use Rattle.wgsl_forms.specs.Concrete.{concrete_of, has_abstract_type}
 use Rattle.wgsl_forms.specs.Convert.{converted}
 use Rattle.wgsl_forms.specs.Declare.{is_const_type}
 use Rattle.wgsl_forms.specs.Expressions.{is_const_expression}
-use Rattle.wgsl_forms.specs.Kinds.{has_fixed_footprint, is_constructible, is_handle, is_host_shareable}
+use Rattle.wgsl_forms.specs.Kinds.{has_fixed_footprint, has_no_array, is_constructible, is_handle, is_host_shareable}
 use Rattle.wgsl_forms.specs.Load.{loaded}
 use Rattle.wgsl_forms.specs.Questions.{asks, after}
 use Rattle.wgsl_forms.specs.Refusals.{Refusal, error, not_const, not_in_space, initialized, access_mode}
@@ -33,22 +33,10 @@ abbrev pub ends_in_array : Bool → WgslType → Bool
 ends_in_array atomics (struct name ms) = may_end_members atomics ms
 ends_in_array atomics t = may_end atomics t
 
--- the access mode of a variable, said or not
-abbrev pub access_of : AddressSpace → Option AccessMode → AccessMode
-access_of s None = default_access s
-access_of s (Some a) = a
-
--- `read_write` may be said for `storage`, and elsewhere only what would be there anyway
-abbrev pub may_have_access : AddressSpace → AccessMode → Bool
-may_have_access Function ReadWrite = true
-may_have_access Private ReadWrite = true
-may_have_access Workgroup ReadWrite = true
-may_have_access Uniform Read = true
-may_have_access Storage Read = true
-may_have_access Storage ReadWrite = true
-may_have_access Handle Read = true
-may_have_access PushConstant Read = true
-may_have_access s a = false
+-- the access mode of a variable: the one that it says, if it may, or that of the space. `var<uniform, read> v: f32;` is refused
+abbrev pub access_of : AddressSpace → Option AccessMode → Result AccessMode Refusal
+access_of s None = Ok (default_access s)
+access_of s (Some a) = asks (may_say s a) (access_mode s a) (Ok a)
 
 abbrev pub is_read_write : AccessMode → Bool
 is_read_write ReadWrite = true
@@ -68,7 +56,8 @@ holds Private a t = is_const_type t
 holds Workgroup a t = has_fixed_footprint true t && not (has_abstract_type t)
 -- `var<uniform> v: mat4x4<f32>;`
 holds Uniform a t = is_host_shareable t && is_constructible t
-holds PushConstant a t = is_host_shareable t && is_constructible t
+-- `var<immediate> v: mat4x4<f32>;`
+holds PushConstant a t = is_host_shareable t && is_constructible t && has_no_array t
 -- `var<storage> v: array<f32>;`, `var<storage, read_write> v: array<atomic<u32>>;`
 holds Storage a t = is_host_shareable t && ends_in_array (is_read_write a) t
 -- `var v: sampler;`
@@ -80,14 +69,13 @@ not_held Function t = error (not_constructible t)
 not_held Private t = error (not_constructible t)
 not_held s t = not_in_space s t
 
--- `var<storage> v: f32;` : ref<storage, f32, read>. `var<uniform, read_write> v: f32;` is refused, and so is
--- `var<uniform> v: bool;`
-abbrev pub variable_in : AddressSpace → AccessMode → WgslType → Result WgslType Refusal
-variable_in s a t = asks (may_have_access s a) (access_mode s a) (asks (holds s a t) (not_held s t) (Ok (reference s t a)))
+-- `var<storage> v: f32;` : ref<storage, f32, read>. `var<uniform> v: bool;` is refused, and so is `var<immediate> v: array<f32, 2>;`
+abbrev pub variable_in : AddressSpace → WgslType → AccessMode → Result WgslType Refusal
+variable_in s t a = asks (holds s a t) (not_held s t) (Ok (reference s t a))
 
 -- The type of the name of a variable.
 abbrev pub variable : AddressSpace → Option AccessMode → WgslType → Result WgslType Refusal
-variable s a t = variable_in s (access_of s a) t
+variable s a t = after (access_of s a) (variable_in s t)
 
 -- `var<workgroup> v = 1;` is refused
 abbrev pub has_initializer : AddressSpace → Bool
@@ -108,11 +96,11 @@ stored x None = after (loaded x) (λ v. asks (is_constructible v) (error (not_co
 stored x (Some t) = asks (is_const_type t) (error (not_constructible t)) (after (loaded x) (λ v. converted v t))
 
 -- `var<private> v = 1;` : ref<private, i32, read_write>
-abbrev pub initialized_in : AddressSpace → AccessMode → Operand → Option WgslType → Result WgslType Refusal
-initialized_in s a x t =
-    asks (may_have_access s a) (access_mode s a) (asks (has_initializer s) (initialized s) (asks (may_initialize s x) not_const
-    (after (stored x.of_type t) (λ t. Ok (reference s t a)))))
+abbrev pub initialized_in : AddressSpace → Operand → Option WgslType → AccessMode → Result WgslType Refusal
+initialized_in s x t a =
+    asks (has_initializer s) (initialized s) (asks (may_initialize s x) not_const
+    (after (stored x.of_type t) (λ t. Ok (reference s t a))))
 
 -- The type of the name of a variable with a value.
 abbrev pub initialized_variable : AddressSpace → Option AccessMode → Operand → Option WgslType → Result WgslType Refusal
-initialized_variable s a x t = initialized_in s (access_of s a) x t
+initialized_variable s a x t = after (access_of s a) (initialized_in s x t)

@@ -23,7 +23,7 @@ use wgsl_standard::operand::OperandType;
 use wgsl_syntax::overload::Dimensions;
 use wgsl_syntax::result_struct::{ResultFunction, ResultPrecision, ResultShape, ResultStruct};
 use wgsl_syntax::scalar::Scalar;
-use wgsl_syntax::texel::FormatNames;
+use wgsl_syntax::rules::RuleSet;
 
 /// The function and the shape of the result struct of an abstract float.
 #[tactic(auto, using(crate::proofs::AbstractResults::recognised))]
@@ -202,7 +202,7 @@ fn write_concrete<W: Write>(f: &mut fmt::Formatter<W>, ty: &Type) -> fmt::Result
         }
         Form::Matrix(c, r, t) => write_concrete_matrix(f, c, r, t),
         Form::Struct(s) => write_concrete_struct(f, s),
-        _ => write_type(f, FormatNames::Wgsl, ty),
+        _ => write_type(f, RuleSet::Standard, ty),
     }
 }
 
@@ -214,7 +214,7 @@ fn write_concrete_matrix<W: Write>(f: &mut fmt::Formatter<W>, c: u8, r: u8, t: &
         write!(f, "mat{c}x{r}<f32>")
     } else {
         write!(f, "mat{c}x{r}<")?;
-        write_type(f, FormatNames::Wgsl, t)?;
+        write_type(f, RuleSet::Standard, t)?;
         f.write_str(">")
     }
 }

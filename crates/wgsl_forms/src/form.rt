@@ -18,7 +18,7 @@ use wgsl_syntax::address::{AccessMode, AddressSpace};
 use wgsl_syntax::layer::Layer;
 use wgsl_syntax::overload::Dimensions;
 use wgsl_syntax::scalar::Scalar;
-use wgsl_syntax::texel::FormatNames;
+use wgsl_syntax::rules::RuleSet;
 
 /// A type that isn't built, or that is another type made concrete.
 #[derive(Clone, Copy)]
@@ -229,7 +229,7 @@ impl fmt::Display for Element<'_> {
             Element::Value(dimensions, scalar) => {
                 write!(f, "{}", OperandType::Value(*dimensions, *scalar))
             }
-            Element::Any(ty) => write_type(f, FormatNames::Wgsl, ty),
+            Element::Any(ty) => write_type(f, RuleSet::Standard, ty),
             Element::Concrete(of) => write!(f, "{}", ConcreteType { of: *of }),
         }
     }
@@ -266,9 +266,13 @@ impl fmt::Display for FormType<'_> {
         match self.memory {
             None => write!(f, "{of}"),
             Some(MemoryView::Reference(_, space, access)) => {
+                let space = space.name_by(RuleSet::Standard);
                 write!(f, "ref<{space}, {of}, {access}>")
             }
-            Some(MemoryView::Pointer(space, access)) => write!(f, "ptr<{space}, {of}, {access}>"),
+            Some(MemoryView::Pointer(space, access)) => {
+                let space = space.name_by(RuleSet::Standard);
+                write!(f, "ptr<{space}, {of}, {access}>")
+            }
         }
     }
 }

@@ -3,7 +3,7 @@ ghost use Rattle.std.specs.Prelude.{◌≡◌};
 ghost use Rattle.wgsl_core.specs.View.{view, member_view};
 ghost use Rattle.wgsl_core.specs.internal.View.{members_view};
 ghost use Rattle.wgsl_standard.specs.Operands.{given_type};
-ghost use Rattle.wgsl_forms.specs.Kinds.{has_fixed_footprint as fixed_there, have_fixed_footprint as all_fixed_there, is_constructible as constructible, is_handle as handle, is_host_shareable as host_shareable, are_host_shareable as all_host_shareable};
+ghost use Rattle.wgsl_forms.specs.Kinds.{has_fixed_footprint as fixed_there, have_fixed_footprint as all_fixed_there, is_constructible as constructible, is_handle as handle, is_host_shareable as host_shareable, are_host_shareable as all_host_shareable, has_no_array as no_array_there, have_no_array as no_arrays_there};
 
 use wgsl_core::ty::form::Form;
 use wgsl_core::ty::{StructMemberType, Type};
@@ -127,4 +127,35 @@ fn member_is_host_shareable(member: &StructMemberType) -> bool
     ensures { result ≡ host_shareable (member_view member.now).ty }
 {
     is_host_shareable(&member.ty)
+}
+
+/// Whether the type is no array, and no struct with one inside.
+#[cycle(no_array)]
+pub fn has_no_array(ty: &Type) -> bool
+    ensures { result ≡ no_array_there (view ty.now) }
+{
+    match ty.form() {
+        Form::Array(_, _) => false,
+        Form::Struct(s) => have_no_array(&s.members),
+        _ => true,
+    }
+}
+
+#[cycle(no_array)]
+fn have_no_array(members: &[StructMemberType]) -> bool
+    ensures { result ≡ no_arrays_there (members_view members.now) }
+{
+    for member in members {
+        if !member_has_no_array(member) {
+            return false;
+        }
+    }
+    true
+}
+
+#[cycle(no_array)]
+fn member_has_no_array(member: &StructMemberType) -> bool
+    ensures { result ≡ no_array_there (member_view member.now).ty }
+{
+    has_no_array(&member.ty)
 }

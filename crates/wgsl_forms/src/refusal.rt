@@ -4,6 +4,7 @@ use std::fmt;
 use std::fmt::Write;
 use wgsl_syntax::address::{AccessMode, AddressSpace};
 use wgsl_syntax::operator::{BinaryOperator, UnaryOperator};
+use wgsl_syntax::rules::RuleSet;
 
 /// Why a form has no type. The types aren't built, and names are borrowed.
 #[derive(Clone, Copy)]
@@ -74,18 +75,21 @@ impl fmt::Display for Refusal<'_> {
             Refusal::NotScalar(t) => write!(f, "expected a scalar type, got `{t}`"),
             Refusal::NotReference(t) => write!(f, "`{t}` is not a reference"),
             Refusal::NotInSpace(space, t) => {
+                let space = space.name_by(RuleSet::Standard);
                 write!(
                     f,
                     "a variable in the address space `{space}` cannot hold a `{t}`"
                 )
             }
             Refusal::Initialized(space) => {
+                let space = space.name_by(RuleSet::Standard);
                 write!(
                     f,
                     "a variable in the address space `{space}` has no initializer"
                 )
             }
             Refusal::AccessMode(space, access) => {
+                let space = space.name_by(RuleSet::Standard);
                 write!(
                     f,
                     "access mode `{access}` is not valid in the address space `{space}`"

@@ -4,7 +4,7 @@ ghost use Rattle.wgsl_rules.specs.types.Types.{reference};
 ghost use Rattle.wgsl_core.specs.View.{view, member_view};
 ghost use Rattle.wgsl_core.specs.internal.View.{members_view};
 ghost use Rattle.wgsl_standard.specs.Operands.{given_type};
-ghost use Rattle.wgsl_forms.specs.Variable.{access_of, ends_in_array as ends_there, has_initializer as initializer_there, holds as holds_there, initialized_in, initialized_variable as initialized_there, is_handle_or_array as handle_there, may_end as may_end_there, may_end_members as members_end_there, may_have_access as access_there, may_initialize as may_initialize_there, not_held as not_held_there, stored, variable as variable_there, variable_in};
+ghost use Rattle.wgsl_forms.specs.Variable.{access_of as access_there, ends_in_array as ends_there, has_initializer as initializer_there, holds as holds_there, initialized_in, initialized_variable as initialized_there, is_handle_or_array as handle_there, may_end as may_end_there, may_end_members as members_end_there, may_initialize as may_initialize_there, not_held as not_held_there, stored, variable as variable_there, variable_in};
 ghost use Rattle.wgsl_forms.specs.Views.{answer_view, form_type_view, given, refusal_view, unbuilt_view};
 
 use crate::concrete::has_abstract_type;
@@ -12,8 +12,8 @@ use crate::declare::{concrete, convert_to, is_const_type};
 use crate::expression::is_const_expression;
 use crate::form::{FormType, MemoryView, Referent, UnbuiltType};
 use crate::kinds::{
-    has_fixed_footprint, have_fixed_footprint, is_constructible, is_handle, is_host_shareable,
-    operand_is_constructible,
+    has_fixed_footprint, has_no_array, have_fixed_footprint, is_constructible, is_handle,
+    is_host_shareable, operand_is_constructible,
 };
 use crate::load::load_type;
 use crate::refusal::Refusal;
@@ -63,8 +63,9 @@ pub fn holds(space: AddressSpace, access: AccessMode, ty: &Type) -> bool
     match space {
         AddressSpace::Function | AddressSpace::Private => is_const_type(ty),
         AddressSpace::Workgroup => has_fixed_footprint(true, ty) && !has_abstract_type(ty),
-        AddressSpace::Uniform | AddressSpace::PushConstant => {
-            is_host_shareable(ty) && is_constructible(ty)
+        AddressSpace::Uniform => is_host_shareable(ty) && is_constructible(ty),
+        AddressSpace::PushConstant => {
+            is_host_shareable(ty) && is_constructible(ty) && has_no_array(ty)
         }
         AddressSpace::Storage => {
             is_host_shareable(ty) && ends_in_array(access == AccessMode::ReadWrite, ty)
@@ -92,7 +93,8 @@ pub fn variable<'a>(
 ) -> Result<FormType<'a>, Refusal<'a>>
     ensures { answer_view form_type_view result ≡ variable_there space access (view ty.now) }
 {
-    variable_in(space, access_of(space, access), ty)
+    let access = access_of(space, access)?;
+    variable_in(space, access, ty)
 }
 
 fn variable_in<'a>(
@@ -100,46 +102,30 @@ fn variable_in<'a>(
     access: AccessMode,
     ty: &'a Type,
 ) -> Result<FormType<'a>, Refusal<'a>>
-    ensures { answer_view form_type_view result ≡ variable_in space access (view ty.now) }
+    ensures { answer_view form_type_view result ≡ variable_in space (view ty.now) access }
 {
-    if !may_have_access(space, access) {
-        return Err(Refusal::AccessMode(space, access));
-    }
     if !holds(space, access, ty) {
         return Err(not_held(space, UnbuiltType::of_type(ty)));
     }
     Ok(reference(space, access, UnbuiltType::of_type(ty)))
 }
 
-/// The access mode of a variable: the declared one, or the default of the address space.
-fn access_of(space: AddressSpace, access: Option<AccessMode>) -> AccessMode
-    ensures { result ≡ access_of space access }
+/// The access mode of a variable: the one that it says, if it may, or the default of the address space.
+fn access_of<'a>(
+    space: AddressSpace,
+    access: Option<AccessMode>,
+) -> Result<AccessMode, Refusal<'a>>
+    ensures { answer_view (λ access. access) result ≡ access_there space access }
 {
     match access {
-        Some(access) => access,
-        None => space.default_access_mode(),
-    }
-}
-
-fn may_have_access(space: AddressSpace, access: AccessMode) -> bool
-    ensures { result ≡ access_there space access }
-{
-    match access {
-        AccessMode::ReadWrite => matches!(
-            space,
-            AddressSpace::Function
-                | AddressSpace::Private
-                | AddressSpace::Workgroup
-                | AddressSpace::Storage
-        ),
-        AccessMode::Read => matches!(
-            space,
-            AddressSpace::Uniform
-                | AddressSpace::Storage
-                | AddressSpace::Handle
-                | AddressSpace::PushConstant
-        ),
-        AccessMode::Write | AccessMode::Atomic => false,
+        Some(access) => {
+            if space.may_say(access) {
+                Ok(access)
+            } else {
+                Err(Refusal::AccessMode(space, access))
+            }
+        }
+        None => Ok(space.default_access_mode()),
     }
 }
 
@@ -173,7 +159,8 @@ pub fn initialized_variable<'a>(
     ensures { answer_view form_type_view result
         ≡ initialized_there space access (given value.now) (option_map (λ t. view t.now) ty.entry) }
 {
-    initialized_in(space, access_of(space, access), value, ty)
+    let access = access_of(space, access)?;
+    initialized_in(space, access, value, ty)
 }
 
 fn initialized_in<'a>(
@@ -183,11 +170,8 @@ fn initialized_in<'a>(
     ty: Option<&'a Type>,
 ) -> Result<FormType<'a>, Refusal<'a>>
     ensures { answer_view form_type_view result
-        ≡ initialized_in space access (given value.now) (option_map (λ t. view t.now) ty.entry) }
+        ≡ initialized_in space (given value.now) (option_map (λ t. view t.now) ty.entry) access }
 {
-    if !may_have_access(space, access) {
-        return Err(Refusal::AccessMode(space, access));
-    }
     if !has_initializer(space) {
         return Err(Refusal::Initialized(space));
     }

@@ -1,7 +1,7 @@
 -- Every request has an answer.
 use Rattle.std.proofs.Common.{ℕ, List, Some, None, refl, inl, inr}
 use Rattle.wgsl_rules.specs.types.Types.{WgslType, Members}
-use Rattle.wgsl_syntax.specs.declared.texel.FormatNames.{FormatNames}
+use Rattle.wgsl_syntax.specs.declared.rules.RuleSet.{RuleSet}
 use Rattle.wgsl_standard.specs.Lines.{lines_named}
 use Rattle.wgsl_requests.specs.Answers.{Answers, WgslAnswer, WgslLayout, a_number, a_size, a_common_type, a_type, a_value, some_offsets, a_layout, a_type_of, a_resolution_of, some_lines, a_form_type, a_fit, rank_is, common_is, unary_is, binary_is, size_is, offsets_are, layout_is, ctor_is, call_is, type_of_is, resolution_of_is, explanation_of_is, overloads_of_are, form_is, fit_is}
 use Rattle.wgsl_rules.specs.standard.Choice.{types_of}
@@ -19,8 +19,8 @@ use Rattle.wgsl_laws.proofs.Structs.{layout_or_cause, offsets_or_cause}
 abbrev pub Answered : WgslRequest → Type 0
 Answered request = (a : WgslAnswer) × Answers request a
 
-of_common : (names : FormatNames) (ts : List WgslType) → Answered (common names ts)
-of_common names ts = let c = a_received ts in (a_common_type names c.0, common_is c.0 c.1)
+of_common : (rules : RuleSet) (ts : List WgslType) → Answered (common rules ts)
+of_common rules ts = let c = a_received ts in (a_common_type rules c.0, common_is c.0 c.1)
 
 of_offsets : (name : List ℕ) (ms : Members) → Answered (offsets name ms)
 of_offsets name ms = elim (offsets_or_cause ms) [
@@ -37,7 +37,7 @@ of_layout name ms laid = elim (layout_or_cause laid) [
 
 pub some_answer : (request : WgslRequest) → Answered request
 some_answer (rank t u) = let w = a_rank t u in (a_number w.0, rank_is w.0 w.1)
-some_answer (common names ts) = of_common names ts
+some_answer (common rules ts) = of_common rules ts
 some_answer (unary o t) = let r = a_unary o t in (a_type r.0, unary_is r.0 r.1)
 some_answer (binary o t u) = let r = a_binary o t u in (a_type r.0, binary_is r.0 r.1)
 some_answer (size t) = let s = exact_size t in let a = exact_alignment t in (a_size s.0 a.0, size_is s.0 a.0 s.1 a.1)

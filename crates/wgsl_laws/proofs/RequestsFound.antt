@@ -4,7 +4,6 @@ use Rattle.std.specs.Bool.{MatchBool}
 use Rattle.std.specs.Option.{MatchOption}
 use Rattle.std.specs.Str.{bytes_eq}
 use Rattle.wgsl_syntax.specs.Operator.{binary_operators, binary_text, unary_operators, unary_text}
-use Rattle.wgsl_syntax.specs.Texel.{format_names}
 use Rattle.wgsl_syntax.specs.declared.rules.RuleSet.{RuleSet}
 use Rattle.wgsl_syntax.specs.declared.rules.RuleSet.TheVariants.{Ported, Standard}
 use Rattle.wgsl_syntax.proofs.Naming.{binary_naming, unary_naming}
@@ -54,7 +53,7 @@ a_rank {rules} words = elim (two_types {rules = rules} words) [
 ]
 
 a_common : {rules : RuleSet} (words : List (List ℕ)) → Means (CommonForm rules words)
-a_common {rules} words = elim (some_types {rules = rules} words) [ inl ts ↦ inl (common (format_names rules) ts.0, (ts.0, ts.1, refl)) | inr none ↦ inr (λ r f. none f.0 f.1) ]
+a_common {rules} words = elim (some_types {rules = rules} words) [ inl ts ↦ inl (common rules ts.0, (ts.0, ts.1, refl)) | inr none ↦ inr (λ r f. none f.0 f.1) ]
 
 a_unary : (words : List (List ℕ)) → Means (UnaryForm words)
 a_unary words = elim (a_word (IsText unary_text) (a_name unary_text unary_operators unary_naming) words) [

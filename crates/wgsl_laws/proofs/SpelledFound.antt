@@ -16,8 +16,8 @@ use Rattle.wgsl_syntax.specs.declared.around.Around.{Around}
 use Rattle.wgsl_syntax.specs.declared.around.Around.TheVariants.{Array, Vec, Mat, BindingArray, Atomic, Ptr, Ref}
 use Rattle.wgsl_syntax.specs.declared.attribute.AccelerationStructureFlags.{AccelerationStructureFlags}
 use Rattle.wgsl_syntax.specs.declared.scalar.Scalar.{Scalar}
-use Rattle.wgsl_syntax.specs.declared.texel.FormatNames.{FormatNames}
-use Rattle.wgsl_syntax.specs.declared.texel.FormatNames.TheVariants as names
+use Rattle.wgsl_syntax.specs.declared.rules.RuleSet.{RuleSet}
+use Rattle.wgsl_syntax.specs.declared.rules.RuleSet.TheVariants as sets
 use Rattle.wgsl_syntax.specs.declared.texel.TexelFormat.{TexelFormat}
 use Rattle.wgsl_syntax.specs.declared.texture.SampledType.{SampledType}
 use Rattle.wgsl_syntax.specs.declared.texture.SamplerType.{SamplerType}
@@ -76,10 +76,10 @@ found_or_not (inr none) = no (λ f. none f.0 f.1)
 
 -- Textures, by their names and parameters
 
-abbrev IsWith : FormatNames → List ℕ → TextureName → TextureParameters → Type 0
+abbrev IsWith : RuleSet → List ℕ → TextureName → TextureParameters → Type 0
 IsWith by text n p = (x : TextureType) × (texture_with n p ≡ Some x) × (text ≡ texture_text_by by x)
 
-dec_with : (by : FormatNames) (text : List ℕ) (n : TextureName) (p : TextureParameters) → Dec (IsWith by text n p)
+dec_with : (by : RuleSet) (text : List ℕ) (n : TextureName) (p : TextureParameters) → Dec (IsWith by text n p)
 dec_with by text n p = made (texture_with n p) refl
   where
     made : (o : Option TextureType) → texture_with n p ≡ o → Dec (IsWith by text n p)
@@ -89,7 +89,7 @@ dec_with by text n p = made (texture_with n p) refl
       | no other ↦ no (λ w. let same : Some x ≡ Some w.0 = sym e ∙ w.1 in let one : w.0 ≡ x = sym (cc same) in other (w.2 ∙ ap (texture_text_by by) one))
     ]
 
-some_parameters : (by : FormatNames) (text : List ℕ) (n : TextureName) → Means (IsWith by text n)
+some_parameters : (by : RuleSet) (text : List ℕ) (n : TextureName) → Means (IsWith by text n)
 some_parameters by text n = elim (dec_with by text n parameters.None) [
   | yes w ↦ inl (parameters.None, w)
   | no bare ↦ elim (any_named sampled_text sampled_types sampled_naming (λ s. dec_with by text n (parameters.Sampled s))) [
@@ -106,7 +106,7 @@ some_parameters by text n = elim (dec_with by text n parameters.None) [
     none bare sampled storage (parameters.Sampled s) w = sampled s w
     none bare sampled storage (parameters.Storage f m) w = storage f (m, w)
 
-a_texture_text : (by : FormatNames) (text : List ℕ) → Means (λ x. text ≡ texture_text_by by x)
+a_texture_text : (by : RuleSet) (text : List ℕ) → Means (λ x. text ≡ texture_text_by by x)
 a_texture_text by text = elim (any_named texture_name_text texture_names texture_naming (λ n. found_or_not (some_parameters by text n))) [
   | inl f ↦ inl (f.1.1.0, f.1.1.2)
   | inr none ↦ inr (λ x is. none (texture_name_of x) (parameters_of x, (x, made_again x, is)))
@@ -342,7 +342,7 @@ spelled_inside layer fits x =
     subst (λ w. Spells w (around layer x.2.1)) (spelled_around layer inner x.0 ∙ sym x.2.2) (around_is layer (in_front layer ++ (inner ++ x.0)) fits (of_frame layer inner x.0 x.1) x.2.3)
 
 -- a text that is none of these spells nothing
-refused : {text : List ℕ} {t : WgslType} → Spells text t → ((s : Scalar) → text ≢ scalar_text s) → ((s : SamplerType) → text ≢ sampler_text s) → ((by : FormatNames) (x : TextureType) → text ≢ texture_text_by by x)
+refused : {text : List ℕ} {t : WgslType} → Spells text t → ((s : Scalar) → text ≢ scalar_text s) → ((s : SamplerType) → text ≢ sampler_text s) → ((by : RuleSet) (x : TextureType) → text ≢ texture_text_by by x)
     → ((f : Option AccelerationStructureFlags) → text ≢ flagged (codes "ray_query") f) → ((f : Option AccelerationStructureFlags) → text ≢ flagged (codes "acceleration_structure") f)
     → alias_of text ≡ None → ((layer : Around) → IsInRange layer → ¬ Inside text layer) → ⊥
 refused (scalar_is s) a b c d e f g = a s refl
@@ -360,10 +360,10 @@ spells_by text layered = elim (a_name scalar_text scalars scalar_naming text) [
   | inl s ↦ inl (scalar s.0, subst (λ w. Spells w (scalar s.0)) (sym s.1) (scalar_is s.0))
   | inr a ↦ elim (a_name sampler_text samplers sampler_naming text) [
     | inl s ↦ inl (sampler s.0, subst (λ w. Spells w (sampler s.0)) (sym s.1) (sampler_is s.0))
-    | inr b ↦ elim (a_texture_text names.Wgsl text) [
-      | inl x ↦ inl (texture x.0, subst (λ w. Spells w (texture x.0)) (sym x.1) (texture_is names.Wgsl x.0))
-      | inr ours ↦ elim (a_texture_text names.Naga text) [
-        | inl x ↦ inl (texture x.0, subst (λ w. Spells w (texture x.0)) (sym x.1) (texture_is names.Naga x.0))
+    | inr b ↦ elim (a_texture_text sets.Standard text) [
+      | inl x ↦ inl (texture x.0, subst (λ w. Spells w (texture x.0)) (sym x.1) (texture_is sets.Standard x.0))
+      | inr ours ↦ elim (a_texture_text sets.Ported text) [
+        | inl x ↦ inl (texture x.0, subst (λ w. Spells w (texture x.0)) (sym x.1) (texture_is sets.Ported x.0))
         | inr theirs ↦ elim (a_flagged_text (codes "ray_query") text) [
           | inl f ↦ inl (ray_query f.0, subst (λ w. Spells w (ray_query f.0)) (sym f.1) (ray_query_is f.0))
           | inr d ↦ elim (a_flagged_text (codes "acceleration_structure") text) [
@@ -376,11 +376,11 @@ spells_by text layered = elim (a_name scalar_text scalars scalar_naming text) [
   ]
 ]
   where
-    by_names : ((x : TextureType) → text ≢ texture_text_by names.Wgsl x) → ((x : TextureType) → text ≢ texture_text_by names.Naga x) → (by : FormatNames) (x : TextureType) → text ≢ texture_text_by by x
-    by_names ours theirs names.Wgsl x = ours x
-    by_names ours theirs names.Naga x = theirs x
+    by_names : ((x : TextureType) → text ≢ texture_text_by sets.Standard x) → ((x : TextureType) → text ≢ texture_text_by sets.Ported x) → (by : RuleSet) (x : TextureType) → text ≢ texture_text_by by x
+    by_names ours theirs sets.Standard x = ours x
+    by_names ours theirs sets.Ported x = theirs x
 
-    by_alias : ((s : Scalar) → text ≢ scalar_text s) → ((s : SamplerType) → text ≢ sampler_text s) → ((by : FormatNames) (x : TextureType) → text ≢ texture_text_by by x)
+    by_alias : ((s : Scalar) → text ≢ scalar_text s) → ((s : SamplerType) → text ≢ sampler_text s) → ((by : RuleSet) (x : TextureType) → text ≢ texture_text_by by x)
         → ((f : Option AccelerationStructureFlags) → text ≢ flagged (codes "ray_query") f) → ((f : Option AccelerationStructureFlags) → text ≢ flagged (codes "acceleration_structure") f)
         → (o : Option (Around × Scalar)) → alias_of text ≡ o → Means (Spells text)
     by_alias a b c d e (Some found) is = inl (around found.0 (scalar found.1), alias_is is)

@@ -4,7 +4,7 @@ use Rattle.std.specs.Str.{bytes_eq}
 use Rattle.std.proofs.lemmas.Slice.Eq.{bytes_eq-Decides}
 use Rattle.wgsl_syntax.specs.Address.{access_modes, access_text, space_text, spaces}
 use Rattle.wgsl_syntax.specs.Names.{named, table}
-use Rattle.wgsl_syntax.specs.Texel.{IsTexel, format_names, texel_formats, texel_text, texel_text_by}
+use Rattle.wgsl_syntax.specs.Texel.{IsTexel, texel_formats, texel_text, texel_text_by}
 use Rattle.wgsl_syntax.specs.Texture.{sampled_text, sampled_types, sampler_text, samplers}
 use Rattle.wgsl_syntax.specs.TextureName.{parameter_kind, parameters_of, texture_name_text, texture_names, texture_with}
 use Rattle.wgsl_syntax.specs.declared.around.Around.{Around}
@@ -12,7 +12,6 @@ use Rattle.wgsl_syntax.specs.declared.around.Around.TheVariants as arounds
 use Rattle.wgsl_syntax.specs.declared.attribute.AccelerationStructureFlags.{AccelerationStructureFlags}
 use Rattle.wgsl_syntax.specs.declared.rules.RuleSet.{RuleSet}
 use Rattle.wgsl_syntax.specs.declared.rules.RuleSet.TheVariants.{Ported, Standard}
-use Rattle.wgsl_syntax.specs.declared.texel.FormatNames.{FormatNames}
 use Rattle.wgsl_syntax.specs.declared.texel.TexelFormat.{TexelFormat}
 use Rattle.wgsl_syntax.specs.declared.texel.TexelFormat.TheVariants as texels
 use Rattle.wgsl_syntax.specs.declared.texture.TextureType.{TextureType}
@@ -44,7 +43,7 @@ equal {a} {b} e = (bytes_eq-Decides a b).0 e
 -- Textures
 
 -- a format has naga's name, or WGSL's
-a_texel : (by : FormatNames) (word : List ℕ) → Means (IsTexel by word)
+a_texel : (by : RuleSet) (word : List ℕ) → Means (IsTexel by word)
 a_texel by word = elim (a_name texel_text texel_formats texel_naming word) [
   | inl f ↦ inl (f.0, inr f.1)
   | inr none ↦ elim (same_word word (texel_text_by by texels.Rg11b10Float)) [
@@ -65,9 +64,9 @@ some_parameters rules kinds.Sampled words = elim (a_word (IsText sampled_text) (
   | inr none ↦ inr (no_sampled rules kinds.Sampled words refl none)
 ]
 some_parameters rules kinds.Storage words =
-    let Is = IsTexel (format_names rules) in
-    elim (and_then (OneWord Is) (OneWord (IsText access_text)) (one_word Is (λ word f g a b. one_texel (format_names rules) word f g a b)) words
-    (a_word Is (a_texel (format_names rules)) words) (a_word (IsText access_text) (a_name access_text access_modes access_naming))) [
+    let Is = IsTexel rules in
+    elim (and_then (OneWord Is) (OneWord (IsText access_text)) (one_word Is (λ word f g a b. one_texel rules word f g a b)) words
+    (a_word Is (a_texel rules) words) (a_word (IsText access_text) (a_name access_text access_modes access_naming))) [
       | inl f ↦
           let first = f.2.1 in
           let second = f.2.2 in

@@ -21,7 +21,8 @@ pub fn extent_of(ty: &MeasuredType) -> Extent
     }
 }
 
-fn shape_of(kind: TypeKind) -> Shape
+/// Whether a type is an array or a struct.
+pub fn shape_of(kind: TypeKind) -> Shape
     ensures { result ≡ shape_of kind }
 {
     match kind {

@@ -33,6 +33,8 @@ pub enum Trouble {
     Stride { stride: u32 },
     Bool,
     Atomic,
+    /// An array in an address space where none stands.
+    Array,
     RuntimeSized,
     /// A sampler or a texture with an address space.
     NoData,
@@ -53,6 +55,7 @@ impl Trouble {
             Trouble::Stride { .. } => "has elements with the stride ",
             Trouble::Bool => "holds `bool`",
             Trouble::Atomic => "holds an atomic",
+            Trouble::Array => "holds an array",
             Trouble::RuntimeSized => "is runtime-sized",
             Trouble::NoData => "is no data",
             Trouble::NoHandle => "is neither a sampler nor a texture",
@@ -71,6 +74,7 @@ impl Trouble {
             Trouble::Stride { .. } => "these lie a multiple of ",
             Trouble::Bool => "it needs `u32`",
             Trouble::Atomic => "none may stand: use `workgroup`, or `storage` with `read_write`",
+            Trouble::Array => "none may stand: use vectors, matrices or members",
             Trouble::RuntimeSized => "it needs a number of elements, or use `storage`",
             Trouble::NoData => "it can't stand: a sampler or a texture has no address space",
             Trouble::NoHandle => "it can't stand: use `var<uniform>` or `var<storage>`",

@@ -13,6 +13,7 @@ use wgsl_source::measured::MeasuredType;
 use wgsl_source::structure::{Member, Struct};
 use wgsl_source::variable::Variable;
 use wgsl_syntax::address::AddressSpace;
+use wgsl_syntax::rules::RuleSet;
 
 /// Writes the chosen structs and all else of a module, on one line.
 pub fn write_json(output: &mut String, source: Source) -> Result<(), AllocError> {
@@ -145,7 +146,7 @@ fn write_variable(
         Piece::Field("group", variable.group),
         Piece::Field("binding", variable.binding),
         Piece::Text(",\"space\":\""),
-        Piece::Text(space_name(variable.space)),
+        Piece::Text(variable.space.name_by(RuleSet::Standard)),
     ];
     write_all(output, &bound)?;
     let access = variable.access;
@@ -168,18 +169,6 @@ fn write_resource(
     match variable.space {
         AddressSpace::Handle => write_tree(output, source.module, variable.ty),
         space => write_buffer(output, space, variable.access),
-    }
-}
-
-fn space_name(space: AddressSpace) -> &'static str {
-    match space {
-        AddressSpace::Function => "function",
-        AddressSpace::Private => "private",
-        AddressSpace::Workgroup => "workgroup",
-        AddressSpace::Uniform => "uniform",
-        AddressSpace::Storage => "storage",
-        AddressSpace::Handle => "handle",
-        AddressSpace::PushConstant => "immediate",
     }
 }
 

@@ -3,7 +3,7 @@
 use crate::write::{Piece, write_all};
 use std::alloc::AllocError;
 use wgsl_syntax::address::{AccessMode, AddressSpace};
-use wgsl_syntax::texel::FormatNames;
+use wgsl_syntax::rules::RuleSet;
 use wgsl_syntax::texture::{SampledType, SamplerType, TextureDimensions, TextureType};
 use wgsl_syntax::texture_name::TextureParameters;
 
@@ -39,7 +39,7 @@ pub fn write_texture(output: &mut String, texture: TextureType) -> Result<(), Al
         (TextureType::External, _) => output.push_str("{\"kind\":\"externalTexture\"}"),
         (_, TextureParameters::Storage(format, access)) => {
             output.push_str("{\"kind\":\"storageTexture\",\"format\":\"")?;
-            output.push_str(format.name_by(FormatNames::Wgsl))?;
+            output.push_str(format.name_by(RuleSet::Standard))?;
             output.push_str("\",\"access\":\"")?;
             output.push_str(access_name(access))?;
             write_dimension(output, texture)?;

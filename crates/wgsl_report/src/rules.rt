@@ -4,11 +4,11 @@ ghost use Rattle.wgsl_report.specs.spaces.Spaces.{IsAlignAttribute};
 ghost use Rattle.wgsl_report.specs.Extent.{extent_of};
 
 use crate::extent::{
-    content_of, extent_of, innermost, is_runtime_sized, position_of, stride_too_close,
+    content_of, extent_of, innermost, is_runtime_sized, position_of, shape_of, stride_too_close,
 };
 use crate::finding::{Finding, Trouble};
 use crate::place::Place;
-use crate::spaces::content::{Content, may_be_innermost};
+use crate::spaces::content::{Content, may_be_innermost, may_hold};
 use crate::spaces::layout::{
     Position, Rule, broken_rule, is_align_attribute, is_lifted, required_align, up_to_16,
 };
@@ -203,7 +203,7 @@ impl<'a> Checker<'a> {
         }
     }
 
-    /// Checks the strides of arrays, and the innermost type.
+    /// Checks whether an array may stand there, the strides of arrays, and the innermost type.
     fn check_content(
         &mut self,
         subject: Subject<'a>,
@@ -211,6 +211,9 @@ impl<'a> Checker<'a> {
         ty: &MeasuredType,
     ) -> Result<(), AllocError> {
         let elements = &self.module.elements;
+        if !may_hold(place.space(), shape_of(ty.kind)) {
+            self.find(subject, Trouble::Array)?;
+        }
         if let Some(stride) = stride_too_close(self.rules(place), elements, ty) {
             let trouble = Trouble::Stride { stride };
             self.findings.push(subject.finding(trouble, true))?;

@@ -5,7 +5,7 @@ use std::alloc::{AllocError, Global};
 use wgsl_source::measured::{Count, MeasuredType, TypeKind};
 use wgsl_source::module::Module;
 use wgsl_syntax::attribute::AccelerationStructureFlags;
-use wgsl_syntax::texel::FormatNames;
+use wgsl_syntax::rules::RuleSet;
 use wgsl_syntax::texture::ShownTexture;
 
 /// The spelling of a type.
@@ -31,7 +31,10 @@ pub fn type_text(alloc: Global, module: &Module, ty: MeasuredType) -> Result<Str
 fn write_start(text: &mut String, kind: TypeKind) -> Result<(), AllocError> {
     match kind {
         TypeKind::BindingArray(_, _) => text.push_str("binding_array<"),
-        TypeKind::Pointer(space, _, _) => write!(text, "ptr<{space}, "),
+        TypeKind::Pointer(space, _, _) => {
+            let space = space.name_by(RuleSet::Standard);
+            write!(text, "ptr<{space}, ")
+        }
         _ => text.push_str("array<"),
     }
 }
@@ -64,7 +67,7 @@ fn write_leaf(text: &mut String, module: &Module, kind: TypeKind) -> Result<(), 
         TypeKind::Texture(texture) => {
             let shown = ShownTexture {
                 texture,
-                names: FormatNames::Wgsl,
+                rules: RuleSet::Standard,
             };
             write!(text, "{shown}")
         }

@@ -2,7 +2,7 @@
 use Rattle.std.specs.Prelude.{◌≡◌, ℕ, List, Option, Some, None, Result}
 use Rattle.wgsl_syntax.specs.declared.operator.BinaryOperator.{BinaryOperator}
 use Rattle.wgsl_syntax.specs.declared.operator.UnaryOperator.{UnaryOperator}
-use Rattle.wgsl_syntax.specs.declared.texel.FormatNames.{FormatNames}
+use Rattle.wgsl_syntax.specs.declared.rules.RuleSet.{RuleSet}
 use Rattle.wgsl_rules.specs.types.Types.{WgslType, Members}
 use Rattle.wgsl_rules.specs.types.Signatures.{Signature}
 use Rattle.wgsl_rules.specs.errors.Refusals.{Refusal}
@@ -34,7 +34,7 @@ pub record WgslLayout : Type 0 where
 pub data WgslAnswer : Type 0 where
   a_number : Option ℕ → WgslAnswer
   a_size : Option ℕ → Option ℕ → WgslAnswer
-  a_common_type : FormatNames → Option WgslType → WgslAnswer
+  a_common_type : RuleSet → Option WgslType → WgslAnswer
   a_type : Result WgslType Refusal → WgslAnswer
   a_value : Result (Option WgslType) Refusal → WgslAnswer
   some_offsets : Option (List ℕ) → WgslAnswer
@@ -68,8 +68,8 @@ IsLayoutOf ms None = HasNoSize ms
 pub data Answers : WgslRequest → WgslAnswer → Type 0 where
   rank_is : {t u : WgslType} (w : Option ℕ) → IsExactly w (Converts t u) →
       Answers (rank t u) (a_number w)
-  common_is : {names : FormatNames} {ts : List WgslType} (c : Option WgslType) → IsReceivedCommon ts c →
-      Answers (common names ts) (a_common_type names c)
+  common_is : {rules : RuleSet} {ts : List WgslType} (c : Option WgslType) → IsReceivedCommon ts c →
+      Answers (common rules ts) (a_common_type rules c)
   unary_is : {o : UnaryOperator} {t : WgslType} (r : Result WgslType Refusal) →
       IsUnaryAnswer o t r → Answers (unary o t) (a_type r)
   binary_is : {o : BinaryOperator} {t u : WgslType} (r : Result WgslType Refusal) →

@@ -2,7 +2,7 @@
 use Rattle.std.specs.Prelude.{ℕ, List}
 use Rattle.wgsl_syntax.specs.declared.operator.BinaryOperator.{BinaryOperator}
 use Rattle.wgsl_syntax.specs.declared.operator.UnaryOperator.{UnaryOperator}
-use Rattle.wgsl_syntax.specs.declared.texel.FormatNames.{FormatNames}
+use Rattle.wgsl_syntax.specs.declared.rules.RuleSet.{RuleSet}
 use Rattle.wgsl_rules.specs.types.Types.{WgslType, Members}
 use Rattle.wgsl_rules.specs.types.Signatures.{Signature}
 use Rattle.wgsl_rules.specs.standard.Choice.{Operand}
@@ -13,8 +13,8 @@ use Rattle.wgsl_requests.specs.Forms.{WgslForm}
 pub data WgslRequest : Type 0 where
   -- the rank of a conversion
   rank : WgslType → WgslType → WgslRequest
-  -- the common type of a list, if each of its types converts to it; texel formats have these names in the answer
-  common : FormatNames → List WgslType → WgslRequest
+  -- the common type of a list, if each of its types converts to it; the answer has the names of these rules
+  common : RuleSet → List WgslType → WgslRequest
   -- the type of an expression with a unary or a binary operator
   unary : UnaryOperator → WgslType → WgslRequest
   binary : BinaryOperator → WgslType → WgslType → WgslRequest

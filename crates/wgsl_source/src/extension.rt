@@ -9,7 +9,12 @@ pub fn enabled(extensions: &mut Extensions, name: &str) -> bool {
             extensions.half = true;
             true
         }
-        "clip_distances" | "dual_source_blending" | "primitive_index" | "subgroups" => true,
+        "atomic_vec2u_min_max"
+        | "clip_distances"
+        | "dual_source_blending"
+        | "primitive_index"
+        | "subgroup_size_control"
+        | "subgroups" => true,
         _ if name.starts_with("wgpu_") => {
             extensions.naga = true;
             extensions.foreign = true;
@@ -30,7 +35,8 @@ pub fn required(extensions: &mut Extensions, name: &str) -> bool {
             extensions.standard_uniform = true;
             true
         }
-        "fragment_depth"
+        "buffer_view"
+        | "fragment_depth"
         | "immediate_address_space"
         | "linear_indexing"
         | "packed_4x8_integer_dot_product"

@@ -1,4 +1,6 @@
 // Types that contain no other type, and the names in template lists.
+ghost use Rattle.std.specs.Prelude.{◌≡◌, ◌⊎◌, IfOk, true};
+ghost use Rattle.wgsl_syntax.specs.Address.{default_access, may_say};
 ghost use Rattle.wgsl_source.specs.Cursor.{GoesOn};
 
 use crate::cursor::Cursor;
@@ -11,7 +13,8 @@ use std::str::FromStr;
 use wgsl_syntax::address::{AccessMode, AddressSpace};
 use wgsl_syntax::attribute::AccelerationStructureFlags;
 use wgsl_syntax::scalar::Scalar;
-use wgsl_syntax::texel::{FormatNames, TexelFormat};
+use wgsl_syntax::rules::RuleSet;
+use wgsl_syntax::texel::TexelFormat;
 use wgsl_syntax::texture::{SampledType, TextureType};
 use wgsl_syntax::texture_name::{TextureName, TextureParameterKind, TextureParameters};
 
@@ -112,7 +115,7 @@ impl<'t> Scope<'t> {
         cursor.expect(b'<')?;
         let at = cursor.index();
         let word = self.take_enumerant(cursor, Expected::TexelFormat)?;
-        let format = TexelFormat::named_by(FormatNames::Wgsl, word);
+        let format = TexelFormat::named_by(RuleSet::Standard, word);
         cursor.expect(b',')?;
         let access = self.read_access(cursor)?;
         cursor.take(b',');
@@ -120,6 +123,29 @@ impl<'t> Scope<'t> {
         match format {
             Some(format) => Ok(TextureParameters::Storage(format, access)),
             None => Err(Stop::at(at, Cause::Expected(Expected::TexelFormat))),
+        }
+    }
+
+    /// Reads the access mode behind the address space of a variable, or behind the type of a pointer. If none is said, it is
+    /// that of the address space.
+    pub fn read_memory_access(
+        &self,
+        cursor: &mut Cursor<'t>,
+        space: AddressSpace,
+    ) -> Result<AccessMode, Stop>
+        ensures goes_on { GoesOn cursor.old cursor.new }
+        ensures may_be_said { IfOk result (λ access. (access ≡ default_access space)
+            ⊎ (may_say space access ≡ true)) }
+    {
+        if !cursor.take(b',') || cursor.is_at(b'>') {
+            return Ok(space.default_access_mode());
+        }
+        let at = cursor.index();
+        let access = self.read_access(cursor)?;
+        if space.may_say(access) {
+            Ok(access)
+        } else {
+            Err(Stop::at(at, Cause::NoAccess))
         }
     }
 
@@ -174,11 +200,11 @@ impl<'t> Scope<'t> {
     }
 }
 
-/// The address space with this name, or with naga's older one.
+/// The address space with this name, or with naga's. A module has no name for that of textures and samplers.
 pub fn space_named(name: &str) -> Option<AddressSpace> {
-    match name {
-        "immediate" => Some(AddressSpace::PushConstant),
-        _ => AddressSpace::from_str(name).ok(),
+    match AddressSpace::named_by(RuleSet::Standard, name) {
+        Some(AddressSpace::Handle) => None,
+        space => space,
     }
 }
 

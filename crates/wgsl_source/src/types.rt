@@ -159,10 +159,7 @@ impl<'t> Scope<'t> {
     ) -> Result<Result<MeasuredType, Cause>, Stop>
         ensures goes_on { GoesOn cursor.old cursor.new }
     {
-        let mut access = space.default_access_mode();
-        if cursor.take(b',') && !cursor.is_at(b'>') {
-            access = self.read_access(cursor)?;
-        }
+        let access = self.read_memory_access(cursor, space)?;
         let index = types.keep(inside)?;
         Ok(Ok(inside.around(TypeKind::Pointer(space, index, access), None, None)))
     }

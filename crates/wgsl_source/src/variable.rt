@@ -117,15 +117,8 @@ impl<'t> Scope<'t> {
         if space == AddressSpace::Function {
             return Err(Stop::at(at, Cause::Expected(Expected::AddressSpace)));
         }
-        let mut access = space.default_access_mode();
-        if cursor.take(b',') && !cursor.is_at(b'>') {
-            let at = cursor.index();
-            access = self.read_access(cursor)?;
-            if space != AddressSpace::Storage || !is_buffer_access(access) {
-                return Err(Stop::at(at, Cause::NoAccess));
-            }
-            cursor.take(b',');
-        }
+        let access = self.read_memory_access(cursor, space)?;
+        cursor.take(b',');
         cursor.expect(b'>')?;
         Ok((space, access))
     }
@@ -141,9 +134,4 @@ fn variable_of<'t>(variable: UntypedVariable<'t>, ty: MeasuredType) -> Variable<
         access: variable.access,
         ty,
     }
-}
-
-/// Whether a variable of `storage` may have this access mode.
-fn is_buffer_access(access: AccessMode) -> bool {
-    matches!(access, AccessMode::Read | AccessMode::ReadWrite)
 }

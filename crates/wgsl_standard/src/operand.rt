@@ -13,7 +13,7 @@ use wgsl_core::ty::show::write_type;
 use wgsl_syntax::address::AccessMode;
 use wgsl_syntax::overload::Dimensions;
 use wgsl_syntax::scalar::Scalar;
-use wgsl_syntax::texel::FormatNames;
+use wgsl_syntax::rules::RuleSet;
 
 /// An operand of an operator, or an argument of a function.
 #[derive(Clone, Copy)]
@@ -70,7 +70,7 @@ impl fmt::Display for OperandType<'_> {
 
     fn fmt<W: Write>(&self, f: &mut fmt::Formatter<W>) -> fmt::Result {
         match self {
-            OperandType::Any(ty) => write_type(f, FormatNames::Wgsl, ty),
+            OperandType::Any(ty) => write_type(f, RuleSet::Standard, ty),
             OperandType::Value(Dimensions::Single, scalar) => write!(f, "{scalar}"),
             OperandType::Value(Dimensions::Vector(n), scalar) => write!(f, "vec{n}<{scalar}>"),
             OperandType::Value(Dimensions::Matrix(c, r), scalar) => {

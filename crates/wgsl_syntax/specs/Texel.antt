@@ -2,11 +2,9 @@
 use Rattle.std.specs.Prelude.{◌≡◌, ◌⊎◌, ℕ, List, [], ◌∷◌, Bool, codes, if◌then◌else◌, nat_eq}
 use Rattle.std.specs.List.{ends_with, starts_with}
 use Rattle.wgsl_syntax.specs.declared.rules.RuleSet.{RuleSet}
-use Rattle.wgsl_syntax.specs.declared.rules.RuleSet.TheVariants.{Ported, Standard}
+use Rattle.wgsl_syntax.specs.declared.rules.RuleSet.TheVariants.{Standard}
 use Rattle.wgsl_syntax.specs.declared.texture.SampledType.{SampledType}
 use Rattle.wgsl_syntax.specs.declared.texture.SampledType.TheVariants.{I32, U32, F32}
-use Rattle.wgsl_syntax.specs.declared.texel.FormatNames.{FormatNames}
-use Rattle.wgsl_syntax.specs.declared.texel.FormatNames.TheVariants.{Naga, Wgsl}
 use Rattle.wgsl_syntax.specs.declared.texel.TexelFormat.{TexelFormat}
 use Rattle.wgsl_syntax.specs.declared.texel.TexelFormat.TheVariants.{Rgba8Unorm, Rgba8Snorm, Rgba8Uint, Rgba8Sint, R8Unorm, R8Snorm, R8Uint, R8Sint, Rg8Unorm, Rg8Snorm, Rg8Uint, Rg8Sint, Rgba16Unorm, Rgba16Snorm, Rgba16Uint, Rgba16Sint, Rgba16Float, R16Unorm, R16Snorm, R16Uint, R16Sint, R16Float, Rg16Unorm, Rg16Snorm, Rg16Uint, Rg16Sint, Rg16Float, R32Uint, R32Sint, R32Float, Rg32Uint, Rg32Sint, Rg32Float, Rgba32Uint, Rgba32Sint, Rgba32Float, Bgra8Unorm, Rgb10a2Uint, Rgb10a2Unorm, Rg11b10Float, R64Uint}
 
@@ -56,19 +54,14 @@ texel_text Rgb10a2Unorm = codes "rgb10a2unorm"
 texel_text Rg11b10Float = codes "rg11b10float"
 texel_text R64Uint = codes "r64uint"
 
--- whose names texel formats have
-abbrev pub format_names : RuleSet → FormatNames
-format_names Ported = Naga
-format_names Standard = Wgsl
+-- the format's name by these rules: WGSL calls `rg11b10ufloat` what naga calls `rg11b10float`
+abbrev pub texel_text_by : RuleSet → TexelFormat → List ℕ
+texel_text_by Standard Rg11b10Float = codes "rg11b10ufloat"
+texel_text_by rules format = texel_text format
 
--- the format's name among these: WGSL calls `rg11b10ufloat` what naga calls `rg11b10float`
-abbrev pub texel_text_by : FormatNames → TexelFormat → List ℕ
-texel_text_by Wgsl Rg11b10Float = codes "rg11b10ufloat"
-texel_text_by names format = texel_text format
-
--- the word is the format's name among these, or naga's
-abbrev pub IsTexel : FormatNames → List ℕ → TexelFormat → Type 0
-IsTexel names word format = (word ≡ texel_text_by names format) ⊎ (word ≡ texel_text format)
+-- the word is the format's name by these rules, or naga's
+abbrev pub IsTexel : RuleSet → List ℕ → TexelFormat → Type 0
+IsTexel rules word format = (word ≡ texel_text_by rules format) ⊎ (word ≡ texel_text format)
 
 -- names of unsigned formats end in `uint`, of signed formats in `sint`; all others are read as floats
 abbrev pub channel_type : TexelFormat → SampledType

@@ -3,8 +3,8 @@ use Rattle.std.specs.Prelude.{ℕ, List, [], ◌∷◌, ◌++◌, codes}
 use Rattle.wgsl_syntax.specs.Address.{access_text}
 use Rattle.wgsl_syntax.specs.Texel.{texel_text_by}
 use Rattle.wgsl_syntax.specs.TextureName.{name_of, parameters_of, texture_name_text}
-use Rattle.wgsl_syntax.specs.declared.texel.FormatNames.{FormatNames}
-use Rattle.wgsl_syntax.specs.declared.texel.FormatNames.TheVariants.{Naga}
+use Rattle.wgsl_syntax.specs.declared.rules.RuleSet.{RuleSet}
+use Rattle.wgsl_syntax.specs.declared.rules.RuleSet.TheVariants.{Ported}
 use Rattle.wgsl_syntax.specs.declared.texture.SampledType.{SampledType}
 use Rattle.wgsl_syntax.specs.declared.texture.SampledType.TheVariants.{I32, U32, F32}
 use Rattle.wgsl_syntax.specs.declared.texture.SamplerType.{SamplerType}
@@ -33,16 +33,16 @@ abbrev pub texture_name : TextureType → List ℕ
 texture_name t = texture_name_text (name_of t)
 
 -- the parameters of a template, between angle brackets, if there are any
-abbrev parameters_text : FormatNames → TextureParameters → List ℕ
-parameters_text names None = []
-parameters_text names (Sampled sampled) = codes "<" ++ sampled_text sampled ++ codes ">"
-parameters_text names (Storage format access) =
-    codes "<" ++ texel_text_by names format ++ codes ", " ++ access_text access ++ codes ">"
+abbrev parameters_text : RuleSet → TextureParameters → List ℕ
+parameters_text rules None = []
+parameters_text rules (Sampled sampled) = codes "<" ++ sampled_text sampled ++ codes ">"
+parameters_text rules (Storage format access) =
+    codes "<" ++ texel_text_by rules format ++ codes ", " ++ access_text access ++ codes ">"
 
 -- `texture_2d<f32>`, `texture_storage_2d<rgba8unorm, write>`, `texture_depth_2d`
-abbrev pub texture_text_by : FormatNames → TextureType → List ℕ
-texture_text_by names t = texture_name t ++ parameters_text names (parameters_of t)
+abbrev pub texture_text_by : RuleSet → TextureType → List ℕ
+texture_text_by rules t = texture_name t ++ parameters_text rules (parameters_of t)
 
 -- by naga's names of texel formats
 abbrev pub texture_text : TextureType → List ℕ
-texture_text t = texture_text_by Naga t
+texture_text t = texture_text_by Ported t

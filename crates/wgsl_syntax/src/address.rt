@@ -1,14 +1,15 @@
 // Address spaces and access modes.
-ghost use Rattle.std.specs.Prelude.{◌≡◌, ◌↔◌, IsTrue};
+ghost use Rattle.std.specs.Prelude.{◌≡◌, ◌↔◌, IsTrue, MatchOption};
 ghost use Rattle.wgsl_syntax.specs.Names.{named, table, Reads, ReadsBut};
-ghost use Rattle.wgsl_syntax.specs.Address.{access_modes, access_text, default_access, space_text, spaces, written_spaces, MayRead, MayWrite};
+ghost use Rattle.wgsl_syntax.specs.Address.{access_modes, access_text, default_access, may_say as said_there, space_text, space_text_by, spaces, written_spaces, IsSpace, MayRead, MayWrite};
 ghost use Rattle.wgsl_syntax.specs.declared.address.AddressSpace.TheVariants.{Handle};
 
+use crate::rules::RuleSet;
 use std::fmt;
 use std::fmt::Write;
 use std::str::FromStr;
 
-/// An address space (WGSL, "Address Spaces"), including `handle` and naga's `push_constant`.
+/// An address space (WGSL, "Address Spaces"), including `handle`.
 #[derive(Clone, Copy, PartialEq, Eq, Hash, Debug)]
 pub enum AddressSpace {
     /// `function`
@@ -23,7 +24,7 @@ pub enum AddressSpace {
     Storage,
     /// `handle`
     Handle,
-    /// `push_constant`
+    /// WGSL's `immediate`, naga's `push_constant`
     PushConstant,
 }
 
@@ -40,7 +41,42 @@ impl AddressSpace {
         }
     }
 
-    /// The name.
+    /// Whether a variable or a pointer type may say this access mode (WGSL, "Variable Declarations").
+    pub fn may_say(self, access: AccessMode) -> bool
+        ensures { result ≡ said_there self access }
+    {
+        match self {
+            AddressSpace::Storage => matches!(access, AccessMode::Read | AccessMode::ReadWrite),
+            _ => false,
+        }
+    }
+
+    /// The name by these rules.
+    pub fn name_by(self, rules: RuleSet) -> &'static str
+        ensures { result.now ≡ space_text_by rules self }
+    {
+        match (rules, self) {
+            (RuleSet::Standard, AddressSpace::PushConstant) => "immediate",
+            _ => self.text(),
+        }
+    }
+
+    /// The address space that has this name by these rules, or that naga calls so.
+    pub fn named_by(rules: RuleSet, word: &str) -> Option<AddressSpace>
+        ensures { MatchOption result ((s : AddressSpace) → ¬ IsSpace rules word.now s)
+            (λ s. IsSpace rules word.now s) }
+    {
+        match word {
+            "immediate" => match rules {
+                RuleSet::Standard => Some(AddressSpace::PushConstant),
+                RuleSet::Ported => None,
+            },
+            "handle" => Some(AddressSpace::Handle),
+            _ => space_named(word),
+        }
+    }
+
+    /// naga's name.
     fn text(self) -> &'static str
         ensures { result.now ≡ space_text self }
     {

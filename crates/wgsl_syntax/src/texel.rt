@@ -3,19 +3,11 @@ ghost use Rattle.std.specs.Prelude.{◌≡◌, MatchOption};
 ghost use Rattle.wgsl_syntax.specs.Names.{named, table, Reads};
 ghost use Rattle.wgsl_syntax.specs.Texel.{IsTexel, channel_count, channel_type, texel_formats, texel_text, texel_text_by};
 
+use crate::rules::RuleSet;
 use crate::texture::SampledType;
 use std::fmt;
 use std::fmt::Write;
 use std::str::FromStr;
-
-/// Whose names texel formats have.
-#[derive(Clone, Copy, PartialEq, Eq)]
-pub enum FormatNames {
-    /// naga's: `rg11b10float`
-    Naga,
-    /// WGSL's own: `rg11b10ufloat`
-    Wgsl,
-}
 
 /// A texel format (WGSL, "Texel Formats"), including naga's.
 #[derive(Clone, Copy, PartialEq, Eq, Hash, Debug)]
@@ -203,25 +195,25 @@ impl TexelFormat {
         }
     }
 
-    /// The name among these.
-    pub fn name_by(self, names: FormatNames) -> &'static str
-        ensures { result.now ≡ texel_text_by names self }
+    /// The name by these rules.
+    pub fn name_by(self, rules: RuleSet) -> &'static str
+        ensures { result.now ≡ texel_text_by rules self }
     {
-        match (names, self) {
-            (FormatNames::Wgsl, TexelFormat::Rg11b10Float) => "rg11b10ufloat",
+        match (rules, self) {
+            (RuleSet::Standard, TexelFormat::Rg11b10Float) => "rg11b10ufloat",
             _ => self.text(),
         }
     }
 
-    /// The format that has this name among these, or that naga calls so.
-    pub fn named_by(names: FormatNames, word: &str) -> Option<TexelFormat>
-        ensures { MatchOption result ((format : TexelFormat) → ¬ IsTexel names word.now format)
-            (λ format. IsTexel names word.now format) }
+    /// The format that has this name by these rules, or that naga calls so.
+    pub fn named_by(rules: RuleSet, word: &str) -> Option<TexelFormat>
+        ensures { MatchOption result ((format : TexelFormat) → ¬ IsTexel rules word.now format)
+            (λ format. IsTexel rules word.now format) }
     {
         match word {
-            "rg11b10ufloat" => match names {
-                FormatNames::Wgsl => Some(TexelFormat::Rg11b10Float),
-                FormatNames::Naga => None,
+            "rg11b10ufloat" => match rules {
+                RuleSet::Standard => Some(TexelFormat::Rg11b10Float),
+                RuleSet::Ported => None,
             },
             _ => texel_named(word),
         }

@@ -6,7 +6,8 @@ ghost use Rattle.wgsl_syntax.specs.Texture.{sampled_text, sampled_types, sampler
 ghost use Rattle.wgsl_syntax.specs.TextureName.{name_of, parameters_of};
 
 use crate::address::AccessMode;
-use crate::texel::{FormatNames, TexelFormat};
+use crate::rules::RuleSet;
+use crate::texel::TexelFormat;
 use crate::texture_name::{TextureName, TextureParameters};
 use std::fmt;
 use std::fmt::Write;
@@ -325,23 +326,23 @@ impl fmt::Display for TextureType {
     fn fmt<W: Write>(&self, f: &mut fmt::Formatter<W>) -> fmt::Result {
         let shown = ShownTexture {
             texture: *self,
-            names: FormatNames::Naga,
+            rules: RuleSet::Ported,
         };
         write!(f, "{shown}")
     }
 }
 
-/// A texture as it is printed by these names of texel formats.
+/// A texture as it is printed by these rules.
 #[derive(Clone, Copy)]
 pub struct ShownTexture {
     pub texture: TextureType,
-    pub names: FormatNames,
+    pub rules: RuleSet,
 }
 
 impl fmt::Display for ShownTexture {
     ghost use Rattle.std.specs.Prelude.{Some};
 
-    ghost output = { λ x. Some (texture_text_by x.names x.texture) };
+    ghost output = { λ x. Some (texture_text_by x.rules x.texture) };
 
     fn fmt<W: Write>(&self, f: &mut fmt::Formatter<W>) -> fmt::Result {
         let name = self.texture.name();
@@ -349,7 +350,7 @@ impl fmt::Display for ShownTexture {
             TextureParameters::None => write!(f, "{name}"),
             TextureParameters::Sampled(sampled) => write!(f, "{name}<{sampled}>"),
             TextureParameters::Storage(format, access) => {
-                let format = format.name_by(self.names);
+                let format = format.name_by(self.rules);
                 write!(f, "{name}<{format}, {access}>")
             }
         }

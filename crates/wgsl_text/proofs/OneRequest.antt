@@ -2,7 +2,6 @@
 use Rattle.std.specs.Prelude.{true}
 use Rattle.std.proofs.Common.{◌≡◌, inl, inr, codes, ℕ, List, [], ◌∷◌, Option, sym, ap, subst, ◌∙◌}
 use Rattle.wgsl_syntax.specs.Operator.{binary_text, unary_text}
-use Rattle.wgsl_syntax.specs.Texel.{format_names}
 use Rattle.wgsl_syntax.specs.declared.rules.RuleSet.{RuleSet}
 use Rattle.wgsl_syntax.specs.declared.rules.RuleSet.TheVariants.{Ported, Standard}
 use Rattle.wgsl_syntax.proofs.Naming.{binary_naming, unary_naming}
@@ -38,7 +37,7 @@ one_rank rules words r s f g =
     f.3 ∙ (ap (λ t. rank t f.1) same.0 ∙ (ap (rank g.0) same.1 ∙ sym g.3))
 
 one_common : (rules : RuleSet) → OneForm (CommonForm rules)
-one_common rules words r s f g = f.2 ∙ (ap (common (format_names rules)) (one_list f.1 g.0 g.1) ∙ sym g.2)
+one_common rules words r s f g = f.2 ∙ (ap (common rules) (one_list f.1 g.0 g.1) ∙ sym g.2)
 
 one_unary : OneForm UnaryForm
 one_unary words r s f g =

@@ -6,7 +6,6 @@ use Rattle.std.specs.Str.{bytes_eq}
 use Rattle.std.proofs.lemmas.Slice.Eq.{bytes_eq-Decides}
 use Rattle.wgsl_syntax.specs.Names.{named, table}
 use Rattle.wgsl_syntax.specs.Operator.{binary_text, unary_text}
-use Rattle.wgsl_syntax.specs.Texel.{format_names}
 use Rattle.wgsl_syntax.specs.declared.operator.BinaryOperator.{BinaryOperator}
 use Rattle.wgsl_syntax.specs.declared.operator.UnaryOperator.{UnaryOperator}
 use Rattle.wgsl_syntax.specs.declared.rules.RuleSet.{RuleSet}
@@ -35,7 +34,7 @@ abbrev pub RankForm : RuleSet → List (List ℕ) → Request → Type 0
 RankForm rules words request = (t : WgslType) × (u : WgslType) × TypesAt rules words (t ∷ u ∷ []) × (request ≡ rank t u)
 
 abbrev pub CommonForm : RuleSet → List (List ℕ) → Request → Type 0
-CommonForm rules words request = (ts : List WgslType) × TypesAt rules words ts × (request ≡ common (format_names rules) ts)
+CommonForm rules words request = (ts : List WgslType) × TypesAt rules words ts × (request ≡ common rules ts)
 
 abbrev pub UnaryForm : List (List ℕ) → Request → Type 0
 UnaryForm words request = (o : UnaryOperator) × (t : WgslType) × (after : List (List ℕ)) × (words ≡ unary_text o ∷ after) × TypeAt Ported after t [] × (request ≡ unary o t)
@@ -152,7 +151,7 @@ layout_both Standard words request = ((λ f. f), (λ f. f))
 
 pub request_form : {rules : RuleSet} {words : List (List ℕ)} {request : Request} → IsRequest rules words request → RequestForm rules words request
 request_form (rank_words {rules} {words} {t} {u} d) = (rank_both rules words (rank t u)).1 (t, u, d, refl)
-request_form (common_words {rules} {words} {ts} d) = (common_both rules words (common (format_names rules) ts)).1 (ts, d, refl)
+request_form (common_words {rules} {words} {ts} d) = (common_both rules words (common rules ts)).1 (ts, d, refl)
 request_form (size_words {rules} {words} {t} d) = (size_both rules words (size (laid_out rules t))).1 (t, d, refl)
 request_form (offsets_words {rules} {words} {name} {ms} d) = (offsets_both rules words (offsets_by rules name ms)).1 (name, ms, d, refl)
 request_form (layout_words {rules} {words} {name} {ms} d) = (layout_both rules words (layout_by rules name ms)).1 (name, ms, d, refl)

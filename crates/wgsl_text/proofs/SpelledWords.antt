@@ -21,8 +21,8 @@ use Rattle.wgsl_syntax.specs.declared.attribute.AccelerationStructureFlags.TheVa
 use Rattle.wgsl_syntax.specs.declared.rules.RuleSet.TheVariants.{Standard}
 use Rattle.wgsl_syntax.specs.declared.scalar.Scalar.{Scalar}
 use Rattle.wgsl_syntax.specs.declared.scalar.Scalar.TheVariants as scalars
-use Rattle.wgsl_syntax.specs.declared.texel.FormatNames.{FormatNames}
-use Rattle.wgsl_syntax.specs.declared.texel.FormatNames.TheVariants as names
+use Rattle.wgsl_syntax.specs.declared.rules.RuleSet.{RuleSet}
+use Rattle.wgsl_syntax.specs.declared.rules.RuleSet.TheVariants as sets
 use Rattle.wgsl_syntax.specs.declared.texel.TexelFormat.{TexelFormat}
 use Rattle.wgsl_syntax.specs.declared.texel.TexelFormat.TheVariants as texels
 use Rattle.wgsl_syntax.specs.declared.texture.SampledType.{SampledType}
@@ -138,11 +138,11 @@ clean_sampled : (s : SampledType) → unclean (sampled_text s) ≡ false
 clean_sampled sampleds.F32 = refl
 clean_sampled _ = refl
 
-clean_texel : (by : FormatNames) (f : TexelFormat) → unclean (texel_text_by by f) ≡ false
-clean_texel names.Wgsl texels.Rg11b10Float = refl
-clean_texel names.Wgsl _ = refl
-clean_texel names.Naga texels.Rg11b10Float = refl
-clean_texel names.Naga _ = refl
+clean_texel : (by : RuleSet) (f : TexelFormat) → unclean (texel_text_by by f) ≡ false
+clean_texel sets.Standard texels.Rg11b10Float = refl
+clean_texel sets.Standard _ = refl
+clean_texel sets.Ported texels.Rg11b10Float = refl
+clean_texel sets.Ported _ = refl
 
 clean_texture : (x : TextureType) → unclean (texture_name x) ≡ false
 clean_texture textures.External = refl
@@ -171,11 +171,11 @@ some_bytes_sampled : (s : SampledType) → 0 < length (sampled_text s)
 some_bytes_sampled sampleds.F32 = omega arith
 some_bytes_sampled _ = omega arith
 
-some_bytes_texel : (by : FormatNames) (f : TexelFormat) → 0 < length (texel_text_by by f)
-some_bytes_texel names.Wgsl texels.Rg11b10Float = omega arith
-some_bytes_texel names.Wgsl _ = omega arith
-some_bytes_texel names.Naga texels.Rg11b10Float = omega arith
-some_bytes_texel names.Naga _ = omega arith
+some_bytes_texel : (by : RuleSet) (f : TexelFormat) → 0 < length (texel_text_by by f)
+some_bytes_texel sets.Standard texels.Rg11b10Float = omega arith
+some_bytes_texel sets.Standard _ = omega arith
+some_bytes_texel sets.Ported texels.Rg11b10Float = omega arith
+some_bytes_texel sets.Ported _ = omega arith
 
 some_bytes_texture : (x : TextureType) → 0 < length (texture_name x)
 some_bytes_texture textures.External = omega arith
@@ -218,11 +218,11 @@ neat_inside (Ptr s m) fits is n = neat_memory is n
 neat_inside (Ref s m) fits is n = neat_memory is n
 
 -- what stands in the list behind the name of a texture
-abbrev ListOf : FormatNames → TextureType → TextureParameters → Type 0
+abbrev ListOf : RuleSet → TextureType → TextureParameters → Type 0
 ListOf by x parameters.None = texture_text_by by x ≡ texture_name x
 ListOf by x p = (list : List ℕ) × Neat list × (texture_text_by by x ≡ with_list (texture_name x) list)
 
-texture_list : (by : FormatNames) (x : TextureType) (p : TextureParameters) → parameters_of x ≡ p → ListOf by x p
+texture_list : (by : RuleSet) (x : TextureType) (p : TextureParameters) → parameters_of x ≡ p → ListOf by x p
 texture_list by x parameters.None e = texture_alone by x e
 texture_list by x (parameters.Sampled s) e =
     (sampled_text s, one_word (plain_by (sampled_text s) (clean_sampled s)) (some_bytes_sampled s), texture_listed by x (sampled_text s) (subst (λ p. AreListedBy by p (sampled_text s)) (sym e) refl))
@@ -344,17 +344,17 @@ listed_read name list t p n s =
 plain_read : (text : List ℕ) (t : WgslType) → Plain text → 0 < length text → TypeAt Standard (text ∷ []) t [] → Reads text t
 plain_read text t p more d = subst (λ ws. TypeAt Standard ws t []) (sym (word_alone text p more)) d
 
-texture_listed_read : (by : FormatNames) (x : TextureType) → (list : List ℕ) × Neat list × (texture_text_by by x ≡ with_list (texture_name x) list) → Reads (texture_text_by by x) (texture x)
+texture_listed_read : (by : RuleSet) (x : TextureType) → (list : List ℕ) × Neat list × (texture_text_by by x ≡ with_list (texture_name x) list) → Reads (texture_text_by by x) (texture x)
 texture_listed_read by x at =
     let same = at.2 in
     subst (λ text. Reads text (texture x)) (sym same) (listed_read (texture_name x) at.0 (texture x) (plain_by (texture_name x) (clean_texture x)) at.1 (subst (λ text. Spells text (texture x)) same (texture_is by x)))
 
-neat_texture : (by : FormatNames) (x : TextureType) (p : TextureParameters) → ListOf by x p → Neat (texture_text_by by x)
+neat_texture : (by : RuleSet) (x : TextureType) (p : TextureParameters) → ListOf by x p → Neat (texture_text_by by x)
 neat_texture by x parameters.None alone = subst Neat (sym alone) (one_word (plain_by (texture_name x) (clean_texture x)) (some_bytes_texture x))
 neat_texture by x (parameters.Sampled s) at = subst Neat (sym at.2) (neat_list (plain_by (texture_name x) (clean_texture x)) at.1)
 neat_texture by x (parameters.Storage f m) at = subst Neat (sym at.2) (neat_list (plain_by (texture_name x) (clean_texture x)) at.1)
 
-texture_read : (by : FormatNames) (x : TextureType) (p : TextureParameters) → parameters_of x ≡ p → ListOf by x p → Reads (texture_text_by by x) (texture x)
+texture_read : (by : RuleSet) (x : TextureType) (p : TextureParameters) → parameters_of x ≡ p → ListOf by x p → Reads (texture_text_by by x) (texture x)
 texture_read by x parameters.None e alone =
     let d : TypeAt Standard (texture_name x ∷ []) (texture x) [] = leaf_at (texture_at x (subst (λ p. TextureListAt Standard [] p []) (sym e) refl)) in
     subst (λ text. Reads text (texture x)) (sym alone) (plain_read (texture_name x) (texture x) (plain_by (texture_name x) (clean_texture x)) (some_bytes_texture x) d)
@@ -416,8 +416,8 @@ words_read (around_is {inner} {t} layer list fits is d) = listed_read (name_of l
 pub only_read : {text : List ℕ} {t : WgslType} → Spells text t → (u : WgslType) (rest : List (List ℕ)) → TypeAt Standard (words_of text) u rest → (u ≡ t) × (rest ≡ [])
 only_read s u rest d = let same = one_type (words_read s) u rest d in (sym same.0, sym same.1)
 
-pub written_read : (by : FormatNames) (t : WgslType) → IsWritable t → TypeAt Standard (words_of (spelling_by by t)) t []
+pub written_read : (by : RuleSet) (t : WgslType) → IsWritable t → TypeAt Standard (words_of (spelling_by by t)) t []
 written_read by t w = words_read (spells_spelling by t w)
 
-pub only_written : (by : FormatNames) (t u : WgslType) (rest : List (List ℕ)) → IsWritable t → TypeAt Standard (words_of (spelling_by by t)) u rest → (u ≡ t) × (rest ≡ [])
+pub only_written : (by : RuleSet) (t u : WgslType) (rest : List (List ℕ)) → IsWritable t → TypeAt Standard (words_of (spelling_by by t)) u rest → (u ≡ t) × (rest ≡ [])
 only_written by t u rest w d = only_read (spells_spelling by t w) u rest d

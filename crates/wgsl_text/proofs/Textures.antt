@@ -1,7 +1,7 @@
 -- A texture in words is its name with its parameters, and no two stand at the front of the same words.
 use Rattle.std.proofs.Common.{◌≡◌, ℕ, List, [], ◌∷◌, Some, None, refl, sym, subst, ap, ◌∙◌}
 use Rattle.wgsl_syntax.specs.Address.{access_text}
-use Rattle.wgsl_syntax.specs.Texel.{IsTexel, format_names}
+use Rattle.wgsl_syntax.specs.Texel.{IsTexel}
 use Rattle.wgsl_syntax.specs.Texture.{sampled_text}
 use Rattle.wgsl_syntax.specs.TextureName.{kind_of, name_of, parameter_kind, parameters_of, texture_name_text, texture_with}
 use Rattle.wgsl_syntax.specs.declared.rules.RuleSet.{RuleSet}
@@ -27,7 +27,7 @@ module _ (rules : RuleSet) (kind : TextureParameterKind) (words : List (List ℕ
   no_sampled is none (parameters.Sampled s) rest d = none s rest (sampled_text s, d.1, refl)
   no_sampled is none (parameters.Storage f m) rest d = let e : kinds.Storage ≡ kinds.Sampled = d.0 ∙ is in absurd (cc e)
 
-  pub no_texels : kind ≡ kinds.Storage → NoneAt (Then (OneWord (IsTexel (format_names rules))) (OneWord (IsText access_text))) words → NoneAt (ParametersAt rules kind) words
+  pub no_texels : kind ≡ kinds.Storage → NoneAt (Then (OneWord (IsTexel rules)) (OneWord (IsText access_text))) words → NoneAt (ParametersAt rules kind) words
   no_texels is none parameters.None rest d = let e : kinds.None ≡ kinds.Storage = d.0 ∙ is in absurd (cc e)
   no_texels is none (parameters.Sampled s) rest d = let e : kinds.Sampled ≡ kinds.Storage = d.0 ∙ is in absurd (cc e)
   no_texels is none (parameters.Storage f m) rest d = none (f, m) rest (access_text m ∷ rest, (d.1.0, d.1.2, d.1.1), (access_text m, refl, refl))
@@ -41,7 +41,7 @@ one_parameters rules words (parameters.Sampled s) (parameters.Sampled t) rest mo
 one_parameters rules words (parameters.Storage f m) (parameters.Storage g n) rest more k a b =
     let e = sym a.2 ∙ b.2 in
     let word : a.0 ≡ b.0 = cc e in
-    let format = one_texel (format_names rules) a.0 f g a.1 (subst (λ w. IsTexel (format_names rules) w g) (sym word) b.1) in
+    let format = one_texel rules a.0 f g a.1 (subst (λ w. IsTexel rules w g) (sym word) b.1) in
     let access = access_naming.distinct m n (cc e) in
     (λ i. parameters.Storage (format i) (access i), cc e)
 one_parameters rules words parameters.None (parameters.Sampled t) rest more k a b = absurd (cc k)

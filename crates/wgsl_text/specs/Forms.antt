@@ -1,6 +1,6 @@
 -- Forms that have no overloads, in words.
-use Rattle.std.specs.Prelude.{◌≡◌, ℕ, List, [], ◌∷◌, Option, Some, None, codes}
-use Rattle.wgsl_syntax.specs.Address.{access_text, space_text, spaces}
+use Rattle.std.specs.Prelude.{◌≡◌, ℕ, List, [], ◌∷◌, ◌++◌, Option, Some, None, codes}
+use Rattle.wgsl_syntax.specs.Address.{access_text, space_text, space_text_by, spaces}
 use Rattle.wgsl_syntax.specs.Names.{named, table}
 use Rattle.wgsl_syntax.specs.Operator.{assignment_text}
 use Rattle.wgsl_syntax.specs.declared.address.AccessMode.{AccessMode}
@@ -51,6 +51,10 @@ named_first rows (word ∷ words) = first_or (named rows word) word words
 abbrev pub said_accesses : List AccessMode
 said_accesses = Read ∷ Write ∷ ReadWrite ∷ []
 
+-- address spaces by WGSL's names and by naga's
+abbrev pub space_names : List (AddressSpace × List ℕ)
+space_names = table (space_text_by Standard) spaces ++ table space_text spaces
+
 -- the address space and the access mode that a variable is said to have, and the words after them
 pub record SaidMemory : Type 0 where
   pub space : AddressSpace
@@ -65,7 +69,7 @@ memory_said (Some s, words) =
 memory_said (None, words) = record { space = Function; access = None; after = words }
 
 abbrev pub said_memory : List (List ℕ) → SaidMemory
-said_memory words = memory_said (named_first (table space_text spaces) words)
+said_memory words = memory_said (named_first space_names words)
 
 -- the words are a colon and a type: `: f32`
 abbrev pub IsTyped : List (List ℕ) → WgslType → Type 0

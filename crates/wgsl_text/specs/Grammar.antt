@@ -1,9 +1,9 @@
 -- Types in words, by the set of rules.
 use Rattle.std.specs.Prelude.{◌≡◌, ℕ, suc, true, List, [], ◌∷◌, Option, Some, None, codes}
-use Rattle.wgsl_syntax.specs.Address.{access_text, space_text}
+use Rattle.wgsl_syntax.specs.Address.{access_text, IsSpace}
 use Rattle.wgsl_syntax.specs.Attribute.{flag_text}
 use Rattle.wgsl_syntax.specs.Scalar.{scalar_text}
-use Rattle.wgsl_syntax.specs.Texel.{IsTexel, format_names}
+use Rattle.wgsl_syntax.specs.Texel.{IsTexel}
 use Rattle.wgsl_syntax.specs.Texture.{sampled_text, sampler_text, texture_name}
 use Rattle.wgsl_syntax.specs.declared.address.AccessMode.{AccessMode}
 use Rattle.wgsl_syntax.specs.declared.address.AddressSpace.{AddressSpace}
@@ -42,7 +42,7 @@ abbrev pub TextureListAt : RuleSet → List (List ℕ) → TextureParameters →
 TextureListAt rules words parameters.None rest = words ≡ rest
 TextureListAt rules words (parameters.Sampled sampled) rest = words ≡ sampled_text sampled ∷ rest
 TextureListAt rules words (parameters.Storage format access) rest =
-    (word : List ℕ) × IsTexel (format_names rules) word format × (words ≡ word ∷ access_text access ∷ rest)
+    (word : List ℕ) × IsTexel rules word format × (words ≡ word ∷ access_text access ∷ rest)
 
 -- The words begin with a type that has no layer and no members in words, and is no scalar. The rest comes after it.
 pub data LeafAt : RuleSet → List (List ℕ) → WgslType → List (List ℕ) → Type 0 where
@@ -65,28 +65,28 @@ pub data LeafAt : RuleSet → List (List ℕ) → WgslType → List (List ℕ) �
       LeafAt Standard (word ∷ words) t (after_run (word ∷ words))
 
 -- The words begin with a layer around a type, and the rest comes after it.
-pub data LayerAt : List (List ℕ) → Around → List (List ℕ) → Type 0 where
+pub data LayerAt : RuleSet → List (List ℕ) → Around → List (List ℕ) → Type 0 where
   -- `vec 3`
-  vec_at : {components : List ℕ} {n : ℕ} {rest : List (List ℕ)} → IsSmall components n →
-      LayerAt (codes "vec" ∷ components ∷ rest) (arounds.Vec n) rest
+  vec_at : {rules : RuleSet} {components : List ℕ} {n : ℕ} {rest : List (List ℕ)} → IsSmall components n →
+      LayerAt rules (codes "vec" ∷ components ∷ rest) (arounds.Vec n) rest
   -- `mat 4 3`: the columns, and the rows
-  mat_at : {columns rows : List ℕ} {c r : ℕ} {rest : List (List ℕ)} → IsSmall columns c →
+  mat_at : {rules : RuleSet} {columns rows : List ℕ} {c r : ℕ} {rest : List (List ℕ)} → IsSmall columns c →
       IsSmall rows r →
-      LayerAt (codes "mat" ∷ columns ∷ rows ∷ rest) (arounds.Mat c r) rest
+      LayerAt rules (codes "mat" ∷ columns ∷ rows ∷ rest) (arounds.Mat c r) rest
   -- `array 4`, `array *`
-  array_at : {count : List ℕ} {n : Option ℕ} {rest : List (List ℕ)} → IsCount count n →
-      LayerAt (codes "array" ∷ count ∷ rest) (arounds.Array n) rest
+  array_at : {rules : RuleSet} {count : List ℕ} {n : Option ℕ} {rest : List (List ℕ)} → IsCount count n →
+      LayerAt rules (codes "array" ∷ count ∷ rest) (arounds.Array n) rest
   -- `binding_array 4`
-  binding_array_at : {count : List ℕ} {n : Option ℕ} {rest : List (List ℕ)} → IsCount count n →
-      LayerAt (codes "binding_array" ∷ count ∷ rest) (arounds.BindingArray n) rest
+  binding_array_at : {rules : RuleSet} {count : List ℕ} {n : Option ℕ} {rest : List (List ℕ)} → IsCount count n →
+      LayerAt rules (codes "binding_array" ∷ count ∷ rest) (arounds.BindingArray n) rest
   -- `atomic`
-  atomic_at : {rest : List (List ℕ)} → LayerAt (codes "atomic" ∷ rest) arounds.Atomic rest
+  atomic_at : {rules : RuleSet} {rest : List (List ℕ)} → LayerAt rules (codes "atomic" ∷ rest) arounds.Atomic rest
   -- `ptr function read_write`
-  ptr_at : {rest : List (List ℕ)} (s : AddressSpace) (m : AccessMode) →
-      LayerAt (codes "ptr" ∷ space_text s ∷ access_text m ∷ rest) (arounds.Ptr s m) rest
+  ptr_at : {rules : RuleSet} {space : List ℕ} {rest : List (List ℕ)} {s : AddressSpace} (m : AccessMode) → IsSpace rules space s →
+      LayerAt rules (codes "ptr" ∷ space ∷ access_text m ∷ rest) (arounds.Ptr s m) rest
   -- `ref handle read`
-  ref_at : {rest : List (List ℕ)} (s : AddressSpace) (m : AccessMode) →
-      LayerAt (codes "ref" ∷ space_text s ∷ access_text m ∷ rest) (arounds.Ref s m) rest
+  ref_at : {rules : RuleSet} {space : List ℕ} {rest : List (List ℕ)} {s : AddressSpace} (m : AccessMode) → IsSpace rules space s →
+      LayerAt rules (codes "ref" ∷ space ∷ access_text m ∷ rest) (arounds.Ref s m) rest
 
 mutual
   -- The words begin with a type, and the rest comes after it.
@@ -98,7 +98,7 @@ mutual
         TypeAt rules words t rest
     -- `vec 3 f32`
     layer_at : {rules : RuleSet} {words after rest : List (List ℕ)} {layer : Around} {t : WgslType} →
-        LayerAt words layer after →
+        LayerAt rules words layer after →
         TypeAt rules after t rest → TypeAt rules words (around layer t) rest
     -- `struct Light 2 color 16 - vec 3 f32 power - 8 f32`
     struct_at : {rules : RuleSet} {name count : List ℕ} {n : ℕ} {words rest : List (List ℕ)} {ms : Members} →

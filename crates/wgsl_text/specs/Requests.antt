@@ -1,7 +1,6 @@
 -- The requests, and the words that spell each, by the set of rules.
 use Rattle.std.specs.Prelude.{◌≡◌, ℕ, true, List, [], ◌∷◌, codes}
 use Rattle.wgsl_syntax.specs.Operator.{binary_text, unary_text}
-use Rattle.wgsl_syntax.specs.Texel.{format_names}
 use Rattle.wgsl_syntax.specs.declared.operator.BinaryOperator.{BinaryOperator}
 use Rattle.wgsl_syntax.specs.declared.operator.UnaryOperator.{UnaryOperator}
 use Rattle.wgsl_syntax.specs.declared.rules.RuleSet.{RuleSet}
@@ -47,7 +46,7 @@ pub data IsRequest : RuleSet → List (List ℕ) → Request → Type 0 where
       IsRequest rules (codes "rank" ∷ words) (rank t u)
   -- `common AbstractInt f32 f16`
   common_words : {rules : RuleSet} {words : List (List ℕ)} {ts : List WgslType} → TypesAt rules words ts →
-      IsRequest rules (codes "common" ∷ words) (common (format_names rules) ts)
+      IsRequest rules (codes "common" ∷ words) (common rules ts)
   -- `size vec 3 f32`
   size_words : {rules : RuleSet} {words : List (List ℕ)} {t : WgslType} → TypeAt rules words t [] →
       IsRequest rules (codes "size" ∷ words) (size (laid_out rules t))

@@ -81,7 +81,7 @@ answer_text (a_number w) = or_none decimal w
 -- `12 16`, `none 4`
 answer_text (a_size s a) = or_none decimal s ++ codes " " ++ or_none decimal a
 -- `f32`
-answer_text (a_common_type names c) = or_none (spelling_by names) c
+answer_text (a_common_type rules c) = or_none (spelling_by rules) c
 -- `vec3<f32>`, ``cannot use unary operator `-` on type `bool` ``
 answer_text (a_type r) = or_message spelling r
 -- `f32`, `no value`

@@ -26,7 +26,6 @@ use wgsl_core::conversion::lists::common_of;
 use wgsl_requests::ask::answer;
 use wgsl_requests::requests::{NamedCall, Request};
 use wgsl_syntax::rules::RuleSet;
-use wgsl_syntax::texel::FormatNames;
 use wgsl_types::error::Fail;
 use wgsl_types::syntax::{BinaryOperator, UnaryOperator};
 use wgsl_types::tplt::TpltParam;
@@ -135,20 +134,20 @@ pub(crate) fn common(
         (string_bytes text.old) (string_bytes text.new) result }
 {
     let types = read_types(alloc, rules, words)?;
-    let written = write_common(&types, rules.format_names(), text);
+    let written = write_common(&types, rules, text);
     drop(types);
     Ok(written?)
 }
 
 fn write_common(
     types: &[Type],
-    names: FormatNames,
+    rules: RuleSet,
     text: &mut String,
 ) -> Result<TextKind, AllocError>
-    ensures { IfOk result (λ kind. Adds (IsAnswer (common_request names (map view types.now)) kind)
+    ensures { IfOk result (λ kind. Adds (IsAnswer (common_request rules (map view types.now)) kind)
         (string_bytes text.old) (string_bytes text.new)) }
 {
-    write_type_or_none(text, names, received_common(types))?;
+    write_type_or_none(text, rules, received_common(types))?;
     Ok(TextKind::Answer)
 }
 

@@ -1,7 +1,6 @@
 // Laws of the requests: each function returns nothing, and its contract is the law.
 ghost use Rattle.std.specs.Prelude.{◌≡◌, [], ℕ, List};
 ghost use Rattle.wgsl_syntax.specs.declared.rules.RuleSet.{RuleSet};
-ghost use Rattle.wgsl_syntax.specs.declared.texel.FormatNames.{FormatNames};
 ghost use Rattle.wgsl_rules.specs.types.Spelling.{spelling_by};
 ghost use Rattle.wgsl_rules.specs.types.Types.{WgslType};
 ghost use Rattle.wgsl_text.specs.spelling.Spells.{Spells};
@@ -38,10 +37,10 @@ pub fn spelled_is_read()
 /// that type, and as no other.
 #[tactic(auto, using(crate::proofs::SpelledWords::written_read, crate::proofs::SpelledWords::only_written))]
 pub fn answered_is_read()
-    ensures read { (names : FormatNames) (t : WgslType) → IsWritable t
-        → TypeAt RuleSet.Standard (words_of (spelling_by names t)) t [] }
-    ensures alone { (names : FormatNames) (t u : WgslType) (rest : List (List ℕ)) → IsWritable t
-        → TypeAt RuleSet.Standard (words_of (spelling_by names t)) u rest → (u ≡ t) × (rest ≡ []) }
+    ensures read { (rules : RuleSet) (t : WgslType) → IsWritable t
+        → TypeAt RuleSet.Standard (words_of (spelling_by rules t)) t [] }
+    ensures alone { (rules : RuleSet) (t u : WgslType) (rest : List (List ℕ)) → IsWritable t
+        → TypeAt RuleSet.Standard (words_of (spelling_by rules t)) u rest → (u ≡ t) × (rest ≡ []) }
 {}
 
 /// A request has at most one answer.

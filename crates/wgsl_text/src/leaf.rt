@@ -2,7 +2,7 @@
 ghost use Rattle.std.specs.Prelude.{◌≡◌, ◌∷◌, MatchOption, Option};
 ghost use Rattle.wgsl_core.specs.View.{view};
 ghost use Rattle.wgsl_syntax.specs.Address.{access_text};
-ghost use Rattle.wgsl_syntax.specs.Texel.{IsTexel, format_names};
+ghost use Rattle.wgsl_syntax.specs.Texel.{IsTexel};
 ghost use Rattle.wgsl_syntax.specs.Texture.{sampled_text};
 ghost use Rattle.wgsl_syntax.specs.TextureName.{texture_name_text};
 ghost use Rattle.wgsl_syntax.specs.declared.attribute.AccelerationStructureFlags.{AccelerationStructureFlags};
@@ -185,7 +185,7 @@ fn sampled(word: &str) -> Result<SampledType, Fail<Misfit>>
 fn read_texels(rules: RuleSet, words: &mut Words) -> Result<(TexelFormat, AccessMode), Fail<Misfit>>
     ensures goes_on { GoesOn words.old words.new }
     ensures read { Reads
-        (Then (OneWord (IsTexel (format_names rules))) (OneWord (IsText access_text))) (λ texels. texels)
+        (Then (OneWord (IsTexel rules)) (OneWord (IsText access_text))) (λ texels. texels)
         (left words.old) (left words.new) result }
 {
     let format = texel_format(rules, words.next(Wanted::TexelFormat)?)?;
@@ -194,9 +194,9 @@ fn read_texels(rules: RuleSet, words: &mut Words) -> Result<(TexelFormat, Access
 }
 
 fn texel_format(rules: RuleSet, word: &str) -> Result<TexelFormat, Fail<Misfit>>
-    ensures { ReadsWord (IsTexel (format_names rules)) word.now result }
+    ensures { ReadsWord (IsTexel rules) word.now result }
 {
-    match TexelFormat::named_by(rules.format_names(), word) {
+    match TexelFormat::named_by(rules, word) {
         Some(format) => Ok(format),
         None => Err(Fail::Error(Misfit::Wrong(Wanted::TexelFormat))),
     }

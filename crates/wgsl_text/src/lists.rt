@@ -9,11 +9,11 @@ ghost use Rattle.wgsl_text.specs.internal.Lines.{lined};
 use crate::write::write_shown;
 use std::alloc::AllocError;
 use std::fmt;
-use wgsl_syntax::texel::FormatNames;
+use wgsl_syntax::rules::RuleSet;
 use wgsl_types::tplt::TpltParam;
 use wgsl_types::ty::Type;
 
-/// Writes types, with a comma between, by WGSL's names of texel formats.
+/// Writes types, with a comma between, by WGSL's own names.
 pub(crate) fn write_types(text: &mut String, types: &[Type]) -> Result<(), AllocError>
     ensures { OnOk result (string_bytes text.new ≡ string_bytes text.old
         ++ listed (λ t. wgsl_spelling (view t)) types.now) }
@@ -21,10 +21,10 @@ pub(crate) fn write_types(text: &mut String, types: &[Type]) -> Result<(), Alloc
     let Some((first, rest)) = types.split_first() else {
         return Ok(());
     };
-    write_shown(text, FormatNames::Wgsl, first)?;
+    write_shown(text, RuleSet::Standard, first)?;
     for ty in rest {
         text.push_str(", ")?;
-        write_shown(text, FormatNames::Wgsl, ty)?;
+        write_shown(text, RuleSet::Standard, ty)?;
     }
     Ok(())
 }

@@ -255,7 +255,7 @@ fn read_other(alloc: Global, word: &str, words: &mut Words) -> Result<WrittenTyp
     ensures goes_on { GoesOn words.old words.new }
     ensures read { Reads (OtherAt RuleSet.Standard) type_view (word.now ∷ left words.old) (left words.new) result }
 {
-    match read_outer(word, words)? {
+    match read_outer(RuleSet::Standard, word, words)? {
         Some(outer) => read_inside(alloc, outer, words),
         None => built(alloc, read_leaf(alloc, RuleSet::Standard, word, words)),
     }

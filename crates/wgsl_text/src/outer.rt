@@ -1,22 +1,24 @@
 // The layers around a type that words stand for.
-ghost use Rattle.std.specs.Prelude.{◌≡◌, ◌↔◌, Some};
-ghost use Rattle.wgsl_syntax.specs.Address.{access_text, space_text};
-ghost use Rattle.wgsl_syntax.specs.declared.address.AddressSpace.{AddressSpace};
+ghost use Rattle.wgsl_syntax.specs.Address.{access_text, IsSpace};
 ghost use Rattle.wgsl_text.specs.Reading.{IsText, OneWord, Reads, ReadsWord, Then};
 ghost use Rattle.wgsl_text.specs.internal.Layers.{ReadsLayer};
 ghost use Rattle.wgsl_text.specs.internal.Taken.{GoesOn, left};
 
 use crate::wanted::{Misfit, Wanted};
 use crate::words::{Words, parsed};
-use std::str::FromStr;
+use wgsl_syntax::rules::RuleSet;
 use wgsl_types::error::Fail;
 use wgsl_types::syntax::{AccessMode, AddressSpace, Around};
 
 /// The layer that begins with this word; `None` if none does. It is not inlined, so that words are compared as numbers.
 #[inline(never)]
-pub fn read_outer(word: &str, words: &mut Words) -> Result<Option<Around>, Fail<Misfit>>
+pub fn read_outer(
+    rules: RuleSet,
+    word: &str,
+    words: &mut Words,
+) -> Result<Option<Around>, Fail<Misfit>>
     ensures goes_on { GoesOn words.old words.new }
-    ensures read { ReadsLayer word.now (left words.old) (left words.new) result }
+    ensures read { ReadsLayer rules word.now (left words.old) (left words.new) result }
 {
     match word {
         "vec" => {
@@ -32,11 +34,11 @@ pub fn read_outer(word: &str, words: &mut Words) -> Result<Option<Around>, Fail<
         "binding_array" => Ok(Some(Around::BindingArray(words.next_count()?))),
         "atomic" => Ok(Some(Around::Atomic)),
         "ptr" => {
-            let (space, access) = read_memory(words)?;
+            let (space, access) = read_memory(rules, words)?;
             Ok(Some(Around::Ptr(space, access)))
         }
         "ref" => {
-            let (space, access) = read_memory(words)?;
+            let (space, access) = read_memory(rules, words)?;
             Ok(Some(Around::Ref(space, access)))
         }
         _ => Ok(None),
@@ -44,32 +46,25 @@ pub fn read_outer(word: &str, words: &mut Words) -> Result<Option<Around>, Fail<
 }
 
 /// An address space, which may be `handle`, and an access mode.
-fn read_memory(words: &mut Words) -> Result<(AddressSpace, AccessMode), Fail<Misfit>>
+fn read_memory(
+    rules: RuleSet,
+    words: &mut Words,
+) -> Result<(AddressSpace, AccessMode), Fail<Misfit>>
     ensures goes_on { GoesOn words.old words.new }
-    ensures read { Reads (Then (OneWord (IsText space_text)) (OneWord (IsText access_text)))
+    ensures read { Reads (Then (OneWord (IsSpace rules)) (OneWord (IsText access_text)))
         (λ memory. memory) (left words.old) (left words.new) result }
 {
-    let space = space(words.next(Wanted::AddressSpace)?)?;
+    let space = space(rules, words.next(Wanted::AddressSpace)?)?;
     let access = access(words.next(Wanted::AccessMode)?)?;
     Ok((space, access))
 }
 
-fn space(word: &str) -> Result<AddressSpace, Fail<Misfit>>
-    ensures { ReadsWord (IsText space_text) word.now result }
+fn space(rules: RuleSet, word: &str) -> Result<AddressSpace, Fail<Misfit>>
+    ensures { ReadsWord (IsSpace rules) word.now result }
 {
-    match space_named(word) {
+    match AddressSpace::named_by(rules, word) {
         Some(space) => Ok(space),
         None => Err(Fail::Error(Misfit::Wrong(Wanted::AddressSpace))),
-    }
-}
-
-/// The address space of this name, which may be `handle`.
-pub(crate) fn space_named(name: &str) -> Option<AddressSpace>
-    ensures { (s : AddressSpace) → (result ≡ Some s) ↔ (name.now ≡ space_text s) }
-{
-    match name {
-        "handle" => Some(AddressSpace::Handle),
-        _ => AddressSpace::from_str(name).ok(),
     }
 }
 

@@ -23,7 +23,7 @@ use wgsl_standard::resolved::ResolvedCall;
 use wgsl_standard::signature::Signature;
 use wgsl_standard::substitution::ResultType;
 use wgsl_syntax::overload::Dimensions;
-use wgsl_syntax::texel::FormatNames;
+use wgsl_syntax::rules::RuleSet;
 use wgsl_types::tplt::TpltParam;
 use wgsl_types::ty::Type;
 
@@ -86,7 +86,7 @@ fn write_result(text: &mut String, ty: &Option<Type>) -> Result<(), AllocError>
     match ty {
         Some(ty) => {
             text.push_str(" -> ")?;
-            write_shown(text, FormatNames::Wgsl, ty)
+            write_shown(text, RuleSet::Standard, ty)
         }
         None => Ok(()),
     }

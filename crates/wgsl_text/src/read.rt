@@ -82,7 +82,7 @@ fn read_other(
     ensures goes_on { GoesOn words.old words.new }
     ensures read { Reads (OtherAt rules) view (word.now ∷ left words.old) (left words.new) result }
 {
-    match read_outer(word, words)? {
+    match read_outer(rules, word, words)? {
         Some(outer) => read_inside(alloc, rules, outer, words),
         None => read_leaf(alloc, rules, word, words),
     }
@@ -129,7 +129,7 @@ pub(crate) fn read_layers(
     let mut layers = [outermost; 4];
     let mut count = 1;
     let mut word = first;
-    while let Some(layer) = read_next(count, word, words)? {
+    while let Some(layer) = read_next(rules, count, word, words)? {
         layers[count] = layer;
         count += 1;
         word = words.next(Wanted::Type)?;
@@ -140,13 +140,18 @@ pub(crate) fn read_layers(
 
 /// The layer that begins with this word; `None` if none does, or if there are 4 already.
 #[inline(always)]
-fn read_next(count: usize, word: &str, words: &mut Words) -> Result<Option<Around>, Fail<Misfit>>
+fn read_next(
+    rules: RuleSet,
+    count: usize,
+    word: &str,
+    words: &mut Words,
+) -> Result<Option<Around>, Fail<Misfit>>
     ensures goes_on { GoesOn words.old words.new }
     ensures room { IfOk result (λ layer. OnSome layer (count < 4)) }
-    ensures read { ReadsNext word.now (left words.old) (left words.new) result }
+    ensures read { ReadsNext rules word.now (left words.old) (left words.new) result }
 {
     if count < 4 {
-        read_outer(word, words)
+        read_outer(rules, word, words)
     } else {
         Ok(None)
     }

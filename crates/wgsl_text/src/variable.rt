@@ -1,15 +1,14 @@
 // The words of variables.
 ghost use Rattle.std.specs.Prelude.{◌≡◌, ◌∷◌, Option};
-ghost use Rattle.wgsl_syntax.specs.Address.{access_text, space_text, spaces};
+ghost use Rattle.wgsl_syntax.specs.Address.{access_text};
 ghost use Rattle.wgsl_syntax.specs.Names.{named, table};
-ghost use Rattle.wgsl_text.specs.Forms.{SaidMemory, named_first, said_accesses, said_memory};
+ghost use Rattle.wgsl_text.specs.Forms.{SaidMemory, named_first, said_accesses, said_memory, space_names};
 ghost use Rattle.wgsl_text.specs.internal.Formed.{ReadsForm, written_form};
 ghost use Rattle.wgsl_text.specs.internal.Taken.{left};
 
 use crate::form::WrittenForm;
 use crate::form_command::FormCommand;
 use crate::initializer::read_value;
-use crate::outer::space_named;
 use crate::read::read_last_type;
 use crate::wanted::{Misfit, Wanted};
 use crate::words::Words;
@@ -47,11 +46,11 @@ fn read_memory(words: &mut Words) -> (AddressSpace, Option<AccessMode>)
 }
 
 fn space_if_any(words: &mut Words) -> Option<AddressSpace>
-    ensures { named_first (table space_text spaces) (left words.old) ≡ (result, left words.new) }
+    ensures { named_first space_names (left words.old) ≡ (result, left words.new) }
 {
     let before = *words;
     if let Ok(word) = words.next(Wanted::AddressSpace) {
-        if let Some(space) = space_named(word) {
+        if let Some(space) = AddressSpace::named_by(RuleSet::Standard, word) {
             return Some(space);
         }
     }

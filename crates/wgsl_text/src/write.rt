@@ -21,7 +21,7 @@ use wgsl_forms::form::FormType;
 use wgsl_forms::refusal::Refusal;
 use wgsl_requests::answers::{Answer, Operands};
 use wgsl_syntax::overload::Dimensions;
-use wgsl_syntax::texel::FormatNames;
+use wgsl_syntax::rules::RuleSet;
 use wgsl_types::error::{Error, Fail};
 use wgsl_types::ty::Type;
 
@@ -127,28 +127,28 @@ fn write_number_or_none(text: &mut String, number: Option<u32>) -> Result<(), Al
 
 pub(crate) fn write_type_or_none(
     text: &mut String,
-    names: FormatNames,
+    rules: RuleSet,
     ty: Option<&Type>,
 ) -> Result<(), AllocError>
     ensures { OnOk result (string_bytes text.new
-        ≡ string_bytes text.old ++ or_none (spelling_by names) (option_map (λ t. view t.now) ty.entry)) }
+        ≡ string_bytes text.old ++ or_none (spelling_by rules) (option_map (λ t. view t.now) ty.entry)) }
 {
     match ty {
-        Some(ty) => write_shown(text, names, ty),
+        Some(ty) => write_shown(text, rules, ty),
         None => text.push_str("none"),
     }
 }
 
-/// Writes a type by these names of texel formats.
+/// Writes a type by these rules.
 pub(crate) fn write_shown(
     text: &mut String,
-    names: FormatNames,
+    rules: RuleSet,
     ty: &Type,
 ) -> Result<(), AllocError>
     ensures { OnOk result (string_bytes text.new
-        ≡ string_bytes text.old ++ spelling_by names (view ty.now)) }
+        ≡ string_bytes text.old ++ spelling_by rules (view ty.now)) }
 {
-    write!(text, "{}", ShownType { ty, names })
+    write!(text, "{}", ShownType { ty, rules })
 }
 
 /// Writes a type that isn't built.

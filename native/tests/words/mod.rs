@@ -7,7 +7,7 @@ mod parameters;
 use std::iter::Peekable;
 use std::str::{FromStr, SplitTerminator};
 use wgsl_types_proved::standard::Operand;
-use wgsl_types_proved::syntax::{AccessMode, AddressSpace};
+use wgsl_types_proved::syntax::{AccessMode, AddressSpace, RuleSet};
 use wgsl_types_proved::ty::{StructMemberType, StructType};
 use wgsl_types_proved::Type;
 
@@ -78,13 +78,11 @@ impl<'a> Words<'a> {
         self.operands().into_iter().map(|operand| operand.ty).collect()
     }
 
-    /// An address space. WGSL has no name for `handle`.
+    /// An address space, by WGSL's name or by naga's.
     pub fn space(&mut self) -> Option<AddressSpace> {
-        if self.take("handle") {
-            Some(AddressSpace::Handle)
-        } else {
-            self.name()
-        }
+        let space = AddressSpace::named_by(RuleSet::Standard, self.0.peek()?)?;
+        self.next();
+        Some(space)
     }
 
     /// An access mode; `atomic` begins a type.

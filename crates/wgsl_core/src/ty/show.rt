@@ -11,7 +11,7 @@ use crate::ty::Type;
 use std::fmt;
 use std::fmt::Write;
 use wgsl_syntax::address::AccessMode;
-use wgsl_syntax::texel::FormatNames;
+use wgsl_syntax::rules::RuleSet;
 use wgsl_syntax::texture::ShownTexture;
 
 impl fmt::Display for Type {
@@ -27,15 +27,15 @@ impl fmt::Display for Type {
     ghost styled_output = { λ t _. option_map scalar_text (scalar_of (view t)) };
 
     fn fmt<W: Write>(&self, f: &mut fmt::Formatter<W>) -> fmt::Result {
-        write_type(f, FormatNames::Naga, self)
+        write_type(f, RuleSet::Ported, self)
     }
 }
 
-/// A type, which prints as WGSL spells it, by these names of texel formats.
+/// A type, which prints as WGSL spells it, by these rules.
 #[derive(Clone, Copy)]
 pub struct ShownType<'t> {
     pub ty: &'t Type,
-    pub names: FormatNames,
+    pub rules: RuleSet,
 }
 
 impl fmt::Display for ShownType<'_> {
@@ -43,17 +43,17 @@ impl fmt::Display for ShownType<'_> {
     ghost use Rattle.wgsl_rules.specs.types.Spelling.{spelling_by};
     ghost use Rattle.wgsl_core.specs.View.{view};
 
-    ghost output = { λ s. Some (spelling_by s.names (view s.ty.now)) };
+    ghost output = { λ s. Some (spelling_by s.rules (view s.ty.now)) };
 
     fn fmt<W: Write>(&self, f: &mut fmt::Formatter<W>) -> fmt::Result {
-        write_type(f, self.names, self.ty)
+        write_type(f, self.rules, self.ty)
     }
 }
 
-/// Writes a type as WGSL spells it, by these names of texel formats.
+/// Writes a type as WGSL spells it, by these rules.
 #[cycle(shown)]
-pub fn write_type<W: Write>(f: &mut fmt::Formatter<W>, names: FormatNames, ty: &Type) -> fmt::Result
-    ensures plain { WritesOnOk W.write_str_gives f.old result (spelling_by names (view ty.now)) f.new }
+pub fn write_type<W: Write>(f: &mut fmt::Formatter<W>, rules: RuleSet, ty: &Type) -> fmt::Result
+    ensures plain { WritesOnOk W.write_str_gives f.old result (spelling_by rules (view ty.now)) f.new }
     ensures styled { DisplaysStyledOnOk W.write_str_gives f.old result
         (option_map scalar_text (scalar_of (view ty.now))) f.new }
 {
@@ -66,41 +66,43 @@ pub fn write_type<W: Write>(f: &mut fmt::Formatter<W>, names: FormatNames, ty: &
         Type::F32 => f.write_str("f32"),
         Type::F16 => f.write_str("f16"),
         Type::Struct(s) => f.write_str(&s.name),
-        Type::Array(t, n) => write_counted(f, names, "array<", t, *n),
+        Type::Array(t, n) => write_counted(f, rules, "array<", t, *n),
         Type::Vec(n, t) => {
             write!(f, "vec{n}<")?;
-            write_type(f, names, t)?;
+            write_type(f, rules, t)?;
             f.write_str(">")
         }
         Type::Mat(c, r, t) => {
             write!(f, "mat{c}x{r}<")?;
-            write_type(f, names, t)?;
+            write_type(f, rules, t)?;
             f.write_str(">")
         }
         Type::Atomic(t) => {
             f.write_str("atomic<")?;
-            write_type(f, names, t)?;
+            write_type(f, rules, t)?;
             f.write_str(">")
         }
         Type::Ptr(s, t, m) => {
-            write!(f, "ptr<{s}, ")?;
-            write_type(f, names, t)?;
+            let space = s.name_by(rules);
+            write!(f, "ptr<{space}, ")?;
+            write_type(f, rules, t)?;
             write_access(f, *m)
         }
         Type::Ref(s, t, m) => {
-            write!(f, "ref<{s}, ")?;
-            write_type(f, names, t)?;
+            let space = s.name_by(rules);
+            write!(f, "ref<{space}, ")?;
+            write_type(f, rules, t)?;
             write_access(f, *m)
         }
         Type::Texture(t) => {
-            let shown = ShownTexture { texture: *t, names };
+            let shown = ShownTexture { texture: *t, rules };
             write!(f, "{shown}")
         }
         Type::Sampler(s) => write!(f, "{s}"),
         Type::I64 => f.write_str("i64"),
         Type::U64 => f.write_str("u64"),
         Type::F64 => f.write_str("f64"),
-        Type::BindingArray(t, n) => write_counted(f, names, "binding_array<", t, *n),
+        Type::BindingArray(t, n) => write_counted(f, rules, "binding_array<", t, *n),
         Type::RayQuery(None) => f.write_str("ray_query"),
         Type::RayQuery(Some(flag)) => write!(f, "ray_query<{flag}>"),
         Type::AccelerationStructure(None) => f.write_str("acceleration_structure"),
@@ -112,16 +114,16 @@ pub fn write_type<W: Write>(f: &mut fmt::Formatter<W>, names: FormatNames, ty: &
 #[cycle(shown)]
 fn write_counted<W: Write>(
     f: &mut fmt::Formatter<W>,
-    names: FormatNames,
+    rules: RuleSet,
     head: &str,
     element: &Type,
     count: Option<usize>,
 ) -> fmt::Result
     ensures { WritesOnOk W.write_str_gives f.old result
-        (head.now ++ (spelling_by names (view element.now) ++ count_end count)) f.new }
+        (head.now ++ (spelling_by rules (view element.now) ++ count_end count)) f.new }
 {
     f.write_str(head)?;
-    write_type(f, names, element)?;
+    write_type(f, rules, element)?;
     write_count(f, count)
 }
 

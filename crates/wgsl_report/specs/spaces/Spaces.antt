@@ -82,6 +82,11 @@ TakesAtomics Workgroup access = Unit {0}
 TakesAtomics Storage ReadWrite = Unit {0}
 TakesAtomics space access = ⊥
 
+-- no array stands in `immediate`: `var<immediate> x: array<u32, 2>;`, `struct S { a: array<u32, 2> } var<immediate> x: S;`
+abbrev pub MayHold : AddressSpace → Shape → Type 0
+MayHold PushConstant Array = ⊥
+MayHold space shape = Unit {0}
+
 -- what may be innermost: no `bool` where memory is shared, and atomics only where they stand
 abbrev pub MayBeInnermost : AddressSpace → AccessMode → Content → Type 0
 MayBeInnermost space access Bool = ¬ IsShared space

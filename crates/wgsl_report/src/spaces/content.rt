@@ -1,7 +1,8 @@
 // What types may contain in an address space.
 ghost use Rattle.std.specs.Prelude.{◌↔◌, IsTrue};
-ghost use Rattle.wgsl_report.specs.spaces.Spaces.{IsShared, MayBeInnermost, TakesAtomics};
+ghost use Rattle.wgsl_report.specs.spaces.Spaces.{IsShared, MayBeInnermost, MayHold, TakesAtomics};
 
+use crate::spaces::layout::Shape;
 use wgsl_syntax::address::{AccessMode, AddressSpace};
 
 /// What the rules see of the type that is innermost in arrays, vectors and structs.
@@ -30,6 +31,16 @@ fn takes_atomics(space: AddressSpace, access: AccessMode) -> bool
         AddressSpace::Workgroup => true,
         AddressSpace::Storage => access == AccessMode::ReadWrite,
         _ => false,
+    }
+}
+
+/// Whether a variable of an address space, or a member of a struct there, may have a type of this shape.
+pub fn may_hold(space: AddressSpace, shape: Shape) -> bool
+    ensures { IsTrue result ↔ MayHold space shape }
+{
+    match (space, shape) {
+        (AddressSpace::PushConstant, Shape::Array) => false,
+        _ => true,
     }
 }
 

@@ -1,12 +1,12 @@
 -- How types are written in messages: in WGSL's syntax if it has one for the type (WGSL, "Types").
 use Rattle.std.specs.Prelude.{ℕ, List, ◌++◌, Option, Some, None, codes, decimal}
-use Rattle.wgsl_syntax.specs.Address.{space_text, access_text}
+use Rattle.wgsl_syntax.specs.Address.{space_text_by, access_text}
 use Rattle.wgsl_syntax.specs.Attribute.{flag_text}
 use Rattle.wgsl_syntax.specs.Scalar.{scalar_text}
 use Rattle.wgsl_syntax.specs.Texture.{sampler_text, texture_text_by}
 use Rattle.wgsl_syntax.specs.declared.attribute.AccelerationStructureFlags.{AccelerationStructureFlags}
-use Rattle.wgsl_syntax.specs.declared.texel.FormatNames.{FormatNames}
-use Rattle.wgsl_syntax.specs.declared.texel.FormatNames.TheVariants.{Naga, Wgsl}
+use Rattle.wgsl_syntax.specs.declared.rules.RuleSet.{RuleSet}
+use Rattle.wgsl_syntax.specs.declared.rules.RuleSet.TheVariants.{Ported, Standard}
 use Rattle.wgsl_rules.specs.types.Types.{WgslType, scalar, struct, atomic, pointer, reference, texture, sampler, binding_array, ray_query, acceleration_structure, array, vec, mat}
 
 -- a name, with the flag if there is one
@@ -24,26 +24,26 @@ abbrev pub count_end : Option ℕ → List ℕ
 count_end None = codes ">"
 count_end (Some n) = codes ", " ++ decimal n ++ codes ">"
 
--- a type, where texel formats have these names
-abbrev pub spelling_by : FormatNames → WgslType → List ℕ
-spelling_by names (scalar s) = scalar_text s
-spelling_by names (array n t) = counted (codes "array") (spelling_by names t) n
-spelling_by names (vec n t) = codes "vec" ++ decimal n ++ codes "<" ++ spelling_by names t ++ codes ">"
-spelling_by names (mat c r t) = codes "mat" ++ decimal c ++ codes "x" ++ decimal r ++ codes "<" ++ spelling_by names t ++ codes ">"
-spelling_by names (struct name ms) = name
-spelling_by names (atomic t) = codes "atomic<" ++ spelling_by names t ++ codes ">"
-spelling_by names (pointer s t m) = codes "ptr<" ++ space_text s ++ codes ", " ++ spelling_by names t ++ codes ", " ++ access_text m ++ codes ">"
-spelling_by names (reference s t m) = codes "ref<" ++ space_text s ++ codes ", " ++ spelling_by names t ++ codes ", " ++ access_text m ++ codes ">"
-spelling_by names (texture t) = texture_text_by names t
-spelling_by names (sampler s) = sampler_text s
-spelling_by names (binding_array n t) = counted (codes "binding_array") (spelling_by names t) n
-spelling_by names (ray_query f) = flagged (codes "ray_query") f
-spelling_by names (acceleration_structure f) = flagged (codes "acceleration_structure") f
+-- a type, by the names of these rules
+abbrev pub spelling_by : RuleSet → WgslType → List ℕ
+spelling_by rules (scalar s) = scalar_text s
+spelling_by rules (array n t) = counted (codes "array") (spelling_by rules t) n
+spelling_by rules (vec n t) = codes "vec" ++ decimal n ++ codes "<" ++ spelling_by rules t ++ codes ">"
+spelling_by rules (mat c r t) = codes "mat" ++ decimal c ++ codes "x" ++ decimal r ++ codes "<" ++ spelling_by rules t ++ codes ">"
+spelling_by rules (struct name ms) = name
+spelling_by rules (atomic t) = codes "atomic<" ++ spelling_by rules t ++ codes ">"
+spelling_by rules (pointer s t m) = codes "ptr<" ++ space_text_by rules s ++ codes ", " ++ spelling_by rules t ++ codes ", " ++ access_text m ++ codes ">"
+spelling_by rules (reference s t m) = codes "ref<" ++ space_text_by rules s ++ codes ", " ++ spelling_by rules t ++ codes ", " ++ access_text m ++ codes ">"
+spelling_by rules (texture t) = texture_text_by rules t
+spelling_by rules (sampler s) = sampler_text s
+spelling_by rules (binding_array n t) = counted (codes "binding_array") (spelling_by rules t) n
+spelling_by rules (ray_query f) = flagged (codes "ray_query") f
+spelling_by rules (acceleration_structure f) = flagged (codes "acceleration_structure") f
 
 -- by naga's names, as the ported rules write types
 abbrev pub spelling : WgslType → List ℕ
-spelling t = spelling_by Naga t
+spelling t = spelling_by Ported t
 
 -- by WGSL's own
 abbrev pub wgsl_spelling : WgslType → List ℕ
-wgsl_spelling t = spelling_by Wgsl t
+wgsl_spelling t = spelling_by Standard t

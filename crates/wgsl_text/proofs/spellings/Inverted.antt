@@ -9,7 +9,7 @@ use Rattle.wgsl_syntax.specs.declared.around.Around.TheVariants.{Array, Vec, Mat
 use Rattle.wgsl_syntax.specs.declared.attribute.AccelerationStructureFlags.{AccelerationStructureFlags}
 use Rattle.wgsl_syntax.specs.declared.scalar.Scalar.{Scalar}
 use Rattle.wgsl_syntax.specs.declared.scalar.Scalar.TheVariants as scalars
-use Rattle.wgsl_syntax.specs.declared.texel.FormatNames.TheVariants as names
+use Rattle.wgsl_syntax.specs.declared.rules.RuleSet.TheVariants as sets
 use Rattle.wgsl_syntax.specs.declared.texture.SamplerType.{SamplerType}
 use Rattle.wgsl_syntax.specs.declared.texture.SamplerType.TheVariants as samplers
 use Rattle.wgsl_syntax.specs.declared.texture.TextureType.{TextureType}
@@ -212,7 +212,7 @@ leaf_name name list (acceleration_structure None) layer l e = l
 pub plain_spells : (text : List ℕ) (t : WgslType) → PlainSpells text t → Spells text t
 plain_spells text (scalar s) p = subst (λ w. Spells w (scalar s)) (sym p) (scalar_is s)
 plain_spells text (sampler s) p = subst (λ w. Spells w (sampler s)) (sym p) (sampler_is s)
-plain_spells text (texture x) p = subst (λ w. Spells w (texture x)) (texture_alone names.Wgsl x p.1 ∙ sym p.0) (texture_is names.Wgsl x)
+plain_spells text (texture x) p = subst (λ w. Spells w (texture x)) (texture_alone sets.Standard x p.1 ∙ sym p.0) (texture_is sets.Standard x)
 plain_spells text (ray_query None) p = subst (λ w. Spells w (ray_query None)) (sym p) (ray_query_is None)
 plain_spells text (acceleration_structure None) p = subst (λ w. Spells w (acceleration_structure None)) (sym p) (acceleration_structure_is None)
 plain_spells text (within k u) p = absurd p

@@ -15,7 +15,7 @@ use Rattle.wgsl_syntax.specs.declared.attribute.AccelerationStructureFlags.{Acce
 use Rattle.wgsl_syntax.specs.declared.attribute.AccelerationStructureFlags.TheVariants.{VertexReturn}
 use Rattle.wgsl_syntax.specs.declared.scalar.Scalar.{Scalar}
 use Rattle.wgsl_syntax.specs.declared.scalar.Scalar.TheVariants as scalars
-use Rattle.wgsl_syntax.specs.declared.texel.FormatNames.{FormatNames}
+use Rattle.wgsl_syntax.specs.declared.rules.RuleSet.{RuleSet}
 use Rattle.wgsl_syntax.specs.declared.texel.TexelFormat.{TexelFormat}
 use Rattle.wgsl_syntax.specs.declared.texture.SampledType.{SampledType}
 use Rattle.wgsl_syntax.specs.declared.texture.SamplerType.{SamplerType}
@@ -74,11 +74,11 @@ flag_has name e (Some f) =
 sampled_end : (name : List ℕ) (s : SampledType) → NoEnd (name ++ ((codes "<" ++ sampled_text s) ++ codes ">"))
 sampled_end name s = with_bracket _ (name ++ (codes "<" ++ sampled_text s)) (sym (append_assoc name (codes "<" ++ sampled_text s) (codes ">")))
 
-storage_end : (by : FormatNames) (name : List ℕ) (f : TexelFormat) (m : AccessMode) → NoEnd (name ++ ((((codes "<" ++ texel_text_by by f) ++ codes ", ") ++ access_text m) ++ codes ">"))
+storage_end : (by : RuleSet) (name : List ℕ) (f : TexelFormat) (m : AccessMode) → NoEnd (name ++ ((((codes "<" ++ texel_text_by by f) ++ codes ", ") ++ access_text m) ++ codes ">"))
 storage_end by name f m =
     with_bracket _ (name ++ (((codes "<" ++ texel_text_by by f) ++ codes ", ") ++ access_text m)) (sym (append_assoc name (((codes "<" ++ texel_text_by by f) ++ codes ", ") ++ access_text m) (codes ">")))
 
-texture_no_end : (by : FormatNames) (x : TextureType) → NoEnd (texture_text_by by x)
+texture_no_end : (by : RuleSet) (x : TextureType) → NoEnd (texture_text_by by x)
 texture_no_end by (textures.Sampled1D s) = sampled_end (codes "texture_1d") s
 texture_no_end by (textures.Sampled2D s) = sampled_end (codes "texture_2d") s
 texture_no_end by (textures.Sampled2DArray s) = sampled_end (codes "texture_2d_array") s

@@ -6,7 +6,7 @@ use Rattle.wgsl_syntax.specs.TextureName.{name_of as texture_name_of, parameter_
 use Rattle.wgsl_syntax.specs.declared.around.Around.{Around}
 use Rattle.wgsl_syntax.specs.declared.around.Around.TheVariants.{Array, Vec, Mat, BindingArray, Atomic, Ptr, Ref}
 use Rattle.wgsl_syntax.specs.declared.scalar.Scalar.{Scalar}
-use Rattle.wgsl_syntax.specs.declared.texel.FormatNames.{FormatNames}
+use Rattle.wgsl_syntax.specs.declared.rules.RuleSet.{RuleSet}
 use Rattle.wgsl_syntax.specs.declared.texture.SamplerType.{SamplerType}
 use Rattle.wgsl_syntax.specs.declared.texture.TextureType.{TextureType}
 use Rattle.wgsl_syntax.specs.declared.attribute.AccelerationStructureFlags.{AccelerationStructureFlags}
@@ -194,7 +194,7 @@ name_has : (x : TextureType) → has 60 (texture_name x) ≡ false
 name_has textures.External = refl
 name_has _ = refl
 
-texture_one : (by : FormatNames) (x : TextureType) (u : WgslType) → Spells (texture_text_by by x) u → texture x ≡ u
+texture_one : (by : RuleSet) (x : TextureType) (u : WgslType) → Spells (texture_text_by by x) u → texture x ≡ u
 texture_one by x u e = step (parameters_of x) refl
   where
     listed : (list : List ℕ) → AreListedBy by (parameters_of x) list → texture x ≡ u

@@ -4,7 +4,7 @@ use Rattle.std.proofs.lemmas.List.{append_assoc}
 use Rattle.wgsl_syntax.specs.Address.{access_text, space_text}
 use Rattle.wgsl_syntax.specs.declared.around.Around.{Around}
 use Rattle.wgsl_syntax.specs.declared.around.Around.TheVariants.{Array, Vec, Mat, BindingArray, Atomic, Ptr, Ref}
-use Rattle.wgsl_syntax.specs.declared.texel.FormatNames.{FormatNames}
+use Rattle.wgsl_syntax.specs.declared.rules.RuleSet.{RuleSet}
 use Rattle.wgsl_rules.specs.types.Around.{around}
 use Rattle.wgsl_rules.specs.types.Spelling.{spelling_by}
 use Rattle.wgsl_rules.specs.types.Types.{WgslType, scalar, struct, atomic, pointer, reference, texture, sampler, binding_array, ray_query, acceleration_structure, array, vec, mat}
@@ -29,7 +29,7 @@ is_written (Mat c r) inner = refl
 is_written Atomic inner = refl
 
 -- the spelling of a layer around a type
-layer_text : (by : FormatNames) (layer : Around) (t : WgslType) → with_list (name_of layer) (written_list layer (spelling_by by t)) ≡ spelling_by by (around layer t)
+layer_text : (by : RuleSet) (layer : Around) (t : WgslType) → with_list (name_of layer) (written_list layer (spelling_by by t)) ≡ spelling_by by (around layer t)
 layer_text by (Array None) t = sym (simp append_assoc)
 layer_text by (Array (Some n)) t = sym (simp append_assoc)
 layer_text by (BindingArray None) t = sym (simp append_assoc)
@@ -40,10 +40,10 @@ layer_text by Atomic t = sym (simp append_assoc)
 layer_text by (Ptr s m) t = sym (simp append_assoc)
 layer_text by (Ref s m) t = sym (simp append_assoc)
 
-spells_around : (by : FormatNames) (layer : Around) (t : WgslType) → IsInRange layer → Spells (spelling_by by t) t → Spells (spelling_by by (around layer t)) (around layer t)
+spells_around : (by : RuleSet) (layer : Around) (t : WgslType) → IsInRange layer → Spells (spelling_by by t) t → Spells (spelling_by by (around layer t)) (around layer t)
 spells_around by layer t fits d = subst (λ x. Spells x (around layer t)) (layer_text by layer t) (around_is layer _ fits (is_written layer (spelling_by by t)) d)
 
-pub spells_spelling : (by : FormatNames) (t : WgslType) → IsWritable t → Spells (spelling_by by t) t
+pub spells_spelling : (by : RuleSet) (t : WgslType) → IsWritable t → Spells (spelling_by by t) t
 spells_spelling by (scalar s) w = scalar_is s
 spells_spelling by (array None t) w = spells_around by (Array None) t tt (spells_spelling by t w)
 spells_spelling by (array (Some n) t) w = spells_around by (Array (Some n)) t w.0 (spells_spelling by t w.1)

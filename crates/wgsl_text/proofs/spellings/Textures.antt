@@ -7,8 +7,8 @@ use Rattle.wgsl_syntax.specs.Texel.{IsTexel, texel_text_by}
 use Rattle.wgsl_syntax.specs.Texture.{sampled_text, texture_name, texture_text_by}
 use Rattle.wgsl_syntax.specs.TextureName.{kind_of, name_of, parameter_kind, parameters_of, texture_name_text, texture_with}
 use Rattle.wgsl_syntax.specs.declared.address.AccessMode.{AccessMode}
-use Rattle.wgsl_syntax.specs.declared.texel.FormatNames.{FormatNames}
-use Rattle.wgsl_syntax.specs.declared.texel.FormatNames.TheVariants as names
+use Rattle.wgsl_syntax.specs.declared.rules.RuleSet.{RuleSet}
+use Rattle.wgsl_syntax.specs.declared.rules.RuleSet.TheVariants as sets
 use Rattle.wgsl_syntax.specs.declared.texel.TexelFormat.{TexelFormat}
 use Rattle.wgsl_syntax.specs.declared.texel.TexelFormat.TheVariants as texels
 use Rattle.wgsl_syntax.specs.declared.texture.SampledType.{SampledType}
@@ -27,23 +27,23 @@ use Rattle.wgsl_text.specs.spelling.internal.{AreListed, AreListedBy, AtFirst, A
 use Rattle.wgsl_text.proofs.spellings.Cuts.{cut_first, cut_last, has, lacks_by, no_list}
 use Rattle.wgsl_text.proofs.spellings.Lists.{tail_same}
 
-pub texel_has : (by : FormatNames) (f : TexelFormat) → has 44 (texel_text_by by f) ≡ false
-texel_has names.Wgsl texels.Rg11b10Float = refl
-texel_has names.Wgsl _ = refl
-texel_has names.Naga texels.Rg11b10Float = refl
-texel_has names.Naga _ = refl
+pub texel_has : (by : RuleSet) (f : TexelFormat) → has 44 (texel_text_by by f) ≡ false
+texel_has sets.Standard texels.Rg11b10Float = refl
+texel_has sets.Standard _ = refl
+texel_has sets.Ported texels.Rg11b10Float = refl
+texel_has sets.Ported _ = refl
 
 -- WGSL's name or naga's is one of both
-named_so : (by : FormatNames) (word : List ℕ) (f : TexelFormat) → word ≡ texel_text_by by f → IsTexel names.Wgsl word f
-named_so names.Wgsl word f is = inl is
-named_so names.Naga word f is = inr is
+named_so : (by : RuleSet) (word : List ℕ) (f : TexelFormat) → word ≡ texel_text_by by f → IsTexel sets.Standard word f
+named_so sets.Standard word f is = inl is
+named_so sets.Ported word f is = inr is
 
-storage_parts : (by : FormatNames) (list before after : List ℕ) → AtFirst list before after → (f : TexelFormat) (m : AccessMode) → AreListedBy by (parameters.Storage f m) list → (before ≡ texel_text_by by f) × (after ≡ access_text m)
+storage_parts : (by : RuleSet) (list before after : List ℕ) → AtFirst list before after → (f : TexelFormat) (m : AccessMode) → AreListedBy by (parameters.Storage f m) list → (before ≡ texel_text_by by f) × (after ≡ access_text m)
 storage_parts by list before after at f m is =
     let same = cut_first 44 before (texel_text_by by f) (32 ∷ after) (32 ∷ access_text m) at.0 (lacks_by 44 (texel_text_by by f) (texel_has by f)) (sym at.1 ∙ is) in
     (same.0, tail_same after (access_text m) same.1)
 
-pub no_format : (list before after : List ℕ) → AtFirst list before after → ((f : TexelFormat) → ¬ IsTexel names.Wgsl before f) → (f : TexelFormat) (m : AccessMode) → ¬ AreListed (parameters.Storage f m) list
+pub no_format : (list before after : List ℕ) → AtFirst list before after → ((f : TexelFormat) → ¬ IsTexel sets.Standard before f) → (f : TexelFormat) (m : AccessMode) → ¬ AreListed (parameters.Storage f m) list
 no_format list before after at none f m is = none f (named_so is.0 before f (storage_parts is.0 list before after at f m is.1).0)
 
 pub no_mode : (list before after : List ℕ) → AtFirst list before after → ((m : AccessMode) → ¬ (after ≡ access_text m)) → (f : TexelFormat) (m : AccessMode) → ¬ AreListed (parameters.Storage f m) list
@@ -55,7 +55,7 @@ listed_one list (parameters.Sampled s) (parameters.Sampled r) k a b = ap paramet
 listed_one list (parameters.Storage f m) (parameters.Storage g n) k a b =
     let front = texel_text_by a.0 f in
     let same = storage_parts b.0 list front (access_text m) (lacks_by 44 front (texel_has a.0 f), a.1) g n b.1 in
-    let format : f ≡ g = one_texel names.Wgsl front f g (named_so a.0 front f refl) (named_so b.0 front g same.0) in
+    let format : f ≡ g = one_texel sets.Standard front f g (named_so a.0 front f refl) (named_so b.0 front g same.0) in
     let mode : m ≡ n = access_naming.distinct m n same.1 in
     ap (λ f. parameters.Storage f m) format ∙ ap (parameters.Storage g) mode
 listed_one list parameters.None q k a b = absurd a.1
@@ -95,17 +95,17 @@ list_once n l name list lacks at =
     let same = cut_first 60 name n (list ++ codes ">") (l ++ codes ">") at.0 lacks (sym at.1) in
     (same.0, (cut_last 62 list l [] [] tt tt same.1).0)
 
-storage_text : (by : FormatNames) (f : TexelFormat) (m : AccessMode) → (texel_text_by by f ++ codes ", ") ++ access_text m ≡ texel_text_by by f ++ (codes ", " ++ access_text m)
+storage_text : (by : RuleSet) (f : TexelFormat) (m : AccessMode) → (texel_text_by by f ++ codes ", ") ++ access_text m ≡ texel_text_by by f ++ (codes ", " ++ access_text m)
 storage_text by f m = append_assoc (texel_text_by by f) (codes ", ") (access_text m)
 
 sampled_listed : (name list : List ℕ) (s : SampledType) → list ≡ sampled_text s → name ++ ((codes "<" ++ sampled_text s) ++ codes ">") ≡ with_list name list
 sampled_listed name list s is = ap (with_list name) (sym is)
 
-storage_listed : (by : FormatNames) (name list : List ℕ) (f : TexelFormat) (m : AccessMode) → list ≡ texel_text_by by f ++ (codes ", " ++ access_text m) → name ++ ((((codes "<" ++ texel_text_by by f) ++ codes ", ") ++ access_text m) ++ codes ">") ≡ with_list name list
+storage_listed : (by : RuleSet) (name list : List ℕ) (f : TexelFormat) (m : AccessMode) → list ≡ texel_text_by by f ++ (codes ", " ++ access_text m) → name ++ ((((codes "<" ++ texel_text_by by f) ++ codes ", ") ++ access_text m) ++ codes ">") ≡ with_list name list
 storage_listed by name list f m is = ap (with_list name) (storage_text by f m ∙ sym is)
 
 -- a texture whose parameters are in the list is its name with the list
-pub texture_listed : (by : FormatNames) (x : TextureType) (list : List ℕ) → AreListedBy by (parameters_of x) list → texture_text_by by x ≡ with_list (texture_name x) list
+pub texture_listed : (by : RuleSet) (x : TextureType) (list : List ℕ) → AreListedBy by (parameters_of x) list → texture_text_by by x ≡ with_list (texture_name x) list
 texture_listed by (textures.Sampled1D s) list is = sampled_listed (codes "texture_1d") list s is
 texture_listed by (textures.Sampled2D s) list is = sampled_listed (codes "texture_2d") list s is
 texture_listed by (textures.Sampled2DArray s) list is = sampled_listed (codes "texture_2d_array") list s is
@@ -130,12 +130,12 @@ texture_listed by textures.DepthMultisampled2D list is = absurd is
 sampled_cut : (n name list : List ℕ) (s : SampledType) → Lacks 60 n → AtList (n ++ ((codes "<" ++ sampled_text s) ++ codes ">")) name list → (name ≡ n) × (list ≡ sampled_text s)
 sampled_cut n name list s lacks at = list_once n (sampled_text s) name list lacks at
 
-storage_cut : (by : FormatNames) (n name list : List ℕ) (f : TexelFormat) (m : AccessMode) → Lacks 60 n → AtList (n ++ ((((codes "<" ++ texel_text_by by f) ++ codes ", ") ++ access_text m) ++ codes ">")) name list → (name ≡ n) × (list ≡ texel_text_by by f ++ (codes ", " ++ access_text m))
+storage_cut : (by : RuleSet) (n name list : List ℕ) (f : TexelFormat) (m : AccessMode) → Lacks 60 n → AtList (n ++ ((((codes "<" ++ texel_text_by by f) ++ codes ", ") ++ access_text m) ++ codes ">")) name list → (name ≡ n) × (list ≡ texel_text_by by f ++ (codes ", " ++ access_text m))
 storage_cut by n name list f m lacks at =
     let same = list_once n ((texel_text_by by f ++ codes ", ") ++ access_text m) name list lacks at in (same.0, same.1 ∙ storage_text by f m)
 
 -- and the other way round
-pub texture_cut : (by : FormatNames) (x : TextureType) (name list : List ℕ) → AtList (texture_text_by by x) name list → (name ≡ texture_name x) × AreListedBy by (parameters_of x) list
+pub texture_cut : (by : RuleSet) (x : TextureType) (name list : List ℕ) → AtList (texture_text_by by x) name list → (name ≡ texture_name x) × AreListedBy by (parameters_of x) list
 texture_cut by (textures.Sampled1D s) name list at = sampled_cut (codes "texture_1d") name list s (lacks_by 60 (codes "texture_1d") refl) at
 texture_cut by (textures.Sampled2D s) name list at = sampled_cut (codes "texture_2d") name list s (lacks_by 60 (codes "texture_2d") refl) at
 texture_cut by (textures.Sampled2DArray s) name list at = sampled_cut (codes "texture_2d_array") name list s (lacks_by 60 (codes "texture_2d_array") refl) at
@@ -158,7 +158,7 @@ texture_cut by textures.DepthCubeArray name list at = absurd (no_list (codes "te
 texture_cut by textures.DepthMultisampled2D name list at = absurd (no_list (codes "texture_depth_multisampled_2d") (lacks_by 60 (codes "texture_depth_multisampled_2d") refl) name list at)
 
 -- a texture without a list
-pub texture_uncut : (by : FormatNames) (x : TextureType) → ((name list : List ℕ) → ¬ AtList (texture_text_by by x) name list) → (texture_text_by by x ≡ texture_name x) × (parameters_of x ≡ parameters.None)
+pub texture_uncut : (by : RuleSet) (x : TextureType) → ((name list : List ℕ) → ¬ AtList (texture_text_by by x) name list) → (texture_text_by by x ≡ texture_name x) × (parameters_of x ≡ parameters.None)
 texture_uncut by (textures.Sampled1D s) none = absurd (none (codes "texture_1d") (sampled_text s) (lacks_by 60 (codes "texture_1d") refl, refl))
 texture_uncut by (textures.Sampled2D s) none = absurd (none (codes "texture_2d") (sampled_text s) (lacks_by 60 (codes "texture_2d") refl, refl))
 texture_uncut by (textures.Sampled2DArray s) none = absurd (none (codes "texture_2d_array") (sampled_text s) (lacks_by 60 (codes "texture_2d_array") refl, refl))
@@ -180,7 +180,7 @@ texture_uncut by textures.DepthCube none = (refl, refl)
 texture_uncut by textures.DepthCubeArray none = (refl, refl)
 texture_uncut by textures.DepthMultisampled2D none = (refl, refl)
 
-pub texture_alone : (by : FormatNames) (x : TextureType) → parameters_of x ≡ parameters.None → texture_text_by by x ≡ texture_name x
+pub texture_alone : (by : RuleSet) (x : TextureType) → parameters_of x ≡ parameters.None → texture_text_by by x ≡ texture_name x
 texture_alone by (textures.Sampled1D s) e = cc e
 texture_alone by (textures.Sampled2D s) e = cc e
 texture_alone by (textures.Sampled2DArray s) e = cc e

@@ -23,20 +23,20 @@ is_layer_word word = list_any (bytes_eq word) layer_words
 
 -- Where the word and the words before stand, a layer is read, or none since the word is that of no
 -- layer.
-abbrev pub ReadsLayer : List ℕ → List (List ℕ) → List (List ℕ) → Result (Option Around) (Fail Misfit) →
+abbrev pub ReadsLayer : RuleSet → List ℕ → List (List ℕ) → List (List ℕ) → Result (Option Around) (Fail Misfit) →
     Type 0
-ReadsLayer word before after (Ok (Some layer)) = LayerAt (word ∷ before) layer after
-ReadsLayer word before after (Ok None) = (is_layer_word word ≡ false) × (after ≡ before)
-ReadsLayer word before after (Err e) = Refuses ((is_layer_word word ≡ true)
-    × NoneAt LayerAt (word ∷ before)) e
+ReadsLayer rules word before after (Ok (Some layer)) = LayerAt rules (word ∷ before) layer after
+ReadsLayer rules word before after (Ok None) = (is_layer_word word ≡ false) × (after ≡ before)
+ReadsLayer rules word before after (Err e) = Refuses ((is_layer_word word ≡ true)
+    × NoneAt (LayerAt rules) (word ∷ before)) e
 
 -- The same, or none since there is room for no more.
-abbrev pub ReadsNext : List ℕ → List (List ℕ) → List (List ℕ) → Result (Option Around) (Fail Misfit) →
+abbrev pub ReadsNext : RuleSet → List ℕ → List (List ℕ) → List (List ℕ) → Result (Option Around) (Fail Misfit) →
     Type 0
-ReadsNext word before after (Ok (Some layer)) = LayerAt (word ∷ before) layer after
-ReadsNext word before after (Ok None) = after ≡ before
-ReadsNext word before after (Err e) = Refuses ((is_layer_word word ≡ true)
-    × NoneAt LayerAt (word ∷ before)) e
+ReadsNext rules word before after (Ok (Some layer)) = LayerAt rules (word ∷ before) layer after
+ReadsNext rules word before after (Ok None) = after ≡ before
+ReadsNext rules word before after (Err e) = Refuses ((is_layer_word word ≡ true)
+    × NoneAt (LayerAt rules) (word ∷ before)) e
 
 -- the words begin with what the layer stands around
 abbrev pub InsideAt : RuleSet → Around → List (List ℕ) → WgslType → List (List ℕ) → Type 0
@@ -45,7 +45,7 @@ InsideAt rules layer words t rest = (inner : WgslType) × TypeAt rules words inn
 
 -- the words begin with a layer around a type
 abbrev pub InLayerAt : RuleSet → List (List ℕ) → WgslType → List (List ℕ) → Type 0
-InLayerAt rules words t rest = (layer : Around) × (after : List (List ℕ)) × LayerAt words layer after
+InLayerAt rules words t rest = (layer : Around) × (after : List (List ℕ)) × LayerAt rules words layer after
     × InsideAt rules layer after t rest
 
 -- the words begin with a type that is neither a scalar nor a struct

@@ -1,7 +1,7 @@
 -- Which type a text spells: as WGSL writes it, or by a predeclared alias (WGSL, "Predeclared Types", "Predeclared Aliases").
 use Rattle.std.specs.Prelude.{◌≡◌, ◌<◌, ◌^◌, ◌++◌, ℕ, List, [], ◌∷◌, Option, Some, None, codes, decimal, if◌then◌else◌}
 use Rattle.std.specs.Str.{bytes_eq}
-use Rattle.wgsl_syntax.specs.Address.{access_text, default_access, space_text}
+use Rattle.wgsl_syntax.specs.Address.{access_text, default_access, space_text_by}
 use Rattle.wgsl_syntax.specs.Scalar.{scalar_text}
 use Rattle.wgsl_syntax.specs.Texture.{sampler_text, texture_text_by}
 use Rattle.wgsl_syntax.specs.declared.address.AccessMode.{AccessMode}
@@ -11,7 +11,7 @@ use Rattle.wgsl_syntax.specs.declared.around.Around.TheVariants.{Array, Vec, Mat
 use Rattle.wgsl_syntax.specs.declared.attribute.AccelerationStructureFlags.{AccelerationStructureFlags}
 use Rattle.wgsl_syntax.specs.declared.scalar.Scalar.{Scalar}
 use Rattle.wgsl_syntax.specs.declared.scalar.Scalar.TheVariants.{F16, F32, I32, U32}
-use Rattle.wgsl_syntax.specs.declared.texel.FormatNames.{FormatNames}
+use Rattle.wgsl_syntax.specs.declared.rules.RuleSet.{RuleSet}
 use Rattle.wgsl_syntax.specs.declared.texture.SamplerType.{SamplerType}
 use Rattle.wgsl_syntax.specs.declared.texture.TextureType.{TextureType}
 use Rattle.wgsl_rules.specs.types.Around.{around}
@@ -38,10 +38,11 @@ abbrev pub access_of : AddressSpace → Option AccessMode → AccessMode
 access_of s None = default_access s
 access_of s (Some m) = m
 
--- an address space, a type and an access mode: `function, f32, read_write`, `function, f32`
+-- an address space, by WGSL's name or by naga's, a type and an access mode: `function, f32, read_write`, `immediate, f32`
 pub record IsMemory (list : List ℕ) (s : AddressSpace) (inner : List ℕ) (m : AccessMode) : Type 0 where
+  pub rules : RuleSet
   pub said : Option AccessMode
-  pub is : list ≡ space_text s ++ (codes ", " ++ ended_list access_text inner said)
+  pub is : list ≡ space_text_by rules s ++ (codes ", " ++ ended_list access_text inner said)
   pub access : m ≡ access_of s said
 
 -- what may stand between the angle brackets, where the type inside is spelled so
@@ -98,7 +99,7 @@ pub data Spells : List ℕ → WgslType → Type 0 where
   -- `sampler_comparison`
   sampler_is : (s : SamplerType) → Spells (sampler_text s) (sampler s)
   -- `texture_2d<f32>`, `texture_storage_2d<rgba8unorm, write>`: a texel format by WGSL's name or by naga's
-  texture_is : (names : FormatNames) (x : TextureType) → Spells (texture_text_by names x) (texture x)
+  texture_is : (rules : RuleSet) (x : TextureType) → Spells (texture_text_by rules x) (texture x)
   -- `ray_query`, `ray_query<vertex_return>`
   ray_query_is : (f : Option AccelerationStructureFlags) → Spells (flagged (codes "ray_query") f) (ray_query f)
   -- `acceleration_structure`

@@ -12,7 +12,7 @@ use Rattle.wgsl_syntax.specs.Scalar.{scalar_text}
 use Rattle.wgsl_syntax.specs.Texel.{texel_text_by}
 use Rattle.wgsl_syntax.specs.Texture.{sampled_text, sampler_text, texture_name}
 use Rattle.wgsl_syntax.specs.TextureName.{parameters_of}
-use Rattle.wgsl_syntax.specs.declared.texel.FormatNames.{FormatNames}
+use Rattle.wgsl_syntax.specs.declared.rules.RuleSet.{RuleSet}
 use Rattle.wgsl_syntax.specs.declared.texture_name.TextureParameters.{TextureParameters}
 use Rattle.wgsl_syntax.specs.declared.texture_name.TextureParameters.TheVariants as parameters
 use Rattle.wgsl_rules.specs.types.Types.{WgslType, scalar, texture, sampler, ray_query, acceleration_structure}
@@ -123,14 +123,14 @@ PlainSpells name (ray_query None) = name ≡ codes "ray_query"
 PlainSpells name (acceleration_structure None) = name ≡ codes "acceleration_structure"
 PlainSpells name t = ⊥
 
--- the parameters of a texture are those in the list, by these names of texel formats
-abbrev pub AreListedBy : FormatNames → TextureParameters → List ℕ → Type 0
-AreListedBy names parameters.None list = ⊥
-AreListedBy names (parameters.Sampled s) list = list ≡ sampled_text s
-AreListedBy names (parameters.Storage f m) list = list ≡ texel_text_by names f ++ (codes ", " ++ access_text m)
+-- the parameters of a texture are those in the list, by the names of these rules
+abbrev pub AreListedBy : RuleSet → TextureParameters → List ℕ → Type 0
+AreListedBy rules parameters.None list = ⊥
+AreListedBy rules (parameters.Sampled s) list = list ≡ sampled_text s
+AreListedBy rules (parameters.Storage f m) list = list ≡ texel_text_by rules f ++ (codes ", " ++ access_text m)
 
 abbrev pub AreListed : TextureParameters → List ℕ → Type 0
-AreListed p list = (names : FormatNames) × AreListedBy names p list
+AreListed p list = (rules : RuleSet) × AreListedBy rules p list
 
 -- a name with a list is that of a type without a layer
 abbrev pub LeafSpells : List ℕ → List ℕ → WgslType → Type 0

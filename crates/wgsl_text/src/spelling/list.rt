@@ -11,13 +11,13 @@ ghost use Rattle.wgsl_syntax.specs.declared.texture_name.TextureParameters.{Text
 ghost use Rattle.wgsl_syntax.specs.declared.texture_name.TextureParameters.TheVariants as parameters;
 ghost use Rattle.wgsl_text.specs.spelling.internal.{AccessedOf, AreListed, AtFirst, AtLast, AtList, BeginsAsNumber, CountedOf, LayerOf, LeafSpells, MemoryOf, NumberOf, PartsOf, SidesOf, TypeOf};
 
-use crate::outer::space_named;
 use std::str::FromStr;
 use wgsl_core::ty::Type;
 use wgsl_syntax::address::{AccessMode, AddressSpace};
 use wgsl_syntax::around::Around;
 use wgsl_syntax::attribute::AccelerationStructureFlags;
-use wgsl_syntax::texel::{FormatNames, TexelFormat};
+use wgsl_syntax::rules::RuleSet;
+use wgsl_syntax::texel::TexelFormat;
 use wgsl_syntax::texture::{SampledType, TextureType};
 use wgsl_syntax::texture_name::{TextureName, TextureParameterKind, TextureParameters};
 
@@ -73,7 +73,7 @@ fn memory(list: &str) -> Option<(AddressSpace, &str, AccessMode)>
     ensures { MemoryOf list.now result }
 {
     let (space, rest) = first(list)?;
-    let space = space_named(space)?;
+    let space = AddressSpace::named_by(RuleSet::Standard, space)?;
     let (inner, access) = accessed(rest);
     match access {
         Some(access) => Some((space, inner, access)),
@@ -193,6 +193,6 @@ fn storage(list: &str) -> Option<(TexelFormat, AccessMode)>
         (λ found. AreListed (parameters.Storage found.0 found.1) list.now) }
 {
     let (format, access) = first(list)?;
-    let format = TexelFormat::named_by(FormatNames::Wgsl, format)?;
+    let format = TexelFormat::named_by(RuleSet::Standard, format)?;
     Some((format, AccessMode::from_str(access).ok()?))
 }
