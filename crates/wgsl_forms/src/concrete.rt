@@ -22,8 +22,8 @@ use wgsl_core::ty::{StructType, Type};
 use wgsl_standard::operand::OperandType;
 use wgsl_syntax::overload::Dimensions;
 use wgsl_syntax::result_struct::{ResultFunction, ResultPrecision, ResultShape, ResultStruct};
-use wgsl_syntax::scalar::Scalar;
 use wgsl_syntax::rules::RuleSet;
+use wgsl_syntax::scalar::Scalar;
 
 /// The function and the shape of the result struct of an abstract float.
 #[tactic(auto, using(crate::proofs::AbstractResults::recognised))]

@@ -17,8 +17,8 @@ use wgsl_standard::substitution::value_type;
 use wgsl_syntax::address::{AccessMode, AddressSpace};
 use wgsl_syntax::layer::Layer;
 use wgsl_syntax::overload::Dimensions;
-use wgsl_syntax::scalar::Scalar;
 use wgsl_syntax::rules::RuleSet;
+use wgsl_syntax::scalar::Scalar;
 
 /// A type that isn't built, or that is another type made concrete.
 #[derive(Clone, Copy)]

@@ -111,10 +111,7 @@ fn variable_in<'a>(
 }
 
 /// The access mode of a variable: the one that it says, if it may, or the default of the address space.
-fn access_of<'a>(
-    space: AddressSpace,
-    access: Option<AccessMode>,
-) -> Result<AccessMode, Refusal<'a>>
+fn access_of<'a>(space: AddressSpace, access: Option<AccessMode>) -> Result<AccessMode, Refusal<'a>>
     ensures { answer_view (λ access. access) result ≡ access_there space access }
 {
     match access {

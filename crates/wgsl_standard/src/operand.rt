@@ -12,8 +12,8 @@ use wgsl_core::ty::form::Form;
 use wgsl_core::ty::show::write_type;
 use wgsl_syntax::address::AccessMode;
 use wgsl_syntax::overload::Dimensions;
-use wgsl_syntax::scalar::Scalar;
 use wgsl_syntax::rules::RuleSet;
+use wgsl_syntax::scalar::Scalar;
 
 /// An operand of an operator, or an argument of a function.
 #[derive(Clone, Copy)]

@@ -139,11 +139,7 @@ pub(crate) fn common(
     Ok(written?)
 }
 
-fn write_common(
-    types: &[Type],
-    rules: RuleSet,
-    text: &mut String,
-) -> Result<TextKind, AllocError>
+fn write_common(types: &[Type], rules: RuleSet, text: &mut String) -> Result<TextKind, AllocError>
     ensures { IfOk result (λ kind. Adds (IsAnswer (common_request rules (map view types.now)) kind)
         (string_bytes text.old) (string_bytes text.new)) }
 {

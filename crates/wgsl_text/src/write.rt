@@ -140,11 +140,7 @@ pub(crate) fn write_type_or_none(
 }
 
 /// Writes a type by these rules.
-pub(crate) fn write_shown(
-    text: &mut String,
-    rules: RuleSet,
-    ty: &Type,
-) -> Result<(), AllocError>
+pub(crate) fn write_shown(text: &mut String, rules: RuleSet, ty: &Type) -> Result<(), AllocError>
     ensures { OnOk result (string_bytes text.new
         ≡ string_bytes text.old ++ spelling_by rules (view ty.now)) }
 {
