@@ -8,6 +8,7 @@ pub use crate::proved::wgsl_syntax::attribute::{
 pub use crate::proved::wgsl_syntax::builtin_value::BuiltinValue;
 pub use crate::proved::wgsl_syntax::enumerant::Enumerant;
 pub use crate::proved::wgsl_syntax::operator::{AssignmentOperator, BinaryOperator, UnaryOperator};
+pub use crate::proved::wgsl_syntax::rules::RuleSet;
 pub use crate::proved::wgsl_syntax::scalar::Scalar;
 pub use crate::proved::wgsl_syntax::texel::{FormatNames, TexelFormat};
 pub use crate::proved::wgsl_syntax::texture::SampledType;
