@@ -42,9 +42,10 @@
 //! ```
 
 pub use crate::proved::wgsl_core::layout::{PlacedMember, StructLayout};
-use crate::proved::wgsl_forms::layout::min_layout;
+use crate::proved::wgsl_forms::layout::min_layout_by;
 use crate::shim::always;
 use crate::shim::std::alloc::Global;
+use crate::syntax::RuleSet;
 use crate::ty::StructType;
 use alloc::vec::Vec;
 
@@ -63,7 +64,22 @@ impl StructType {
     /// assert_eq!((layout.members[1].offset, layout.members[1].size, layout.size), (16, 12, 32));
     /// ```
     pub fn layout(&self) -> Option<StructLayout> {
-        always(self.rattle_layout(Global))
+        self.layout_by(RuleSet::Ported)
+    }
+
+    /// [`layout`](StructType::layout) by either set of rules. They differ for vectors of three and matrices of three rows.
+    ///
+    /// ```
+    /// use wgsl_types_proved::syntax::RuleSet;
+    /// use wgsl_types_proved::ty::StructType;
+    /// use wgsl_types_proved::Type;
+    ///
+    /// let flags = StructType::new("Flags", [("set", Type::vector(3, Type::Bool))]);
+    /// assert_eq!(flags.layout_by(RuleSet::Standard).map(|layout| layout.size), Some(16));
+    /// assert_eq!(flags.layout_by(RuleSet::Ported), None);
+    /// ```
+    pub fn layout_by(&self, rules: RuleSet) -> Option<StructLayout> {
+        always(self.rattle_layout_by(Global, rules))
     }
 
     /// The smallest layout of the struct if its last member may be a runtime-sized array, which counts as one element (WGSL,
@@ -79,7 +95,12 @@ impl StructType {
     /// assert_eq!((list.layout(), layout.members[1].offset, layout.size), (None, 16, 32));
     /// ```
     pub fn min_layout(&self) -> Option<StructLayout> {
-        always(min_layout(Global, self))
+        self.min_layout_by(RuleSet::Ported)
+    }
+
+    /// [`min_layout`](StructType::min_layout) by either set of rules.
+    pub fn min_layout_by(&self, rules: RuleSet) -> Option<StructLayout> {
+        always(min_layout_by(Global, rules, self))
     }
 
     /// The offset of each member in bytes: no placement has a smaller one. None if [`layout`](StructType::layout) is None.
@@ -92,6 +113,11 @@ impl StructType {
     /// assert_eq!(light.offsets(), Some(vec![0, 16]));
     /// ```
     pub fn offsets(&self) -> Option<Vec<u32>> {
-        always(self.rattle_offsets(Global))
+        self.offsets_by(RuleSet::Ported)
+    }
+
+    /// [`offsets`](StructType::offsets) by either set of rules.
+    pub fn offsets_by(&self, rules: RuleSet) -> Option<Vec<u32>> {
+        always(self.rattle_offsets_by(Global, rules))
     }
 }

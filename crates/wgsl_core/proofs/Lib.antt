@@ -15,4 +15,3 @@ pub mod Converted
 pub mod Slices
 pub mod Vectors
 pub mod Built
-pub mod Stored

@@ -1,10 +1,11 @@
 // Laws of the rules: each function returns nothing, and its contract is the law.
 ghost use Rattle.std.specs.Prelude.{◌≡◌, ◌↔◌, ◌<◌, ℕ, All, IsPermutation, map};
+ghost use Rattle.wgsl_syntax.specs.declared.rules.RuleSet.{RuleSet};
 ghost use Rattle.wgsl_syntax.specs.declared.scalar.Scalar.{Scalar};
 ghost use Rattle.wgsl_rules.specs.types.Types.{scalar, array, vec, mat};
 ghost use Rattle.wgsl_rules.specs.conversion.Conversion.{IsValueType};
 ghost use Rattle.wgsl_rules.specs.Laws.{ConversionOrder, RanksAdd, TargetsComparable, RankNamesTarget, CommonAnyOrder};
-ghost use Rattle.wgsl_rules.specs.layout.Layout.{HasSize};
+ghost use Rattle.wgsl_rules.specs.layout.Layout.{HasSizeBy};
 ghost use Rattle.wgsl_core.specs.View.{view};
 
 use crate::ty::Type;
@@ -42,9 +43,9 @@ pub fn common_any_order(ts: &[Type], us: &[Type])
 {}
 
 /// A matrix of scalars with at least one row has the size of an array of its columns, or both have none (WGSL,
-/// "Alignment and Size").
+/// "Alignment and Size"), by either set of rules.
 pub fn matrix_columns(element: &Type, columns: u8, rows: u8)
-    ensures { (s : Scalar) → view element.now ≡ scalar s → 0 < rows → (n : ℕ)
-        → HasSize (mat columns rows (view element.now)) n
-        ↔ HasSize (array (Some columns) (vec rows (view element.now))) n }
+    ensures { (rules : RuleSet) (s : Scalar) → view element.now ≡ scalar s → 0 < rows → (n : ℕ)
+        → HasSizeBy rules (mat columns rows (view element.now)) n
+        ↔ HasSizeBy rules (array (Some columns) (vec rows (view element.now))) n }
 {}

@@ -1,21 +1,21 @@
 // Sizes, alignments and offsets in memory.
 ghost use Rattle.std.specs.Prelude.{◌≡◌, ◌↔◌, IfOk, IfSome};
 ghost use Rattle.wgsl_rules.specs.types.Types.{scalar, struct, array, vec, mat};
-ghost use Rattle.wgsl_rules.specs.layout.Layout.{IsAtomicSize, IsTimes, IsArraySize, IsAlignOfThree, IsVectorAlign, IsGiven, HasSize, HasAlignment, HasLeastSize, IsStructAlign, HaveAlignments, IsExactly, HasNoSize, LacksSize, AreOffsets};
+ghost use Rattle.wgsl_rules.specs.layout.Layout.{IsAtomicSize, IsTimes, IsArraySize, IsAlignOfThreeBy, IsVectorAlignBy, IsGiven, HasSize, HasSizeBy, HasAlignment, HasAlignmentBy, HasLeastSize, IsStructAlign, HaveAlignments, IsExactly, HasNoSize, HasNoSizeBy, LacksSize, AreOffsets, AreOffsetsBy};
 ghost use Rattle.wgsl_rules.specs.Headline.{IsLeastPlacedSize};
 ghost use Rattle.wgsl_core.specs.View.{view, struct_view, member_view};
 ghost use Rattle.wgsl_core.specs.Forms.{scalar_of};
-ghost use Rattle.wgsl_core.specs.Layout.{IsLayoutOf, offsets_of};
+ghost use Rattle.wgsl_core.specs.Layout.{IsLayoutOf, IsLayoutOfBy, offsets_of};
 ghost use Rattle.wgsl_core.specs.Placing.{IsValue};
 ghost use Rattle.wgsl_core.specs.internal.Layout.{IsMeasure, HasSomeSize, ArePlaced};
 
 pub mod placing;
-mod stored;
 
 use crate::layout::placing::{Placing, rounded_up};
 use crate::ty::form::Form;
 use crate::ty::{StructMemberType, StructType, Type};
 use std::alloc::{AllocError, Global};
+use wgsl_syntax::rules::RuleSet;
 use wgsl_syntax::scalar::Scalar;
 
 /// The layout of a struct (WGSL, "Structure Member Layout"), in bytes.
@@ -60,7 +60,7 @@ impl Type {
         ensures exact { IsExactly result (HasSize (view self.now)) }
         ensures none { (result ≡ None) ↔ LacksSize (view self.now) }
     {
-        self.measure().size
+        self.measure(RuleSet::Ported).size
     }
 
     /// The least size in bytes: the stride of a runtime-sized array, and the size of any other type (WGSL, "Alignment
@@ -87,7 +87,7 @@ impl Type {
     pub fn align_of(&self) -> Option<u32>
         ensures { IsExactly result (HasAlignment (view self.now)) }
     {
-        self.measure().align
+        self.measure(RuleSet::Ported).align
     }
 
     /// What `size_of` and `align_of` return, in one walk over the type.
@@ -95,7 +95,16 @@ impl Type {
         ensures size { IsExactly result.0 (HasSize (view self.now)) }
         ensures align { IsExactly result.1 (HasAlignment (view self.now)) }
     {
-        let measure = self.measure();
+        self.size_and_align_by(RuleSet::Ported)
+    }
+
+    /// The size and the alignment in bytes by either set of rules, in one walk over the type. They differ for vectors of
+    /// three and matrices of three rows: by WGSL's own rules one of any scalar has the alignment of that of four.
+    pub fn size_and_align_by(&self, rules: RuleSet) -> (Option<u32>, Option<u32>)
+        ensures size { IsExactly result.0 (HasSizeBy rules (view self.now)) }
+        ensures align { IsExactly result.1 (HasAlignmentBy rules (view self.now)) }
+    {
+        let measure = self.measure(rules);
         (measure.size, measure.align)
     }
 
@@ -103,30 +112,30 @@ impl Type {
     #[cycle(measure)]
     #[inline(always)]
     #[tactic(auto, using(crate::proofs::Scalars::scalar_is))]
-    fn measure(&self) -> Measure
-        ensures { IsMeasure (view self.now) result }
+    fn measure(&self, rules: RuleSet) -> Measure
+        ensures { IsMeasure rules (view self.now) result }
     {
         match self.scalar() {
             Some(scalar) => measure_of_scalar(scalar),
             None => match self {
-                Type::Vec(n, ty) => vector_measure(*n, ty),
-                _ => self.measure_of_others(),
+                Type::Vec(n, ty) => vector_measure(rules, *n, ty),
+                _ => self.measure_of_others(rules),
             },
         }
     }
 
     #[cycle(measure)]
     #[inline(never)]
-    fn measure_of_others(&self) -> Measure
+    fn measure_of_others(&self, rules: RuleSet) -> Measure
         requires { scalar_of (view self.now) ≡ None }
-        ensures { IsMeasure (view self.now) result }
+        ensures { IsMeasure rules (view self.now) result }
     {
         match self {
-            Type::Vec(n, ty) => vector_measure(*n, ty),
-            Type::Mat(c, r, ty) => matrix_measure(*c, *r, ty),
-            Type::Array(ty, count) => array_measure(ty, *count),
+            Type::Vec(n, ty) => vector_measure(rules, *n, ty),
+            Type::Mat(c, r, ty) => matrix_measure(rules, *c, *r, ty),
+            Type::Array(ty, count) => array_measure(rules, ty, *count),
             Type::Atomic(ty) => measure_of_size(atomic_size(ty)),
-            Type::Struct(s) => s.measure(),
+            Type::Struct(s) => s.measure(rules),
             Type::Ptr(_, _, _)
             | Type::Ref(_, _, _)
             | Type::Texture(_)
@@ -153,7 +162,7 @@ impl Type {
 
 #[inline(always)]
 fn measure_of_scalar(of: Scalar) -> Measure
-    ensures { IsMeasure (scalar of) result }
+    ensures { (rules : RuleSet) → IsMeasure rules (scalar of) result }
 {
     match of {
         Scalar::Bool | Scalar::I32 | Scalar::U32 | Scalar::F32 => measure_of_size(4),
@@ -185,22 +194,22 @@ fn atomic_size(ty: &Type) -> u32
 }
 
 #[cycle(measure)]
-fn vector_measure(n: u8, ty: &Type) -> Measure
-    ensures { IsMeasure (vec n (view ty.now)) result }
+fn vector_measure(rules: RuleSet, n: u8, ty: &Type) -> Measure
+    ensures { IsMeasure rules (vec n (view ty.now)) result }
 {
-    let component = ty.measure();
+    let component = ty.measure(rules);
     Measure {
         size: times(u32::from(n), component.size),
-        align: vector_align(n, ty, component.size),
+        align: vector_align(rules, n, ty, component.size),
     }
 }
 
 #[cycle(measure)]
-fn matrix_measure(columns: u8, rows: u8, ty: &Type) -> Measure
-    ensures { IsMeasure (mat columns rows (view ty.now)) result }
+fn matrix_measure(rules: RuleSet, columns: u8, rows: u8, ty: &Type) -> Measure
+    ensures { IsMeasure rules (mat columns rows (view ty.now)) result }
 {
-    let component = ty.measure();
-    let align = vector_align(rows, ty, component.size);
+    let component = ty.measure(rules);
+    let align = vector_align(rules, rows, ty, component.size);
     Measure {
         size: times(u32::from(columns), align),
         align,
@@ -208,10 +217,10 @@ fn matrix_measure(columns: u8, rows: u8, ty: &Type) -> Measure
 }
 
 #[cycle(measure)]
-fn array_measure(ty: &Type, count: Option<usize>) -> Measure
-    ensures { IsMeasure (array count (view ty.now)) result }
+fn array_measure(rules: RuleSet, ty: &Type, count: Option<usize>) -> Measure
+    ensures { IsMeasure rules (array count (view ty.now)) result }
 {
-    let element = ty.measure();
+    let element = ty.measure(rules);
     Measure {
         size: array_size(count, rounded_up(element.size, element.align)),
         align: element.align,
@@ -221,7 +230,7 @@ fn array_measure(ty: &Type, count: Option<usize>) -> Measure
 fn least_array_size(ty: &Type, count: Option<usize>) -> Option<u32>
     ensures { IsExactly result (HasLeastSize (array count (view ty.now))) }
 {
-    let element = ty.measure();
+    let element = ty.measure(RuleSet::Ported);
     let stride = rounded_up(element.size, element.align);
     match count {
         None => stride,
@@ -236,23 +245,26 @@ fn array_size(count: Option<usize>, stride: Option<u32>) -> Option<u32>
     times(count, stride)
 }
 
-fn vector_align(n: u8, ty: &Type, size: Option<u32>) -> Option<u32>
-    ensures { IsExactly result (IsVectorAlign n (view ty.now) (IsValue size)) }
+fn vector_align(rules: RuleSet, n: u8, ty: &Type, size: Option<u32>) -> Option<u32>
+    ensures { IsExactly result (IsVectorAlignBy rules n (view ty.now) (IsValue size)) }
 {
     if n == 3 {
-        align_of_three(ty)
+        align_of_three(rules, ty, size)
     } else {
         times(u32::from(n), size)
     }
 }
 
-fn align_of_three(ty: &Type) -> Option<u32>
-    ensures { IsExactly result (IsAlignOfThree (view ty.now)) }
+fn align_of_three(rules: RuleSet, ty: &Type, size: Option<u32>) -> Option<u32>
+    ensures { IsExactly result (IsAlignOfThreeBy rules (view ty.now) (IsValue size)) }
 {
-    match ty {
-        Type::I32 | Type::U32 | Type::F32 => Some(16),
-        Type::F16 => Some(8),
-        _ => None,
+    match rules {
+        RuleSet::Ported => match ty {
+            Type::I32 | Type::U32 | Type::F32 => Some(16),
+            Type::F16 => Some(8),
+            _ => None,
+        },
+        RuleSet::Standard => times(4, size),
     }
 }
 
@@ -269,7 +281,7 @@ impl StructType {
     pub fn size_of(&self) -> Option<u32>
         ensures { IsLeastPlacedSize (struct_view self.now).members result }
     {
-        let measure = self.measure();
+        let measure = self.measure(RuleSet::Ported);
         measure.size
     }
 
@@ -280,7 +292,7 @@ impl StructType {
         ensures { let ms = (struct_view self.now).members in
             IsExactly result (IsStructAlign (HaveAlignments ms)) }
     {
-        let measure = self.measure();
+        let measure = self.measure(RuleSet::Ported);
         measure.align
     }
 
@@ -294,12 +306,25 @@ impl StructType {
         ensures layout { IfOk result (λ answer.
             IfSome answer (IsLayoutOf (struct_view self.now).members)) }
     {
-        let whole = self.measure();
+        self.layout_by(alloc, RuleSet::Ported)
+    }
+
+    /// The layout of the struct by either set of rules. None for the same causes.
+    pub fn layout_by(
+        &self,
+        alloc: Global,
+        rules: RuleSet,
+    ) -> Result<Option<StructLayout>, AllocError>
+        ensures none { HasNoSizeBy rules (struct_view self.now).members ↔ (result ≡ Ok None) }
+        ensures layout { IfOk result (λ answer.
+            IfSome answer (IsLayoutOfBy rules (struct_view self.now).members)) }
+    {
+        let whole = self.measure(rules);
         let Some(size) = whole.size else {
             return Ok(None);
         };
         let align = whole.align.unwrap();
-        let members = self.placed_members(alloc)?;
+        let members = self.placed_members(alloc, rules)?;
         Ok(Some(StructLayout {
             members,
             size,
@@ -315,21 +340,31 @@ impl StructType {
         ensures offsets { IfOk result (λ answer. IfSome answer (λ offsets.
             AreOffsets (struct_view self.now).members offsets.items)) }
     {
-        let Some(layout) = self.layout(alloc)? else {
+        self.offsets_by(alloc, RuleSet::Ported)
+    }
+
+    /// The offset of each member in bytes by either set of rules. None if `layout_by` is None.
+    pub fn offsets_by(&self, alloc: Global, rules: RuleSet) -> Result<Option<Vec<u32>>, AllocError>
+        ensures none { HasNoSizeBy rules (struct_view self.now).members ↔ (result ≡ Ok None) }
+        ensures offsets { IfOk result (λ answer. IfSome answer (λ offsets.
+            AreOffsetsBy rules (struct_view self.now).members offsets.items)) }
+    {
+        let Some(layout) = self.layout_by(alloc, rules)? else {
             return Ok(None);
         };
         Ok(Some(member_offsets(alloc, &layout.members)?))
     }
 
     /// Each member at its smallest offset.
-    fn placed_members(&self, alloc: Global) -> Result<Vec<PlacedMember>, AllocError>
-        requires { HasSomeSize (struct_view self.now).members }
-        ensures { IfOk result (λ members. ArePlaced (struct_view self.now).members members.items) }
+    fn placed_members(&self, alloc: Global, rules: RuleSet) -> Result<Vec<PlacedMember>, AllocError>
+        requires { HasSomeSize rules (struct_view self.now).members }
+        ensures { IfOk result (λ members.
+            ArePlaced rules (struct_view self.now).members members.items) }
     {
         let mut members = Vec::with_capacity(alloc, self.members.len())?;
         let mut placing = Placing::start();
         for member in &self.members {
-            let measure = member.measure();
+            let measure = member.measure(rules);
             let size = measure.size.unwrap();
             let align = measure.align.unwrap();
             let offset = placing.place(Some(size), align).unwrap();
@@ -343,12 +378,12 @@ impl StructType {
     }
 
     #[cycle(measure)]
-    fn measure(&self) -> Measure
-        ensures { let s = struct_view self.now in IsMeasure (struct s.name s.members) result }
+    fn measure(&self, rules: RuleSet) -> Measure
+        ensures { let s = struct_view self.now in IsMeasure rules (struct s.name s.members) result }
     {
         let mut placing = Placing::start();
         for member in &self.members {
-            let measure = member.measure();
+            let measure = member.measure(rules);
             let Some(align) = measure.align else {
                 return Measure {
                     size: None,
@@ -377,13 +412,13 @@ fn member_offsets(alloc: Global, members: &[PlacedMember]) -> Result<Vec<u32>, A
 impl StructMemberType {
     #[cycle(measure)]
     #[inline(always)]
-    fn measure(&self) -> Measure
+    fn measure(&self, rules: RuleSet) -> Measure
         ensures size { let m = member_view self.now in
-            IsExactly result.size (IsGiven m.size (HasSize m.ty)) }
+            IsExactly result.size (IsGiven m.size (HasSizeBy rules m.ty)) }
         ensures align { let m = member_view self.now in
-            IsExactly result.align (IsGiven m.align (HasAlignment m.ty)) }
+            IsExactly result.align (IsGiven m.align (HasAlignmentBy rules m.ty)) }
     {
-        let ty = self.ty.measure();
+        let ty = self.ty.measure(rules);
         Measure {
             size: self.size.or(ty.size),
             align: self.align.or(ty.align),

@@ -1,7 +1,7 @@
 // The smallest layout of a struct.
 ghost use Rattle.std.specs.Prelude.{◌≡◌, IfOk, MatchOption, map};
-ghost use Rattle.wgsl_rules.specs.layout.Layout.{HasNoSize};
-ghost use Rattle.wgsl_core.specs.Layout.{IsLayoutOf};
+ghost use Rattle.wgsl_rules.specs.layout.Layout.{HasNoSize, HasNoSizeBy};
+ghost use Rattle.wgsl_core.specs.Layout.{IsLayoutOf, IsLayoutOfBy};
 ghost use Rattle.wgsl_core.specs.View.{view, struct_view, member_view};
 ghost use Rattle.wgsl_core.specs.internal.View.{members_view};
 ghost use Rattle.wgsl_forms.specs.Layout.{smallest_members, with_one_element};
@@ -10,6 +10,7 @@ use std::alloc::{AllocError, Global};
 use wgsl_core::layout::StructLayout;
 use wgsl_core::ty::form::Form;
 use wgsl_core::ty::{StructMemberType, StructType, Type};
+use wgsl_syntax::rules::RuleSet;
 
 /// The smallest layout of a struct, whose last member may be a runtime-sized array, which then counts as one element
 /// (WGSL, "Minimum Binding Size"). None if the struct with one element there has no layout.
@@ -17,8 +18,21 @@ pub fn min_layout(alloc: Global, s: &StructType) -> Result<Option<StructLayout>,
     ensures { let ms = smallest_members (struct_view s.now).members in
         IfOk result (λ answer. MatchOption answer (HasNoSize ms) (λ layout. IsLayoutOf ms layout)) }
 {
+    min_layout_by(alloc, RuleSet::Ported, s)
+}
+
+/// The smallest layout of a struct by either set of rules. None for the same cause.
+pub fn min_layout_by(
+    alloc: Global,
+    rules: RuleSet,
+    s: &StructType,
+) -> Result<Option<StructLayout>, AllocError>
+    ensures { let ms = smallest_members (struct_view s.now).members in
+        IfOk result (λ answer.
+        MatchOption answer (HasNoSizeBy rules ms) (λ layout. IsLayoutOfBy rules ms layout)) }
+{
     let smallest = smallest_struct(alloc, s)?;
-    smallest.layout(alloc)
+    smallest.layout_by(alloc, rules)
 }
 
 fn smallest_struct(alloc: Global, s: &StructType) -> Result<StructType, AllocError>

@@ -10,7 +10,7 @@ use Rattle.wgsl_rules.specs.Headline.{Receives}
 use Rattle.wgsl_rules.specs.conversion.Common.{IsLeftCommon}
 use Rattle.wgsl_rules.specs.conversion.Conversion.{Converts}
 use Rattle.wgsl_rules.specs.layout.Placement.{MemberLayout}
-use Rattle.wgsl_rules.specs.layout.Layout.{AreOffsets, HasAlignment, HasNoSize, HasSize, IsExactly, IsStructLayout}
+use Rattle.wgsl_rules.specs.layout.Layout.{AreOffsetsBy, HasAlignmentBy, HasNoSizeBy, HasSizeBy, IsExactly, IsStructLayoutBy}
 use Rattle.wgsl_rules.specs.operators.Answers.{IsOperatorAnswer, IsUnaryAnswer}
 use Rattle.wgsl_rules.specs.constructors.Constructors.{IsConstructorAnswer}
 use Rattle.wgsl_rules.specs.calls.Answers.{IsCallAnswer}
@@ -55,14 +55,14 @@ IsReceivedCommon ts (Some t) = IsLeftCommon ts (Some t) × Receives t ts
 IsReceivedCommon ts None = (t : WgslType) → IsLeftCommon ts (Some t) → ¬ Receives t ts
 
 -- the offsets of these members, unless their struct has no size
-abbrev pub AreOffsetsOf : Members → Option (List ℕ) → Type 0
-AreOffsetsOf ms (Some ns) = AreOffsets ms ns
-AreOffsetsOf ms None = HasNoSize ms
+abbrev pub AreOffsetsOf : RuleSet → Members → Option (List ℕ) → Type 0
+AreOffsetsOf rules ms (Some ns) = AreOffsetsBy rules ms ns
+AreOffsetsOf rules ms None = HasNoSizeBy rules ms
 
 -- the layout of a struct with these members, unless it has no size
-abbrev pub IsLayoutOf : Members → Option WgslLayout → Type 0
-IsLayoutOf ms (Some l) = IsStructLayout ms l.layouts l.offsets l.size l.align
-IsLayoutOf ms None = HasNoSize ms
+abbrev pub IsLayoutOf : RuleSet → Members → Option WgslLayout → Type 0
+IsLayoutOf rules ms (Some l) = IsStructLayoutBy rules ms l.layouts l.offsets l.size l.align
+IsLayoutOf rules ms None = HasNoSizeBy rules ms
 
 -- The answer is one to the request.
 pub data Answers : WgslRequest → WgslAnswer → Type 0 where
@@ -74,12 +74,12 @@ pub data Answers : WgslRequest → WgslAnswer → Type 0 where
       IsUnaryAnswer o t r → Answers (unary o t) (a_type r)
   binary_is : {o : BinaryOperator} {t u : WgslType} (r : Result WgslType Refusal) →
       IsOperatorAnswer o t u r → Answers (binary o t u) (a_type r)
-  size_is : {t : WgslType} (s a : Option ℕ) → IsExactly s (HasSize t) →
-      IsExactly a (HasAlignment t) → Answers (size t) (a_size s a)
-  offsets_are : {name : List ℕ} {ms : Members} (found : Option (List ℕ)) →
-      AreOffsetsOf ms found → Answers (offsets name ms) (some_offsets found)
-  layout_is : {name : List ℕ} {ms laid : Members} (found : Option WgslLayout) →
-      IsLayoutOf laid found → Answers (layout name ms laid) (a_layout name ms found)
+  size_is : {rules : RuleSet} {t : WgslType} (s a : Option ℕ) → IsExactly s (HasSizeBy rules t) →
+      IsExactly a (HasAlignmentBy rules t) → Answers (size rules t) (a_size s a)
+  offsets_are : {rules : RuleSet} {name : List ℕ} {ms : Members} (found : Option (List ℕ)) →
+      AreOffsetsOf rules ms found → Answers (offsets rules name ms) (some_offsets found)
+  layout_is : {rules : RuleSet} {name : List ℕ} {ms : Members} (found : Option WgslLayout) →
+      IsLayoutOf rules ms found → Answers (layout rules name ms) (a_layout name ms found)
   ctor_is : {c : Signature} (r : Result WgslType Refusal) →
       IsConstructorAnswer c r → Answers (ctor c) (a_type r)
   call_is : {c : Signature} (r : Result (Option WgslType) Refusal) →

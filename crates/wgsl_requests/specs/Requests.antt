@@ -18,12 +18,10 @@ pub data WgslRequest : Type 0 where
   -- the type of an expression with a unary or a binary operator
   unary : UnaryOperator → WgslType → WgslRequest
   binary : BinaryOperator → WgslType → WgslType → WgslRequest
-  -- the size and the alignment of a type
-  size : WgslType → WgslRequest
-  -- the offsets of a struct's members
-  offsets : List ℕ → Members → WgslRequest
-  -- the layout of a struct with these members, which are laid out as the last ones
-  layout : List ℕ → Members → Members → WgslRequest
+  -- by these rules: the size and the alignment of a type, the offsets of a struct's members, and its layout
+  size : RuleSet → WgslType → WgslRequest
+  offsets : RuleSet → List ℕ → Members → WgslRequest
+  layout : RuleSet → List ℕ → Members → WgslRequest
   -- the type that a constructor makes, and what a built-in function returns
   ctor : Signature → WgslRequest
   call : Signature → WgslRequest

@@ -30,10 +30,9 @@ abbrev pub request_view : Request → WgslRequest
 request_view (requests.Rank t u) = rank (view t.now) (view u.now)
 request_view (requests.Unary o t) = unary o (view t.now)
 request_view (requests.Binary o t u) = binary o (view t.now) (view u.now)
-request_view (requests.Size t) = size (view t.now)
-request_view (requests.Offsets s) = let seen = struct_view s.now in offsets seen.name seen.members
-request_view (requests.Layout s laid) =
-    let seen = struct_view s.now in layout seen.name seen.members (struct_view laid.now).members
+request_view (requests.Size rules t) = size rules (view t.now)
+request_view (requests.Offsets rules s) = let seen = struct_view s.now in offsets rules seen.name seen.members
+request_view (requests.Layout rules s) = let seen = struct_view s.now in layout rules seen.name seen.members
 request_view (requests.Constructor c) = ctor (signature_of c)
 request_view (requests.Call c) = call (signature_of c)
 request_view (requests.Type c) = type_of (standard_view c.now)

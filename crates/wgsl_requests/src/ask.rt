@@ -36,12 +36,16 @@ pub fn answer<'r>(alloc: Global, request: Request<'r>) -> Result<Answer<'r>, All
         Request::Binary(operator, lhs, rhs) => {
             Ok(Answer::Binary(resolved_type(operator, lhs, rhs)))
         }
-        Request::Size(ty) => {
-            let (size, align) = ty.size_and_align_of();
+        Request::Size(rules, ty) => {
+            let (size, align) = ty.size_and_align_by(rules);
             Ok(Answer::Size(size, align))
         }
-        Request::Offsets(structure) => Ok(Answer::Offsets(structure.offsets(alloc)?)),
-        Request::Layout(structure, laid) => Ok(Answer::Layout(structure, laid.layout(alloc)?)),
+        Request::Offsets(rules, structure) => {
+            Ok(Answer::Offsets(structure.offsets_by(alloc, rules)?))
+        }
+        Request::Layout(rules, structure) => {
+            Ok(Answer::Layout(structure, structure.layout_by(alloc, rules)?))
+        }
         Request::Constructor(named) => {
             let made = type_ctor(alloc, named.name, named.template, named.args);
             Ok(Answer::Type(settled(made)?))

@@ -8,6 +8,7 @@ use wgsl_standard::callee::Callee;
 use wgsl_standard::operand::Operand;
 use wgsl_syntax::address::{AccessMode, AddressSpace};
 use wgsl_syntax::operator::{AssignmentOperator, BinaryOperator, UnaryOperator};
+use wgsl_syntax::rules::RuleSet;
 
 /// A request about the rules.
 #[derive(Clone, Copy)]
@@ -18,12 +19,12 @@ pub enum Request<'r> {
     Unary(UnaryOperator, &'r Type),
     /// The type of a binary expression.
     Binary(BinaryOperator, &'r Type, &'r Type),
-    /// The size and the alignment of a type.
-    Size(&'r Type),
-    /// The offsets of a struct's members.
-    Offsets(&'r StructType),
-    /// The layout of a struct, whose members are laid out as those of the second one.
-    Layout(&'r StructType, &'r StructType),
+    /// The size and the alignment of a type, by these rules.
+    Size(RuleSet, &'r Type),
+    /// The offsets of a struct's members, by these rules.
+    Offsets(RuleSet, &'r StructType),
+    /// The layout of a struct, by these rules.
+    Layout(RuleSet, &'r StructType),
     /// The type that a constructor makes.
     Constructor(NamedCall<'r>),
     /// What a built-in function returns.

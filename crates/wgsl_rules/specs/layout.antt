@@ -1,3 +1,2 @@
 pub mod Placement
 pub mod Layout
-pub mod Stored

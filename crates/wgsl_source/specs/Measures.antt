@@ -1,7 +1,8 @@
 -- The size and the alignment of a type of a module, from its scalar or from its element (WGSL, "Alignment and Size").
-use Rattle.std.specs.Prelude.{◌≡◌, ◌≢◌, ◌⊎◌, ℕ, Option, Some, None}
-use Rattle.wgsl_syntax.specs.declared.scalar.Scalar.{Scalar}
-use Rattle.wgsl_rules.specs.layout.Layout.{IsExactly, IsScalarSize, IsStride, IsTimes}
+use Rattle.std.specs.Prelude.{ℕ, Option, Some, None}
+use Rattle.wgsl_syntax.specs.declared.rules.RuleSet.TheVariants.{Standard}
+use Rattle.wgsl_rules.specs.types.Types.{WgslType}
+use Rattle.wgsl_rules.specs.layout.Layout.{HasAlignmentBy, HasSizeBy, IsExactly, IsStride}
 use Rattle.wgsl_core.specs.Placing.{IsValue}
 use Rattle.wgsl_source.specs.declared.measured.Count.{Count}
 use Rattle.wgsl_source.specs.declared.measured.Count.TheVariants.{Known, Runtime, Override}
@@ -12,13 +13,9 @@ pub record IsMeasure (IsSize IsAlign : ℕ → Type 0) (m : MeasuredType) : Type
   pub size : IsExactly m.size IsSize
   pub align : IsExactly m.align IsAlign
 
--- the alignment of a vector: its size, but of three components that of four
-abbrev pub IsVectorAlign : ℕ → Scalar → ℕ → Type 0
-IsVectorAlign n s a = ((n ≡ 3) × IsTimes 4 (IsScalarSize s) a) ⊎ ((n ≢ 3) × IsTimes n (IsScalarSize s) a)
-
--- a matrix lies as an array of its columns, each as far from the next as its alignment
-abbrev pub IsMatrixSize : ℕ → ℕ → Scalar → ℕ → Type 0
-IsMatrixSize columns rows s = IsTimes columns (IsVectorAlign rows s)
+-- the size and the alignment of this type by WGSL's own rules
+abbrev pub IsMeasureOf : WgslType → MeasuredType → Type 0
+IsMeasureOf t = IsMeasure (HasSizeBy Standard t) (HasAlignmentBy Standard t)
 
 -- the number of elements that an array is known to have
 abbrev pub known_count : Count → Option ℕ

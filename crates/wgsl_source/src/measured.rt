@@ -1,8 +1,10 @@
 // Types of a module, each with its size and alignment.
 ghost use Rattle.std.specs.Prelude.{◌≡◌, Some};
-ghost use Rattle.wgsl_rules.specs.layout.Layout.{IsArraySize, IsExactly, IsScalarSize, IsTimes};
+ghost use Rattle.wgsl_syntax.specs.declared.rules.RuleSet.TheVariants.{Standard};
+ghost use Rattle.wgsl_rules.specs.types.Types.{atomic, mat, scalar as scalar_type, vec};
+ghost use Rattle.wgsl_rules.specs.layout.Layout.{HasAlignmentBy, IsArraySize, IsAtomicSize, IsExactly, IsScalarSize, IsTimes};
 ghost use Rattle.wgsl_core.specs.Placing.{IsValue};
-ghost use Rattle.wgsl_source.specs.Measures.{IsMatrixSize, IsMeasure, IsStrideOf, IsVectorAlign, known_count};
+ghost use Rattle.wgsl_source.specs.Measures.{IsMeasure, IsMeasureOf, IsStrideOf, known_count};
 
 use wgsl_syntax::address::{AccessMode, AddressSpace};
 use wgsl_syntax::attribute::AccelerationStructureFlags;
@@ -83,7 +85,7 @@ impl MeasuredType {
 
     /// A scalar.
     pub fn scalar(scalar: Scalar) -> MeasuredType
-        ensures { IsMeasure (IsScalarSize scalar) (IsScalarSize scalar) result }
+        ensures { IsMeasureOf (scalar_type scalar) result }
     {
         let size = scalar_size(scalar);
         MeasuredType::leaf(TypeKind::Scalar(scalar), size, size)
@@ -91,7 +93,7 @@ impl MeasuredType {
 
     /// A vector of this many scalars.
     pub fn vector(count: u8, scalar: Scalar) -> MeasuredType
-        ensures { IsMeasure (IsTimes count (IsScalarSize scalar)) (IsVectorAlign count scalar) result }
+        ensures { IsMeasureOf (vec count (scalar_type scalar)) result }
     {
         let size = times(u32::from(count), scalar_size(scalar));
         MeasuredType::leaf(
@@ -103,7 +105,7 @@ impl MeasuredType {
 
     /// A matrix with these numbers of columns and rows.
     pub fn matrix(columns: u8, rows: u8, scalar: Scalar) -> MeasuredType
-        ensures { IsMeasure (IsMatrixSize columns rows scalar) (IsVectorAlign rows scalar) result }
+        ensures { IsMeasureOf (mat columns rows (scalar_type scalar)) result }
     {
         let align = vector_align(rows, scalar);
         let size = times(u32::from(columns), align);
@@ -112,9 +114,9 @@ impl MeasuredType {
 
     /// An atomic of this scalar.
     pub fn atomic(scalar: Scalar) -> MeasuredType
-        ensures { IsMeasure (IsScalarSize scalar) (IsScalarSize scalar) result }
+        ensures { IsMeasureOf (atomic (scalar_type scalar)) result }
     {
-        let size = scalar_size(scalar);
+        let size = atomic_size(scalar);
         MeasuredType::leaf(TypeKind::Atomic(scalar), size, size)
     }
 
@@ -172,9 +174,19 @@ fn scalar_size(scalar: Scalar) -> Option<u32>
     }
 }
 
+/// The size of an atomic, which is its alignment too.
+fn atomic_size(scalar: Scalar) -> Option<u32>
+    ensures { IsExactly result (IsAtomicSize (scalar_type scalar)) }
+{
+    match scalar {
+        Scalar::I64 | Scalar::U64 => Some(8),
+        _ => Some(4),
+    }
+}
+
 /// The alignment of a vector: that of three components is that of four.
 fn vector_align(count: u8, scalar: Scalar) -> Option<u32>
-    ensures { IsExactly result (IsVectorAlign count scalar) }
+    ensures { IsExactly result (HasAlignmentBy Standard (vec count (scalar_type scalar))) }
 {
     let size = scalar_size(scalar);
     if count == 3 {

@@ -8,7 +8,6 @@ use Rattle.wgsl_syntax.specs.declared.rules.RuleSet.TheVariants.{Ported, Standar
 use Rattle.wgsl_rules.specs.standard.Choice.{Operand}
 use Rattle.wgsl_rules.specs.types.Types.{WgslType, struct, Members}
 use Rattle.wgsl_rules.specs.types.Signatures.{Signature}
-use Rattle.wgsl_rules.specs.layout.Stored.{stored, stored_members}
 use Rattle.wgsl_requests.specs.CallForms.{type_asked}
 use Rattle.wgsl_requests.specs.Calls.{WgslCall}
 use Rattle.wgsl_forms.specs.declared.form.Referent.TheVariants.{Component}
@@ -28,15 +27,6 @@ IsCallee (name ∷ words) c =
     (name ≡ c.name) × (after : List (List ℕ))
     × TemplateAt Ported words c.template after × TypesAt Ported after c.arguments
 
--- the type as the rules lay it out, by WGSL's own with a `u32` for each `bool`
-abbrev pub laid_out : RuleSet → WgslType → WgslType
-laid_out Ported t = t
-laid_out Standard t = stored t
-
-abbrev pub members_laid_out : RuleSet → Members → Members
-members_laid_out Ported ms = ms
-members_laid_out Standard ms = stored_members ms
-
 -- The words spell the request.
 pub data IsRequest : RuleSet → List (List ℕ) → Request → Type 0 where
   -- about types alone, for either set of rules
@@ -49,15 +39,15 @@ pub data IsRequest : RuleSet → List (List ℕ) → Request → Type 0 where
       IsRequest rules (codes "common" ∷ words) (common rules ts)
   -- `size vec 3 f32`
   size_words : {rules : RuleSet} {words : List (List ℕ)} {t : WgslType} → TypeAt rules words t [] →
-      IsRequest rules (codes "size" ∷ words) (size (laid_out rules t))
+      IsRequest rules (codes "size" ∷ words) (size rules t)
   -- `offsets struct S 2 a - - f32 b 16 - vec 3 f32`
   offsets_words : {rules : RuleSet} {words : List (List ℕ)} {name : List ℕ} {ms : Members} →
       TypeAt rules words (struct name ms) [] →
-      IsRequest rules (codes "offsets" ∷ words) (offsets name (members_laid_out rules ms))
+      IsRequest rules (codes "offsets" ∷ words) (offsets rules name ms)
   -- `layout struct S 2 a - - f32 b 16 - vec 3 f32`
   layout_words : {rules : RuleSet} {words : List (List ℕ)} {name : List ℕ} {ms : Members} →
       TypeAt rules words (struct name ms) [] →
-      IsRequest rules (codes "layout" ∷ words) (layout name ms (members_laid_out rules ms))
+      IsRequest rules (codes "layout" ∷ words) (layout rules name ms)
   -- by the rules of wgsl-types
 
   -- `unary - vec 3 f32`

@@ -2,16 +2,16 @@
 ghost use Rattle.std.specs.Prelude.{◌≡◌, ◌↔◌, ◌∷◌, IfOk, IsTrue, MatchResult, codes, map, option_map, string_bytes};
 ghost use Rattle.wgsl_syntax.specs.Operator.{binary_text, unary_text};
 ghost use Rattle.wgsl_rules.specs.types.Signatures.{Signature};
-ghost use Rattle.wgsl_core.specs.View.{struct_view, view};
+ghost use Rattle.wgsl_core.specs.View.{view};
 ghost use Rattle.wgsl_rules.specs.Headline.{Receives};
 ghost use Rattle.wgsl_requests.specs.Answers.{IsReceivedCommon};
-ghost use Rattle.wgsl_requests.specs.Requests.{common as common_request, offsets as offsets_request};
+ghost use Rattle.wgsl_requests.specs.Requests.{common as common_request, layout as layout_request, offsets as offsets_request};
 ghost use Rattle.wgsl_calls.specs.Calls.{signature_of};
 ghost use Rattle.wgsl_requests.specs.Views.{request_view};
 ghost use Rattle.wgsl_text.specs.Answers.{IsAnswer, IsReply};
 ghost use Rattle.wgsl_text.specs.Reading.{Answers, ReadsWord};
-ghost use Rattle.wgsl_text.specs.Requests.{IsCallee, NoRequest, laid_out};
-ghost use Rattle.wgsl_text.specs.internal.Replied.{Replies, WritesOfStruct, layout_by, signature_read};
+ghost use Rattle.wgsl_text.specs.Requests.{IsCallee, NoRequest};
+ghost use Rattle.wgsl_text.specs.internal.Replied.{Replies, WritesOfStruct, signature_read};
 ghost use Rattle.wgsl_text.specs.internal.Taken.{left};
 ghost use Rattle.wgsl_text.specs.internal.Written.{Adds};
 
@@ -29,7 +29,7 @@ use wgsl_syntax::rules::RuleSet;
 use wgsl_types::error::Fail;
 use wgsl_types::syntax::{BinaryOperator, UnaryOperator};
 use wgsl_types::tplt::TpltParam;
-use wgsl_types::ty::{StructType, Type};
+use wgsl_types::ty::Type;
 
 /// Writes the answer to the command and the words after it, or returns what is wrong with them if they are no command.
 pub fn write_answer(
@@ -217,21 +217,10 @@ pub(crate) fn size(
     ensures { Replies rules (codes "size" ∷ left words.old)
         (string_bytes text.old) (string_bytes text.new) result }
 {
-    let mut ty = read_last_type(alloc, rules, words)?;
-    lay_out(rules, &mut ty);
-    let written = write_answer_to(alloc, Request::Size(&ty), text);
+    let ty = read_last_type(alloc, rules, words)?;
+    let written = write_answer_to(alloc, Request::Size(rules, &ty), text);
     drop(ty);
     Ok(written?)
-}
-
-/// Makes the type the one that the rules lay out.
-fn lay_out(rules: RuleSet, ty: &mut Type)
-    ensures { view ty.new ≡ laid_out rules (view ty.old) }
-{
-    match rules {
-        RuleSet::Ported => {}
-        RuleSet::Standard => ty.store_bools(),
-    }
 }
 
 /// `offsets T` for a struct T: the offset of each member.
@@ -244,21 +233,25 @@ pub(crate) fn offsets(
     ensures { Replies rules (codes "offsets" ∷ left words.old)
         (string_bytes text.old) (string_bytes text.new) result }
 {
-    let mut ty = read_last_type(alloc, rules, words)?;
-    lay_out(rules, &mut ty);
-    let written = write_offsets_of(alloc, &ty, text);
+    let ty = read_last_type(alloc, rules, words)?;
+    let written = write_offsets_of(alloc, rules, &ty, text);
     drop(ty);
     written
 }
 
-fn write_offsets_of(alloc: Global, ty: &Type, text: &mut String) -> Result<TextKind, Fail<Misfit>>
-    ensures { WritesOfStruct offsets_request (view ty.now)
+fn write_offsets_of(
+    alloc: Global,
+    rules: RuleSet,
+    ty: &Type,
+    text: &mut String,
+) -> Result<TextKind, Fail<Misfit>>
+    ensures { WritesOfStruct (offsets_request rules) (view ty.now)
         (string_bytes text.old) (string_bytes text.new) result }
 {
     let Type::Struct(structure) = ty else {
         return Err(Fail::Error(Misfit::NoStruct));
     };
-    Ok(write_answer_to(alloc, Request::Offsets(structure), text)?)
+    Ok(write_answer_to(alloc, Request::Offsets(rules, structure), text)?)
 }
 
 /// `layout T` for a struct T: a report of its members and of the whole.
@@ -283,36 +276,13 @@ fn write_layout_of(
     ty: &Type,
     text: &mut String,
 ) -> Result<TextKind, Fail<Misfit>>
-    ensures { WritesOfStruct (layout_by rules) (view ty.now)
+    ensures { WritesOfStruct (layout_request rules) (view ty.now)
         (string_bytes text.old) (string_bytes text.new) result }
 {
     let Type::Struct(structure) = ty else {
         return Err(Fail::Error(Misfit::NoStruct));
     };
-    Ok(write_layout_by(alloc, rules, structure, text)?)
-}
-
-/// The report of a struct, as the rules lay it out.
-fn write_layout_by(
-    alloc: Global,
-    rules: RuleSet,
-    structure: &StructType,
-    text: &mut String,
-) -> Result<TextKind, AllocError>
-    ensures { let s = struct_view structure.now in IfOk result (λ kind.
-        Adds (IsAnswer (layout_by rules s.name s.members) kind)
-        (string_bytes text.old) (string_bytes text.new)) }
-{
-    match rules {
-        RuleSet::Ported => write_answer_to(alloc, Request::Layout(structure, structure), text),
-        RuleSet::Standard => {
-            let mut stored = structure.clone(alloc)?;
-            stored.store_bools();
-            let written = write_answer_to(alloc, Request::Layout(structure, &stored), text);
-            drop(stored);
-            written
-        }
-    }
+    Ok(write_answer_to(alloc, Request::Layout(rules, structure), text)?)
 }
 
 /// The call of a constructor or of a built-in function, as it was read.

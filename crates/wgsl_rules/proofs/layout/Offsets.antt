@@ -2,19 +2,20 @@
 use Rattle.std.proofs.Common.{◌≡◌, ℕ, ◌+◌, ◌<◌, ◌≤◌, ◌^◌, List, [], ◌∷◌, ◌++◌, get_or, Option, refl, sym, ap, subst, ◌∙◌, append_assoc, arith}
 use Rattle.std.specs.Int.{next_multiple_of}
 use Rattle.std.proofs.lemmas.List.{append-nil}
+use Rattle.wgsl_syntax.specs.declared.rules.RuleSet.{RuleSet}
 use Rattle.wgsl_rules.specs.types.Types.{WgslType, Members, no_members, member}
 use Rattle.wgsl_rules.specs.layout.Placement.{MemberLayout, AreLaid}
-use Rattle.wgsl_rules.specs.layout.Layout.{IsGiven, HasSize, HasAlignment, HaveLayouts, IsStructSize, AreOffsets}
+use Rattle.wgsl_rules.specs.layout.Layout.{IsGiven, HasSizeBy, HasAlignmentBy, HaveLayoutsBy, IsStructSize, AreOffsetsBy}
 use Rattle.wgsl_rules.proofs.layout.Placing.{Aligned, end_of, starts, laid, no_less, no_earlier, next_ge}
 use Rattle.wgsl_rules.proofs.layout.OneSize.{one_layouts}
 use Rattle.wgsl_rules.proofs.layout.StructSizes.{all_aligned}
 
 -- the layouts and offsets of the members before the rest, which end at `e`; those of the rest complete them
-pub record PlacedSoFar (ms rest : Members) (before : List MemberLayout) (offsets : List ℕ) (e : ℕ) : Type 0 where
+pub record PlacedSoFar (rules : RuleSet) (ms rest : Members) (before : List MemberLayout) (offsets : List ℕ) (e : ℕ) : Type 0 where
   pub layouts : List MemberLayout
-  pub known : HaveLayouts ms layouts
+  pub known : HaveLayoutsBy rules ms layouts
   pub left : List MemberLayout
-  pub left_known : HaveLayouts rest left
+  pub left_known : HaveLayoutsBy rules rest left
   pub left_aligned : Aligned left
   pub fits : end_of e left < 2 ^ 32
   pub all_layouts : before ++ left ≡ layouts
@@ -26,29 +27,29 @@ end_ge e (p ∷ ps) =
     let h : next_multiple_of e p.align + p.size ≤ end_of (next_multiple_of e p.align + p.size) ps = end_ge (next_multiple_of e p.align + p.size) ps in
     omega (arith, next_ge e p.align)
 
-pub none_placed : (ms : Members) (n : ℕ) → IsStructSize (HaveLayouts ms) n → PlacedSoFar ms ms [] [] 0
-none_placed ms n h =
+pub none_placed : (rules : RuleSet) (ms : Members) (n : ℕ) → IsStructSize (HaveLayoutsBy rules ms) n → PlacedSoFar rules ms ms [] [] 0
+none_placed rules ms n h =
     let al : Aligned h.layouts = all_aligned h.layouts h.aligned in
     let below : end_of 0 h.layouts ≤ n = no_less 0 0 h.layouts h.least.0.0 n al (let z : 0 ≤ 0 = omega arith in z) h.least.0.1.0 in
     let small : n < 2 ^ 32 = h.fits in
     record { layouts = h.layouts; known = h.known; left = h.layouts; left_known = h.known; left_aligned = al; fits = omega arith; all_layouts = refl; all_offsets = refl }
 
 -- the next member's layout, and the placement with it
-pub record NextMember (ms rest : Members) (before : List MemberLayout) (offsets : List ℕ) (e : ℕ) (IsSize IsAlign : ℕ → Type 0) : Type 0 where
+pub record NextMember (rules : RuleSet) (ms rest : Members) (before : List MemberLayout) (offsets : List ℕ) (e : ℕ) (IsSize IsAlign : ℕ → Type 0) : Type 0 where
   pub size : ℕ
   pub align : ℕ
   pub is_size : IsSize size
   pub is_align : IsAlign align
   pub positive : 0 < align
   pub fits : next_multiple_of e align + size < 2 ^ 32
-  pub after : PlacedSoFar ms rest (before ++ record { size = size; align = align } ∷ []) (offsets ++ next_multiple_of e align ∷ []) (next_multiple_of e align + size)
+  pub after : PlacedSoFar rules ms rest (before ++ record { size = size; align = align } ∷ []) (offsets ++ next_multiple_of e align ∷ []) (next_multiple_of e align + size)
 
-pub next_member : (name : List ℕ) (t : WgslType) (size align : Option ℕ) (ms rest : Members) (before : List MemberLayout) (offsets : List ℕ) (e : ℕ)
-    → PlacedSoFar ms (member name t size align rest) before offsets e → NextMember ms rest before offsets e (IsGiven size (HasSize t)) (IsGiven align (HasAlignment t))
-next_member name t size align ms rest before offsets e h = first h.left h.left_known h.left_aligned h.fits h.all_layouts h.all_offsets
+pub next_member : (rules : RuleSet) (name : List ℕ) (t : WgslType) (size align : Option ℕ) (ms rest : Members) (before : List MemberLayout) (offsets : List ℕ) (e : ℕ)
+    → PlacedSoFar rules ms (member name t size align rest) before offsets e → NextMember rules ms rest before offsets e (IsGiven size (HasSizeBy rules t)) (IsGiven align (HasAlignmentBy rules t))
+next_member rules name t size align ms rest before offsets e h = first h.left h.left_known h.left_aligned h.fits h.all_layouts h.all_offsets
   where
-    first : (left : List MemberLayout) → HaveLayouts (member name t size align rest) left → Aligned left → end_of e left < 2 ^ 32 → before ++ left ≡ h.layouts
-        → offsets ++ starts e left ≡ starts 0 h.layouts → NextMember ms rest before offsets e (IsGiven size (HasSize t)) (IsGiven align (HasAlignment t))
+    first : (left : List MemberLayout) → HaveLayoutsBy rules (member name t size align rest) left → Aligned left → end_of e left < 2 ^ 32 → before ++ left ≡ h.layouts
+        → offsets ++ starts e left ≡ starts 0 h.layouts → NextMember rules ms rest before offsets e (IsGiven size (HasSizeBy rules t)) (IsGiven align (HasAlignmentBy rules t))
     first [] known al small layouts_are offsets_are = absurd known
     first (p ∷ left) known al small layouts_are offsets_are =
         let at = next_multiple_of e p.align in
@@ -72,14 +73,14 @@ next_member name t size align ms rest before offsets e h = first h.left h.left_k
           };
         }
 
-pub all_placed : (ms : Members) (before : List MemberLayout) (offsets : List ℕ) (e n : ℕ) → IsStructSize (HaveLayouts ms) n → PlacedSoFar ms no_members before offsets e
-    → HaveLayouts ms before × AreOffsets ms offsets
-all_placed ms before offsets e n s h =
+pub all_placed : (rules : RuleSet) (ms : Members) (before : List MemberLayout) (offsets : List ℕ) (e n : ℕ) → IsStructSize (HaveLayoutsBy rules ms) n → PlacedSoFar rules ms no_members before offsets e
+    → HaveLayoutsBy rules ms before × AreOffsetsBy rules ms offsets
+all_placed rules ms before offsets e n s h =
     let al : Aligned s.layouts = all_aligned s.layouts s.aligned in
-    let same : h.layouts ≡ s.layouts = one_layouts ms h.layouts s.layouts h.known s.known in
+    let same : h.layouts ≡ s.layouts = one_layouts rules ms h.layouts s.layouts h.known s.known in
     let is : offsets ≡ starts 0 s.layouts = whole_offsets h.left h.left_known h.all_offsets ∙ ap (starts 0) same in
     let z : 0 ≤ 0 = omega arith in (
-      subst (HaveLayouts ms) (sym (whole_layouts h.left h.left_known h.all_layouts)) h.known,
+      subst (HaveLayoutsBy rules ms) (sym (whole_layouts h.left h.left_known h.all_layouts)) h.known,
       record {
         total = n;
         sized = s;
@@ -88,10 +89,10 @@ all_placed ms before offsets e n s h =
       },
     )
   where
-    whole_layouts : (left : List MemberLayout) → HaveLayouts no_members left → before ++ left ≡ h.layouts → before ≡ h.layouts
+    whole_layouts : (left : List MemberLayout) → HaveLayoutsBy rules no_members left → before ++ left ≡ h.layouts → before ≡ h.layouts
     whole_layouts [] known is = sym (append-nil before) ∙ is
     whole_layouts (p ∷ left) known is = absurd known
 
-    whole_offsets : (left : List MemberLayout) → HaveLayouts no_members left → offsets ++ starts e left ≡ starts 0 h.layouts → offsets ≡ starts 0 h.layouts
+    whole_offsets : (left : List MemberLayout) → HaveLayoutsBy rules no_members left → offsets ++ starts e left ≡ starts 0 h.layouts → offsets ≡ starts 0 h.layouts
     whole_offsets [] known is = sym (append-nil offsets) ∙ is
     whole_offsets (p ∷ left) known is = absurd known

@@ -3,8 +3,11 @@ use Rattle.std.proofs.Common.{◌≡◌, ◌≢◌, ◌↔◌, ℕ, ◌<◌, ◌
 use Rattle.std.specs.Int.{next_multiple_of}
 use Rattle.std.specs.Option.{SomeIff}
 use Rattle.std.proofs.lemmas.Option.{same_Some}
-use Rattle.wgsl_rules.specs.types.Types.{WgslType, struct, array}
-use Rattle.wgsl_rules.specs.layout.Layout.{IsTimes, IsRoundedUp, IsStride, IsArraySize, IsVectorAlign, HasSize, HasLeastSize, IsExactly, LacksSize}
+use Rattle.wgsl_syntax.specs.declared.rules.RuleSet.{RuleSet}
+use Rattle.wgsl_syntax.specs.declared.rules.RuleSet.TheVariants.{Ported, Standard}
+use Rattle.wgsl_syntax.specs.declared.scalar.Scalar.TheVariants.{I32, U32, F32, F16}
+use Rattle.wgsl_rules.specs.types.Types.{WgslType, scalar, struct, array}
+use Rattle.wgsl_rules.specs.layout.Layout.{IsTimes, IsRoundedUp, IsStride, IsArraySize, IsAlignOfThreeBy, IsVectorAlignBy, HasSize, HasSizeBy, HasLeastSize, IsExactly, LacksSizeBy}
 use Rattle.wgsl_rules.proofs.layout.Placing.{next_ge, next_dvd, next_least}
 
 pub rounded_up : (s a : ℕ) → 0 < a → IsRoundedUp s a (next_multiple_of s a)
@@ -43,12 +46,12 @@ counted_size k c (Some j) r S e fits same is n =
     let here = subst (λ (x : ℕ). IsExactly r (IsTimes x S)) j_is is in
     (λ e'. (omega (arith, same_Some j k e), (here n).0 e'), λ h. (here n).1 h.1)
 
-pub other_align : (k c : ℕ) (t : WgslType) (r : Option ℕ) (S : ℕ → Type 0) → k ≢ 3 → c ≡ k → IsExactly r (IsTimes c S) → IsExactly r (IsVectorAlign k t S)
-other_align k c t r S not same is n =
+pub other_align : (rules : RuleSet) (k c : ℕ) (t : WgslType) (r : Option ℕ) (S : ℕ → Type 0) → k ≢ 3 → c ≡ k → IsExactly r (IsTimes c S) → IsExactly r (IsVectorAlignBy rules k t S)
+other_align rules k c t r S not same is n =
     let here = subst (λ (x : ℕ). IsExactly r (IsTimes x S)) same is in
     (λ e. inr (not, (here n).0 e), λ h. (here n).1 (others h))
   where
-    others : IsVectorAlign k t S n → IsTimes k S n
+    others : IsVectorAlignBy rules k t S n → IsTimes k S n
     others (inl h) = absurd (not h.0)
     others (inr h) = h.1
 
@@ -76,16 +79,26 @@ array_size (Some k) o r S of is n = (
   λ h. (is n).1 (h.0, (h.1.0, (of h.1.0).1 h.1.1, h.1.2, h.1.3)),
 )
 
-pub vector_align : (k : ℕ) (t : WgslType) (o r : Option ℕ) (S : ℕ → Type 0) → IsExactly o S → IsExactly r (IsVectorAlign k t (IsValue o)) → IsExactly r (IsVectorAlign k t S)
-vector_align k t o r S of is n = (λ e. to ((is n).0 e), λ h. (is n).1 (from h))
-  where
-    to : IsVectorAlign k t (IsValue o) n → IsVectorAlign k t S n
-    to (inl h) = inl h
-    to (inr h) = inr (h.0, (h.1.0, (of h.1.0).0 h.1.1, h.1.2, h.1.3))
+times_as : (k : ℕ) (A B : ℕ → Type 0) → ((m : ℕ) → A m → B m) → (n : ℕ) → IsTimes k A n → IsTimes k B n
+times_as k A B to n h = (h.0, to h.0 h.1, h.2, h.3)
 
-    from : IsVectorAlign k t S n → IsVectorAlign k t (IsValue o) n
-    from (inl h) = inl h
-    from (inr h) = inr (h.0, (h.1.0, (of h.1.0).1 h.1.1, h.1.2, h.1.3))
+three_as : (rules : RuleSet) (t : WgslType) (A B : ℕ → Type 0) → ((m : ℕ) → A m → B m) → (n : ℕ) → IsAlignOfThreeBy rules t A n → IsAlignOfThreeBy rules t B n
+three_as Ported (scalar I32) A B to n h = h
+three_as Ported (scalar U32) A B to n h = h
+three_as Ported (scalar F32) A B to n h = h
+three_as Ported (scalar F16) A B to n h = h
+three_as Ported t A B to n h = absurd h
+three_as Standard t A B to n h = times_as 4 A B to n h
+
+align_as : (rules : RuleSet) (k : ℕ) (t : WgslType) (A B : ℕ → Type 0) → ((m : ℕ) → A m → B m) → (n : ℕ) → IsVectorAlignBy rules k t A n → IsVectorAlignBy rules k t B n
+align_as rules k t A B to n (inl h) = inl (h.0, three_as rules t A B to n h.1)
+align_as rules k t A B to n (inr h) = inr (h.0, times_as k A B to n h.1)
+
+pub vector_align : (rules : RuleSet) (k : ℕ) (t : WgslType) (o r : Option ℕ) (S : ℕ → Type 0) → IsExactly o S → IsExactly r (IsVectorAlignBy rules k t (IsValue o)) → IsExactly r (IsVectorAlignBy rules k t S)
+vector_align rules k t o r S of is n = (
+  λ e. align_as rules k t (IsValue o) S (λ m. (of m).0) n ((is n).0 e),
+  λ h. (is n).1 (align_as rules k t S (IsValue o) (λ m. (of m).1) n h),
+)
 
 -- Types without a size
 
@@ -97,9 +110,9 @@ abbrev pub IsNoStruct : WgslType → Type 0
 IsNoStruct (struct name ms) = ⊥
 IsNoStruct t = Unit {0}
 
-pub lacks_size : (t : WgslType) → IsNoStruct t → (r : Option ℕ) → IsExactly r (HasSize t) → (r ≡ None) ↔ LacksSize t
-lacks_size (struct name ms) k r h = absurd k
-lacks_size t k r h = none_of r (HasSize t) h
+pub lacks_size : (rules : RuleSet) (t : WgslType) → IsNoStruct t → (r : Option ℕ) → IsExactly r (HasSizeBy rules t) → (r ≡ None) ↔ LacksSizeBy rules t
+lacks_size rules (struct name ms) k r h = absurd k
+lacks_size rules t k r h = none_of r (HasSizeBy rules t) h
 
 -- The least size
 

@@ -11,7 +11,7 @@ use Rattle.wgsl_requests.specs.Forms.{address_of}
 use Rattle.wgsl_text.specs.Answers.{IsAnswer, IsReply}
 use Rattle.wgsl_text.specs.Calls.{OperandAt}
 use Rattle.wgsl_text.specs.Reading.{Answers}
-use Rattle.wgsl_text.specs.Requests.{NoRequest, Request, form_of, layout, members_laid_out, offsets}
+use Rattle.wgsl_text.specs.Requests.{NoRequest, Request, form_of}
 use Rattle.wgsl_text.specs.declared.command.ReadCall.{ReadCall}
 use Rattle.wgsl_syntax.specs.declared.rules.RuleSet.{RuleSet}
 use Rattle.wgsl_core.specs.declared.error.Fail.{Fail}
@@ -24,14 +24,6 @@ use Rattle.wgsl_text.specs.internal.Written.{Adds}
 abbrev pub Replies : RuleSet → List (List ℕ) → List ℕ → List ℕ → Result TextKind (Fail Misfit) → Type 0
 Replies rules words old new r =
     Answers (λ kind. Adds (IsReply rules words kind) old new) (NoRequest rules words) r
-
--- what the words `offsets` and `layout` ask of a struct
-
-abbrev pub offsets_by : RuleSet → List ℕ → Members → Request
-offsets_by rules name ms = offsets name (members_laid_out rules ms)
-
-abbrev pub layout_by : RuleSet → List ℕ → Members → Request
-layout_by rules name ms = layout name ms (members_laid_out rules ms)
 
 -- The answer to what is asked of the struct is written. The error is a misfit only if the type is no struct.
 abbrev pub WritesOfStruct : (List ℕ → Members → Request) → WgslType → List ℕ → List ℕ →
