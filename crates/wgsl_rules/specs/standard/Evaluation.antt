@@ -1,6 +1,7 @@
 -- Which calls of built-in functions can be const-expressions: a word in the line of each name says it.
 use Rattle.std.specs.Prelude.{ℕ, List, map, Option, Some, Bool, true, false}
-use Rattle.wgsl_syntax.specs.declared.overload.Evaluation.{Evaluation, Runtime}
+use Rattle.wgsl_syntax.specs.declared.overload.Evaluation.{Evaluation}
+use Rattle.wgsl_syntax.specs.declared.overload.Evaluation.TheVariants as evaluations
 use Rattle.wgsl_tables.specs.declared.names.TheConstants.{FUNCTIONS}
 use Rattle.wgsl_rules.specs.standard.Names.{value_named}
 
@@ -9,7 +10,7 @@ evaluation_table = map (λ row. (row.0.now, row.1)) FUNCTIONS.now
 
 -- a function with a template alone, as `bitcast`, has no such line: its calls can be const-expressions
 abbrev pub can_be_constant : Option Evaluation → Bool
-can_be_constant (Some Runtime) = false
+can_be_constant (Some evaluations.Runtime) = false
 can_be_constant evaluation = true
 
 -- `max(1u, 2u)` can be one, and `subgroupAdd(1u)`, `dpdx(1.5)` and `textureLoad(t, 0, 0)` can't

@@ -1,7 +1,12 @@
 use Rattle.std.proofs.Common.{refl}
 use Rattle.wgsl_rules.specs.standard.Names.{function_table}
+use Rattle.wgsl_rules.specs.standard.Evaluation.{evaluation_table}
 use Rattle.wgsl_standard.proofs.names.function_list.Goals as goal
 
-pub returns : goal.returns
+pub returns-clause-rows : goal.returns-clause-rows
 unfolding function_table
-returns c = refl
+returns-clause-rows c = refl
+
+pub returns-clause-evaluations : goal.returns-clause-evaluations
+unfolding evaluation_table
+returns-clause-evaluations c = refl
