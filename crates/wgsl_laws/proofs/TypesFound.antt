@@ -21,7 +21,7 @@ use Rattle.wgsl_syntax.specs.declared.texture_name.TextureParameters.{TexturePar
 use Rattle.wgsl_syntax.specs.declared.texture_name.TextureParameterKind.TheVariants as kinds
 use Rattle.wgsl_syntax.specs.declared.texture_name.TextureParameters.TheVariants as parameters
 use Rattle.wgsl_syntax.proofs.Naming.{access_naming, sampled_naming, space_naming, texel_naming, texture_naming}
-use Rattle.wgsl_syntax.proofs.Texels.{naga_or_other, one_texel}
+use Rattle.wgsl_syntax.proofs.Renamed.{naga_or_other, one_texel}
 use Rattle.wgsl_rules.specs.types.Types.{WgslType, texture, sampler, ray_query, acceleration_structure, Members}
 use Rattle.wgsl_text.specs.Grammar.{FlagAt, IsFlag, TextureListAt, LayerAt, LeafAt, MembersAt, TypeAt, acceleration_structure_at, array_at, atomic_at, binding_array_at, flag_at, layer_at, leaf_at, mat_at, member_at, no_flag_at, no_members_at, ptr_at, ray_query_at, ref_at, sampler_at, scalar_at, spelled_at, struct_at, texture_at, vec_at}
 use Rattle.wgsl_text.specs.Numbers.{IsCount, IsSmall}

@@ -1,5 +1,5 @@
 pub mod Discrete
 pub mod Naming
+pub mod Renamed
 pub mod Same
-pub mod Texels
 pub mod Textures

@@ -54,7 +54,7 @@ text_first text rest s v x true so later e = let same : v ≡ x = cc in so refl 
 text_first text rest s v x false so later e = later e
 
 -- the value found for a text has that text
-named_text : {A : Type 0} (text : A → List ℕ) (values : List A) (s : List ℕ) (x : A) → named (table text values) s ≡ Some x → s ≡ text x
+pub named_text : {A : Type 0} (text : A → List ℕ) (values : List A) (s : List ℕ) (x : A) → named (table text values) s ≡ Some x → s ≡ text x
 named_text text [] s x e = cc
 named_text text (v ∷ values) s x e =
     text_first text (named (table text values) s) s v x (bytes_eq s (text v)) (bytes_eq-Decides s (text v)).0 (named_text text values s x) e
@@ -93,7 +93,7 @@ reading text values back s x = (
   λ e. ap (λ o. ok_or o (tt {0})) (ap (named (table text values)) e ∙ back x),
 )
 
-space_back : (x : AddressSpace) → named (table space_text spaces) (space_text x) ≡ Some x
+pub space_back : (x : AddressSpace) → named (table space_text spaces) (space_text x) ≡ Some x
 space_back space.Function = refl
 space_back _ = refl
 
@@ -186,8 +186,6 @@ texel_naming = naming texel_text texel_formats texel_back
 pub texel_reads : (s : List ℕ) → Reads texel_text s (ok_or (named (table texel_text texel_formats) s) (tt {0}))
 texel_reads = reading texel_text texel_formats texel_back
 
-pub texel_text_of : (s : List ℕ) (x : TexelFormat) → named (table texel_text texel_formats) s ≡ Some x → s ≡ texel_text x
-texel_text_of = named_text texel_text texel_formats
 
 sampled_back : (x : SampledType) → named (table sampled_text sampled_types) (sampled_text x) ≡ Some x
 sampled_back sampled.I32 = refl

@@ -11,10 +11,6 @@ use Rattle.wgsl_syntax.specs.declared.address.AccessMode.TheVariants.{Read, Writ
 abbrev pub spaces : List AddressSpace
 spaces = Function ∷ Private ∷ Workgroup ∷ Uniform ∷ Storage ∷ Handle ∷ PushConstant ∷ []
 
--- the spaces that a program can name
-abbrev pub written_spaces : List AddressSpace
-written_spaces = Function ∷ Private ∷ Workgroup ∷ Uniform ∷ Storage ∷ PushConstant ∷ []
-
 abbrev pub space_text : AddressSpace → List ℕ
 space_text Function = codes "function"
 space_text Private = codes "private"

@@ -1,7 +1,7 @@
 // Address spaces and access modes.
 ghost use Rattle.std.specs.Prelude.{◌≡◌, ◌↔◌, IsTrue, MatchOption};
 ghost use Rattle.wgsl_syntax.specs.Names.{named, table, Reads, ReadsBut};
-ghost use Rattle.wgsl_syntax.specs.Address.{access_modes, access_text, default_access, may_say as said_there, space_text, space_text_by, spaces, written_spaces, IsSpace, MayRead, MayWrite};
+ghost use Rattle.wgsl_syntax.specs.Address.{access_modes, access_text, default_access, may_say as said_there, space_text, space_text_by, spaces, IsSpace, MayRead, MayWrite};
 ghost use Rattle.wgsl_syntax.specs.declared.address.AddressSpace.TheVariants.{Handle};
 
 use crate::rules::RuleSet;
@@ -71,7 +71,6 @@ impl AddressSpace {
                 RuleSet::Standard => Some(AddressSpace::PushConstant),
                 RuleSet::Ported => None,
             },
-            "handle" => Some(AddressSpace::Handle),
             _ => space_named(word),
         }
     }
@@ -106,7 +105,7 @@ impl fmt::Display for AddressSpace {
 }
 
 fn space_named(s: &str) -> Option<AddressSpace>
-    ensures { result ≡ named (table space_text written_spaces) s.now }
+    ensures { result ≡ named (table space_text spaces) s.now }
 {
     match s {
         "function" => Some(AddressSpace::Function),
@@ -114,6 +113,7 @@ fn space_named(s: &str) -> Option<AddressSpace>
         "workgroup" => Some(AddressSpace::Workgroup),
         "uniform" => Some(AddressSpace::Uniform),
         "storage" => Some(AddressSpace::Storage),
+        "handle" => Some(AddressSpace::Handle),
         "push_constant" => Some(AddressSpace::PushConstant),
         _ => None,
     }
@@ -125,7 +125,10 @@ impl FromStr for AddressSpace {
     ghost from_str_gives = { ReadsBut Handle space_text };
 
     fn from_str(s: &str) -> Result<AddressSpace, ()> {
-        space_named(s).ok_or(())
+        match space_named(s) {
+            Some(AddressSpace::Handle) | None => Err(()),
+            Some(space) => Ok(space),
+        }
     }
 }
 

@@ -3,7 +3,7 @@ use Rattle.std.proofs.Common.{◌≡◌, ◌⊎◌, ℕ, true, List, [], ◌∷�
 use Rattle.std.specs.Bool.{MatchBool}
 use Rattle.std.specs.Option.{MatchOption}
 use Rattle.std.specs.Str.{bytes_eq}
-use Rattle.wgsl_syntax.specs.Address.{access_text, space_text}
+use Rattle.wgsl_syntax.specs.Address.{access_text, IsSpace}
 use Rattle.wgsl_syntax.specs.Names.{named, table}
 use Rattle.wgsl_syntax.specs.Scalar.{scalar_text, scalars}
 use Rattle.wgsl_syntax.specs.Texture.{sampler_text, samplers, texture_name}
@@ -16,7 +16,8 @@ use Rattle.wgsl_syntax.specs.declared.texture.SamplerType.{SamplerType}
 use Rattle.wgsl_syntax.specs.declared.texture.SamplerType.TheVariants.{Sampler}
 use Rattle.wgsl_syntax.specs.declared.texture.TextureType.{TextureType}
 use Rattle.wgsl_syntax.specs.declared.texture.TextureType.TheVariants.{External}
-use Rattle.wgsl_syntax.proofs.Naming.{access_naming, space_naming}
+use Rattle.wgsl_syntax.proofs.Naming.{access_naming}
+use Rattle.wgsl_syntax.proofs.Renamed.{one_space}
 use Rattle.wgsl_rules.specs.types.Types.{WgslType, scalar, texture, sampler, ray_query, acceleration_structure}
 use Rattle.wgsl_syntax.specs.declared.around.Around.{Around}
 use Rattle.wgsl_syntax.specs.declared.around.Around.TheVariants as arounds
@@ -109,55 +110,55 @@ one_leaf {rules} words t u rest more f g = one_leaf_form rules words t u rest mo
 abbrev pub TwoSmall : Beginning (ℕ × ℕ)
 TwoSmall = Then (OneWord IsSmall) (OneWord IsSmall)
 
-abbrev pub MemoryAt : Beginning (AddressSpace × AccessMode)
-MemoryAt = Then (OneWord (IsText space_text)) (OneWord (IsText access_text))
+abbrev pub MemoryAt : RuleSet → Beginning (AddressSpace × AccessMode)
+MemoryAt rules = Then (OneWord (IsSpace rules)) (OneWord (IsText access_text))
 
 abbrev pub Nothing : Beginning (Unit {0})
 Nothing words x rest = words ≡ rest
 
 -- what a layer is by its first word
-abbrev pub LayerForm : List (List ℕ) → Around → List (List ℕ) → Type 0
-LayerForm [] layer rest = ⊥
-LayerForm (word ∷ words) layer rest =
+abbrev pub LayerForm : RuleSet → List (List ℕ) → Around → List (List ℕ) → Type 0
+LayerForm rules [] layer rest = ⊥
+LayerForm rules (word ∷ words) layer rest =
     MatchBool (bytes_eq word (codes "vec")) (Made (OneWord IsSmall) (λ n. arounds.Vec n) words layer rest)
     (MatchBool (bytes_eq word (codes "mat")) (Made TwoSmall (λ p. arounds.Mat p.0 p.1) words layer rest)
     (MatchBool (bytes_eq word (codes "array")) (Made (OneWord IsCount) (λ n. arounds.Array n) words layer rest)
     (MatchBool (bytes_eq word (codes "binding_array")) (Made (OneWord IsCount) (λ n. arounds.BindingArray n) words layer rest)
     (MatchBool (bytes_eq word (codes "atomic")) (Made Nothing (λ x. arounds.Atomic) words layer rest)
-    (MatchBool (bytes_eq word (codes "ptr")) (Made MemoryAt (λ p. arounds.Ptr p.0 p.1) words layer rest)
-    (MatchBool (bytes_eq word (codes "ref")) (Made MemoryAt (λ p. arounds.Ref p.0 p.1) words layer rest) ⊥))))))
+    (MatchBool (bytes_eq word (codes "ptr")) (Made (MemoryAt rules) (λ p. arounds.Ptr p.0 p.1) words layer rest)
+    (MatchBool (bytes_eq word (codes "ref")) (Made (MemoryAt rules) (λ p. arounds.Ref p.0 p.1) words layer rest) ⊥))))))
 
-pub layer_form : {words rest : List (List ℕ)} {layer : Around} → LayerAt words layer rest → LayerForm words layer rest
+pub layer_form : {rules : RuleSet} {words rest : List (List ℕ)} {layer : Around} → LayerAt rules words layer rest → LayerForm rules words layer rest
 layer_form (vec_at {components} {n} h) = (n, (components, refl, h), refl)
 layer_form (mat_at {columns} {rows} {c} {r} {rest} h k) = ((c, r), (rows ∷ rest, (columns, refl, h), (rows, refl, k)), refl)
 layer_form (array_at {count} {n} h) = (n, (count, refl, h), refl)
 layer_form (binding_array_at {count} {n} h) = (n, (count, refl, h), refl)
 layer_form atomic_at = (tt, refl, refl)
-layer_form (ptr_at {rest} s m) = ((s, m), (access_text m ∷ rest, (space_text s, refl, refl), (access_text m, refl, refl)), refl)
-layer_form (ref_at {rest} s m) = ((s, m), (access_text m ∷ rest, (space_text s, refl, refl), (access_text m, refl, refl)), refl)
+layer_form (ptr_at {space} {rest} {s} m is) = ((s, m), (access_text m ∷ rest, (space, refl, is), (access_text m, refl, refl)), refl)
+layer_form (ref_at {space} {rest} {s} m is) = ((s, m), (access_text m ∷ rest, (space, refl, is), (access_text m, refl, refl)), refl)
 
 one_two : OneThing TwoSmall
 one_two = one_then (OneWord IsSmall) (OneWord IsSmall) (one_word IsSmall small_one) (one_word IsSmall small_one)
 
-one_memory : OneThing MemoryAt
-one_memory = one_then (OneWord (IsText space_text)) (OneWord (IsText access_text))
-    (one_word (IsText space_text) (text_one space_text space_naming.distinct)) (one_word (IsText access_text) (text_one access_text access_naming.distinct))
+one_memory : (rules : RuleSet) → OneThing (MemoryAt rules)
+one_memory rules = one_then (OneWord (IsSpace rules)) (OneWord (IsText access_text))
+    (one_word (IsSpace rules) (λ word s t a b. one_space rules word s t a b)) (one_word (IsText access_text) (text_one access_text access_naming.distinct))
 
 one_nothing : OneThing Nothing
 one_nothing words x y rest more f g = (refl, sym f ∙ g)
 
-one_layer_form : OneThing LayerForm
+one_layer_form : {rules : RuleSet} → OneThing (LayerForm rules)
 one_layer_form [] l k rest more f g = absurd f
-one_layer_form (word ∷ words) l k rest more f g =
+one_layer_form {rules} (word ∷ words) l k rest more f g =
     both_bool _ _ _ _ _ _ (one_made (OneWord IsSmall) (λ n. arounds.Vec n) (one_word IsSmall small_one) words l k rest more)
     (both_bool _ _ _ _ _ _ (one_made TwoSmall (λ p. arounds.Mat p.0 p.1) one_two words l k rest more)
     (both_bool _ _ _ _ _ _ (one_made (OneWord IsCount) (λ n. arounds.Array n) (one_word IsCount count_one) words l k rest more)
     (both_bool _ _ _ _ _ _ (one_made (OneWord IsCount) (λ n. arounds.BindingArray n) (one_word IsCount count_one) words l k rest more)
     (both_bool _ _ _ _ _ _ (one_made Nothing (λ x. arounds.Atomic) one_nothing words l k rest more)
-    (both_bool _ _ _ _ _ _ (one_made MemoryAt (λ p. arounds.Ptr p.0 p.1) one_memory words l k rest more)
-    (both_bool _ _ _ _ _ _ (one_made MemoryAt (λ p. arounds.Ref p.0 p.1) one_memory words l k rest more) (λ x y. absurd x))))))) f g
+    (both_bool _ _ _ _ _ _ (one_made (MemoryAt rules) (λ p. arounds.Ptr p.0 p.1) (one_memory rules) words l k rest more)
+    (both_bool _ _ _ _ _ _ (one_made (MemoryAt rules) (λ p. arounds.Ref p.0 p.1) (one_memory rules) words l k rest more) (λ x y. absurd x))))))) f g
 
-pub one_layer : OneThing LayerAt
+pub one_layer : {rules : RuleSet} → OneThing (LayerAt rules)
 one_layer words l k rest more f g = one_layer_form words l k rest more (layer_form f) (layer_form g)
 
 -- what a type is by its first word
@@ -196,15 +197,15 @@ leaf_both (sampler_at _) u more = (λ x. x, λ x. x)
 leaf_both (texture_at {rules} {words} x d) u more = texture_both rules x words u more
 leaf_both (spelled_at {word} {words} e s) u more = spelled_both word words u more e
 
-pub layer_both : {rules : RuleSet} {words rest : List (List ℕ)} {layer : Around} → LayerAt words layer rest → (u : WgslType) (more : List (List ℕ)) →
+pub layer_both : {rules : RuleSet} {words rest : List (List ℕ)} {layer : Around} → LayerAt rules words layer rest → (u : WgslType) (more : List (List ℕ)) →
     (InLayerAt rules words u more → Form rules words u more) × (Form rules words u more → InLayerAt rules words u more)
 layer_both (vec_at f) u more = (λ x. x, λ x. x)
 layer_both (mat_at f g) u more = (λ x. x, λ x. x)
 layer_both (array_at f) u more = (λ x. x, λ x. x)
 layer_both (binding_array_at f) u more = (λ x. x, λ x. x)
 layer_both atomic_at u more = (λ x. x, λ x. x)
-layer_both (ptr_at s m) u more = (λ x. x, λ x. x)
-layer_both (ref_at s m) u more = (λ x. x, λ x. x)
+layer_both (ptr_at m is) u more = (λ x. x, λ x. x)
+layer_both (ref_at m is) u more = (λ x. x, λ x. x)
 
 pub form : {rules : RuleSet} {words rest : List (List ℕ)} {t : WgslType} → TypeAt rules words t rest → Form rules words t rest
 form (scalar_at {rules} {rest} s) = (scalar_both rules s rest (scalar s) rest).0 (refl, refl)

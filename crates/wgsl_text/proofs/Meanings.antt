@@ -1,18 +1,20 @@
 -- Words stand for at most one thing.
-use Rattle.std.proofs.Common.{◌≡◌, ◌≢◌, ◌↔◌, ℕ, Bool, true, false, cond, List, [], ◌∷◌, Option, Some, None, codes, refl, sym, ap, subst, ◌∙◌, arith}
+use Rattle.std.proofs.Common.{◌≡◌, ◌≢◌, ◌⊎◌, inl, inr, ◌++◌, ℕ, Bool, true, false, cond, List, [], ◌∷◌, Option, Some, None, codes, refl, sym, ap, subst, ◌∙◌, arith}
 use Rattle.std.specs.Bool.{MatchBool}
 use Rattle.std.specs.Option.{MatchOption}
 use Rattle.std.specs.Str.{bytes_eq}
 use Rattle.std.specs.Str.Parse.{IsNumeral}
 use Rattle.std.proofs.lemmas.Slice.Eq.{bytes_eq-Decides}
-use Rattle.wgsl_syntax.specs.Address.{space_text, spaces}
+use Rattle.wgsl_syntax.specs.Address.{IsSpace, space_text, space_text_by, spaces}
 use Rattle.wgsl_syntax.specs.Attribute.{flag_text}
 use Rattle.wgsl_syntax.specs.Names.{named, table}
 use Rattle.wgsl_syntax.specs.declared.address.AddressSpace.{AddressSpace}
 use Rattle.wgsl_syntax.specs.declared.address.AddressSpace.TheVariants as space
 use Rattle.wgsl_syntax.specs.declared.attribute.AccelerationStructureFlags.{AccelerationStructureFlags}
 use Rattle.wgsl_syntax.specs.declared.attribute.AccelerationStructureFlags.TheVariants.{VertexReturn}
+use Rattle.wgsl_syntax.specs.declared.rules.RuleSet.TheVariants.{Standard}
 use Rattle.wgsl_syntax.proofs.Naming.{flag_naming}
+use Rattle.wgsl_text.specs.Forms.{space_names}
 use Rattle.wgsl_text.specs.Grammar.{IsFlag}
 use Rattle.wgsl_text.specs.Numbers.{IsAttribute, IsCount, IsLong, IsMedium, IsNumber, IsSmall}
 use Rattle.wgsl_text.specs.Reading.{Beginning, IsText, OneWord, Then}
@@ -163,15 +165,28 @@ pub named_none : {A : Type 0} (text : A → List ℕ) (values : List A) (s : Lis
 named_none text [] s none = refl
 named_none text (v ∷ values) s none = none_first (named (table text values) s) v (bytes_eq s (text v)) (not_eq s (text v) (none v)) (named_none text values s none)
 
--- the one value that is found for a text is the table's
-named_exactly : {A : Type 0} (text : A → List ℕ) (values : List A) → ((x : A) → named (table text values) (text x) ≡ Some x) → (s : List ℕ) (found : Option A) → ((x : A) → (found ≡ Some x) ↔ (s ≡ text x)) →
-    found ≡ named (table text values) s
-named_exactly text values back s (Some x) exact = sym (ap (named (table text values)) ((exact x).0 refl) ∙ back x)
-named_exactly text values back s None exact = sym (named_none text values s (λ x e. let none : None ≡ Some x = (exact x).1 e in cc none))
+-- nothing is found in two tables
+named_neither : {A : Type 0} (rows more : List (A × List ℕ)) (s : List ℕ) → named rows s ≡ None → named more s ≡ None → named (rows ++ more) s ≡ None
+named_neither [] more s first second = second
+named_neither (row ∷ rows) more s first second = step (bytes_eq s row.1) first
+  where
+    step : (found : Bool) → cond found (Some row.0) (named rows s) ≡ None → cond found (Some row.0) (named (rows ++ more) s) ≡ None
+    step true e = absurd (cc e)
+    step false e = named_neither rows more s e second
 
-space_back : (x : AddressSpace) → named (table space_text spaces) (space_text x) ≡ Some x
-space_back space.Function = refl
-space_back _ = refl
+wgsl_back : (s : AddressSpace) → named space_names (space_text_by Standard s) ≡ Some s
+wgsl_back space.Function = refl
+wgsl_back _ = refl
 
-pub space_found : (s : List ℕ) (found : Option AddressSpace) → ((x : AddressSpace) → (found ≡ Some x) ↔ (s ≡ space_text x)) → found ≡ named (table space_text spaces) s
-space_found = named_exactly space_text spaces space_back
+naga_back : (s : AddressSpace) → named space_names (space_text s) ≡ Some s
+naga_back space.Function = refl
+naga_back _ = refl
+
+-- the space that has a name is found by it
+pub space_found : (word : List ℕ) (found : Option AddressSpace) → MatchOption found ((s : AddressSpace) → ¬ IsSpace Standard word s) (λ s. IsSpace Standard word s)
+    → found ≡ named space_names word
+space_found word (Some s) (inl is) = sym (ap (named space_names) is ∙ wgsl_back s)
+space_found word (Some s) (inr is) = sym (ap (named space_names) is ∙ naga_back s)
+space_found word None none =
+    sym (named_neither (table (space_text_by Standard) spaces) (table space_text spaces) word
+    (named_none (space_text_by Standard) spaces word (λ s e. none s (inl e))) (named_none space_text spaces word (λ s e. none s (inr e))))

@@ -32,14 +32,14 @@ abbrev pub BeginsLayer : List (List ℕ) → Type 0
 BeginsLayer [] = ⊥
 BeginsLayer (word ∷ words) = is_layer_word word ≡ true
 
-pub layer_word : {words rest : List (List ℕ)} {layer : Around} → LayerAt words layer rest → BeginsLayer words
+pub layer_word : {rules : RuleSet} {words rest : List (List ℕ)} {layer : Around} → LayerAt rules words layer rest → BeginsLayer words
 layer_word (vec_at f) = refl
 layer_word (mat_at f g) = refl
 layer_word (array_at f) = refl
 layer_word (binding_array_at f) = refl
 layer_word atomic_at = refl
-layer_word (ptr_at s m) = refl
-layer_word (ref_at s m) = refl
+layer_word (ptr_at m is) = refl
+layer_word (ref_at m is) = refl
 
 scalar_no_layer : (s : Scalar) → is_layer_word (scalar_text s) ≡ true → ⊥
 scalar_no_layer BoolScalar e = cc e
@@ -92,7 +92,7 @@ module _ (word : List ℕ) (words : List (List ℕ)) where
       (λ none t rest d. none t rest (past _ _ _ (not_eq word _ no_struct) (past_option _ _ _ (named_none scalar_text scalars word no_scalar) (form d)))) r h
 
 -- a layer, and what is inside, are read
-pub inside_read : (rules : RuleSet) {A : Type 0} (view : A → WgslType) (word : List ℕ) (words mid after : List (List ℕ)) (layer : Around) (r : Result A (Fail Misfit)) → LayerAt (word ∷ words) layer mid
+pub inside_read : (rules : RuleSet) {A : Type 0} (view : A → WgslType) (word : List ℕ) (words mid after : List (List ℕ)) (layer : Around) (r : Result A (Fail Misfit)) → LayerAt rules (word ∷ words) layer mid
     → Reads (InsideAt rules layer) view mid after r → Reads (OtherAt rules) view (word ∷ words) after r
 inside_read rules view word words mid after layer r d h =
     answers_by (λ x. InsideAt rules layer mid (view x) after) (λ x. OtherAt rules (word ∷ words) (view x) after) (NoneAt (InsideAt rules layer) mid) (NoneAt (OtherAt rules) (word ∷ words))
@@ -128,7 +128,7 @@ nested_start {rules} outermost start layers e = subst (λ ls. Nested rules outer
 
 module _ {rules : RuleSet} (outermost : Around) (start : List (List ℕ)) (layers : List Around) (now : List (List ℕ)) (h : Nested rules outermost start layers now) where
   -- one more layer
-  pub nested_more : (layer : Around) (mid : List (List ℕ)) (more : List Around) → LayerAt now layer mid → more ≡ layers ++ layer ∷ [] → Nested rules outermost start more mid
+  pub nested_more : (layer : Around) (mid : List (List ℕ)) (more : List Around) → LayerAt rules now layer mid → more ≡ layers ++ layer ∷ [] → Nested rules outermost start more mid
   nested_more layer mid more d e = subst (λ ls. Nested rules outermost start ls mid) (sym e) (record {
     forth = λ t rest f. h.forth t rest (around layer f.0, layer_at d f.1, f.2 ∙ wrapped-last layers layer f.0);
     back = λ t rest i.
@@ -151,7 +151,7 @@ module _ {rules : RuleSet} (outermost : Around) (start : List (List ℕ)) (layer
 
 -- a word begins a layer, but its words are none
 pub nested_no_layer : {rules : RuleSet} (outermost : Around) (start : List (List ℕ)) (layers : List Around) (word : List ℕ) (words : List (List ℕ)) → Nested rules outermost start layers (word ∷ words)
-    → (is_layer_word word ≡ true) × NoneAt LayerAt (word ∷ words) → NoneAt (InsideAt rules outermost) start
+    → (is_layer_word word ≡ true) × NoneAt (LayerAt rules) (word ∷ words) → NoneAt (InsideAt rules outermost) start
 nested_no_layer {rules} outermost start layers word words h none =
     nested_none outermost start layers (word ∷ words) h (λ t rest d. let f : InLayerAt rules (word ∷ words) t rest = in_layer d none.0 in none.1 f.0 f.1 f.2)
 
@@ -161,18 +161,18 @@ pub scalar_inside : {rules : RuleSet} (layer : Around) (words : List (List ℕ))
 scalar_inside {rules} layer words word mid s inner t e is seen made = (inner, subst (λ ws. TypeAt rules ws inner mid) (sym e) (scalar_read word mid s inner is seen), made)
 
 -- what is found, where something is or nothing
-pub layer_of : (word : List ℕ) (before after : List (List ℕ)) (found : Option Around) (layer : Around) → found ≡ Some layer → ReadsLayer word before after (Ok found) → LayerAt (word ∷ before) layer after
-layer_of word before after found layer e h = subst (λ f. ReadsLayer word before after (Ok f)) e h
+pub layer_of : (rules : RuleSet) (word : List ℕ) (before after : List (List ℕ)) (found : Option Around) (layer : Around) → found ≡ Some layer → ReadsLayer rules word before after (Ok found) → LayerAt rules (word ∷ before) layer after
+layer_of rules word before after found layer e h = subst (λ f. ReadsLayer rules word before after (Ok f)) e h
 
-pub no_layer_of : (word : List ℕ) (before after : List (List ℕ)) (found : Option Around) → found ≡ None → ReadsLayer word before after (Ok found) → (is_layer_word word ≡ false) × (after ≡ before)
-no_layer_of word before after found e h = subst (λ f. ReadsLayer word before after (Ok f)) e h
+pub no_layer_of : (rules : RuleSet) (word : List ℕ) (before after : List (List ℕ)) (found : Option Around) → found ≡ None → ReadsLayer rules word before after (Ok found) → (is_layer_word word ≡ false) × (after ≡ before)
+no_layer_of rules word before after found e h = subst (λ f. ReadsLayer rules word before after (Ok f)) e h
 
-pub next_of : (word : List ℕ) (before after : List (List ℕ)) (found : Option Around) (layer : Around) → found ≡ Some layer → ReadsNext word before after (Ok found) → LayerAt (word ∷ before) layer after
-next_of word before after found layer e h = subst (λ f. ReadsNext word before after (Ok f)) e h
+pub next_of : (rules : RuleSet) (word : List ℕ) (before after : List (List ℕ)) (found : Option Around) (layer : Around) → found ≡ Some layer → ReadsNext rules word before after (Ok found) → LayerAt rules (word ∷ before) layer after
+next_of rules word before after found layer e h = subst (λ f. ReadsNext rules word before after (Ok f)) e h
 
-pub no_next_of : (word : List ℕ) (before after : List (List ℕ)) (found : Option Around) → ((layer : Around) → found ≡ Some layer → ⊥) → ReadsNext word before after (Ok found) → after ≡ before
-no_next_of word before after None none h = h
-no_next_of word before after (Some layer) none h = absurd (none layer refl)
+pub no_next_of : (rules : RuleSet) (word : List ℕ) (before after : List (List ℕ)) (found : Option Around) → ((layer : Around) → found ≡ Some layer → ⊥) → ReadsNext rules word before after (Ok found) → after ≡ before
+no_next_of rules word before after None none h = h
+no_next_of rules word before after (Some layer) none h = absurd (none layer refl)
 
 pub room_of : (found : Option Around) (layer : Around) (P : Type 0) → found ≡ Some layer → OnSome found P → P
 room_of found layer P e h = subst (λ f. OnSome f P) e h

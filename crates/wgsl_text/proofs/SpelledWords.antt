@@ -4,7 +4,7 @@ use Rattle.std.specs.List.{filter}
 use Rattle.std.proofs.lemmas.Fmt.{decimal_nonempty}
 use Rattle.std.proofs.lemmas.Grind.{common_steps, flat_map-append}
 use Rattle.std.proofs.lemmas.List.{append_assoc, append-nil}
-use Rattle.wgsl_syntax.specs.Address.{access_text, space_text}
+use Rattle.wgsl_syntax.specs.Address.{access_text, space_text_by}
 use Rattle.wgsl_syntax.specs.Attribute.{flag_text}
 use Rattle.wgsl_syntax.specs.Scalar.{scalar_text}
 use Rattle.wgsl_syntax.specs.Texel.{texel_text_by}
@@ -126,9 +126,11 @@ clean_sampler : (s : SamplerType) → unclean (sampler_text s) ≡ false
 clean_sampler samplers.Sampler = refl
 clean_sampler _ = refl
 
-clean_space : (s : AddressSpace) → unclean (space_text s) ≡ false
-clean_space spaces.Function = refl
-clean_space _ = refl
+clean_space : (by : RuleSet) (s : AddressSpace) → unclean (space_text_by by s) ≡ false
+clean_space sets.Standard spaces.PushConstant = refl
+clean_space sets.Standard _ = refl
+clean_space sets.Ported spaces.PushConstant = refl
+clean_space sets.Ported _ = refl
 
 clean_access : (m : AccessMode) → unclean (access_text m) ≡ false
 clean_access access.Read = refl
@@ -159,9 +161,11 @@ some_bytes_sampler : (s : SamplerType) → 0 < length (sampler_text s)
 some_bytes_sampler samplers.Sampler = omega arith
 some_bytes_sampler _ = omega arith
 
-some_bytes_space : (s : AddressSpace) → 0 < length (space_text s)
-some_bytes_space spaces.Function = omega arith
-some_bytes_space _ = omega arith
+some_bytes_space : (by : RuleSet) (s : AddressSpace) → 0 < length (space_text_by by s)
+some_bytes_space sets.Standard spaces.PushConstant = omega arith
+some_bytes_space sets.Standard _ = omega arith
+some_bytes_space sets.Ported spaces.PushConstant = omega arith
+some_bytes_space sets.Ported _ = omega arith
 
 some_bytes_access : (m : AccessMode) → 0 < length (access_text m)
 some_bytes_access access.Read = omega arith
@@ -204,7 +208,7 @@ neat_accessed None n = n
 neat_accessed (Some m) n = neat_and n (one_word (plain_by (access_text m) (clean_access m)) (some_bytes_access m))
 
 neat_memory : {list inner : List ℕ} {s : AddressSpace} {m : AccessMode} → IsMemory list s inner m → Neat inner → Neat list
-neat_memory {list} {inner} {s} is n = subst Neat (sym is.is) (and_more (plain_by (space_text s) (clean_space s)) (some_bytes_space s) (neat_accessed is.said n))
+neat_memory {list} {inner} {s} is n = subst Neat (sym is.is) (and_more (plain_by (space_text_by is.rules s) (clean_space is.rules s)) (some_bytes_space is.rules s) (neat_accessed is.said n))
 
 neat_inside : (layer : Around) {inner list : List ℕ} → IsInRange layer → IsList layer inner list → Neat inner → Neat list
 neat_inside (Array None) fits is n = subst Neat (sym is) n

@@ -1,9 +1,9 @@
 -- What stands in the list of a layer, and that it stands there in one way.
-use Rattle.std.proofs.Common.{◌≡◌, ◌++◌, ℕ, List, [], ◌∷◌, Option, Some, None, codes, decimal, refl, sym, ap, subst, ◌∙◌, arith, Bool, true, false, ◌||◌, if◌then◌else◌}
+use Rattle.std.proofs.Common.{◌≡◌, ◌⊎◌, inl, inr, ◌++◌, ℕ, List, [], ◌∷◌, Option, Some, None, codes, decimal, refl, sym, ap, subst, ◌∙◌, arith, Bool, true, false, ◌||◌, if◌then◌else◌}
 use Rattle.std.specs.Borrow.{Bor}
 use Rattle.std.proofs.lemmas.List.{append_assoc}
 use Rattle.std.proofs.lemmas.Fmt.{decimal_injective}
-use Rattle.wgsl_syntax.specs.Address.{access_text, space_text}
+use Rattle.wgsl_syntax.specs.Address.{access_text, space_text_by, IsSpace}
 use Rattle.wgsl_syntax.specs.Scalar.{scalar_text}
 use Rattle.wgsl_syntax.specs.Texture.{sampled_text, sampler_text, texture_text_by}
 use Rattle.wgsl_syntax.specs.declared.address.AccessMode.{AccessMode}
@@ -16,6 +16,7 @@ use Rattle.wgsl_syntax.specs.declared.attribute.AccelerationStructureFlags.TheVa
 use Rattle.wgsl_syntax.specs.declared.scalar.Scalar.{Scalar}
 use Rattle.wgsl_syntax.specs.declared.scalar.Scalar.TheVariants as scalars
 use Rattle.wgsl_syntax.specs.declared.rules.RuleSet.{RuleSet}
+use Rattle.wgsl_syntax.specs.declared.rules.RuleSet.TheVariants as sets
 use Rattle.wgsl_syntax.specs.declared.texel.TexelFormat.{TexelFormat}
 use Rattle.wgsl_syntax.specs.declared.texture.SampledType.{SampledType}
 use Rattle.wgsl_syntax.specs.declared.texture.SamplerType.{SamplerType}
@@ -26,7 +27,8 @@ use Rattle.wgsl_syntax.specs.Attribute.{flag_text}
 use Rattle.wgsl_syntax.specs.Texel.{texel_text_by}
 use Rattle.std.specs.Str.{bytes_eq}
 use Rattle.std.proofs.lemmas.Slice.Eq.{bytes_eq-Decides}
-use Rattle.wgsl_syntax.proofs.Naming.{access_naming, space_naming}
+use Rattle.wgsl_syntax.proofs.Naming.{access_naming}
+use Rattle.wgsl_syntax.proofs.Renamed.{one_space}
 use Rattle.wgsl_rules.specs.types.Spelling.{flagged}
 use Rattle.wgsl_rules.specs.types.Types.{WgslType}
 use Rattle.wgsl_text.specs.spelling.Spells.{IsMemory, Spells, access_of, alias_of, aliases, ended_list, found, acceleration_structure_is, alias_is, around_is, name_of, ray_query_is, sampler_is, scalar_is, texture_is}
@@ -42,9 +44,11 @@ pub sampler_has : (s : SamplerType) → has 44 (sampler_text s) ≡ false
 sampler_has samplers.Sampler = refl
 sampler_has _ = refl
 
-pub space_has : (s : AddressSpace) → has 44 (space_text s) ≡ false
-space_has spaces.Function = refl
-space_has _ = refl
+pub space_has : (by : RuleSet) (s : AddressSpace) → has 44 (space_text_by by s) ≡ false
+space_has sets.Standard spaces.PushConstant = refl
+space_has sets.Standard _ = refl
+space_has sets.Ported spaces.PushConstant = refl
+space_has sets.Ported _ = refl
 
 pub access_has : (m : AccessMode) → has 44 (access_text m) ≡ false
 access_has access.Read = refl
@@ -210,33 +214,46 @@ module _ {A : Type 0} (text : A → List ℕ) (Fits : A → Type 0) (is_said : I
 
 -- an address space, a type and an access mode
 
-space_lacks : (s : AddressSpace) → Lacks 44 (space_text s)
-space_lacks s = lacks_by 44 (space_text s) (space_has s)
+space_lacks : (by : RuleSet) (s : AddressSpace) → Lacks 44 (space_text_by by s)
+space_lacks by s = lacks_by 44 (space_text_by by s) (space_has by s)
+
+-- a name by any rules is one by WGSL's
+pub space_so : (by : RuleSet) (word : List ℕ) (s : AddressSpace) → word ≡ space_text_by by s → IsSpace sets.Standard word s
+space_so sets.Standard word s is = inl is
+space_so sets.Ported word s is = inr is
+
+-- and the other way round
+pub space_by : (word : List ℕ) (s : AddressSpace) → IsSpace sets.Standard word s → (by : RuleSet) × (word ≡ space_text_by by s)
+space_by word s (inl is) = (sets.Standard, is)
+space_by word s (inr is) = (sets.Ported, is)
 
 pub memory_first : (list before rest : List ℕ) → AtFirst list before rest → (s : AddressSpace) (inner : List ℕ) (m : AccessMode) (is : IsMemory list s inner m) →
-    (before ≡ space_text s) × (rest ≡ ended_list access_text inner is.said)
+    (before ≡ space_text_by is.rules s) × (rest ≡ ended_list access_text inner is.said)
 memory_first list before rest at s inner m is =
-    let same = cut_first 44 before (space_text s) (32 ∷ rest) (32 ∷ ended_list access_text inner is.said) at.0 (space_lacks s) (sym at.1 ∙ is.is) in
+    let same = cut_first 44 before (space_text_by is.rules s) (32 ∷ rest) (32 ∷ ended_list access_text inner is.said) at.0 (space_lacks is.rules s) (sym at.1 ∙ is.is) in
     (same.0, tail_same rest (ended_list access_text inner is.said) same.1)
 
 pub no_first : (list : List ℕ) → ((a b : List ℕ) → ¬ AtFirst list a b) → (s : AddressSpace) (inner : List ℕ) (m : AccessMode) → ¬ IsMemory list s inner m
-no_first list none s inner m is = none (space_text s) (ended_list access_text inner is.said) (space_lacks s, is.is)
+no_first list none s inner m is = none (space_text_by is.rules s) (ended_list access_text inner is.said) (space_lacks is.rules s, is.is)
 
-pub no_space : (list before rest : List ℕ) → AtFirst list before rest → ((s : AddressSpace) → ¬ (before ≡ space_text s)) → (s : AddressSpace) (inner : List ℕ) (m : AccessMode) → ¬ IsMemory list s inner m
-no_space list before rest at none s inner m is = none s (memory_first list before rest at s inner m is).0
+pub no_space : (list before rest : List ℕ) → AtFirst list before rest → ((s : AddressSpace) → ¬ IsSpace sets.Standard before s) → (s : AddressSpace) (inner : List ℕ) (m : AccessMode) → ¬ IsMemory list s inner m
+no_space list before rest at none s inner m is = none s (space_so is.rules before s (memory_first list before rest at s inner m is).0)
 
 unsaid : (o : Option AccessMode) → IfSaid (λ (m : AccessMode). Unit {0}) o
 unsaid None = tt
 unsaid (Some m) = tt
 
-pub memory_at : (list before rest : List ℕ) (s : AddressSpace) (inner : Bor (List ℕ)) (said : Option AccessMode) (m : AccessMode) → AtFirst list before rest → before ≡ space_text s →
+pub memory_at : (list before rest : List ℕ) (s : AddressSpace) (inner : Bor (List ℕ)) (said : Option AccessMode) (m : AccessMode) → AtFirst list before rest → IsSpace sets.Standard before s →
     AccessedOf rest (inner, said) → m ≡ access_of s said → MemoryAt list s inner.now m
 memory_at list before rest s inner said m at named accessed access = record {
-  is = record {
-    said = said;
-    is = at.1 ∙ (ap (λ b. b ++ (codes ", " ++ rest)) named ∙ ap (λ r. space_text s ++ (codes ", " ++ r)) accessed.is);
-    access = access;
-  };
+  is =
+      let by = space_by before s named in
+      record {
+        rules = by.0;
+        said = said;
+        is = at.1 ∙ (ap (λ b. b ++ (codes ", " ++ rest)) by.1 ∙ ap (λ r. space_text_by by.0 s ++ (codes ", " ++ r)) accessed.is);
+        access = access;
+      };
   alone = alone;
 }
   where
@@ -244,7 +261,7 @@ memory_at list before rest s inner said m at named accessed access = record {
     alone r text n t is d =
         let first = memory_first list before rest at r text n is in
         let behind = accessed.alone text is.said t first.1 (unsaid is.said) d in
-        let space = space_naming.distinct r s (sym first.0 ∙ named) in
+        let space = one_space sets.Standard before r s (space_so is.rules before r first.0) named in
         (space, behind.0, is.access ∙ (ap (λ r. access_of r is.said) space ∙ (ap (access_of s) behind.1 ∙ sym access)))
 
 -- with the spelling of a type inside
@@ -254,9 +271,10 @@ memory_known list inner s m t is d = record { is = is; alone = alone }
     alone : (r : AddressSpace) (text : List ℕ) (n : AccessMode) (u : WgslType) → IsMemory list r text n → Spells text u → (r ≡ s) × (text ≡ inner) × (n ≡ m)
     alone r text n u more e =
         let behind = ended_list access_text inner is.said in
-        let first = memory_first list (space_text s) behind (space_lacks s, is.is) r text n more in
+        let front = space_text_by is.rules s in
+        let first = memory_first list front behind (space_lacks is.rules s, is.is) r text n more in
         let one = ended_one access_text (λ m. Unit {0}) access_said behind inner text is.said more.said t u refl (unsaid is.said) d first.1 (unsaid more.said) e in
-        let space = space_naming.distinct r s (sym first.0) in
+        let space = one_space sets.Standard front r s (space_so more.rules front r first.0) (space_so is.rules front s refl) in
         (space, one.0, more.access ∙ (ap (λ r. access_of r more.said) space ∙ (ap (access_of s) one.1 ∙ sym is.access)))
 
 pub no_memory_of : (list : List ℕ) (r : Option (AddressSpace × Bor (List ℕ) × AccessMode)) → r ≡ None → ((s : AddressSpace) (inner : List ℕ) (m : AccessMode) → ¬ IsMemory list s inner m) → MemoryOf list r

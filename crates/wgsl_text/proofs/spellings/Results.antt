@@ -4,7 +4,7 @@ use Rattle.std.specs.Prelude.{MatchOption, IfSome}
 use Rattle.std.specs.Str.{bytes_eq}
 use Rattle.std.proofs.lemmas.Slice.Eq.{bytes_eq-Decides}
 use Rattle.std.proofs.lemmas.Grind.{common_steps}
-use Rattle.wgsl_syntax.specs.Address.{access_text, space_text}
+use Rattle.wgsl_syntax.specs.Address.{access_text, space_text_by}
 use Rattle.wgsl_syntax.specs.declared.address.AccessMode.{AccessMode}
 use Rattle.wgsl_syntax.specs.declared.address.AddressSpace.{AddressSpace}
 use Rattle.wgsl_syntax.specs.declared.around.Around.TheVariants.{Array, Vec, Mat, BindingArray, Atomic, Ptr, Ref}
@@ -47,8 +47,8 @@ ended_short text inner (Some x) = omega (arith, length-append inner (codes ", " 
 memory_short : (list : List ℕ) (s : AddressSpace) (inner : List ℕ) (m : AccessMode) → IsMemory list s inner m → length inner ≤ length list
 memory_short list s inner m is =
     let behind = ended_list access_text inner is.said in
-    let whole : length list ≡ length (space_text s ++ (codes ", " ++ behind)) = ap length is.is in
-    omega (arith, whole, ended_short access_text inner is.said, length-append (space_text s) (codes ", " ++ behind))
+    let whole : length list ≡ length (space_text_by is.rules s ++ (codes ", " ++ behind)) = ap length is.is in
+    omega (arith, whole, ended_short access_text inner is.said, length-append (space_text_by is.rules s) (codes ", " ++ behind))
 
 inner_short : (layer : Around) (inner list : List ℕ) → IsList layer inner list → length inner ≤ length list
 inner_short (Array n) inner list is = subst (λ l. length inner ≤ length l) (sym is) (ended_short decimal inner n)

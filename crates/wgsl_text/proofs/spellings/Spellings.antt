@@ -1,7 +1,7 @@
 -- What a type is written as spells it.
 use Rattle.std.proofs.Common.{◌≡◌, ◌++◌, ℕ, List, Some, None, codes, decimal, refl, sym, subst}
 use Rattle.std.proofs.lemmas.List.{append_assoc}
-use Rattle.wgsl_syntax.specs.Address.{access_text, space_text}
+use Rattle.wgsl_syntax.specs.Address.{access_text, space_text_by}
 use Rattle.wgsl_syntax.specs.declared.around.Around.{Around}
 use Rattle.wgsl_syntax.specs.declared.around.Around.TheVariants.{Array, Vec, Mat, BindingArray, Atomic, Ptr, Ref}
 use Rattle.wgsl_syntax.specs.declared.rules.RuleSet.{RuleSet}
@@ -12,24 +12,24 @@ use Rattle.wgsl_text.specs.spelling.Spells.{IsInRange, IsList, Spells, accelerat
 use Rattle.wgsl_text.specs.spelling.Written.{IsWritable}
 
 -- what stands in the list of a layer, as it is written
-abbrev written_list : Around → List ℕ → List ℕ
-written_list (Array n) inner = ended_list decimal inner n
-written_list (BindingArray n) inner = ended_list decimal inner n
-written_list (Ptr s m) inner = space_text s ++ (codes ", " ++ (inner ++ (codes ", " ++ access_text m)))
-written_list (Ref s m) inner = space_text s ++ (codes ", " ++ (inner ++ (codes ", " ++ access_text m)))
-written_list layer inner = inner
+abbrev written_list : RuleSet → Around → List ℕ → List ℕ
+written_list by (Array n) inner = ended_list decimal inner n
+written_list by (BindingArray n) inner = ended_list decimal inner n
+written_list by (Ptr s m) inner = space_text_by by s ++ (codes ", " ++ (inner ++ (codes ", " ++ access_text m)))
+written_list by (Ref s m) inner = space_text_by by s ++ (codes ", " ++ (inner ++ (codes ", " ++ access_text m)))
+written_list by layer inner = inner
 
-is_written : (layer : Around) (inner : List ℕ) → IsList layer inner (written_list layer inner)
-is_written (Array n) inner = refl
-is_written (BindingArray n) inner = refl
-is_written (Ptr s m) inner = record { said = Some m; is = refl; access = refl }
-is_written (Ref s m) inner = record { said = Some m; is = refl; access = refl }
-is_written (Vec n) inner = refl
-is_written (Mat c r) inner = refl
-is_written Atomic inner = refl
+is_written : (by : RuleSet) (layer : Around) (inner : List ℕ) → IsList layer inner (written_list by layer inner)
+is_written by (Array n) inner = refl
+is_written by (BindingArray n) inner = refl
+is_written by (Ptr s m) inner = record { rules = by; said = Some m; is = refl; access = refl }
+is_written by (Ref s m) inner = record { rules = by; said = Some m; is = refl; access = refl }
+is_written by (Vec n) inner = refl
+is_written by (Mat c r) inner = refl
+is_written by Atomic inner = refl
 
 -- the spelling of a layer around a type
-layer_text : (by : RuleSet) (layer : Around) (t : WgslType) → with_list (name_of layer) (written_list layer (spelling_by by t)) ≡ spelling_by by (around layer t)
+layer_text : (by : RuleSet) (layer : Around) (t : WgslType) → with_list (name_of layer) (written_list by layer (spelling_by by t)) ≡ spelling_by by (around layer t)
 layer_text by (Array None) t = sym (simp append_assoc)
 layer_text by (Array (Some n)) t = sym (simp append_assoc)
 layer_text by (BindingArray None) t = sym (simp append_assoc)
@@ -41,7 +41,7 @@ layer_text by (Ptr s m) t = sym (simp append_assoc)
 layer_text by (Ref s m) t = sym (simp append_assoc)
 
 spells_around : (by : RuleSet) (layer : Around) (t : WgslType) → IsInRange layer → Spells (spelling_by by t) t → Spells (spelling_by by (around layer t)) (around layer t)
-spells_around by layer t fits d = subst (λ x. Spells x (around layer t)) (layer_text by layer t) (around_is layer _ fits (is_written layer (spelling_by by t)) d)
+spells_around by layer t fits d = subst (λ x. Spells x (around layer t)) (layer_text by layer t) (around_is layer _ fits (is_written by layer (spelling_by by t)) d)
 
 pub spells_spelling : (by : RuleSet) (t : WgslType) → IsWritable t → Spells (spelling_by by t) t
 spells_spelling by (scalar s) w = scalar_is s

@@ -20,7 +20,7 @@ use Rattle.wgsl_syntax.specs.declared.texture_name.TextureParameterKind.TheVaria
 use Rattle.wgsl_syntax.specs.declared.texture_name.TextureParameters.{TextureParameters}
 use Rattle.wgsl_syntax.specs.declared.texture_name.TextureParameters.TheVariants as parameters
 use Rattle.wgsl_syntax.proofs.Naming.{access_naming, sampled_naming, texture_naming}
-use Rattle.wgsl_syntax.proofs.Texels.{one_texel}
+use Rattle.wgsl_syntax.proofs.Renamed.{one_texel}
 use Rattle.wgsl_syntax.proofs.Textures.{same_kind, texture_is}
 use Rattle.wgsl_text.specs.spelling.Spells.{with_list}
 use Rattle.wgsl_text.specs.spelling.internal.{AreListed, AreListedBy, AtFirst, AtList, Lacks}

@@ -14,6 +14,5 @@ returns-in_err-types c = fails _ _ _ _ _ (no_common _ _) c.from_residual.ensures
 pub returns : goal.returns
 returns c =
     replied _ _ _ (common_words c.in_ok-types.ensures)
-    (subst (λ names. Adds (IsAnswer (common names (map view c.in_ok-types.types.items)) c.in_ok-written.field-0) (string_bytes c.args.text.now) (string_bytes c.write_common-written.new.text)) c.format_names.ensures
-    (subst (λ ts. Adds (IsAnswer (common c.format_names.result ts) c.in_ok-written.field-0) (string_bytes c.args.text.now) (string_bytes c.write_common-written.new.text))
-    (ap (map view) c.deref.ensures.value) c.in_ok-written.ensures))
+    (subst (λ ts. Adds (IsAnswer (common c.args.rules ts) c.in_ok-written.field-0) (string_bytes c.args.text.now) (string_bytes c.write_common-written.new.text))
+    (ap (map view) c.deref.ensures.value) c.in_ok-written.ensures)

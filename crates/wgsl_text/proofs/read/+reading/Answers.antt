@@ -26,7 +26,7 @@ read_type_at-returns-in_default-clause-read t c =
 
 pub read_other-returns-in-Some-clause-read : goal.read_other-returns-in-Some-clause-read
 read_other-returns-in-Some-clause-read t c =
-    inside_read c.args.rules view c.args.word.now (left c.args.words.now) (left c.read_outer.new.words) _ c.in-Some.outer _ (layer_of c.args.word.now (left c.args.words.now) (left c.read_outer.new.words) c.in_ok-outer.field-0 c.in-Some.outer c.in-Some.is c.in_ok-outer.ensures.read) c.read_inside.ensures.read
+    inside_read c.args.rules view c.args.word.now (left c.args.words.now) (left c.read_outer.new.words) _ c.in-Some.outer _ (layer_of c.args.rules c.args.word.now (left c.args.words.now) (left c.read_outer.new.words) c.in_ok-outer.field-0 c.in-Some.outer c.in-Some.is c.in_ok-outer.ensures.read) c.read_inside.ensures.read
 
 pub read_inside-returns-in_ok-inner-in-Some-clause-read : goal.read_inside-returns-in_ok-inner-in-Some-clause-read
 read_inside-returns-in_ok-inner-in-Some-clause-read t c =
@@ -51,7 +51,7 @@ pub read_layers-returns-in_err-word-clause-read : goal.read_layers-returns-in_er
 read_layers-returns-in_err-word-clause-read t c =
     fails_by _ _ _ _ c.from_residual-in_err-word.ensures.1
     (nested_none c.args.outermost (c.args.first.now ∷ left c.args.words.now) ((take c.loop-layer.count c.loop-layer.layers) ++ c.in-Some.layer ∷ []) (left c.read_next.new.words)
-    (nested_more c.args.outermost (c.args.first.now ∷ left c.args.words.now) (take c.loop-layer.count c.loop-layer.layers) (c.loop-layer.word.now ∷ left c.loop-layer.words) c.loop-layer.invariant.4 c.in-Some.layer (left c.read_next.new.words) _ (next_of c.loop-layer.word.now (left c.loop-layer.words) (left c.read_next.new.words) c.in_ok-layer.field-0 c.in-Some.layer c.in-Some.is c.in_ok-layer.ensures.read) refl)
+    (nested_more c.args.outermost (c.args.first.now ∷ left c.args.words.now) (take c.loop-layer.count c.loop-layer.layers) (c.loop-layer.word.now ∷ left c.loop-layer.words) c.loop-layer.invariant.4 c.in-Some.layer (left c.read_next.new.words) _ (next_of c.args.rules c.loop-layer.word.now (left c.loop-layer.words) (left c.read_next.new.words) c.in_ok-layer.field-0 c.in-Some.layer c.in-Some.is c.in_ok-layer.ensures.read) refl)
     (λ ty rest d. no_type_of_nothing (left c.read_next.new.words) ty rest c.in_err-word.ensures.word d))
 
 pub read_layers-loop-layer-preserved : goal.read_layers-loop-layer-preserved
@@ -62,18 +62,18 @@ read_layers-loop-layer-preserved t c =
       omega (arith, room),
       simp length-set c.loop-layer.invariant.3,
       subst (λ ws. Nested c.args.rules c.args.outermost (c.args.first.now ∷ left c.args.words.now) (take (c.loop-layer.count + 1) (set c.loop-layer.layers c.loop-layer.count c.in-Some.layer)) ws) c.in_ok-word.ensures.word
-          (nested_more c.args.outermost (c.args.first.now ∷ left c.args.words.now) (take c.loop-layer.count c.loop-layer.layers) (c.loop-layer.word.now ∷ left c.loop-layer.words) c.loop-layer.invariant.4 c.in-Some.layer (left c.read_next.new.words) _ (next_of c.loop-layer.word.now (left c.loop-layer.words) (left c.read_next.new.words) c.in_ok-layer.field-0 c.in-Some.layer c.in-Some.is c.in_ok-layer.ensures.read)
+          (nested_more c.args.outermost (c.args.first.now ∷ left c.args.words.now) (take c.loop-layer.count c.loop-layer.layers) (c.loop-layer.word.now ∷ left c.loop-layer.words) c.loop-layer.invariant.4 c.in-Some.layer (left c.read_next.new.words) _ (next_of c.args.rules c.loop-layer.word.now (left c.loop-layer.words) (left c.read_next.new.words) c.in_ok-layer.field-0 c.in-Some.layer c.in-Some.is c.in_ok-layer.ensures.read)
           (take_set c.loop-layer.layers c.loop-layer.count c.in-Some.layer (omega (arith, room, c.loop-layer.invariant.3)))),
     )
 
 pub read_layers-returns-in_err-innermost-clause-read : goal.read_layers-returns-in_err-innermost-clause-read
 read_layers-returns-in_err-innermost-clause-read t c =
-    fails _ _ _ _ _ (nested_none c.args.outermost (c.args.first.now ∷ left c.args.words.now) (take c.loop-layer.count c.loop-layer.layers) (c.loop-layer.word.now ∷ left c.read_next.new.words) (subst (λ ws. Nested c.args.rules c.args.outermost (c.args.first.now ∷ left c.args.words.now) (take c.loop-layer.count c.loop-layer.layers) (c.loop-layer.word.now ∷ ws)) (sym (no_next_of c.loop-layer.word.now (left c.loop-layer.words) (left c.read_next.new.words) c.in_ok-layer.field-0 c.in_default.not-Some c.in_ok-layer.ensures.read)) c.loop-layer.invariant.4))
+    fails _ _ _ _ _ (nested_none c.args.outermost (c.args.first.now ∷ left c.args.words.now) (take c.loop-layer.count c.loop-layer.layers) (c.loop-layer.word.now ∷ left c.read_next.new.words) (subst (λ ws. Nested c.args.rules c.args.outermost (c.args.first.now ∷ left c.args.words.now) (take c.loop-layer.count c.loop-layer.layers) (c.loop-layer.word.now ∷ ws)) (sym (no_next_of c.args.rules c.loop-layer.word.now (left c.loop-layer.words) (left c.read_next.new.words) c.in_ok-layer.field-0 c.in_default.not-Some c.in_ok-layer.ensures.read)) c.loop-layer.invariant.4))
     c.from_residual-in_err-innermost.ensures.1 c.in_err-innermost.ensures.read
 
 pub read_layers-returns-clause-read : goal.read_layers-returns-clause-read
 read_layers-returns-clause-read t c =
-    nested_end c.args.outermost (c.args.first.now ∷ left c.args.words.now) (take c.loop-layer.count c.loop-layer.layers) (c.loop-layer.word.now ∷ left c.read_next.new.words) (subst (λ ws. Nested c.args.rules c.args.outermost (c.args.first.now ∷ left c.args.words.now) (take c.loop-layer.count c.loop-layer.layers) (c.loop-layer.word.now ∷ ws)) (sym (no_next_of c.loop-layer.word.now (left c.loop-layer.words) (left c.read_next.new.words) c.in_ok-layer.field-0 c.in_default.not-Some c.in_ok-layer.ensures.read)) c.loop-layer.invariant.4)
+    nested_end c.args.outermost (c.args.first.now ∷ left c.args.words.now) (take c.loop-layer.count c.loop-layer.layers) (c.loop-layer.word.now ∷ left c.read_next.new.words) (subst (λ ws. Nested c.args.rules c.args.outermost (c.args.first.now ∷ left c.args.words.now) (take c.loop-layer.count c.loop-layer.layers) (c.loop-layer.word.now ∷ ws)) (sym (no_next_of c.args.rules c.loop-layer.word.now (left c.loop-layer.words) (left c.read_next.new.words) c.in_ok-layer.field-0 c.in_default.not-Some c.in_ok-layer.ensures.read)) c.loop-layer.invariant.4)
     _ _ (view c.in_ok-innermost.innermost) c.in_ok-innermost.ensures.read c.in_ok-wrap.ensures
 
 pub read_member-returns-in_err-size-clause-read : goal.read_member-returns-in_err-size-clause-read
