@@ -186,7 +186,6 @@ texel_naming = naming texel_text texel_formats texel_back
 pub texel_reads : (s : List ℕ) → Reads texel_text s (ok_or (named (table texel_text texel_formats) s) (tt {0}))
 texel_reads = reading texel_text texel_formats texel_back
 
-
 sampled_back : (x : SampledType) → named (table sampled_text sampled_types) (sampled_text x) ≡ Some x
 sampled_back sampled.I32 = refl
 sampled_back _ = refl

@@ -59,7 +59,7 @@ texel_names sets.Standard texels.Rg11b10Float = inr (refl, refl)
 texel_names sets.Standard f = inl refl
 
 pub texel_renaming : (rules : RuleSet) → Renaming texel_text (texel_text_by rules) texel_formats (codes "rg11b10ufloat") texels.Rg11b10Float
-texel_renaming rules = record { back = texel_back; unknown = refl; names = texel_names rules; }
+texel_renaming rules = record { back = texel_back; unknown = refl; names = texel_names rules }
 
 space_names : (rules : RuleSet) (s : AddressSpace) → (space_text_by rules s ≡ space_text s) ⊎ ((space_text_by rules s ≡ codes "immediate") × (s ≡ spaces_of.PushConstant))
 space_names sets.Ported s = inl refl
@@ -67,7 +67,7 @@ space_names sets.Standard spaces_of.PushConstant = inr (refl, refl)
 space_names sets.Standard s = inl refl
 
 pub space_renaming : (rules : RuleSet) → Renaming space_text (space_text_by rules) spaces (codes "immediate") spaces_of.PushConstant
-space_renaming rules = record { back = space_back; unknown = refl; names = space_names rules; }
+space_renaming rules = record { back = space_back; unknown = refl; names = space_names rules }
 
 -- a format has naga's name, or it is the one that WGSL calls otherwise
 pub naga_or_other : (rules : RuleSet) (f : TexelFormat) → (texel_text_by rules f ≡ texel_text f) ⊎ (f ≡ texels.Rg11b10Float)
