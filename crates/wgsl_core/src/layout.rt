@@ -111,7 +111,6 @@ impl Type {
     /// It is inlined, so that measuring a scalar takes no call, and measuring a vector one.
     #[cycle(measure)]
     #[inline(always)]
-    #[tactic(auto, using(crate::proofs::Scalars::scalar_is))]
     fn measure(&self, rules: RuleSet) -> Measure
         ensures { IsMeasure rules (view self.now) result }
     {

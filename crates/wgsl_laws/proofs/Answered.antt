@@ -22,14 +22,14 @@ Answered request = (a : WgslAnswer) × Answers request a
 of_common : (rules : RuleSet) (ts : List WgslType) → Answered (common rules ts)
 of_common rules ts = let c = a_received ts in (a_common_type rules c.0, common_is c.0 c.1)
 
-of_offsets : (name : List ℕ) (ms : Members) → Answered (offsets name ms)
-of_offsets name ms = elim (offsets_or_cause ms) [
+of_offsets : (rules : RuleSet) (name : List ℕ) (ms : Members) → Answered (offsets rules name ms)
+of_offsets rules name ms = elim (offsets_or_cause rules ms) [
   | inl o ↦ (some_offsets (Some o.0), offsets_are (Some o.0) o.1)
   | inr cause ↦ (some_offsets None, offsets_are None cause)
 ]
 
-of_layout : (name : List ℕ) (ms laid : Members) → Answered (layout name ms laid)
-of_layout name ms laid = elim (layout_or_cause laid) [
+of_layout : (rules : RuleSet) (name : List ℕ) (ms : Members) → Answered (layout rules name ms)
+of_layout rules name ms = elim (layout_or_cause rules ms) [
   | inl h ↦ let l : WgslLayout = record { layouts = h.sized.layouts; offsets = h.offsets; size = h.size; align = h.align } in
       (a_layout name ms (Some l), layout_is (Some l) h.layout)
   | inr cause ↦ (a_layout name ms None, layout_is None cause)
@@ -40,9 +40,9 @@ some_answer (rank t u) = let w = a_rank t u in (a_number w.0, rank_is w.0 w.1)
 some_answer (common rules ts) = of_common rules ts
 some_answer (unary o t) = let r = a_unary o t in (a_type r.0, unary_is r.0 r.1)
 some_answer (binary o t u) = let r = a_binary o t u in (a_type r.0, binary_is r.0 r.1)
-some_answer (size t) = let s = exact_size t in let a = exact_alignment t in (a_size s.0 a.0, size_is s.0 a.0 s.1 a.1)
-some_answer (offsets name ms) = of_offsets name ms
-some_answer (layout name ms laid) = of_layout name ms laid
+some_answer (size rules t) = let s = exact_size rules t in let a = exact_alignment rules t in (a_size s.0 a.0, size_is s.0 a.0 s.1 a.1)
+some_answer (offsets rules name ms) = of_offsets rules name ms
+some_answer (layout rules name ms) = of_layout rules name ms
 some_answer (ctor c) = let r = a_constructor c in (a_type r.0, ctor_is r.0 r.1)
 some_answer (call c) = let r = a_call c in (a_value r.0, call_is r.0 r.1)
 some_answer (type_of c) = let r = some_type c in (a_type_of c r.0, type_of_is r.0 r.1)

@@ -18,8 +18,7 @@ use Rattle.wgsl_text.specs.Grammar.{TypeAt, TypesAt}
 use Rattle.wgsl_text.specs.declared.form_command.FormCommand.{FormCommand}
 use Rattle.wgsl_text.proofs.Meanings.{named_text}
 use Rattle.wgsl_text.specs.Reading.{IsText}
-use Rattle.wgsl_text.specs.Requests.{Request, rank, common, unary, binary, size, laid_out, ctor, call, resolution_of, explanation_of, overloads_of, form_of, fit_of, IsRequest, rank_words, common_words, unary_words, binary_words, size_words, offsets_words, layout_words, ctor_words, call_words, type_words, component_words, resolve_words, why_words, overloads_words, form_words, fit_words}
-use Rattle.wgsl_text.specs.internal.Replied.{layout_by, offsets_by}
+use Rattle.wgsl_text.specs.Requests.{Request, rank, common, unary, binary, size, offsets, layout, ctor, call, resolution_of, explanation_of, overloads_of, form_of, fit_of, IsRequest, rank_words, common_words, unary_words, binary_words, size_words, offsets_words, layout_words, ctor_words, call_words, type_words, component_words, resolve_words, why_words, overloads_words, form_words, fit_words}
 use Rattle.wgsl_text.proofs.OneType.{one_list, one_type}
 use Rattle.wgsl_text.proofs.Requested.{BinaryForm, CallForm, CalleeForm, TypeForm, CommonForm, FitForm, FormForm, OverloadsForm, PortedForm, RankForm, RequestForm, SizeForm, StandardForm, StructForm, UnaryForm, command_named, request_form}
 use Rattle.wgsl_laws.proofs.CalleesFound.{a_callee}
@@ -77,7 +76,7 @@ a_binary words = elim (a_word (IsText binary_text) (a_name binary_text binary_op
 ]
 
 a_size : {rules : RuleSet} (words : List (List ℕ)) → Means (SizeForm rules words)
-a_size {rules} words = elim (whole_type {rules = rules} words) [ inl t ↦ inl (size (laid_out rules t.0), (t.0, t.1, refl)) | inr none ↦ inr (λ r f. none f.0 f.1) ]
+a_size {rules} words = elim (whole_type {rules = rules} words) [ inl t ↦ inl (size rules t.0, (t.0, t.1, refl)) | inr none ↦ inr (λ r f. none f.0 f.1) ]
 
 only_struct : {rules : RuleSet} (ask : List ℕ → Members → Request) {words : List (List ℕ)} → Means (λ t. TypeAt rules words t []) → Means (StructForm rules ask words)
 only_struct ask (inr none) = inr (λ r f. none (struct f.0 f.1) f.2)
@@ -122,8 +121,8 @@ module _ (word : List ℕ) (words : List (List ℕ)) where
       (by_word (bytes_eq word (codes "unary")) (a_unary words)
       (by_word (bytes_eq word (codes "binary")) (a_binary words)
       (by_word (bytes_eq word (codes "size")) (a_size words)
-      (by_word (bytes_eq word (codes "offsets")) (only_struct (offsets_by Ported) (whole_type words))
-      (by_word (bytes_eq word (codes "layout")) (only_struct (layout_by Ported) (whole_type words))
+      (by_word (bytes_eq word (codes "offsets")) (only_struct (offsets Ported) (whole_type words))
+      (by_word (bytes_eq word (codes "layout")) (only_struct (layout Ported) (whole_type words))
       (by_word (bytes_eq word (codes "ctor")) (a_callee_form ctor words)
       (by_word (bytes_eq word (codes "call")) (a_callee_form call words) (inr (λ r h. h))))))))))
 
@@ -132,8 +131,8 @@ module _ (word : List ℕ) (words : List (List ℕ)) where
       by_word (bytes_eq word (codes "rank")) (a_rank words)
       (by_word (bytes_eq word (codes "common")) (a_common words)
       (by_word (bytes_eq word (codes "size")) (a_size words)
-      (by_word (bytes_eq word (codes "offsets")) (only_struct (offsets_by Standard) (whole_type words))
-      (by_word (bytes_eq word (codes "layout")) (only_struct (layout_by Standard) (whole_type words))
+      (by_word (bytes_eq word (codes "offsets")) (only_struct (offsets Standard) (whole_type words))
+      (by_word (bytes_eq word (codes "layout")) (only_struct (layout Standard) (whole_type words))
       (by_word (bytes_eq word (codes "resolve")) (a_call_form resolution_of words)
       (by_word (bytes_eq word (codes "why")) (a_call_form explanation_of words)
       (by_word (bytes_eq word (codes "overloads")) (some_overloads words)

@@ -5,11 +5,13 @@ use Rattle.std.specs.List.{All}
 use Rattle.std.proofs.lemmas.Bool.{cases_lt}
 use Rattle.std.proofs.lemmas.Option.{same_Some}
 use native.Mathlib.Decide.{ℕ_discrete}
+use Rattle.wgsl_syntax.specs.declared.rules.RuleSet.{RuleSet}
+use Rattle.wgsl_syntax.specs.declared.rules.RuleSet.TheVariants.{Ported, Standard}
 use Rattle.wgsl_syntax.specs.declared.scalar.Scalar.{Scalar}
 use Rattle.wgsl_syntax.specs.declared.scalar.Scalar.TheVariants.{Bool, AbstractInt, AbstractFloat, I32, U32, F32, F16, I64, U64, F64}
 use Rattle.wgsl_rules.specs.types.Types.{WgslType, scalar, struct, atomic, Members, no_members, member, array, vec, mat}
 use Rattle.wgsl_rules.specs.layout.Placement.{MemberLayout, greatest, greatest_align, IsLeastTotal, IsPlacement}
-use Rattle.wgsl_rules.specs.layout.Layout.{IsScalarSize, IsAtomicSize, IsTimes, IsRoundedUp, IsStride, IsArraySize, IsAlignOfThree, IsVectorAlign, IsGiven, IsStructSize, HasSize, HasAlignment, HaveLayouts, HaveAlignments, IsExactly, SomeUnknown, SomeZeroAlign, HasNoSize, unknown, zero_align, empty, too_large}
+use Rattle.wgsl_rules.specs.layout.Layout.{IsScalarSize, IsAtomicSize, IsTimes, IsRoundedUp, IsStride, IsArraySize, IsAlignOfThreeBy, IsVectorAlignBy, IsGiven, IsStructSize, HasSizeBy, HasAlignmentBy, HaveLayoutsBy, HaveAlignmentsBy, IsExactly, SomeUnknownBy, SomeZeroAlignBy, HasNoSizeBy, unknown, zero_align, empty, too_large}
 use Rattle.wgsl_rules.proofs.layout.OneSize.{IsOne, one_vector_align, one_size, one_align, one_layouts, one_stride}
 use Rattle.wgsl_rules.proofs.layout.Placing.{Aligned, end_of, least_total}
 use Rattle.wgsl_rules.proofs.layout.Steps.{rounded_up, one_rounded}
@@ -68,16 +70,17 @@ an_array_size (Some k) S one h = elim (cases_lt k (2 ^ 32)) [
   | inr large ↦ inr (λ n p. omega (arith, p.0))
 ]
 
-an_align_of_three : (t : WgslType) → Finds (IsAlignOfThree t)
-an_align_of_three (scalar I32) = inl (16, refl)
-an_align_of_three (scalar U32) = inl (16, refl)
-an_align_of_three (scalar F32) = inl (16, refl)
-an_align_of_three (scalar F16) = inl (8, refl)
-an_align_of_three t = inr (λ n h. h)
+an_align_of_three : (rules : RuleSet) (t : WgslType) (S : ℕ → Type 0) → IsOne S → Finds S → Finds (IsAlignOfThreeBy rules t S)
+an_align_of_three Ported (scalar I32) S one h = inl (16, refl)
+an_align_of_three Ported (scalar U32) S one h = inl (16, refl)
+an_align_of_three Ported (scalar F32) S one h = inl (16, refl)
+an_align_of_three Ported (scalar F16) S one h = inl (8, refl)
+an_align_of_three Ported t S one h = inr (λ n h. h)
+an_align_of_three Standard t S one h = a_product 4 S one h
 
-a_vector_align : (k : ℕ) (t : WgslType) (S : ℕ → Type 0) → IsOne S → Finds S → Finds (IsVectorAlign k t S)
-a_vector_align k t S one h = elim (ℕ_discrete k 3) [
-  | yes e ↦ elim (an_align_of_three t) [
+a_vector_align : (rules : RuleSet) (k : ℕ) (t : WgslType) (S : ℕ → Type 0) → IsOne S → Finds S → Finds (IsVectorAlignBy rules k t S)
+a_vector_align rules k t S one h = elim (ℕ_discrete k 3) [
+  | yes e ↦ elim (an_align_of_three rules t S one h) [
     | inl a ↦ inl (a.0, inl (e, a.1))
     | inr none ↦ inr (λ n p. elim p [ inl a ↦ none n a.1 | inr a ↦ a.0 e ])
   ]
@@ -94,44 +97,44 @@ a_given None P h = h
 -- The members of a struct
 
 -- each member has a size and an alignment, or has none
-abbrev AreFound : Members → Type 0
-AreFound no_members = Unit {0}
-AreFound (member name t size align ms) = Finds (IsGiven size (HasSize t)) × Finds (IsGiven align (HasAlignment t)) × AreFound ms
+abbrev AreFound : RuleSet → Members → Type 0
+AreFound rules no_members = Unit {0}
+AreFound rules (member name t size align ms) = Finds (IsGiven size (HasSizeBy rules t)) × Finds (IsGiven align (HasAlignmentBy rules t)) × AreFound rules ms
 
-some_layouts : (ms : Members) → AreFound ms → ((ls : List MemberLayout) × HaveLayouts ms ls) ⊎ SomeUnknown ms
-some_layouts no_members h = inl ([], tt)
-some_layouts (member name t size align ms) (inr none, a, h) = inr (inl none)
-some_layouts (member name t size align ms) (inl s, inr none, h) = inr (inr (inl none))
-some_layouts (member name t size align ms) (inl s, inl a, h) = elim (some_layouts ms h) [
+some_layouts : (rules : RuleSet) (ms : Members) → AreFound rules ms → ((ls : List MemberLayout) × HaveLayoutsBy rules ms ls) ⊎ SomeUnknownBy rules ms
+some_layouts rules no_members h = inl ([], tt)
+some_layouts rules (member name t size align ms) (inr none, a, h) = inr (inl none)
+some_layouts rules (member name t size align ms) (inl s, inr none, h) = inr (inr (inl none))
+some_layouts rules (member name t size align ms) (inl s, inl a, h) = elim (some_layouts rules ms h) [
   | inl ls ↦ inl (record { size = s.0; align = a.0 } ∷ ls.0, (s.1, a.1, ls.1))
   | inr u ↦ inr (inr (inr u))
 ]
 
-some_alignments : (ms : Members) → AreFound ms → ((xs : List ℕ) × HaveAlignments ms xs) ⊎ ((xs : List ℕ) → ¬ HaveAlignments ms xs)
-some_alignments no_members h = inl ([], tt)
-some_alignments (member name t size align ms) (s, a, h) = both a (some_alignments ms h)
+some_alignments : (rules : RuleSet) (ms : Members) → AreFound rules ms → ((xs : List ℕ) × HaveAlignmentsBy rules ms xs) ⊎ ((xs : List ℕ) → ¬ HaveAlignmentsBy rules ms xs)
+some_alignments rules no_members h = inl ([], tt)
+some_alignments rules (member name t size align ms) (s, a, h) = both a (some_alignments rules ms h)
   where
-    both : Finds (IsGiven align (HasAlignment t)) → ((xs : List ℕ) × HaveAlignments ms xs) ⊎ ((xs : List ℕ) → ¬ HaveAlignments ms xs)
-        → ((xs : List ℕ) × HaveAlignments (member name t size align ms) xs) ⊎ ((xs : List ℕ) → ¬ HaveAlignments (member name t size align ms) xs)
+    both : Finds (IsGiven align (HasAlignmentBy rules t)) → ((xs : List ℕ) × HaveAlignmentsBy rules ms xs) ⊎ ((xs : List ℕ) → ¬ HaveAlignmentsBy rules ms xs)
+        → ((xs : List ℕ) × HaveAlignmentsBy rules (member name t size align ms) xs) ⊎ ((xs : List ℕ) → ¬ HaveAlignmentsBy rules (member name t size align ms) xs)
     both (inl a) (inl xs) = inl (a.0 ∷ xs.0, (a.1, xs.1))
     both (inr none) xs = inr (none_first none)
       where
-        none_first : ((a : ℕ) → ¬ IsGiven align (HasAlignment t) a) → (xs : List ℕ) → ¬ HaveAlignments (member name t size align ms) xs
+        none_first : ((a : ℕ) → ¬ IsGiven align (HasAlignmentBy rules t) a) → (xs : List ℕ) → ¬ HaveAlignmentsBy rules (member name t size align ms) xs
         none_first none [] k = k
         none_first none (x ∷ xs) k = none x k.0
     both (inl a) (inr none) = inr (none_after none)
       where
-        none_after : ((xs : List ℕ) → ¬ HaveAlignments ms xs) → (xs : List ℕ) → ¬ HaveAlignments (member name t size align ms) xs
+        none_after : ((xs : List ℕ) → ¬ HaveAlignmentsBy rules ms xs) → (xs : List ℕ) → ¬ HaveAlignmentsBy rules (member name t size align ms) xs
         none_after none [] k = k
         none_after none (x ∷ xs) k = none xs k.1
 
-all_aligned : (ms : Members) (ls : List MemberLayout) → HaveLayouts ms ls → Aligned ls ⊎ SomeZeroAlign ms
-all_aligned no_members [] h = inl tt
-all_aligned no_members (l ∷ ls) h = absurd h
-all_aligned (member name t size align ms) [] h = absurd h
-all_aligned (member name t size align ms) (l ∷ ls) h = elim (cases_lt 0 l.align) [
-  | inl pos ↦ elim (all_aligned ms ls h.2) [ inl al ↦ inl (pos, al) | inr z ↦ inr (inr z) ]
-  | inr low ↦ inr (inl (subst (λ (x : ℕ). IsGiven align (HasAlignment t) x) (let z : l.align ≡ 0 = omega arith in z) h.1))
+all_aligned : (rules : RuleSet) (ms : Members) (ls : List MemberLayout) → HaveLayoutsBy rules ms ls → Aligned ls ⊎ SomeZeroAlignBy rules ms
+all_aligned rules no_members [] h = inl tt
+all_aligned rules no_members (l ∷ ls) h = absurd h
+all_aligned rules (member name t size align ms) [] h = absurd h
+all_aligned rules (member name t size align ms) (l ∷ ls) h = elim (cases_lt 0 l.align) [
+  | inl pos ↦ elim (all_aligned rules ms ls h.2) [ inl al ↦ inl (pos, al) | inr z ↦ inr (inr z) ]
+  | inr low ↦ inr (inl (subst (λ (x : ℕ). IsGiven align (HasAlignmentBy rules t) x) (let z : l.align ≡ 0 = omega arith in z) h.1))
 ]
 
 each_aligned : (ls : List MemberLayout) → Aligned ls → All (λ l. 0 < l.align) ls
@@ -140,57 +143,57 @@ each_aligned (l ∷ ls) al zero d lt = al.0
 each_aligned (l ∷ ls) al (suc k) d lt = each_aligned ls al.1 k d (omega arith)
 
 -- the size of a struct, if its members have layouts with positive alignments, or a cause to have none
-sized : (ms : Members) (ls : List MemberLayout) → HaveLayouts ms ls → Aligned ls → ((n : ℕ) × IsStructSize (HaveLayouts ms) n) ⊎ HasNoSize ms
-sized no_members ls h al = inr (empty refl)
-sized (member name t size align ms) [] h al = absurd h
-sized (member name t size align ms) (l ∷ ls) h al =
+sized : (rules : RuleSet) (ms : Members) (ls : List MemberLayout) → HaveLayoutsBy rules ms ls → Aligned ls → ((n : ℕ) × IsStructSize (HaveLayoutsBy rules ms) n) ⊎ HasNoSizeBy rules ms
+sized rules no_members ls h al = inr (empty refl)
+sized rules (member name t size align ms) [] h al = absurd h
+sized rules (member name t size align ms) (l ∷ ls) h al =
     let all = l ∷ ls in
     let total = next_multiple_of (end_of 0 all) (greatest_align all) in
     let least : IsLeastTotal all total = least_total all al (let pos : 0 < l.align = al.0 in omega arith) in
     elim (cases_lt total (2 ^ 32)) [
       | inl small ↦ inl (total, record { layouts = all; known = h; some_member = omega arith; aligned = each_aligned all al; least = least; fits = small })
       | inr large ↦ inr (too_large (λ ks xs m known placed.
-          let same : ks ≡ all = one_layouts (member name t size align ms) ks all known h in
+          let same : ks ≡ all = one_layouts rules (member name t size align ms) ks all known h in
           let up : total ≤ m = least.1 xs m (subst (λ ks. IsPlacement ks xs m) same placed) in
           omega arith))
     ]
 
-a_struct_size : (ms : Members) → AreFound ms → ((n : ℕ) × IsStructSize (HaveLayouts ms) n) ⊎ HasNoSize ms
-a_struct_size ms h = elim (some_layouts ms h) [
+a_struct_size : (rules : RuleSet) (ms : Members) → AreFound rules ms → ((n : ℕ) × IsStructSize (HaveLayoutsBy rules ms) n) ⊎ HasNoSizeBy rules ms
+a_struct_size rules ms h = elim (some_layouts rules ms h) [
   | inr u ↦ inr (unknown u)
-  | inl ls ↦ elim (all_aligned ms ls.0 ls.1) [ inl al ↦ sized ms ls.0 ls.1 al | inr z ↦ inr (zero_align z) ]
+  | inl ls ↦ elim (all_aligned rules ms ls.0 ls.1) [ inl al ↦ sized rules ms ls.0 ls.1 al | inr z ↦ inr (zero_align z) ]
 ]
 
 mutual
-  a_size : (t : WgslType) → Finds (HasSize t)
-  a_size (scalar s) = a_scalar_size s
-  a_size (vec k t) = a_product k (HasSize t) (one_size t) (a_size t)
-  a_size (mat c r t) = a_product c (IsVectorAlign r t (HasSize t)) (one_vector_align r t (HasSize t) (one_size t)) (a_vector_align r t (HasSize t) (one_size t) (a_size t))
-  a_size (array k t) = an_array_size k (IsStride (HasSize t) (HasAlignment t)) (one_stride (HasSize t) (HasAlignment t) (one_size t) (one_align t)) (a_stride (HasSize t) (HasAlignment t) (one_size t) (one_align t) (a_size t) (an_alignment t))
-  a_size (atomic t) = an_atomic_size t
-  a_size (struct name ms) = elim (a_struct_size ms (are_found ms)) [ inl n ↦ inl n | inr none ↦ inr (λ n h. never_both ms n h none) ]
-  a_size t = inr (λ n h. h)
+  a_size : (rules : RuleSet) (t : WgslType) → Finds (HasSizeBy rules t)
+  a_size rules (scalar s) = a_scalar_size s
+  a_size rules (vec k t) = a_product k (HasSizeBy rules t) (one_size rules t) (a_size rules t)
+  a_size rules (mat c r t) = a_product c (IsVectorAlignBy rules r t (HasSizeBy rules t)) (one_vector_align rules r t (HasSizeBy rules t) (one_size rules t)) (a_vector_align rules r t (HasSizeBy rules t) (one_size rules t) (a_size rules t))
+  a_size rules (array k t) = an_array_size k (IsStride (HasSizeBy rules t) (HasAlignmentBy rules t)) (one_stride (HasSizeBy rules t) (HasAlignmentBy rules t) (one_size rules t) (one_align rules t)) (a_stride (HasSizeBy rules t) (HasAlignmentBy rules t) (one_size rules t) (one_align rules t) (a_size rules t) (an_alignment rules t))
+  a_size rules (atomic t) = an_atomic_size t
+  a_size rules (struct name ms) = elim (a_struct_size rules ms (are_found rules ms)) [ inl n ↦ inl n | inr none ↦ inr (λ n h. never_both rules ms n h none) ]
+  a_size rules t = inr (λ n h. h)
 
-  an_alignment : (t : WgslType) → Finds (HasAlignment t)
-  an_alignment (scalar s) = a_scalar_size s
-  an_alignment (vec k t) = a_vector_align k t (HasSize t) (one_size t) (a_size t)
-  an_alignment (mat c r t) = a_vector_align r t (HasSize t) (one_size t) (a_size t)
-  an_alignment (array k t) = an_alignment t
-  an_alignment (atomic t) = an_atomic_size t
-  an_alignment (struct name ms) = elim (some_alignments ms (are_found ms)) [ inl xs ↦ inl (greatest xs.0, (xs.0, xs.1, refl)) | inr none ↦ inr (λ n h. none h.0 h.1) ]
-  an_alignment t = inr (λ n h. h)
+  an_alignment : (rules : RuleSet) (t : WgslType) → Finds (HasAlignmentBy rules t)
+  an_alignment rules (scalar s) = a_scalar_size s
+  an_alignment rules (vec k t) = a_vector_align rules k t (HasSizeBy rules t) (one_size rules t) (a_size rules t)
+  an_alignment rules (mat c r t) = a_vector_align rules r t (HasSizeBy rules t) (one_size rules t) (a_size rules t)
+  an_alignment rules (array k t) = an_alignment rules t
+  an_alignment rules (atomic t) = an_atomic_size t
+  an_alignment rules (struct name ms) = elim (some_alignments rules ms (are_found rules ms)) [ inl xs ↦ inl (greatest xs.0, (xs.0, xs.1, refl)) | inr none ↦ inr (λ n h. none h.0 h.1) ]
+  an_alignment rules t = inr (λ n h. h)
 
-  are_found : (ms : Members) → AreFound ms
-  are_found no_members = tt
-  are_found (member name t size align ms) = (a_given size (HasSize t) (a_size t), a_given align (HasAlignment t) (an_alignment t), are_found ms)
+  are_found : (rules : RuleSet) (ms : Members) → AreFound rules ms
+  are_found rules no_members = tt
+  are_found rules (member name t size align ms) = (a_given size (HasSizeBy rules t) (a_size rules t), a_given align (HasAlignmentBy rules t) (an_alignment rules t), are_found rules ms)
 
 -- The answers
 
-pub exact_size : (t : WgslType) → (r : Option ℕ) × IsExactly r (HasSize t)
-exact_size t = exactly (HasSize t) (one_size t) (a_size t)
+pub exact_size : (rules : RuleSet) (t : WgslType) → (r : Option ℕ) × IsExactly r (HasSizeBy rules t)
+exact_size rules t = exactly (HasSizeBy rules t) (one_size rules t) (a_size rules t)
 
-pub exact_alignment : (t : WgslType) → (r : Option ℕ) × IsExactly r (HasAlignment t)
-exact_alignment t = exactly (HasAlignment t) (one_align t) (an_alignment t)
+pub exact_alignment : (rules : RuleSet) (t : WgslType) → (r : Option ℕ) × IsExactly r (HasAlignmentBy rules t)
+exact_alignment rules t = exactly (HasAlignmentBy rules t) (one_align rules t) (an_alignment rules t)
 
-pub size_or_cause : (ms : Members) → ((n : ℕ) × IsStructSize (HaveLayouts ms) n) ⊎ HasNoSize ms
-size_or_cause ms = a_struct_size ms (are_found ms)
+pub size_or_cause : (rules : RuleSet) (ms : Members) → ((n : ℕ) × IsStructSize (HaveLayoutsBy rules ms) n) ⊎ HasNoSizeBy rules ms
+size_or_cause rules ms = a_struct_size rules ms (are_found rules ms)

@@ -1,9 +1,10 @@
 -- A request has at most one answer.
 use Rattle.std.proofs.Common.{◌≡◌, ℕ, List, Option, Some, None, Result, refl, sym, ap, ◌∙◌}
+use Rattle.wgsl_syntax.specs.declared.rules.RuleSet.{RuleSet}
 use Rattle.wgsl_rules.specs.types.Types.{WgslType, Members}
 use Rattle.wgsl_rules.specs.conversion.Conversion.{Converts}
 use Rattle.wgsl_rules.specs.standard.Choice.{types_of}
-use Rattle.wgsl_rules.specs.layout.Layout.{HasSize, HasAlignment, IsExactly}
+use Rattle.wgsl_rules.specs.layout.Layout.{HasSizeBy, HasAlignmentBy, IsExactly}
 use Rattle.wgsl_rules.proofs.conversion.Commons.{left_common_once}
 use Rattle.wgsl_rules.proofs.calls.OneAnswer.{call_answer_once}
 use Rattle.wgsl_rules.proofs.constructors.OneAnswer.{constructor_answer_once}
@@ -30,19 +31,19 @@ one_received ts (Some t) None f g = absurd (g t f.0 f.1)
 one_received ts None (Some u) f g = absurd (f u g.0 g.1)
 one_received ts None None f g = refl
 
-one_offsets : (ms : Members) (o p : Option (List ℕ)) → AreOffsetsOf ms o → AreOffsetsOf ms p → o ≡ p
-one_offsets ms (Some xs) (Some ys) f g = ap Some (offsets_once ms xs ys f g)
-one_offsets ms (Some xs) None f g = absurd (never_both ms f.total f.sized g)
-one_offsets ms None (Some ys) f g = absurd (never_both ms g.total g.sized f)
-one_offsets ms None None f g = refl
+one_offsets : (rules : RuleSet) (ms : Members) (o p : Option (List ℕ)) → AreOffsetsOf rules ms o → AreOffsetsOf rules ms p → o ≡ p
+one_offsets rules ms (Some xs) (Some ys) f g = ap Some (offsets_once rules ms xs ys f g)
+one_offsets rules ms (Some xs) None f g = absurd (never_both rules ms f.total f.sized g)
+one_offsets rules ms None (Some ys) f g = absurd (never_both rules ms g.total g.sized f)
+one_offsets rules ms None None f g = refl
 
-one_layout : (ms : Members) (k l : Option WgslLayout) → IsLayoutOf ms k → IsLayoutOf ms l → k ≡ l
-one_layout ms (Some k) (Some l) f g =
-    let same = layout_once ms k.layouts l.layouts k.offsets l.offsets k.size l.size k.align l.align f g in
+one_layout : (rules : RuleSet) (ms : Members) (k l : Option WgslLayout) → IsLayoutOf rules ms k → IsLayoutOf rules ms l → k ≡ l
+one_layout rules ms (Some k) (Some l) f g =
+    let same = layout_once rules ms k.layouts l.layouts k.offsets l.offsets k.size l.size k.align l.align f g in
     λ i. Some (record { layouts = same.members i; offsets = same.offsets i; size = same.size i; align = same.align i })
-one_layout ms (Some k) None f g = absurd (never_both ms k.size f.sized g)
-one_layout ms None (Some l) f g = absurd (never_both ms l.size g.sized f)
-one_layout ms None None f g = refl
+one_layout rules ms (Some k) None f g = absurd (never_both rules ms k.size f.sized g)
+one_layout rules ms None (Some l) f g = absurd (never_both rules ms l.size g.sized f)
+one_layout rules ms None None f g = refl
 
 one_form_type : (f : WgslForm) (r s : Result WgslType Refusal) → IsFormType f r → IsFormType f s → r ≡ s
 one_form_type (member_of x name) r s h k = h ∙ sym k
@@ -68,9 +69,9 @@ same_answer (rank_is {t} {u} v f) (rank_is w g) = ap a_number (one_number (Conve
 same_answer (common_is {names} {ts} c f) (common_is d g) = ap (a_common_type names) (one_received ts c d f g)
 same_answer (unary_is {o} {t} r f) (unary_is s g) = ap a_type (unary_answer_once o t r s f g)
 same_answer (binary_is {o} {t} {u} r f) (binary_is s g) = ap a_type (operator_answer_once o t u r s f g)
-same_answer (size_is {t} s a f g) (size_is r b h k) = λ i. a_size (one_number (HasSize t) s r f h i) (one_number (HasAlignment t) a b g k i)
-same_answer (offsets_are {ms} o f) (offsets_are p g) = ap some_offsets (one_offsets ms o p f g)
-same_answer (layout_is {name} {ms} {laid} k f) (layout_is l g) = ap (a_layout name ms) (one_layout laid k l f g)
+same_answer (size_is {rules} {t} s a f g) (size_is r b h k) = λ i. a_size (one_number (HasSizeBy rules t) s r f h i) (one_number (HasAlignmentBy rules t) a b g k i)
+same_answer (offsets_are {rules} {ms} o f) (offsets_are p g) = ap some_offsets (one_offsets rules ms o p f g)
+same_answer (layout_is {rules} {name} {ms} k f) (layout_is l g) = ap (a_layout name ms) (one_layout rules ms k l f g)
 same_answer (ctor_is {c} r f) (ctor_is s g) = ap a_type (constructor_answer_once c r s f g)
 same_answer (call_is {c} r f) (call_is s g) = ap a_value (call_answer_once c r s f g)
 same_answer (type_of_is {c} r f) (type_of_is s g) = ap (a_type_of c) (type_once c r s f g)

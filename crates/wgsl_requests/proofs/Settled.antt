@@ -2,11 +2,12 @@
 use Rattle.std.proofs.Common.{◌≡◌, ℕ, Vec, Global, Option, Some, None, Result, Ok, Err, refl, subst}
 use Rattle.std.specs.Prelude.{option_map, IfSome}
 use Rattle.std.specs.declared.alloc.AllocError.{AllocError}
+use Rattle.wgsl_syntax.specs.declared.rules.RuleSet.{RuleSet}
 use Rattle.wgsl_rules.specs.types.Types.{Members}
 use Rattle.wgsl_rules.specs.errors.Refusals.{Refusal}
-use Rattle.wgsl_rules.specs.layout.Layout.{AreOffsets, HasNoSize}
+use Rattle.wgsl_rules.specs.layout.Layout.{AreOffsetsBy, HasNoSizeBy}
 use Rattle.wgsl_core.specs.Answer.{AnswersAs, IsAnswered}
-use Rattle.wgsl_core.specs.Layout.{IsLayoutOf as IsLayoutOfMembers}
+use Rattle.wgsl_core.specs.Layout.{IsLayoutOfBy}
 use Rattle.wgsl_core.specs.declared.error.Error.{Error}
 use Rattle.wgsl_core.specs.declared.error.Fail.{Fail}
 use Rattle.wgsl_core.specs.declared.error.Fail.TheVariants as fails
@@ -21,12 +22,12 @@ settles answered shown P request (Ok a) e h so = so _ (subst (AnswersAs shown P)
 settles answered shown P request (Err (fails.Error x)) e h so = so _ (subst (AnswersAs shown P) e.0 h)
 settles answered shown P request (Err (fails.Memory x)) e h so = absurd e.1
 
-pub offsets_seen : (ms : Members) (found : Option (Vec ℕ Global)) → (let r : Result (Option (Vec ℕ Global)) AllocError = Ok found in r ≡ Ok None → HasNoSize ms) → IfSome found (λ v. AreOffsets ms v.items) →
-    AreOffsetsOf ms (option_map (λ v. v.items) found)
-offsets_seen ms (Some v) none some = some
-offsets_seen ms None none some = none refl
+pub offsets_seen : (rules : RuleSet) (ms : Members) (found : Option (Vec ℕ Global)) → (let r : Result (Option (Vec ℕ Global)) AllocError = Ok found in r ≡ Ok None → HasNoSizeBy rules ms) → IfSome found (λ v. AreOffsetsBy rules ms v.items) →
+    AreOffsetsOf rules ms (option_map (λ v. v.items) found)
+offsets_seen rules ms (Some v) none some = some
+offsets_seen rules ms None none some = none refl
 
-pub layout_seen : (ms : Members) (found : Option StructLayout) → (let r : Result (Option StructLayout) AllocError = Ok found in r ≡ Ok None → HasNoSize ms) → IfSome found (IsLayoutOfMembers ms) →
-    IsLayoutOf ms (option_map layout_view found)
-layout_seen ms (Some l) none some = some
-layout_seen ms None none some = none refl
+pub layout_seen : (rules : RuleSet) (ms : Members) (found : Option StructLayout) → (let r : Result (Option StructLayout) AllocError = Ok found in r ≡ Ok None → HasNoSizeBy rules ms) → IfSome found (IsLayoutOfBy rules ms) →
+    IsLayoutOf rules ms (option_map layout_view found)
+layout_seen rules ms (Some l) none some = some
+layout_seen rules ms None none some = none refl

@@ -3,9 +3,10 @@ use Rattle.std.proofs.Common.{◌≡◌, ℕ, ◌+◌, ◌<◌, ◌≤◌, ◌^�
 use Rattle.std.specs.Int.{next_multiple_of}
 use Rattle.std.proofs.lemmas.List.{append-nil}
 use Rattle.std.proofs.lemmas.Option.{same_Some}
+use Rattle.wgsl_syntax.specs.declared.rules.RuleSet.TheVariants.{Standard}
 use Rattle.wgsl_rules.specs.types.Types.{Members, no_members}
 use Rattle.wgsl_rules.specs.layout.Placement.{MemberLayout, greatest_align}
-use Rattle.wgsl_rules.specs.layout.Layout.{IsExactly, HaveLayouts, IsRoundedUp, IsStride, IsStructSize, IsStructLayout}
+use Rattle.wgsl_rules.specs.layout.Layout.{IsExactly, HaveLayoutsBy, IsRoundedUp, IsStride, IsStructSize, IsStructLayoutBy}
 use Rattle.wgsl_rules.proofs.layout.Offsets.{PlacedSoFar, all_placed}
 use Rattle.wgsl_rules.proofs.layout.Placing.{Aligned, end_of, starts, next_ge}
 use Rattle.wgsl_rules.proofs.layout.Steps.{one_rounded, rounded_up}
@@ -70,11 +71,11 @@ one_placed ms m end next greatest h at ends =
       greatest_is = ap (λ g. max g m.align) h.greatest_is ∙ (greatest_more ls l ∙ ap greatest_align (sym more));
     }
 
-whole_layout : (ms : Members) (ls : List MemberLayout) (size g : ℕ) → HaveLayouts ms ls → Aligned ls → g ≡ greatest_align ls → 0 < g →
-    size ≡ next_multiple_of (end_of 0 ls) g → size < 2 ^ 32 → IsStructLayout ms ls (starts 0 ls) size g
+whole_layout : (ms : Members) (ls : List MemberLayout) (size g : ℕ) → HaveLayoutsBy Standard ms ls → Aligned ls → g ≡ greatest_align ls → 0 < g →
+    size ≡ next_multiple_of (end_of 0 ls) g → size < 2 ^ 32 → IsStructLayoutBy Standard ms ls (starts 0 ls) size g
 whole_layout ms ls size g known al is pos size_is fits =
     let same : max 0 (greatest_align ls) ≡ g = omega (arith, is) in
-    let from : IsFrom 0 0 ms size = record {
+    let from : IsFrom Standard 0 0 ms size = record {
       layouts = ls;
       known = known;
       aligned = al;
@@ -82,9 +83,9 @@ whole_layout ms ls size g known al is pos size_is fits =
       is = size_is ∙ ap (λ a. next_multiple_of (end_of 0 ls) a) (sym same);
       fits = fits;
     } in
-    let sized : IsStructSize (HaveLayouts ms) size = (struct_size [] ms (Some size) from size).0 refl in
+    let sized : IsStructSize (HaveLayoutsBy Standard ms) size = (struct_size Standard [] ms (Some size) from size).0 refl in
     let below : end_of 0 ls ≤ next_multiple_of (end_of 0 ls) g = next_ge (end_of 0 ls) g in
-    let so_far : PlacedSoFar ms no_members ls (starts 0 ls) (end_of 0 ls) = record {
+    let so_far : PlacedSoFar Standard ms no_members ls (starts 0 ls) (end_of 0 ls) = record {
       layouts = ls;
       known = known;
       left = [];
@@ -94,8 +95,8 @@ whole_layout ms ls size g known al is pos size_is fits =
       all_layouts = append-nil ls;
       all_offsets = append-nil (starts 0 ls);
     } in
-    let placed = all_placed ms ls (starts 0 ls) (end_of 0 ls) size sized so_far in
-    record { members = placed.0; placed = placed.1; sized = sized; aligned = (map (λ l. l.align) ls, alignments ms ls known, is) }
+    let placed = all_placed Standard ms ls (starts 0 ls) (end_of 0 ls) size sized so_far in
+    record { members = placed.0; placed = placed.1; sized = sized; aligned = (map (λ l. l.align) ls, alignments Standard ms ls known, is) }
 
 pub all_placed_out : (members : List Member) (end : Option ℕ) (greatest size : ℕ) → ArePlaced members end greatest →
     IsStride (IsValue end) (IsValue (Some greatest)) size → IsLaidOut members size greatest
@@ -105,5 +106,5 @@ all_placed_out members end greatest size h at ms known =
     let up : IsRoundedUp e greatest size =
     subst (λ (a : ℕ). IsRoundedUp e a size) (sym (same_Some greatest at.1 at.3)) (subst (λ (e : ℕ). IsRoundedUp e at.1 size) (same_Some at.0 e (sym at.2 ∙ h.end_is)) at.4) in
     let is : size ≡ next_multiple_of e greatest = one_rounded e greatest size (next_multiple_of e greatest) up (rounded_up e greatest up.0) in
-    subst (λ (offsets : List ℕ). IsStructLayout ms ls offsets size greatest) (sym h.offsets)
+    subst (λ (offsets : List ℕ). IsStructLayoutBy Standard ms ls offsets size greatest) (sym h.offsets)
     (whole_layout ms ls size greatest known h.aligned h.greatest_is up.0 is at.5)

@@ -1,8 +1,9 @@
 -- The layout of a struct of a module (WGSL, "Structure Member Layout").
 use Rattle.std.specs.Prelude.{ℕ, List, map}
+use Rattle.wgsl_syntax.specs.declared.rules.RuleSet.TheVariants.{Standard}
 use Rattle.wgsl_rules.specs.types.Types.{Members}
 use Rattle.wgsl_rules.specs.layout.Placement.{MemberLayout}
-use Rattle.wgsl_rules.specs.layout.Layout.{HaveLayouts, IsStructLayout}
+use Rattle.wgsl_rules.specs.layout.Layout.{HaveLayoutsBy, IsStructLayoutBy}
 use Rattle.wgsl_source.specs.declared.structure.Member.{Member}
 
 -- the size and the alignment of each member
@@ -12,6 +13,8 @@ layouts_of members = map (λ m. record { size = m.size; align = m.align }) membe
 abbrev pub offsets_of : List Member → List ℕ
 offsets_of members = map (λ m. m.offset) members
 
--- these are the offsets, the size and the alignment of each struct whose members have these sizes and alignments
+-- these are the offsets, the size and the alignment of each struct whose members have these sizes and alignments, by
+-- WGSL's own rules
 abbrev pub IsLaidOut : List Member → ℕ → ℕ → Type 0
-IsLaidOut members size align = (ms : Members) → HaveLayouts ms (layouts_of members) → IsStructLayout ms (layouts_of members) (offsets_of members) size align
+IsLaidOut members size align =
+    (ms : Members) → HaveLayoutsBy Standard ms (layouts_of members) → IsStructLayoutBy Standard ms (layouts_of members) (offsets_of members) size align

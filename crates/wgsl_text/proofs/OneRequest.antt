@@ -8,8 +8,7 @@ use Rattle.wgsl_syntax.proofs.Naming.{binary_naming, unary_naming}
 use Rattle.wgsl_rules.specs.types.Types.{WgslType, struct, Members}
 use Rattle.wgsl_rules.specs.types.Signatures.{Parameter, Signature}
 use Rattle.wgsl_text.specs.Grammar.{TypeAt, TypesAt}
-use Rattle.wgsl_text.specs.Requests.{Request, rank, common, unary, binary, size, laid_out, ctor, call, resolution_of, explanation_of, overloads_of, form_of, fit_of, IsCallee, IsRequest}
-use Rattle.wgsl_text.specs.internal.Replied.{layout_by, offsets_by}
+use Rattle.wgsl_text.specs.Requests.{Request, rank, common, unary, binary, size, offsets, layout, ctor, call, resolution_of, explanation_of, overloads_of, form_of, fit_of, IsCallee, IsRequest}
 use Rattle.wgsl_text.proofs.Meanings.{both_bool, both_option}
 use Rattle.wgsl_text.proofs.OneType.{one_list, one_type}
 use Rattle.wgsl_text.proofs.Requested.{BinaryForm, CallForm, CalleeForm, ComponentForm, TypeForm, OverloadsForm, FitForm, FormForm, PortedForm, StandardForm, CommonForm, RankForm, RequestForm, SizeForm, StructForm, UnaryForm, request_form}
@@ -56,7 +55,7 @@ one_binary words r s f g =
     f.6 ∙ (ap (λ o. binary o f.1 f.2) o ∙ (ap (λ t. binary g.0 t f.2) same.0 ∙ (ap (binary g.0 g.1) same.1 ∙ sym g.6)))
 
 one_size : (rules : RuleSet) → OneForm (SizeForm rules)
-one_size rules words r s f g = f.2 ∙ (ap (λ t. size (laid_out rules t)) (one_type f.1 g.0 [] g.1).0 ∙ sym g.2)
+one_size rules words r s f g = f.2 ∙ (ap (size rules) (one_type f.1 g.0 [] g.1).0 ∙ sym g.2)
 
 one_struct : (rules : RuleSet) (ask : List ℕ → Members → Request) → OneForm (StructForm rules ask)
 one_struct rules ask words r s f g =
@@ -88,8 +87,8 @@ one_ported (word ∷ words) r s f g =
     (both_bool _ _ _ _ _ _ (one_unary words r s)
     (both_bool _ _ _ _ _ _ (one_binary words r s)
     (both_bool _ _ _ _ _ _ (one_size Ported words r s)
-    (both_bool _ _ _ _ _ _ (one_struct Ported (offsets_by Ported) words r s)
-    (both_bool _ _ _ _ _ _ (one_struct Ported (layout_by Ported) words r s)
+    (both_bool _ _ _ _ _ _ (one_struct Ported (offsets Ported) words r s)
+    (both_bool _ _ _ _ _ _ (one_struct Ported (layout Ported) words r s)
     (both_bool _ _ _ _ _ _ (one_call ctor words r s)
     (both_bool _ _ _ _ _ _ (one_call call words r s) (λ x y. absurd x))))))))) f g
 
@@ -132,8 +131,8 @@ one_standard (word ∷ words) r s f g =
     both_bool _ _ _ _ _ _ (one_rank Standard words r s)
     (both_bool _ _ _ _ _ _ (one_common Standard words r s)
     (both_bool _ _ _ _ _ _ (one_size Standard words r s)
-    (both_bool _ _ _ _ _ _ (one_struct Standard (offsets_by Standard) words r s)
-    (both_bool _ _ _ _ _ _ (one_struct Standard (layout_by Standard) words r s)
+    (both_bool _ _ _ _ _ _ (one_struct Standard (offsets Standard) words r s)
+    (both_bool _ _ _ _ _ _ (one_struct Standard (layout Standard) words r s)
     (both_bool _ _ _ _ _ _ (one_overloaded resolution_of words r s)
     (both_bool _ _ _ _ _ _ (one_overloaded explanation_of words r s)
     (both_bool _ _ _ _ _ _ (one_overloads words r s)

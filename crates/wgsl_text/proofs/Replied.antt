@@ -7,7 +7,6 @@ use Rattle.wgsl_syntax.specs.declared.operator.BinaryOperator.{BinaryOperator}
 use Rattle.wgsl_syntax.specs.declared.operator.UnaryOperator.{UnaryOperator}
 use Rattle.wgsl_syntax.specs.declared.rules.RuleSet.{RuleSet}
 use Rattle.wgsl_syntax.specs.declared.rules.RuleSet.TheVariants.{Ported, Standard}
-use Rattle.wgsl_syntax.specs.declared.scalar.Scalar.TheVariants.{Bool}
 use Rattle.wgsl_rules.specs.types.Types.{WgslType, scalar, struct, Members}
 use Rattle.wgsl_core.specs.View.{view}
 use Rattle.wgsl_core.specs.Instances.{call_view, parameter_view}
@@ -16,7 +15,7 @@ use Rattle.wgsl_core.specs.declared.ty.Type.{«Type»}
 use Rattle.wgsl_requests.specs.Answers.{a_type_of}
 use Rattle.wgsl_requests.specs.Calls.{WgslCall}
 use Rattle.wgsl_text.specs.Grammar.{TypeAt, TypesAt}
-use Rattle.wgsl_text.specs.Requests.{Request, rank, unary, binary, offsets, laid_out, members_laid_out, IsRequest, rank_words, unary_words, binary_words, offsets_words, layout_words}
+use Rattle.wgsl_text.specs.Requests.{Request, rank, unary, binary, offsets, layout, IsRequest, rank_words, unary_words, binary_words, offsets_words, layout_words}
 use Rattle.wgsl_text.specs.Answers.{IsAnswer, IsReply}
 use Rattle.wgsl_text.specs.Texts.{text_kind}
 use Rattle.wgsl_text.specs.declared.command.ReadCall.{ReadCall}
@@ -26,7 +25,7 @@ use Rattle.wgsl_text.specs.declared.write.TextKind.{TextKind}
 use Rattle.wgsl_text.specs.declared.write.TextKind.TheVariants as kinds
 use Rattle.wgsl_core.specs.declared.error.Fail.TheVariants.{Error, Memory}
 use Rattle.wgsl_text.proofs.Requested.{no_offsets, no_layout, other_struct}
-use Rattle.wgsl_text.specs.internal.Replied.{layout_by, Replies, signature_read, WritesOfStruct}
+use Rattle.wgsl_text.specs.internal.Replied.{Replies, signature_read, WritesOfStruct}
 use Rattle.wgsl_text.specs.internal.Written.{Adds}
 
 -- what a list of two shows
@@ -58,29 +57,13 @@ pub binary_spelled : (words after : List (List ℕ)) (word : List ℕ) (o : Bina
 binary_spelled words after word o types t u e f d pair =
     subst (λ ws. IsRequest Ported (codes "binary" ∷ ws) (binary o t u)) (sym (e ∙ ap (λ w. w ∷ after) f)) (binary_words o (subst (TypesAt Ported after) pair d))
 
--- a type that is laid out as a struct is one
-struct_laid_out : (rules : RuleSet) (t : WgslType) (name : List ℕ) (laid : Members) → laid_out rules t ≡ struct name laid → (ms : Members) × (t ≡ struct name ms) × (members_laid_out rules ms ≡ laid)
-struct_laid_out Ported t name laid e = (laid, e, refl)
-struct_laid_out Standard (struct n ms) name laid e = (ms, ap (λ n. struct n ms) (cc e), cc e)
-struct_laid_out Standard (scalar Bool) name laid e = absurd (cc e)
-struct_laid_out Standard (scalar s) name laid e = absurd (cc e)
-struct_laid_out Standard t name laid e = absurd (cc e)
-
-laid_struct : (rules : RuleSet) (name : List ℕ) (ms : Members) → laid_out rules (struct name ms) ≡ struct name (members_laid_out rules ms)
-laid_struct Ported name ms = refl
-laid_struct Standard name ms = refl
-
 -- what is written of a struct
-pub offsets_replied : (rules : RuleSet) (words : List (List ℕ)) (t laid : WgslType) (old new : List ℕ) (r : Result TextKind (Fail Misfit)) → TypeAt rules words t [] → laid ≡ laid_out rules t → WritesOfStruct offsets laid old new r →
-    Replies rules (codes "offsets" ∷ words) old new r
-offsets_replied rules words t laid old new (Ok kind) d is w =
-    let h = struct_laid_out rules t w.0 w.1 (sym is ∙ w.2) in
-    replied kind old new (offsets_words (subst (λ t. TypeAt rules words t []) h.1 d)) (subst (λ ms. Adds (IsAnswer (offsets w.0 ms) kind) old new) (sym h.2) w.3)
-offsets_replied rules words t laid old new (Err (Error misfit)) d is none =
-    no_offsets rules words (other_struct words t d (λ name ms e. none name (members_laid_out rules ms) (is ∙ (ap (laid_out rules) e ∙ laid_struct rules name ms))))
-offsets_replied rules words t laid old new (Err (Memory e)) d is none = tt
+pub offsets_replied : (rules : RuleSet) (words : List (List ℕ)) (t : WgslType) (old new : List ℕ) (r : Result TextKind (Fail Misfit)) → TypeAt rules words t [] → WritesOfStruct (offsets rules) t old new r → Replies rules (codes "offsets" ∷ words) old new r
+offsets_replied rules words t old new (Ok kind) d w = replied kind old new (offsets_words (subst (λ t. TypeAt rules words t []) w.2 d)) w.3
+offsets_replied rules words t old new (Err (Error misfit)) d none = no_offsets rules words (other_struct words t d none)
+offsets_replied rules words t old new (Err (Memory e)) d none = tt
 
-pub layout_replied : (rules : RuleSet) (words : List (List ℕ)) (t : WgslType) (old new : List ℕ) (r : Result TextKind (Fail Misfit)) → TypeAt rules words t [] → WritesOfStruct (layout_by rules) t old new r → Replies rules (codes "layout" ∷ words) old new r
+pub layout_replied : (rules : RuleSet) (words : List (List ℕ)) (t : WgslType) (old new : List ℕ) (r : Result TextKind (Fail Misfit)) → TypeAt rules words t [] → WritesOfStruct (layout rules) t old new r → Replies rules (codes "layout" ∷ words) old new r
 layout_replied rules words t old new (Ok kind) d w = replied kind old new (layout_words (subst (λ t. TypeAt rules words t []) w.2 d)) w.3
 layout_replied rules words t old new (Err (Error misfit)) d none = no_layout rules words (other_struct words t d none)
 layout_replied rules words t old new (Err (Memory e)) d none = tt

@@ -27,8 +27,7 @@ use Rattle.wgsl_text.specs.declared.form_command.FormCommand.TheVariants.{Member
 use Rattle.wgsl_forms.specs.declared.declare.Declaration.TheVariants.{Let, Const, Override}
 use Rattle.wgsl_text.proofs.Meanings.{past_option}
 use Rattle.wgsl_text.proofs.OneType.{one_type}
-use Rattle.wgsl_text.specs.internal.Replied.{layout_by, offsets_by}
-use Rattle.wgsl_text.specs.Requests.{Request, rank, common, unary, binary, size, laid_out, ctor, call, IsRequest, rank_words, common_words, unary_words, binary_words, size_words, offsets_words, layout_words, ctor_words, call_words, type_words, component_words, resolve_words, why_words, overloads_words, form_words, fit_words, resolution_of, explanation_of, overloads_of, form_of, fit_of, IsCallee, NoRequest}
+use Rattle.wgsl_text.specs.Requests.{Request, rank, common, unary, binary, size, offsets, layout, ctor, call, IsRequest, rank_words, common_words, unary_words, binary_words, size_words, offsets_words, layout_words, ctor_words, call_words, type_words, component_words, resolve_words, why_words, overloads_words, form_words, fit_words, resolution_of, explanation_of, overloads_of, form_of, fit_of, IsCallee, NoRequest}
 
 abbrev pub RankForm : RuleSet → List (List ℕ) → Request → Type 0
 RankForm rules words request = (t : WgslType) × (u : WgslType) × TypesAt rules words (t ∷ u ∷ []) × (request ≡ rank t u)
@@ -43,7 +42,7 @@ abbrev pub BinaryForm : List (List ℕ) → Request → Type 0
 BinaryForm words request = (o : BinaryOperator) × (t : WgslType) × (u : WgslType) × (after : List (List ℕ)) × (words ≡ binary_text o ∷ after) × TypesAt Ported after (t ∷ u ∷ []) × (request ≡ binary o t u)
 
 abbrev pub SizeForm : RuleSet → List (List ℕ) → Request → Type 0
-SizeForm rules words request = (t : WgslType) × TypeAt rules words t [] × (request ≡ size (laid_out rules t))
+SizeForm rules words request = (t : WgslType) × TypeAt rules words t [] × (request ≡ size rules t)
 
 abbrev pub StructForm : RuleSet → (List ℕ → Members → Request) → List (List ℕ) → Request → Type 0
 StructForm rules ask words request = (name : List ℕ) × (ms : Members) × TypeAt rules words (struct name ms) [] × (request ≡ ask name ms)
@@ -88,8 +87,8 @@ PortedForm (word ∷ words) request =
     (If word (codes "unary") (UnaryForm words request)
     (If word (codes "binary") (BinaryForm words request)
     (If word (codes "size") (SizeForm Ported words request)
-    (If word (codes "offsets") (StructForm Ported (offsets_by Ported) words request)
-    (If word (codes "layout") (StructForm Ported (layout_by Ported) words request)
+    (If word (codes "offsets") (StructForm Ported (offsets Ported) words request)
+    (If word (codes "layout") (StructForm Ported (layout Ported) words request)
     (If word (codes "ctor") (CalleeForm ctor words request)
     (If word (codes "call") (CalleeForm call words request) ⊥))))))))
 
@@ -100,8 +99,8 @@ StandardForm (word ∷ words) request =
     If word (codes "rank") (RankForm Standard words request)
     (If word (codes "common") (CommonForm Standard words request)
     (If word (codes "size") (SizeForm Standard words request)
-    (If word (codes "offsets") (StructForm Standard (offsets_by Standard) words request)
-    (If word (codes "layout") (StructForm Standard (layout_by Standard) words request)
+    (If word (codes "offsets") (StructForm Standard (offsets Standard) words request)
+    (If word (codes "layout") (StructForm Standard (layout Standard) words request)
     (If word (codes "resolve") (CallForm resolution_of words request)
     (If word (codes "why") (CallForm explanation_of words request)
     (If word (codes "overloads") (OverloadsForm words request)
@@ -141,20 +140,20 @@ size_both : (rules : RuleSet) (words : List (List ℕ)) (request : Request) → 
 size_both Ported words request = ((λ f. f), (λ f. f))
 size_both Standard words request = ((λ f. f), (λ f. f))
 
-offsets_both : (rules : RuleSet) (words : List (List ℕ)) (request : Request) → RequestForm rules (codes "offsets" ∷ words) request ↔ StructForm rules (offsets_by rules) words request
+offsets_both : (rules : RuleSet) (words : List (List ℕ)) (request : Request) → RequestForm rules (codes "offsets" ∷ words) request ↔ StructForm rules (offsets rules) words request
 offsets_both Ported words request = ((λ f. f), (λ f. f))
 offsets_both Standard words request = ((λ f. f), (λ f. f))
 
-layout_both : (rules : RuleSet) (words : List (List ℕ)) (request : Request) → RequestForm rules (codes "layout" ∷ words) request ↔ StructForm rules (layout_by rules) words request
+layout_both : (rules : RuleSet) (words : List (List ℕ)) (request : Request) → RequestForm rules (codes "layout" ∷ words) request ↔ StructForm rules (layout rules) words request
 layout_both Ported words request = ((λ f. f), (λ f. f))
 layout_both Standard words request = ((λ f. f), (λ f. f))
 
 pub request_form : {rules : RuleSet} {words : List (List ℕ)} {request : Request} → IsRequest rules words request → RequestForm rules words request
 request_form (rank_words {rules} {words} {t} {u} d) = (rank_both rules words (rank t u)).1 (t, u, d, refl)
 request_form (common_words {rules} {words} {ts} d) = (common_both rules words (common rules ts)).1 (ts, d, refl)
-request_form (size_words {rules} {words} {t} d) = (size_both rules words (size (laid_out rules t))).1 (t, d, refl)
-request_form (offsets_words {rules} {words} {name} {ms} d) = (offsets_both rules words (offsets_by rules name ms)).1 (name, ms, d, refl)
-request_form (layout_words {rules} {words} {name} {ms} d) = (layout_both rules words (layout_by rules name ms)).1 (name, ms, d, refl)
+request_form (size_words {rules} {words} {t} d) = (size_both rules words (size rules t)).1 (t, d, refl)
+request_form (offsets_words {rules} {words} {name} {ms} d) = (offsets_both rules words (offsets rules name ms)).1 (name, ms, d, refl)
+request_form (layout_words {rules} {words} {name} {ms} d) = (layout_both rules words (layout rules name ms)).1 (name, ms, d, refl)
 request_form (unary_words {words} {t} o d) = (o, t, words, refl, d, refl)
 request_form (binary_words {words} {t} {u} o d) = (o, t, u, words, refl, d, refl)
 request_form (ctor_words {words} {c} d) = (c, d, refl)

@@ -1,8 +1,15 @@
-use Rattle.std.proofs.Common.{subst, sym}
+use Rattle.std.proofs.Common.{◌∙◌, subst, sym}
 use Rattle.wgsl_core.specs.View.{view}
 use Rattle.wgsl_core.specs.declared.layout.placing.Placing.{Placing}
+use Rattle.wgsl_core.specs.internal.Layout.{IsMeasure}
 use Rattle.wgsl_core.proofs.Layouts.{MeasureSoFar, vector_measure, matrix_measure, array_measure, measure_starts, measure_stops, measure_goes_on, measure_ends}
+use Rattle.wgsl_core.proofs.Scalars.{scalar_is}
 use Rattle.wgsl_core.proofs.+measure.Goals as goal
+
+pub ty::Type::measure-returns-in-Some : goal.ty::Type::measure-returns-in-Some
+ty::Type::measure-returns-in-Some t c =
+    let is = (scalar_is (view c.args.self.now) c.in-Some.scalar).0 (sym c.scalar.ensures ∙ c.in-Some.is) in
+    subst (λ u. IsMeasure c.args.rules u c.measure_of_scalar.result) (sym is) (c.measure_of_scalar.ensures c.args.rules)
 
 pub layout::vector_measure-returns : goal.layout::vector_measure-returns
 layout::vector_measure-returns t c =
@@ -22,7 +29,7 @@ layout::array_measure-returns t c =
 pub ty::StructType::measure-loop-member-init : goal.ty::StructType::measure-loop-member-init
 ty::StructType::measure-loop-member-init t c =
     let items = c.deref-member-items.result.now in
-    subst (λ (p : Placing). MeasureSoFar p.end p.greatest items 0) (sym c.start-placing.ensures) (measure_starts items)
+    subst (λ (p : Placing). MeasureSoFar c.args.rules p.end p.greatest items 0) (sym c.start-placing.ensures) (measure_starts items)
 
 pub ty::StructType::measure-returns-in_default : goal.ty::StructType::measure-returns-in_default
 ty::StructType::measure-returns-in_default t c =

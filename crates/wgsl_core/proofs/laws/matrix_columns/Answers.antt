@@ -1,11 +1,11 @@
 use Rattle.std.proofs.Common.{◌↔◌, Some, sym, subst, arith}
 use Rattle.wgsl_rules.specs.types.Types.{WgslType, array, vec, mat}
-use Rattle.wgsl_rules.specs.layout.Layout.{HasSize}
+use Rattle.wgsl_rules.specs.layout.Layout.{HasSizeBy}
 use Rattle.wgsl_rules.proofs.layout.MatrixColumns.{columns_law}
 use Rattle.wgsl_core.proofs.laws.matrix_columns.Goals as goal
 
 pub returns : goal.returns
-returns c = λ s e pos n.
+returns c = λ rules s e pos n.
     let small = c.ranges.columns.fits in
-    subst (λ (t : WgslType). HasSize (mat c.args.columns c.args.rows t) n ↔ HasSize (array (Some c.args.columns) (vec c.args.rows t)) n) (sym e)
-    (columns_law s c.args.columns c.args.rows pos (omega (arith, small)) n)
+    subst (λ (t : WgslType). HasSizeBy rules (mat c.args.columns c.args.rows t) n ↔ HasSizeBy rules (array (Some c.args.columns) (vec c.args.rows t)) n) (sym e)
+    (columns_law rules s c.args.columns c.args.rows pos (omega (arith, small)) n)

@@ -16,7 +16,7 @@ pub returns-in-Rank : goal.returns-in-Rank
 returns-in-Rank c = rw c.in-Rank.is (rank_is _ c.conversion_rank.ensures)
 
 pub returns-in-Size : goal.returns-in-Size
-returns-in-Size c = rw c.in-Size.is (size_is _ _ c.size_and_align_of-size.ensures.size c.size_and_align_of-size.ensures.align)
+returns-in-Size c = rw c.in-Size.is (size_is _ _ c.size_and_align_by-size.ensures.size c.size_and_align_by-size.ensures.align)
 
 pub returns-in_ok-settled-in-Unary : goal.returns-in_ok-settled-in-Unary
 returns-in_ok-settled-in-Unary c =
@@ -28,15 +28,15 @@ returns-in_ok-settled-in-Unary c =
 pub returns-in-Binary : goal.returns-in-Binary
 returns-in-Binary c = rw c.in-Binary.is (binary_is _ c.resolved_type.ensures)
 
-pub returns-in_ok-offsets-in-Offsets : goal.returns-in_ok-offsets-in-Offsets
-returns-in_ok-offsets-in-Offsets c =
-    let h = c.in_ok-offsets-in-Offsets in
-    rw c.in-Offsets.is (offsets_are _ (offsets_seen (struct_view c.in-Offsets.structure.now).members h.field-0 h.ensures.none.1 h.ensures.offsets))
+pub returns-in_ok-offsets_by-in-Offsets : goal.returns-in_ok-offsets_by-in-Offsets
+returns-in_ok-offsets_by-in-Offsets c =
+    let h = c.in_ok-offsets_by-in-Offsets in
+    rw c.in-Offsets.is (offsets_are _ (offsets_seen c.in-Offsets.rules (struct_view c.in-Offsets.structure.now).members h.field-0 h.ensures.none.1 h.ensures.offsets))
 
-pub returns-in_ok-layout-in-Layout : goal.returns-in_ok-layout-in-Layout
-returns-in_ok-layout-in-Layout c =
-    let h = c.in_ok-layout-in-Layout in
-    rw c.in-Layout.is (layout_is _ (layout_seen (struct_view c.in-Layout.laid.now).members h.field-0 h.ensures.none.1 h.ensures.layout))
+pub returns-in_ok-layout_by-in-Layout : goal.returns-in_ok-layout_by-in-Layout
+returns-in_ok-layout_by-in-Layout c =
+    let h = c.in_ok-layout_by-in-Layout in
+    rw c.in-Layout.is (layout_is _ (layout_seen c.in-Layout.rules (struct_view c.in-Layout.structure.now).members h.field-0 h.ensures.none.1 h.ensures.layout))
 
 pub returns-in_ok-settled-in-Constructor : goal.returns-in_ok-settled-in-Constructor
 returns-in_ok-settled-in-Constructor c =

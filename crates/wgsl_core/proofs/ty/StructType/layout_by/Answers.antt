@@ -1,5 +1,5 @@
 use Rattle.wgsl_core.proofs.Layouts.{has_size, has_align, whole_layout}
-use Rattle.wgsl_core.proofs.ty.StructType.layout.Goals as goal
+use Rattle.wgsl_core.proofs.ty.StructType.layout_by.Goals as goal
 
 pub unwrap-align-requires : goal.unwrap-align-requires
 unwrap-align-requires c = has_align c.args.self.now c.measure-whole.result c.in-Some.size c.measure-whole.ensures c.in-Some.is

@@ -1,0 +1,10 @@
+use Rattle.std.proofs.Common.{subst, sym}
+use Rattle.wgsl_syntax.specs.declared.rules.RuleSet.{RuleSet}
+use Rattle.wgsl_rules.specs.layout.Layout.{IsAlignOfThreeBy, IsExactly}
+use Rattle.wgsl_core.specs.View.{view}
+use Rattle.wgsl_core.specs.Placing.{IsValue}
+use Rattle.wgsl_core.proofs.layout.align_of_three.Goals as goal
+
+pub returns-in-Standard : goal.returns-in-Standard
+returns-in-Standard c =
+    subst (λ (rules : RuleSet). IsExactly c.times.result (IsAlignOfThreeBy rules (view c.args.ty.now) (IsValue c.args.size))) (sym c.in-Standard.is) c.times.ensures
