@@ -103,7 +103,7 @@ module _ {rules : RuleSet} (n : ℕ) (types : TypesUpTo rules n) where
   ]
 
   in_layer : (words : List (List ℕ)) → length words ≤ suc n → Found (InLayerAt rules words)
-  in_layer words h = elim (a_layer words) [
+  in_layer words h = elim (a_layer rules words) [
     | inr none ↦ inr (λ t rest d. none d.0 d.1 d.2)
     | inl l ↦ elim (types l.1 (omega (arith, h, layer_shorter l.2))) [
       | inl t ↦ inl (around l.0 t.0, t.1, (l.0, l.1, l.2, (t.0, t.2, refl)))

@@ -3,7 +3,7 @@ use Rattle.std.proofs.Common.{◌≡◌, ◌≢◌, ◌⊎◌, ◌<◌, ◌≤�
 use Rattle.std.specs.Prelude.{slice_index_or}
 use Rattle.std.proofs.lemmas.List.{append_assoc, append_cancel_left, append_cancel_right, append-nil}
 use native.Mathlib.Decide.{ℕ_discrete}
-use Rattle.wgsl_syntax.specs.Address.{access_modes, access_text, default_access, space_text, spaces}
+use Rattle.wgsl_syntax.specs.Address.{access_modes, access_text, default_access, space_text, space_text_by, spaces}
 use Rattle.wgsl_syntax.specs.Attribute.{flag_text, flags}
 use Rattle.wgsl_syntax.specs.Names.{IsNaming, table}
 use Rattle.wgsl_syntax.specs.Scalar.{scalar_text, scalars}
@@ -129,10 +129,10 @@ a_flagged_text base text = elim (same_word text base) [
 
 -- what stands in a list in front of the inner type, and behind it
 
-abbrev in_front : Around → List ℕ
-in_front (Ptr s m) = space_text s ++ codes ", "
-in_front (Ref s m) = space_text s ++ codes ", "
-in_front layer = []
+abbrev in_front : RuleSet → Around → List ℕ
+in_front by (Ptr s m) = space_text_by by s ++ codes ", "
+in_front by (Ref s m) = space_text_by by s ++ codes ", "
+in_front by layer = []
 
 -- an access mode, which may be left out if it is the default of the address space
 abbrev IsMemoryEnd : AddressSpace → AccessMode → List ℕ → Type 0
@@ -145,57 +145,61 @@ IsEnd (Ptr s m) end = IsMemoryEnd s m end
 IsEnd (Ref s m) end = IsMemoryEnd s m end
 IsEnd layer end = end ≡ []
 
-memory_list : (s : AddressSpace) (inner end : List ℕ) → space_text s ++ (codes ", " ++ (inner ++ end)) ≡ (space_text s ++ codes ", ") ++ (inner ++ end)
-memory_list s inner end = sym (append_assoc (space_text s) (codes ", ") (inner ++ end))
+memory_list : (by : RuleSet) (s : AddressSpace) (inner end : List ℕ) →
+    space_text_by by s ++ (codes ", " ++ (inner ++ end)) ≡ (space_text_by by s ++ codes ", ") ++ (inner ++ end)
+memory_list by s inner end = sym (append_assoc (space_text_by by s) (codes ", ") (inner ++ end))
 
-memory_framed : (s : AddressSpace) (m : AccessMode) (inner list : List ℕ) → IsMemory list s inner m → (end : List ℕ) × IsMemoryEnd s m end × (list ≡ (space_text s ++ codes ", ") ++ (inner ++ end))
-memory_framed s m inner list is = step is.said is.is is.access
+memory_framed : (s : AddressSpace) (m : AccessMode) (inner list : List ℕ) → IsMemory list s inner m →
+    (by : RuleSet) × (end : List ℕ) × IsMemoryEnd s m end × (list ≡ (space_text_by by s ++ codes ", ") ++ (inner ++ end))
+memory_framed s m inner list is = step is.rules is.said is.is is.access
   where
-    step : (said : Option AccessMode) → list ≡ space_text s ++ (codes ", " ++ ended_list access_text inner said) → m ≡ access_of s said →
-        (end : List ℕ) × IsMemoryEnd s m end × (list ≡ (space_text s ++ codes ", ") ++ (inner ++ end))
-    step None e f = ([], inr (refl, f), e ∙ (ap (λ r. space_text s ++ (codes ", " ++ r)) (sym (append-nil inner)) ∙ memory_list s inner []))
-    step (Some n) e f = (codes ", " ++ access_text n, inl (ap (λ k. codes ", " ++ access_text k) (sym f)), e ∙ memory_list s inner (codes ", " ++ access_text n))
+    step : (by : RuleSet) (said : Option AccessMode) → list ≡ space_text_by by s ++ (codes ", " ++ ended_list access_text inner said) → m ≡ access_of s said →
+        (by : RuleSet) × (end : List ℕ) × IsMemoryEnd s m end × (list ≡ (space_text_by by s ++ codes ", ") ++ (inner ++ end))
+    step by None e f = (by, [], inr (refl, f), e ∙ (ap (λ r. space_text_by by s ++ (codes ", " ++ r)) (sym (append-nil inner)) ∙ memory_list by s inner []))
+    step by (Some n) e f = (by, codes ", " ++ access_text n, inl (ap (λ k. codes ", " ++ access_text k) (sym f)), e ∙ memory_list by s inner (codes ", " ++ access_text n))
 
-framed : (layer : Around) (inner list : List ℕ) → IsList layer inner list → (end : List ℕ) × IsEnd layer end × (list ≡ in_front layer ++ (inner ++ end))
-framed (Array None) inner list is = ([], refl, is ∙ sym (append-nil inner))
-framed (Array (Some n)) inner list is = (codes ", " ++ decimal n, refl, is)
-framed (BindingArray None) inner list is = ([], refl, is ∙ sym (append-nil inner))
-framed (BindingArray (Some n)) inner list is = (codes ", " ++ decimal n, refl, is)
-framed (Vec n) inner list is = ([], refl, is ∙ sym (append-nil inner))
-framed (Mat c r) inner list is = ([], refl, is ∙ sym (append-nil inner))
-framed Atomic inner list is = ([], refl, is ∙ sym (append-nil inner))
+framed : (layer : Around) (inner list : List ℕ) → IsList layer inner list → (by : RuleSet) × (end : List ℕ) × IsEnd layer end × (list ≡ in_front by layer ++ (inner ++ end))
+framed (Array None) inner list is = (sets.Standard, [], refl, is ∙ sym (append-nil inner))
+framed (Array (Some n)) inner list is = (sets.Standard, codes ", " ++ decimal n, refl, is)
+framed (BindingArray None) inner list is = (sets.Standard, [], refl, is ∙ sym (append-nil inner))
+framed (BindingArray (Some n)) inner list is = (sets.Standard, codes ", " ++ decimal n, refl, is)
+framed (Vec n) inner list is = (sets.Standard, [], refl, is ∙ sym (append-nil inner))
+framed (Mat c r) inner list is = (sets.Standard, [], refl, is ∙ sym (append-nil inner))
+framed Atomic inner list is = (sets.Standard, [], refl, is ∙ sym (append-nil inner))
 framed (Ptr s m) inner list is = memory_framed s m inner list is
 framed (Ref s m) inner list is = memory_framed s m inner list is
 
-memory_of_frame : (s : AddressSpace) (m : AccessMode) (inner end : List ℕ) → IsMemoryEnd s m end → IsMemory ((space_text s ++ codes ", ") ++ (inner ++ end)) s inner m
-memory_of_frame s m inner end (inl is) = record {
+memory_of_frame : (by : RuleSet) (s : AddressSpace) (m : AccessMode) (inner end : List ℕ) → IsMemoryEnd s m end → IsMemory ((space_text_by by s ++ codes ", ") ++ (inner ++ end)) s inner m
+memory_of_frame by s m inner end (inl is) = record {
+  rules = by;
   said = Some m;
-  is = sym (memory_list s inner end) ∙ ap (λ e. space_text s ++ (codes ", " ++ (inner ++ e))) is;
+  is = sym (memory_list by s inner end) ∙ ap (λ e. space_text_by by s ++ (codes ", " ++ (inner ++ e))) is;
   access = refl;
 }
-memory_of_frame s m inner end (inr is) = record {
+memory_of_frame by s m inner end (inr is) = record {
+  rules = by;
   said = None;
-  is = sym (memory_list s inner end) ∙ ap (λ r. space_text s ++ (codes ", " ++ r)) (ap (λ e. inner ++ e) is.0 ∙ append-nil inner);
+  is = sym (memory_list by s inner end) ∙ ap (λ r. space_text_by by s ++ (codes ", " ++ r)) (ap (λ e. inner ++ e) is.0 ∙ append-nil inner);
   access = is.1;
 }
 
-of_frame : (layer : Around) (inner end : List ℕ) → IsEnd layer end → IsList layer inner (in_front layer ++ (inner ++ end))
-of_frame (Array None) inner end is = ap (λ e. inner ++ e) is ∙ append-nil inner
-of_frame (Array (Some n)) inner end is = ap (λ e. inner ++ e) is
-of_frame (BindingArray None) inner end is = ap (λ e. inner ++ e) is ∙ append-nil inner
-of_frame (BindingArray (Some n)) inner end is = ap (λ e. inner ++ e) is
-of_frame (Vec n) inner end is = ap (λ e. inner ++ e) is ∙ append-nil inner
-of_frame (Mat c r) inner end is = ap (λ e. inner ++ e) is ∙ append-nil inner
-of_frame Atomic inner end is = ap (λ e. inner ++ e) is ∙ append-nil inner
-of_frame (Ptr s m) inner end is = memory_of_frame s m inner end is
-of_frame (Ref s m) inner end is = memory_of_frame s m inner end is
+of_frame : (by : RuleSet) (layer : Around) (inner end : List ℕ) → IsEnd layer end → IsList layer inner (in_front by layer ++ (inner ++ end))
+of_frame by (Array None) inner end is = ap (λ e. inner ++ e) is ∙ append-nil inner
+of_frame by (Array (Some n)) inner end is = ap (λ e. inner ++ e) is
+of_frame by (BindingArray None) inner end is = ap (λ e. inner ++ e) is ∙ append-nil inner
+of_frame by (BindingArray (Some n)) inner end is = ap (λ e. inner ++ e) is
+of_frame by (Vec n) inner end is = ap (λ e. inner ++ e) is ∙ append-nil inner
+of_frame by (Mat c r) inner end is = ap (λ e. inner ++ e) is ∙ append-nil inner
+of_frame by Atomic inner end is = ap (λ e. inner ++ e) is ∙ append-nil inner
+of_frame by (Ptr s m) inner end is = memory_of_frame by s m inner end is
+of_frame by (Ref s m) inner end is = memory_of_frame by s m inner end is
 
-abbrev opening : Around → List ℕ
-opening layer = name_of layer ++ (codes "<" ++ in_front layer)
+abbrev opening : RuleSet → Around → List ℕ
+opening by layer = name_of layer ++ (codes "<" ++ in_front by layer)
 
 -- the spelling of a layer is what opens it, the inner text, and what closes it
-spelled_around : (layer : Around) (inner end : List ℕ) → with_list (name_of layer) (in_front layer ++ (inner ++ end)) ≡ opening layer ++ (inner ++ (end ++ codes ">"))
-spelled_around layer inner end = around_it (name_of layer) (in_front layer)
+spelled_around : (by : RuleSet) (layer : Around) (inner end : List ℕ) → with_list (name_of layer) (in_front by layer ++ (inner ++ end)) ≡ opening by layer ++ (inner ++ (end ++ codes ">"))
+spelled_around by layer inner end = around_it (name_of layer) (in_front by layer)
   where
     around_it : (name front : List ℕ) → with_list name (front ++ (inner ++ end)) ≡ (name ++ (codes "<" ++ front)) ++ (inner ++ (end ++ codes ">"))
     around_it name front =
@@ -205,16 +209,30 @@ spelled_around layer inner end = around_it (name_of layer) (in_front layer)
 inner_shorter : (front inner end : List ℕ) → 0 < length front → length inner < length (front ++ (inner ++ end))
 inner_shorter front inner end more = omega (arith, more, length-append front (inner ++ end), length-append inner end)
 
-opens : (layer : Around) → 0 < length (opening layer)
-opens layer = omega (arith, length-append (name_of layer) (codes "<" ++ in_front layer))
+opens : (by : RuleSet) (layer : Around) → 0 < length (opening by layer)
+opens by layer = omega (arith, length-append (name_of layer) (codes "<" ++ in_front by layer))
 
 -- a type that the text spells with this layer and this end of its list
-abbrev Ended : List ℕ → Around → List ℕ → Type 0
-Ended text layer end = (inner : List ℕ) × (t : WgslType) × (text ≡ opening layer ++ (inner ++ (end ++ codes ">"))) × Spells inner t
+abbrev Ended : RuleSet → List ℕ → Around → List ℕ → Type 0
+Ended by text layer end = (inner : List ℕ) × (t : WgslType) × (text ≡ opening by layer ++ (inner ++ (end ++ codes ">"))) × Spells inner t
 
 -- a type that the text spells with this layer
+abbrev InsideBy : RuleSet → List ℕ → Around → Type 0
+InsideBy by text layer = (end : List ℕ) × IsEnd layer end × Ended by text layer end
+
 abbrev Inside : List ℕ → Around → Type 0
-Inside text layer = (end : List ℕ) × IsEnd layer end × Ended text layer end
+Inside text layer = (by : RuleSet) × InsideBy by text layer
+
+-- by some rules, or by none
+some_rules : {P : RuleSet → Type 0} → ((by : RuleSet) → Dec (P by)) → Dec ((by : RuleSet) × P by)
+some_rules {P} dec = elim (dec sets.Standard) [
+  | yes p ↦ yes (sets.Standard, p)
+  | no ours ↦ elim (dec sets.Ported) [ yes p ↦ yes (sets.Ported, p) | no theirs ↦ no (λ x. neither x.0 x.1 ours theirs) ]
+]
+  where
+    neither : (by : RuleSet) → P by → ¬ P sets.Standard → ¬ P sets.Ported → ⊥
+    neither sets.Standard p ours theirs = ours p
+    neither sets.Ported p ours theirs = theirs p
 
 after : (prefix word : List ℕ) → ((rest : List ℕ) × (word ≡ prefix ++ rest)) ⊎ ((rest : List ℕ) → word ≢ prefix ++ rest)
 after [] word = inl (word, refl)
@@ -228,59 +246,62 @@ after (p ∷ prefix) (c ∷ word) = elim (ℕ_discrete c p) [
 ]
 
 module _ (text : List ℕ) (spells : (inner : List ℕ) → length inner < length text → Means (Spells inner)) where
-  dec_ended : (layer : Around) (end : List ℕ) → Dec (Ended text layer end)
-  dec_ended layer end = elim (after (opening layer) text) [
+  dec_ended : (by : RuleSet) (layer : Around) (end : List ℕ) → Dec (Ended by text layer end)
+  dec_ended by layer end = elim (after (opening by layer) text) [
     | inr none ↦ no (λ f. none (f.0 ++ (end ++ codes ">")) f.2)
     | inl r ↦ elim (before (end ++ codes ">") r.0) [
-      | inr none ↦ no (λ f. none f.0 (append_cancel_left (opening layer) r.0 (f.0 ++ (end ++ codes ">")) (sym r.1 ∙ f.2)))
-      | inl i ↦ by r.0 r.1 i.0 i.1
+      | inr none ↦ no (λ f. none f.0 (append_cancel_left (opening by layer) r.0 (f.0 ++ (end ++ codes ">")) (sym r.1 ∙ f.2)))
+      | inl i ↦ at r.0 r.1 i.0 i.1
     ]
   ]
     where
-      by : (rest : List ℕ) → text ≡ opening layer ++ rest → (inner : List ℕ) → rest ≡ inner ++ (end ++ codes ">") → Dec (Ended text layer end)
-      by rest e inner f =
-          let whole : text ≡ opening layer ++ (inner ++ (end ++ codes ">")) = e ∙ ap (λ r. opening layer ++ r) f in
-          let fewer : length inner < length text = subst (λ w. length inner < length w) (sym whole) (inner_shorter (opening layer) inner (end ++ codes ">") (opens layer)) in
+      at : (rest : List ℕ) → text ≡ opening by layer ++ rest → (inner : List ℕ) → rest ≡ inner ++ (end ++ codes ">") → Dec (Ended by text layer end)
+      at rest e inner f =
+          let whole : text ≡ opening by layer ++ (inner ++ (end ++ codes ">")) = e ∙ ap (λ r. opening by layer ++ r) f in
+          let fewer : length inner < length text = subst (λ w. length inner < length w) (sym whole) (inner_shorter (opening by layer) inner (end ++ codes ">") (opens by layer)) in
           elim (spells inner fewer) [
             | inl t ↦ yes (inner, t.0, whole, t.1)
             | inr none ↦ no (λ g.
-                let rests : inner ++ (end ++ codes ">") ≡ g.0 ++ (end ++ codes ">") = append_cancel_left (opening layer) (inner ++ (end ++ codes ">")) (g.0 ++ (end ++ codes ">")) (sym whole ∙ g.2) in
+                let rests : inner ++ (end ++ codes ">") ≡ g.0 ++ (end ++ codes ">") = append_cancel_left (opening by layer) (inner ++ (end ++ codes ">")) (g.0 ++ (end ++ codes ">")) (sym whole ∙ g.2) in
                 let same : g.0 ≡ inner = sym (append_cancel_right inner g.0 (end ++ codes ">") rests) in
                 none g.1 (subst (λ w. Spells w g.1) same g.3))
           ]
 
-  one_end : (layer : Around) (end : List ℕ) → IsEnd layer end → ((other : List ℕ) → IsEnd layer other → other ≡ end) → Dec (Inside text layer)
-  one_end layer end is one = elim (dec_ended layer end) [
+  one_end : (by : RuleSet) (layer : Around) (end : List ℕ) → IsEnd layer end → ((other : List ℕ) → IsEnd layer other → other ≡ end) → Dec (InsideBy by text layer)
+  one_end by layer end is one = elim (dec_ended by layer end) [
     | yes x ↦ yes (end, is, x)
-    | no none ↦ no (λ x. none (subst (Ended text layer) (one x.0 x.1) x.2))
+    | no none ↦ no (λ x. none (subst (Ended by text layer) (one x.0 x.1) x.2))
   ]
 
-  two_ends : (layer : Around) (s : AddressSpace) (m : AccessMode) → ((end : List ℕ) → IsMemoryEnd s m end → IsEnd layer end) → ((end : List ℕ) → IsEnd layer end → IsMemoryEnd s m end) → Dec (Inside text layer)
-  two_ends layer s m to from = elim (dec_ended layer (codes ", " ++ access_text m)) [
+  two_ends : (by : RuleSet) (layer : Around) (s : AddressSpace) (m : AccessMode) → ((end : List ℕ) → IsMemoryEnd s m end → IsEnd layer end) → ((end : List ℕ) → IsEnd layer end → IsMemoryEnd s m end) → Dec (InsideBy by text layer)
+  two_ends by layer s m to from = elim (dec_ended by layer (codes ", " ++ access_text m)) [
     | yes x ↦ yes (codes ", " ++ access_text m, to _ (inl refl), x)
     | no said ↦ elim (same_access m (default_access s)) [
       | no other ↦ no (λ x. neither x.0 (from x.0 x.1) x.2 said (λ d e. other d))
-      | yes default ↦ elim (dec_ended layer []) [
+      | yes default ↦ elim (dec_ended by layer []) [
         | yes x ↦ yes ([], to [] (inr (refl, default)), x)
         | no unsaid ↦ no (λ x. neither x.0 (from x.0 x.1) x.2 said (λ d e. unsaid e))
       ]
     ]
   ]
     where
-      neither : (end : List ℕ) → IsMemoryEnd s m end → Ended text layer end → ¬ Ended text layer (codes ", " ++ access_text m) → (m ≡ default_access s → ¬ Ended text layer []) → ⊥
-      neither end (inl is) x said unsaid = said (subst (Ended text layer) is x)
-      neither end (inr is) x said unsaid = unsaid is.1 (subst (Ended text layer) is.0 x)
+      neither : (end : List ℕ) → IsMemoryEnd s m end → Ended by text layer end → ¬ Ended by text layer (codes ", " ++ access_text m) → (m ≡ default_access s → ¬ Ended by text layer []) → ⊥
+      neither end (inl is) x said unsaid = said (subst (Ended by text layer) is x)
+      neither end (inr is) x said unsaid = unsaid is.1 (subst (Ended by text layer) is.0 x)
+
+  dec_inside_by : (by : RuleSet) (layer : Around) → Dec (InsideBy by text layer)
+  dec_inside_by by (Array None) = one_end by (Array None) [] refl (λ other is. is)
+  dec_inside_by by (Array (Some n)) = one_end by (Array (Some n)) (codes ", " ++ decimal n) refl (λ other is. is)
+  dec_inside_by by (BindingArray None) = one_end by (BindingArray None) [] refl (λ other is. is)
+  dec_inside_by by (BindingArray (Some n)) = one_end by (BindingArray (Some n)) (codes ", " ++ decimal n) refl (λ other is. is)
+  dec_inside_by by (Vec n) = one_end by (Vec n) [] refl (λ other is. is)
+  dec_inside_by by (Mat c r) = one_end by (Mat c r) [] refl (λ other is. is)
+  dec_inside_by by Atomic = one_end by Atomic [] refl (λ other is. is)
+  dec_inside_by by (Ptr s m) = two_ends by (Ptr s m) s m (λ end is. is) (λ end is. is)
+  dec_inside_by by (Ref s m) = two_ends by (Ref s m) s m (λ end is. is) (λ end is. is)
 
   dec_inside : (layer : Around) → Dec (Inside text layer)
-  dec_inside (Array None) = one_end (Array None) [] refl (λ other is. is)
-  dec_inside (Array (Some n)) = one_end (Array (Some n)) (codes ", " ++ decimal n) refl (λ other is. is)
-  dec_inside (BindingArray None) = one_end (BindingArray None) [] refl (λ other is. is)
-  dec_inside (BindingArray (Some n)) = one_end (BindingArray (Some n)) (codes ", " ++ decimal n) refl (λ other is. is)
-  dec_inside (Vec n) = one_end (Vec n) [] refl (λ other is. is)
-  dec_inside (Mat c r) = one_end (Mat c r) [] refl (λ other is. is)
-  dec_inside Atomic = one_end Atomic [] refl (λ other is. is)
-  dec_inside (Ptr s m) = two_ends (Ptr s m) s m (λ end is. is) (λ end is. is)
-  dec_inside (Ref s m) = two_ends (Ref s m) s m (λ end is. is) (λ end is. is)
+  dec_inside layer = some_rules (λ by. dec_inside_by by layer)
 
   a_memory : (layer : AddressSpace → AccessMode → Around) → Means (λ s. (m : AccessMode) × Inside text (layer s m))
   a_memory layer = any_named space_text spaces space_naming (λ s. found_or_not (any_named access_text access_modes access_naming (λ m. dec_inside (layer s m))))
@@ -336,10 +357,13 @@ module _ (text : List ℕ) (spells : (inner : List ℕ) → length inner < lengt
 
 -- All texts
 
-spelled_inside : {text : List ℕ} → (layer : Around) → IsInRange layer → (x : Inside text layer) → Spells text (around layer x.2.1)
+spelled_inside : {text : List ℕ} → (layer : Around) → IsInRange layer → (x : Inside text layer) → Spells text (around layer x.1.2.1)
 spelled_inside layer fits x =
-    let inner = x.2.0 in
-    subst (λ w. Spells w (around layer x.2.1)) (spelled_around layer inner x.0 ∙ sym x.2.2) (around_is layer (in_front layer ++ (inner ++ x.0)) fits (of_frame layer inner x.0 x.1) x.2.3)
+    let by = x.0 in
+    let end = x.1.0 in
+    let ended = x.1.2 in
+    let inner = ended.0 in
+    subst (λ w. Spells w (around layer ended.1)) (spelled_around by layer inner end ∙ sym ended.2) (around_is layer (in_front by layer ++ (inner ++ end)) fits (of_frame by layer inner end x.1.1) ended.3)
 
 -- a text that is none of these spells nothing
 refused : {text : List ℕ} {t : WgslType} → Spells text t → ((s : Scalar) → text ≢ scalar_text s) → ((s : SamplerType) → text ≢ sampler_text s) → ((by : RuleSet) (x : TextureType) → text ≢ texture_text_by by x)
@@ -353,7 +377,7 @@ refused (acceleration_structure_is o) a b c d e f g = e o refl
 refused (alias_is found) a b c d e f g = let no : Some _ ≡ None = sym found ∙ f in cc no
 refused (around_is {inner} {t} layer list fits is s) a b c d e f g =
     let frame = framed layer inner list is in
-    g layer fits (frame.0, frame.1, (inner, t, ap (with_list (name_of layer)) frame.2 ∙ spelled_around layer inner frame.0, s))
+    g layer fits (frame.0, (frame.1, frame.2, (inner, t, ap (with_list (name_of layer)) frame.3 ∙ spelled_around frame.0 layer inner frame.1, s)))
 
 spells_by : (text : List ℕ) → ((layer : Around) × IsInRange layer × Inside text layer) ⊎ ((layer : Around) → IsInRange layer → ¬ Inside text layer) → Means (Spells text)
 spells_by text layered = elim (a_name scalar_text scalars scalar_naming text) [
@@ -385,7 +409,7 @@ spells_by text layered = elim (a_name scalar_text scalars scalar_naming text) [
         → (o : Option (Around × Scalar)) → alias_of text ≡ o → Means (Spells text)
     by_alias a b c d e (Some found) is = inl (around found.0 (scalar found.1), alias_is is)
     by_alias a b c d e None is = elim layered [
-      | inl l ↦ inl (around l.0 l.2.2.1, spelled_inside l.0 l.1 l.2)
+      | inl l ↦ inl (around l.0 l.2.1.2.1, spelled_inside l.0 l.1 l.2)
       | inr none ↦ inr (λ t s. refused s a b c d e is none)
     ]
 

@@ -2,11 +2,12 @@
 use Rattle.std.proofs.Common.{◌≡◌, ◌≢◌, ◌⊎◌, ◌<◌, ◌≤◌, ℕ, suc, Bool, true, false, if◌then◌else◌, List, [], ◌∷◌, length, Option, Some, None, codes, refl, sym, ap, ◌∙◌, subst, inl, inr, arith}
 use Rattle.std.specs.Str.{bytes_eq}
 use Rattle.std.proofs.lemmas.Slice.Eq.{bytes_eq-Decides}
-use Rattle.wgsl_syntax.specs.Address.{access_modes, access_text, space_text, spaces}
-use Rattle.wgsl_syntax.specs.Names.{named, table}
+use Rattle.wgsl_syntax.specs.Address.{IsSpace, access_modes, access_text, space_text, space_text_by, spaces}
+use Rattle.wgsl_syntax.specs.Names.{IsNaming, named, table}
 use Rattle.wgsl_syntax.specs.Texel.{IsTexel, texel_formats, texel_text, texel_text_by}
 use Rattle.wgsl_syntax.specs.Texture.{sampled_text, sampled_types, sampler_text, samplers}
 use Rattle.wgsl_syntax.specs.TextureName.{parameter_kind, parameters_of, texture_name_text, texture_names, texture_with}
+use Rattle.wgsl_syntax.specs.declared.address.AddressSpace.TheVariants as spaces_of
 use Rattle.wgsl_syntax.specs.declared.around.Around.{Around}
 use Rattle.wgsl_syntax.specs.declared.around.Around.TheVariants as arounds
 use Rattle.wgsl_syntax.specs.declared.attribute.AccelerationStructureFlags.{AccelerationStructureFlags}
@@ -21,7 +22,7 @@ use Rattle.wgsl_syntax.specs.declared.texture_name.TextureParameters.{TexturePar
 use Rattle.wgsl_syntax.specs.declared.texture_name.TextureParameterKind.TheVariants as kinds
 use Rattle.wgsl_syntax.specs.declared.texture_name.TextureParameters.TheVariants as parameters
 use Rattle.wgsl_syntax.proofs.Naming.{access_naming, sampled_naming, space_naming, texel_naming, texture_naming}
-use Rattle.wgsl_syntax.proofs.Renamed.{naga_or_other, one_texel}
+use Rattle.wgsl_syntax.proofs.Renamed.{naga_or_other, one_space, one_texel, space_naga_or_other}
 use Rattle.wgsl_rules.specs.types.Types.{WgslType, texture, sampler, ray_query, acceleration_structure, Members}
 use Rattle.wgsl_text.specs.Grammar.{FlagAt, IsFlag, TextureListAt, LayerAt, LeafAt, MembersAt, TypeAt, acceleration_structure_at, array_at, atomic_at, binding_array_at, flag_at, layer_at, leaf_at, mat_at, member_at, no_flag_at, no_members_at, ptr_at, ray_query_at, ref_at, sampler_at, scalar_at, spelled_at, struct_at, texture_at, vec_at}
 use Rattle.wgsl_text.specs.Numbers.{IsCount, IsSmall}
@@ -42,20 +43,27 @@ equal {a} {b} e = (bytes_eq-Decides a b).0 e
 
 -- Textures
 
--- a format has naga's name, or WGSL's
-a_texel : (by : RuleSet) (word : List ℕ) → Means (IsTexel by word)
-a_texel by word = elim (a_name texel_text texel_formats texel_naming word) [
-  | inl f ↦ inl (f.0, inr f.1)
-  | inr none ↦ elim (same_word word (texel_text_by by texels.Rg11b10Float)) [
-    | yes is ↦ inl (texels.Rg11b10Float, inl is)
-    | no other ↦ inr (λ f is. neither none other f is (naga_or_other by f))
+-- a word is naga's name of a value, or WGSL's, where all but one have naga's name
+a_renamed : {A : Type 0} (text by : A → List ℕ) (values : List A) → IsNaming text (table text values) → (value : A) → ((x : A) → (by x ≡ text x) ⊎ (x ≡ value))
+    → (word : List ℕ) → Means (λ x. (word ≡ by x) ⊎ (word ≡ text x))
+a_renamed {A} text by values naming value names word = elim (a_name text values naming word) [
+  | inl x ↦ inl (x.0, inr x.1)
+  | inr none ↦ elim (same_word word (by value)) [
+    | yes is ↦ inl (value, inl is)
+    | no other ↦ inr (λ x is. neither none other x is (names x))
   ]
 ]
   where
-    neither : ((f : TexelFormat) → word ≢ texel_text f) → word ≢ texel_text_by by texels.Rg11b10Float → (f : TexelFormat) → IsTexel by word f → (texel_text_by by f ≡ texel_text f) ⊎ (f ≡ texels.Rg11b10Float) → ⊥
-    neither none other f (inr is) so = none f is
-    neither none other f (inl is) (inl same) = none f (is ∙ same)
-    neither none other f (inl is) (inr one) = other (is ∙ ap (texel_text_by by) one)
+    neither : ((x : A) → word ≢ text x) → word ≢ by value → (x : A) → (word ≡ by x) ⊎ (word ≡ text x) → (by x ≡ text x) ⊎ (x ≡ value) → ⊥
+    neither none other x (inr is) so = none x is
+    neither none other x (inl is) (inl same) = none x (is ∙ same)
+    neither none other x (inl is) (inr one) = other (is ∙ ap by one)
+
+a_texel : (rules : RuleSet) (word : List ℕ) → Means (IsTexel rules word)
+a_texel rules = a_renamed texel_text (texel_text_by rules) texel_formats texel_naming texels.Rg11b10Float (naga_or_other rules)
+
+a_space : (rules : RuleSet) (word : List ℕ) → Means (IsSpace rules word)
+a_space rules = a_renamed space_text (space_text_by rules) spaces space_naming spaces_of.PushConstant (space_naga_or_other rules)
 
 some_parameters : (rules : RuleSet) (kind : TextureParameterKind) (words : List (List ℕ)) → Found (ParametersAt rules kind words)
 some_parameters rules kinds.None words = inl (parameters.None, words, (refl, refl))
@@ -125,47 +133,47 @@ a_leaf {rules} (word ∷ words) = same_as (LeafForm rules (word ∷ words)) (Lea
 
 -- Layers
 
-layer_of : (word : List ℕ) (words : List (List ℕ)) (layer : Around) (rest : List (List ℕ)) → LayerForm (word ∷ words) layer rest → LayerAt (word ∷ words) layer rest
-layer_of word words layer rest =
-    from_bool (bytes_eq word (codes "vec")) (λ e f. is f.2 (vec_read word words rest f.0 (equal e) f.1))
-    (from_bool (bytes_eq word (codes "mat")) (λ e f. is f.2 (mat_read word words rest f.1.0 f.0.0 f.0.1 (equal e) f.1.1 f.1.2))
-    (from_bool (bytes_eq word (codes "array")) (λ e f. is f.2 (array_read word words rest f.0 (equal e) f.1))
-    (from_bool (bytes_eq word (codes "binding_array")) (λ e f. is f.2 (binding_array_read word words rest f.0 (equal e) f.1))
-    (from_bool (bytes_eq word (codes "atomic")) (λ e f. is f.2 (atomic_read word words rest (equal e) f.1))
-    (from_bool (bytes_eq word (codes "ptr")) (λ e f. is f.2 (ptr_read word words rest f.0.0 f.0.1 (equal e) f.1))
-    (from_bool (bytes_eq word (codes "ref")) (λ e f. is f.2 (ref_read word words rest f.0.0 f.0.1 (equal e) f.1)) (λ h. absurd h)))))))
+layer_of : (rules : RuleSet) (word : List ℕ) (words : List (List ℕ)) (layer : Around) (rest : List (List ℕ)) → LayerForm rules (word ∷ words) layer rest → LayerAt rules (word ∷ words) layer rest
+layer_of rules word words layer rest =
+    from_bool (bytes_eq word (codes "vec")) (λ e f. is f.2 (vec_read rules word words rest f.0 (equal e) f.1))
+    (from_bool (bytes_eq word (codes "mat")) (λ e f. is f.2 (mat_read rules word words rest f.1.0 f.0.0 f.0.1 (equal e) f.1.1 f.1.2))
+    (from_bool (bytes_eq word (codes "array")) (λ e f. is f.2 (array_read rules word words rest f.0 (equal e) f.1))
+    (from_bool (bytes_eq word (codes "binding_array")) (λ e f. is f.2 (binding_array_read rules word words rest f.0 (equal e) f.1))
+    (from_bool (bytes_eq word (codes "atomic")) (λ e f. is f.2 (atomic_read rules word words rest (equal e) f.1))
+    (from_bool (bytes_eq word (codes "ptr")) (λ e f. is f.2 (ptr_read rules word words rest f.0.0 f.0.1 (equal e) f.1))
+    (from_bool (bytes_eq word (codes "ref")) (λ e f. is f.2 (ref_read rules word words rest f.0.0 f.0.1 (equal e) f.1)) (λ h. absurd h)))))))
   where
-    is : {made : Around} → layer ≡ made → LayerAt (word ∷ words) made rest → LayerAt (word ∷ words) layer rest
-    is e d = subst (λ l. LayerAt (word ∷ words) l rest) (sym e) d
+    is : {made : Around} → layer ≡ made → LayerAt rules (word ∷ words) made rest → LayerAt rules (word ∷ words) layer rest
+    is e d = subst (λ l. LayerAt rules (word ∷ words) l rest) (sym e) d
 
-pub a_layer : (words : List (List ℕ)) → Found (LayerAt words)
-a_layer [] = inr (λ l rest d. layer_form d)
-a_layer (word ∷ words) = same_as (LayerForm (word ∷ words)) (LayerAt (word ∷ words)) (layer_of word words) (λ l rest d. layer_form d)
+pub a_layer : (rules : RuleSet) (words : List (List ℕ)) → Found (LayerAt rules words)
+a_layer rules [] = inr (λ l rest d. layer_form d)
+a_layer rules (word ∷ words) = same_as (LayerForm rules (word ∷ words)) (LayerAt rules (word ∷ words)) (layer_of rules word words) (λ l rest d. layer_form d)
     (by_bool (bytes_eq word (codes "vec")) (made (OneWord IsSmall) (λ n. arounds.Vec n) words small)
     (by_bool (bytes_eq word (codes "mat")) (made TwoSmall (λ p. arounds.Mat p.0 p.1) words (and_then (OneWord IsSmall) (OneWord IsSmall) (one_word IsSmall small_one) words small (a_word IsSmall a_small)))
     (by_bool (bytes_eq word (codes "array")) (made (OneWord IsCount) (λ n. arounds.Array n) words (a_word IsCount a_count words))
     (by_bool (bytes_eq word (codes "binding_array")) (made (OneWord IsCount) (λ n. arounds.BindingArray n) words (a_word IsCount a_count words))
     (by_bool (bytes_eq word (codes "atomic")) (inl (arounds.Atomic, words, (tt, refl, refl)))
-    (by_bool (bytes_eq word (codes "ptr")) (made MemoryAt (λ p. arounds.Ptr p.0 p.1) words memory)
-    (by_bool (bytes_eq word (codes "ref")) (made MemoryAt (λ p. arounds.Ref p.0 p.1) words memory) nothing)))))))
+    (by_bool (bytes_eq word (codes "ptr")) (made (MemoryAt rules) (λ p. arounds.Ptr p.0 p.1) words memory)
+    (by_bool (bytes_eq word (codes "ref")) (made (MemoryAt rules) (λ p. arounds.Ref p.0 p.1) words memory) nothing)))))))
   where
     small : Found (OneWord IsSmall words)
     small = a_word IsSmall a_small words
 
-    memory : Found (MemoryAt words)
-    memory = and_then (OneWord (IsText space_text)) (OneWord (IsText access_text)) (one_word (IsText space_text) (text_one space_text space_naming.distinct)) words
-        (a_word (IsText space_text) (a_name space_text spaces space_naming) words) (a_word (IsText access_text) (a_name access_text access_modes access_naming))
+    memory : Found (MemoryAt rules words)
+    memory = and_then (OneWord (IsSpace rules)) (OneWord (IsText access_text)) (one_word (IsSpace rules) (λ word s t a b. one_space rules word s t a b)) words
+        (a_word (IsSpace rules) (a_space rules) words) (a_word (IsText access_text) (a_name access_text access_modes access_naming))
 
 -- Each reader takes off the words that it reads
 
-pub layer_shorter : {words rest : List (List ℕ)} {l : Around} → LayerAt words l rest → length rest < length words
+pub layer_shorter : {rules : RuleSet} {words rest : List (List ℕ)} {l : Around} → LayerAt rules words l rest → length rest < length words
 layer_shorter (vec_at h) = omega arith
 layer_shorter (mat_at h k) = omega arith
 layer_shorter (array_at h) = omega arith
 layer_shorter (binding_array_at h) = omega arith
 layer_shorter atomic_at = omega arith
-layer_shorter (ptr_at s m) = omega arith
-layer_shorter (ref_at s m) = omega arith
+layer_shorter (ptr_at m is) = omega arith
+layer_shorter (ref_at m is) = omega arith
 
 flag_shorter : {rules : RuleSet} {words rest : List (List ℕ)} {f : Option AccelerationStructureFlags} → FlagAt rules words f rest → length rest ≤ length words
 flag_shorter (flag_at h) = omega arith
