@@ -1,6 +1,6 @@
 //! The programs: the `main` of each proved program, and the code that starts it.
 
-pub use crate::proved::wgsl_check::RunError;
+pub use crate::proved::wgsl_check::{status, RunError};
 use crate::proved::{wgsl_check, wgsl_layout, wgsl_standard_check};
 use crate::shim::host::HostRuntime;
 use crate::shim::std::alloc::Global;

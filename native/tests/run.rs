@@ -1,7 +1,8 @@
-//! How a run goes on or ends if reads and writes are short, are interrupted or fail, and if the input ends after any byte.
+//! How a run goes on or ends if reads and writes are short, are interrupted or fail, and if the input ends after any byte;
+//! and the status of each outcome.
 
 use std::io::{self, ErrorKind, Read, Write};
-use wgsl_types_proved::programs::{run, RunError};
+use wgsl_types_proved::programs::{run, status, RunError};
 
 /// More bytes than a test reads or writes.
 const WHOLE: usize = 1 << 20;
@@ -252,5 +253,19 @@ fn input_may_end_after_each_byte() {
     for len in 1..=input.len() {
         expect_part(&input[..len], 1);
         expect_part(&input[..len], WHOLE);
+    }
+}
+
+#[test]
+fn each_outcome_has_its_status() {
+    let statuses = [
+        (Ok(true), 0),
+        (Ok(false), 2),
+        (Err(RunError::Read), 1),
+        (Err(RunError::Write), 1),
+        (Err(RunError::Memory), 3),
+    ];
+    for (outcome, expected) in statuses {
+        assert_eq!(status(&outcome), expected, "{outcome:?}");
     }
 }

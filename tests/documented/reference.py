@@ -6,7 +6,7 @@ import re
 import sys
 
 sys.dont_write_bytecode = True
-from sources import BEHIND, EXPORT, FACADE, FUNCTION, OWNER, PROMISING, TOP  # noqa: E402, beside this program
+from sources import EXPORT, FACADE, FUNCTION, OWNER, PROMISING, TOP  # noqa: E402, beside this program
 from sources import files_of, folder_of, listed, owned_lines, public_modules, reachable, read  # noqa: E402
 
 PAGE = os.path.join("docs", "REFERENCE.md")
@@ -20,11 +20,12 @@ HEAD = """\
 
 `tests/documented/reference.py` writes this file from the sources: run it after a change of a comment or a clause.
 
-It has what users can name: all that `wgsl_types` exports, the calls from C, what the programs are made of, and the laws. Below
-each item are its clauses. A caller must ensure `requires`; the others hold once the call has returned `result`. `x.new` is what
-the call leaves in a parameter `x`; `x.now`, `x.old`, `x.entry` and `x.value` are what is there when it begins. Beside its clauses
-each function is safe and returns: no index out of range, no overflow, no lossy cast, no endless loop. A call that may allocate may
-also report out of memory, unless a clause `never_out_of_memory` excludes it.
+It has what users can name: what the public modules of each crate have, under the module of `wgsl_types` that exports it, or
+else under its own; and the calls from C. What only the inside of a crate can name is left out: private modules, and items that
+are `pub(crate)`. Below each item are its clauses. A caller must ensure `requires`; the others hold once the call has returned
+`result`. `x.new` is what the call leaves in a parameter `x`; `x.now`, `x.old`, `x.entry` and `x.value` are what is there when
+it begins. Beside its clauses each function is safe and returns: no index out of range, no overflow, no lossy cast, no endless
+loop. A call that may allocate may also report out of memory, unless a clause `never_out_of_memory` excludes it.
 
 The definitions that clauses cite stand at the end. The README's first promise is `IsStandardAnswer`; `Headline.antt` has the next
 four on one page, but for constructors: `crates/wgsl_calls/specs/Constructors.antt`.
@@ -131,8 +132,7 @@ def owed(exported):
         for path in files_of(crate):
             for item in items(path):
                 is_named = item.kind in names if item.kind else item.name in names or path in files
-                is_found = crate not in BEHIND or imported_from(item, exported)
-                if is_named and (item.clauses or item.name and is_found):
+                if is_named and (item.clauses or item.name):
                     yield item
 
 

@@ -8,18 +8,16 @@ FOR_C = re.compile(r'^pub extern "C" fn (\w+)', re.MULTILINE)
 OWNER = re.compile(r"^(?:impl(?:<[^>]*>)?|pub trait)\s+(.*?)\s*\{?$")
 TYPE = re.compile(r"^pub (?:struct|enum|trait) (\w+)", re.MULTILINE)
 EXPORT = re.compile(r"^pub use ([\w:]+?)(?:::\{([^}]*)\})?(?: as \w+)?;", re.MULTILINE)
-IMPORT = re.compile(r"^use (?:crate::)?(\w+)::(?:\{([^}]*)\}|(\w+));", re.MULTILINE)
-FACADE = "wgsl_types"
-BEHIND = ("wgsl_syntax", "wgsl_core", "wgsl_calls", "wgsl_standard", FACADE)  # what the facade exports
-LIBRARIES = ("wgsl_requests", "wgsl_text", "wgsl_expressions", "wgsl_lines", "wgsl_laws", "wgsl_source", "wgsl_report")
-CALLED = {"wgsl_text": ("request", "laws")}  # the modules that users call; the others read, ask and write for these
-PROGRAM, FOR_CALLERS_IN_C = "wgsl_check", "wgsl_c"
-PROMISING = BEHIND + LIBRARIES + (PROGRAM, FOR_CALLERS_IN_C)
+FACADE, FOR_CALLERS_IN_C = "wgsl_types", "wgsl_c"
 
 
 def read(*path):
     with open(os.path.join(TOP, *path), encoding="utf-8") as file:
         return file.read()
+
+
+# The crates, each after those that it stands on.
+PROMISING = tuple(re.findall(r"^(\w+)", read("crates.txt"), re.MULTILINE))
 
 
 def folder_of(crate):
@@ -58,13 +56,13 @@ def functions(path):
 
 
 def public_modules(crate):
-    """The files of a library's root and of its public modules, without those that only the library itself calls."""
-    found, left = [], [(os.path.join(folder_of(crate), "lib.rt"), folder_of(crate))]
+    """The files of a crate's root and of its public modules."""
+    roots = [os.path.join(folder_of(crate), name) for name in ("lib.rt", "main.rt")]
+    found, left = [], [(path, folder_of(crate)) for path in roots if os.path.exists(os.path.join(TOP, path))]
     for path, folder in left:
         found.append(path)
         for name in re.findall(r"^pub mod (\w+);", read(path), re.MULTILINE):
-            if name in CALLED.get(crate, (name,)):
-                left.append((os.path.join(folder, name + ".rt"), os.path.join(folder, name)))
+            left.append((os.path.join(folder, name + ".rt"), os.path.join(folder, name)))
     return found
 
 
@@ -89,12 +87,7 @@ def reachable(crate):
     """What users of a crate can name: names, and files of which they can name each public item."""
     if crate == FOR_CALLERS_IN_C:
         return {name for path in files_of(crate) for name in FOR_C.findall(read(path))}, set()
-    if crate == PROGRAM:  # what `main` calls, and the laws
-        main = read(folder_of(crate), "main.rt")
-        modules = set(re.findall(r"^mod (\w+);", main, re.MULTILINE))
-        imports = [listed(items or item) for module, items, item in IMPORT.findall(main) if module in modules]
-        return set().union(*imports), {os.path.join(folder_of(crate), "laws.rt")}
-    files = public_modules(FACADE if crate in BEHIND else crate)
+    files = public_modules(crate)
     names, whole = exports(files)
     files = set(files) | whole
     return names.union(*(TYPE.findall(read(path)) for path in files)), files

@@ -110,6 +110,7 @@ pub fn type_ctor(
     }
 }
 
+/// The first argument that doesn't convert to the type.
 pub fn first_stuck<'a>(args: &'a [Type], ty: &Type) -> Option<&'a Type>
     ensures { IsStuckAt (view ty.now) (map view args.now) (option_map (λ a. view a.now) result) }
 {
@@ -121,18 +122,21 @@ pub fn first_stuck<'a>(args: &'a [Type], ty: &Type) -> Option<&'a Type>
     None
 }
 
+/// That a type doesn't convert to another.
 pub fn refuse_conversion(alloc: Global, from: &Type, to: &Type) -> Result<Error, AllocError>
     ensures { IfOk result (λ e. refusal e ≡ conversion (view from.now) (view to.now)) }
 {
     refuse_conversion_to(alloc, from, to.clone(alloc)?)
 }
 
+/// The same, of a type that it takes.
 pub fn refuse_conversion_to(alloc: Global, from: &Type, to: Type) -> Result<Error, AllocError>
     ensures { IfOk result (λ e. refusal e ≡ conversion (view from.now) (view to)) }
 {
     Ok(Error::Conversion(from.clone(alloc)?, to))
 }
 
+/// That a constructor has another number of arguments than it takes.
 pub fn refuse_count(
     alloc: Global,
     name: &str,
@@ -144,12 +148,14 @@ pub fn refuse_count(
     Ok(Error::ParamCount(String::from_str(alloc, name)?, wanted, number))
 }
 
+/// That an argument has another type than the parameter.
 pub fn refuse_parameter(alloc: Global, expected: &Type, given: &Type) -> Result<Error, AllocError>
     ensures { IfOk result (λ e. refusal e ≡ param_type (view expected.now) (view given.now)) }
 {
     Ok(Error::ParamType(expected.clone(alloc)?, given.clone(alloc)?))
 }
 
+/// That no constructor takes the call.
 pub fn refuse_call(
     alloc: Global,
     name: &str,

@@ -13,6 +13,7 @@ use std::process::ExitCode;
 use wgsl_lines::run::run as run_with_notes;
 pub use wgsl_lines::run::{RunError, status};
 use wgsl_syntax::rules::RuleSet;
+pub use wgsl_types::typed::Typed;
 
 /// Answers each line of the input by the rules of wgsl-types, and says whether every one was readable.
 ///

@@ -1,12 +1,12 @@
 // The arguments of the calls. Only the generic `both` returns early while it owns a value. A function that does so
 // while it owns a type is slow to prove.
-use crate::typed::Typed;
 use std::alloc::{AllocError, Global};
 use wgsl_types::error::Error;
 use wgsl_types::inst::{Instance, LiteralInstance};
 use wgsl_types::syntax::{AddressSpace, Enumerant};
 use wgsl_types::tplt::TpltParam;
 use wgsl_types::ty::{StructMemberType, StructType};
+use wgsl_types::typed::Typed;
 use wgsl_types::{CallSignature, Type};
 
 /// The arguments of all calls.

@@ -6,7 +6,6 @@
 mod arguments;
 mod lines;
 mod templates;
-mod typed;
 mod types;
 
 use arguments::{Arguments, make_arguments};

@@ -1,7 +1,6 @@
 // Copies, built types, the trait `Ty`, conversions, candidates, constructors of structs.
 use crate::arguments::{Arguments, Structs, both};
 use crate::lines::Lines;
-use crate::typed::Typed;
 use std::alloc::{AllocError, Global};
 use std::io::Write;
 use wgsl_types::builtin::{binary_candidate, typecheck_struct_ctor};
@@ -10,6 +9,7 @@ use wgsl_types::conv::{
 };
 use wgsl_types::syntax::BinaryOperator;
 use wgsl_types::ty::{StructType, Ty, try_from_type};
+use wgsl_types::typed::Typed;
 use wgsl_types::{CallSignature, Type};
 
 pub fn print_types<W: Write>(lines: &mut Lines<W>, arguments: &Arguments) {

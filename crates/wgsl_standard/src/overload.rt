@@ -4,6 +4,7 @@ ghost use Rattle.wgsl_rules.specs.standard.Overloads.{parameters_of as parameter
 
 use wgsl_syntax::overload::{Kind, Overload, Parameters, Returns};
 
+/// The parameters of an overload.
 pub fn parameters_of(overload: &Overload) -> &Parameters
     ensures { result.now ≡ parameters_there overload.now }
 {
@@ -16,6 +17,7 @@ pub fn parameters_of(overload: &Overload) -> &Parameters
     }
 }
 
+/// What an overload returns.
 pub fn result_of(overload: &Overload) -> &Returns
     ensures { result.now ≡ result_there overload.now }
 {

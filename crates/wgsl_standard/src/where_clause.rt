@@ -32,6 +32,7 @@ fn resource_in(pattern: Option<Pattern>) -> Option<Resource>
     }
 }
 
+/// Writes what each letter of an overload stands for.
 pub fn write_letters<W: Write>(
     f: &mut fmt::Formatter<W>,
     overload: &Overload,

@@ -183,6 +183,7 @@ fn write_next<W: Write>(
     }
 }
 
+/// Writes a parameter, as one of scalars or of vectors.
 pub fn write_pattern<W: Write>(
     f: &mut fmt::Formatter<W>,
     pattern: Pattern,

@@ -7,4 +7,5 @@ pub mod Replied
 pub mod Spelled
 pub mod Structs
 pub mod Taken
+pub mod Typed
 pub mod Written

@@ -1,10 +1,8 @@
 // What the program answers to a command.
-ghost use Rattle.std.specs.Prelude.{◌≡◌, ◌↔◌, ◌∷◌, IfOk, IsTrue, MatchResult, codes, map, option_map, string_bytes};
+ghost use Rattle.std.specs.Prelude.{◌≡◌, ◌∷◌, IfOk, MatchResult, codes, map, option_map, string_bytes};
 ghost use Rattle.wgsl_syntax.specs.Operator.{binary_text, unary_text};
 ghost use Rattle.wgsl_rules.specs.types.Signatures.{Signature};
 ghost use Rattle.wgsl_core.specs.View.{view};
-ghost use Rattle.wgsl_rules.specs.Headline.{Receives};
-ghost use Rattle.wgsl_requests.specs.Answers.{IsReceivedCommon};
 ghost use Rattle.wgsl_requests.specs.Requests.{common as common_request, layout as layout_request, offsets as offsets_request};
 ghost use Rattle.wgsl_calls.specs.Calls.{signature_of};
 ghost use Rattle.wgsl_requests.specs.Views.{request_view};
@@ -13,6 +11,7 @@ ghost use Rattle.wgsl_text.specs.Reading.{Answers, ReadsWord};
 ghost use Rattle.wgsl_text.specs.Requests.{IsCallee, NoRequest};
 ghost use Rattle.wgsl_text.specs.internal.Replied.{Replies, WritesOfStruct, signature_read};
 ghost use Rattle.wgsl_text.specs.internal.Taken.{left};
+ghost use Rattle.wgsl_text.specs.internal.Typed.{first_type_of};
 ghost use Rattle.wgsl_text.specs.internal.Written.{Adds};
 
 use crate::read::{read_last_type, read_pair, read_types};
@@ -22,7 +21,6 @@ use crate::wanted::{Misfit, Misread, Wanted};
 use crate::words::{Words, parsed};
 use crate::write::{TextKind, write, write_type_or_none};
 use std::alloc::{AllocError, Global};
-use wgsl_core::conversion::lists::common_of;
 use wgsl_requests::ask::answer;
 use wgsl_requests::requests::{NamedCall, Request};
 use wgsl_syntax::rules::RuleSet;
@@ -30,6 +28,7 @@ use wgsl_types::error::Fail;
 use wgsl_types::syntax::{BinaryOperator, UnaryOperator};
 use wgsl_types::tplt::TpltParam;
 use wgsl_types::ty::Type;
+use wgsl_types::typed::{Typed, convert_to_common, typed_lines};
 
 /// Writes the answer to the command and the words after it, or returns what is wrong with them if they are no command.
 pub fn write_answer(
@@ -123,7 +122,8 @@ pub(crate) fn rank(
     Ok(written?)
 }
 
-/// `common T..`: the common type of all types, or `none` if there is none, or if one of them doesn't convert to it.
+/// `common T..`: the type that all have once they are converted together, or `none` if there is none, or if one of them
+/// doesn't convert to it.
 pub(crate) fn common(
     alloc: Global,
     rules: RuleSet,
@@ -133,42 +133,34 @@ pub(crate) fn common(
     ensures { Replies rules (codes "common" ∷ left words.old)
         (string_bytes text.old) (string_bytes text.new) result }
 {
-    let types = read_types(alloc, rules, words)?;
-    let written = write_common(&types, rules, text);
-    drop(types);
+    let values = typed_lines(alloc, read_types(alloc, rules, words)?)?;
+    let written = write_common(alloc, &values, rules, text);
+    drop(values);
     Ok(written?)
 }
 
-fn write_common(types: &[Type], rules: RuleSet, text: &mut String) -> Result<TextKind, AllocError>
-    ensures { IfOk result (λ kind. Adds (IsAnswer (common_request rules (map view types.now)) kind)
+fn write_common(
+    alloc: Global,
+    values: &[Typed],
+    rules: RuleSet,
+    text: &mut String,
+) -> Result<TextKind, AllocError>
+    ensures { IfOk result (λ kind.
+        Adds (IsAnswer (common_request rules (map (λ x. view x.ty) values.now)) kind)
         (string_bytes text.old) (string_bytes text.new)) }
 {
-    write_type_or_none(text, rules, received_common(types))?;
+    let converted = convert_to_common(alloc, values)?;
+    let written = write_type_or_none(text, rules, first_type(&converted));
+    drop(converted);
+    written?;
     Ok(TextKind::Answer)
 }
 
-/// The common type of the types, from left to right, if each of them converts to it.
-#[tactic(auto, using(crate::proofs::Commons::uncommon))]
-fn received_common(types: &[Type]) -> Option<&Type>
-    ensures { IsReceivedCommon (map view types.now) (option_map (λ t. view t.now) result) }
+fn first_type(values: &Option<Vec<Typed>>) -> Option<&Type>
+    ensures { option_map (λ t. view t.now) result ≡ first_type_of (option_map (λ v. v.items) values.now) }
 {
-    let common = common_of(types)?;
-    if all_convert_to(types, common) {
-        Some(common)
-    } else {
-        None
-    }
-}
-
-fn all_convert_to(types: &[Type], ty: &Type) -> bool
-    ensures { IsTrue result ↔ Receives (view ty.now) (map view types.now) }
-{
-    for source in types {
-        if !source.is_convertible_to(ty) {
-            return false;
-        }
-    }
-    true
+    let first = values.as_ref()?.first()?;
+    Some(&first.ty)
 }
 
 /// `unary OP T`: the type of the expression, or why it has none.

@@ -10,6 +10,7 @@ pub mod standard;
 pub mod syntax;
 pub mod tplt;
 pub mod ty;
+pub mod typed;
 
 pub use wgsl_core::error::{Error, Fail};
 pub use wgsl_core::layout as mem;

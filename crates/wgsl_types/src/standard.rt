@@ -1,6 +1,7 @@
-//! WGSL's own overloads, beside the rules of wgsl-types: what operators, calls of built-in functions and constructors
-//! return by WGSL's overload resolution, what they resolve to, which overloads there are, and why none takes the operands
-//! (WGSL, "Overload Resolution"). Constructors of arrays and structs, `&`, `*` and ray queries have no overloads.
+//! WGSL's own rules, beside those of wgsl-types. First its overloads: what operators, calls of built-in functions and
+//! constructors return by WGSL's overload resolution, what they resolve to, which overloads there are, and why none takes the
+//! operands (WGSL, "Overload Resolution"). Then the forms without overloads: members, indexes, loads, `&` and `*`,
+//! constructors of arrays and structs, declarations, assignments, lists of values. Ray queries have neither.
 ghost use Rattle.std.specs.Prelude.{[], ◌∷◌, None, false, option_map, true};
 ghost use Rattle.wgsl_core.specs.View.{view};
 ghost use Rattle.wgsl_rules.specs.standard.Answers.{IsCallAnswer, IsStandardAnswer};
@@ -15,6 +16,27 @@ ghost use Rattle.wgsl_standard.specs.Resolved.{resolved_view, IsCallResolution};
 use std::alloc::Global;
 use wgsl_core::error::Fail;
 use wgsl_core::ty::Type;
+pub use wgsl_forms::address::{address_of, indirection};
+pub use wgsl_forms::array::{construct_array, construct_array_of};
+pub use wgsl_forms::assign::{assign, assign_by, binary_operator, increment};
+pub use wgsl_forms::concrete::{ConcreteType, concrete_scalar, has_abstract_type, made_concrete};
+pub use wgsl_forms::convert::converts;
+pub use wgsl_forms::declare::{
+    Declaration, declare, discard, is_const_type, is_let_type, override_without_value,
+};
+pub use wgsl_forms::expression::is_const_expression;
+pub use wgsl_forms::form::{Element, Form, FormType, MemoryView, UnbuiltType};
+pub use wgsl_forms::index::type_of_index;
+pub use wgsl_forms::kinds::{
+    has_fixed_footprint, is_constructible, is_handle, is_host_shareable, operand_is_constructible,
+};
+pub use wgsl_forms::layout::min_layout;
+pub use wgsl_forms::lists::{construct_struct, fit};
+pub use wgsl_forms::load::{load, load_type};
+pub use wgsl_forms::member::type_of_member;
+pub use wgsl_forms::refusal::Refusal;
+pub use wgsl_forms::switch::switch_type;
+pub use wgsl_forms::variable::{holds, initialized_variable, variable};
 pub use wgsl_standard::answer::NoOverload;
 use wgsl_standard::answer::type_of_call;
 pub use wgsl_standard::callee::{Callee, can_be_const_expression, overloads};

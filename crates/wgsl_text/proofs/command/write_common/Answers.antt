@@ -1,6 +1,10 @@
-use Rattle.std.proofs.Common.{refl}
-use Rattle.wgsl_requests.specs.Answers.{common_is}
+use Rattle.std.proofs.Common.{refl, sym, subst}
+use Rattle.wgsl_requests.specs.Answers.{IsReceivedCommon, common_is}
+use Rattle.wgsl_text.proofs.Commons.{first_received, types_of}
 use Rattle.wgsl_text.proofs.command.write_common.Goals as goal
 
 pub returns : goal.returns
-returns c = (_, (_, common_is _ c.received_common.ensures, refl, refl), c.in_ok-write_type_or_none.ensures)
+returns c =
+    let all = c.in_ok-converted.ensures.value in
+    let received = first_received (λ v. v.items) c.args.values.now c.in_ok-converted.converted all.0 all.1 all.2 in
+    (_, (_, common_is _ (subst (λ t. IsReceivedCommon (types_of c.args.values.now) t) (sym c.first_type.ensures) received), refl, refl), c.in_ok-written.ensures)
