@@ -14,6 +14,7 @@ use crate::syntax::SampledType;
 use alloc::boxed::Box;
 use alloc::format;
 use alloc::string::String;
+use alloc::vec;
 use core::fmt;
 use core::str::FromStr;
 
@@ -65,15 +66,35 @@ impl Type {
         always(Type::rattle_concretize(self, Global))
     }
 
-    /// How many levels deep the type is: 1 for a scalar, 2 for a vector of scalars.
+    /// How many levels deep the type is: 1 for a scalar, 2 for a vector of scalars. It takes no stack for them.
     pub fn depth(&self) -> usize {
-        match self {
-            Type::Struct(of) => {
-                1 + of.members.iter().map(|member| member.ty.depth()).max().unwrap_or(0)
+        self.checked_depth(usize::MAX).unwrap_or(usize::MAX)
+    }
+
+    /// How many levels deep the type is, or None if it is deeper than `limit`. It stops there.
+    ///
+    /// ```
+    /// use wgsl_types_proved::{ty::MAX_DEPTH, Type};
+    ///
+    /// let ty: Type = "array<vec3f>".parse()?;
+    /// assert_eq!(ty.checked_depth(MAX_DEPTH), Some(3));
+    /// assert_eq!(ty.checked_depth(2), None);
+    /// # Ok::<(), wgsl_types_proved::ty::SpellingError>(())
+    /// ```
+    pub fn checked_depth(&self, limit: usize) -> Option<usize> {
+        let (mut deepest, mut rest) = (0, vec![(self, 1)]);
+        while let Some((ty, level)) = rest.pop() {
+            if level > limit {
+                return None;
             }
-            _ if core::ptr::eq(self.inner(), self) => 1,
-            _ => 1 + self.inner().depth(),
+            deepest = deepest.max(level);
+            match ty {
+                Type::Struct(of) => rest.extend(of.members.iter().map(|member| (&member.ty, level + 1))),
+                _ if core::ptr::eq(ty.inner(), ty) => {}
+                _ => rest.push((ty.inner(), level + 1)),
+            }
         }
+        Some(deepest)
     }
 }
 
@@ -117,7 +138,7 @@ impl FromStr for Type {
     type Err = SpellingError;
 
     /// The type that displays as exactly that text, with WGSL's predeclared aliases too. A struct's name says nothing of its
-    /// members, so no struct is read.
+    /// members, so no struct is read. More than 255 template lists inside one another are refused before anything is built.
     ///
     /// ```
     /// use wgsl_types_proved::Type;
@@ -129,8 +150,24 @@ impl FromStr for Type {
     /// # Ok::<(), wgsl_types_proved::ty::SpellingError>(())
     /// ```
     fn from_str(text: &str) -> Result<Type, SpellingError> {
+        if let Some(at) = too_deep(text) {
+            return Err(misspelt(text, Fault { at, cause: Cause::TooDeep }));
+        }
         always(read(Global, text)).ok_or_else(|| why_not(text))
     }
+}
+
+/// Where the template list begins that is nested deeper than [`MAX_DEPTH`].
+fn too_deep(text: &str) -> Option<usize> {
+    let mut level = 0_usize;
+    text.bytes().position(|byte| {
+        match byte {
+            b'<' => level += 1,
+            b'>' => level = level.saturating_sub(1),
+            _ => {}
+        }
+        level > MAX_DEPTH
+    })
 }
 
 #[cold]
@@ -146,6 +183,10 @@ fn why_not(text: &str) -> SpellingError {
         Err(Stop::Elsewhere) => Fault { at: 0, cause: Cause::Expected(Expected::Type) },
         Err(Stop::Memory(never)) => match never {},
     };
+    misspelt(text, fault)
+}
+
+fn misspelt(text: &str, fault: Fault) -> SpellingError {
     SpellingError { offset: fault.at, message: fault_text(text, fault) }
 }
 

@@ -10,6 +10,7 @@ ghost use Rattle.wgsl_syntax.specs.declared.rules.RuleSet.TheVariants.{Ported};
 use std::alloc::Global;
 use std::io::{Read, Write, sink};
 use std::process::ExitCode;
+use wgsl_lines::program::answer_standard_input;
 use wgsl_lines::run::run as run_with_notes;
 pub use wgsl_lines::run::{RunError, status};
 use wgsl_syntax::rules::RuleSet;
@@ -41,16 +42,5 @@ pub fn run<R: Read, W: Write>(
 }
 
 fn main(rt: HostRuntime) -> ExitCode {
-    let mut input = rt.stdin();
-    let mut output = rt.stdout();
-    let mut notes = rt.stderr();
-    let outcome = run_with_notes(
-        rt.alloc(),
-        RuleSet::Ported,
-        "wgsl_check",
-        &mut input,
-        &mut output,
-        &mut notes,
-    );
-    ExitCode::from(status(&outcome))
+    answer_standard_input(&rt, RuleSet::Ported, "wgsl_check")
 }

@@ -3,4 +3,5 @@
 
 pub mod laws;
 mod line;
+pub mod program;
 pub mod run;

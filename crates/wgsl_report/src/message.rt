@@ -98,7 +98,10 @@ fn kind_of(alloc: Global, of: &impl Debug) -> Result<String, AllocError> {
     Ok(name)
 }
 
-/// Writes what is wrong, and what stands there.
+/// How many characters of a word a message quotes.
+const QUOTED: usize = 40;
+
+/// Writes what is wrong, and the beginning of what stands there.
 pub fn write_fault(output: &mut String, text: &str, fault: Fault) -> Result<(), AllocError> {
     let (start, word, end) = match (fault.cause, word_at(text, fault.at)) {
         (Cause::NotUtf8 | Cause::OpenComment | Cause::ByteOrderMark, _) => ("", "", ""),
@@ -107,13 +110,27 @@ pub fn write_fault(output: &mut String, text: &str, fault: Fault) -> Result<(), 
         (_, Some(word)) => (": `", word, "`"),
         (_, None) => ("", "", ""),
     };
+    let (quoted, dots) = beginning(word);
     let pieces = [
         Piece::Text(fault.cause.text()),
         Piece::Text(start),
-        Piece::Visible(word),
+        Piece::Visible(quoted),
+        Piece::Text(dots),
         Piece::Text(end),
     ];
     write_all(output, &pieces)
+}
+
+/// The beginning of a word, and dots for what follows.
+fn beginning(word: &str) -> (&str, &str) {
+    let mut end: usize = 0;
+    for letter in word.chars().take(QUOTED) {
+        end = end.saturating_add(letter.len_utf8());
+    }
+    match word.get(..end) {
+        Some(quoted) if end < word.len() => (quoted, ".."),
+        _ => (word, ""),
+    }
 }
 
 /// The word that stands at an index.

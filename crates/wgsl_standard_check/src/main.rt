@@ -3,20 +3,9 @@
 #![tactic(auto)]
 
 use std::process::ExitCode;
-use wgsl_lines::run::{run, status};
+use wgsl_lines::program::answer_standard_input;
 use wgsl_syntax::rules::RuleSet;
 
 fn main(rt: HostRuntime) -> ExitCode {
-    let mut input = rt.stdin();
-    let mut output = rt.stdout();
-    let mut notes = rt.stderr();
-    let outcome = run(
-        rt.alloc(),
-        RuleSet::Standard,
-        "wgsl_standard",
-        &mut input,
-        &mut output,
-        &mut notes,
-    );
-    ExitCode::from(status(&outcome))
+    answer_standard_input(&rt, RuleSet::Standard, "wgsl_standard")
 }
