@@ -121,8 +121,11 @@ makes_constant (overloaded callee template) = can_be_const_expression callee
 makes_constant (typed_array t n) = true
 
 -- `max(1u, 2u)` is a const-expression, and `subgroupAdd(1u)` isn't
+abbrev pub is_const_call : Head → List Expression → Bool
+is_const_call head xs = list_all is_constant xs && makes_constant head
+
 abbrev pub result_of : Head → List Expression → WgslType → Expression
-result_of head xs t = record { of_type = t; is_constant = list_all is_constant xs && makes_constant head; referent = Whole }
+result_of head xs t = record { of_type = t; is_constant = is_const_call head xs; referent = Whole }
 
 -- `-x`, `x + y`, `f(x, y)`
 abbrev pub IsCalled : ℕ → Head → Parts → Outcome → Type 0

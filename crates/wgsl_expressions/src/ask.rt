@@ -12,7 +12,7 @@ ghost use Rattle.wgsl_requests.specs.Requests.{form_of};
 ghost use Rattle.wgsl_requests.specs.StandardViews.{written_view};
 ghost use Rattle.wgsl_requests.specs.Views.{request_view};
 ghost use Rattle.wgsl_text.specs.internal.Asked.{called};
-ghost use Rattle.wgsl_expressions.specs.Outcomes.{IsBinary, IsCalled, IsElement, IsMember, asked, asked_with, is_constant, makes_constant, marked, member_in, operand, operand_by, part_in, referent_of, swizzle_in};
+ghost use Rattle.wgsl_expressions.specs.Outcomes.{IsBinary, IsCalled, IsElement, IsMember, asked, asked_with, is_const_call, is_constant, makes_constant, marked, member_in, operand, operand_by, part_in, referent_of, swizzle_in};
 ghost use Rattle.wgsl_expressions.specs.Views.{IsFound, found_outcome, head_view, outcome_view, refused_view, shown, typed_view};
 
 use crate::head::Head;
@@ -243,7 +243,7 @@ pub(crate) fn call(
         Err(refused) => return Ok(Err(refused)),
     };
     let found = ask_of(alloc, head, &parts)?;
-    let is_constant = are_constant(&parts) && makes_constant(head);
+    let is_constant = is_const_call(head, &parts);
     drop(parts);
     match found {
         Ok(ty) => Ok(Ok(Typed {
@@ -273,6 +273,13 @@ fn referent_of(parts: &[Typed]) -> Referent
         [x] => x.referent,
         _ => Referent::Whole,
     }
+}
+
+/// Whether a call of these operands is a const-expression.
+fn is_const_call(head: &Head, parts: &[Typed]) -> bool
+    ensures { result ≡ is_const_call (head_view head.now) (map typed_view parts.now) }
+{
+    are_constant(parts) && makes_constant(head)
 }
 
 /// Whether all are const-expressions.
