@@ -214,10 +214,10 @@ NOT_ASKED = [
     ("`rayQueryTerminate`, `rayQueryConfirmIntersection`, `rayQueryGenerateIntersection`", None, "these too"),
     ("constructors of arrays with a template", None, "constructors of arrays have no overloads"),
     ("`atomicCompareExchangeWeak`", None, "wgsl_standard prints the name of that struct without a type too"),
+    ("the address space `immediate`", None, "it is about a name, and each program prints its own"),
     ("the texel format `rg11b10ufloat`", None, "it is about a name, and each program prints its own"),
     ("`TextureType::sampled_type` of `texture_multisampled_2d`", None, "no request asks for it"),
-    ("`vec3` of `bool`", None, "it is about layout"),
-    ("`vec3` of a scalar of 64 bits", None, "it is about layout"),
+    ("`vec3` of `bool`, or of a scalar of 64 bits", None, "it is about layout"),
     ("a struct that ends in a runtime-sized array", None, "it is about layout"),
     ("`@size`, `@align`", None, "they are about layout"),
 ]
