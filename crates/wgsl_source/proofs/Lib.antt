@@ -1,3 +1,4 @@
 pub mod Placed
 pub mod Measures
+pub mod Members
 pub mod Shifted

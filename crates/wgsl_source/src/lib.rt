@@ -13,6 +13,7 @@ mod extension;
 pub mod fault;
 mod function;
 mod keyword;
+pub mod laws;
 mod leaf;
 mod literal;
 pub mod measured;

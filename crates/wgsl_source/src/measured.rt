@@ -1,10 +1,11 @@
 // Types of a module, each with its size and alignment.
-ghost use Rattle.std.specs.Prelude.{◌≡◌, Some};
+ghost use Rattle.std.specs.Prelude.{◌≡◌, ◌↔◌, IsTrue, Some};
 ghost use Rattle.wgsl_syntax.specs.declared.rules.RuleSet.TheVariants.{Standard};
 ghost use Rattle.wgsl_rules.specs.types.Types.{atomic, mat, scalar as scalar_type, vec};
 ghost use Rattle.wgsl_rules.specs.layout.Layout.{HasAlignmentBy, IsArraySize, IsAtomicSize, IsExactly, IsScalarSize, IsTimes};
 ghost use Rattle.wgsl_core.specs.Placing.{IsValue};
 ghost use Rattle.wgsl_source.specs.Measures.{IsMeasure, IsMeasureOf, IsStrideOf, known_count};
+ghost use Rattle.wgsl_source.specs.Members.{IsRuntimeSizedArray};
 
 use wgsl_syntax::address::{AccessMode, AddressSpace};
 use wgsl_syntax::attribute::AccelerationStructureFlags;
@@ -67,6 +68,7 @@ impl Count {
 impl MeasuredType {
     /// A type that holds no other, with its size and its alignment.
     pub fn leaf(kind: TypeKind, size: Option<u32>, align: Option<u32>) -> MeasuredType
+        ensures kind { result.kind ≡ kind }
         ensures size { result.size ≡ size }
         ensures align { result.align ≡ align }
     {
@@ -149,7 +151,9 @@ impl MeasuredType {
     }
 
     /// Whether it is an array without a count.
-    pub fn is_runtime_sized_array(&self) -> bool {
+    pub fn is_runtime_sized_array(&self) -> bool
+        ensures { IsTrue result ↔ IsRuntimeSizedArray self.now.kind }
+    {
         matches!(self.kind, TypeKind::Array(_, Count::Runtime))
     }
 

@@ -1,7 +1,8 @@
 // Structs, read and laid out.
-ghost use Rattle.std.specs.Prelude.{IfOk, OnOk};
+ghost use Rattle.std.specs.Prelude.{◌≡◌, ◌++◌, ◌↔◌, IfOk, IsSome, IsTrue, None, OnOk, [], ◌∷◌};
 ghost use Rattle.wgsl_source.specs.Cursor.{GoesOn, Takes};
 ghost use Rattle.wgsl_source.specs.Layout.{IsLaidOut};
+ghost use Rattle.wgsl_source.specs.Members.{AreMeasured, AreSameMembers, EndsRuntimeSized, Grows, IsDraft, IsMeasuredMember, IsRuntimeSizedArray, IsTypeOf, members_of};
 
 use crate::attribute::Owner;
 use crate::check::member_fault;
@@ -47,7 +48,9 @@ pub struct Member<'t> {
 
 impl<'t> Struct<'t> {
     /// The type of the struct, which has this index.
-    pub fn measured(&self, index: usize) -> MeasuredType {
+    pub fn measured(&self, index: usize) -> MeasuredType
+        ensures { IsTypeOf self.now index result }
+    {
         let size = if self.is_runtime_sized {
             None
         } else {
@@ -75,7 +78,8 @@ struct Layout<'t> {
 
 /// The layout of a struct with these members, whose name stands at an index of the text: each lies at the smallest offset.
 fn laid_out<'t>(alloc: Global, place: usize, written: &[Written<'t>]) -> Result<Layout<'t>, Stop>
-    ensures { IfOk result (λ l. IsLaidOut l.members.items l.size l.align) }
+    ensures layout { IfOk result (λ l. IsLaidOut l.members.items l.size l.align) }
+    ensures same_members { IfOk result (λ l. AreSameMembers l.members.items (members_of written.now)) }
 {
     let mut placing = Placing::start();
     let mut members = Vec::with_capacity(alloc, written.len())?;
@@ -117,7 +121,10 @@ struct Draft<'t> {
 }
 
 impl<'t> Draft<'t> {
-    fn new(alloc: Global) -> Draft<'t> {
+    fn new(alloc: Global) -> Draft<'t>
+        ensures members { result.members.items ≡ [] }
+        ensures runtime_sized { result.runtime_sized ≡ None }
+    {
         Draft {
             members: Vec::new(alloc),
             names: BTreeMap::new(alloc),
@@ -126,7 +133,11 @@ impl<'t> Draft<'t> {
     }
 
     /// Adds a member, whose name no other has.
-    fn add(&mut self, written: Written<'t>) -> Result<(), Stop> {
+    fn add(&mut self, written: Written<'t>) -> Result<(), Stop>
+        ensures added { OnOk result (self.new.members.items ≡ self.old.members.items ++ written.entry ∷ []) }
+        ensures runtime_sized { OnOk result (self.old.runtime_sized ≡ None
+            → (IsSome self.new.runtime_sized ↔ IsRuntimeSizedArray written.entry.member.ty.kind)) }
+    {
         if self.names.contains_key(&written.member.name) {
             return Err(Stop::at(written.member.place, Cause::MemberTwice));
         }
@@ -147,7 +158,10 @@ impl<'t> Scope<'t> {
         cursor: &mut Cursor<'t>,
     ) -> Result<Struct<'t>, Stop>
         ensures goes_on { GoesOn cursor.old cursor.new }
+        ensures grows { Grows types.old types.new }
         ensures layout { IfOk result (λ s. IsLaidOut s.members.items s.size s.align) }
+        ensures measured { IfOk result (λ s. AreMeasured types.new.elements.items s.members.items) }
+        ensures runtime_sized { IfOk result (λ s. IsTrue s.is_runtime_sized ↔ EndsRuntimeSized s.members.items) }
     {
         let place = cursor.index();
         let name = cursor.name(Expected::Name)?;
@@ -181,6 +195,9 @@ impl<'t> Scope<'t> {
         draft: &mut Draft<'t>,
     ) -> Result<(), Stop>
         ensures goes_on { GoesOn cursor.old cursor.new }
+        ensures grows { Grows types.old types.new }
+        ensures draft { IsDraft types.old.elements.items draft.old
+            → OnOk result (IsDraft types.new.elements.items draft.new) }
     {
         while !cursor.take(b'}') {
             if let Some(at) = draft.runtime_sized {
@@ -197,6 +214,8 @@ impl<'t> Scope<'t> {
     fn read_member(&self, types: &mut Types, cursor: &mut Cursor<'t>) -> Result<Written<'t>, Stop>
         ensures goes_on { GoesOn cursor.old cursor.new }
         ensures one { OnOk result (Takes cursor.old cursor.new) }
+        ensures grows { Grows types.old types.new }
+        ensures measured { IfOk result (λ w. IsMeasuredMember types.new.elements.items w.member) }
     {
         let attributes = self.read_attributes(cursor, Owner::Member)?;
         let place = cursor.index();

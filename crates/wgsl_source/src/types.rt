@@ -1,5 +1,8 @@
 // Types, as a module writes them.
+ghost use Rattle.std.specs.Prelude.{◌≡◌, IfOk, Some, slice_get};
+ghost use Rattle.wgsl_rules.specs.layout.Layout.{IsExactly};
 ghost use Rattle.wgsl_source.specs.Cursor.{GoesOn};
+ghost use Rattle.wgsl_source.specs.Members.{Grows, IsLeastSize};
 
 use crate::check::element_fault;
 use crate::cursor::Cursor;
@@ -22,7 +25,9 @@ pub struct Types {
 
 impl Types {
     /// The size of a type, or of one element if it is a runtime-sized array.
-    pub fn least_size(&self, ty: &MeasuredType) -> Option<u32> {
+    pub fn least_size(&self, ty: &MeasuredType) -> Option<u32>
+        ensures { IsExactly result (IsLeastSize self.now.elements.items ty.now) }
+    {
         match ty.kind {
             TypeKind::Array(index, Count::Runtime) => self.elements.get(index)?.stride(),
             _ => ty.size,
@@ -30,12 +35,17 @@ impl Types {
     }
 
     /// Notes that something that only naga has is used at this index of the text.
-    pub fn note(&mut self, at: usize) -> Result<(), Stop> {
+    pub fn note(&mut self, at: usize) -> Result<(), Stop>
+        ensures { Grows self.old self.new }
+    {
         let cause = Cause::NagaOnly;
         Ok(self.naga_only.push(Fault { at, cause })?)
     }
 
-    fn keep(&mut self, element: MeasuredType) -> Result<usize, Stop> {
+    fn keep(&mut self, element: MeasuredType) -> Result<usize, Stop>
+        ensures grows { Grows self.old self.new }
+        ensures kept { IfOk result (λ index. slice_get self.new.elements.items index ≡ Some element) }
+    {
         let index = self.elements.len();
         self.elements.push(element)?;
         Ok(index)
@@ -50,6 +60,7 @@ impl<'t> Scope<'t> {
         cursor: &mut Cursor<'t>,
     ) -> Result<MeasuredType, Stop>
         ensures goes_on { GoesOn cursor.old cursor.new }
+        ensures grows { Grows types.old types.new }
     {
         self.read_levels(types, cursor, LEVELS)
     }
@@ -63,6 +74,7 @@ impl<'t> Scope<'t> {
         depth: u32,
     ) -> Result<MeasuredType, Stop>
         ensures goes_on { GoesOn cursor.old cursor.new }
+        ensures grows { Grows types.old types.new }
     {
         let at = cursor.index();
         let name = cursor.take_word(Expected::Type)?;
@@ -93,6 +105,7 @@ impl<'t> Scope<'t> {
         depth: u32,
     ) -> Result<MeasuredType, Stop>
         ensures goes_on { GoesOn cursor.old cursor.new }
+        ensures grows { Grows types.old types.new }
     {
         let Some(inner) = depth.checked_sub(1) else {
             return Err(cursor.stop(Cause::TooDeep));
@@ -100,17 +113,32 @@ impl<'t> Scope<'t> {
         cursor.expect(b'<')?;
         let space = self.read_pointed(types, cursor, layer)?;
         let inside = self.read_levels(types, cursor, inner)?;
-        let formed = match layer {
-            LayerName::Array => self.read_array(types, cursor, inside)?,
-            LayerName::BindingArray => self.read_binding_array(types, cursor, inside)?,
-            LayerName::Pointer => self.read_pointer(types, cursor, space, inside)?,
-            _ => scalars(layer, &inside),
-        };
+        let formed = self.read_formed(types, cursor, layer, space, inside)?;
         cursor.take(b',');
         cursor.expect(b'>')?;
         match formed {
             Ok(ty) => Ok(ty),
             Err(cause) => Err(Stop::at(at, cause)),
+        }
+    }
+
+    /// Reads what follows the inner type in the template list.
+    fn read_formed(
+        &self,
+        types: &mut Types,
+        cursor: &mut Cursor<'t>,
+        layer: LayerName,
+        space: AddressSpace,
+        inside: MeasuredType,
+    ) -> Result<Result<MeasuredType, Cause>, Stop>
+        ensures goes_on { GoesOn cursor.old cursor.new }
+        ensures grows { Grows types.old types.new }
+    {
+        match layer {
+            LayerName::Array => self.read_array(types, cursor, inside),
+            LayerName::BindingArray => self.read_binding_array(types, cursor, inside),
+            LayerName::Pointer => self.read_pointer(types, cursor, space, inside),
+            _ => Ok(scalars(layer, &inside)),
         }
     }
 
@@ -122,6 +150,7 @@ impl<'t> Scope<'t> {
         element: MeasuredType,
     ) -> Result<Result<MeasuredType, Cause>, Stop>
         ensures goes_on { GoesOn cursor.old cursor.new }
+        ensures grows { Grows types.old types.new }
     {
         let count = self.read_count(cursor)?;
         if let Some(cause) = element_fault(&element) {
@@ -143,6 +172,7 @@ impl<'t> Scope<'t> {
         element: MeasuredType,
     ) -> Result<Result<MeasuredType, Cause>, Stop>
         ensures goes_on { GoesOn cursor.old cursor.new }
+        ensures grows { Grows types.old types.new }
     {
         let count = self.read_count(cursor)?;
         let index = types.keep(element)?;
@@ -158,6 +188,7 @@ impl<'t> Scope<'t> {
         inside: MeasuredType,
     ) -> Result<Result<MeasuredType, Cause>, Stop>
         ensures goes_on { GoesOn cursor.old cursor.new }
+        ensures grows { Grows types.old types.new }
     {
         let access = self.read_memory_access(cursor, space)?;
         let index = types.keep(inside)?;
@@ -186,6 +217,7 @@ impl<'t> Scope<'t> {
         layer: LayerName,
     ) -> Result<AddressSpace, Stop>
         ensures goes_on { GoesOn cursor.old cursor.new }
+        ensures grows { Grows types.old types.new }
     {
         if layer != LayerName::Pointer {
             return Ok(AddressSpace::Function);
@@ -202,6 +234,7 @@ impl<'t> Scope<'t> {
         cursor: &mut Cursor<'t>,
     ) -> Result<AddressSpace, Stop>
         ensures goes_on { GoesOn cursor.old cursor.new }
+        ensures grows { Grows types.old types.new }
     {
         let at = cursor.index();
         let name = self.take_enumerant(cursor, Expected::AddressSpace)?;
