@@ -1,5 +1,5 @@
 -- A swizzle of a reference loads as the type that is shown of it.
-use Rattle.std.proofs.Common.{◌≡◌, ◌↔◌, ◌∙◌, ℕ, List, [], ◌∷◌, Bool, true, false, IsTrue, ◌&&◌, ◌||◌, cond, Option, Some, None, refl, sym, ap, subst}
+use Rattle.std.proofs.Common.{◌≡◌, ◌↔◌, ◌∙◌, ℕ, List, [], ◌∷◌, Bool, true, false, IsTrue, ◌&&◌, cond, Option, Some, None, refl, sym, ap, subst}
 use Rattle.std.specs.Prelude.{Result, Ok, Err, option_map}
 use Rattle.wgsl_rules.specs.types.Types.{vec_of, WgslType, within, struct, vec, pointer, reference}
 use Rattle.wgsl_rules.specs.standard.Choice.{Operand}
@@ -54,7 +54,7 @@ abbrev operand : WgslType → Bool → Operand
 operand t c = record { of_type = t; is_constant = c }
 
 no_swizzle : (b : Bool) (e : Expression) → b ≡ false → ¬ (e.referent ≡ Swizzle) → Tells b e
-no_swizzle b e no other = ((λ h. absurd (cc (sym no ∙ h)), λ h. absurd (other h)), λ h. absurd (other h))
+no_swizzle b e is_false other = ((λ h. absurd (cc (sym is_false ∙ h)), λ h. absurd (other h)), λ h. absurd (other h))
 
 never : (m : Bool) → (m && false) ≡ false
 never true = refl
@@ -79,15 +79,18 @@ module _ (t : WgslType) (c : Bool) (name : List ℕ) (e : Expression) where
   by_load : (k : ℕ) (u : WgslType) (r : Result WgslType Refusal) → part_named (behind t) name ≡ Some (components k u) → loaded (formed_from t (behind t)) ≡ r →
       loaded_components (operand t c) name (vec k u) r ≡ Ok e → Tells (is_memory t && are_distinct name) e
   by_load k u (Ok v) named is h =
-      subst (λ e. Tells (is_memory t && are_distinct name) e) (cc h) (by_letters (are_distinct name) t c k u v (loads_alike (behind t) name k u named) is)
+      let same : cond (are_distinct name) (part_of (operand t c) Swizzle (vec k u)) (value_from (operand t c) (vec k u)) ≡ e = cc h in
+      subst (λ e. Tells (is_memory t && are_distinct name) e) same (by_letters (are_distinct name) t c k u v (loads_alike (behind t) name k u named) is)
   by_load k u (Err r) named is h = absurd (cc h)
 
   by_part : (p : Option Part) → part_named (behind t) name ≡ p → expression_of_part (operand t c) name p ≡ Ok e →
       Tells (is_memory t && (are_several p && are_distinct name)) e
   by_part (Some (a_member u)) named h =
-      subst (λ e. Tells (is_memory t && false) e) (cc h) (no_swizzle (is_memory t && false) (part_of (operand t c) Whole u) (never (is_memory t)) (elsewhere (is_memory t) Whole (λ i. absurd (cc i))))
+      let same : part_of (operand t c) Whole u ≡ e = cc h in
+      subst (λ e. Tells (is_memory t && false) e) same (no_swizzle (is_memory t && false) (part_of (operand t c) Whole u) (never (is_memory t)) (elsewhere (is_memory t) Whole (λ i. absurd (cc i))))
   by_part (Some (a_component u)) named h =
-      subst (λ e. Tells (is_memory t && false) e) (cc h) (no_swizzle (is_memory t && false) (part_of (operand t c) Component u) (never (is_memory t)) (elsewhere (is_memory t) Component (λ i. absurd (cc i))))
+      let same : part_of (operand t c) Component u ≡ e = cc h in
+      subst (λ e. Tells (is_memory t && false) e) same (no_swizzle (is_memory t && false) (part_of (operand t c) Component u) (never (is_memory t)) (elsewhere (is_memory t) Component (λ i. absurd (cc i))))
   by_part (Some (components k u)) named h = by_load k u (loaded (formed_from t (behind t))) named refl h
   by_part None named h = absurd (cc h)
 

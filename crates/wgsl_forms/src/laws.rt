@@ -26,7 +26,6 @@ pub fn addresses_invert(ty: &Type)
 {}
 
 /// A swizzle of a reference loads as the type that is shown of it.
-#[tactic(auto, using(crate::proofs::Swizzles::load))]
 pub fn swizzles_load(x: &Operand<'_>, name: &str)
     ensures { SwizzlesLoad (given x.now) name.now }
 {}
