@@ -59,8 +59,9 @@ pub fn override_without_value(ty: &Type) -> Result<Type, Refusal> {
 /// its name is.
 ///
 /// Without an access mode it is that of WGSL: `read_write` in `function`, `private` and `workgroup`, else `read`. The first of
-/// these refuses: [`Refusal::AccessMode`]; [`Refusal::NotConstructible`] in `function` and `private`, elsewhere
-/// [`Refusal::NotInSpace`], if no variable of the space holds the type.
+/// these refuses: [`Refusal::AccessMode`] of a mode that is said for another space than `storage`, or is neither `read` nor
+/// `read_write`; [`Refusal::NotConstructible`] in `function` and `private`, elsewhere [`Refusal::NotInSpace`], if no variable
+/// of the space holds the type.
 ///
 /// ```
 /// use wgsl_types_proved::standard::{variable, Refusal};

@@ -134,10 +134,29 @@ fn member_is_host_shareable(member: &StructMemberType) -> bool
 pub fn has_no_array(ty: &Type) -> bool
     ensures { result ≡ no_array_there (view ty.now) }
 {
-    match ty.form() {
-        Form::Array(_, _) => false,
-        Form::Struct(s) => have_no_array(&s.members),
-        _ => true,
+    match ty {
+        Type::Array(_, _) => false,
+        Type::Struct(s) => have_no_array(&s.members),
+        Type::Bool
+        | Type::AbstractInt
+        | Type::AbstractFloat
+        | Type::I32
+        | Type::U32
+        | Type::F32
+        | Type::F16
+        | Type::I64
+        | Type::U64
+        | Type::F64
+        | Type::Vec(_, _)
+        | Type::Mat(_, _, _)
+        | Type::Atomic(_)
+        | Type::Ptr(_, _, _)
+        | Type::Ref(_, _, _)
+        | Type::Texture(_)
+        | Type::Sampler(_)
+        | Type::BindingArray(_, _)
+        | Type::RayQuery(_)
+        | Type::AccelerationStructure(_) => true,
     }
 }
 
