@@ -6,8 +6,8 @@ use Rattle.wgsl_syntax.specs.Operator.{binary_text, unary_text}
 use Rattle.wgsl_syntax.specs.declared.operator.BinaryOperator.{BinaryOperator}
 use Rattle.wgsl_syntax.specs.declared.operator.UnaryOperator.{UnaryOperator}
 use Rattle.wgsl_syntax.specs.declared.rules.RuleSet.{RuleSet}
-use Rattle.wgsl_syntax.specs.declared.rules.RuleSet.TheVariants.{Ported, Standard}
-use Rattle.wgsl_rules.specs.types.Types.{WgslType, scalar, struct, Members}
+use Rattle.wgsl_syntax.specs.declared.rules.RuleSet.TheVariants.{Ported}
+use Rattle.wgsl_rules.specs.types.Types.{WgslType, struct}
 use Rattle.wgsl_core.specs.View.{view}
 use Rattle.wgsl_core.specs.Instances.{call_view, parameter_view}
 use Rattle.wgsl_core.specs.declared.signature.TpltParam.{TpltParam}
