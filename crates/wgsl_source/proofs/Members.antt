@@ -5,8 +5,9 @@ use Rattle.std.specs.Option.{option_or}
 use Rattle.std.proofs.lemmas.List.{append-nil, map-append, map_more}
 use Rattle.std.proofs.lemmas.List.Elements.{All-cons, All-head, All-nil, All-push, All-tail, All-weaker}
 use Rattle.std.proofs.lemmas.Option.{same_Some}
+use Rattle.wgsl_syntax.specs.declared.rules.RuleSet.TheVariants.{Standard}
 use Rattle.wgsl_rules.specs.types.Types.{Members}
-use Rattle.wgsl_rules.specs.layout.Layout.{HaveAlignments, HaveLayouts, IsExactly, IsGiven, IsStructAlign, IsStructSize}
+use Rattle.wgsl_rules.specs.layout.Layout.{HaveAlignmentsBy, HaveLayoutsBy, IsExactly, IsGiven, IsStructAlign, IsStructSize}
 use Rattle.wgsl_core.specs.Placing.{IsValue}
 use Rattle.wgsl_source.specs.Layout.{IsLaidOut, layouts_of}
 use Rattle.wgsl_source.specs.Members.{AreMeasured, AreSameMembers, EndsRuntimeSized, Grows, IsDraft, IsLeastSize, IsMeasuredMember, IsRuntimeSizedArray, IsSizeOfKind, IsTypeOf, members_of, without_offset}
@@ -156,8 +157,8 @@ one_more_same ms ws i w m within same h =
     ∙ (sym (map-append f (members_of (take i ws)) ((get_or ws i w).member ∷ [])) ∙ ap (map f) (sym (map_more (λ (v : Written). v.member) ws i w within)))))
 
 pub struct_follows : (elements : List MeasuredType) (inner : Struct) (index : ℕ) (m : Member) → IsLaidOut inner.members.items inner.size inner.align → inner.is_runtime_sized ≡ false
-    → IsTypeOf inner index m.ty → m.size_attribute ≡ None → m.align_attribute ≡ None → IsMeasuredMember elements m → (ms : Members) → HaveLayouts ms (layouts_of inner.members.items)
-    → IsStructSize (HaveLayouts ms) m.size × IsStructAlign (HaveAlignments ms) m.align
+    → IsTypeOf inner index m.ty → m.size_attribute ≡ None → m.align_attribute ≡ None → IsMeasuredMember elements m → (ms : Members) → HaveLayoutsBy Standard ms (layouts_of inner.members.items)
+    → IsStructSize (HaveLayoutsBy Standard ms) m.size × IsStructAlign (HaveAlignmentsBy Standard ms) m.align
 struct_follows elements inner index m laid fixed is no_size no_align h ms known =
     let layout = laid ms known in
     let sized : IsSizeOfKind elements m.ty.kind m.ty.size m.size = subst (λ (o : Option ℕ). IsGiven o (IsLeastSize elements m.ty) m.size) no_size h.size in
@@ -166,4 +167,4 @@ struct_follows elements inner index m laid fixed is no_size no_align h ms known 
     let aligned : m.ty.align ≡ Some m.align = subst (λ (o : Option ℕ). IsGiven o (IsValue m.ty.align) m.align) no_align h.align in
     let same_size : inner.size ≡ m.size = same_Some inner.size m.size (sym size ∙ own) in
     let same_align : inner.align ≡ m.align = same_Some inner.align m.align (sym is.align ∙ aligned) in
-    (subst (λ (n : ℕ). IsStructSize (HaveLayouts ms) n) same_size layout.sized, subst (λ (a : ℕ). IsStructAlign (HaveAlignments ms) a) same_align layout.aligned)
+    (subst (λ (n : ℕ). IsStructSize (HaveLayoutsBy Standard ms) n) same_size layout.sized, subst (λ (a : ℕ). IsStructAlign (HaveAlignmentsBy Standard ms) a) same_align layout.aligned)

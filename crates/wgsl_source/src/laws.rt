@@ -1,7 +1,8 @@
 // What follows for a struct inside a struct.
 ghost use Rattle.std.specs.Prelude.{◌≡◌, List, None, false, ℕ};
-ghost use Rattle.wgsl_rules.specs.layout.Layout.{HaveAlignments, HaveLayouts, IsStructAlign, IsStructSize};
+ghost use Rattle.wgsl_rules.specs.layout.Layout.{HaveAlignmentsBy, HaveLayoutsBy, IsStructAlign, IsStructSize};
 ghost use Rattle.wgsl_rules.specs.types.Types.{Members};
+ghost use Rattle.wgsl_syntax.specs.declared.rules.RuleSet.TheVariants.{Standard};
 ghost use Rattle.wgsl_source.specs.Layout.{IsLaidOut, layouts_of};
 ghost use Rattle.wgsl_source.specs.Members.{IsMeasuredMember, IsTypeOf};
 ghost use Rattle.wgsl_source.specs.declared.measured.MeasuredType.{MeasuredType};
@@ -15,6 +16,6 @@ pub fn struct_follows()
     ensures { (elements : List MeasuredType) (inner : Struct) (index : ℕ) (m : Member)
         → IsLaidOut inner.members.items inner.size inner.align → inner.is_runtime_sized ≡ false
         → IsTypeOf inner index m.ty → m.size_attribute ≡ None → m.align_attribute ≡ None → IsMeasuredMember elements m
-        → (ms : Members) → HaveLayouts ms (layouts_of inner.members.items)
-        → IsStructSize (HaveLayouts ms) m.size × IsStructAlign (HaveAlignments ms) m.align }
+        → (ms : Members) → HaveLayoutsBy Standard ms (layouts_of inner.members.items)
+        → IsStructSize (HaveLayoutsBy Standard ms) m.size × IsStructAlign (HaveAlignmentsBy Standard ms) m.align }
 {}
