@@ -4,7 +4,7 @@ use Rattle.wgsl_syntax.specs.Address.{default_access, may_say}
 use Rattle.wgsl_syntax.specs.declared.address.AddressSpace.{AddressSpace}
 use Rattle.wgsl_syntax.specs.declared.address.AddressSpace.TheVariants.{Function, Private, Workgroup, Uniform, Storage, Handle, PushConstant}
 use Rattle.wgsl_syntax.specs.declared.address.AccessMode.{AccessMode}
-use Rattle.wgsl_syntax.specs.declared.address.AccessMode.TheVariants.{Read, ReadWrite}
+use Rattle.wgsl_syntax.specs.declared.address.AccessMode.TheVariants.{ReadWrite}
 use Rattle.wgsl_rules.specs.types.Types.{array_of, WgslType, Members, no_members, member, within, struct, reference, binding_array}
 use Rattle.wgsl_rules.specs.errors.Refusals.{not_constructible}
 use Rattle.wgsl_rules.specs.standard.Choice.{Operand}

@@ -1,6 +1,5 @@
-use Rattle.std.proofs.Common.{◌∙◌, sym, ap, codes, decimal}
+use Rattle.std.proofs.Common.{◌∙◌, ◌++◌, sym, ap, codes, decimal}
 use Rattle.std.proofs.Output.{has_written_of_eq}
-use Rattle.wgsl_syntax.specs.Address.{space_text}
 use Rattle.wgsl_rules.specs.types.Spelling.{wgsl_spelling}
 use Rattle.wgsl_core.proofs.Listed.{two_placed, three_placed}
 use Rattle.wgsl_forms.specs.Refusals.{refusal_text}
@@ -16,7 +15,9 @@ returns-in-Component-clause-writes g c = λ plain ok.
 pub returns-in-NotInSpace-clause-writes : goal.returns-in-NotInSpace-clause-writes
 returns-in-NotInSpace-clause-writes g c = λ plain ok.
     has_written_of_eq _ _ _ _ _
-    (two_placed (codes "a variable in the address space `") (space_text c.in-NotInSpace.space) (codes "` cannot hold a `") (wgsl_spelling (unbuilt_view c.in-NotInSpace.t)) (codes "`") ∙ ap (λ e. refusal_text (refusal_view e)) (sym c.in-NotInSpace.is))
+    (two_placed (codes "a variable in the address space `") c.name_by-space.result.now (codes "` cannot hold a `") (wgsl_spelling (unbuilt_view c.in-NotInSpace.t)) (codes "`")
+    ∙ ap (λ name. codes "a variable in the address space `" ++ name ++ codes "` cannot hold a `" ++ wgsl_spelling (unbuilt_view c.in-NotInSpace.t) ++ codes "`") c.name_by-space.ensures
+    ∙ ap (λ e. refusal_text (refusal_view e)) (sym c.in-NotInSpace.is))
     (c.write-in-NotInSpace.ensures.writes plain ok)
 
 pub returns-in-WriteRefType-clause-writes : goal.returns-in-WriteRefType-clause-writes
