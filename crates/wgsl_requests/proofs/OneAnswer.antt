@@ -66,7 +66,7 @@ one_form_type (initialized_of m a x t) r s h k = h ∙ sym k
 -- whatever the request
 same_answer : {request : WgslRequest} {a b : WgslAnswer} → Answers request a → Answers request b → a ≡ b
 same_answer (rank_is {t} {u} v f) (rank_is w g) = ap a_number (one_number (Converts t u) v w f g)
-same_answer (common_is {names} {ts} c f) (common_is d g) = ap (a_common_type names) (one_received ts c d f g)
+same_answer (common_is {rules} {ts} c f) (common_is d g) = ap (a_common_type rules) (one_received ts c d f g)
 same_answer (unary_is {o} {t} r f) (unary_is s g) = ap a_type (unary_answer_once o t r s f g)
 same_answer (binary_is {o} {t} {u} r f) (binary_is s g) = ap a_type (operator_answer_once o t u r s f g)
 same_answer (size_is {rules} {t} s a f g) (size_is r b h k) = λ i. a_size (one_number (HasSizeBy rules t) s r f h i) (one_number (HasAlignmentBy rules t) a b g k i)
