@@ -42,7 +42,6 @@
 //! ```
 
 pub use crate::proved::wgsl_core::layout::{PlacedMember, StructLayout};
-use crate::proved::wgsl_forms::layout::min_layout;
 use crate::shim::always;
 use crate::shim::std::alloc::Global;
 use crate::ty::StructType;
@@ -78,8 +77,9 @@ impl StructType {
     /// let layout = list.min_layout().unwrap();
     /// assert_eq!((list.layout(), layout.members[1].offset, layout.size), (None, 16, 32));
     /// ```
+    #[cfg(feature = "standard")]
     pub fn min_layout(&self) -> Option<StructLayout> {
-        always(min_layout(Global, self))
+        always(crate::proved::wgsl_forms::layout::min_layout(Global, self))
     }
 
     /// The offset of each member in bytes: no placement has a smaller one. None if [`layout`](StructType::layout) is None.
