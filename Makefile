@@ -1,6 +1,6 @@
 # Which file stands on which. `make proved` proves and builds the programs and the library, where a file that they stand on
-# has changed. `make library FOLDER=..`, `make install PREFIX=..` and `make dist FOLDER=..` write what users take, and
-# `make check` runs all tests.
+# has changed. `make library FOLDER=..`, `make install PREFIX=..` and `make dist FOLDER=..` write what users take; with
+# `FROM=cargo` the first two prove nothing, and build by cargo. `make check` runs all tests.
 SHELL := bash
 MAKEFLAGS += -rR
 unexport MAKEFLAGS MFLAGS passed
@@ -49,13 +49,22 @@ can_link:
 	@type ar objcopy >/dev/null && echo 'int it;' | $(or $(CC),cc) -x c -c -o /dev/null -
 	@mkdir -p "$(FOLDER)" && test -w "$(FOLDER)"
 
+install: FOLDER = $(DESTDIR)$(PREFIX)
+ifeq ($(FROM),cargo)
+library:
+	@mkdir -p "$(FOLDER)" && bindings/c/assemble cargo "$(FOLDER)"
+install:
+	@scripts/package --prefix "$(FOLDER)" cargo
+dist:; $(error `make dist` packs what is proved, without FROM)
+else
+$(if $(FROM),$(error FROM is `cargo`, or isn't set))
 library: can_link $(archive)
 	@bindings/c/assemble $(archive) "$(FOLDER)"
-install: FOLDER = $(DESTDIR)$(PREFIX)
 install: can_link proved
 	@scripts/package --prefix "$(FOLDER)"
 dist: can_link proved
 	@scripts/package "$(FOLDER)"
+endif
 
 # Each program in tests/ is a goal. If it passes, it leaves a file in the folder `passed`, by which ./test knows.
 tests: $(tests)

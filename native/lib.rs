@@ -1,4 +1,5 @@
-#![doc = include_str!("README.md")]
+#![cfg_attr(feature = "text", doc = include_str!("README.md"))]
+#![cfg_attr(not(feature = "text"), doc = env!("CARGO_PKG_DESCRIPTION"))]
 #![no_std]
 #![forbid(unsafe_code)]
 #![warn(missing_docs)]
@@ -11,6 +12,7 @@ pub mod builtin;
 pub mod conv;
 pub mod error;
 pub mod inst;
+#[cfg(feature = "text")]
 #[doc(hidden)]
 pub mod library;
 pub mod mem;
@@ -18,9 +20,13 @@ pub mod mem;
 #[doc(hidden)]
 pub mod programs;
 mod proved;
+#[cfg(feature = "text")]
 pub mod requests;
+#[cfg_attr(not(feature = "std"), allow(unused))] // the programs use all of it
 mod shim;
+#[cfg(feature = "text")]
 pub mod source;
+#[cfg(feature = "standard")]
 pub mod standard;
 pub mod syntax;
 pub mod tplt;

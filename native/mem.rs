@@ -42,7 +42,6 @@
 //! ```
 
 pub use crate::proved::wgsl_core::layout::{PlacedMember, StructLayout};
-use crate::proved::wgsl_forms::layout::min_layout_by;
 use crate::shim::always;
 use crate::shim::std::alloc::Global;
 use crate::syntax::RuleSet;
@@ -94,13 +93,15 @@ impl StructType {
     /// let layout = list.min_layout().unwrap();
     /// assert_eq!((list.layout(), layout.members[1].offset, layout.size), (None, 16, 32));
     /// ```
+    #[cfg(feature = "standard")]
     pub fn min_layout(&self) -> Option<StructLayout> {
         self.min_layout_by(RuleSet::Ported)
     }
 
     /// [`min_layout`](StructType::min_layout) by either set of rules.
+    #[cfg(feature = "standard")]
     pub fn min_layout_by(&self, rules: RuleSet) -> Option<StructLayout> {
-        always(min_layout_by(Global, rules, self))
+        always(crate::proved::wgsl_forms::layout::min_layout_by(Global, rules, self))
     }
 
     /// The offset of each member in bytes: no placement has a smaller one. None if [`layout`](StructType::layout) is None.

@@ -12,7 +12,7 @@ use rust_std::io::{Read, Write};
 
 /// `wgsl_check`: requests on standard input, answered by the rules of wgsl-types.
 pub fn check() -> ExitCode {
-    start("wgsl_check", "", wgsl_check::main)
+    start("wgsl_check", '+', wgsl_check::main)
 }
 
 /// Answers each line of the input as `wgsl_check` does, without notes, and says whether every one was readable.
@@ -22,7 +22,7 @@ pub fn run(input: &mut impl Read, output: &mut impl Write) -> Result<bool, RunEr
 
 /// `wgsl_standard`: requests on standard input, answered by WGSL's own overloads.
 pub fn standard() -> ExitCode {
-    start("wgsl_standard", " by WGSL's own overloads", wgsl_standard_check::main)
+    start("wgsl_standard", '-', wgsl_standard_check::main)
 }
 
 /// `wgsl_layout`: the layouts of WGSL files. It reads its arguments itself.
@@ -31,7 +31,7 @@ pub fn layout() -> ExitCode {
 }
 
 /// Starts a program that reads standard input, or says what it is.
-fn start(name: &str, by_rules: &str, main: fn(HostRuntime) -> ExitCode) -> ExitCode {
+fn start(name: &str, sign_of_other: char, main: fn(HostRuntime) -> ExitCode) -> ExitCode {
     let words: Option<Vec<String>> =
         rust_std::env::args_os().skip(1).map(|word| word.into_string().ok()).collect();
     let words: Option<Vec<&str>> =
@@ -39,7 +39,7 @@ fn start(name: &str, by_rules: &str, main: fn(HostRuntime) -> ExitCode) -> ExitC
     match words.as_deref() {
         Some([]) => main(HostRuntime),
         Some(["--version"]) => tell(&format!("{name} {}\n", env!("CARGO_PKG_VERSION"))),
-        Some(["--help" | "-h"]) => tell(&help(name, by_rules)),
+        Some(["--help" | "-h"]) => tell(&help(name, sign_of_other)),
         _ => {
             rust_std::eprintln!(
                 "{name}: it takes no argument, and reads commands from standard input: see {name} --help"
@@ -49,18 +49,11 @@ fn start(name: &str, by_rules: &str, main: fn(HostRuntime) -> ExitCode) -> ExitC
     }
 }
 
-fn help(name: &str, by_rules: &str) -> String {
-    format!(
-        "\
-usage: {name} <COMMANDS
-       {name} --version
-
-Reads commands from standard input, one per line, and prints the answers{by_rules}. docs/USING.md lists the commands.
-
-Exit status: 0 if every line was readable, 1 if a read or a write failed, 2 if a line wasn't readable, 64 if there was an
-argument.
-"
-    )
+/// The lines of the help that are about the program: those of the other one begin with a sign.
+fn help(name: &str, sign_of_other: char) -> String {
+    let lines = include_str!("../bindings/help.txt").lines();
+    let own = lines.filter(|line| !line.starts_with(sign_of_other));
+    own.map(|line| line.trim_start_matches(['+', '-']).replace("@NAME@", name) + "\n").collect()
 }
 
 fn tell(text: &str) -> ExitCode {

@@ -3,6 +3,7 @@
 //! Rust's allocation ends the process instead, so `AllocError` has no values here: a `Result<T, AllocError>` is a `T`, a `?`
 //! on it is no branch, and an arm for it is no code.
 
+mod casts;
 mod collections;
 #[cfg(feature = "std")]
 pub mod host;
@@ -14,6 +15,7 @@ use crate::proved::wgsl_core::error::Fail;
 
 /// What each module of the proved sources imports: the names in Rattle's prelude, and the names of crates.
 pub mod prelude {
+    pub(crate) use super::casts::{RattleSigned, RattleUnsigned};
     pub(crate) use super::collections::{
         RattleBox, RattleExtend, RattleMap, RattleSet, RattleString, RattleToString, RattleVec,
         RattleWrite,
@@ -63,7 +65,6 @@ mod macros {
     }
 
     /// `format!(in alloc; ..)?`
-    #[allow(unused_macros)] // the programs use it
     macro_rules! format_in {
         (in $alloc:expr; $($format:tt)*) => {{
             let crate::shim::std::alloc::Global = $alloc;

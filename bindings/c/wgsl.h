@@ -16,7 +16,7 @@
 extern "C" {
 #endif
 
-#define WGSL_VERSION "0.2.0"
+#define WGSL_VERSION "0.3.0"
 
 /* The version of the library that is linked: WGSL_VERSION, if it is the one of this header. */
 const char *wgsl_version(void);

@@ -4,17 +4,17 @@ but the library, in the folder that WGSL_LIB names or in wgsl/, and no network. 
 import base64
 import hashlib
 import os
-import platform
 import re
+import struct
 import sys
 import sysconfig
 import zipfile
 
 HERE = os.path.dirname(os.path.abspath(__file__))
 LIBRARY = {"darwin": "libwgsl.dylib", "win32": "wgsl.dll"}.get(sys.platform, "libwgsl.so")
-# The proved library, for x86-64 Linux, asks for nothing of the C library that is newer than glibc 2.17.
-IS_PROVED = (sys.platform, platform.machine()) == ("linux", "x86_64")
-TAG = "py3-none-" + ("manylinux_2_17_x86_64" if IS_PROVED else re.sub(r"[-.]", "_", sysconfig.get_platform()))
+# The processors that ELF numbers, and that Mach-O does.
+ELF = {3: "i686", 21: "ppc64le", 22: "s390x", 40: "armv7l", 62: "x86_64", 183: "aarch64", 243: "riscv64"}
+MACH = {0x1000007: "x86_64", 0x100000C: "arm64"}
 OLDEST = (1980, 1, 1, 0, 0, 0)
 
 
@@ -40,6 +40,26 @@ def library():
     return read(os.path.abspath(path))
 
 
+def tag(library):
+    """Where the library can be loaded: on Linux with the glibc that has the newest symbol that it asks for, on macOS from the
+    version on that it names."""
+    where = re.sub(r"[-.]", "_", sysconfig.get_platform())
+    if library[:4] == b"\x7fELF":
+        order = "<>"[library[5] - 1]
+        newest = max([(2, 17), *((int(a), int(b)) for a, b in re.findall(rb"GLIBC_(\d+)\.(\d+)", library))])
+        system = "linux" if b"libc.musl" in library else "manylinux_%d_%d" % newest
+        where = f"{system}_{ELF[struct.unpack_from(order + 'H', library, 18)[0]]}"
+    elif library[:4] == b"\xcf\xfa\xed\xfe":
+        at = 32
+        for _ in range(struct.unpack_from("<I", library, 16)[0]):
+            command, size = struct.unpack_from("<II", library, at)
+            if command in (0x24, 0x32):  # LC_VERSION_MIN_MACOSX, LC_BUILD_VERSION
+                version = struct.unpack_from("<I", library, at + (8 if command == 0x24 else 12))[0]
+                where = f"macosx_{version >> 16}_{version >> 8 & 255}_{MACH[struct.unpack_from('<I', library, 4)[0]]}"
+            at += size
+    return f"py3-none-{where}"
+
+
 def metadata():
     classifiers = re.findall(r'^    "(.* :: .*)",$', read("pyproject.toml").decode(), re.MULTILINE)
     lines = ["Metadata-Version: 2.1", f"Name: {setting('name')}", f"Version: {setting('version')}",
@@ -50,13 +70,13 @@ def metadata():
     return "\n".join(lines).encode() + read("README.md")
 
 
-def members():
+def members(library, where):
     """The name and the bytes of each file of the wheel but the list of them."""
     info = f"{distribution()}.dist-info"
     found = {f"wgsl/{name}": read("wgsl", name) for name in os.listdir(os.path.join(HERE, "wgsl")) if name.endswith((".py", ".typed"))}
-    found[f"wgsl/{LIBRARY}"] = library()
+    found[f"wgsl/{LIBRARY}"] = library
     found[f"{info}/METADATA"] = metadata()
-    found[f"{info}/WHEEL"] = f"Wheel-Version: 1.0\nGenerator: wgsl\nRoot-Is-Purelib: false\nTag: {TAG}\n".encode()
+    found[f"{info}/WHEEL"] = f"Wheel-Version: 1.0\nGenerator: wgsl\nRoot-Is-Purelib: false\nTag: {where}\n".encode()
     for name in ("LICENSE", "NOTICE"):
         path = os.path.join(HERE, "..", "..", name)
         if os.path.isfile(path):
@@ -65,13 +85,14 @@ def members():
 
 
 def build_wheel(wheel_directory, config_settings=None, metadata_directory=None):
-    found, record = members(), f"{distribution()}.dist-info/RECORD"
-    lines = []
+    bytes_of_library = library()
+    where, record, lines = tag(bytes_of_library), f"{distribution()}.dist-info/RECORD", []
+    found = members(bytes_of_library, where)
     for name in sorted(found):
         digest = base64.urlsafe_b64encode(hashlib.sha256(found[name]).digest()).rstrip(b"=").decode()
         lines.append(f"{name},sha256={digest},{len(found[name])}\n")
     found[record] = ("".join(lines) + f"{record},,\n").encode()
-    name = f"{distribution()}-{TAG}.whl"
+    name = f"{distribution()}-{where}.whl"
     os.makedirs(wheel_directory, exist_ok=True)
     with zipfile.ZipFile(os.path.join(wheel_directory, name), "w", zipfile.ZIP_DEFLATED) as wheel:
         for member in [*sorted(set(found) - {record}), record]:

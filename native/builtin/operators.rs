@@ -39,10 +39,10 @@ impl Type {
     /// The type of `&self`.
     ///
     /// ```
+    /// # use wgsl_types_proved::syntax::{AccessMode::ReadWrite, AddressSpace::Private};
     /// # use wgsl_types_proved::Type;
-    /// let variable: Type = "ref<private, i32, read_write>".parse()?;
-    /// assert_eq!(variable.op_ref(), Ok("ptr<private, i32, read_write>".parse()?));
-    /// # Ok::<(), Box<dyn std::error::Error>>(())
+    /// let variable = Type::Ref(Private, Box::new(Type::I32), ReadWrite);
+    /// assert_eq!(variable.op_ref(), Ok(Type::Ptr(Private, Box::new(Type::I32), ReadWrite)));
     /// ```
     pub fn op_ref(&self) -> Result<Type, Error> {
         settled(self.rattle_op_ref(Global))
@@ -51,10 +51,10 @@ impl Type {
     /// The type of `*self`.
     ///
     /// ```
+    /// # use wgsl_types_proved::syntax::{AccessMode::ReadWrite, AddressSpace::Private};
     /// # use wgsl_types_proved::Type;
-    /// let variable: Type = "ref<private, i32, read_write>".parse()?;
-    /// assert_eq!(variable.op_ref()?.op_deref()?, variable);
-    /// # Ok::<(), Box<dyn std::error::Error>>(())
+    /// let pointer = Type::Ptr(Private, Box::new(Type::I32), ReadWrite);
+    /// assert_eq!(pointer.op_deref(), Ok(Type::Ref(Private, Box::new(Type::I32), ReadWrite)));
     /// ```
     pub fn op_deref(&self) -> Result<Type, Error> {
         settled(self.rattle_op_deref(Global))

@@ -28,14 +28,14 @@ fn main() -> ExitCode {
     }
 }
 
-/// Erases the sources of the library, and with the feature `std` those of the programs.
+/// Erases the sources that the features ask for.
 fn erase_all() -> Result<(), Box<dyn Error>> {
     let folder = env::var_os("OUT_DIR").ok_or("cargo names no folder")?;
     for path in ["crates.txt", "crates", "native/erase"] {
         println!("cargo:rerun-if-changed={path}");
     }
-    let with_programs = env::var_os("CARGO_FEATURE_STD").is_some();
-    let names = needed(&fs::read_to_string("crates.txt")?, with_programs);
+    let has_feature = |name: &str| env::var_os(format!("CARGO_FEATURE_{name}")).is_some();
+    let names = needed(&fs::read_to_string("crates.txt")?, has_feature);
     let mut all = Vec::new();
     for name in &names {
         all.extend(files(Path::new("crates"), name)?);

@@ -5,12 +5,13 @@ use std::fs;
 use std::io;
 use std::path::{Path, PathBuf};
 
-/// The crates that users reach, with those that they depend on.
-const LIBRARY: [&str; 5] =
-    ["wgsl_types", "wgsl_forms", "wgsl_expressions", "wgsl_report", "wgsl_c"];
-
-/// The programs, which need `std`.
-const PROGRAMS: [&str; 3] = ["wgsl_check", "wgsl_standard_check", "wgsl_layout"];
+/// The crates that users reach, by the feature of cargo that asks for them.
+const REACHED: [(&str, &[&str]); 4] = [
+    ("", &["wgsl_calls"]),
+    ("STANDARD", &["wgsl_standard", "wgsl_forms"]),
+    ("TEXT", &["wgsl_expressions", "wgsl_report", "wgsl_c"]),
+    ("STD", &["wgsl_check", "wgsl_standard_check", "wgsl_layout"]),
+];
 
 /// A source of a crate.
 pub struct File {
@@ -25,7 +26,7 @@ pub struct File {
 
 /// The crates to erase, each after those that it depends on. `crates.txt` has a line for each: its name, perhaps a word
 /// that says how it is built, a colon, and the crates that it depends on.
-pub fn needed(crates_txt: &str, with_programs: bool) -> Vec<String> {
+pub fn needed(crates_txt: &str, has_feature: impl Fn(&str) -> bool) -> Vec<String> {
     let mut below: BTreeMap<&str, Vec<&str>> = BTreeMap::new();
     for line in crates_txt.lines().filter(|line| !line.starts_with('#')) {
         let (name, stands_on) = line.split_once(':').unwrap_or((line, ""));
@@ -33,9 +34,12 @@ pub fn needed(crates_txt: &str, with_programs: bool) -> Vec<String> {
         below.insert(name, stands_on.split_whitespace().collect());
     }
     let mut needed = Vec::new();
-    let programs = PROGRAMS.iter().filter(|_| with_programs);
-    for root in LIBRARY.iter().chain(programs) {
-        add(root, &below, &mut needed);
+    for (_, roots) in
+        REACHED.iter().filter(|(feature, _)| feature.is_empty() || has_feature(feature))
+    {
+        for root in *roots {
+            add(root, &below, &mut needed);
+        }
     }
     needed
 }

@@ -7,7 +7,17 @@ use std::collections::HashSet;
 /// The traits that Rust's users expect of data.
 const OF_DATA: [&str; 5] = ["Clone", "Debug", "PartialEq", "Eq", "Hash"];
 
-/// `#[derive(..)]`, which becomes the derives of data, except those that the source implements itself.
+/// The crates whose types users see, and the types that they see of other crates.
+const SEEN: [&str; 6] = [
+    "wgsl_syntax",
+    "wgsl_core",
+    "wgsl_calls",
+    "wgsl_forms::Declaration",
+    "wgsl_source::Stage",
+    "wgsl_report::Place",
+];
+
+/// `#[derive(..)]`, which becomes the derives of data if users see the type, except those that the source implements itself.
 pub fn derive(
     source: &mut Source<'_>,
     index: usize,
@@ -22,9 +32,11 @@ pub fn derive(
         .filter(|name| !matches!(*name, "," | "Drop"))
         .collect();
     let name = declared(source, close + 2)?;
-    let missing = OF_DATA
-        .iter()
-        .filter(|of| !derives.contains(of) && !project.written_out.contains(&(**of, name)));
+    let is_seen =
+        SEEN.contains(&project.name) || SEEN.contains(&&*format!("{}::{name}", project.name));
+    let missing = OF_DATA.iter().filter(|of| {
+        is_seen && !derives.contains(of) && !project.written_out.contains(&(**of, name))
+    });
     let missing: Vec<&str> = missing.copied().collect();
     derives.extend(missing);
     source.put(first, close - 1, derives.join(", "));

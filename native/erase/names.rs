@@ -16,8 +16,16 @@ const FUNCTIONS: [(&str, &[&str]); 5] = [
     ("BTreeSet", &["new"]),
 ];
 
-/// Methods of std's types that have other parameters or results in Rattle.
-const METHODS: [&str; 5] = ["push", "push_str", "extend_from_slice", "insert", "to_string"];
+/// Methods of std's types that have other parameters or results in Rattle, or that older compilers lack.
+const METHODS: [&str; 7] = [
+    "push",
+    "push_str",
+    "extend_from_slice",
+    "insert",
+    "to_string",
+    "cast_signed",
+    "cast_unsigned",
+];
 
 /// Methods of public types that only proofs need, or that have types which aren't public.
 const INTERNAL: [&str; 11] = [

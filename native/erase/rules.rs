@@ -29,7 +29,7 @@ const RULES: [Rule; 15] = [
     // Left out: a program's tests are for the proved build, whose `main` they drive.
     tests,
     // `Drop` in a derive says that values may be dropped, which is true of any value in Rust; an `impl Drop` in a
-    // source is refused. It is replaced by the derives that Rust's users expect of data, unless the source has its own.
+    // source is refused. If users see the type, it gets the derives that they expect of data, unless the source has its own.
     // Nothing in the sources calls them.
     derive,
     drop_impl,
@@ -42,8 +42,9 @@ const RULES: [Rule; 15] = [
     names::path,
     // In the proofs only the enumeration may be named `Type`. Users know this variant as `Type`.
     names::template_parameter,
-    // Rust's `Box`, `Vec`, `String` and `BTreeMap` have functions of these names with other parameters and results. The
-    // shim has Rattle's functions in traits, with a prefix. A name that it lacks doesn't compile.
+    // Rust's `Box`, `Vec`, `String` and `BTreeMap` have functions of these names with other parameters and results, and
+    // its integers have some only since 1.87. The shim has Rattle's functions in traits, with a prefix. A name that it
+    // lacks doesn't compile.
     names::of_std,
     // So that users have methods of these names without an allocator, and don't see these.
     names::with_allocator,

@@ -1,5 +1,4 @@
 //! The part of `std::simd` that the proved sources use: eight bytes are compared at a time, within a u64, on any target.
-#![cfg_attr(not(feature = "std"), allow(dead_code))] // the programs use the rest
 
 /// N bytes, a multiple of 8.
 #[derive(Clone, Copy)]

@@ -10,7 +10,7 @@ LINE = re.compile(r"( *)- (.*)")
 SUBJECTS = re.compile(r"(?:(?:, |, or )?`[\w./+-]*(?:/\w*|\.\w+)`)+")
 QUOTED = re.compile(r"`([^`]+)`")
 PATH = re.compile(r"[\w./+-]*[/.][\w./+-]*")
-OUTSIDE = ("docs/", "tests/", "bench/", "native/", "README.md")  # every other path is one in crates/
+OUTSIDE = ("docs/", "tests/", "bench/", "bindings/", "native/", "README.md")  # every other path is one in crates/
 DECLARED = {
     ".rt": r"\b(?:fn|enum|struct|trait|const|static|type|macro_rules!|impl)\s+(?:\w+::)*{}\b",
     ".antt": r"^\s*(?:[a-z]+ )*{}(?:\s[^=:\n]*)?:",

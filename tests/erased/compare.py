@@ -8,8 +8,9 @@ LEXER = re.compile(
     r"""//[^\n]*|/\*.*?\*/|\s+|(b?"(?:[^"\\]|\\.)*"|b?'(?:[^'\\\n]|\\(?:x..|u\{[^}]*\}|.))'|'\w+|\w+|::|.)""", re.S)
 DATA = ["Clone", "Debug", "PartialEq", "Eq", "Hash"]
 PRELUDE = "# [ allow ( unused_imports ) ] use crate :: shim :: prelude :: * ;".split(" ")
-PREFIXED = {  # names that Rust has for something else, behind a `.` or behind their type
-    ".": "push push_str extend_from_slice insert to_string".split(),
+SEEN = "wgsl_syntax wgsl_core wgsl_calls wgsl_forms::Declaration wgsl_source::Stage wgsl_report::Place".split()  # with all derives
+PREFIXED = {  # names that Rust has for something else, or not in older compilers, behind a `.` or behind their type
+    ".": "push push_str extend_from_slice insert to_string cast_signed cast_unsigned".split(),
     "Box": ["new", "into_inner"], "Vec": ["new", "with_capacity"], "String": ["new", "from_str"], "BTreeMap": ["new"], "BTreeSet": ["new"]}
 END = [""] * 8  # behind the last token
 
@@ -61,12 +62,13 @@ def left_out(a, i):
     return None
 
 
-def derives(a, i, written_out):
+def derives(a, i, crate, written_out):
     """The derives that are to stand for those at i."""
     end = close(a, i + 3)
     had = [token for token in a[i + 4:end] if token not in (",", "Drop")]
     name = next(a[k + 1] for k in range(end, len(a)) if a[k] in ("struct", "enum"))
-    return had + [of for of in DATA if of not in had and (of, name) not in written_out]
+    is_seen = crate in SEEN or f"{crate}::{name}" in SEEN
+    return had + [of for of in DATA if is_seen and of not in had and (of, name) not in written_out]
 
 
 def otherwise(a, i, crate):
@@ -107,7 +109,7 @@ def difference(a, b, crate, written_out):
             i = end
             continue
         if a[i:i + 4] == ["#", "[", "derive", "("]:
-            wanted = "# [ derive (".split(" ") + " , ".join(derives(a, i, written_out)).split(" ") + [")", "]"]
+            wanted = "# [ derive (".split(" ") + " , ".join(derives(a, i, crate, written_out)).split() + [")", "]"]
             if b[j:j + len(wanted)] != wanted:
                 return i
             i, j = close(a, i + 1) + 1, j + len(wanted)

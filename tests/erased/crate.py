@@ -6,7 +6,7 @@ import re
 import subprocess
 import tarfile
 
-from tools import TOP, cargo, fail
+from tools import TOP, cargo, fail, read
 
 
 MANIFEST = """[package]
@@ -15,7 +15,7 @@ version = "0.0.0"
 edition = "2021"
 
 [dependencies]
-wgsl-types-proved = {{ path = "{top}" }}
+{dependency}
 
 [workspace]
 """
@@ -25,8 +25,9 @@ def check_crate(folder):
     has_no_dependency(folder)
     has_no_unsafe_code()
     cargo(folder, "test", "--quiet", may_warn=False)
-    cargo(folder, "build", "--no-default-features", may_warn=False)
-    print("tests and examples of the crate passed; it builds without std")
+    print("tests and examples of the crate passed")
+    check_features(folder)
+    check_oldest(folder)
     cargo(folder, "doc", "--no-deps", RUSTDOCFLAGS="-D warnings")
     for tool, *words in [("clippy", "--all-targets", "--", "-D", "warnings"), ("fmt", "--check")]:
         if subprocess.run(["cargo", tool, "--version"], capture_output=True).returncode != 0:
@@ -38,6 +39,30 @@ def check_crate(folder):
             print("clippy has no warnings")
 
 
+def check_features(folder):
+    """The crate is built with the features of each set. With none its tests pass, and a program for wgsl-types keeps each `use`."""
+    for features in ("standard", "text"):
+        cargo(folder, "build", "--no-default-features", "--features", features, may_warn=False)
+    cargo(folder, "test", "--quiet", "--no-default-features", may_warn=False)
+    program = read("native", "examples", "front_end.rs").replace("wgsl_types_proved", "wgsl_types")
+    ported = f'wgsl_types = {{ package = "wgsl-types-proved", path = "{TOP}", default-features = false }}'
+    if run_user(folder, "ported", ported, program) != cargo(folder, "run", "--quiet", "--example", "front_end"):
+        fail("the example `front_end` prints something else as a program for wgsl-types")
+    print("the crate is built with each set of features")
+
+
+def check_oldest(folder):
+    """The oldest compiler that the crate names, if it is on the path, builds all, and its tests pass."""
+    [oldest] = {re.search(r'^rust-version = "(.*)"$', read(*path), re.MULTILINE)[1] for path in (["Cargo.toml"], ["native", "c", "Cargo.toml"])}
+    for at in os.environ["PATH"].split(os.pathsep):
+        rustc = os.path.join(at, "rustc")
+        if os.path.exists(rustc) and subprocess.check_output([rustc, "--version"], text=True).startswith(f"rustc {oldest}."):
+            target = os.path.join(folder, "oldest")
+            cargo(folder, "test", "--quiet", "--workspace", "--all-targets", CARGO_TARGET_DIR=target, RUSTC=rustc)
+            return print(f"rustc {oldest}, the oldest that the crate names, builds all, and its tests pass")
+    return print(f"skipped: rustc {oldest}, the oldest that the crate names, which isn't on the path")
+
+
 def has_no_dependency(folder):
     packages = json.loads(cargo(folder, "metadata", "--format-version=1"))["packages"]
     others = [package["name"] for package in packages if package["source"]]
@@ -46,9 +71,8 @@ def has_no_dependency(folder):
 
 
 def has_no_unsafe_code():
-    with open(os.path.join(TOP, "native", "lib.rs"), encoding="utf-8") as file:
-        if "#![forbid(unsafe_code)]" not in file.read():
-            fail("native/lib.rs doesn't forbid unsafe code")
+    if "#![forbid(unsafe_code)]" not in read("native", "lib.rs"):
+        fail("native/lib.rs doesn't forbid unsafe code")
 
 
 def is_formatted():
@@ -57,17 +81,22 @@ def is_formatted():
         fail(f"what is written by hand isn't formatted:\n{done.stdout}")
 
 
-def check_first_page(folder):
-    """The program that README.md shows prints what stands below it."""
-    with open(os.path.join(TOP, "README.md"), encoding="utf-8") as file:
-        program, printed = re.search(r"^```rust\n(.*?)^```\n\nIt prints (.*?)\. ", file.read(), re.DOTALL | re.MULTILINE).groups()
-    user = os.path.join(folder, "user")
+def run_user(folder, name, dependency, program):
+    """What a user's program prints."""
+    user = os.path.join(folder, name)
     os.makedirs(os.path.join(user, "src"))
     with open(os.path.join(user, "Cargo.toml"), "w", encoding="utf-8") as file:
-        file.write(MANIFEST.format(top=TOP))
+        file.write(MANIFEST.format(dependency=dependency))
     with open(os.path.join(user, "src", "main.rs"), "w", encoding="utf-8") as file:
         file.write(program)
-    lines = cargo(folder, "run", "--quiet", top=user).splitlines()
+    return cargo(folder, "run", "--quiet", top=user)
+
+
+def check_first_page(folder):
+    """The program that README.md shows prints what stands below it."""
+    shown = re.search(r"^```rust\n(.*?)^```\n\nIt prints (.*?)\. ", read("README.md"), re.DOTALL | re.MULTILINE)
+    program, printed = shown.groups()
+    lines = run_user(folder, "user", f'wgsl-types-proved = {{ path = "{TOP}" }}', program).splitlines()
     if lines != re.findall(r"`([^`]*)`", printed):
         fail(f"the program of README.md prints {lines}")
     print("the program of README.md prints what it says")

@@ -12,6 +12,11 @@ def fail(why):
     sys.exit(f"tests/native: {why}")
 
 
+def read(*path):
+    with open(os.path.join(TOP, *path), encoding="utf-8") as file:
+        return file.read()
+
+
 def cargo(folder, *words, top=TOP, may_warn=True, **settings):
     """What a command of cargo prints. What it makes goes into a folder. It has no network."""
     environment = {**os.environ, "CARGO_TARGET_DIR": os.path.join(folder, "target"), "CARGO_TERM_COLOR": "never", **settings}

@@ -1,4 +1,4 @@
-/* What wgsl.hpp makes of each status of a stub (stub.c) of version 0.2.7 in the library's place, and of two threads that ask at
+/* What wgsl.hpp makes of each status of a stub (stub.c) of version 0.3.7 in the library's place, and of two threads that ask at
  * once. Ends with the number of the line that is wrong. */
 #include "wgsl.hpp"
 
@@ -30,7 +30,7 @@ static bool meet(char letter, std::size_t step) {
 #define EXPECT(condition) do { if (!(condition)) return __LINE__; } while (false)
 
 int main() {
-    EXPECT(wgsl::version() == "0.2.7");
+    EXPECT(wgsl::version() == "0.3.7");
     for (std::size_t length : {0, 1, 255, 256, 257, 5000}) {
         std::string text(length, 'x');
         EXPECT(replies("say " + text, Status::answered, text));

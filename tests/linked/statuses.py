@@ -44,7 +44,7 @@ def check_cpp_statuses(folder, headers):
 def check_versions(folders):
     """Python refuses a library of another major version, and before 1.0.0 of another minor one."""
     for version, folder in folders.items():
-        is_taken, shared = version.startswith("0.2."), os.path.join(folder, "libwgsl.so")
+        is_taken, shared = version.startswith("0.3."), os.path.join(folder, "libwgsl.so")
         done = end(sys.executable, "-c", "import wgsl", statuses=(0, 1), WGSL_LIB=folder, **FOUND)
         said = done.stderr.decode().splitlines()[-1:]
         if is_taken != (done.returncode == 0) or not is_taken and f"{shared} has the version {version}" not in said[0]:
@@ -53,13 +53,13 @@ def check_versions(folders):
 
 
 def check_statuses(top):
-    folders = {version: write_stub(top, version) for version in ("0.2.7", "0.1.0", "0.3.0", "1.2.0", "10.0.0")}
+    folders = {version: write_stub(top, version) for version in ("0.3.7", "0.1.0", "0.2.0", "1.3.0", "10.0.0")}
     folder, headers = write_stub(top), ["-I", os.path.join(BINDINGS, "c"), "-I", os.path.join(BINDINGS, "cpp")]
     lines = os.path.join(BINDINGS, "c", "lines.c")
     check_program("C", [compile_c(folder, lines, "lines", *headers)], folder)
     if is_there("c++"):
         check_program("C++", [compile_cpp(folder, os.path.join(LINKED, "lines.cpp"), "lines_cpp", *headers)], folder)
-        check_cpp_statuses(folders["0.2.7"], headers)
+        check_cpp_statuses(folders["0.3.7"], headers)
     check_program("Python", PROGRAM, folder, **FOUND)
     check_python_statuses(top)
     check_versions(folders)

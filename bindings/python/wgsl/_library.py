@@ -8,7 +8,7 @@ from pathlib import Path
 from typing import Any
 
 LIBRARY = {"darwin": "libwgsl.dylib", "win32": "wgsl.dll"}.get(sys.platform, "libwgsl.so")
-VERSION = "0.2.0"
+VERSION = "0.3.0"
 _TO_DO = f"set it to the folder where `make library FOLDER=..` wrote {LIBRARY}"
 _AGAIN = "write the library again with `make library FOLDER=..`"
 

@@ -14,10 +14,10 @@ use wgsl_report::report::{Report, ReportOptions, report_on};
 use wgsl_report::shown::Style;
 
 const HELP: &str = "\
-usage: ./wgsl_layout [--json | --c | --rust | --numpy] [--struct NAME]... [--] FILE...
+usage: wgsl_layout [--json | --c | --rust | --numpy] [--struct NAME]... [--] FILE...
 
 Prints the layout of each struct of WGSL files, where their variables are bound, and what is wrong with them.
-FILE - is standard input. docs/USING.md has the fields of the JSON.
+FILE - is standard input.
 
   --struct NAME  of this struct and those inside it alone; also --struct=NAME, and more than once
   --json         the same for programs: an object on a line for each file
@@ -65,7 +65,7 @@ fn run(rt: &HostRuntime) -> Result<u8, Failure> {
     }
     match read_arguments(rt.alloc(), &behind_name)? {
         Asked::Help => print(rt, HELP),
-        Asked::Version => print(rt, "wgsl_layout 0.2.0\n"),
+        Asked::Version => print(rt, "wgsl_layout 0.3.0\n"),
         Asked::Report(arguments) => report_all(rt, &arguments),
         Asked::Nothing(misuse) => {
             let (reason, word) = misuse.text();
