@@ -8,11 +8,12 @@ use std::collections::HashSet;
 const OF_DATA: [&str; 5] = ["Clone", "Debug", "PartialEq", "Eq", "Hash"];
 
 /// The crates whose types users see, and the types that they see of other crates.
-const SEEN: [&str; 6] = [
+const SEEN: [&str; 7] = [
     "wgsl_syntax",
     "wgsl_core",
     "wgsl_calls",
     "wgsl_forms::Declaration",
+    "wgsl_forms::Referent",
     "wgsl_source::Stage",
     "wgsl_report::Place",
 ];
