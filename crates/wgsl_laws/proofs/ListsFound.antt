@@ -107,7 +107,7 @@ module _ {rules : RuleSet} (n : ℕ) (types : TypesUpTo rules n) where
     | inr none ↦ inr (λ t rest d. none d.0 d.1 d.2)
     | inl l ↦ elim (types l.1 (omega (arith, h, layer_shorter l.2))) [
       | inl t ↦ inl (around l.0 t.0, t.1, (l.0, l.1, l.2, (t.0, t.2, refl)))
-      | inr none ↦ inr (λ t rest d. none d.3.0 rest (subst (λ ws. TypeAt rules ws d.3.0 rest) (one_layer words d.0 l.0 d.1 l.1 d.2 l.2).1 d.3.1))
+      | inr none ↦ inr (λ t rest d. none d.3.0 rest (subst (λ ws. TypeAt rules ws d.3.0 rest) (one_layer rules words d.0 l.0 d.1 l.1 d.2 l.2).1 d.3.1))
     ]
   ]
 

@@ -147,9 +147,9 @@ one_memory rules = one_then (OneWord (IsSpace rules)) (OneWord (IsText access_te
 one_nothing : OneThing Nothing
 one_nothing words x y rest more f g = (refl, sym f ∙ g)
 
-one_layer_form : {rules : RuleSet} → OneThing (LayerForm rules)
-one_layer_form [] l k rest more f g = absurd f
-one_layer_form {rules} (word ∷ words) l k rest more f g =
+one_layer_form : (rules : RuleSet) → OneThing (LayerForm rules)
+one_layer_form rules [] l k rest more f g = absurd f
+one_layer_form rules (word ∷ words) l k rest more f g =
     both_bool _ _ _ _ _ _ (one_made (OneWord IsSmall) (λ n. arounds.Vec n) (one_word IsSmall small_one) words l k rest more)
     (both_bool _ _ _ _ _ _ (one_made TwoSmall (λ p. arounds.Mat p.0 p.1) one_two words l k rest more)
     (both_bool _ _ _ _ _ _ (one_made (OneWord IsCount) (λ n. arounds.Array n) (one_word IsCount count_one) words l k rest more)
@@ -158,8 +158,8 @@ one_layer_form {rules} (word ∷ words) l k rest more f g =
     (both_bool _ _ _ _ _ _ (one_made (MemoryAt rules) (λ p. arounds.Ptr p.0 p.1) (one_memory rules) words l k rest more)
     (both_bool _ _ _ _ _ _ (one_made (MemoryAt rules) (λ p. arounds.Ref p.0 p.1) (one_memory rules) words l k rest more) (λ x y. absurd x))))))) f g
 
-pub one_layer : {rules : RuleSet} → OneThing (LayerAt rules)
-one_layer words l k rest more f g = one_layer_form words l k rest more (layer_form f) (layer_form g)
+pub one_layer : (rules : RuleSet) → OneThing (LayerAt rules)
+one_layer rules words l k rest more f g = one_layer_form rules words l k rest more (layer_form f) (layer_form g)
 
 -- what a type is by its first word
 abbrev pub Form : RuleSet → List (List ℕ) → WgslType → List (List ℕ) → Type 0

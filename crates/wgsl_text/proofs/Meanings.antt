@@ -165,14 +165,15 @@ pub named_none : {A : Type 0} (text : A → List ℕ) (values : List A) (s : Lis
 named_none text [] s none = refl
 named_none text (v ∷ values) s none = none_first (named (table text values) s) v (bytes_eq s (text v)) (not_eq s (text v) (none v)) (named_none text values s none)
 
+neither_first : {A : Type 0} (v : A) (rest both : Option A) (found : Bool) → cond found (Some v) rest ≡ None → (rest ≡ None → both ≡ None) → cond found (Some v) both ≡ None
+neither_first v rest both true e later = absurd (cc e)
+neither_first v rest both false e later = later e
+
 -- nothing is found in two tables
 named_neither : {A : Type 0} (rows more : List (A × List ℕ)) (s : List ℕ) → named rows s ≡ None → named more s ≡ None → named (rows ++ more) s ≡ None
 named_neither [] more s first second = second
-named_neither (row ∷ rows) more s first second = step (bytes_eq s row.1) first
-  where
-    step : (found : Bool) → cond found (Some row.0) (named rows s) ≡ None → cond found (Some row.0) (named (rows ++ more) s) ≡ None
-    step true e = absurd (cc e)
-    step false e = named_neither rows more s e second
+named_neither (row ∷ rows) more s first second =
+    neither_first row.0 (named rows s) (named (rows ++ more) s) (bytes_eq s row.1) first (λ e. named_neither rows more s e second)
 
 wgsl_back : (s : AddressSpace) → named space_names (space_text_by Standard s) ≡ Some s
 wgsl_back space.Function = refl

@@ -99,7 +99,7 @@ inside_read rules view word words mid after layer r d h =
     (λ x f. into_here _ _ _ (layer_word d) (layer, mid, d, f))
     (λ none t rest o.
     let f = here _ _ _ (layer_word d) o in
-    let a = one_layer (word ∷ words) layer f.0 mid f.1 d f.2 in
+    let a = one_layer _ (word ∷ words) layer f.0 mid f.1 d f.2 in
     none t rest (f.3.0, subst (λ ws. TypeAt rules ws f.3.0 rest) (sym a.1) f.3.1, f.3.2 ∙ ap (λ l. around l f.3.0) (sym a.0))) r h
 
 -- a type that begins with the word of no layer is read
@@ -134,7 +134,7 @@ module _ {rules : RuleSet} (outermost : Around) (start : List (List ℕ)) (layer
     back = λ t rest i.
         let f = h.back t rest i in
         let g : InLayerAt rules now f.0 rest = (layer_both d f.0 rest).1 (form f.1) in
-        let a = one_layer now layer g.0 mid g.1 d g.2 in (
+        let a = one_layer _ now layer g.0 mid g.1 d g.2 in (
           g.3.0,
           subst (λ ws. TypeAt rules ws g.3.0 rest) (sym a.1) g.3.1,
           f.2 ∙ (ap (wrapped layers) (g.3.2 ∙ ap (λ l. around l g.3.0) (sym a.0)) ∙ sym (wrapped-last layers layer g.3.0)),

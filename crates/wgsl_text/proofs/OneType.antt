@@ -42,7 +42,7 @@ mutual
   one_type (leaf_at {words} {rest} {t} d) u more e = one_leaf words t u rest more d ((leaf_both d u more).1 (form e))
   one_type {rules} (layer_at {words} {after} {rest} {layer} {t} d inner) u more e =
       let f : InLayerAt rules words u more = (layer_both d u more).1 (form e) in
-      let a = one_layer words layer f.0 after f.1 d f.2 in
+      let a = one_layer rules words layer f.0 after f.1 d f.2 in
       let b = one_type inner f.3.0 more (subst (λ ws. TypeAt rules ws f.3.0 more) (sym a.1) f.3.1) in
       (ap (λ l. around l t) a.0 ∙ (ap (around f.0) b.0 ∙ sym f.3.2), b.1)
   one_type {rules} (struct_at {name} {count} {n} {words} {rest} {ms} is d) u more e =

@@ -13,6 +13,6 @@ pub returns-in_err-read_last_operand : goal.returns-in_err-read_last_operand
 returns-in_err-read_last_operand c =
     fails _ _ _ _ _ (no_component (left c.args.words.now) _ _ c.in_ok-word.ensures.word ((bytes_eq-Decides _ _).0 (sym c.if-eq.ensures))) c.from_residual-in_err-read_last_operand.ensures.1 c.in_err-read_last_operand.ensures
 
-pub returns-in_err-read_whole_operand : goal.returns-in_err-read_whole_operand
-returns-in_err-read_whole_operand c =
-    fails _ _ _ _ _ (no_address (left c.args.words.now) _ _ c.in_ok-word.ensures.word (other_word _ _ c.if-eq.ensures)) c.from_residual-in_err-read_whole_operand.ensures.1 c.in_err-read_whole_operand.ensures
+pub returns-in_err-x : goal.returns-in_err-x
+returns-in_err-x c =
+    fails _ _ _ _ _ (no_address (left c.args.words.now) _ _ c.in_ok-word.ensures.word (other_word _ _ c.if-eq.ensures)) c.from_residual-in_err-x.ensures.1 c.in_err-x.ensures
