@@ -48,8 +48,11 @@ def in_text(command, types, status, answer):
     read = sum(ty.startswith("vec") for ty in types)
     is_vector = answer.startswith("vec")
     grown = len(answer) > 8 and answer not in SCALARS
-    built = is_vector and command not in ("binary", "common")
-    return read + built + (command in ("common", "ctor", "call")) + 1 + grown
+    if command == "common":
+        converted = 1 + is_vector * len(types) if answer != "none" else 0
+        return 2 * read + 3 + converted + 1 + grown
+    built = is_vector and command != "binary"
+    return read + built + (command in ("ctor", "call")) + 1 + grown
 
 
 def ported(library, rng):
