@@ -1,9 +1,13 @@
 -- What is read of tokens, from what is read of the parts.
-use Rattle.std.proofs.Common.{◌≡◌, ℕ, ◌<◌, ◌≤◌, ◌++◌, List, [], ◌∷◌, Option, Some, None, true, codes, length, zero, suc, refl, subst}
+use Rattle.std.proofs.Common.{◌≡◌, ℕ, ◌<◌, ◌≤◌, ◌++◌, List, [], ◌∷◌, Option, Some, None, true, codes, length, zero, suc, refl, subst, Ok, ap, sym, ◌∙◌}
 use Rattle.std.specs.Str.{bytes_eq}
 use Rattle.wgsl_syntax.specs.declared.operator.UnaryOperator.{UnaryOperator}
+use Rattle.wgsl_rules.specs.types.Types.{WgslType}
 use Rattle.wgsl_standard.specs.Callees.{a_unary}
-use Rattle.wgsl_expressions.specs.Grammar.{ArgumentsAt, Closed, ExpressionOf, Group, IsGrouped, OperandsAt, PartAt, PostfixAt, PrimaryAt, UnaryAt, argument_and_more, closed_with, element_at, found_group, last_argument, last_operand, member_at, no_argument, no_element, no_member, no_operand, no_postfix, nothing, operand_and_more, too_many}
+use Rattle.wgsl_forms.specs.Concrete.{has_abstract_type}
+use Rattle.wgsl_forms.specs.Expressions.{Expression}
+use Rattle.wgsl_expressions.specs.Grammar.{ArgumentsAt, Closed, ExpressionOf, Group, IsGrouped, OperandsAt, PartAt, PostfixAt, PrimaryAt, UnaryAt, argument_and_more, closed_with, element_at, found_group, last_argument, last_operand, member_at, no_argument, no_element, no_member, no_operand, no_postfix, nothing, operand_and_more, too_many, NamedAt, NamedPart, given}
+use Rattle.wgsl_expressions.specs.Names.{IsSpelled, Named, named_at, text_of}
 use Rattle.wgsl_expressions.specs.Operators.{operator_at}
 use Rattle.wgsl_expressions.specs.Outcomes.{IsCalled, IsElement, IsMember, Outcome, Parts, no_parts, overloaded, with_part}
 use Rattle.wgsl_expressions.specs.Reading.{Found, Reader, Then, behind_sign}
@@ -15,6 +19,14 @@ use Rattle.wgsl_expressions.specs.declared.start.Start.TheVariants as starts
 
 pub sign_taken : (sign : List ℕ) (words rest : List Token) (w : Token) → words ≡ w ∷ rest → bytes_eq w.text sign ≡ true → behind_sign sign words ≡ Some (tt, rest)
 sign_taken sign words rest w e same = rw e (rw same refl)
+
+-- an operand that is given by its type
+pub given_read : (Inner : Reader Outcome) (w : Token) (words : List Token) (named : Named) (after : List Token) → (named, after) ≡ named_at w words → behind_sign (codes "(") after ≡ None
+    → (t : WgslType) → IsSpelled (text_of named) (Some t) → (x : Expression) → x ≡ given (has_abstract_type t) t → (rest : List Token) → rest ≡ after → NamedAt Inner w words (Some (Ok x, rest))
+given_read Inner w words named after e none t spelled x is rest same =
+    subst (λ found. NamedPart Inner w.at found.0 found.1 (behind_sign (codes "(") found.1) (Some (Ok x, rest))) e
+    (subst (λ b. NamedPart Inner w.at named after b (Some (Ok x, rest))) (sym none)
+    (Some t, spelled, ap (λ y. Some (Ok y, rest)) is ∙ ap (λ r. Some (Ok (given (has_abstract_type t) t), r)) same))
 
 -- arguments behind those that were read
 

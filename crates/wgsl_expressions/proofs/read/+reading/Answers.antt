@@ -1,13 +1,15 @@
-use Rattle.std.proofs.Common.{◌≡◌, ◌++◌, ◌∷◌, [], ◌-◌, ◌<◌, ◌≤◌, Ok, Some, None, codes, length, map, refl, sym, ap, subst, ◌∙◌, rules, suc}
+use Rattle.std.proofs.Common.{option_map, ◌≡◌, ◌++◌, ◌∷◌, [], ◌-◌, ◌<◌, ◌≤◌, Ok, Some, None, codes, length, map, refl, sym, ap, subst, ◌∙◌, rules, suc}
 use Rattle.std.proofs.lemmas.List.{map-append}
 use Rattle.wgsl_expressions.specs.Cursors.{left}
-use Rattle.wgsl_expressions.specs.Grammar.{ExpressionAt, IsGrouped, UnaryAt}
+use Rattle.wgsl_core.specs.View.{view}
+use Rattle.wgsl_expressions.specs.Grammar.{ExpressionAt, IsGrouped, UnaryAt, given}
+use Rattle.wgsl_expressions.specs.Names.{IsSpelled, text_of}
 use Rattle.wgsl_expressions.specs.Outcomes.{with_part}
 use Rattle.wgsl_expressions.specs.Reading.{behind_sign}
 use Rattle.wgsl_expressions.specs.Tokens.{token_view}
-use Rattle.wgsl_expressions.specs.Views.{group_view, outcome_view, typed_view}
+use Rattle.wgsl_expressions.specs.Views.{group_view, named_view, outcome_view, typed_view}
 use Rattle.wgsl_expressions.proofs.Readers.{answers_by, fails, none_by, none_if, refuses_any, some_by, some_unless}
-use Rattle.wgsl_expressions.proofs.Rules.{all_read, argument_read, element_read, last_argument_read, last_operand_read, member_read, no_argument_read, no_element_read, no_member_read, no_operand_read, no_postfix_read, no_unary, nothing_there, operand_read, operator_alone, operator_read, primary_read, sign_taken, too_many_read}
+use Rattle.wgsl_expressions.proofs.Rules.{all_read, argument_read, element_read, given_read, last_argument_read, last_operand_read, member_read, no_argument_read, no_element_read, no_member_read, no_operand_read, no_postfix_read, no_unary, nothing_there, operand_read, operator_alone, operator_read, primary_read, sign_taken, too_many_read}
 use Rattle.wgsl_expressions.proofs.read.+reading.Goals as goal
 
 pub read_arguments-returns-in_err-x-clause-read : goal.read_arguments-returns-in_err-x-clause-read
@@ -176,3 +178,11 @@ read_unary-returns-in_ok-x-in_default-start_of t c =
       goes_on = search rules;
       one = search rules;
     }
+
+pub read_named-returns-in-Some-2-clause-read : goal.read_named-returns-in-Some-2-clause-read
+read_named-returns-in-Some-2-clause-read t c =
+    let none = none_by _ _ _ _ c.is_some.ensures c.if-is_some.false c.take.ensures.token in
+    let named = named_view c.in_ok-named.named in
+    given_read (ExpressionAt c.args.depth) (token_view c.args.first) (left c.args.words.now) named (left c.with_list.new.words) c.in_ok-named.ensures.named none.0
+    (view c.in-Some-2.ty) (subst (λ o. IsSpelled (text_of named) (option_map view o)) c.in-Some-2.is c.in_ok-ty.ensures)
+    (typed_view c.given.result) (c.given.ensures ∙ ap (λ b. given b (view c.in-Some-2.ty)) c.has_abstract_type-is_constant.ensures) (left c.take.new.self) none.1
