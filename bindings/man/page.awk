@@ -2,7 +2,7 @@
 function plain(text) {
     gsub(/\\/, "\\e", text)
     gsub(/-/, "\\-", text)
-    return (text ~ /^[.']/ ? "\\\\&" : "") text
+    return (text ~ /^[.']/ ? "\\&" : "") text
 }
 BEGIN {
     print ".TH " toupper(name) " 1 \"\" \"wgsl " version "\"\n.SH NAME\n" name " \\- " plain(what) "\n.SH SYNOPSIS\n.nf"
