@@ -74,10 +74,9 @@ impl Type {
     /// ```
     /// use wgsl_types_proved::{ty::MAX_DEPTH, Type};
     ///
-    /// let ty: Type = "array<vec3f>".parse()?;
+    /// let ty = Type::array(None, Type::vector(3, Type::F32));
     /// assert_eq!(ty.checked_depth(MAX_DEPTH), Some(3));
     /// assert_eq!(ty.checked_depth(2), None);
-    /// # Ok::<(), wgsl_types_proved::ty::SpellingError>(())
     /// ```
     pub fn checked_depth(&self, limit: usize) -> Option<usize> {
         let (mut deepest, mut rest) = (0, vec![(self, 1)]);
@@ -87,7 +86,9 @@ impl Type {
             }
             deepest = deepest.max(level);
             match ty {
-                Type::Struct(of) => rest.extend(of.members.iter().map(|member| (&member.ty, level + 1))),
+                Type::Struct(of) => {
+                    rest.extend(of.members.iter().map(|member| (&member.ty, level + 1)))
+                }
                 _ if core::ptr::eq(ty.inner(), ty) => {}
                 _ => rest.push((ty.inner(), level + 1)),
             }

@@ -10,11 +10,10 @@ use wgsl_types_proved::Type;
 
 const LENGTH: usize = 1 << 20;
 
-/// What opens a level, and tokens that have no end.
-const REPEATED: [&str; 34] = [
-    "vec2<", "array<", "atomic<", "binding_array<", "ptr<function,", "ref<function, ", "<", ">", ",", "(", "[", "{", "-", "&", "*",
-    "a.", "a[", "f(", "array(", "1+", "1<<", "/*", "@align(", "struct S {", "if (", "1", "a", "0x1", ".", "1e", "é", " ", "\n", "\0",
-];
+/// What opens a level, and tokens that have no end, with `|` between them.
+const REPEATED: &str =
+    "vec2<|array<|atomic<|binding_array<|ptr<function,|ref<function, |<|>|,|(|[|{|-|&|*|a.|\
+    a[|f(|array(|1+|1<<|/*|@align(|struct S {|if (|1|a|0x1|.|1e|é| |\n|\0";
 
 /// The longest message: a token in it is cut.
 const MESSAGE: usize = 300;
@@ -31,15 +30,19 @@ fn read(repeated: &str) {
         }
     }
     assert!(matches!(answer(&text), Err(Error::Unreadable(_))), "{repeated}");
-    assert!(matches!(standard_answer(&format!("type {text}")), Err(Error::Unreadable(_))), "{repeated}");
+    assert!(
+        matches!(standard_answer(&format!("type {text}")), Err(Error::Unreadable(_))),
+        "{repeated}"
+    );
     assert_eq!((text.parse::<Enumerant>(), text.parse::<BinaryOperator>()), (Err(()), Err(())));
     assert!(!is_ctor(&text) && overloads(&text).is_empty() && type_ctor(&text, None, &[]).is_err());
 }
 
 #[test]
 fn each_call_reads_a_megabyte_on_a_small_stack() {
-    let start = |repeated: &'static str| {
+    let start = |repeated| {
         thread::Builder::new().stack_size(512 << 10).spawn(move || read(repeated)).unwrap()
     };
-    REPEATED.map(start).into_iter().for_each(|thread| thread.join().unwrap());
+    let threads: Vec<_> = REPEATED.split('|').map(start).collect();
+    threads.into_iter().for_each(|thread| thread.join().unwrap());
 }

@@ -127,7 +127,11 @@ impl Scope {
         }
         if text.starts_with(|first: char| first.is_ascii_digit()) {
             let is_float = text.contains('.');
-            return Ok(Operand::new(if is_float { Type::AbstractFloat } else { Type::AbstractInt }));
+            return Ok(Operand::new(if is_float {
+                Type::AbstractFloat
+            } else {
+                Type::AbstractInt
+            }));
         }
         if let Some((x, index)) = text.strip_suffix(']').and_then(|x| x.rsplit_once('[')) {
             return type_of_index(&self.expression(x)?, &self.expression(index)?);
