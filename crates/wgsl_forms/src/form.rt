@@ -38,7 +38,7 @@ pub struct UnbuiltType<'a> {
     pub element: Element<'a>,
 }
 
-/// What a reference refers to, as far as its type doesn't say so; of all other expressions `Whole`.
+/// Which part of a vector a reference points to, which its type doesn't say. Any other expression is `Whole`.
 #[derive(Clone, Copy)]
 pub enum Referent {
     /// Neither of the others.
@@ -170,7 +170,7 @@ impl<'a> FormType<'a> {
         FormType { memory: None, of }
     }
 
-    /// What it refers to.
+    /// Which part of a vector it points to.
     #[inline(always)]
     pub fn referent(self) -> Referent
         ensures { result ≡ referent_of self.entry.memory }
