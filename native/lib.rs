@@ -16,10 +16,14 @@ pub mod inst;
 #[doc(hidden)]
 pub mod library;
 pub mod mem;
+#[cfg(feature = "text")]
+pub mod predeclared;
 #[cfg(feature = "std")]
 #[doc(hidden)]
 pub mod programs;
 mod proved;
+#[cfg(feature = "text")]
+pub mod reader;
 #[cfg(feature = "text")]
 pub mod requests;
 #[cfg_attr(not(feature = "std"), allow(unused))] // the programs use all of it

@@ -24,6 +24,11 @@ pub fn standard_explain(request: &[u8], buffer: &mut [u8], text_len: &mut usize)
     wgsl_c::wgsl_standard_explain(Global, request, buffer, text_len)
 }
 
+/// Writes the structs of a WGSL text in a language.
+pub fn source_code(text: &[u8], buffer: &mut [u8], text_len: &mut usize, language: u8) -> u8 {
+    wgsl_c::wgsl_source_code(Global, text, buffer, text_len, language)
+}
+
 /// Writes the layouts of a WGSL text as JSON.
 pub fn source_layout(text: &[u8], buffer: &mut [u8], text_len: &mut usize) -> u8 {
     wgsl_c::wgsl_source_layout(Global, text, buffer, text_len)

@@ -37,12 +37,12 @@ fn start(name: &str, sign_of_other: char, main: fn(HostRuntime) -> ExitCode) -> 
     let words: Option<Vec<&str>> =
         words.as_ref().map(|words| words.iter().map(String::as_str).collect());
     match words.as_deref() {
-        Some([]) => main(HostRuntime),
+        Some([] | ["--strict"]) => main(HostRuntime),
         Some(["--version"]) => tell(&format!("{name} {}\n", env!("CARGO_PKG_VERSION"))),
         Some(["--help" | "-h"]) => tell(&help(name, sign_of_other)),
         _ => {
             rust_std::eprintln!(
-                "{name}: it takes no argument, and reads commands from standard input: see {name} --help"
+                "{name}: it takes no argument but --strict, and reads commands from standard input: see {name} --help"
             );
             ExitCode::from(64)
         }

@@ -81,7 +81,8 @@ pub fn standard_explain(request: &str) -> Option<String> {
 /// ```
 /// use wgsl_types_proved::requests::explain;
 ///
-/// assert_eq!(explain("rank i32 f33").as_deref(), Some("column 10, word 3: `f33` is no type"));
+/// let why = "column 10, word 3: `f33` is no type; did you mean `f32`?";
+/// assert_eq!(explain("rank i32 f33").as_deref(), Some(why));
 /// let why = "column 1, word 1: `overloads` is no command";
 /// assert_eq!(explain("overloads clamp").as_deref(), Some(why));
 /// ```

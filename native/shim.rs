@@ -17,8 +17,7 @@ use crate::proved::wgsl_core::error::Fail;
 pub mod prelude {
     pub(crate) use super::casts::{RattleSigned, RattleUnsigned};
     pub(crate) use super::collections::{
-        RattleBox, RattleExtend, RattleMap, RattleSet, RattleString, RattleToString, RattleVec,
-        RattleWrite,
+        RattleBox, RattleExtend, RattleMap, RattleSet, RattleString, RattleVec, RattleWrite,
     };
     #[cfg(feature = "std")]
     pub(crate) use super::host::{eprintln, HostRuntime};

@@ -1,16 +1,21 @@
 //! What a WGSL file declares: the layouts of its structs, where its variables are bound, its overrides and its entry points
 //! (WGSL, "Memory Layout").
 
+mod code;
 mod laid_out;
+mod type_tree;
 
 pub use crate::proved::wgsl_report::lines::Place;
 use crate::proved::wgsl_source::entry;
 use crate::syntax::{AccessMode, AddressSpace, Scalar};
+use crate::ty::{SamplerType, TextureType, Type};
+use alloc::boxed::Box;
+use alloc::collections::BTreeMap;
 use alloc::string::String;
 use alloc::vec::Vec;
+pub use code::{code, Language, SourceError};
 use core::fmt;
 pub use entry::Stage;
-pub(crate) use laid_out::fault_text;
 
 /// What a module declares, and what is wrong with it.
 #[derive(Clone, Debug, PartialEq, Eq, Hash)]
@@ -18,6 +23,8 @@ pub(crate) use laid_out::fault_text;
 pub struct Layouts {
     /// The structs that have a layout, in the order of the text.
     pub structs: Vec<Struct>,
+    /// The names of the structs that have a fault, or use what has one, in the order of the text.
+    pub left_out: Vec<String>,
     /// The variables of the module that lie in memory, in the order of the text.
     pub variables: Vec<Variable>,
     /// The overrides, in the order of the text.
@@ -56,8 +63,8 @@ pub struct Member {
     pub name: String,
     /// Where its name stands.
     pub place: Place,
-    /// The type, as WGSL spells it, with aliases resolved.
-    pub ty: String,
+    /// The type, with aliases resolved.
+    pub ty: TypeTree,
     /// Where the member begins.
     pub offset: u32,
     /// The size.
@@ -78,8 +85,8 @@ pub struct Variable {
     pub name: String,
     /// Where its name stands.
     pub place: Place,
-    /// The type, as WGSL spells it, with aliases resolved.
-    pub ty: String,
+    /// The type, with aliases resolved.
+    pub ty: TypeTree,
     /// The number of `@group`.
     pub group: Option<u32>,
     /// The number of `@binding`.
@@ -88,10 +95,76 @@ pub struct Variable {
     pub space: AddressSpace,
     /// The access mode.
     pub access: AccessMode,
+    /// What is bound to the variable, if something is.
+    pub resource: Option<Resource>,
     /// The size of the type in bytes, if it has one.
     pub size: Option<u32>,
     /// The minimum binding size in bytes, if a buffer is bound here.
     pub min_binding_size: Option<u32>,
+}
+
+/// A type as a module writes it, with aliases resolved. It displays as WGSL spells it.
+#[derive(Clone, Debug, PartialEq, Eq, Hash)]
+#[non_exhaustive]
+pub enum TypeTree {
+    /// A type that contains no array, no struct and no pointer.
+    Leaf(Type),
+    /// The struct with this name.
+    Struct(String),
+    /// An array.
+    Array {
+        /// The type of its elements.
+        element: Box<TypeTree>,
+        /// How many there are.
+        count: ElementCount,
+        /// The bytes from one element to the next, if the array is data.
+        stride: Option<u32>,
+    },
+    /// naga's array of bindings.
+    BindingArray {
+        /// The type of its elements.
+        element: Box<TypeTree>,
+        /// How many there are.
+        count: ElementCount,
+    },
+    /// A pointer.
+    Pointer {
+        /// The address space.
+        space: AddressSpace,
+        /// The type to which it points.
+        target: Box<TypeTree>,
+        /// The access mode.
+        access: AccessMode,
+    },
+}
+
+/// How many elements an array has.
+#[derive(Clone, Copy, Debug, PartialEq, Eq, Hash)]
+pub enum ElementCount {
+    /// This number.
+    Known(u32),
+    /// As many as the buffer has room for.
+    Runtime,
+    /// The value of an override, which is known when the pipeline is created. It displays as `override`.
+    Override,
+}
+
+/// What is bound to a variable (WebGPU, "GPUBindGroupLayoutEntry").
+#[derive(Clone, Debug, PartialEq, Eq, Hash)]
+#[non_exhaustive]
+pub enum Resource {
+    /// The buffer of a `var<uniform>`.
+    UniformBuffer,
+    /// The buffer of a `var<storage, read>`.
+    ReadOnlyStorageBuffer,
+    /// The buffer of a `var<storage, read_write>`.
+    StorageBuffer,
+    /// A sampler.
+    Sampler(SamplerType),
+    /// A texture.
+    Texture(TextureType),
+    /// What naga adds: an array of bindings, or an acceleration structure. The variable's type says which.
+    Other,
 }
 
 /// An `override`: a value that is set when a pipeline is created.
@@ -128,12 +201,10 @@ pub struct EntryPoint {
 #[derive(Clone, Debug, PartialEq, Eq, Hash)]
 #[non_exhaustive]
 pub struct Message {
-    /// The line, from 1.
-    pub line: usize,
-    /// The column, in bytes from 1.
-    pub column: usize,
-    /// The column in units of UTF-16, from 1, as editors count them.
-    pub utf16_column: usize,
+    /// Where the word stands that it is about.
+    pub start: Place,
+    /// Where that word ends.
+    pub end: Place,
     /// The name of what is wrong, for programs.
     pub kind: String,
     /// What is wrong, and what would mend it.
@@ -142,7 +213,7 @@ pub struct Message {
 
 impl fmt::Display for Message {
     fn fmt(&self, f: &mut fmt::Formatter<'_>) -> fmt::Result {
-        write!(f, "{}:{}: {}", self.line, self.column, self.text)
+        write!(f, "{}:{}: {}", self.start.line, self.start.column, self.text)
     }
 }
 
@@ -157,11 +228,28 @@ impl fmt::Display for Message {
 /// );
 /// let [light, scene] = &module.structs[..] else { panic!() };
 /// assert_eq!((light.size, light.members[2].offset, light.members[2].padding), (32, 16, 8));
-/// assert_eq!((scene.members[0].ty.as_str(), scene.members[0].stride), ("array<Light, 4>", Some(32)));
+/// assert_eq!((scene.members[0].ty.to_string().as_str(), scene.members[0].stride), ("array<Light, 4>", Some(32)));
 /// assert_eq!(module.variables[0].min_binding_size, Some(144));
 /// assert!(module.errors.is_empty());
 /// assert!(module.findings[0].text.contains("`Scene.weights` has elements with the stride 4"));
 /// ```
 pub fn layouts(text: impl AsRef<[u8]>) -> Layouts {
     laid_out::layouts(text.as_ref())
+}
+
+/// The structs and aliases of a module as types, by name.
+///
+/// A type that can't be given is left out: one that has an error, or an array whose count is an override's value; one that
+/// nests deeper than [`MAX_DEPTH`](crate::ty::MAX_DEPTH); and one with which all of them would contain more than 2^18 types, since
+/// a [`Type`] owns the structs inside it.
+///
+/// ```
+/// use wgsl_types_proved::source::types;
+///
+/// let types = types("struct Light { color: vec3f, @size(16) power: f32 } alias Lights = array<Light, 4>;");
+/// assert_eq!(types["Lights"].to_string(), "array<Light, 4>");
+/// assert_eq!(types["Light"].depth(), 3);
+/// ```
+pub fn types(text: &str) -> BTreeMap<String, Type> {
+    laid_out::types(text)
 }

@@ -1,6 +1,7 @@
 //! The types of expressions and statements by WGSL's own rules. First its overloads: which one an operator, a call or a
 //! constructor resolves to, what its operands convert to, what it returns, and why no overload takes the operands (WGSL,
-//! "Overload Resolution"). Then what has none: members, indexes, loads, `&` and `*`, declarations, assignments, lists of values.
+//! "Overload Resolution"). Then what has none: members, indexes, loads, `&` and `*`, declarations, assignments, lists of values, conditions,
+//! returned values.
 //!
 //! The calls of [`builtin`](crate::builtin) answer by the rules of wgsl-types 0.3.2 instead, which differ from WGSL's. naga's
 //! ray queries have no overloads: ask `builtin`.
@@ -10,21 +11,22 @@
 //! be read counts as the type that it loads as.
 //!
 //! ```
-//! use wgsl_types_proved::standard::{resolve_builtin_fn, type_unary_op, Operand};
+//! use wgsl_types_proved::standard::{resolve_builtin_fn, type_unary_op, Mismatch, Operand};
 //! use wgsl_types_proved::syntax::UnaryOperator::Negation;
 //! use wgsl_types_proved::Type;
 //!
 //! let (int, x) = (Operand::new(Type::AbstractInt), Operand::new(Type::F32));
 //! let v = Operand::new("vec3<f32>".parse()?);
-//! assert_eq!(type_unary_op(Negation, &v), Ok(v.ty.clone()));
+//! assert_eq!(type_unary_op(Negation, &v).as_ref(), Ok(&v));
 //!
 //! let call = resolve_builtin_fn("ldexp", None, &[x, int.clone()]).unwrap();
 //! assert_eq!(call.parameters, [Type::F32, Type::I32]);
 //!
 //! let refused = resolve_builtin_fn("dot", None, &[v, int]).unwrap_err();
 //! assert_eq!(refused.to_string(), "no overload of `dot` takes (vec3<f32>, AbstractInt)");
-//! let dot = "dot(vecN<T>, vecN<T>) -> T, T: number";
-//! assert_eq!(refused.explanations(), [format!("{dot}: argument 2 is AbstractInt")]);
+//! let [why] = &refused.explanations()[..] else { panic!() };
+//! assert_eq!(why.mismatch, Mismatch::Argument { index: 1, ty: Type::AbstractInt });
+//! assert_eq!(why.to_string(), "dot(vecN<T>, vecN<T>) -> T, T: number: argument 2 is AbstractInt");
 //! # Ok::<(), wgsl_types_proved::ty::SpellingError>(())
 //! ```
 //!
@@ -45,8 +47,10 @@
 //! # Ok::<(), Refusal>(())
 //! ```
 
+mod construct;
 mod expressions;
 mod form_refusal;
+mod misfit;
 mod overload;
 mod refusal;
 mod resolve;
@@ -58,17 +62,19 @@ use crate::syntax::{BinaryOperator, UnaryOperator};
 use crate::ty::Type;
 use alloc::string::String;
 use alloc::vec::Vec;
+pub use construct::{construct, NotConstructed};
 use core::fmt;
 pub use expressions::{address_of, indirection, load, type_of_index, type_of_member};
 use form_refusal::built;
 pub use form_refusal::Refusal;
-pub use overload::{overloads, Overload};
-pub use refusal::{explain, NoOverload};
+pub use misfit::Misfit;
+pub use overload::{functions, is_function, overloads, Overload};
+pub use refusal::{explain, Explanation, Mismatch, NoOverload};
 pub use resolve::{resolve_binary_op, resolve_builtin_fn, resolve_ctor, resolve_unary_op};
 pub use resolve::{type_binary_op, type_builtin_fn, type_ctor, type_unary_op};
 pub use statements::{assign, assign_by, construct_array, construct_array_of, construct_struct};
-pub use statements::{declare, discard, fit, increment, initialized_variable};
-pub use statements::{override_without_value, switch_type, variable, Declaration};
+pub use statements::{condition, declare, discard, fit, increment, initialized_variable};
+pub use statements::{override_without_value, return_value, switch_type, variable, Declaration};
 
 /// An operand of an operator, or an argument of a call.
 #[derive(Clone, Debug, PartialEq, Eq, Hash)]
@@ -104,8 +110,8 @@ impl Operand {
     ///
     /// let one = Operand::constant(Type::AbstractInt);
     /// let shifted = |by| type_binary_op(ShiftLeft, &one, &by);
-    /// assert_eq!(shifted(Operand::constant(Type::U32)), Ok(Type::AbstractInt));
-    /// assert_eq!(shifted(Operand::new(Type::U32)), Ok(Type::I32));
+    /// assert_eq!(shifted(Operand::constant(Type::U32)), Ok(one.clone()));
+    /// assert_eq!(shifted(Operand::new(Type::U32)), Ok(Operand::new(Type::I32)));
     /// ```
     pub fn constant(ty: Type) -> Operand {
         Operand { ty, is_constant: true, referent: Referent::Whole }
@@ -170,8 +176,8 @@ pub struct Resolution {
     pub overload: usize,
     /// The types to which the operands convert, in order. With a template, its type stands first.
     pub parameters: Vec<Type>,
-    /// The type of the result, or None for a call without a value.
-    pub result: Option<Type>,
+    /// The result, or None for a call without a value.
+    pub result: Option<Operand>,
 }
 
 /// What is called. It displays as the operator or the name.
@@ -183,7 +189,7 @@ pub enum Callee {
     Binary(BinaryOperator),
     /// A built-in function.
     Function(String),
-    /// A constructor: `f32`, `vec3`, `mat2x2`, .. For `vec3f` ask as for `vec3<f32>`: aliases have no overloads.
+    /// A constructor: `f32`, `vec3`, `mat2x2`, .. An alias has no overloads of its own: `vec3f` is `vec3` with the template `f32`.
     Constructor(String),
 }
 

@@ -37,10 +37,8 @@ enum class Rules { standard, ported };
 
 namespace detail {
 
-using Call = std::uint8_t(const std::uint8_t *, std::size_t, std::uint8_t *, std::size_t, std::size_t *);
-
 /* Makes a call, and once more with a longer buffer if its text doesn't fit. */
-inline Result ask(Call *call, std::string_view request) {
+template <class Call> Result ask(Call call, std::string_view request) {
     constexpr std::size_t usual = 256;
     const char *bytes = request.empty() ? "" : request.data();
     std::string buffer(usual, '\0');
@@ -72,6 +70,14 @@ inline Result answer(std::string_view request, Rules rules = Rules::standard) {
 
 /* The layouts of a WGSL text as JSON, whose fields docs/USING.md names. */
 inline Result source_layout(std::string_view text) { return detail::ask(wgsl_source_layout, text); }
+
+enum class Language { c = WGSL_C, rust = WGSL_RUST, numpy = WGSL_NUMPY, typescript = WGSL_TYPESCRIPT };
+
+/* The structs of a WGSL text as code; if it has errors, Status::ruled_out with the code of the structs that have none. */
+inline Result source_code(std::string_view text, Language language) {
+    auto call = [language](auto... arguments) { return wgsl_source_code(arguments..., static_cast<std::uint8_t>(language)); };
+    return detail::ask(call, text);
+}
 
 /* The version of the library that is linked. */
 inline std::string_view version() { return wgsl_version(); }

@@ -31,12 +31,20 @@ export class Refused extends Error {
 
 /** A WGSL text with errors. */
 export class SourceError extends Error {
-  constructor(layouts) {
+  constructor(layouts, text) {
     const [{ line, column, message }] = layouts.errors, more = layouts.errors.length - 1;
     super(`line ${line}, column ${column}: ${message}${more ? `, and ${more} more` : ""}`);
     this.name = "SourceError";
     this.errors = layouts.errors;
     Object.defineProperty(this, "layouts", { value: layouts }); // not enumerable: who prints the error sees the errors alone
+    this.#text = text;
+  }
+
+  #text;
+
+  /** The code of the structs that have no error. */
+  code(language) {
+    return codeOf(this.#text, language);
   }
 }
 
@@ -85,25 +93,25 @@ const LENGTH = 8; // in front of the request stands the length of the answer
 const SHORTEST = 4 * PAGE;
 
 /** What a call answers to a text: its status, and the text that it writes. */
-function ask(name, text) {
+function ask(name, text, language) {
   if (typeof text !== "string") throw new TypeError("wgsl-types-proved: a string is wanted");
   if (!text.isWellFormed()) throw new TypeError("wgsl-types-proved: the text has half of a surrogate pair");
   if (wasm === null) throw new Error("wgsl-types-proved: call `await init()` first");
   const request = encoder.encode(text);
   try {
-    return answerOf(name, request);
+    return answerOf(name, request, language);
   } catch (cause) {
     restart(); // a call that trapped may have left anything
     throw new RangeError(`wgsl-types-proved: 32 bits of memory are too few for the answer (${cause.message})`, { cause });
   }
 }
 
-function answerOf(name, request) {
+function answerOf(name, request, language) {
   const start = LENGTH + request.length;
   for (let wanted = SHORTEST; ; ) {
     ensureRoom(start + wanted);
     new Uint8Array(wasm.memory.buffer, room.at + LENGTH, request.length).set(request);
-    const buffer = room.at + start, status = wasm[name](room.at + LENGTH, request.length, buffer, room.size - start, room.at);
+    const buffer = room.at + start, status = wasm[name](room.at + LENGTH, request.length, buffer, room.size - start, room.at, language);
     const length = new DataView(wasm.memory.buffer).getUint32(room.at, true);
     if (status === Status.NO_ROOM) wanted = length;
     else if (status === Status.OUT_OF_MEMORY) throw new RangeError("out of memory");
@@ -152,13 +160,29 @@ export function version() {
 
 /** The layouts of a WGSL text. Throws `SourceError` if it has errors. */
 export function layouts(text) {
-  const { structs, variables, overrides, entryPoints, errors, findings } = JSON.parse(ask("wgsl_source_layout", text).text);
+  const { structs, leftOut, variables, overrides, entryPoints, errors, findings } = JSON.parse(ask("wgsl_source_layout", text).text);
   const starts = startsOfLines(text), told = { structs, variables, overrides, entryPoints, errors, findings };
   for (const place of Object.values(told).flat()) place.index = indexOfPlace(starts, place);
+  for (const { end } of [...errors, ...findings]) end.index = indexOfPlace(starts, end);
+  told.leftOut = leftOut;
   for (const struct of structs) for (const member of struct.members) member.index = indexOfPlace(starts, member);
   linkStructs(structs, variables);
-  if (errors.length) throw new SourceError(told);
+  if (errors.length) throw new SourceError(told, text);
   return told;
+}
+
+const LANGUAGES = ["c", "rust", "numpy", "typescript"]; // by their numbers in wgsl.h
+
+/** The structs of a WGSL text as code in a language. Throws `SourceError` if the text has errors. */
+export function code(text, language) {
+  layouts(text);
+  return codeOf(text, language);
+}
+
+function codeOf(text, language) {
+  const number = LANGUAGES.indexOf(language);
+  if (number < 0) throw new RangeError(`wgsl-types-proved: there is no language ${language}: it is ${LANGUAGES.join(", ")}`);
+  return ask("wgsl_source_code", text, number).text;
 }
 
 /** Where the lines of a text begin, as WGSL ends them. */

@@ -26,7 +26,11 @@ export class SourceError extends Error {
   readonly errors: Message[];
   /** What has a layout all the same. */
   readonly layouts: Layouts;
+  /** The code of that, as `code` writes it. */
+  code(language: Language): string;
 }
+
+export type Language = "c" | "rust" | "numpy" | "typescript";
 
 /** Answers a request, as `unary - vec 3 f32`, by WGSL's own overloads. Throws `Unreadable` or `Refused`. */
 export function standardAnswer(request: string): string;
@@ -40,9 +44,14 @@ export function explain(request: string): string | null;
 /** The layouts of a WGSL text. Throws `SourceError` if it has errors. */
 export function layouts(text: string): Layouts;
 
+/** The structs of a WGSL text as code, which checks each offset and size in C, Rust and numpy. Throws `SourceError` if the text has errors. */
+export function code(text: string, language: Language): string;
+
 /** What a text has, each in its order. */
 export interface Layouts {
   structs: StructLayout[];
+  /** The names of the structs that have an error, or use what has one. */
+  leftOut: string[];
   variables: Variable[];
   overrides: Override[];
   entryPoints: EntryPoint[];
@@ -134,6 +143,8 @@ export interface EntryPoint extends Place {
 }
 
 export interface Message extends Place {
+  /** The end of the word that stands at the place. */
+  end: Place;
   /** The name of what is wrong. */
   kind: string;
   message: string;

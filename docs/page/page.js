@@ -1,18 +1,17 @@
 // The page: a text on the left, what it lays out on the right, and the calculator below.
-import { SourceError, layouts } from "wgsl-types-proved";
+import { SourceError, code, layouts } from "wgsl-types-proved";
 import { hashOf, stateOf } from "page/address";
 import { answersTo } from "page/calculator";
 import { newBrokenCard, newCard, newNote, spaceOf, typed } from "page/card";
 import { colored } from "page/colors";
 import { counted, h, replaceChildren } from "page/dom";
 import { examples, tries } from "page/examples";
-import { toC, toNumpy, toRust, toTypeScript } from "page/forms";
 import { follow, showProblems } from "page/problems";
 import { foreignOf, leftOut } from "page/wgsl";
 
 const at = (id) => document.getElementById(id);
 const source = at("source"), request = at("request");
-const LANGUAGES = { c: ["C", toC], rust: ["Rust", toRust], numpy: ["numpy", toNumpy], typescript: ["TypeScript", toTypeScript] };
+const LANGUAGES = { c: "C", rust: "Rust", numpy: "numpy", typescript: "TypeScript" };
 const SAVED_AFTER = 400, DRAWN_AFTER = 120; // milliseconds without a key
 const DRAWN_AT_ONCE = 4; // cards
 const NONE = { count: 0, structs: [] }; // left out
@@ -123,14 +122,24 @@ function showCode() {
     tab.tabIndex = isShown ? 0 : -1;
   }
   at("code-text").setAttribute("aria-labelledby", `tab-${language}`);
-  at("copy-code").textContent = `Copy ${LANGUAGES[language][0]}`;
+  at("copy-code").textContent = `Copy ${LANGUAGES[language]}`;
   if (codeIsNear) writeCode();
   else codeIsOld = true;
 }
 
 function writeCode() {
   codeIsOld = false;
-  at("code-text").replaceChildren(...colored(LANGUAGES[language][1](told)));
+  at("code-text").replaceChildren(...colored(codeOf(source.value)));
+}
+
+/** The code of what the text lays out, errors or not. */
+function codeOf(text) {
+  try {
+    return code(text.toWellFormed(), language);
+  } catch (error) {
+    if (error instanceof SourceError) return error.code(language);
+    throw error;
+  }
 }
 
 function choose(name) {
@@ -237,7 +246,7 @@ function addTabs() {
     choose(names[(names.indexOf(language) + step + names.length) % names.length]);
     at(`tab-${language}`).focus();
   });
-  at("copy-code").addEventListener("click", () => copy(LANGUAGES[language][1](told), LANGUAGES[language][0]));
+  at("copy-code").addEventListener("click", () => copy(codeOf(source.value), LANGUAGES[language]));
   new IntersectionObserver((entries) => {
     codeIsNear = entries.at(-1).isIntersecting;
     if (codeIsNear && codeIsOld) writeCode();

@@ -5,10 +5,10 @@ const SHOWN_ROWS = 7; // of a member; more are folded
 export const UNFOLDED_ROWS = 512;
 const SCALAR_SIZES = { bool: 4, i32: 4, u32: 4, f32: 4, f16: 2, i64: 8, u64: 8, f64: 8 };
 
-export const scalarOf = (type) => (type.component ?? type).name;
+const scalarOf = (type) => (type.component ?? type).name;
 
 /** How many bytes a type takes; a runtime-sized array those of one element. */
-export function sizeOf(type) {
+function sizeOf(type) {
   switch (type.kind) {
     case "struct": return type.struct.size;
     case "array": return (type.count ?? 1) * type.stride;
@@ -19,7 +19,7 @@ export function sizeOf(type) {
 }
 
 /** Elements or columns: how many of which type, and how far apart. */
-export function layersOf(type) {
+function layersOf(type) {
   if (type.kind === "array") return { count: type.count ?? 1, inner: type.element, stride: type.stride };
   return { count: type.columns, inner: { kind: "vector", count: type.rows, component: type.component }, stride: type.stride };
 }

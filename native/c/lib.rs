@@ -5,7 +5,7 @@ use std::slice::{from_raw_parts, from_raw_parts_mut};
 use wgsl_types_proved::library;
 
 macro_rules! export {
-    ($($name:ident: $call:path;)*) => {
+    ($($name:ident($($more:ident: $type:ty)?): $call:path;)*) => {
         $(
             /// As `wgsl.h` says.
             ///
@@ -19,20 +19,22 @@ macro_rules! export {
                 buffer: *mut u8,
                 buffer_len: usize,
                 text_len: *mut usize,
+                $($more: $type,)?
             ) -> u8 {
                 let (request, buffer) = (from_raw_parts(request, request_len), from_raw_parts_mut(buffer, buffer_len));
-                $call(request, buffer, &mut *text_len)
+                $call(request, buffer, &mut *text_len $(, $more)?)
             }
         )*
     };
 }
 
 export! {
-    wgsl_answer: library::answer;
-    wgsl_explain: library::explain;
-    wgsl_standard_answer: library::standard_answer;
-    wgsl_standard_explain: library::standard_explain;
-    wgsl_source_layout: library::source_layout;
+    wgsl_answer(): library::answer;
+    wgsl_explain(): library::explain;
+    wgsl_standard_answer(): library::standard_answer;
+    wgsl_standard_explain(): library::standard_explain;
+    wgsl_source_layout(): library::source_layout;
+    wgsl_source_code(language: u8): library::source_code;
 }
 
 const VERSION: &str = concat!(env!("CARGO_PKG_VERSION"), "\0");

@@ -1,9 +1,10 @@
 //! Makes plain Rust of the proved sources: `crates/*/src/**/*.rt` without their contracts, as modules of one crate, in
 //! cargo's `OUT_DIR`. `rules.rs` says what is left out and what is replaced. All else stays as it is, byte by byte,
-//! comments too. If no rule knows a construct, the build fails and names its file and line.
+//! comments too. If no rule knows a construct, the build fails and names its file and line. `lists.rs` makes lists of names.
 
 mod crates;
 mod derives;
+mod lists;
 mod names;
 mod rules;
 mod source;
@@ -46,7 +47,7 @@ fn erase_all() -> Result<(), Box<dyn Error>> {
     Ok(())
 }
 
-/// Writes the Rust source of each file.
+/// Writes the Rust source of each file, and the lists of names.
 fn write_all(files: &[File], folder: &Path) -> Result<(), Box<dyn Error>> {
     let paths: Vec<String> = files.iter().map(|file| file.path.display().to_string()).collect();
     let (mut methods, mut written_out) = (HashSet::new(), HashSet::new());
@@ -57,12 +58,15 @@ fn write_all(files: &[File], folder: &Path) -> Result<(), Box<dyn Error>> {
         written_out.extend(derives::written_out(&source));
         sources.push(source);
     }
-    for (file, source) in files.iter().zip(sources) {
+    let mut lists = String::new();
+    for ((file, path), source) in files.iter().zip(&paths).zip(sources) {
         let project = Project { name: &file.of, methods: &methods, written_out: &written_out };
         let made = erase(source, &project).map_err(|refusal| refusal.to_string())?;
+        lists += &lists::lists(path, &made).map_err(|refusal| refusal.to_string())?;
         let path = folder.join(&file.made);
         fs::create_dir_all(path.parent().unwrap_or(folder))?;
         fs::write(path, made)?;
     }
+    fs::write(folder.join("lists.rs"), lists)?;
     Ok(())
 }

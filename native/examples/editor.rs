@@ -7,9 +7,9 @@ mod parser;
 use parser::parse;
 use std::collections::HashMap;
 use std::ops::Range;
-use wgsl_types_proved::builtin::is_ctor;
 use wgsl_types_proved::standard::{
-    overloads, type_binary_op, type_builtin_fn, type_ctor, type_unary_op, NoOverload, Operand,
+    is_function, overloads, type_binary_op, type_builtin_fn, type_ctor, type_unary_op, NoOverload,
+    Operand,
 };
 use wgsl_types_proved::syntax::{BinaryOperator as Binary, UnaryOperator as Unary};
 use wgsl_types_proved::Type;
@@ -39,35 +39,29 @@ struct Diagnostic {
 struct Scope(HashMap<&'static str, Operand>);
 
 impl Scope {
-    /// The type of an expression, and whether it is a const-expression: if all operands are.
+    /// What an expression is as an operand.
     fn operand(&self, expr: &Expr) -> Result<Operand, Diagnostic> {
-        let (ty, operands) = match &expr.kind {
+        let found = match &expr.kind {
             Kind::Literal(ty) => return Ok(Operand::constant(ty.clone())),
             Kind::Variable(name) => return self.variable(expr, name),
             Kind::Unary(operator, operand) => {
-                let operand = self.operand(operand)?;
-                (type_unary_op(*operator, &operand).map(Some), vec![operand])
+                type_unary_op(*operator, &self.operand(operand)?).map(Some)
             }
             Kind::Binary(operator, lhs, rhs) => {
-                let (lhs, rhs) = (self.operand(lhs)?, self.operand(rhs)?);
-                (type_binary_op(*operator, &lhs, &rhs).map(Some), vec![lhs, rhs])
+                type_binary_op(*operator, &self.operand(lhs)?, &self.operand(rhs)?).map(Some)
             }
             Kind::Call { name, template, arguments } => {
                 let arguments: Result<Vec<Operand>, _> =
                     arguments.iter().map(|argument| self.operand(argument)).collect();
                 let (template, arguments) = (template.as_ref(), arguments?);
-                let found = match is_ctor(name) {
-                    true => type_ctor(name, template, &arguments).map(Some),
-                    false => type_builtin_fn(name, template, &arguments),
-                };
-                (found, arguments)
+                match is_function(name) {
+                    true => type_builtin_fn(name, template, &arguments),
+                    false => type_ctor(name, template, &arguments).map(Some),
+                }
             }
         };
-        let is_constant = operands.iter().all(|operand| operand.is_constant);
-        match ty.map_err(|refused| refused_at(expr, &refused))? {
-            Some(ty) => Ok(Operand { is_constant, ..Operand::new(ty) }),
-            None => Err(diagnostic(expr, "the call has no value".to_string())),
-        }
+        let found = found.map_err(|refused| refused_at(expr, &refused))?;
+        found.ok_or_else(|| diagnostic(expr, "the call has no value".to_string()))
     }
 
     fn variable(&self, expr: &Expr, name: &str) -> Result<Operand, Diagnostic> {
@@ -81,7 +75,8 @@ fn diagnostic(expr: &Expr, message: String) -> Diagnostic {
 }
 
 fn refused_at(expr: &Expr, refused: &NoOverload) -> Diagnostic {
-    Diagnostic { explanations: refused.explanations(), ..diagnostic(expr, refused.to_string()) }
+    let explanations = refused.explanations().iter().map(|why| why.to_string()).collect();
+    Diagnostic { explanations, ..diagnostic(expr, refused.to_string()) }
 }
 
 impl Expr {
@@ -162,7 +157,7 @@ const VARIABLES: [(&str, &str); 14] = [
     ("seed", "u32"),
     ("map", "texture_2d<f32>"),
     ("shadows", "texture_depth_2d"),
-    ("smooth", "sampler"),
+    ("linear", "sampler"),
     ("comparing", "sampler_comparison"),
 ];
 
@@ -173,19 +168,19 @@ const EXPRESSIONS: [&str; 26] = [
     "albedo + (1 - albedo) * pow(clamp(1 - ‸cosine, 0, 1), 5)",
     "albedo + pow(clamp(1 - albedo, vec3(0), vec3(1)), 5)",
     "alpha * alpha / (PI * pow(cosine * cosine * (alpha * alpha - 1) + 1, ‸2))",
-    "alpha ^ 2 / PI",
+    "(alpha ^ 2) / PI",
     "fract(sin(dot(uv, vec2(12.9898, 78.‸233))) * 43758.5453)",
     "fract(sin(dot(uv, vec3(12.9898, 78.233, 1))) * 43758.5453)",
-    "(seed ^ seed >> ‸16u) * 2246822519u",
-    "(seed ^ seed >> 16i) * 2246822519u",
+    "(seed ^ (seed >> ‸16u)) * 2246822519u",
+    "(seed ^ (seed >> 16i)) * 2246822519u",
     "color * (2.51 * color + 0.03) / (color * (2.43 * color + 0.59) + 0.14)",
     "color * (2.51 * color + 1u)",
     "select(color, pow(‸color, vec3(1 / 2.2)), cosine < 0.5)",
     "select(color, pow(color, 1 / 2.2), cosine < 0.5)",
-    "textureSample(map, smooth, ‸uv) * vec4f(albedo, 1)",
-    "textureSample(map, uv, smooth)",
+    "textureSample(map, linear, ‸uv) * vec4f(albedo, 1)",
+    "textureSample(map, uv, linear)",
     "textureSampleCompare(shadows, comparing, uv, ‸cosine)",
-    "textureSampleCompare(shadows, smooth, uv, cosine)",
+    "textureSampleCompare(shadows, linear, uv, cosine)",
     "-normal",
     "-seed",
     "sqrt(2)",

@@ -4,9 +4,9 @@ use std::collections::HashMap;
 use std::error::Error;
 use std::fmt;
 use wgsl_types_proved::standard::{
-    address_of, assign, assign_by, construct_struct, increment, indirection, initialized_variable,
-    type_binary_op, type_builtin_fn, type_ctor, type_of_index, type_of_member, type_unary_op,
-    Operand,
+    address_of, assign, assign_by, construct, increment, indirection, initialized_variable,
+    is_function, type_binary_op, type_builtin_fn, type_ctor, type_of_index, type_of_member,
+    type_unary_op, Operand,
 };
 use wgsl_types_proved::syntax::AddressSpace::{self, Function};
 use wgsl_types_proved::syntax::AssignmentOperator::{PlusEqual, TimesEqual};
@@ -44,17 +44,9 @@ impl Scope {
             Name(name) => self.variables.get(name).cloned().ok_or(format!("no name {name}"))?,
             Unary(AddressOf, x) => address_of(&self.type_of(x)?)?,
             Unary(Indirection, x) => indirection(&self.type_of(x)?)?,
-            Unary(operator, x) => {
-                let x = self.type_of(x)?;
-                Operand {
-                    is_constant: x.is_constant,
-                    ..Operand::new(type_unary_op(*operator, &x)?)
-                }
-            }
+            Unary(operator, x) => type_unary_op(*operator, &self.type_of(x)?)?,
             Binary(operator, x, y) => {
-                let (x, y) = (self.type_of(x)?, self.type_of(y)?);
-                let is_constant = x.is_constant && y.is_constant;
-                Operand { is_constant, ..Operand::new(type_binary_op(*operator, &x, &y)?) }
+                type_binary_op(*operator, &self.type_of(x)?, &self.type_of(y)?)?
             }
             Call(name, template, arguments) => self.call(name, template.as_ref(), arguments)?,
             Member(x, name) => type_of_member(&self.type_of(x)?, name)?,
@@ -64,13 +56,13 @@ impl Scope {
 
     fn call(&self, name: &str, template: Option<&Type>, arguments: &[Expr]) -> Typed<Operand> {
         let arguments: Vec<_> = arguments.iter().map(|x| self.type_of(x)).collect::<Typed<_>>()?;
-        let ty = match self.structs.get(name) {
-            Some(structure) => construct_struct(structure, &arguments)?,
-            None if name.starts_with("vec") => type_ctor(name, template, &arguments)?,
-            None => type_builtin_fn(name, template, &arguments)?.ok_or("no value")?,
-        };
-        let is_constant = arguments.iter().all(|x| x.is_constant);
-        Ok(Operand { is_constant, ..Operand::new(ty) })
+        Ok(match self.structs.get(name) {
+            Some(structure) => construct(structure, &arguments)?,
+            None if is_function(name) => {
+                type_builtin_fn(name, template, &arguments)?.ok_or("no value")?
+            }
+            None => type_ctor(name, template, &arguments)?,
+        })
     }
 
     /// `var name: ty = value;`, or without a type.

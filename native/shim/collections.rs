@@ -4,7 +4,7 @@
 use super::std::alloc::{AllocError, Global};
 use alloc::boxed::Box;
 use alloc::collections::{BTreeMap, BTreeSet};
-use alloc::string::{String, ToString};
+use alloc::string::String;
 use alloc::vec::Vec;
 use core::fmt;
 
@@ -143,17 +143,6 @@ impl<T: Ord> RattleSet<T> for BTreeSet<T> {
     }
 }
 
-pub trait RattleToString {
-    fn rattle_to_string(&self, alloc: Global) -> Made<String>;
-}
-
-impl<T: fmt::Display + ?Sized> RattleToString for T {
-    #[inline(always)]
-    fn rattle_to_string(&self, _: Global) -> Made<String> {
-        Ok(self.to_string())
-    }
-}
-
 #[cfg(test)]
 mod tests {
     use super::*;
@@ -167,7 +156,7 @@ mod tests {
         let mut text = String::rattle_from_str(Global, "a").unwrap();
         assert_eq!((text.rattle_push_str("bc"), text.rattle_push('é')), (Ok(()), Ok(())));
         assert_eq!(write!(text, "{:>3}", 4), Ok(()));
-        assert_eq!((text.as_str(), 7.rattle_to_string(Global)), ("abcé  4", Ok("7".to_string())));
+        assert_eq!(text, "abcé  4");
     }
 
     #[test]

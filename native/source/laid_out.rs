@@ -1,19 +1,22 @@
 //! What the proved sources read of a module, as the values that users see.
 
-use super::{EntryPoint, Layouts, Member, Message, Override, Struct, Variable};
+use super::type_tree::{self, tree_of};
+use super::{EntryPoint, Layouts, Member, Message, Override, Resource, Struct, Variable};
 use crate::proved::wgsl_report::lines::Lines;
-use crate::proved::wgsl_report::message::{self, messages_of, write_fault, Severity};
+use crate::proved::wgsl_report::message::{self, messages_of, Severity};
 use crate::proved::wgsl_report::rules::findings_of;
 use crate::proved::wgsl_report::told;
-use crate::proved::wgsl_report::type_text::type_text;
 use crate::proved::wgsl_source::entry::{self, WorkgroupExtent};
 use crate::proved::wgsl_source::fault::{Cause, Fault};
-use crate::proved::wgsl_source::measured::MeasuredType;
+use crate::proved::wgsl_source::measured::TypeKind;
 use crate::proved::wgsl_source::module::{read_module, Module};
 use crate::proved::wgsl_source::tokens::token::tokens;
 use crate::proved::wgsl_source::{structure, variable};
 use crate::shim::always;
 use crate::shim::std::alloc::Global;
+use crate::syntax::{AccessMode, AddressSpace};
+use crate::ty::Type;
+use alloc::collections::BTreeMap;
 use alloc::string::{String, ToString};
 use alloc::vec::Vec;
 
@@ -31,11 +34,10 @@ pub(super) fn layouts(bytes: &[u8]) -> Layouts {
     }
 }
 
-/// What is wrong at a place of a text.
-pub(crate) fn fault_text(text: &str, fault: Fault) -> String {
-    let mut output = String::new();
-    always(write_fault(&mut output, text, fault));
-    output
+/// The types that the text of a module declares.
+pub(super) fn types(text: &str) -> BTreeMap<String, Type> {
+    let tokens = always(tokens(Global, text.as_bytes()));
+    type_tree::types(&always(read_module(Global, text, &tokens)))
 }
 
 /// A module that is read, and the lines of its text.
@@ -58,16 +60,13 @@ impl<'t> Reading<'t> {
         let structs = module.in_text.iter().filter_map(|index| module.structs.get(*index));
         Layouts {
             structs: structs.map(|of| self.structure(of)).collect(),
+            left_out: module.left_out.iter().map(|name| name.to_string()).collect(),
             variables: module.variables.iter().map(|of| self.variable(of)).collect(),
             overrides: module.overrides.iter().map(|of| self.constant(of)).collect(),
             entry_points: module.entry_points.iter().map(|of| self.entry_point(of)).collect(),
             errors: errors.into_iter().map(|of| self.message(of)).collect(),
             findings: findings.into_iter().map(|of| self.message(of)).collect(),
         }
-    }
-
-    fn type_text(&self, ty: MeasuredType) -> String {
-        always(type_text(Global, &self.module, ty))
     }
 
     fn structure(&self, of: &structure::Struct<'_>) -> Struct {
@@ -89,7 +88,7 @@ impl<'t> Reading<'t> {
         Member {
             name: of.name.to_string(),
             place: self.lines.place(of.place),
-            ty: self.type_text(of.ty),
+            ty: tree_of(&self.module, of.ty),
             offset: of.offset,
             size: of.size,
             align: of.align,
@@ -102,11 +101,12 @@ impl<'t> Reading<'t> {
         Variable {
             name: of.name.to_string(),
             place: self.lines.place(of.place),
-            ty: self.type_text(of.ty),
+            ty: tree_of(&self.module, of.ty),
             group: of.group,
             binding: of.binding,
             space: of.space,
             access: of.access,
+            resource: resource_of(of),
             size: of.ty.size,
             min_binding_size: told::min_binding_size(&self.module, of),
         }
@@ -136,13 +136,23 @@ impl<'t> Reading<'t> {
     }
 
     fn message(&self, of: &message::Message) -> Message {
-        let place = self.lines.place(of.at);
         Message {
-            line: place.line,
-            column: place.column,
-            utf16_column: place.utf16_column,
+            start: self.lines.place(of.at),
+            end: self.lines.end_of_word(of.at),
             kind: of.kind.clone(),
             text: of.text.clone(),
         }
+    }
+}
+
+fn resource_of(variable: &variable::Variable<'_>) -> Option<Resource> {
+    match (variable.space, variable.access, variable.ty.kind) {
+        (AddressSpace::Uniform, _, _) => Some(Resource::UniformBuffer),
+        (AddressSpace::Storage, AccessMode::Read, _) => Some(Resource::ReadOnlyStorageBuffer),
+        (AddressSpace::Storage, _, _) => Some(Resource::StorageBuffer),
+        (AddressSpace::Handle, _, TypeKind::Sampler(of)) => Some(Resource::Sampler(of)),
+        (AddressSpace::Handle, _, TypeKind::Texture(of)) => Some(Resource::Texture(of)),
+        (AddressSpace::Handle, _, _) => Some(Resource::Other),
+        _ => None,
     }
 }

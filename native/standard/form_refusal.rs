@@ -39,6 +39,10 @@ pub enum Refusal {
     Initialized(AddressSpace),
     /// An address space, and an access mode that its variables can't have.
     AccessMode(AddressSpace, AccessMode),
+    /// The type of a condition, which should be `bool`.
+    NotCondition(Type),
+    /// The type that a function returns, and the type of the value.
+    NotReturned(Type, Type),
     /// A type, and the type to which it doesn't convert.
     Conversion(Type, Type),
     /// The type written, and the type that the reference refers to.
@@ -80,6 +84,8 @@ impl From<Proved<'_>> for Refusal {
             Proved::NotInSpace(space, t) => Refusal::NotInSpace(space, built(t)),
             Proved::Initialized(space) => Refusal::Initialized(space),
             Proved::AccessMode(space, access) => Refusal::AccessMode(space, access),
+            Proved::NotCondition(t) => Refusal::NotCondition(built(t)),
+            Proved::NotReturned(expected, t) => Refusal::NotReturned(built(expected), built(t)),
             Proved::Conversion(t, to) => Refusal::Conversion(built(t), built(to)),
             Proved::WriteRefType(t, to) => Refusal::WriteRefType(built(t), built(to)),
             Proved::Unary(operator, t) => Refusal::Unary(operator, built(t)),
@@ -110,6 +116,8 @@ impl Refusal {
             Refusal::NotInSpace(space, t) => Proved::NotInSpace(*space, of(t)),
             Refusal::Initialized(space) => Proved::Initialized(*space),
             Refusal::AccessMode(space, access) => Proved::AccessMode(*space, *access),
+            Refusal::NotCondition(t) => Proved::NotCondition(of(t)),
+            Refusal::NotReturned(expected, t) => Proved::NotReturned(of(expected), of(t)),
             Refusal::Conversion(t, to) => Proved::Conversion(of(t), of(to)),
             Refusal::WriteRefType(t, to) => Proved::WriteRefType(of(t), of(to)),
             Refusal::Unary(operator, t) => Proved::Unary(*operator, of(t)),

@@ -1,7 +1,9 @@
 //! The overloads of a name, as texts.
 
 use super::Called;
+use crate::proved::wgsl_standard::callee;
 use crate::proved::wgsl_standard::signature::signatures;
+use crate::proved::wgsl_tables::names::{FUNCTIONS, TEMPLATE_FUNCTIONS};
 use crate::shim::always;
 use crate::shim::std::alloc::Global;
 use alloc::string::String;
@@ -102,4 +104,29 @@ pub fn overloads(name: &str) -> Vec<Overload> {
     ];
     let all = callees.into_iter().flatten().flat_map(|callee| always(signatures(Global, callee)));
     all.map(|signature| Overload { text: signature.to_string() }).collect()
+}
+
+/// The built-in functions that have overloads.
+///
+/// ```
+/// use wgsl_types_proved::standard::functions;
+///
+/// assert!(functions().any(|name| name == "dpdx") && functions().any(|name| name == "bitcast"));
+/// ```
+pub fn functions() -> impl Iterator<Item = &'static str> {
+    let with_template = TEMPLATE_FUNCTIONS.iter().map(|row| row.0);
+    FUNCTIONS.iter().map(|row| row.0).chain(with_template)
+}
+
+/// Whether a built-in function has the name.
+///
+/// ```
+/// use wgsl_types_proved::standard::is_function;
+///
+/// assert!(is_function("bitcast") && !is_function("vec3"));
+/// ```
+pub fn is_function(name: &str) -> bool {
+    [false, true]
+        .iter()
+        .any(|template| callee::overloads(Called::Function(name), *template).is_some())
 }

@@ -1,7 +1,8 @@
-//! Declarations, assignments and lists of values.
+//! Declarations, assignments, conditions, returned values, and lists of values.
 
 use super::expressions::built_form;
-use super::{built, with_operands, Operand, Refusal};
+use super::resolve::made_of;
+use super::{built, with_operands, Misfit, Operand, Refusal};
 use crate::proved::wgsl_forms as proved;
 use crate::shim::always;
 use crate::shim::std::alloc::Global;
@@ -184,8 +185,40 @@ pub fn increment(x: &Operand) -> Result<Type, Refusal> {
     Ok(copied(proved::assign::increment(&x.given())?))
 }
 
-/// Whether values are taken by parameters of these types (WGSL, "Function Call Expression"); with one type by `return`, and
-/// with `bool` as the condition of `if`, `for`, `while` and `break if`.
+/// The type of the condition of `if`, `for`, `while`, `break if` or `const_assert`, `bool` (WGSL, "Control Flow"). Refused by the
+/// load, or by [`Refusal::NotCondition`].
+///
+/// ```
+/// use wgsl_types_proved::standard::{condition, Operand};
+/// use wgsl_types_proved::Type;
+///
+/// assert_eq!(condition(&Operand::new("ref<private, bool, read_write>".parse()?)), Ok(Type::Bool));
+/// let refused = condition(&Operand::new(Type::U32)).unwrap_err();
+/// assert_eq!(refused.to_string(), "the condition must be `bool`, not `u32`");
+/// # Ok::<(), wgsl_types_proved::ty::SpellingError>(())
+/// ```
+pub fn condition(x: &Operand) -> Result<Type, Refusal> {
+    Ok(built(proved::flow::condition(&x.proved())?))
+}
+
+/// The type that a function returns, if `return x;` gives a value of it (WGSL, "Return Statement").
+///
+/// The first of these refuses: [`Refusal::NotConstructible`] of the type; the load; [`Refusal::NotReturned`] of a value that
+/// doesn't convert to it.
+///
+/// ```
+/// use wgsl_types_proved::standard::{return_value, Operand};
+/// use wgsl_types_proved::Type;
+///
+/// assert_eq!(return_value(&Operand::new(Type::AbstractInt), &Type::F32), Ok(Type::F32));
+/// let refused = return_value(&Operand::new(Type::U32), &Type::F32).unwrap_err();
+/// assert_eq!(refused.to_string(), "the returned value must be `f32`, not `u32`");
+/// ```
+pub fn return_value(x: &Operand, ty: &Type) -> Result<Type, Refusal> {
+    Ok(built(proved::flow::return_value(&x.proved(), ty)?))
+}
+
+/// Whether values are taken by parameters of these types (WGSL, "Function Call Expression").
 ///
 /// The first of these refuses: [`Refusal::NotConstructible`] of a parameter's type that is abstract, or neither
 /// constructible nor a pointer nor a handle; [`Refusal::ParamCount`]; for the first value that doesn't fit, its load or
@@ -197,14 +230,19 @@ pub fn increment(x: &Operand) -> Result<Type, Refusal> {
 ///
 /// let (one, x) = (Operand::new(Type::AbstractInt), Operand::new("ref<private, i32, read_write>".parse()?));
 /// assert_eq!(fit(&[one, x.clone()], &[Type::F32, Type::I32]), Ok(()));
-/// assert_eq!(fit(&[x], &[Type::Bool]), Err(Refusal::ParamType(Type::Bool, Type::I32)));
+/// let refused = fit(&[x.clone(), x], &[Type::I32, Type::Bool]).unwrap_err();
+/// assert_eq!(refused.refusal, Refusal::ParamType(Type::Bool, Type::I32));
+/// assert_eq!(refused.index, Some(1));
 /// # Ok::<(), wgsl_types_proved::ty::SpellingError>(())
 /// ```
-pub fn fit(values: &[Operand], types: &[Type]) -> Result<(), Refusal> {
-    with_operands(values.iter(), |values| Ok(proved::lists::fit(values, types)?))
+pub fn fit(values: &[Operand], types: &[Type]) -> Result<(), Misfit> {
+    with_operands(values.iter(), |values| {
+        proved::lists::fit(values, types)
+            .map_err(|refusal| Misfit::of_types(refusal.into(), values, |index| types.get(index)))
+    })
 }
 
-/// The type that the constructor of a struct makes: the struct (WGSL, "Value Constructor Built-in Functions"). Without values
+/// What the constructor of a struct makes: the struct (WGSL, "Value Constructor Built-in Functions"). Without values
 /// it is the zero value.
 ///
 /// The first of these refuses: [`Refusal::NotConstructible`], also of a type that is no struct;
@@ -217,15 +255,21 @@ pub fn fit(values: &[Operand], types: &[Type]) -> Result<(), Refusal> {
 ///
 /// let light = Type::from(StructType::new("Light", [("power", Type::F32), ("on", Type::Bool)]));
 /// let values = [Type::AbstractInt, Type::Bool].map(Operand::new);
-/// assert_eq!(construct_struct(&light, &values), Ok(light.clone()));
-/// let refused = construct_struct(&light, &values[..1]);
-/// assert_eq!(refused, Err(Refusal::ParamCount("Light".to_string(), 2, 1)));
+/// assert_eq!(construct_struct(&light, &values), Ok(Operand::new(light.clone())));
+/// let refused = construct_struct(&light, &values[..1]).unwrap_err();
+/// assert_eq!(refused.refusal, Refusal::ParamCount("Light".to_string(), 2, 1));
 /// ```
-pub fn construct_struct(ty: &Type, values: &[Operand]) -> Result<Type, Refusal> {
-    with_operands(values.iter(), |values| Ok(copied(proved::lists::construct_struct(ty, values)?)))
+pub fn construct_struct(ty: &Type, values: &[Operand]) -> Result<Operand, Misfit> {
+    with_operands(values.iter(), |values| match proved::lists::construct_struct(ty, values) {
+        Ok(ty) => Ok(made_of(values, copied(ty))),
+        Err(refusal) => Err(Misfit::of_types(refusal.into(), values, |index| match ty {
+            Type::Struct(s) => Some(&s.members.get(index)?.ty),
+            _ => None,
+        })),
+    })
 }
 
-/// The type that `array(x, y)` makes (WGSL, "Value Constructor Built-in Functions"): its elements have the common type of the
+/// What `array(x, y)` makes (WGSL, "Value Constructor Built-in Functions"): its elements have the common type of the
 /// values, which is abstract if each of theirs is.
 ///
 /// The first of these refuses: the load of a value; [`Refusal::Builtin`] without values, or if they have no common type;
@@ -236,15 +280,18 @@ pub fn construct_struct(ty: &Type, values: &[Operand]) -> Result<Type, Refusal> 
 /// use wgsl_types_proved::Type;
 ///
 /// let values = [Type::AbstractInt, Type::U32].map(Operand::new);
-/// assert_eq!(construct_array(&values), Ok(Type::array(Some(2), Type::U32)));
+/// assert_eq!(construct_array(&values), Ok(Operand::new(Type::array(Some(2), Type::U32))));
 /// let refused = construct_array(&[Type::I32, Type::U32].map(Operand::new)).unwrap_err();
 /// assert_eq!(refused.to_string(), "array elements are incompatible");
 /// ```
-pub fn construct_array(values: &[Operand]) -> Result<Type, Refusal> {
-    with_operands(values.iter(), |values| Ok(built(proved::array::construct_array(values)?)))
+pub fn construct_array(values: &[Operand]) -> Result<Operand, Misfit> {
+    with_operands(values.iter(), |values| match proved::array::construct_array(values) {
+        Ok(array) => Ok(made_of(values, built(array))),
+        Err(refusal) => Err(Misfit::of_elements(refusal.into(), values)),
+    })
 }
 
-/// The type that `array<T, N>(x, y)` makes (WGSL, "Value Constructor Built-in Functions"). Without values it is the zero value.
+/// What `array<T, N>(x, y)` makes (WGSL, "Value Constructor Built-in Functions"). Without values it is the zero value.
 ///
 /// The first of these refuses: [`Refusal::NotConstructible`] of the array, also without a count;
 /// [`Refusal::ParamCount`]; for the first value that doesn't fit `T`, its load or [`Refusal::ParamType`].
@@ -254,17 +301,21 @@ pub fn construct_array(values: &[Operand]) -> Result<Type, Refusal> {
 /// use wgsl_types_proved::Type;
 ///
 /// let one = [Operand::new(Type::AbstractInt)];
-/// assert_eq!(construct_array_of(&Type::F16, Some(1), &one), Ok(Type::array(Some(1), Type::F16)));
-/// let refused = construct_array_of(&Type::F16, Some(2), &one);
-/// assert_eq!(refused, Err(Refusal::ParamCount("array".to_string(), 2, 1)));
+/// let array = Operand::constant(Type::array(Some(1), Type::F16));
+/// assert_eq!(construct_array_of(&Type::F16, Some(1), &one), Ok(array));
+/// let refused = construct_array_of(&Type::F16, Some(2), &one).unwrap_err();
+/// assert_eq!(refused.refusal, Refusal::ParamCount("array".to_string(), 2, 1));
 /// ```
 pub fn construct_array_of(
     element: &Type,
     count: Option<usize>,
     values: &[Operand],
-) -> Result<Type, Refusal> {
+) -> Result<Operand, Misfit> {
     with_operands(values.iter(), |values| {
-        Ok(built(proved::array::construct_array_of(element, count, values)?))
+        match proved::array::construct_array_of(element, count, values) {
+            Ok(array) => Ok(made_of(values, built(array))),
+            Err(refusal) => Err(Misfit::of_types(refusal.into(), values, |_| Some(element))),
+        }
     })
 }
 
@@ -280,12 +331,15 @@ pub fn construct_array_of(
 ///
 /// let (one, two) = (Operand::new(Type::AbstractInt), Operand::constant(Type::U32));
 /// assert_eq!(switch_type(&one, &[two.clone()]), Ok(Type::U32));
-/// let refused = switch_type(&Operand::new(Type::I32), &[one, two]);
-/// assert_eq!(refused, Err(Refusal::Conversion(Type::U32, Type::I32)));
+/// let refused = switch_type(&Operand::new(Type::I32), &[one, two]).unwrap_err();
+/// assert_eq!(refused.refusal, Refusal::Conversion(Type::U32, Type::I32));
+/// assert_eq!(refused.index, Some(1));
 /// ```
-pub fn switch_type(selector: &Operand, cases: &[Operand]) -> Result<Type, Refusal> {
-    with_operands(cases.iter(), |cases| {
-        Ok(Type::from(proved::switch::switch_type(&selector.proved(), cases)?))
+pub fn switch_type(selector: &Operand, cases: &[Operand]) -> Result<Type, Misfit> {
+    let selector = selector.proved();
+    with_operands(cases.iter(), |cases| match proved::switch::switch_type(&selector, cases) {
+        Ok(scalar) => Ok(Type::from(scalar)),
+        Err(refusal) => Err(Misfit::of_cases(refusal.into(), &selector, cases)),
     })
 }
 

@@ -70,7 +70,9 @@ fn two_values_convert_to_their_common_type() {
     for (words, whole, inside) in [
         ("AbstractInt f32", "f32 f32", "f32 f32"),
         ("bool f32", "none", "none"),
+        ("f32 AbstractInt", "f32 f32", "f32 f32"),
         ("vec 2 AbstractInt f32", "none", "vec2<f32> f32"),
+        ("f32 vec 2 AbstractInt", "none", "f32 vec2<f32>"),
         (
             "array 18446744073709551615 AbstractInt vec 255 f32",
             "none",

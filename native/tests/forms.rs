@@ -8,25 +8,12 @@ use wgsl_types_proved::mem::StructLayout;
 use wgsl_types_proved::requests::{self, standard_answer};
 use wgsl_types_proved::standard::*;
 use wgsl_types_proved::syntax::{AddressSpace, AssignmentOperator, UnaryOperator};
+use wgsl_types_proved::ty::StructType;
 use wgsl_types_proved::Type;
 use words::Words;
 
 /// What no request asks, or a request whose answer has another form.
 const NO_REQUESTS: [&str; 1] = ["layout"];
-
-const ASSIGNMENTS: [AssignmentOperator; 11] = [
-    AssignmentOperator::Equal,
-    AssignmentOperator::PlusEqual,
-    AssignmentOperator::MinusEqual,
-    AssignmentOperator::TimesEqual,
-    AssignmentOperator::DivisionEqual,
-    AssignmentOperator::ModuloEqual,
-    AssignmentOperator::AndEqual,
-    AssignmentOperator::OrEqual,
-    AssignmentOperator::XorEqual,
-    AssignmentOperator::ShiftRightAssign,
-    AssignmentOperator::ShiftLeftAssign,
-];
 
 #[test]
 fn questions_are_answered() {
@@ -97,12 +84,13 @@ fn answer(words: &mut Words) -> Result<String, Refusal> {
         "var" => stored(words),
         "assign" => assigned(words),
         "increment" | "decrement" => increment(&words.operand()),
-        "construct" => construct_struct(&words.ty(), &words.operands()),
+        "construct" => typed(construct_struct(&words.ty(), &words.operands())),
         "ctor" => constructed_array(words),
-        "switch" => switch_type(&words.operand(), &words.operands()),
+        "switch" => Ok(switch_type(&words.operand(), &words.operands())?),
         "fit" => {
             let values = words.operands();
-            return fit(&values, &words.types()).map(|()| "fits".to_string());
+            fit(&values, &words.types())?;
+            return Ok("fits".to_string());
         }
         "layout" => return Ok(layout_text(words.ty())),
         form => panic!("`{form}` is no form"),
@@ -110,8 +98,8 @@ fn answer(words: &mut Words) -> Result<String, Refusal> {
     found.map(|ty| ty.to_string())
 }
 
-fn typed(found: Result<Operand, Refusal>) -> Result<Type, Refusal> {
-    found.map(|operand| operand.shown_type().clone())
+fn typed(found: Result<Operand, impl Into<Refusal>>) -> Result<Type, Refusal> {
+    found.map(|operand| operand.shown_type().clone()).map_err(Into::into)
 }
 
 fn memory_operator(words: &mut Words) -> Result<Operand, Refusal> {
@@ -145,14 +133,14 @@ fn stored(words: &mut Words) -> Result<Type, Refusal> {
 }
 
 fn assigned(words: &mut Words) -> Result<Type, Refusal> {
-    let word = words.next();
-    let x = words.operand();
-    let Some(operator) = ASSIGNMENTS.iter().find(|operator| operator.to_string() == word) else {
-        return discard(&x);
+    let operator = words.name::<AssignmentOperator>();
+    let Some(operator) = operator else {
+        assert!(words.take("_"));
+        return discard(&words.operand());
     };
-    let y = words.operand();
-    let found = assign_by(*operator, &x, &y);
-    if *operator == AssignmentOperator::Equal {
+    let (x, y) = (words.operand(), words.operand());
+    let found = assign_by(operator, &x, &y);
+    if operator == AssignmentOperator::Equal {
         assert_eq!(assign(&x, &y), found);
     }
     found
@@ -162,13 +150,13 @@ fn assigned(words: &mut Words) -> Result<Type, Refusal> {
 fn constructed_array(words: &mut Words) -> Result<Type, Refusal> {
     assert!(words.take("array"));
     if words.take("-") {
-        return construct_array(&words.operands());
+        return typed(construct_array(&words.operands()));
     }
     assert!(words.take("<") && words.take("t"));
     let element = words.ty();
     let count = if words.take("n") { words.name() } else { None };
     assert!(words.take(">"));
-    construct_array_of(&element, count, &words.operands())
+    typed(construct_array_of(&element, count, &words.operands()))
 }
 
 /// The layout as the file has it: the stride of the array at the end is the size of its one element.
@@ -198,6 +186,8 @@ fn variant(refusal: &Refusal) -> String {
         Refusal::NotInSpace(space, t) => format!("NotInSpace({space}, {t})"),
         Refusal::Initialized(space) => format!("Initialized({space})"),
         Refusal::AccessMode(space, access) => format!("AccessMode({space}, {access})"),
+        Refusal::NotCondition(t) => format!("NotCondition({t})"),
+        Refusal::NotReturned(expected, t) => format!("NotReturned({expected}, {t})"),
         Refusal::Conversion(t, to) => format!("Conversion({t}, {to})"),
         Refusal::WriteRefType(t, to) => format!("WriteRefType({t}, {to})"),
         Refusal::Unary(operator, t) => format!("Unary({operator}, {t})"),
@@ -206,5 +196,71 @@ fn variant(refusal: &Refusal) -> String {
         Refusal::ParamType(expected, t) => format!("ParamType({expected}, {t})"),
         Refusal::Builtin(text) => format!("Builtin({text})"),
         without_fields => format!("{without_fields:?}"),
+    }
+}
+
+/// A refused list names the value to blame, and none if it is no value's fault.
+#[test]
+fn misfits() {
+    let types = |texts: &str| -> Vec<Type> {
+        texts
+            .split("; ")
+            .filter(|text| !text.is_empty())
+            .map(|text| text.parse().unwrap())
+            .collect()
+    };
+    let operands =
+        |texts: &str| types(texts).into_iter().map(Operand::constant).collect::<Vec<_>>();
+    let index = |found: Result<Operand, Misfit>| found.unwrap_err().index;
+    let fitted = |values, parameters| fit(&operands(values), &types(parameters)).unwrap_err().index;
+    assert_eq!(fitted("i32; f32; i32", "i32; i32; i32"), Some(1));
+    assert_eq!(fitted("i32; u32; ref<private, i32, write>", "i32; u32; i32"), Some(2));
+    assert_eq!(fitted("i32; u32", "f32; AbstractInt"), Some(1));
+    assert_eq!(fitted("i32; u32", "i32"), None);
+
+    let s = Type::from(StructType::new("S", [("a", Type::F32), ("b", Type::U32)]));
+    assert_eq!(index(construct_struct(&s, &operands("AbstractInt; i32"))), Some(1));
+    assert_eq!(index(construct_struct(&s, &operands("f32"))), None);
+    assert_eq!(index(construct_struct(&Type::F32, &operands("f32"))), None);
+
+    for (values, blamed) in [
+        ("i32; i32; u32; i32; u32", Some(2)),
+        ("i32; u32; ref<private, i32, write>", Some(2)),
+        ("f32; AbstractInt; ptr<private, f32>", Some(2)),
+        ("u32; AbstractFloat", Some(1)),
+        ("", None),
+    ] {
+        assert_eq!(index(construct_array(&operands(values))), blamed, "{values}");
+    }
+    let of = |values| index(construct_array_of(&Type::F32, Some(3), &operands(values)));
+    assert_eq!((of("f32; AbstractInt; i32"), of("f32; i32")), (Some(2), None));
+
+    let switched =
+        |selector, cases| switch_type(&operands(selector)[0], &operands(cases)).unwrap_err().index;
+    assert_eq!(switched("f32", "i32"), None);
+    assert_eq!(switched("i32", "i32; AbstractInt; u32; u32"), Some(2));
+    assert_eq!(switched("AbstractInt", "i32; u32"), Some(1));
+    assert_eq!(switched("i32", "u32; f32"), Some(1));
+    let cases = [Operand::constant(Type::I32), Operand::new(Type::I32), Operand::new(Type::I32)];
+    assert_eq!(switch_type(&cases[0], &cases).unwrap_err().index, Some(1));
+}
+
+/// Conditions and returned values have words of their own.
+#[test]
+fn control_flow() {
+    let loaded = Operand::new("ref<private, bool, read>".parse().unwrap());
+    assert_eq!(condition(&loaded), Ok(Type::Bool));
+    for text in ["u32", "vec2<bool>", "ptr<private, bool>"] {
+        let x = Operand::new(text.parse().unwrap());
+        assert_eq!(condition(&x), Err(Refusal::NotCondition(x.ty)));
+    }
+    let unread = Operand::new("ref<private, bool, write>".parse().unwrap());
+    assert_eq!(condition(&unread), Err(Refusal::NotRead));
+    assert_eq!(return_value(&unread, &Type::Bool), Err(Refusal::NotRead));
+    assert_eq!(return_value(&loaded, &Type::Bool), Ok(Type::Bool));
+    assert_eq!(return_value(&loaded, &Type::I32), Err(Refusal::NotReturned(Type::I32, Type::Bool)));
+    for text in ["AbstractInt", "ptr<private, bool>", "atomic<u32>"] {
+        let ty: Type = text.parse().unwrap();
+        assert_eq!(return_value(&loaded, &ty), Err(Refusal::NotConstructible(ty)));
     }
 }

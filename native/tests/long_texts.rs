@@ -3,7 +3,7 @@
 use std::thread;
 use wgsl_types_proved::builtin::{is_ctor, type_ctor};
 use wgsl_types_proved::requests::{answer, standard_answer, Error};
-use wgsl_types_proved::source::layouts;
+use wgsl_types_proved::source::{layouts, types};
 use wgsl_types_proved::standard::overloads;
 use wgsl_types_proved::syntax::{BinaryOperator, Enumerant};
 use wgsl_types_proved::Type;
@@ -25,6 +25,7 @@ fn read(repeated: &str) {
     for head in ["alias A = ", "const a = ", "struct S { a: ", "fn f() { "] {
         let module = layouts(format!("{head}{text}"));
         assert!(!module.errors.is_empty() || head == "fn f() { ", "{head}{repeated}");
+        assert!(types(&format!("{head}{text}")).is_empty(), "{head}{repeated}");
         for message in module.errors.iter().chain(&module.findings) {
             assert!(message.text.len() < MESSAGE, "{head}{repeated}: {}", message.text.len());
         }

@@ -3,9 +3,11 @@
 mod random;
 
 use random::Random;
-use wgsl_types_proved::source::{layouts, Message, Stage};
-use wgsl_types_proved::syntax::{AccessMode, AddressSpace, Scalar};
-use wgsl_types_proved::ty::StructType;
+use wgsl_types_proved::source::{
+    code, layouts, types, ElementCount, Language, Message, Place, Resource, Stage, TypeTree,
+};
+use wgsl_types_proved::syntax::{AccessMode, AddressSpace, SampledType, Scalar};
+use wgsl_types_proved::ty::{SamplerType, StructType, TextureType};
 use wgsl_types_proved::Type;
 
 const ROUNDS: usize = 20_000;
@@ -18,23 +20,23 @@ fn what_displays_is_read() {
         let text = ty.to_string();
         match text.parse::<Type>() {
             Ok(read) => assert_eq!(read, ty),
-            Err(error) => assert!(has_struct(&ty), "{text}: {error}"),
+            Err(error) => assert!(!is_spelled(&ty), "{text}: {error}"),
         }
     }
 }
 
-/// Whether a struct is in the type. Its name doesn't say its members, so it can't be read from it.
-fn has_struct(ty: &Type) -> bool {
+/// Whether WGSL can spell the type: a struct's name doesn't say its members, and vectors and matrices have two to four
+/// components in a row.
+fn is_spelled(ty: &Type) -> bool {
     match ty {
-        Type::Struct(_) => true,
-        Type::Array(inner, _)
-        | Type::Vec(_, inner)
-        | Type::Mat(_, _, inner)
-        | Type::Atomic(inner)
-        | Type::Ptr(_, inner, _)
-        | Type::Ref(_, inner, _)
-        | Type::BindingArray(inner, _) => has_struct(inner),
-        _ => false,
+        Type::Struct(_) => false,
+        Type::Vec(n, inner) => (2..=4).contains(n) && is_spelled(inner),
+        Type::Mat(c, r, inner) => [c, r].iter().all(|n| (2..=4).contains(*n)) && is_spelled(inner),
+        Type::Array(inner, n) | Type::BindingArray(inner, n) => {
+            n.unwrap_or(0) < 1 << 63 && is_spelled(inner)
+        }
+        Type::Atomic(inner) | Type::Ptr(_, inner, _) | Type::Ref(_, inner, _) => is_spelled(inner),
+        _ => true,
     }
 }
 
@@ -54,9 +56,9 @@ fn another_spelling_is_read() {
 
 #[test]
 fn what_is_no_spelling_has_a_place() {
-    let spelled_otherwise = [("array<f32,4>", 0), ("f32 f32", 0)];
-    let faulty = [("", 0), ("vec3<float>", 5), ("array<f32, 4", 12), ("S", 0)];
-    for (text, offset) in faulty.into_iter().chain(spelled_otherwise) {
+    for (text, offset) in
+        [("", 0), ("vec3<float>", 5), ("array<f32, 4", 5), ("S", 0), ("f32 f32", 4)]
+    {
         let error = text.parse::<Type>().unwrap_err();
         assert_eq!(error.offset, offset, "{text}: {error}");
         assert_eq!(error.to_string(), format!("column {}: {}", offset + 1, error.message));
@@ -97,8 +99,15 @@ fn a_module_is_laid_out() {
     }
     assert_eq!((light.is_runtime_sized, particles.is_runtime_sized), (false, true));
     let items = &particles.members[1];
-    assert_eq!((items.ty.as_str(), items.offset, items.stride), ("array<Light>", 16, Some(32)));
+    assert_eq!(
+        (items.ty.to_string().as_str(), items.offset, items.stride),
+        ("array<Light>", 16, Some(32))
+    );
     assert_eq!(particles.members[0].padding, 12);
+    assert_eq!((light.members[0].padding, light.members[2].padding), (0, 8));
+    let of_text = layouts("struct A { b: B, c: C } struct C { d: u32 } struct B { c: C }");
+    let names: Vec<&str> = of_text.structs.iter().map(|of| of.name.as_str()).collect();
+    assert_eq!(names, ["A", "C", "B"]);
 }
 
 #[test]
@@ -108,10 +117,23 @@ fn variables_and_findings_are_told() {
     let particles = variable("particles");
     assert_eq!((particles.group, particles.binding), (Some(0), Some(1)));
     assert_eq!((particles.space, particles.access), (AddressSpace::Storage, AccessMode::ReadWrite));
-    assert_eq!((particles.ty.as_str(), particles.min_binding_size), ("Particles", Some(48)));
-    assert_eq!(variable("map").space, AddressSpace::Handle);
+    assert_eq!(
+        (&particles.ty, particles.min_binding_size),
+        (&TypeTree::Struct("Particles".into()), Some(48))
+    );
+    assert_eq!(particles.resource, Some(Resource::StorageBuffer));
+    assert_eq!(variable("weights").resource, Some(Resource::UniformBuffer));
+    assert_eq!(
+        variable("map").resource,
+        Some(Resource::Texture(TextureType::Sampled2D(SampledType::F32)))
+    );
+    assert_eq!(variable("counter").resource, None);
+    assert_eq!((variable("map").space, variable("map").size), (AddressSpace::Handle, None));
+    let counter = variable("counter");
+    assert_eq!((counter.space, counter.size), (AddressSpace::Private, Some(4)));
+    assert_eq!(counter.min_binding_size, None);
     assert!(module.errors.is_empty(), "{:?}", module.errors);
-    let [Message { line: 7, text, .. }] = &module.findings[..] else {
+    let [Message { start: Place { line: 7, .. }, text, .. }] = &module.findings[..] else {
         panic!("{:?}", module.findings)
     };
     assert!(text.contains("stride 4"), "{text}");
@@ -164,10 +186,10 @@ fn faults_are_told_and_reading_goes_on() {
     let module = layouts("struct A { a: \"x\", }\nstruct B { b: f32 }");
     assert_eq!(module.structs.len(), 1);
     let [error] = &module.errors[..] else { panic!("{:?}", module.errors) };
-    assert_eq!((error.line, error.column), (1, 15));
+    assert_eq!((error.start.line, error.start.column), (1, 15));
     assert!(error.to_string().starts_with("1:15: "));
     let [error] = &layouts(b"struct A { \xff }").errors[..] else { panic!() };
-    assert_eq!((error.line, error.column), (1, 12));
+    assert_eq!((error.start.line, error.start.column), (1, 12));
     let empty = layouts("");
     assert!(empty.structs.is_empty() && empty.variables.is_empty() && empty.errors.is_empty());
 }
@@ -193,6 +215,8 @@ fn what_a_pipeline_asks_is_told() {
     assert_eq!((scale.name.as_str(), scale.id, scale.ty), ("scale", Some(3), Some(Scalar::F32)));
     assert_eq!((scale.has_default, flag.has_default, wide.has_default), (true, false, true));
     assert_eq!((flag.id, flag.ty, wide.ty), (None, Some(Scalar::Bool), Some(Scalar::U32)));
+    let place = &flag.place;
+    assert_eq!((place.line, place.column, place.utf16_column), (2, 10, 10));
     let [main, shade] = &module.entry_points[..] else { panic!("{:?}", module.entry_points) };
     assert_eq!((main.name.as_str(), main.stage), ("main", Stage::Compute));
     assert_eq!(main.workgroup_size, Some([Some(8), None, Some(1)]));
@@ -202,14 +226,106 @@ fn what_a_pipeline_asks_is_told() {
 
 #[test]
 fn places_and_kinds_are_told() {
-    let module =
-        layouts("struct A {\n  a: f32,\n  é: vec3f }\nvar<uniform> b: A;\nstruct C { d: x }");
+    let module = layouts(
+        "struct A {\n  a: f32,\n  é: vec3f }\nvar<uniform> b: A;\nstruct C { \u{1d11e}é: x }",
+    );
     let [of] = &module.structs[..] else { panic!("{:?}", module.structs) };
     assert_eq!((of.place.line, of.place.column), (1, 8));
     assert_eq!((of.members[1].place.line, of.members[1].place.column), (3, 3));
     let [variable] = &module.variables[..] else { panic!("{:?}", module.variables) };
     assert_eq!((variable.place.line, variable.place.column, variable.size), (4, 14, Some(32)));
     let [error] = &module.errors[..] else { panic!("{:?}", module.errors) };
-    assert_eq!((error.line, error.utf16_column, error.kind.as_str()), (5, 15, "UnknownName"));
+    assert_eq!((error.start.line, error.start.column, error.start.utf16_column), (5, 20, 17));
+    assert_eq!((error.end.utf16_column, error.kind.as_str()), (18, "UnknownName"));
     assert_eq!(module.findings[0].kind, "NoBinding");
+}
+
+#[test]
+fn types_are_trees() {
+    let module = layouts(
+        "override N = 2; struct S { a: array<vec3f>, }
+        @group(0) @binding(0) var<storage> a: array<array<S, 3>, 2>; var<workgroup> b: array<f32, N>;
+        var<private> p: ptr<storage, array<f32>, read_write>; @group(0) @binding(1) var s: sampler_comparison;
+        @group(0) @binding(2) var t: texture_storage_2d<rg11b10ufloat, write>;
+        @group(0) @binding(3) var i: binding_array<texture_2d<f32>, 4>;",
+    );
+    let spelled: Vec<String> = module.variables.iter().map(|of| of.ty.to_string()).collect();
+    assert_eq!(
+        spelled,
+        [
+            "array<f32, override>",
+            "ptr<storage, array<f32>, read_write>",
+            "sampler_comparison",
+            "texture_storage_2d<rg11b10ufloat, write>",
+            "binding_array<texture_2d<f32>, 4>"
+        ]
+    );
+    let TypeTree::Array { element, count, stride } = &module.variables[0].ty else { panic!() };
+    assert_eq!((count, stride), (&ElementCount::Override, &Some(4)));
+    assert_eq!(**element, TypeTree::Leaf(Type::F32));
+    assert_eq!(
+        module.variables[2].resource,
+        Some(Resource::Sampler(SamplerType::SamplerComparison))
+    );
+    assert_eq!(module.variables[4].resource, Some(Resource::Other));
+}
+
+#[test]
+fn declared_types_are_types() {
+    let text = include_str!("../../tests/sourced/every_form.wgsl");
+    let (module, types) = (layouts(text), types(text));
+    for of in &module.structs {
+        let Type::Struct(ty) = &types[&of.name] else { panic!("{}", of.name) };
+        let Some(layout) = ty.layout() else {
+            assert!(of.is_runtime_sized, "{}", of.name);
+            continue;
+        };
+        assert_eq!((of.size, of.align), (layout.size, layout.align));
+        for ((member, placed), ty) in of.members.iter().zip(&layout.members).zip(&ty.members) {
+            assert_eq!((member.offset, member.size), (placed.offset, placed.size));
+            assert_eq!(member.ty.to_string(), ty.ty.to_string());
+        }
+    }
+    assert!(module.structs.len() > 3 && types.len() > module.structs.len(), "{:?}", types.keys());
+}
+
+#[test]
+fn types_that_cannot_be_given_are_left_out() {
+    let named = |text: &str| types(text).into_keys().collect::<Vec<_>>();
+    assert_eq!(
+        named("override N = 2; alias A = array<f32, N>; alias B = f32; alias C = nope;"),
+        ["B"]
+    );
+    let twice =
+        |n| (1..n).map(|at| format!("struct S{at} {{ a: S{0}, b: S{0} }}", at - 1)).collect();
+    let doubled: String = twice(40);
+    assert_eq!(named(&format!("struct S0 {{ a: f32 }} {doubled}")).len(), 16);
+    let nested: String = (1..600).map(|at| format!("struct S{at} {{ a: S{} }}", at - 1)).collect();
+    assert_eq!(named(&format!("struct S0 {{ a: f32 }} {nested}")).len(), 254);
+}
+
+#[test]
+fn code_is_written() {
+    for (language, start) in [
+        (Language::C, "#pragma once\n"),
+        (Language::Rust, "#[allow(non_camel_case_types, non_snake_case)]\n#[repr(C)]\n"),
+        (Language::Numpy, "import numpy\n"),
+        (Language::TypeScript, "export const structs = {\n  Light: {\n    size: 32, align: 16,\n"),
+    ] {
+        let code = code(MODULE, language).unwrap();
+        assert!(code.starts_with(start) && code.contains("Particles"), "{code}");
+    }
+    let error = code("struct A { a: B }\nstruct C { d: x }", Language::Rust).unwrap_err();
+    assert_eq!(error.errors.len(), 2);
+    assert_eq!(error.to_string().lines().count(), 2);
+    assert!(code(b"\xff", Language::C).is_err() && code("", Language::Rust).unwrap().is_empty());
+}
+
+#[test]
+fn deep_types_need_little_stack() {
+    let nested = format!("{}f32{}", "array<".repeat(253), ", 1>".repeat(253));
+    let text = format!("alias A = {nested}; var<private> a: {nested};");
+    let read = move || (layouts(&text).variables[0].ty.to_string(), types(&text)["A"].depth());
+    let thread = std::thread::Builder::new().stack_size(512 << 10).spawn(read).unwrap();
+    assert_eq!(thread.join().unwrap(), (nested, 254));
 }

@@ -21,9 +21,14 @@ fn operand_words(operand: &Operand) -> String {
     format!("{}{}", if operand.is_constant { "const " } else { "" }, words(&operand.ty))
 }
 
-fn type_text(found: Result<Option<Type>, NoOverload>) -> String {
+/// The operand as WGSL spells it, but for structs.
+fn spelled(operand: &Operand) -> String {
+    format!("{}{}", if operand.is_constant { "const " } else { "" }, operand.ty)
+}
+
+fn type_text(found: Result<Option<Operand>, NoOverload>) -> String {
     match found {
-        Ok(Some(ty)) => ty.to_string(),
+        Ok(Some(value)) => value.ty.to_string(),
         Ok(None) => "no value".to_string(),
         Err(refused) => refused.to_string(),
     }
@@ -35,7 +40,7 @@ fn resolution_text(found: Result<Resolution, NoOverload>) -> String {
         Err(refused) => return refused.to_string(),
     };
     let parameters: Vec<String> = parameters.iter().map(Type::to_string).collect();
-    let result = result.map_or(String::new(), |ty| format!(" -> {ty}"));
+    let result = result.map_or(String::new(), |value| format!(" -> {}", value.ty));
     format!("{overload} ({}){result}", parameters.join(", "))
 }
 
@@ -57,67 +62,149 @@ fn expect_form(asked: &str, found: &Resolution) {
 /// Calls without overloads, whose requests are answered by the rules of forms.
 const NO_OVERLOADS: [&str; 3] = ["unary & ", "unary * ", "ctor array "];
 
-/// What is asked, in words behind the command, with its type, its resolution and, if it is refused, why.
+/// What is asked, in words behind the command, with its value, its resolution and, if it is refused, why. Whether the value of the
+/// expression is a const-expression is as a type shows it; returns 1 if one does.
 fn compare(
     asked: &str,
-    ty: Result<Option<Type>, NoOverload>,
+    expression: &str,
+    value: Result<Option<Operand>, NoOverload>,
     resolution: Result<Resolution, NoOverload>,
-) {
+) -> usize {
     match &resolution {
-        Ok(found) => expect_form(asked, found),
-        Err(refused) => {
-            let why = refused.explanations().join("\n");
-            expect(&format!("why {asked}"), if why.is_empty() { "none" } else { &why });
+        Ok(found) => {
+            expect_form(asked, found);
+            assert_eq!(value.as_ref(), Ok(&found.result), "{asked}");
         }
+        Err(refused) => expect_reasons(asked, refused),
+    }
+    let is_constant = is_shown_constant(expression);
+    if let (Ok(Some(value)), Some(is_constant)) = (&value, is_constant) {
+        assert_eq!(value.is_constant || value.ty.is_abstract(), is_constant, "{expression}");
     }
     if !NO_OVERLOADS.iter().any(|call| asked.starts_with(call)) {
-        expect(asked, &type_text(ty));
+        expect(asked, &type_text(value));
     }
     expect(&format!("resolve {asked}"), &resolution_text(resolution));
+    usize::from(is_constant.is_some())
+}
+
+/// Whether an expression is a const-expression, if a type shows it.
+fn is_shown_constant(expression: &str) -> Option<bool> {
+    let shown = format!("type select(1, 2, all(({expression}) == ({expression})))");
+    match standard_answer(&shown).as_deref() {
+        Ok("AbstractInt") => Some(true),
+        Ok("i32") => Some(false),
+        _ => None,
+    }
+}
+
+/// The reasons are those that are asked for by `why`, in another order: the nearest first.
+fn expect_reasons(asked: &str, refused: &NoOverload) {
+    let mut reasons = refused.explanations();
+    let listed = overloads(&refused.callee.to_string());
+    for why in &reasons {
+        let text = why.to_string();
+        let reason = text.strip_prefix(&format!("{}: ", listed[why.overload])).expect(&text);
+        match &why.mismatch {
+            Mismatch::Count { takes, given } => {
+                assert_eq!(*given, refused.operands.len());
+                assert_eq!(*takes, listed[why.overload].parameters().len());
+                assert!(reason.starts_with(&format!("takes {takes} argument")), "{text}");
+            }
+            Mismatch::Argument { index, ty } => {
+                let given = match &refused.operands[*index].ty {
+                    Type::Ref(_, of, access) if access.is_read() => of,
+                    given => given,
+                };
+                assert_eq!(ty, given);
+                assert!(reason.starts_with(&format!("argument {} is ", index + 1)), "{text}");
+            }
+            Mismatch::Template(ty) => {
+                assert_eq!(Some(ty), refused.template.as_ref());
+                assert!(reason.starts_with("the template is "), "{text}");
+            }
+        }
+    }
+    let distance = |why: &Explanation| match why.mismatch {
+        Mismatch::Count { takes, given } => (takes.abs_diff(given), 0, why.overload),
+        Mismatch::Argument { index, .. } => (0, 99 - index, why.overload),
+        Mismatch::Template(_) => (0, 100, why.overload),
+    };
+    assert!(reasons.windows(2).all(|pair| distance(&pair[0]) < distance(&pair[1])), "{asked}");
+    reasons.sort_by_key(|why| why.overload);
+    let why: Vec<String> = reasons.iter().map(Explanation::to_string).collect();
+    let why = if why.is_empty() { "none".to_string() } else { why.join("\n") };
+    expect(&format!("why {asked}"), &why);
 }
 
 #[test]
 fn operators() {
     let mut random = Random::new(6);
+    let mut shown = 0;
     for _ in 0..ROUNDS {
         let (operator, unary) = (random.binary_operator(), random.unary_operator());
         let (lhs, rhs) = (random.operand(), random.operand());
-        compare(
+        shown += compare(
             &format!("binary {operator} {} {}", operand_words(&lhs), operand_words(&rhs)),
+            &format!("{} {operator} {}", spelled(&lhs), spelled(&rhs)),
             type_binary_op(operator, &lhs, &rhs).map(Some),
             resolve_binary_op(operator, &lhs, &rhs),
         );
-        compare(
+        shown += compare(
             &format!("unary {unary} {}", operand_words(&lhs)),
+            &format!("{unary} {}", spelled(&lhs)),
             type_unary_op(unary, &lhs).map(Some),
             resolve_unary_op(unary, &lhs),
         );
     }
+    assert!(shown > ROUNDS / 5, "{shown}");
 }
 
 #[test]
 fn constructors_and_calls() {
     let mut random = Random::new(7);
+    let mut shown = 0;
     for _ in 0..ROUNDS {
         let (name, template, operands) = random.standard_call();
-        let spelled: Vec<String> = operands.iter().map(operand_words).collect();
+        let in_words: Vec<String> = operands.iter().map(operand_words).collect();
         let in_brackets =
             template.as_ref().map_or("-".to_string(), |ty| format!("< t {} >", words(ty)));
-        let rest = format!("{name} {in_brackets} {}", spelled.join(" "));
+        let rest = format!("{name} {in_brackets} {}", in_words.join(" "));
+        let list = template.as_ref().map_or(String::new(), |ty| format!("<{ty}>"));
+        let arguments: Vec<String> = operands.iter().map(spelled).collect();
+        let expression = format!("{name}{list}({})", arguments.join(", "));
         let template = template.as_ref();
-        if is_ctor(name) {
+        shown += if is_ctor(name) {
             compare(
                 &format!("ctor {rest}"),
+                &expression,
                 type_ctor(name, template, &operands).map(Some),
                 resolve_ctor(name, template, &operands),
-            );
+            )
         } else {
             compare(
                 &format!("call {rest}"),
+                &expression,
                 type_builtin_fn(name, template, &operands),
                 resolve_builtin_fn(name, template, &operands),
-            );
-        }
+            )
+        };
+    }
+    assert!(shown > ROUNDS / 20, "{shown}");
+}
+
+#[test]
+fn all_operands_count() {
+    for (name, count) in [("mat2x3", 6), ("mat2x4", 8), ("mat3x3", 9), ("mat4x4", 16)] {
+        let mut operands = vec![Operand::constant(Type::F32); count];
+        let made = type_ctor(name, None, &operands).unwrap();
+        assert!(made.ty.is_mat() && made.is_constant);
+        operands[count - 1] = Operand::new(Type::F32);
+        assert!(!type_ctor(name, None, &operands).unwrap().is_constant);
+        operands[count - 1] = Operand::new(Type::Bool);
+        let reasons = type_ctor(name, None, &operands).unwrap_err().explanations();
+        let last = Mismatch::Argument { index: count - 1, ty: Type::Bool };
+        assert!(reasons.iter().any(|why| why.mismatch == last), "{name}");
     }
 }
 
@@ -153,8 +240,13 @@ fn refusals_are_plain_data() {
     assert_eq!((refused.template.as_ref(), &refused.operands[..]), (None, &[truth, one][..]));
     assert_eq!(refused.explanations(), explain(&refused.callee, None, &refused.operands));
     let nothing = type_builtin_fn("no_such_name", None, &[]).unwrap_err();
-    assert_eq!(nothing.to_string(), "no overload of `no_such_name` takes ()");
-    assert_eq!(nothing.explanations(), [""; 0]);
+    assert_eq!(nothing.to_string(), "nothing has the name `no_such_name`");
+    assert!(nothing.is_unknown_name && !refused.is_unknown_name);
+    assert_eq!(nothing.explanations(), []);
+    let texture = Operand::new("texture_storage_2d<rg11b10ufloat, write>".parse().unwrap());
+    let refused = type_builtin_fn("sqrt", None, &[texture]).unwrap_err().to_string();
+    let wanted = "no overload of `sqrt` takes (texture_storage_2d<rg11b10ufloat, write>)";
+    assert_eq!(refused, wanted);
     let pointed = Operand::new(Type::F32);
     assert!(type_unary_op(UnaryOperator::AddressOf, &pointed).is_err());
 }
@@ -196,13 +288,7 @@ const ARGUMENTS: [&str; 23] = [
 fn is_const_function(name: &str) -> Option<bool> {
     let parts = ["", ".fract", "[0]"];
     let calls = ARGUMENTS.iter().flat_map(|list| parts.map(|part| format!("{name}({list}){part}")));
-    calls.into_iter().find_map(|call| {
-        match standard_answer(&format!("type select(1, 2, all({call} == {call}))")).as_deref() {
-            Ok("AbstractInt") => Some(true),
-            Ok("i32") => Some(false),
-            _ => None,
-        }
-    })
+    calls.into_iter().find_map(|call| is_shown_constant(&call))
 }
 
 /// Functions whose calls have no value or take a pointer: no type shows whether these are const-expressions.
@@ -221,5 +307,17 @@ fn calls_that_can_be_const_expressions() {
         let is_shown = !begins(name, &WITHOUT_A_TYPE);
         let expected = is_shown.then(|| !begins(name, &AT_RUN_TIME));
         assert_eq!(is_const_function(name), expected, "{name}");
+        for list in ARGUMENTS {
+            if let Ok(Some(value)) = type_builtin_fn(name, None, &constants(list)) {
+                assert_eq!(value.is_constant, !begins(name, &AT_RUN_TIME), "{name}({list})");
+            }
+        }
     }
+}
+
+/// The operands that a list of const-expressions has.
+fn constants(list: &str) -> Vec<Operand> {
+    let texts = list.split(", ").filter(|text| !text.is_empty());
+    let types = texts.map(|text| standard_answer(&format!("type {text}")).unwrap());
+    types.map(|ty| Operand::constant(ty.parse().unwrap())).collect()
 }

@@ -152,12 +152,7 @@ impl Scope {
         }
         let values = values.split(", ").filter(|value| !value.is_empty());
         let values: Vec<Operand> = values.map(|x| self.expression(x)).collect::<Result<_, _>>()?;
-        let element = match &name[4..] {
-            "f" => Some(Type::F32),
-            "i" => Some(Type::I32),
-            _ => None,
-        };
-        Ok(Operand::new(type_ctor(&name[..4], element.as_ref(), &values).unwrap()))
+        Ok(type_ctor(name, None, &values).unwrap())
     }
 }
 

@@ -1,14 +1,15 @@
 //! Types that are read from text.
 
-use super::{Type, MAX_DEPTH};
-use crate::proved::wgsl_source::fault::{Cause, Expected, Fault, Stop};
-use crate::proved::wgsl_source::spelled::spelling_of;
-use crate::proved::wgsl_text::spelling::spelled::read;
+use super::Type;
+use crate::proved::wgsl_reader::{expected, lists, rule::Rule};
+use crate::proved::wgsl_spelling::fault::{Cause, Fault};
+use crate::proved::wgsl_spelling::{meant::meant, spelled::type_of_text};
+use crate::reader::{read, Token};
 use crate::shim::always;
 use crate::shim::std::alloc::Global;
-use crate::source::fault_text;
 use alloc::format;
 use alloc::string::String;
+use alloc::vec::Vec;
 use core::fmt;
 use core::str::FromStr;
 
@@ -25,57 +26,84 @@ pub struct SpellingError {
 impl FromStr for Type {
     type Err = SpellingError;
 
-    /// The type that displays as exactly that text, with WGSL's predeclared aliases too. A struct's name says nothing of its
-    /// members, so no struct is read. More than 255 template lists inside one another are refused before anything is built.
+    /// The type that a text spells by WGSL's grammar, with blanks, comments and counts that are const-expressions. Beyond WGSL
+    /// there are `ref<..>`, access modes in any `ptr<..>`, abstract types, counts of 0 and naga's types. A struct's name says
+    /// nothing of its members, so no struct is read. More than 255 template lists inside one another are refused before
+    /// anything is built.
     ///
     /// ```
     /// use wgsl_types_proved::Type;
     ///
     /// let ty: Type = "array<vec3<f32>, 4>".parse()?;
     /// assert_eq!(ty, Type::array(Some(4), Type::vector(3, Type::F32)));
-    /// assert_eq!("array<vec3f, 4>".parse(), Ok(ty));
+    /// assert_eq!("array<vec3f,2*2u,>".parse(), Ok(ty));
     /// assert_eq!("vec3<float>".parse::<Type>().unwrap_err().offset, 5);
     /// # Ok::<(), wgsl_types_proved::ty::SpellingError>(())
     /// ```
     fn from_str(text: &str) -> Result<Type, SpellingError> {
-        if let Some(at) = too_deep(text) {
-            return Err(misspelt(text, Fault { at, cause: Cause::TooDeep }));
-        }
-        always(read(Global, text)).ok_or_else(|| why_not(text))
+        always(type_of_text(Global, text)).map_err(|fault| misspelt(text, fault))
     }
 }
 
-/// Where the template list begins that is nested deeper than [`MAX_DEPTH`].
-fn too_deep(text: &str) -> Option<usize> {
-    let mut level = 0_usize;
-    text.bytes().position(|byte| {
-        match byte {
-            b'<' => level += 1,
-            b'>' => level = level.saturating_sub(1),
-            _ => {}
-        }
-        level > MAX_DEPTH
-    })
+impl Type {
+    /// The type that a predeclared name alone stands for in WGSL, as `f32`, `sampler` or the alias `vec3f`. None if the name needs
+    /// a template list, or stands for no type. No text of WGSL names AbstractInt and AbstractFloat.
+    ///
+    /// ```
+    /// use wgsl_types_proved::Type;
+    ///
+    /// assert_eq!(Type::predeclared("vec3f"), Some(Type::vector(3, Type::F32)));
+    /// assert_eq!(Type::predeclared("vec3"), None);
+    /// assert_eq!(Type::predeclared("AbstractInt"), None);
+    /// ```
+    pub fn predeclared(name: &str) -> Option<Type> {
+        let is_letter = |byte: u8| byte.is_ascii_alphanumeric() || byte == b'_';
+        let found = if name.bytes().all(is_letter) { name.parse().ok() } else { None };
+        found.filter(Type::is_concrete)
+    }
 }
+
+/// How many characters of a word a message quotes.
+const QUOTED: usize = 40;
 
 #[cold]
-fn why_not(text: &str) -> SpellingError {
-    let fault = match spelling_of(Global, text) {
-        Ok(spelling) => {
-            return SpellingError {
-                offset: 0,
-                message: format!("the type is spelled `{spelling}`"),
-            }
-        }
-        Err(Stop::Fault(fault)) => fault,
-        Err(Stop::Elsewhere) => Fault { at: 0, cause: Cause::Expected(Expected::Type) },
-        Err(Stop::Memory(never)) => match never {},
+fn misspelt(text: &str, fault: Fault) -> SpellingError {
+    let tokens = always(lists::tokens_of(Global, text.as_bytes())).unwrap_or_default();
+    let index = tokens.iter().position(|token| token.at == fault.at);
+    let word = index.map_or("", |index| tokens[index].text(text));
+    let mut message = match fault.cause {
+        Cause::Misread => expected_at(&tokens, index.unwrap_or(tokens.len())),
+        cause => String::from(cause.text()),
     };
-    misspelt(text, fault)
+    match (fault.cause, word) {
+        (Cause::OpenComment | Cause::OpenList | Cause::Strange, _) => {}
+        (Cause::Misread, "") => message.push_str(", found the end"),
+        (_, "") => {}
+        (Cause::Misread | Cause::Expected(_), word) => {
+            message.push_str(&format!(", found `{}`", beginning(word)))
+        }
+        (_, word) => message.push_str(&format!(": `{}`", beginning(word))),
+    }
+    if let Some(name) = meant(fault.cause, word) {
+        message.push_str(&format!("; did you mean `{name}`?"));
+    }
+    SpellingError { offset: fault.at, message }
 }
 
-fn misspelt(text: &str, fault: Fault) -> SpellingError {
-    SpellingError { offset: fault.at, message: fault_text(text, fault) }
+/// What may stand in place of the token with this index.
+fn expected_at(tokens: &[Token], index: usize) -> String {
+    let front = tokens.get(..index).unwrap_or_default();
+    let expected = always(expected::expected(Global, Rule::Type, front));
+    let or_end = if read(Rule::Type, front).is_ok() { " or the end" } else { "" };
+    expected + or_end
+}
+
+/// The beginning of a word, and dots for what follows.
+fn beginning(word: &str) -> String {
+    let mut letters = word.chars();
+    let quoted: Vec<char> = letters.by_ref().take(QUOTED).collect();
+    let dots = if letters.next().is_some() { ".." } else { "" };
+    quoted.into_iter().flat_map(char::escape_debug).chain(dots.chars()).collect()
 }
 
 impl fmt::Display for SpellingError {

@@ -2,8 +2,9 @@
 import re
 
 TOKEN = re.compile(
-    r"(?P<number>0[xX][0-9a-fA-F]*\.?[0-9a-fA-F]*(?:[pP][+-]?)?\w*|(?:[0-9]+\.?[0-9]*|\.[0-9]+)(?:[eE][+-]?[0-9]+)?\w*)"
-    r"|(?P<name>[A-Za-z_]\w*)|(?P<sign>&&|\|\||<<|<=|==|!=|--|\+\+|\S)"
+    r"(?P<comment>/\*.*?\*/|//.*)|(?P<open>/\*)"
+    r"|(?P<number>0[xX][0-9a-fA-F]*\.?[0-9a-fA-F]*(?:[pP][+-]?)?\w*|(?:[0-9]+\.?[0-9]*|\.[0-9]+)(?:[eE][+-]?[0-9]+)?\w*)"
+    r"|(?P<name>[A-Za-z_]\w*)|(?P<sign>&&|\|\||<<|<=|==|!=|--(?=\s*(?:\)|$))|\S)"
 )
 FLOAT = r"(?:[0-9]+\.[0-9]*|\.[0-9]+)(?:[eE][+-]?[0-9]+)?|[0-9]+[eE][+-]?[0-9]+"
 HEX = r"0[xX](?:[0-9a-fA-F]+\.[0-9a-fA-F]*|\.[0-9a-fA-F]+)(?:[pP][+-]?[0-9]+)?|0[xX][0-9a-fA-F]+[pP][+-]?[0-9]+"
@@ -16,6 +17,8 @@ LITERALS = [
     (rf"(?:{FLOAT}|0|[1-9][0-9]*)f|0[xX][0-9a-fA-F.]+[pP][+-]?[0-9]+f", "f32"),
     (rf"(?:{FLOAT}|0|[1-9][0-9]*)h|0[xX][0-9a-fA-F.]+[pP][+-]?[0-9]+h", "f16"),
 ]
+SIZED = re.compile(r"\b(?:vec|mat)([0-9x]+)<")
+SIZES = re.compile(r"[234](?:x[234])?")
 RELATIONAL = "<", "<=", ">", ">=", "==", "!="
 
 
@@ -36,7 +39,10 @@ def literal(text):
 
 class Reader:
     def __init__(self, text):
-        self.tokens = [(m.group(), m.start(), m.lastgroup) for m in TOKEN.finditer(text)]
+        found = [(m.group(), m.start(), m.lastgroup) for m in TOKEN.finditer(text)]
+        if any(kind == "open" for _, _, kind in found):
+            raise NoExpression
+        self.tokens = [token for token in found if token[2] != "comment"]
         self.taken = 0
 
     def next(self, behind=0):
@@ -149,10 +155,10 @@ class Reader:
         if text == "const" and self.next()[2] == "name":
             name, _, _ = self.next()
             self.taken += 1
-            return Node(at, "operand", ((name, self.list()), True))
+            return Node(at, "operand", ((name, self.list(name)), True))
         if kind != "name" or text == "const":
             raise NoExpression
-        named = text, self.list()
+        named = text, self.list(text)
         if not self.take("("):
             return Node(at, "operand", (named, False))
         return Node(at, "call", named, self.arguments())
@@ -166,18 +172,25 @@ class Reader:
                 break
         return values
 
-    def list(self):
+    def list(self, name):
         """What stands between angle brackets behind a name, if they are closed and have only names, numbers and commas in them."""
         if self.next()[0] != "<":
             return None
-        depth, texts = 0, []
+        depth, texts, before, is_list = 0, [], None, True
         for behind in range(1, len(self.tokens) - self.taken):
             text, _, kind = self.next(behind)
             if text == ">" and depth == 0:
+                if not is_list:
+                    raise NoExpression
                 self.taken += behind + 1
-                return "".join(texts)
+                text = "".join(texts).replace(", >", ">").removesuffix(", ")
+                if any(not SIZES.fullmatch(size) for size in SIZED.findall(f"{name}<{text}")):
+                    raise NoExpression
+                return text
             if text not in ("<", ">", ",") and kind not in ("name", "number"):
                 return None
+            is_list &= kind == "sign" or before in ("sign", None)
+            before = kind
             depth += {"<": 1, ">": -1}.get(text, 0)
             texts.append(", " if text == "," else text)
         return None

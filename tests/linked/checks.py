@@ -19,7 +19,7 @@ from tools import is_there, run, write_shown
 CALLED, COUNTED = 150, 1500
 WRAPPED = ["-Wl,--wrap=malloc,--wrap=realloc,--wrap=free"]
 VALGRIND = ["valgrind", "--quiet", "--leak-check=full", "--show-leak-kinds=all", "--error-exitcode=9"]
-CALLS = "wgsl_answer wgsl_explain wgsl_source_layout wgsl_standard_answer wgsl_standard_explain wgsl_version".split()
+CALLS = "wgsl_answer wgsl_explain wgsl_source_code wgsl_source_layout wgsl_standard_answer wgsl_standard_explain wgsl_version".split()
 
 
 def lines_of(*folders):
@@ -159,7 +159,7 @@ def messages():
     paths = [os.path.join("wgsl_core", "src", "error.rt")]
     paths += [os.path.join("wgsl_forms", "src", name) for name in ("refusal.rt", "array.rt")]
     paths.append(os.path.join("wgsl_calls", "src", "**", "*.rt"))
-    texts = ["no overload of ", "`", "column "]
+    texts = ["no overload of ", "nothing has the name ", "`", "column "]
     for path in (path for each in paths for path in glob.glob(os.path.join(TOP, "crates", each), recursive=True)):
         with open(path, encoding="utf-8") as file:
             texts += [text.split("{")[0] for text in re.findall(r'"([^"\n]* [^"\n]*)"', file.read())]
@@ -193,16 +193,19 @@ def check_standard_text(library, swept):
     return wanted
 
 
-def check_headers():
-    """Each header alone, as C and C++ of old standards."""
+def check_headers(folder):
+    """Each header alone and twice, as C and C++ of old standards. Two files that include it link; no `Result` is a bool by itself."""
     strict = [*WARNINGS, "-pedantic", "-Wconversion", "-Wsign-conversion", "-I", os.path.join(BINDINGS, "c"), "-fsyntax-only"]
     languages = [["cc", "-x", "c", "-std=c99"]]
     if is_there("c++"):
         languages.append(["c++", "-x", "c++", "-std=c++11", "-Wold-style-cast"])
-        run("c++", "-x", "c++", "-std=c++17", "-Wold-style-cast", "-I", os.path.join(BINDINGS, "cpp"), *strict, "-",
-            asked=b'#include "wgsl.hpp"\n')
+        cpp, built = ["c++", "-x", "c++", "-std=c++17", "-I", os.path.join(BINDINGS, "cpp")], os.path.join(folder, "header.o")
+        asked = b'#include "wgsl.hpp"\n' * 2 + b"static_assert(!std::is_convertible<wgsl::Result, bool>::value, \"\");\n"
+        run(*cpp, "-Wold-style-cast", *strict, "-", asked=asked)
+        run(*cpp, "-I", os.path.join(BINDINGS, "c"), "-c", "-o", built, "-", asked=asked)
+        run("c++", "-nostdlib", "-r", "-o", os.path.join(folder, "two_files.o"), built, built)
     for language in languages:
-        run(*language, *strict, "-", asked=b'#include "wgsl.h"\n')
+        run(*language, *strict, "-", asked=b'#include "wgsl.h"\n' * 2)
 
 
 def lines(asked):
@@ -234,7 +237,7 @@ def check_all(top, folder, native):
     check_symbols(folder)
     check_version(folder)
     check_memory(folder, library, lines_for_c(asked, standard))
-    check_headers()
+    check_headers(top)
     check_python_folders(top)
     check_statuses(top)
     if native:

@@ -14,21 +14,23 @@ class Library:
     def __init__(self, folder):
         self.shared = ctypes.CDLL(os.path.join(folder, "libwgsl.so"))
         self.calls = {name: self.typed(name) for name in CALLS}
+        self.code = self.typed("source_code", BYTE)
         self.room = (BYTE * ROOM)()
         ctypes.memset(self.room, FILL, ROOM)
         self.len = ctypes.c_size_t()
 
-    def typed(self, name):
+    def typed(self, name, *more):
         call = getattr(self.shared, f"wgsl_{name}")
         size, pointer = ctypes.c_size_t, ctypes.POINTER
-        call.argtypes = [pointer(BYTE), size, pointer(BYTE), size, pointer(size)]
+        call.argtypes = [pointer(BYTE), size, pointer(BYTE), size, pointer(size), *more]
         call.restype = BYTE
         return call
 
-    def ask(self, name, asked):
+    def ask(self, name, asked, *more):
         """The status, and the bytes of the reply. Nothing else of the room is written."""
         request = (BYTE * max(len(asked), 1))(*asked)
-        status = self.calls[name](request, len(asked), self.room, ROOM, ctypes.byref(self.len))
+        call = self.code if more else self.calls[name]
+        status = call(request, len(asked), self.room, ROOM, ctypes.byref(self.len), *more)
         count = self.len.value if status in (ANSWERED, RULED_OUT) else 0
         reply = bytes(self.room[:count])
         ctypes.memset(self.room, FILL, count)

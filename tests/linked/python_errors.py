@@ -181,6 +181,9 @@ def check_source():
             expect(found == (line, column, first, told["errors"], told), f"a fault has {found}")
     error = raised(wgsl.SourceError, wgsl.dtype, ("struct B { a: Nowhere }", "B"))
     expect(str(error) == f"line 1, column 15: {first}" and isinstance(error, ValueError), f"one fault is {error!r}")
+    expect(raised(wgsl.SourceError, wgsl.source_code, (text, "c")).errors == told["errors"], "code of a text with faults")
+    expect("static_assert(sizeof(struct A) == 4" in wgsl.source_code(b"struct A { a: f32 }", "c"), "code of a struct")
+    expect("'java'" in str(raised(ValueError, wgsl.source_code, (text, "java"))), "a language that there isn't")
     expect(wgsl.source_layout(bytearray(text.encode())) == told == wgsl.source_layout(memoryview(text.encode())), "bytes have other layouts")
 
 

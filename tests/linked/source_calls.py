@@ -1,9 +1,10 @@
-"""The call over texts of WGSL: the JSON of `./wgsl_layout --json`."""
+"""The calls over texts of WGSL: the JSON of `./wgsl_layout --json`, and the code of `--c` and so on."""
 import glob
 import json
 import os
 import random
 
+from library import UNREADABLE
 from tools import TOP, run
 
 SOURCED = os.path.join(TOP, "tests", "sourced")
@@ -42,6 +43,18 @@ def compare_modules(library):
     return len(MODULES)
 
 
+def compare_code(library):
+    """Each module in each language, and in one that there isn't."""
+    for path in MODULES:
+        told = json.loads(layouts(library, read(path)))
+        for language, option in enumerate(("--c", "--rust", "--numpy", "--typescript")):
+            status, code = library.ask("source_code", read(path), language)
+            if status != bool(told["errors"]) or code != run(os.path.join(TOP, "wgsl_layout"), option, path, statuses=(0, 1)):
+                wrong(f"the code {option} of {path} in C is another than that of the program, with status {status}")
+        if library.ask("source_code", read(path), 4) != (UNREADABLE, b""):
+            wrong("there is a fifth language")
+
+
 def compare_changed(library):
     """A module cut after each byte, and with each byte changed."""
     module, rng = read(os.path.join(SOURCED, "every_form.wgsl")), random.Random(38)
@@ -60,6 +73,7 @@ def compare_changed(library):
 def check_source(library):
     """The call answers as the program does."""
     modules, changed = compare_modules(library), compare_changed(library)
+    compare_code(library)
     print(f"link: {modules} modules and {changed} changed ones have the layouts of the program")
 
 

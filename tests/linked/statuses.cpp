@@ -37,6 +37,7 @@ int main() {
         EXPECT(replies("refuse " + text, Status::ruled_out, text));
         EXPECT(replies(text, Status::unreadable, text));
         EXPECT(is(wgsl::source_layout("say " + text), Status::answered, text));
+        EXPECT(is(wgsl::source_code("say " + text, wgsl::Language::numpy), Status::answered, text));
     }
     EXPECT(replies({}, Status::unreadable, ""));
     EXPECT(replies("unexplained", Status::out_of_memory, ""));

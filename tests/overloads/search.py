@@ -10,13 +10,20 @@ RANKS["AbstractFloat"] |= {"f32": 1, "f16": 2}
 
 
 @functools.cache
+def loaded(t):
+    """What a reference loads as, if it can be read; any other type stays."""
+    name, parts = parts_of(t)
+    return parts[1] if name == "ref" and parts[2] in ("read", "read_write") else t
+
+
+@functools.cache
 def conversions(t):
-    """The types that an operand of this type converts to, each with its rank. A reference is loaded first; one that can't be
+    """The types that an operand of this type converts to, each with its rank, once it is loaded. A reference that can't be
     read converts to nothing."""
+    t = loaded(t)
     name, parts = parts_of(t)
     if name == "ref":
-        _, inner, access = parts
-        return conversions(inner) if access in ("read", "read_write") else {}
+        return {}
     if name.startswith(("vec", "mat")):
         return {f"{name}<{scalar}>": rank for scalar, rank in RANKS[parts[0]].items()}
     return RANKS.get(t, {t: 0})

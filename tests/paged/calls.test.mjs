@@ -108,7 +108,7 @@ test("each type that is a struct has it, behind pointers and arrays too", () => 
 });
 
 test("an empty text, and what is no text", () => {
-  assert.deepEqual(wgsl.layouts(""), { structs: [], variables: [], overrides: [], entryPoints: [], errors: [], findings: [] });
+  assert.deepEqual(wgsl.layouts(""), { structs: [], variables: [], overrides: [], entryPoints: [], errors: [], findings: [], leftOut: [] });
   for (const call of [wgsl.answer, wgsl.standardAnswer, wgsl.explain, wgsl.standardExplain, wgsl.layouts]) {
     for (const value of [7, null, undefined, ["size f32"], Buffer.from("size f32")]) assert.throws(() => call(value), TypeError);
   }
@@ -259,7 +259,7 @@ test("the entry with the module in it works at once, and all entries export the 
   const inline = await import("wgsl-types-proved/inline");
   assert.equal(inline.standardAnswer("binary + f32 f32"), "f32");
   await inline.init();
-  const names = ["Refused", "SourceError", "Unreadable", "answer", "explain", "init", "initSync", "layouts", "standardAnswer", "standardExplain", "version", "view"];
+  const names = ["Refused", "SourceError", "Unreadable", "answer", "code", "explain", "init", "initSync", "layouts", "standardAnswer", "standardExplain", "version", "view"];
   for (const entry of [inline, browser, wgsl]) assert.deepEqual(Object.keys(entry).sort(), names);
 });
 
@@ -275,10 +275,10 @@ test("in a worker, also with a module that is sent", async () => {
   assert.equal(told.variables[0].typeTree.struct, told.structs[0]);
 });
 
-test("the version is that of the package, and the module imports nothing and has the six calls", () => {
+test("the version is that of the package, and the module imports nothing and has the seven calls", () => {
   const { version } = JSON.parse(readFileSync(new URL("package.json", PACKAGE)));
   assert.equal(wgsl.version(), version);
   const module = new WebAssembly.Module(MODULE), functions = WebAssembly.Module.exports(module).filter(({ kind }) => kind === "function");
   assert.deepEqual(WebAssembly.Module.imports(module), []);
-  assert.deepEqual(functions.map(({ name }) => name).sort(), ["wgsl_answer", "wgsl_explain", "wgsl_source_layout", "wgsl_standard_answer", "wgsl_standard_explain", "wgsl_version"]);
+  assert.deepEqual(functions.map(({ name }) => name).sort(), ["wgsl_answer", "wgsl_explain", "wgsl_source_code", "wgsl_source_layout", "wgsl_standard_answer", "wgsl_standard_explain", "wgsl_version"]);
 });

@@ -6,10 +6,9 @@ import { tmpdir } from "node:os";
 import { join } from "node:path";
 import test from "node:test";
 import { requestOf } from "page/expression";
-import { toC, toNumpy, toRust } from "page/forms";
 import { paddingOf, runsOf } from "page/pieces";
 import { commentsOf, foreignOf, leftOut } from "page/wgsl";
-import { SourceError, layouts, standardAnswer } from "wgsl-types-proved";
+import { SourceError, code, layouts, standardAnswer } from "wgsl-types-proved";
 
 const { TOP, PACKAGE } = process.env;
 
@@ -71,16 +70,21 @@ test("an expression of one operator or call is a request in words, which has the
   for (const text of ["mix(vec3f, vec3f, 1) * f32", "f32", "1 + 2 + 3", "(f32)", "f32 +", "🦀"]) assert.throws(() => requestOf(text), { name: "Error" }, text);
 });
 
-test("C has a f16 as its bits, reserves what its compilers do, and packs nothing behind the structs", () => {
-  const found = told("enable f16; struct linux { a: f16, unix: vec2h, _Bool: u32, INT8_WIDTH: i32, ok: i32 } struct S { linux: linux, int: f16 }");
-  const text = toC(found), lines = text.split("\n");
-  assert.match(text, /struct linux_ \{\n {4}uint16_t a;\n {4}uint8_t padding_0\[2\];\n {4}uint16_t unix_\[2\];\n {4}uint32_t _Bool_;\n {4}int32_t INT8_WIDTH_;\n {4}int32_t ok;\n\};/);
-  assert.match(text, /struct S \{\n {4}struct linux_ linux_;\n {4}uint16_t int_;/);
-  assert.equal(lines[0], "#pragma once");
-  assert.deepEqual(lines.filter((line) => line.startsWith("#pragma pack")), ["#pragma pack(push, 1)", "#pragma pack(pop)"]);
-  assert.ok(text.endsWith("\n#pragma pack(pop)\n"));
-  assert.match(toRust(found), /pub a: u16,\n {4}pub padding_0: \[u8; 2\],\n {4}pub unix: \[u16; 2\],/);
-  assert.match(toNumpy(told("struct numpy { a: array<vec3f, 2> } struct is { b: numpy }")), /^import numpy\n\nnumpy_ = numpy\.dtype[^]*\nis_ = numpy\.dtype\(\{\n {4}'names': \['b'\],\n {4}'formats': \[numpy_\]/);
+test("code is that of the text, errors or not, and an error has the end of its word", () => {
+  const text = "struct linux { INT8_WIDTH: f32, is: vec3f } struct is { gen: linux }";
+  assert.match(code(text, "c"), /^#pragma once\n[^]*struct linux_ \{\n {4}float INT8_WIDTH_;\n {4}uint8_t padding_0\[12\];\n {4}float is\[3\];/);
+  assert.match(code(text, "rust"), /pub struct is \{\n {4}pub r#gen: linux,/);
+  assert.match(code(text, "numpy"), /^import numpy\n\nlinux = numpy\.dtype[^]*\nis_ = numpy\.dtype\(\{\n {4}'names': \['gen'\],\n {4}'formats': \[linux\]/);
+  assert.match(code(text, "typescript"), /^export const structs = \{\n {2}linux: \{\n {4}size: 32, align: 16,\n {4}members: \{\n {6}INT8_WIDTH: \{ offset: 0, size: 4, type: "f32" \},/);
+  assert.throws(() => code(text, "C"), { name: "RangeError", message: "wgsl-types-proved: there is no language C: it is c, rust, numpy, typescript" });
+  const faulty = "/* 🦀 */ struct A { a: Bé } struct B { b: f32 }";
+  assert.throws(() => code(faulty, "c"), (error) => {
+    assert.equal(error.code("rust").match(/struct/g).length, 1);
+    const [{ index, end }] = error.errors;
+    assert.equal(faulty.slice(index, end.index), "Bé");
+    assert.deepEqual(error.layouts.leftOut, ["A"]);
+    return error instanceof SourceError;
+  });
 });
 
 test("structs without a layout are found, with their errors and with those that they need", () => {

@@ -5,7 +5,6 @@ import { execFileSync, spawnSync } from "node:child_process";
 import { readFileSync, readdirSync } from "node:fs";
 import { join } from "node:path";
 import test from "node:test";
-import { toNumpy } from "page/forms";
 import * as wgsl from "wgsl-types-proved";
 
 const { PROGRAMS, REQUESTS, SOURCED } = process.env;
@@ -82,9 +81,21 @@ test("the layouts of each file are those of wgsl_layout, and each place is an in
   assert.equal(execFileSync(join(PROGRAMS, "wgsl_layout"), ["--version"], { encoding: "utf8" }).trim().split(" ").at(-1), wgsl.version());
 });
 
-test("the page writes the dtypes of numpy that wgsl_layout prints", () => {
+test("each text has the code that wgsl_layout prints", () => {
   for (const file of readdirSync(SOURCED).filter((name) => name.endsWith(".wgsl"))) {
-    const path = join(SOURCED, file), { stdout } = spawnSync(join(PROGRAMS, "wgsl_layout"), ["--numpy", path], { encoding: "utf8", maxBuffer: 1 << 28 });
-    assertSame(toNumpy(layoutsOf(readFileSync(path, "utf8"))), stdout, `dtypes of ${file}`);
+    for (const language of ["c", "rust", "numpy", "typescript"]) {
+      const path = join(SOURCED, file), { stdout } = spawnSync(join(PROGRAMS, "wgsl_layout"), [`--${language}`, path], { encoding: "utf8", maxBuffer: 1 << 28 });
+      assertSame(codeOf(readFileSync(path, "utf8"), language), stdout, `${language} of ${file}`);
+    }
   }
 });
+
+/** The code of what a text lays out, errors or not. */
+function codeOf(text, language) {
+  try {
+    return wgsl.code(text, language);
+  } catch (error) {
+    if (error instanceof wgsl.SourceError) return error.code(language);
+    throw error;
+  }
+}

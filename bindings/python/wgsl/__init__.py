@@ -7,7 +7,8 @@
     16
 
 A type is a `str` as WGSL spells it. The calls answer by WGSL's own overloads; `answer` takes any request in words, and answers
-by the rules of the Rust crate wgsl-types too. `source_layout` reads a whole file.
+by the rules of the Rust crate wgsl-types too. `source_layout` reads a whole file, and `source_code` writes its structs as C,
+Rust, numpy or TypeScript.
 
 The library libwgsl.so is beside this package. For another, the environment variable WGSL_LIB names the folder where
 `make library FOLDER=..` wrote it; a relative one is looked for in the working directory and in each folder above.
@@ -15,9 +16,9 @@ The library libwgsl.so is beside this package. For another, the environment vari
 from ._library import VERSION as __version__
 from .requests import (Refused, Resolution, Size, Unreadable, answer, binary, call, common, construct, overloads, rank, resolve_call,
                        size, unary)
-from .source import SourceError, dtype, source_dtypes, source_layout
+from .source import SourceError, dtype, source_code, source_dtypes, source_layout
 
 __all__ = [
     "Refused", "Resolution", "Size", "SourceError", "Unreadable", "__version__", "answer", "binary", "call", "common", "construct",
-    "dtype", "overloads", "rank", "resolve_call", "size", "source_dtypes", "source_layout", "unary",
+    "dtype", "overloads", "rank", "resolve_call", "size", "source_code", "source_dtypes", "source_layout", "unary",
 ]

@@ -51,6 +51,8 @@ def _load() -> ctypes.CDLL:
             call = getattr(library, name)
             call.restype = ctypes.c_uint8
             call.argtypes = [ctypes.c_char_p, size, ctypes.c_char_p, size, ctypes.POINTER(size)]
+        library.wgsl_source_code.argtypes = [*library.wgsl_source_layout.argtypes, ctypes.c_uint8]
+        library.wgsl_source_code.restype = ctypes.c_uint8
         library.wgsl_version.restype = ctypes.c_char_p
         version: str = library.wgsl_version().decode()
     except (OSError, AttributeError) as error:
@@ -63,14 +65,14 @@ def _load() -> ctypes.CDLL:
 _library = _load()
 
 
-def ask(name: str, request: bytes) -> tuple[int, str]:
+def ask(name: str, request: bytes, *more: int) -> tuple[int, str]:
     """The status of a call, and the text that it writes. Asks again with a larger buffer if that doesn't fit."""
     call: Any = getattr(_library, name)
     length, status = ctypes.c_size_t(_USUAL), NO_ROOM
     for _ in range(2):
         if status == NO_ROOM:
             buffer = ctypes.create_string_buffer(length.value)
-            status = call(request, len(request), buffer, len(buffer), ctypes.byref(length))
+            status = call(request, len(request), buffer, len(buffer), ctypes.byref(length), *more)
     if status == OUT_OF_MEMORY:
         raise MemoryError("there was no memory for an answer")
     if status > UNREADABLE:

@@ -8,6 +8,7 @@ from typing import Any
 from ._arguments import text_of
 from ._library import ask
 
+_LANGUAGES = ["c", "rust", "numpy", "typescript"]
 _SCALARS = {"bool": "<u4", "i32": "<i4", "u32": "<u4", "f32": "<f4", "f16": "<f2", "i64": "<i8", "u64": "<u8", "f64": "<f8"}
 
 
@@ -34,7 +35,7 @@ class SourceError(ValueError):
 
 def source_layout(text: str | bytes) -> dict[str, Any]:
     """The layouts of the structs of a WGSL module, where its variables are bound, and what is wrong, as the JSON of
-    wgsl_layout has them: `structs`, `variables`, `overrides`, `entryPoints`, `errors` and `findings`.
+    wgsl_layout has them: `structs`, `leftOut`, `variables`, `overrides`, `entryPoints`, `errors` and `findings`.
 
     >>> told = source_layout("struct Light { color: vec3f, power: f32 } @group(0) @binding(0) var<uniform> light: Light;")
     >>> [(member["name"], member["offset"], member["size"]) for member in told["structs"][0]["members"]]
@@ -42,11 +43,27 @@ def source_layout(text: str | bytes) -> dict[str, Any]:
     >>> told["variables"][0]["minBindingSize"]
     16
     """
+    layouts: dict[str, Any] = json.loads(ask("wgsl_source_layout", _bytes_of(text))[1])
+    return layouts
+
+
+def _bytes_of(text: str | bytes) -> bytes:
     if not isinstance(text, (str, bytes, bytearray, memoryview)):
         raise TypeError(f"a text is a str or bytes, not {type(text).__name__}")
-    data = text.encode("utf-8", "surrogatepass") if isinstance(text, str) else bytes(text)
-    layouts: dict[str, Any] = json.loads(ask("wgsl_source_layout", data)[1])
-    return layouts
+    return text.encode("utf-8", "surrogatepass") if isinstance(text, str) else bytes(text)
+
+
+def source_code(text: str | bytes, language: str) -> str:
+    """The structs of a WGSL module as code in a language: `c`, `rust`, `numpy` or `typescript`. Raises SourceError if the module
+    has errors.
+
+    >>> print(source_code("struct Light { power: f32 }", "c").splitlines()[-1])
+    static_assert(sizeof(struct Light) == 4, "");
+    """
+    if language not in _LANGUAGES:
+        raise ValueError(f"there is no language {language!r}: it is {', '.join(_LANGUAGES)}")
+    _without_errors(text)
+    return ask("wgsl_source_code", _bytes_of(text), _LANGUAGES.index(language))[1]
 
 
 def _without_errors(text: str | bytes | dict[str, Any]) -> dict[str, Any]:

@@ -1,5 +1,5 @@
 -- What follows for a caller from the reply that is returned.
-use Rattle.std.proofs.Common.{◌≡◌, ◌≢◌, ◌⊎◌, ◌≤◌, ℕ, List, [], Result, Ok, Err, IsUtf8, arith, drop, inl, inr, length, subst}
+use Rattle.std.proofs.Common.{◌≡◌, ◌≢◌, ◌⊎◌, ◌<◌, ◌≤◌, ℕ, List, [], Result, Ok, Err, IsUtf8, arith, drop, inl, inr, length, subst}
 use Rattle.std.specs.Prelude.{IfOk, string_bytes}
 use Rattle.std.specs.declared.alloc.AllocError.{AllocError}
 use Rattle.std.proofs.Math.Seq.{drop-append_seam, take-append_seam}
@@ -12,7 +12,7 @@ use Rattle.wgsl_expressions.specs.declared.request.Reply.{Reply}
 use Rattle.wgsl_expressions.specs.declared.request.Reply.TheVariants.{Nothing, Answer, Unreadable}
 use Rattle.wgsl_text.specs.declared.write.TextKind.{TextKind}
 use Rattle.wgsl_text.specs.declared.write.TextKind.TheVariants as kinds
-use Rattle.wgsl_c.specs.HandOver.{IsAnswered, IsEmpty, IsExplained, IsHandedOver, IsPromised, IsText, IsTold, IsTransfer, IsWritten, status_of}
+use Rattle.wgsl_c.specs.HandOver.{IsAnswer, IsAnswered, IsCode, IsEmpty, IsExplained, IsHandedOver, IsPromised, IsText, IsTold, IsTransfer, IsTranslated, IsWritten, status_of}
 
 at_most_one : (kind : TextKind) → status_of kind ≤ 1
 at_most_one kinds.Answer = omega arith
@@ -131,4 +131,26 @@ module _ (old new : List ℕ) (len status : ℕ) where
     handed_over = h;
     transfer = transfer reply old new len status h;
     readable = readable reply is h;
+  }
+
+  written_otherwise : (wanted : ℕ) (bytes : List ℕ) → wanted ≤ 1 → IsWritten wanted bytes old new len status → status ≢ 2
+  written_otherwise wanted bytes low h two = elim (cases_lt (length old) (length bytes)) [
+    | inl long ↦ omega (arith, two, h.no_room long)
+    | inr fit ↦ let is = h.fits (omega (arith, fit)) in omega (arith, two, is, low)
+  ]
+
+  answers : (reply : Result Reply AllocError) → IfOk reply IsAnswer → IsHandedOver reply old new len status → status ≢ 2
+  answers (Ok (Answer kind text)) is h = written_otherwise _ _ (at_most_one kind) h
+  answers (Ok Nothing) is h = absurd is
+  answers (Ok Unreadable) is h = absurd is
+  answers (Err e) is h = λ two. omega (arith, two, h.answers)
+
+  pub translated : (language : ℕ) (reply : Result Reply AllocError) → IsCode language reply → IsHandedOver reply old new len status → IsTranslated language old new len status
+  translated language reply is h = record {
+    reply = reply;
+    which = is;
+    handed_over = h;
+    transfer = transfer reply old new len status h;
+    known = λ low. answers reply (is.known low) h;
+    unknown = λ high. unreadable reply (is.unknown high) h;
   }

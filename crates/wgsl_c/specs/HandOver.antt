@@ -80,6 +80,24 @@ IsText (Ok (Answer kind text)) = kind ≡ kinds.Answer
 IsText (Ok reply) = ⊥
 IsText (Err _) = Unit {0}
 
+abbrev pub IsAnswer : Reply → Type 0
+IsAnswer (Answer kind text) = Unit {0}
+IsAnswer reply = ⊥
+
+-- the code of a text in a language: 0 C, 1 Rust, 2 numpy, 3 TypeScript. Others are unreadable
+pub record IsCode (language : ℕ) (reply : Result Reply AllocError) : Type 0 where
+  pub known : language ≤ 3 → IfOk reply IsAnswer
+  pub unknown : 3 < language → reply ≡ Ok Unreadable
+
+-- What a call gets that writes code.
+pub record IsTranslated (language : ℕ) (old new : List ℕ) (len status : ℕ) : Type 0 where
+  pub reply : Result Reply AllocError
+  pub which : IsCode language reply
+  pub handed_over : IsHandedOver reply old new len status
+  pub transfer : IsTransfer old new len status
+  pub known : language ≤ 3 → status ≢ 2
+  pub unknown : 3 < language → status ≡ 2
+
 -- What a call gets that writes a text whatever it is given.
 pub record IsTold (old new : List ℕ) (len status : ℕ) : Type 0 where
   pub reply : Result Reply AllocError

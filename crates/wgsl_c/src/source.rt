@@ -1,5 +1,6 @@
-// The layouts of a WGSL text, for C.
-ghost use Rattle.wgsl_c.specs.HandOver.{IsText, IsTold};
+// The layouts of a WGSL text, and its structs as code, for C.
+ghost use Rattle.std.specs.Prelude.{◌<◌, ◌≤◌, IfOk, MatchOption};
+ghost use Rattle.wgsl_c.specs.HandOver.{IsAnswer, IsCode, IsText, IsTold, IsTranslated};
 
 use crate::hand_over::hand_over;
 use std::alloc::{AllocError, Global};
@@ -31,4 +32,62 @@ fn layouts(alloc: Global, source: &[u8]) -> Result<Reply, AllocError>
     };
     let Report { text, .. } = report_on(alloc, source, options)?;
     Ok(Reply::Answer(TextKind::Answer, text))
+}
+
+/// Writes the structs of a WGSL text in a language, as `./wgsl_layout` prints them: 0 is C, 1 Rust, 2 numpy, 3 TypeScript. The status
+/// is 1 if the text has errors; those structs are written then that have none.
+#[unsafe(no_mangle)]
+pub extern "C" fn wgsl_source_code(
+    alloc: Global,
+    source: &[u8],
+    buffer: &mut [u8],
+    text_len: &mut usize,
+    language: u8,
+) -> u8
+    ensures { IsTranslated language buffer.old buffer.new text_len.new result }
+{
+    hand_over(&code(alloc, source, language), buffer, text_len)
+}
+
+fn code(alloc: Global, source: &[u8], language: u8) -> Result<Reply, AllocError>
+    ensures { IsCode language result }
+{
+    match format_of(language) {
+        Some(format) => code_in(alloc, source, format),
+        None => Ok(Reply::Unreadable),
+    }
+}
+
+fn format_of(language: u8) -> Option<Format>
+    ensures { MatchOption result (3 < language) (λ _. language ≤ 3) }
+{
+    match language {
+        0 => Some(Format::C),
+        1 => Some(Format::Rust),
+        2 => Some(Format::Numpy),
+        3 => Some(Format::TypeScript),
+        _ => None,
+    }
+}
+
+fn code_in(alloc: Global, source: &[u8], format: Format) -> Result<Reply, AllocError>
+    ensures { IfOk result IsAnswer }
+{
+    let options = ReportOptions {
+        file: "",
+        only: &[],
+        format,
+        style: Style::Plain,
+    };
+    let Report {
+        text,
+        has_errors,
+        ..
+    } = report_on(alloc, source, options)?;
+    let kind = if has_errors {
+        TextKind::Refusal
+    } else {
+        TextKind::Answer
+    };
+    Ok(Reply::Answer(kind, text))
 }

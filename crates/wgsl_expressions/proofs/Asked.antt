@@ -1,12 +1,12 @@
 -- The expression that a request asks about, and what is replied.
-use Rattle.std.proofs.Common.{◌≡◌, ℕ, ◌≤◌, ◌&&◌, Bool, true, false, List, [], Some, None, Result, Ok, Err, IsUtf8, codes, cond, drop, length, not, take, refl, sym, ap, ◌∙◌, arith}
+use Rattle.std.proofs.Common.{◌≡◌, ℕ, ◌+◌, ◌≤◌, ◌&&◌, Bool, true, false, List, [], Option, Some, None, Result, Ok, Err, IsUtf8, codes, cond, drop, get_or, get_or-drop, get_or-take, is_some, length, not, take, refl, sym, ap, subst, ◌∙◌, arith}
 use Rattle.std.specs.List.{take_while}
-use Rattle.std.specs.Prelude.{IfOk}
-use Rattle.std.specs.Str.{bytes_eq}
+use Rattle.std.specs.Prelude.{IfOk, MatchOption}
+use Rattle.std.specs.Str.{IsCharBoundary, bytes_eq}
+use Rattle.std.proofs.lemmas.Str.{IsCharBoundary-after_ascii, IsUtf8-drop}
 use Rattle.std.proofs.lemmas.Grind.{common_steps}
-use Rattle.std.proofs.lemmas.List.{length-drop}
+use Rattle.std.proofs.lemmas.List.{drop-drop, length-drop}
 use Rattle.std.proofs.lemmas.Slice.Eq.{bytes_eq-Decides}
-use Rattle.std.proofs.lemmas.Str.{IsUtf8-from_ascii}
 use Rattle.wgsl_text.specs.Replies.{IsReplyToLine as IsReplyToWords, WritesReply}
 use Rattle.wgsl_text.specs.Words.{is_separator, words_of}
 use Rattle.wgsl_text.specs.declared.request.ReplyKind.{ReplyKind}
@@ -14,7 +14,6 @@ use Rattle.wgsl_text.specs.declared.request.ReplyKind.TheVariants as k
 use Rattle.wgsl_syntax.specs.declared.rules.RuleSet.{RuleSet}
 use Rattle.wgsl_syntax.specs.declared.rules.RuleSet.TheVariants.{Standard}
 use Rattle.wgsl_text.proofs.FirstWord.{words_of-first}
-use Rattle.wgsl_expressions.specs.Grammar.{IsTyped, not_ascii}
 use Rattle.wgsl_expressions.specs.Replies.{IsReplyToLine, begins_separated, expression_asked, to_words}
 
 -- what comes behind the word `type`
@@ -41,6 +40,20 @@ shorter bytes text e =
     let rest = drop gap bytes in
     omega (arith, ap length (behind bytes text e).is, length-drop 4 rest, length-drop gap bytes)
 
+-- a text behind the word is a text: the word ends in `e`
+pub is_text : (bytes text : List ℕ) → expression_asked Standard bytes ≡ Some text → IsUtf8 bytes → IsUtf8 text
+is_text bytes text e utf8 =
+    let gap = length (take_while is_separator bytes) in
+    let rest = drop gap bytes in
+    let found = behind bytes text e in
+    let four : 4 ≤ length rest = four_bytes rest found.begins in
+    let count = length-drop gap bytes in
+    let last : get_or rest 3 0 ≡ 101 = sym (get_or-take 4 rest 3 0 (omega arith)) ∙ ap (λ r. get_or r 3 0) found.begins in
+    let ends : get_or bytes (gap + 3) 0 ≡ 101 = sym (get_or-drop gap bytes 3 0) ∙ last in
+    let boundary : IsCharBoundary bytes (gap + 3 + 1) = IsCharBoundary-after_ascii bytes (gap + 3) utf8 (omega (arith, four, count)) (omega (arith, ends)) in
+    let same : text ≡ drop (gap + 3 + 1) bytes = found.is ∙ (drop-drop 4 gap bytes ∙ ap (λ n. drop n bytes) (omega arith)) in
+    subst IsUtf8 (sym same) (IsUtf8-drop bytes (gap + 3 + 1) utf8 boundary)
+
 -- such a request has words
 pub has_words : (bytes text : List ℕ) → expression_asked Standard bytes ≡ Some text → words_of bytes ≡ [] → ⊥
 has_words bytes text e none =
@@ -51,9 +64,10 @@ has_words bytes text e none =
     let first = words_of-first bytes rest gap len refl refl refl (omega (arith, four)) in
     cc (sym none ∙ first)
 
--- a text that isn't UTF-8 isn't ASCII either
-pub not_utf8 : (text : List ℕ) → ¬ IsUtf8 text → IsTyped text None
-not_utf8 text other = not_ascii (λ all. other (IsUtf8-from_ascii text all))
+-- there is nothing, by a test
+pub none_if : {A : Type 0} (r : Option A) (N : Type 0) (P : A → Type 0) (b : Bool) → is_some r ≡ not b → b ≡ true → MatchOption r N P → N
+none_if None N P b e t m = m
+none_if (Some x) N P b e t m = cc (e ∙ ap not t)
 
 -- the reply to another request
 module _ (rules : RuleSet) (bytes : List ℕ) (other : expression_asked rules bytes ≡ None) where

@@ -1,14 +1,7 @@
-pub mod Tokens
-pub mod Operators
-pub mod Readers
-pub mod Lists
-pub mod Heads
-pub mod Groups
-pub mod Rules
-pub mod Whole
+pub mod Layered
+pub mod Operands
+pub mod Steps
 pub mod OneOutcome
-pub mod OneExpression
-pub mod Finding
 pub mod Total
 pub mod Asked
 pub mod OneReply

@@ -4,9 +4,9 @@ use Rattle.wgsl_text.specs.Replies.{ReplyText, too_long, unreadable}
 use Rattle.wgsl_text.specs.Words.{has_line_feed}
 use Rattle.wgsl_syntax.specs.declared.rules.RuleSet.{RuleSet}
 use Rattle.wgsl_text.proofs.OneReply.{one_line_reply as one_reply_to_words}
-use Rattle.wgsl_expressions.specs.Grammar.{IsTyped}
+use Rattle.wgsl_expressions.specs.Typing.{IsTyped}
 use Rattle.wgsl_expressions.specs.Replies.{IsReplyTo, IsReplyToLine, expression_asked, expression_reply, forbidden, long_expression, no_text, one_line, to_expression, to_words}
-use Rattle.wgsl_expressions.proofs.OneExpression.{one_outcome}
+use Rattle.wgsl_expressions.proofs.OneOutcome.{one_outcome}
 
 -- a line that is too long can't be read
 pub long_line : (rules : RuleSet) (bytes : List ℕ) → 4096 < length bytes → IsReplyToLine rules bytes unreadable
@@ -40,7 +40,7 @@ line_once (to_expression text x e line is) (long_expression more g long) = absur
 line_once (to_expression text x e line is) (no_text more g other) = absurd (other line.is_text)
 line_once {rules} {bytes} (to_expression text x e line is) (to_expression more y g also it) =
     let same : more ≡ text = same_text _ e g in
-    let one : x ≡ y = one_outcome is (subst (λ text. IsTyped text y) same it) in
+    let one : x ≡ y = one_outcome text x y is (subst (λ text. IsTyped text y) same it) in
     λ i. expression_reply (length bytes - length (sym same i)) (one i)
 
 pub one_line_reply : (rules : RuleSet) (bytes : List ℕ) (r s : ReplyText) → IsReplyToLine rules bytes r → IsReplyToLine rules bytes s → r ≡ s

@@ -1,11 +1,10 @@
-pub mod Tokens
-pub mod Numbers
-pub mod Starts
+pub mod Source
+pub mod Literals
 pub mod Operators
 pub mod Reading
-pub mod Cursors
 pub mod Outcomes
+pub mod Depth
 pub mod Names
-pub mod Grammar
+pub mod Typing
 pub mod Views
 pub mod Replies

@@ -2,6 +2,7 @@
 use Rattle.std.specs.Prelude.{◌≡◌, ℕ, List, [], ◌∷◌, ◌++◌, Option, Some, None, Result, Ok, Err, Bool, true, cond, ◌&&◌, map}
 use Rattle.std.specs.List.{list_all}
 use Rattle.wgsl_syntax.specs.declared.operator.BinaryOperator.{BinaryOperator}
+use Rattle.wgsl_syntax.specs.declared.operator.UnaryOperator.{UnaryOperator}
 use Rattle.wgsl_syntax.specs.declared.operator.UnaryOperator.TheVariants.{AddressOf}
 use Rattle.wgsl_rules.specs.standard.Choice.{Operand}
 use Rattle.wgsl_rules.specs.types.Signatures.{Parameter}
@@ -134,3 +135,7 @@ IsCalled at head (Err e) r = r ≡ Err e
 
 abbrev pub IsBinary : ℕ → BinaryOperator → Outcome → Outcome → Outcome → Type 0
 IsBinary at o x y r = IsCalled at (overloaded (a_binary o) None) (with_part (with_part no_parts x) y) r
+
+-- `-x`
+abbrev pub IsUnary : ℕ → UnaryOperator → Outcome → Outcome → Type 0
+IsUnary at o x r = IsCalled at (overloaded (a_unary o) None) (with_part no_parts x) r

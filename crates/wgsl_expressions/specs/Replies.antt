@@ -10,7 +10,7 @@ use Rattle.wgsl_syntax.specs.declared.rules.RuleSet.{RuleSet}
 use Rattle.wgsl_syntax.specs.declared.rules.RuleSet.TheVariants.{Ported, Standard}
 use Rattle.wgsl_text.specs.declared.write.TextKind.{TextKind}
 use Rattle.wgsl_text.specs.declared.write.TextKind.TheVariants as kinds
-use Rattle.wgsl_expressions.specs.Grammar.{IsTyped}
+use Rattle.wgsl_expressions.specs.Typing.{IsTyped}
 use Rattle.wgsl_expressions.specs.Outcomes.{Outcome}
 use Rattle.wgsl_expressions.specs.declared.request.Reply.{Reply}
 use Rattle.wgsl_expressions.specs.declared.request.Reply.TheVariants as r

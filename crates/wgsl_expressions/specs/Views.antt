@@ -1,5 +1,5 @@
--- How the code's expressions, heads and cursors are seen.
-use Rattle.std.specs.Prelude.{◌≡◌, ℕ, List, Result, Ok, Err, Option, Some, None, map, option_map, string_bytes}
+-- How the code's expressions, heads and items are seen.
+use Rattle.std.specs.Prelude.{◌≡◌, ℕ, List, Result, Ok, Err, Option, Some, None, map, option_map, reverse, string_bytes}
 use Rattle.wgsl_core.specs.Instances.{parameter_view}
 use Rattle.wgsl_rules.specs.types.Types.{WgslType}
 use Rattle.wgsl_requests.specs.Answers.{Answers, WgslAnswer}
@@ -9,18 +9,19 @@ use Rattle.wgsl_core.specs.View.{view}
 use Rattle.wgsl_standard.specs.Callees.{a_unary, a_binary, a_function, a_constructor}
 use Rattle.wgsl_forms.specs.Expressions.{Expression}
 use Rattle.wgsl_core.specs.declared.error.Fail.{Fail}
-use Rattle.wgsl_expressions.specs.Grammar.{Group, IsTyped}
-use Rattle.wgsl_expressions.specs.Names.{Named}
 use Rattle.wgsl_expressions.specs.Outcomes.{Head, Outcome, Refused, overloaded, type_of_answer, typed_array}
-use Rattle.wgsl_expressions.specs.Reading.{Answers as AnswersIn, Found}
-use Rattle.wgsl_expressions.specs.Tokens.{Token}
-use Rattle.wgsl_expressions.specs.declared.group.Group.{Group as CodeGroup}
+use Rattle.wgsl_expressions.specs.Reading.{Answers as AnswersIn}
+use Rattle.wgsl_expressions.specs.Source.{Source}
+use Rattle.wgsl_expressions.specs.Typing.{Call, Item, IsTyped, Top, a_bracket, a_call, a_name, an_operand, an_operator}
 use Rattle.wgsl_expressions.specs.declared.misread.Misread.{Misread}
 use Rattle.wgsl_expressions.specs.declared.head.Head.{Head as CodeHead}
 use Rattle.wgsl_expressions.specs.declared.head.Head.TheVariants as heads
-use Rattle.wgsl_expressions.specs.declared.name.Named.{Named as CodeNamed}
+use Rattle.wgsl_expressions.specs.declared.source.Source.{Source as CodeSource}
 use Rattle.wgsl_expressions.specs.declared.outcome.Typed.{Typed}
 use Rattle.wgsl_expressions.specs.declared.outcome.Refused.{Refused as CodeRefused}
+use Rattle.wgsl_expressions.specs.declared.step.Call.{Call as CodeCall}
+use Rattle.wgsl_expressions.specs.declared.step.Item.{Item as CodeItem}
+use Rattle.wgsl_expressions.specs.declared.step.Item.TheVariants as items
 
 abbrev pub typed_view : Typed → Expression
 typed_view x = record { of_type = view x.ty; is_constant = x.is_constant; referent = x.referent }
@@ -49,9 +50,6 @@ IsFoundIn a (Err text) = (type_of_answer a ≡ None) × (text ≡ answer_text a)
 abbrev pub IsFound : WgslRequest → Result WgslType (List ℕ) → Type 0
 IsFound request found = (a : WgslAnswer) × Answers request a × IsFoundIn a found
 
-abbrev pub named_view : CodeNamed → Named
-named_view n = (n.name.now, option_map string_bytes n.list)
-
 abbrev pub head_view : CodeHead → Head
 head_view (heads.Unary o) = overloaded (a_unary o) None
 head_view (heads.Binary o) = overloaded (a_binary o) None
@@ -59,23 +57,37 @@ head_view (heads.Constructor name ps) = overloaded (a_constructor (string_bytes 
 head_view (heads.Function name ps) = overloaded (a_function (string_bytes name)) (option_map (λ ps. map parameter_view ps.items) ps)
 head_view (heads.Array t n) = typed_array (view t) n
 
--- the list that was read, and the tokens behind it
-abbrev pub IsListRead : Found (List ℕ) → Option (List ℕ) → List Token → Type 0
-IsListRead found None after = found ≡ None
-IsListRead found (Some text) after = found ≡ Some (text, after)
+abbrev pub source_view : CodeSource → Source
+source_view s = record { text = s.text.now; tokens = s.tokens.now; events = s.events.now }
 
--- the same, but without a list no token is taken
-abbrev pub IsListFound : Found (List ℕ) → List Token → Option (List ℕ) → List Token → Type 0
-IsListFound found before None after = (found ≡ None) × (after ≡ before)
-IsListFound found before (Some text) after = found ≡ Some (text, after)
+abbrev pub call_view : CodeCall → Call
+call_view call = record { at = call.at; head = head_view call.head; parts = shown (λ v. map typed_view v.items) refused_view call.parts }
 
-abbrev pub group_view : CodeGroup → Group
-group_view g = (g.looseness, outcome_view g.outcome)
+-- what was read, the last first
+abbrev pub item_view : CodeItem → Item
+item_view (items.Operand x) = an_operand (outcome_view x)
+item_view (items.Name count) = a_name count
+item_view (items.Operator count) = an_operator count
+item_view (items.Bracket at) = a_bracket at
+item_view (items.Call call) = a_call (call_view call)
 
--- the group that was made, or None where the error is a misread one
-abbrev pub IsGroup : (Option Group → Type 0) → Result CodeGroup (Fail Misread) → Type 0
-IsGroup Is r = AnswersIn (λ g. Is (Some (group_view g))) (Is None) r
+abbrev pub items_view : List CodeItem → List Item
+items_view items = map item_view (reverse items)
 
--- the outcome of an expression, or None where the error is a misread one
+abbrev pub same : {A : Type 0} → A → A
+same x = x
+
+-- what was taken from the top, and the items below; the error is a misread one only if it isn't there
+abbrev pub Takes : {A B : Type 0} → (A → B) → Top B → List CodeItem → Result A (Fail Misread) → Type 0
+Takes view found after r = AnswersIn (λ x. found ≡ Some (view x, items_view after)) (found ≡ None) r
+
+-- the items that come of others; the error is a misread one only if there is no expression
+abbrev pub Does : (Option (List Item) → Type 0) → List CodeItem → Result (Unit {0}) (Fail Misread) → Type 0
+Does Is after r = AnswersIn (λ done. Is (Some (items_view after))) (Is None) r
+
+-- the outcome that was found, or None where the error is a misread one
+abbrev pub IsOutcomeOf : (Option Outcome → Type 0) → Result (Result Typed CodeRefused) (Fail Misread) → Type 0
+IsOutcomeOf Is r = AnswersIn (λ x. Is (Some (outcome_view x))) (Is None) r
+
 abbrev pub IsTypedText : List ℕ → Result (Result Typed CodeRefused) (Fail Misread) → Type 0
-IsTypedText text r = AnswersIn (λ x. IsTyped text (Some (outcome_view x))) (IsTyped text None) r
+IsTypedText text r = IsOutcomeOf (IsTyped text) r

@@ -12,7 +12,7 @@ ghost use Rattle.wgsl_requests.specs.Requests.{form_of};
 ghost use Rattle.wgsl_requests.specs.StandardViews.{written_view};
 ghost use Rattle.wgsl_requests.specs.Views.{request_view};
 ghost use Rattle.wgsl_text.specs.internal.Asked.{called};
-ghost use Rattle.wgsl_expressions.specs.Outcomes.{IsBinary, IsCalled, IsElement, IsMember, asked, asked_with, is_const_call, is_constant, makes_constant, marked, member_in, operand, operand_by, part_in, referent_of, swizzle_in};
+ghost use Rattle.wgsl_expressions.specs.Outcomes.{IsBinary, IsCalled, IsElement, IsMember, IsUnary, asked, asked_with, is_const_call, is_constant, makes_constant, marked, member_in, operand, operand_by, part_in, referent_of, swizzle_in};
 ghost use Rattle.wgsl_expressions.specs.Views.{IsFound, found_outcome, head_view, outcome_view, refused_view, shown, typed_view};
 
 use crate::head::Head;
@@ -227,6 +227,19 @@ pub(crate) fn binary(
 {
     let parts = with_part(with_part(Ok(Vec::new(alloc)), x)?, y)?;
     call(alloc, at, &Head::Binary(operator), parts)
+}
+
+/// `-x`, whose operator is at that byte.
+pub(crate) fn unary(
+    alloc: Global,
+    at: usize,
+    operator: UnaryOperator,
+    x: Outcome,
+) -> Result<Outcome, AllocError>
+    ensures { IfOk result (λ y. IsUnary at operator (outcome_view x) (outcome_view y)) }
+{
+    let parts = with_part(Ok(Vec::new(alloc)), x)?;
+    call(alloc, at, &Head::Unary(operator), parts)
 }
 
 /// The outcome of a call or a constructor with its operands, whose first token is at that byte.

@@ -2,12 +2,12 @@
 ghost use Rattle.std.specs.Prelude.{◌≡◌, ℕ, List, Option};
 ghost use Rattle.wgsl_text.specs.Replies.{ReplyText};
 ghost use Rattle.wgsl_syntax.specs.declared.rules.RuleSet.{RuleSet};
-ghost use Rattle.wgsl_expressions.specs.Grammar.{IsTyped};
+ghost use Rattle.wgsl_expressions.specs.Typing.{IsTyped};
 ghost use Rattle.wgsl_expressions.specs.Outcomes.{Outcome};
 ghost use Rattle.wgsl_expressions.specs.Replies.{IsReplyTo};
 
 /// A text has at most one outcome: it is one expression or none, and that has one type or one first part that has none.
-#[tactic(auto, using(crate::proofs::OneExpression::one_outcome))]
+#[tactic(auto, using(crate::proofs::OneOutcome::one_outcome))]
 pub fn one_outcome()
     ensures { (text : List ℕ) (r s : Option Outcome) → IsTyped text r → IsTyped text s → r ≡ s }
 {}

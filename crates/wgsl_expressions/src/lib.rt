@@ -2,19 +2,16 @@
 #![tactic(auto)]
 
 mod ask;
-mod binding;
-mod cursor;
+mod depth;
 pub mod expression;
-mod group;
 mod head;
 pub mod laws;
+pub mod literal;
 pub mod misread;
 mod name;
-mod number;
 mod operator;
 pub mod outcome;
-mod read;
 mod reply;
 pub mod request;
-mod start;
-mod token;
+mod source;
+mod step;

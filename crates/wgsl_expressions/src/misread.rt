@@ -1,8 +1,12 @@
 // Why a text is no expression.
 
+use wgsl_spelling::fault::Cause;
+
 /// What was expected in place of a token.
 #[derive(Clone, Copy)]
 pub enum Wanted {
+    /// A token.
+    Token,
     /// A type, a literal, a call, `(`, or an operator in front of an operand.
     Operand,
     Type,
@@ -11,32 +15,33 @@ pub enum Wanted {
     Parenthesis,
     /// `]`
     Bracket,
+    /// `>`
+    ListEnd,
     /// An operator or the end.
     End,
-    /// ASCII.
-    Ascii,
     /// Brackets around an operand of this operator.
     Grouping,
-    /// Fewer brackets, lists and operators in front, one in another.
+    /// A type with fewer layers.
     Shallower,
-    /// Fewer operators side by side.
-    Fewer,
+    /// A type without this fault.
+    Faultless(Cause),
 }
 
 impl Wanted {
     /// What is expected, in words.
     pub fn text(self) -> &'static str {
         match self {
+            Wanted::Token => "expected a token",
             Wanted::Operand => "expected an operand",
             Wanted::Type => "expected a type",
             Wanted::Name => "expected a name",
             Wanted::Parenthesis => "expected `)`",
             Wanted::Bracket => "expected `]`",
+            Wanted::ListEnd => "expected `>`",
             Wanted::End => "expected an operator or the end",
-            Wanted::Ascii => "expected ASCII",
             Wanted::Grouping => "an operand of this operator needs brackets",
-            Wanted::Shallower => "nested more than 255 deep",
-            Wanted::Fewer => "more than 255 operators side by side",
+            Wanted::Shallower => "a type is nested more than 255 deep",
+            Wanted::Faultless(cause) => cause.text(),
         }
     }
 }

@@ -1,68 +1,47 @@
-// Binary operators among tokens.
-ghost use Rattle.std.specs.Prelude.{◌≡◌, ◌<◌, MatchOption, None, OnSome, Some, option_map};
-ghost use Rattle.wgsl_syntax.specs.Names.{named, table};
-ghost use Rattle.wgsl_syntax.specs.Operator.{binary_operators, binary_text};
-ghost use Rattle.wgsl_expressions.specs.Cursors.{GoesOn, left};
-ghost use Rattle.wgsl_expressions.specs.Operators.{greater, operator_at, operator_by};
-ghost use Rattle.wgsl_expressions.specs.Tokens.{token_view};
+// Operators among tokens.
+ghost use Rattle.std.specs.Prelude.{◌≡◌};
+ghost use Rattle.wgsl_expressions.specs.Operators.{binary_of, unary_of};
 
-use crate::binding::Placed;
-use crate::cursor::Cursor;
-use crate::token::Token;
-use std::str::FromStr;
-use wgsl_syntax::operator::BinaryOperator;
+use wgsl_reader::kind::Kind;
+use wgsl_syntax::operator::{BinaryOperator, UnaryOperator};
 
-/// The next binary operator, if one comes next.
-pub(crate) fn next_operator(words: &mut Cursor) -> Option<Placed>
-    ensures operator { MatchOption result
-        ((operator_at (left words.old) ≡ None) × (left words.new ≡ left words.old))
-        (λ o. operator_at (left words.old) ≡ Some (o, left words.new)) }
-    ensures goes_on { GoesOn words.old words.new }
-    ensures one { OnSome result (words.old.taken < words.new.taken) }
+/// The operator in front of an operand that a kind of token is.
+pub(crate) fn unary_of(kind: Kind) -> Option<UnaryOperator>
+    ensures { result ≡ unary_of kind }
 {
-    let mut ahead = *words;
-    let first = ahead.next()?;
-    let operator = operator_of(first, &mut ahead)?;
-    *words = ahead;
-    Some(Placed {
-        operator,
-        at: first.at,
-    })
-}
-
-/// The binary operator that begins with a token.
-fn operator_of(first: Token, words: &mut Cursor) -> Option<BinaryOperator>
-    ensures operator { option_map (λ o. (o, left words.new)) result ≡ operator_by (token_view first.entry) (left words.old) }
-    ensures goes_on { GoesOn words.old words.new }
-{
-    if first.text == ">" {
-        Some(greater(first, words))
-    } else {
-        binary_operator(first.text)
+    match kind {
+        Kind::Bang => Some(UnaryOperator::LogicalNegation),
+        Kind::Minus => Some(UnaryOperator::Negation),
+        Kind::Tilde => Some(UnaryOperator::BitwiseComplement),
+        Kind::And => Some(UnaryOperator::AddressOf),
+        Kind::Star => Some(UnaryOperator::Indirection),
+        _ => None,
     }
 }
 
-fn binary_operator(text: &str) -> Option<BinaryOperator>
-    ensures { result ≡ named (table binary_text binary_operators) text.now }
+/// The operator between operands that a kind of token is.
+pub(crate) fn binary_of(kind: Kind) -> Option<BinaryOperator>
+    ensures { result ≡ binary_of kind }
 {
-    BinaryOperator::from_str(text).ok()
-}
-
-/// The operator that begins with `>`.
-fn greater(first: Token, words: &mut Cursor) -> BinaryOperator
-    ensures operator { greater (token_view first.entry) (left words.old) ≡ Some (result, left words.new) }
-    ensures goes_on { GoesOn words.old words.new }
-{
-    let mut ahead = *words;
-    match ahead.next() {
-        Some(second) if second.at.saturating_sub(first.at) == 1 && second.text == ">" => {
-            *words = ahead;
-            BinaryOperator::ShiftRight
-        }
-        Some(second) if second.at.saturating_sub(first.at) == 1 && second.text == "=" => {
-            *words = ahead;
-            BinaryOperator::GreaterThanEqual
-        }
-        _ => BinaryOperator::GreaterThan,
+    match kind {
+        Kind::OrOr => Some(BinaryOperator::ShortCircuitOr),
+        Kind::AndAnd => Some(BinaryOperator::ShortCircuitAnd),
+        Kind::Plus => Some(BinaryOperator::Addition),
+        Kind::Minus => Some(BinaryOperator::Subtraction),
+        Kind::Star => Some(BinaryOperator::Multiplication),
+        Kind::Slash => Some(BinaryOperator::Division),
+        Kind::Percent => Some(BinaryOperator::Remainder),
+        Kind::EqualEqual => Some(BinaryOperator::Equality),
+        Kind::NotEqual => Some(BinaryOperator::Inequality),
+        Kind::Less => Some(BinaryOperator::LessThan),
+        Kind::LessEqual => Some(BinaryOperator::LessThanEqual),
+        Kind::Greater => Some(BinaryOperator::GreaterThan),
+        Kind::GreaterEqual => Some(BinaryOperator::GreaterThanEqual),
+        Kind::Or => Some(BinaryOperator::BitwiseOr),
+        Kind::And => Some(BinaryOperator::BitwiseAnd),
+        Kind::Xor => Some(BinaryOperator::BitwiseXor),
+        Kind::ShiftLeft => Some(BinaryOperator::ShiftLeft),
+        Kind::ShiftRight => Some(BinaryOperator::ShiftRight),
+        _ => None,
     }
 }

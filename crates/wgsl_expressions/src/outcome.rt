@@ -77,20 +77,3 @@ pub(crate) fn with_part(parts: Parts, part: Outcome) -> Result<Parts, AllocError
         }
     }
 }
-
-/// The same outcome again, with memory of its own.
-pub(crate) fn clone(alloc: Global, outcome: &Outcome) -> Result<Outcome, AllocError>
-    ensures { IfOk result (λ same. outcome_view same ≡ outcome_view outcome.now) }
-{
-    match outcome {
-        Ok(typed) => Ok(Ok(Typed {
-            ty: typed.ty.clone(alloc)?,
-            is_constant: typed.is_constant,
-            referent: typed.referent,
-        })),
-        Err(refused) => Ok(Err(Refused {
-            at: refused.at,
-            message: String::from_str(alloc, refused.message.as_str())?,
-        })),
-    }
-}

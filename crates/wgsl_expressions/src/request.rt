@@ -11,6 +11,7 @@ use crate::misread::{Misread, Wanted};
 use crate::outcome::Outcome;
 use crate::reply::write_outcome;
 use std::alloc::{AllocError, Global};
+use std::str::from_utf8;
 use wgsl_core::error::Fail;
 use wgsl_syntax::rules::RuleSet;
 use wgsl_text::request::write_reply as write_reply_to_words;
@@ -177,11 +178,17 @@ fn write_type(
     let before = request.len() - expression.len();
     match outcome_of(alloc, expression) {
         Ok(outcome) => Ok(ReplyKind::Answer(write_outcome(before, outcome, text)?)),
-        Err(Fail::Error(misread)) => Ok(ReplyKind::Unreadable(Why::Expression(
-            before.saturating_add(misread.at),
-            misread.wanted.text(),
-        ))),
+        Err(Fail::Error(misread)) => Ok(ReplyKind::Unreadable(why_misread(before, misread))),
         Err(Fail::Memory(error)) => Err(error),
+    }
+}
+
+/// Why the expression behind that many bytes can't be read.
+fn why_misread(before: usize, misread: Misread) -> Why {
+    let at = before.saturating_add(misread.at);
+    match misread.wanted {
+        Wanted::Operand => Why::Operand(at),
+        wanted => Why::Expression(at, wanted.text()),
     }
 }
 
@@ -211,15 +218,16 @@ fn reason(alloc: Global, request: &[u8], why: Why) -> Result<String, AllocError>
     Ok(text)
 }
 
-/// What the expression is that the bytes spell.
+/// What the expression is that the bytes of a text spell.
 fn outcome_of(alloc: Global, expression: &[u8]) -> Result<Outcome, Fail<Misread>>
+    requires { IsUtf8 expression.now }
     ensures { IsTypedText expression.now result }
 {
-    match std::str::from_utf8(expression) {
+    match from_utf8(expression) {
         Ok(text) => type_of_expression(alloc, text),
         Err(_) => Err(Fail::Error(Misread {
             at: 0,
-            wanted: Wanted::Ascii,
+            wanted: Wanted::Token,
         })),
     }
 }

@@ -16,6 +16,7 @@ pub mod Declare
 pub mod Assign
 pub mod Variable
 pub mod Lists
+pub mod Flow
 pub mod Switch
 pub mod Array
 pub mod OneAnswer

@@ -44,7 +44,7 @@ counted name n k = asks (n == k) (error (param_count name n k)) (Ok tt)
 abbrev pub values_fit : List ℕ → List WgslType → List WgslType → Fits
 values_fit name ts xs = after (counted name (length ts) (length xs)) (λ u. each_fits ts xs)
 
--- The values are taken by parameters, by `return`, or as a condition, of these types.
+-- The values are taken by parameters of these types.
 abbrev pub list_fits : List WgslType → List WgslType → Fits
 list_fits ts xs = after (are_parameters ts) (λ u. values_fit (codes "fit") ts xs)
 

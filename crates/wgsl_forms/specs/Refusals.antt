@@ -17,6 +17,9 @@ pub data Refusal : Type 0 where
   not_in_space : AddressSpace → WgslType → Refusal
   initialized : AddressSpace → Refusal
   access_mode : AddressSpace → AccessMode → Refusal
+  not_condition : WgslType → Refusal
+  -- the type that the function returns, and that of the value
+  not_returned : WgslType → WgslType → Refusal
 
 abbrev pub refusal_text : Refusal → List ℕ
 refusal_text (error e) = message_by Standard e
@@ -28,3 +31,5 @@ refusal_text (not_in_space s t) =
 refusal_text (initialized s) = codes "a variable in the address space `" ++ space_text_by Standard s ++ codes "` has no initializer"
 refusal_text (access_mode s a) =
     codes "access mode `" ++ access_text a ++ codes "` is not valid in the address space `" ++ space_text_by Standard s ++ codes "`"
+refusal_text (not_condition t) = codes "the condition must be `bool`, not `" ++ wgsl_spelling t ++ codes "`"
+refusal_text (not_returned u t) = codes "the returned value must be `" ++ wgsl_spelling u ++ codes "`, not `" ++ wgsl_spelling t ++ codes "`"

@@ -9,7 +9,7 @@ use Rattle.wgsl_standard.specs.Operands.{given_type}
 use Rattle.wgsl_standard.specs.declared.operand.Operand.{Operand as CodeOperand}
 use Rattle.wgsl_forms.specs.Concrete.{concrete_of}
 use Rattle.wgsl_forms.specs.Expressions.{Expression}
-use Rattle.wgsl_forms.specs.Refusals.{Refusal, error, not_reference, not_integer, not_const, not_in_space, initialized, access_mode}
+use Rattle.wgsl_forms.specs.Refusals.{Refusal, error, not_reference, not_integer, not_const, not_in_space, initialized, access_mode, not_condition, not_returned}
 use Rattle.wgsl_forms.specs.declared.form.Element.{Element}
 use Rattle.wgsl_forms.specs.declared.form.Element.TheVariants as elements
 use Rattle.wgsl_forms.specs.declared.form.UnbuiltType.{UnbuiltType}
@@ -69,6 +69,8 @@ refusal_view (refusals.NotReference t) = not_reference (unbuilt_view t)
 refusal_view (refusals.NotInSpace s t) = not_in_space s (unbuilt_view t)
 refusal_view (refusals.Initialized s) = initialized s
 refusal_view (refusals.AccessMode s a) = access_mode s a
+refusal_view (refusals.NotCondition t) = not_condition (unbuilt_view t)
+refusal_view (refusals.NotReturned u t) = not_returned (unbuilt_view u) (unbuilt_view t)
 refusal_view (refusals.Conversion a b) = error (conversion (unbuilt_view a) (unbuilt_view b))
 refusal_view (refusals.WriteRefType a b) = error (write_ref_type (unbuilt_view a) (unbuilt_view b))
 refusal_view (refusals.Unary o t) = error (unary o (unbuilt_view t))

@@ -1,5 +1,5 @@
 //! The forms of WGSL that aren't operators, constructors or calls: members, indexes, loads, `&` and `*`, declarations,
-//! assignments and lists of values.
+//! assignments, lists of values, conditions and returned values.
 #![tactic(auto)]
 
 pub mod address;
@@ -9,6 +9,7 @@ pub mod concrete;
 pub mod convert;
 pub mod declare;
 pub mod expression;
+pub mod flow;
 pub mod form;
 pub mod index;
 pub mod kinds;

@@ -17,7 +17,7 @@ use wgsl_core::ty::form::Form;
 use wgsl_core::ty::{StructMemberType, Type};
 use wgsl_standard::operand::{Operand, OperandType};
 
-/// Whether parameters of these types take the values (WGSL, "Function Calls"); with one type also `return`, or a condition.
+/// Whether parameters of these types take the values (WGSL, "Function Calls").
 /// Refused, in this order, by `NotConstructible` of a parameter that is abstract or neither constructible nor a pointer nor a
 /// handle, by `ParamCount`, and for the first value that doesn't fit by its load or `ParamType`.
 pub fn fit<'a>(values: &[Operand<'a>], types: &'a [Type]) -> Result<(), Refusal<'a>>

@@ -35,6 +35,10 @@ pub enum Refusal<'a> {
     Initialized(AddressSpace),
     /// An address space, and an access mode that its variables can't have.
     AccessMode(AddressSpace, AccessMode),
+    /// The type of a condition, which should be `bool`.
+    NotCondition(UnbuiltType<'a>),
+    /// The type that a function returns, and the type of the value.
+    NotReturned(UnbuiltType<'a>, UnbuiltType<'a>),
     /// A type, and the type to which it doesn't convert.
     Conversion(UnbuiltType<'a>, UnbuiltType<'a>),
     /// The type written, and the type that the reference refers to.
@@ -94,6 +98,10 @@ impl fmt::Display for Refusal<'_> {
                     f,
                     "access mode `{access}` is not valid in the address space `{space}`"
                 )
+            }
+            Refusal::NotCondition(t) => write!(f, "the condition must be `bool`, not `{t}`"),
+            Refusal::NotReturned(expected, t) => {
+                write!(f, "the returned value must be `{expected}`, not `{t}`")
             }
             Refusal::Conversion(a, b) => write!(f, "cannot convert from `{a}` to `{b}`"),
             Refusal::WriteRefType(n, t) => {

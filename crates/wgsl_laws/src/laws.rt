@@ -4,7 +4,7 @@ ghost use Rattle.wgsl_requests.specs.Answers.{Answers, WgslAnswer};
 ghost use Rattle.wgsl_requests.specs.Requests.{WgslRequest};
 ghost use Rattle.wgsl_lines.specs.Output.{Prints};
 ghost use Rattle.wgsl_text.specs.Replies.{ReplyText};
-ghost use Rattle.wgsl_expressions.specs.Grammar.{IsTyped};
+ghost use Rattle.wgsl_expressions.specs.Typing.{IsTyped};
 ghost use Rattle.wgsl_expressions.specs.Outcomes.{Outcome};
 ghost use Rattle.wgsl_expressions.specs.Replies.{IsReplyTo};
 ghost use Rattle.wgsl_syntax.specs.declared.rules.RuleSet.{RuleSet};

@@ -43,7 +43,7 @@ impl<'a> Misuse<'a> {
             Misuse::NoName => ("there is no name behind --struct", ""),
             Misuse::NoFile => ("there is no file", ""),
             Misuse::OtherForm(word) => ("another form is asked for beside ", word),
-            Misuse::OneFile => ("--c, --rust and --numpy take one file", ""),
+            Misuse::OneFile => ("--c, --rust, --numpy and --typescript take one file", ""),
         }
     }
 }

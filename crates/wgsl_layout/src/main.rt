@@ -14,7 +14,7 @@ use wgsl_report::report::{Report, ReportOptions, report_on};
 use wgsl_report::shown::Style;
 
 const HELP: &str = "\
-usage: wgsl_layout [--json | --c | --rust | --numpy] [--struct NAME]... [--] FILE...
+usage: wgsl_layout [--json | --c | --rust | --numpy | --typescript] [--struct NAME]... [--] FILE...
 
 Prints the layout of each struct of WGSL files, where their variables are bound, and what is wrong with them.
 FILE - is standard input.
@@ -23,7 +23,8 @@ FILE - is standard input.
   --json         the same for programs: an object on a line for each file
   --c            the structs of one file as a C header that checks each offset
   --rust         as Rust
-  --numpy        as numpy dtypes; of these three, what is wrong goes to standard error
+  --numpy        as numpy dtypes
+  --typescript   its offsets, sizes and bindings as constants; of these four, what is wrong goes to standard error
   --help, --version
 
 On a terminal each message has its line, with a caret under the place, and colors unless NO_COLOR is set.

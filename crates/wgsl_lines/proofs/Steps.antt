@@ -199,14 +199,6 @@ module _ (rules : RuleSet) where
         ends_known (λ all. MatchResult result (HasPrinted rules all start now) (HasStopped rules all start now)) input after at.bytes
         (subst (Consumes input after) (append-nil at.bytes) (consumes_more input left after at.bytes [] at.consumed read)) end answered
 
-  -- what `run` says of an Ok
-  pub printed_known : (input start now : Option (List ℕ)) (result : Result Bool RunError)
-      → IfSome input (λ bytes. MatchResult result (HasPrinted rules bytes start now) (HasStopped rules bytes start now))
-      → IfOk result (λ readable. IfSome input (λ bytes. (text : List ℕ) × Prints rules bytes text readable × Appends start now text))
-  printed_known None start now (Ok readable) known = tt
-  printed_known (Some bytes) start now (Ok readable) known = (known.text, known.prints, known.written)
-  printed_known input start now (Err error) known = tt
-
   -- what `run` says of an error
   pub cut_known : (input start now : Option (List ℕ)) (result : Result Bool RunError)
       → IfSome input (λ bytes. MatchResult result (HasPrinted rules bytes start now) (HasStopped rules bytes start now))

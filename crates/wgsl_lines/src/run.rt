@@ -10,7 +10,7 @@ ghost use Rattle.wgsl_expressions.specs.Replies.{IsReplyToLine};
 use crate::line::{Line, split_line};
 use std::alloc::{AllocError, Global};
 use std::io::{ErrorKind, Read, Write};
-use wgsl_expressions::request::{ReplyKind, write_reply};
+use wgsl_expressions::request::{ReplyKind, TextKind, write_reply};
 use wgsl_syntax::rules::RuleSet;
 use wgsl_text::why::{Why, write_why};
 
@@ -55,7 +55,40 @@ pub fn run<R: Read, W: Write, N: Write>(
         (text : List ℕ) × PrintsUntil rules error bytes text × PrintsFirst rules bytes text
         × Appends (W.contents output.old) (W.contents output.new) text)) }
 {
-    Session::new(alloc, program)?.answer_all(rules, input, output, notes)
+    let mut has_refused = false;
+    run_noting(
+        alloc,
+        rules,
+        program,
+        input,
+        output,
+        notes,
+        &mut has_refused,
+    )
+}
+
+/// As `run`; notes too whether the rules refused an expression.
+pub(crate) fn run_noting<R: Read, W: Write, N: Write>(
+    alloc: Global,
+    rules: RuleSet,
+    program: &'static str,
+    input: &mut R,
+    output: &mut W,
+    notes: &mut N,
+    has_refused: &mut bool,
+) -> Result<bool, RunError>
+    ensures printed { IfOk result (λ readable. IfSome (R.remaining input.old) (λ bytes.
+        (text : List ℕ) × Prints rules bytes text readable
+        × Appends (W.contents output.old) (W.contents output.new) text)) }
+    ensures beginning { IfErr result (λ error. IfSome (R.remaining input.old) (λ bytes.
+        (text : List ℕ) × PrintsUntil rules error bytes text × PrintsFirst rules bytes text
+        × Appends (W.contents output.old) (W.contents output.new) text)) }
+{
+    let mut session = Session::new(alloc, program)?;
+    let readable = session.answer_all(rules, input, output, notes);
+    *has_refused = session.has_refused;
+    drop(session);
+    readable
 }
 
 /// The exit status of a run.
@@ -83,6 +116,8 @@ struct Session {
     /// Why lines can't be read.
     notes: String,
     all_readable: bool,
+    /// Whether the rules refused an expression.
+    has_refused: bool,
 }
 
 impl Session {
@@ -99,6 +134,7 @@ impl Session {
             answers: String::new(alloc),
             notes: String::new(alloc),
             all_readable: true,
+            has_refused: false,
         })
     }
 
@@ -200,7 +236,8 @@ impl Session {
         self.answer.clear();
         match write_reply_to(self.alloc, rules, &mut self.line, end, &mut self.answer)? {
             ReplyKind::Nothing => {}
-            ReplyKind::Answer(_) => {
+            ReplyKind::Answer(kind) => {
+                self.has_refused |= matches!(kind, TextKind::Refusal);
                 self.answer.push('\n')?;
                 self.answers.push_str(&self.answer)?;
             }
@@ -280,7 +317,7 @@ fn push_note(
 ) -> Result<(), AllocError> {
     let number = line.number;
     let before = match why {
-        Why::Word(_) | Why::Expression(_, _) => ",",
+        Why::Word(_) | Why::Expression(_, _) | Why::Operand(_) => ",",
         _ => ":",
     };
     write!(notes, "{program}: line {number}{before} ")?;

@@ -8,3 +8,4 @@ mod reserved;
 pub mod rust;
 mod settled;
 mod structs;
+pub mod typescript;

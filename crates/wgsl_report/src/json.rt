@@ -1,5 +1,6 @@
 // Layouts and bindings as an object of JSON.
 
+use crate::lines::Lines;
 use crate::message::{Message, Severity};
 use crate::resource::write_buffer;
 use crate::source::Source;
@@ -24,6 +25,16 @@ pub fn write_json(output: &mut String, source: Source) -> Result<(), AllocError>
     ];
     write_all(output, &start)?;
     write_structs(output, source)?;
+    output.push_str("],\"leftOut\":[")?;
+    for (index, name) in source.module.left_out.iter().enumerate() {
+        let quoted = [
+            Piece::Text(separator(index)),
+            Piece::Text("\""),
+            Piece::Escaped(*name),
+            Piece::Text("\""),
+        ];
+        write_all(output, &quoted)?;
+    }
     output.push_str("],\"variables\":[")?;
     for (index, variable) in source.module.variables.iter().enumerate() {
         write_variable(output, source, index, variable)?;
@@ -37,9 +48,9 @@ pub fn write_json(output: &mut String, source: Source) -> Result<(), AllocError>
         write_entry_point(output, source, index, entry_point)?;
     }
     output.push_str("],\"errors\":[")?;
-    write_messages(output, source, Severity::Error)?;
+    write_messages(output, source.lines, source.messages, Severity::Error)?;
     output.push_str("],\"findings\":[")?;
-    write_messages(output, source, Severity::Finding)?;
+    write_messages(output, source.lines, source.messages, Severity::Finding)?;
     output.push_str("]}\n")
 }
 
@@ -231,13 +242,14 @@ fn write_extents(output: &mut String, extents: [WorkgroupExtent; 3]) -> Result<(
 
 fn write_messages(
     output: &mut String,
-    source: Source,
+    lines: &Lines,
+    messages: &[Message],
     severity: Severity,
 ) -> Result<(), AllocError> {
     let mut written = 0usize;
-    for message in source.messages {
+    for message in messages {
         if message.severity == severity {
-            write_message(output, source, written, message)?;
+            write_message(output, lines, written, message)?;
             written = 1;
         }
     }
@@ -246,7 +258,7 @@ fn write_messages(
 
 fn write_message(
     output: &mut String,
-    source: Source,
+    lines: &Lines,
     index: usize,
     message: &Message,
 ) -> Result<(), AllocError> {
@@ -255,8 +267,10 @@ fn write_message(
         Piece::Text("{\"kind\":\""),
         Piece::Text(message.kind.as_str()),
         Piece::Text("\""),
-        Piece::At(source.lines.place(message.at)),
-        Piece::Text(",\"message\":\""),
+        Piece::At(lines.place(message.at)),
+        Piece::Text(",\"end\":{"),
+        Piece::Place(lines.end_of_word(message.at)),
+        Piece::Text("},\"message\":\""),
         Piece::Escaped(message.text.as_str()),
         Piece::Text("\"}"),
     ];

@@ -5,6 +5,7 @@ use crate::write::{Piece, write_all};
 use std::alloc::{AllocError, Global};
 use std::fmt::Debug;
 use wgsl_source::fault::{Cause, Fault};
+use wgsl_source::meant::{Declared, meant};
 use wgsl_source::module::Module;
 use wgsl_source::tokens::token::next_token;
 
@@ -39,18 +40,23 @@ pub struct Message {
 
 /// The errors of a module's text, and then its findings: uses of what only naga has, and broken rules of address
 /// spaces.
-pub fn messages_of(
+pub fn messages_of<'t>(
     alloc: Global,
-    text: &str,
-    module: &Module,
+    text: &'t str,
+    module: &Module<'t>,
     findings: &[Finding],
 ) -> Result<Vec<Message>, AllocError> {
     let mut messages = Vec::new(alloc);
-    for fault in &module.faults {
-        messages.push(fault_message(alloc, text, *fault, Severity::Error)?)?;
+    for (index, fault) in module.faults.iter().enumerate() {
+        let declared = if index < GUESSED {
+            Some(&module.declared)
+        } else {
+            None
+        };
+        messages.push(fault_message(alloc, text, *fault, Severity::Error, declared)?)?;
     }
     for fault in &module.naga_only {
-        messages.push(fault_message(alloc, text, *fault, Severity::Finding)?)?;
+        messages.push(fault_message(alloc, text, *fault, Severity::Finding, None)?)?;
     }
     for finding in findings {
         messages.push(finding_message(alloc, finding)?)?;
@@ -58,14 +64,15 @@ pub fn messages_of(
     Ok(messages)
 }
 
-fn fault_message(
+fn fault_message<'t>(
     alloc: Global,
-    text: &str,
+    text: &'t str,
     fault: Fault,
     severity: Severity,
+    declared: Option<&Declared<'t>>,
 ) -> Result<Message, AllocError> {
     let mut told = String::new(alloc);
-    write_fault(&mut told, text, fault)?;
+    write_fault(&mut told, text, fault, declared)?;
     Ok(Message {
         severity,
         kind: kind_of(alloc, &fault.cause)?,
@@ -101,9 +108,18 @@ fn kind_of(alloc: Global, of: &impl Debug) -> Result<String, AllocError> {
 /// How many characters of a word a message quotes.
 const QUOTED: usize = 40;
 
-/// Writes what is wrong, and the beginning of what stands there.
-pub fn write_fault(output: &mut String, text: &str, fault: Fault) -> Result<(), AllocError> {
+/// How many errors of a text are told with a name that the word may have meant.
+const GUESSED: usize = 50;
+
+/// Writes what is wrong, the beginning of what stands there, and, if the declared names are given, what that may have meant.
+pub fn write_fault<'t>(
+    output: &mut String,
+    text: &'t str,
+    fault: Fault,
+    declared: Option<&Declared<'t>>,
+) -> Result<(), AllocError> {
     let (start, word, end) = match (fault.cause, word_at(text, fault.at)) {
+        (Cause::NoComponent, Some(word)) => (": `", word, "f`"),
         (Cause::NotUtf8 | Cause::OpenComment | Cause::ByteOrderMark, _) => ("", "", ""),
         (Cause::Expected(_), Some(word)) => (", found `", word, "`"),
         (Cause::Expected(_), None) => (", found the end", "", ""),
@@ -118,7 +134,22 @@ pub fn write_fault(output: &mut String, text: &str, fault: Fault) -> Result<(), 
         Piece::Text(dots),
         Piece::Text(end),
     ];
-    write_all(output, &pieces)
+    write_all(output, &pieces)?;
+    let name = match declared {
+        Some(declared) => meant(fault.cause, word, declared),
+        None => None,
+    };
+    match name {
+        Some(name) => write_all(
+            output,
+            &[
+                Piece::Text("; did you mean `"),
+                Piece::Text(name),
+                Piece::Text("`?"),
+            ],
+        ),
+        None => Ok(()),
+    }
 }
 
 /// The beginning of a word, and dots for what follows.

@@ -4,9 +4,10 @@ use crate::choice::{Choice, choose};
 use crate::forms::c::write_c;
 use crate::forms::numpy::write_numpy;
 use crate::forms::rust::write_rust;
+use crate::forms::typescript::write_typescript;
 use crate::json::write_json;
 use crate::lines::Lines;
-use crate::message::messages_of;
+use crate::message::{Message, messages_of};
 use crate::rules::findings_of;
 use crate::shown::{Style, write_messages};
 use crate::source::Source;
@@ -25,6 +26,7 @@ pub enum Format {
     C,
     Rust,
     Numpy,
+    TypeScript,
 }
 
 impl Format {
@@ -35,13 +37,14 @@ impl Format {
             "--c" => Some(Format::C),
             "--rust" => Some(Format::Rust),
             "--numpy" => Some(Format::Numpy),
+            "--typescript" => Some(Format::TypeScript),
             _ => None,
         }
     }
 
     /// Whether it is code in another language, so that messages go elsewhere.
     pub fn is_code(self) -> bool {
-        matches!(self, Format::C | Format::Rust | Format::Numpy)
+        !matches!(self, Format::Tables | Format::Json)
     }
 }
 
@@ -65,6 +68,7 @@ pub struct Report {
     pub notes: String,
     /// Whether there are no errors and no findings.
     pub is_clean: bool,
+    pub has_errors: bool,
     /// For each name that is asked for, whether a struct has it.
     pub is_found: Vec<bool>,
 }
@@ -80,7 +84,8 @@ pub fn report_on(
         Ok(text) => {
             let tokens = tokens(alloc, bytes)?;
             let module = read_module(alloc, text, &tokens)?;
-            report_module(alloc, options, text, &lines, &module)
+            let messages = messages_on(alloc, text, &module)?;
+            report_module(alloc, options, &lines, &module, &messages)
         }
         Err(error) => {
             let fault = Fault {
@@ -88,20 +93,28 @@ pub fn report_on(
                 cause: Cause::NotUtf8,
             };
             let module = Module::faulty(alloc, fault)?;
-            report_module(alloc, options, "", &lines, &module)
+            let messages = messages_on(alloc, "", &module)?;
+            report_module(alloc, options, &lines, &module, &messages)
         }
     }
+}
+
+fn messages_on<'t>(
+    alloc: Global,
+    text: &'t str,
+    module: &Module<'t>,
+) -> Result<Vec<Message>, AllocError> {
+    let findings = findings_of(alloc, &*module)?;
+    messages_of(alloc, text, module, &findings)
 }
 
 fn report_module(
     alloc: Global,
     options: ReportOptions,
-    text: &str,
     lines: &Lines,
     module: &Module,
+    messages: &[Message],
 ) -> Result<Report, AllocError> {
-    let findings = findings_of(alloc, module)?;
-    let messages = messages_of(alloc, text, module, &findings)?;
     let Choice {
         is_chosen,
         is_found,
@@ -111,7 +124,7 @@ fn report_module(
         file: options.file,
         lines,
         module,
-        messages: &messages,
+        messages,
         has_all: options.only.is_empty(),
         is_chosen: &is_chosen,
     };
@@ -119,6 +132,7 @@ fn report_module(
         text: String::new(alloc),
         notes: String::new(alloc),
         is_clean: messages.is_empty(),
+        has_errors: !module.faults.is_empty(),
         is_found,
     };
     write_report(&mut report, source, options)?;
@@ -137,6 +151,7 @@ fn write_report(
         Format::C => write_c(output, source),
         Format::Rust => write_rust(output, source),
         Format::Numpy => write_numpy(output, source),
+        Format::TypeScript => write_typescript(output, source),
     }?;
     if options.format.is_code() {
         write_messages(&mut report.notes, source, options.style)?;

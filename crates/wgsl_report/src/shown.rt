@@ -41,13 +41,32 @@ const RESET: &str = "\x1b[0m";
 /// The longest line, in bytes, that is shown.
 const LONGEST: usize = 200;
 
-/// Writes the messages on a text.
+/// Writes the messages on a text, and which structs are left out.
 pub fn write_messages(output: &mut String, source: Source, style: Style) -> Result<(), AllocError> {
-    for message in source.messages {
-        let place = source.lines.place(message.at);
-        write_message(output, source.file, place, message, style)?;
+    write_each(output, source.file, source.lines, source.messages, style)?;
+    for (index, name) in source.module.left_out.iter().enumerate() {
+        let start = if index == 0 { "left out: " } else { ", " };
+        write_all(output, &[Piece::Text(start), Piece::Text(*name)])?;
+    }
+    output.push_str(if source.module.left_out.is_empty() {
+        ""
+    } else {
+        "\n"
+    })
+}
+
+fn write_each(
+    output: &mut String,
+    file: &str,
+    lines: &Lines,
+    messages: &[Message],
+    style: Style,
+) -> Result<(), AllocError> {
+    for message in messages {
+        let place = lines.place(message.at);
+        write_message(output, file, place, message, style)?;
         if style != Style::Plain {
-            write_line(output, source.lines, place, style)?;
+            write_line(output, lines, place, style)?;
         }
     }
     Ok(())

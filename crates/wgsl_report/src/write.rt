@@ -20,6 +20,8 @@ pub enum Piece<'a> {
     Field(&'a str, Option<u32>),
     /// The further fields of JSON for a place.
     At(Place),
+    /// The fields of JSON for a place.
+    Place(Place),
     /// A number, if there is one, as an attribute of a variable.
     Attribute(&'a str, Option<u32>),
 }
@@ -44,7 +46,11 @@ fn write_piece(output: &mut String, piece: Piece) -> Result<(), AllocError> {
         Piece::Column(None) => output.push_str("       -"),
         Piece::Field(name, Some(number)) => write!(output, ",\"{name}\":{number}"),
         Piece::Field(name, None) => write!(output, ",\"{name}\":null"),
-        Piece::At(place) => write_fields(output, place),
+        Piece::At(place) => {
+            output.push_str(",")?;
+            write_fields(output, place)
+        }
+        Piece::Place(place) => write_fields(output, place),
         Piece::Attribute(name, Some(number)) => write!(output, "@{name}({number}) "),
     }
 }
@@ -57,7 +63,7 @@ fn write_fields(output: &mut String, place: Place) -> Result<(), AllocError> {
     } = place;
     write!(
         output,
-        ",\"line\":{line},\"column\":{column},\"utf16Column\":{utf16_column}"
+        "\"line\":{line},\"column\":{column},\"utf16Column\":{utf16_column}"
     )
 }
 

@@ -9,7 +9,7 @@ use Rattle.wgsl_rules.specs.standard.Choice.{Operand as WgslOperand}
 use Rattle.wgsl_core.specs.View.{view}
 use Rattle.wgsl_core.specs.declared.ty.Type.{«Type»}
 use Rattle.wgsl_standard.specs.Operands.{operand_view, operands_view}
-use Rattle.wgsl_standard.specs.Answered.{Answers, no_overload}
+use Rattle.wgsl_standard.specs.Answered.{Answers, IsRefused}
 use Rattle.wgsl_core.specs.declared.error.Fail.{Fail}
 use Rattle.wgsl_core.specs.declared.error.Fail.TheVariants.{Error}
 use Rattle.wgsl_standard.specs.declared.answer.NoOverload.{NoOverload}
@@ -28,8 +28,8 @@ shown t = option_map (λ t. view t.now) t
 
 -- None is answered as anything that was made is
 resolved : {A B : Type 0} (seen : A → B) (P : Option B → Type 0) (made : Result A (Fail NoOverload)) (r : Result (Option A) AllocError) →
-    IfOk r (λ found. MatchOption found (made ≡ Err (Error no_overload)) (λ x. made ≡ Ok x)) → Answers seen P made → IfOk r (λ found. P (option_map seen found))
-resolved seen P made (Ok None) is h = subst (Answers seen P) is h
+    IfOk r (λ found. MatchOption found (IsRefused made) (λ x. made ≡ Ok x)) → Answers seen P made → IfOk r (λ found. P (option_map seen found))
+resolved seen P made (Ok None) is h = subst (Answers seen P) is.1 h
 resolved seen P made (Ok (Some x)) is h = subst (Answers seen P) is h
 resolved seen P made (Err e) is h = tt
 
@@ -42,7 +42,7 @@ with_template P template found t xs r seen is p =
 
 -- the answer of a call with this template
 pub answered : {A B : Type 0} (seen : A → B) (P : Option WgslType → List WgslOperand → Option B → Type 0) (template : Option (List Parameter)) (found : Option (Option (Bor «Type»))) (t : Option (Bor «Type»)) (xs : List Operand) (made : Result A (Fail NoOverload)) (r : Result (Option A) AllocError) →
-    option_map (option_map (λ t. view t.now)) found ≡ template_type template → found ≡ Some t → Answers seen (P (shown t) (operands_view xs)) made → IfOk r (λ x. MatchOption x (made ≡ Err (Error no_overload)) (λ x. made ≡ Ok x)) →
+    option_map (option_map (λ t. view t.now)) found ≡ template_type template → found ≡ Some t → Answers seen (P (shown t) (operands_view xs)) made → IfOk r (λ x. MatchOption x (IsRefused made) (λ x. made ≡ Ok x)) →
     IfOk r (λ x. WithTemplate (λ t r. P t (loaded (map written_view xs)) r) template (option_map seen x))
 answered {A} seen P template found t xs made r is some h same = each r (resolved seen (P (shown t) (operands_view xs)) made r same h)
   where

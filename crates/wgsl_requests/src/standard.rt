@@ -2,8 +2,7 @@
 ghost use Rattle.std.specs.Prelude.{◌≡◌, Err, IfOk, MatchOption, Ok, map, option_map};
 ghost use Rattle.wgsl_core.specs.Instances.{parameter_view};
 ghost use Rattle.wgsl_core.specs.View.{view};
-ghost use Rattle.wgsl_core.specs.declared.error.Fail.TheVariants.{Error};
-ghost use Rattle.wgsl_standard.specs.Answered.{no_overload};
+ghost use Rattle.wgsl_standard.specs.Answered.{IsRefused};
 ghost use Rattle.wgsl_standard.specs.Resolved.{resolved_view};
 ghost use Rattle.wgsl_standard.specs.Results.{result_view};
 ghost use Rattle.wgsl_standard.specs.Texts.{note_text};
@@ -61,14 +60,14 @@ pub(crate) fn resolution_of(
     if_resolved(resolve_callee(alloc, call.callee, template, call.operands))
 }
 
-/// The result, or None if no overload takes the operands.
+/// The result, or None if the call has no answer.
 #[inline(always)]
 fn if_resolved<T: Drop>(made: Result<T, Fail<NoOverload>>) -> Result<Option<T>, AllocError>
-    ensures { IfOk result (λ found. MatchOption found (made ≡ Err (Error no_overload)) (λ x. made ≡ Ok x)) }
+    ensures { IfOk result (λ found. MatchOption found (IsRefused made) (λ x. made ≡ Ok x)) }
 {
     match made {
         Ok(value) => Ok(Some(value)),
-        Err(Fail::Error(NoOverload)) => Ok(None),
+        Err(Fail::Error(_)) => Ok(None),
         Err(Fail::Memory(error)) => Err(error),
     }
 }

@@ -1,4 +1,5 @@
 pub mod Placed
+pub mod Refused
 pub mod Measures
 pub mod Members
-pub mod Shifted
+pub mod Structs

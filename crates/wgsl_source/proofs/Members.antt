@@ -49,7 +49,7 @@ still_measured a b m g h =
     still_given m.size_attribute (IsLeastSize a.elements.items m.ty) (IsLeastSize more m.ty) m.size (still_sized a.elements.items g.added m.ty.kind m.ty.size m.size) h.size in
     record { size = subst (λ es. IsGiven m.size_attribute (IsLeastSize es m.ty) m.size) (sym g.kept) sized; align = h.align }
 
-all_still_measured : (a b : Types) (ms : List Member) → Grows a b → AreMeasured a.elements.items ms → AreMeasured b.elements.items ms
+pub all_still_measured : (a b : Types) (ms : List Member) → Grows a b → AreMeasured a.elements.items ms → AreMeasured b.elements.items ms
 all_still_measured a b ms g h = All-weaker (IsMeasuredMember a.elements.items) (IsMeasuredMember b.elements.items) (λ m one. still_measured a b m g one) ms h
 
 -- a runtime-sized array with elements of this type

@@ -16,7 +16,7 @@ use Rattle.wgsl_core.specs.Placing.{IsSoonestEnd, IsSoonestOffset, IsValue}
 use Rattle.wgsl_source.specs.declared.structure.Member.{Member}
 use Rattle.wgsl_source.specs.Layout.{IsLaidOut, layouts_of, offsets_of}
 
-aligned_more : (ls : List MemberLayout) (l : MemberLayout) → Aligned ls → 0 < l.align → Aligned (ls ++ l ∷ [])
+pub aligned_more : (ls : List MemberLayout) (l : MemberLayout) → Aligned ls → 0 < l.align → Aligned (ls ++ l ∷ [])
 aligned_more [] l al h = (h, tt)
 aligned_more (k ∷ ls) l al h = (al.0, aligned_more ls l al.1 h)
 
@@ -24,7 +24,7 @@ greatest_more : (ls : List MemberLayout) (l : MemberLayout) → max (greatest_al
 greatest_more [] l = omega arith
 greatest_more (k ∷ ls) l = omega (arith, greatest_more ls l)
 
-end_more : (e : ℕ) (ls : List MemberLayout) (l : MemberLayout) → next_multiple_of (end_of e ls) l.align + l.size ≡ end_of e (ls ++ l ∷ [])
+pub end_more : (e : ℕ) (ls : List MemberLayout) (l : MemberLayout) → next_multiple_of (end_of e ls) l.align + l.size ≡ end_of e (ls ++ l ∷ [])
 end_more e [] l = refl
 end_more e (k ∷ ls) l = end_more (next_multiple_of e k.align + k.size) ls l
 

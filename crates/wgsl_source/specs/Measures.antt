@@ -1,12 +1,13 @@
 -- The size and the alignment of a type of a module, from its scalar or from its element (WGSL, "Alignment and Size").
-use Rattle.std.specs.Prelude.{ℕ, Option, Some, None}
+use Rattle.std.specs.Prelude.{◌≡◌, ℕ, List, Option, Some, None, slice_get}
 use Rattle.wgsl_syntax.specs.declared.rules.RuleSet.TheVariants.{Standard}
 use Rattle.wgsl_rules.specs.types.Types.{WgslType}
-use Rattle.wgsl_rules.specs.layout.Layout.{HasAlignmentBy, HasSizeBy, IsExactly, IsStride}
+use Rattle.wgsl_rules.specs.layout.Layout.{HasAlignmentBy, HasSizeBy, IsArraySize, IsExactly, IsStride}
 use Rattle.wgsl_core.specs.Placing.{IsValue}
 use Rattle.wgsl_source.specs.declared.measured.Count.{Count}
 use Rattle.wgsl_source.specs.declared.measured.Count.TheVariants.{Known, Runtime, Override}
 use Rattle.wgsl_source.specs.declared.measured.MeasuredType.{MeasuredType}
+use Rattle.wgsl_source.specs.declared.measured.TypeKind.TheVariants as kind
 
 -- this size and this alignment, each None exactly if there is none
 pub record IsMeasure (IsSize IsAlign : ℕ → Type 0) (m : MeasuredType) : Type 0 where
@@ -26,3 +27,11 @@ known_count Override = None
 -- the stride of an array of such elements
 abbrev pub IsStrideOf : MeasuredType → ℕ → Type 0
 IsStrideOf element = IsStride (IsValue element.size) (IsValue element.align)
+
+-- an array of these elements, whose type is among those of the module at the array's index
+pub record IsArrayAmong (elements : List MeasuredType) (element : MeasuredType) (t : MeasuredType) : Type 0 where
+  pub index : ℕ
+  pub count : Count
+  pub kind : t.kind ≡ kind.Array index count
+  pub there : slice_get elements index ≡ Some element
+  pub measure : IsMeasure (IsArraySize (known_count count) (IsStrideOf element)) (IsValue element.align) t

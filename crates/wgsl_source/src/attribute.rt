@@ -5,6 +5,7 @@ use crate::cursor::Cursor;
 use crate::entry::{Stage, WorkgroupExtent};
 use crate::expression::{Site, Value, close};
 use crate::fault::{Cause, Expected, Stop};
+use crate::meant::is_built_in_value;
 use crate::scope::Scope;
 use crate::skip::skip_group;
 
@@ -21,7 +22,7 @@ pub enum Owner {
 
 /// An attribute of WGSL.
 #[derive(Clone, Copy, PartialEq, Eq)]
-enum Name {
+pub enum Name {
     Align,
     Binding,
     BlendSrc,
@@ -54,27 +55,34 @@ pub struct Attributes {
     is_there: [bool; 16],
 }
 
+/// The attributes, in the order of `Name`.
+pub const ATTRIBUTES: [(&str, Name); 16] = [
+    ("align", Name::Align),
+    ("binding", Name::Binding),
+    ("blend_src", Name::BlendSrc),
+    ("builtin", Name::Builtin),
+    ("compute", Name::Compute),
+    ("diagnostic", Name::Diagnostic),
+    ("fragment", Name::Fragment),
+    ("group", Name::Group),
+    ("id", Name::Id),
+    ("interpolate", Name::Interpolate),
+    ("invariant", Name::Invariant),
+    ("location", Name::Location),
+    ("must_use", Name::MustUse),
+    ("size", Name::Size),
+    ("vertex", Name::Vertex),
+    ("workgroup_size", Name::WorkgroupSize),
+];
+
 impl Name {
-    fn named(name: &str) -> Option<Name> {
-        match name {
-            "align" => Some(Name::Align),
-            "binding" => Some(Name::Binding),
-            "blend_src" => Some(Name::BlendSrc),
-            "builtin" => Some(Name::Builtin),
-            "compute" => Some(Name::Compute),
-            "diagnostic" => Some(Name::Diagnostic),
-            "fragment" => Some(Name::Fragment),
-            "group" => Some(Name::Group),
-            "id" => Some(Name::Id),
-            "interpolate" => Some(Name::Interpolate),
-            "invariant" => Some(Name::Invariant),
-            "location" => Some(Name::Location),
-            "must_use" => Some(Name::MustUse),
-            "size" => Some(Name::Size),
-            "vertex" => Some(Name::Vertex),
-            "workgroup_size" => Some(Name::WorkgroupSize),
-            _ => None,
+    fn named(word: &str) -> Option<Name> {
+        for (text, name) in &ATTRIBUTES {
+            if *text == word {
+                return Some(*name);
+            }
         }
+        None
     }
 
     /// Whether the attribute may stand there.
@@ -182,11 +190,10 @@ impl<'t> Scope<'t> {
             Name::Compute => attributes.stage = Some(Stage::Compute),
             Name::Fragment => attributes.stage = Some(Stage::Fragment),
             Name::Vertex => attributes.stage = Some(Stage::Vertex),
-            Name::BlendSrc
-            | Name::Builtin
-            | Name::Diagnostic
-            | Name::Interpolate
-            | Name::Location => skip_group(cursor)?,
+            Name::Builtin => self.read_built_in(cursor)?,
+            Name::BlendSrc | Name::Diagnostic | Name::Interpolate | Name::Location => {
+                skip_group(cursor)?;
+            }
             Name::Invariant | Name::MustUse => {}
         }
         Ok(())
@@ -203,6 +210,24 @@ impl<'t> Scope<'t> {
         match u32::try_from(integer.value()) {
             Ok(number) => Ok(number),
             Err(_) => Err(Stop::at(at, Cause::NegativeAttribute)),
+        }
+    }
+
+    /// Reads the name of a built-in value in parentheses.
+    fn read_built_in(&self, cursor: &mut Cursor<'t>) -> Result<(), Stop>
+        ensures goes_on { GoesOn cursor.old cursor.new }
+    {
+        if self.extensions.foreign {
+            return skip_group(cursor);
+        }
+        cursor.expect(b'(')?;
+        let at = cursor.index();
+        let name = cursor.take_word(Expected::Name)?;
+        close(cursor)?;
+        if is_built_in_value(name) {
+            Ok(())
+        } else {
+            Err(Stop::at(at, Cause::UnknownBuiltInValue))
         }
     }
 

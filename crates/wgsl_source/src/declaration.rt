@@ -4,7 +4,7 @@ ghost use Rattle.wgsl_source.specs.Cursor.{GoesOn, Takes};
 
 use crate::cursor::Cursor;
 use crate::extension::{enabled, required};
-use crate::fault::{Cause, Expected, Fault, Stop};
+use crate::fault::{Cause, Expected, ExtensionKind, Fault, Stop};
 use crate::scope::Extensions;
 use crate::skip::{skip_attributes, skip_to_end};
 use crate::tokens::token::Kind;
@@ -95,12 +95,18 @@ impl<'t> Declarations<'t> {
             return Ok(());
         }
         while cursor.kind() == Kind::Name {
-            let is_known = match directive {
-                Directive::Enable => enabled(&mut self.extensions, cursor.word()),
-                _ => required(&mut self.extensions, cursor.word()),
+            let (is_known, kind) = match directive {
+                Directive::Enable => (
+                    enabled(&mut self.extensions, cursor.word()),
+                    ExtensionKind::Enabled,
+                ),
+                _ => (
+                    required(&mut self.extensions, cursor.word()),
+                    ExtensionKind::Required,
+                ),
             };
             if !is_known {
-                return Err(cursor.stop(Cause::UnknownExtension));
+                return Err(cursor.stop(Cause::UnknownExtension(kind)));
             }
             if !cursor.advance() || !cursor.take(b',') {
                 break;

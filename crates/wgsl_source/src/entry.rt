@@ -1,13 +1,14 @@
 // Entry points and overrides: what a pipeline is created from.
 ghost use Rattle.wgsl_source.specs.Cursor.{GoesOn};
+ghost use Rattle.wgsl_source.specs.Members.{Grows};
 
 use crate::attribute::Owner;
-use crate::constants::integer::Integer;
 use crate::cursor::Cursor;
 use crate::expression::{Site, Value};
 use crate::fault::{Cause, Expected, Stop};
 use crate::scope::Scope;
 use crate::types::Types;
+use wgsl_constants::integer::Integer;
 use wgsl_syntax::scalar::Scalar;
 
 /// The stage of a pipeline for which a function is an entry point.
@@ -89,6 +90,7 @@ impl<'t> Scope<'t> {
         cursor: &mut Cursor<'t>,
     ) -> Result<Override<'t>, Stop>
         ensures goes_on { GoesOn cursor.old cursor.new }
+        ensures grows { Grows types.old types.new }
     {
         let attributes = self.read_attributes(cursor, Owner::Override)?;
         cursor.take_word(Expected::Declaration)?;
@@ -119,6 +121,7 @@ impl<'t> Scope<'t> {
         cursor: &mut Cursor<'t>,
     ) -> Result<Option<Scalar>, Stop>
         ensures goes_on { GoesOn cursor.old cursor.new }
+        ensures grows { Grows types.old types.new }
     {
         if !cursor.take(b':') {
             return Ok(None);

@@ -2,15 +2,17 @@
 ghost use Rattle.std.specs.Prelude.{OnSome};
 ghost use Rattle.wgsl_source.specs.Cursor.{GoesOn, Takes};
 
-use crate::constants::integer::Integer;
-use crate::constants::operator::{complement, negative};
 use crate::cursor::Cursor;
-use crate::fault::{Cause, Expected, Stop};
+use crate::fault::{Cause, Expected, Named, Stop};
 use crate::function::Function;
 use crate::literal::{integer_of, whole_part};
+use crate::meant::is_function;
 use crate::operator::{Operator, operator_at};
 use crate::scope::{Meaning, Scope};
 use crate::tokens::token::Kind;
+use wgsl_constants::integer::Integer;
+use wgsl_constants::operator::{complement, negative};
+use wgsl_spelling::predeclared::predeclared;
 use wgsl_syntax::scalar::Scalar;
 
 /// What is known of a value.
@@ -189,8 +191,19 @@ impl<'t> Scope<'t> {
             (None, "bitcast") => self.read_bitcast(cursor, at, depth),
             (None, _) => match Function::named(name) {
                 Some(function) => self.read_call(cursor, function, at, depth),
-                None => Err(Stop::at(at, unknown_value(cursor))),
+                None => Err(Stop::at(at, self.unknown_value(cursor, name))),
             },
+        }
+    }
+
+    /// What is wrong with a name that isn't declared, and isn't a function that is evaluated here.
+    fn unknown_value(&self, cursor: &Cursor, name: &str) -> Cause {
+        if !cursor.is_at(b'<') && !cursor.is_at(b'(') {
+            Cause::UnknownName(Named::Value)
+        } else if self.extensions.foreign || is_function(name) || predeclared(name).is_some() {
+            Cause::NotInteger
+        } else {
+            Cause::UnknownName(Named::Function)
         }
     }
 
@@ -301,15 +314,6 @@ fn conversion(scalar: Scalar) -> Option<Function> {
         Scalar::U32 => Some(Function::U32),
         Scalar::I32 => Some(Function::I32),
         _ => None,
-    }
-}
-
-/// What is wrong with a name that isn't declared, and isn't a function that is evaluated here.
-fn unknown_value(cursor: &Cursor) -> Cause {
-    if cursor.is_at(b'<') || cursor.is_at(b'(') {
-        Cause::NotInteger
-    } else {
-        Cause::UnknownName
     }
 }
 

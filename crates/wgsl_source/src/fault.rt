@@ -1,7 +1,7 @@
 // Why a text was not read.
 
-use crate::constants::integer::IntegerError;
 use std::alloc::{AllocError, AllocFailed};
+use wgsl_constants::integer::IntegerError;
 
 /// What was expected where something else stands.
 #[derive(Clone, Copy, Debug, PartialEq, Eq)]
@@ -18,18 +18,36 @@ pub enum Expected {
     Sign(u8),
 }
 
+/// What a name should stand for.
+#[derive(Clone, Copy, Debug, PartialEq, Eq)]
+pub enum Named {
+    Type,
+    Value,
+    Function,
+}
+
+/// What names an extension.
+#[derive(Clone, Copy, Debug, PartialEq, Eq)]
+pub enum ExtensionKind {
+    /// `enable`
+    Enabled,
+    /// `requires`
+    Required,
+}
+
 /// What is wrong.
 #[derive(Clone, Copy, Debug, PartialEq, Eq)]
 pub enum Cause {
     Expected(Expected),
-    UnknownName,
+    UnknownName(Named),
     DeclaredTwice,
     MemberTwice,
     AttributeTwice,
     UnknownAttribute,
     /// An attribute that this kind of declaration can't have.
     MisplacedAttribute,
-    UnknownExtension,
+    UnknownExtension(ExtensionKind),
+    UnknownBuiltInValue,
     /// A directive after a declaration.
     LateDirective,
     /// A predeclared name that the module declares too, and so hides.
@@ -60,6 +78,8 @@ pub enum Cause {
     NoElements,
     /// A type of half precision without `enable f16;`.
     NoHalf,
+    /// A vector or a matrix without a template list.
+    NoComponent,
     VectorComponent,
     MatrixComponent,
     AtomicContent,
@@ -140,13 +160,14 @@ impl Cause {
     pub fn text(self) -> &'static str {
         match self {
             Cause::Expected(expected) => expected.text(),
-            Cause::UnknownName => "no declaration has this name",
+            Cause::UnknownName(_) => "no declaration has this name",
             Cause::DeclaredTwice => "another declaration has this name",
             Cause::MemberTwice => "another member has this name",
             Cause::AttributeTwice => "this attribute is there already",
             Cause::UnknownAttribute => "WGSL has no such attribute",
             Cause::MisplacedAttribute => "this attribute has no place here",
-            Cause::UnknownExtension => "no extension has this name",
+            Cause::UnknownExtension(_) => "no extension has this name",
+            Cause::UnknownBuiltInValue => "WGSL has no such built-in value",
             Cause::LateDirective => "a directive stands in front of all declarations",
             Cause::Shadowed => "this name stands for a declaration of the module",
             Cause::ContainsItself => "this declaration contains itself",
@@ -166,6 +187,7 @@ impl Cause {
             Cause::NoParentheses => "this operator needs parentheses",
             Cause::NoElements => "an array has at least one element",
             Cause::NoHalf => "this type needs `enable f16;`",
+            Cause::NoComponent => "this type needs its component",
             Cause::VectorComponent => "a vector's component is a scalar",
             Cause::MatrixComponent => "a matrix's component is f32 or f16",
             Cause::AtomicContent => "an atomic holds i32 or u32",
@@ -215,12 +237,22 @@ impl Stop {
 }
 
 impl From<AllocError> for Stop {
+    ghost use Rattle.std.specs.Prelude.{◌≡◌};
+    ghost use Rattle.wgsl_source.specs.declared.fault.Stop.TheVariants.{Memory};
+
+    ghost from_gives = { λ e s. s ≡ Memory e };
+
     fn from(e: AllocError) -> Stop {
         Stop::Memory(e)
     }
 }
 
 impl<T: Drop> From<AllocFailed<T>> for Stop {
+    ghost use Rattle.std.specs.Prelude.{◌≡◌, alloc_error};
+    ghost use Rattle.wgsl_source.specs.declared.fault.Stop.TheVariants.{Memory};
+
+    ghost from_gives = { λ _ s. s ≡ Memory alloc_error };
+
     fn from(e: AllocFailed<T>) -> Stop {
         Stop::Memory(AllocError::from(e))
     }

@@ -1,13 +1,13 @@
 // Functions whose values are known when a module is read (WGSL, "Value Constructor Built-in Functions", "Numeric Built-in
 // Functions").
 
-use crate::constants::function::{
-    absolute, bits_of, clamp, count_one_bits, first_leading_bit, maximum, minimum, select, sign,
-};
-use crate::constants::integer::Integer;
-use crate::constants::operator::{to_i32, to_u32};
 use crate::expression::Value;
 use crate::fault::Cause;
+use wgsl_constants::function::{
+    absolute, bits_of, clamp, count_one_bits, first_leading_bit, maximum, minimum, select, sign,
+};
+use wgsl_constants::integer::Integer;
+use wgsl_constants::operator::{to_i32, to_u32};
 
 /// A function that is evaluated here.
 #[derive(Clone, Copy)]

@@ -4,12 +4,12 @@ ghost use Rattle.wgsl_syntax.specs.Address.{default_access, may_say};
 ghost use Rattle.wgsl_source.specs.Cursor.{GoesOn};
 
 use crate::cursor::Cursor;
-use crate::fault::{Cause, Expected, Stop};
+use crate::fault::{Cause, Expected, Named, Stop};
 use crate::keyword::is_name;
 use crate::measured::{MeasuredType, TypeKind};
-use crate::predeclared::{LayerName, PredeclaredType, predeclared};
 use crate::scope::{Meaning, Scope};
 use std::str::FromStr;
+use wgsl_spelling::predeclared::{LayerName, PredeclaredType, predeclared};
 use wgsl_syntax::address::{AccessMode, AddressSpace};
 use wgsl_syntax::attribute::AccelerationStructureFlags;
 use wgsl_syntax::rules::RuleSet;
@@ -200,6 +200,18 @@ impl<'t> Scope<'t> {
     }
 }
 
+/// Opens the template list of a type that contains another. Its name is at this index of the text.
+pub fn open_layer(cursor: &mut Cursor, layer: LayerName, at: usize) -> Result<(), Stop>
+    ensures goes_on { GoesOn cursor.old cursor.new }
+{
+    match layer {
+        LayerName::Vec(_) | LayerName::Mat(_, _) if !cursor.is_at(b'<') => {
+            Err(Stop::at(at, Cause::NoComponent))
+        }
+        _ => cursor.expect(b'<'),
+    }
+}
+
 /// The address space with this name, or with naga's. A module has no name for that of textures and samplers.
 pub fn space_named(name: &str) -> Option<AddressSpace> {
     match AddressSpace::named_by(RuleSet::Standard, name) {
@@ -211,7 +223,7 @@ pub fn space_named(name: &str) -> Option<AddressSpace> {
 /// What is wrong with a word that isn't declared, where a type is expected.
 fn unknown_type(word: &str) -> Cause {
     if is_name(word) {
-        Cause::UnknownName
+        Cause::UnknownName(Named::Type)
     } else {
         Cause::Expected(Expected::Type)
     }

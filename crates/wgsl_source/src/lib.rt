@@ -4,7 +4,6 @@
 
 mod attribute;
 mod check;
-pub mod constants;
 mod cursor;
 mod declaration;
 pub mod entry;
@@ -16,14 +15,13 @@ mod keyword;
 pub mod laws;
 mod leaf;
 mod literal;
+pub mod meant;
 pub mod measured;
 pub mod module;
 mod operator;
 mod order;
-mod predeclared;
 mod scope;
 mod skip;
-pub mod spelled;
 pub mod structure;
 pub mod tokens;
 mod types;

@@ -1,58 +1,15 @@
 // Numbers, as they are written.
 
-use crate::constants::integer::Integer;
-use crate::constants::operator::{to_i32, to_u32};
 use crate::fault::Cause;
+use wgsl_constants::integer::Integer;
+use wgsl_constants::literal::{self, LiteralError};
 
 /// The integer that a literal stands for.
 pub fn integer_of(word: &str) -> Result<Integer, Cause> {
-    let bytes = word.as_bytes();
-    let (digits, base) = match bytes {
-        [b'0', b'x' | b'X', rest @ ..] => (rest, 16),
-        _ => (bytes, 10),
-    };
-    let (digits, suffix) = match digits {
-        [rest @ .., b'i'] => (rest, b'i'),
-        [rest @ .., b'u'] => (rest, b'u'),
-        _ => (digits, 0),
-    };
-    let is_padded = base == 10 && digits.len() > 1 && digits.starts_with(b"0");
-    if is_padded || digits.is_empty() {
-        return Err(Cause::NotInteger);
-    }
-    let value = digits_of(digits, base)?;
-    match suffix {
-        b'i' => Ok(Integer::I32(to_i32(value)?)),
-        b'u' => Ok(Integer::U32(to_u32(value)?)),
-        _ => Ok(Integer::Abstract(value)),
-    }
-}
-
-fn digits_of(digits: &[u8], base: i64) -> Result<i64, Cause> {
-    let mut value: Option<i64> = Some(0);
-    for digit in digits {
-        let digit = digit_value(*digit, base)?;
-        value = appended(value, base, digit);
-    }
-    value.ok_or(Cause::Overflow)
-}
-
-fn appended(value: Option<i64>, base: i64, digit: i64) -> Option<i64> {
-    value?.checked_mul(base)?.checked_add(digit)
-}
-
-fn digit_value(digit: u8, base: i64) -> Result<i64, Cause> {
-    let value = match digit {
-        b'0'..=b'9' => digit - b'0',
-        b'a'..=b'f' => digit - b'a' + 10,
-        b'A'..=b'F' => digit - b'A' + 10,
-        _ => return Err(Cause::NotInteger),
-    };
-    let value = i64::from(value);
-    if value < base {
-        Ok(value)
-    } else {
-        Err(Cause::NotInteger)
+    match literal::integer_of(word.as_bytes()) {
+        Ok(integer) => Ok(integer),
+        Err(LiteralError::NotInteger) => Err(Cause::NotInteger),
+        Err(LiteralError::Overflow) => Err(Cause::Overflow),
     }
 }
 

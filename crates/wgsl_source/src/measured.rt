@@ -124,7 +124,8 @@ impl MeasuredType {
 
     /// An array whose elements have this type, which is at this index of the module's element types.
     pub fn array(&self, index: usize, count: Count) -> MeasuredType
-        ensures { IsMeasure (IsArraySize (known_count count) (IsStrideOf self.now)) (IsValue self.now.align) result }
+        ensures kind { result.kind ≡ TypeKind.Array index count }
+        ensures measure { IsMeasure (IsArraySize (known_count count) (IsStrideOf self.now)) (IsValue self.now.align) result }
     {
         let size = array_size(count.known(), self.stride());
         self.around(TypeKind::Array(index, count), size, self.align)
@@ -132,6 +133,7 @@ impl MeasuredType {
 
     /// A type around this one.
     pub fn around(&self, kind: TypeKind, size: Option<u32>, align: Option<u32>) -> MeasuredType
+        ensures kind { result.kind ≡ kind }
         ensures size { result.size ≡ size }
         ensures align { result.align ≡ align }
     {

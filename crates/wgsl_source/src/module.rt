@@ -1,23 +1,23 @@
 // Modules: what they declare, and what is wrong with them.
+ghost use Rattle.std.specs.Prelude.{◌≡◌, IfOk, OnOk, length, ◌++◌, ◌∷◌, []};
 ghost use Rattle.wgsl_source.specs.Cursor.{GoesOn};
+ghost use Rattle.wgsl_source.specs.Structs.{AreStructsOf, IsKept, Keeps, SameStructs};
 
 use crate::attribute::Owner;
-use crate::constants::integer::Integer;
-use crate::constants::operator::{to_i32, to_u32};
 use crate::cursor::Cursor;
 use crate::declaration::{Declaration, DeclarationKind, Declarations, read_declarations};
 use crate::entry::{EntryPoint, Override};
 use crate::expression::{Site, Value};
 use crate::fault::{Cause, Expected, Fault, Stop};
+use crate::meant::Declared;
 use crate::measured::{MeasuredType, TypeKind};
 use crate::order::{Order, order_of};
-use crate::scope::{Meaning, Scope};
+use crate::scope::{Meaning, Scope, declared_value, first_meaning};
 use crate::structure::Struct;
 use crate::tokens::token::{Token, has_byte_order_mark};
 use crate::types::Types;
 use crate::variable::Variable;
 use std::alloc::{AllocError, Global};
-use wgsl_syntax::scalar::Scalar;
 
 /// A module that is read.
 #[derive(Drop)]
@@ -36,6 +36,11 @@ pub struct Module<'t> {
     pub naga_only: Vec<Fault>,
     /// Whether `requires uniform_buffer_standard_layout;` is there.
     pub has_standard_uniform: bool,
+    pub declared: Declared<'t>,
+    /// The aliases, in the order of the text.
+    pub aliases: Vec<Alias<'t>>,
+    /// The structs that have a fault, or need a declaration that has one, in the order of the text.
+    pub left_out: Vec<&'t str>,
 }
 
 impl<'t> Module<'t> {
@@ -50,6 +55,9 @@ impl<'t> Module<'t> {
             faults: Vec::new(alloc),
             naga_only: Vec::new(alloc),
             has_standard_uniform: false,
+            declared: Declared::none(alloc),
+            aliases: Vec::new(alloc),
+            left_out: Vec::new(alloc),
         }
     }
 
@@ -59,6 +67,13 @@ impl<'t> Module<'t> {
         module.faults.push(fault)?;
         Ok(module)
     }
+}
+
+/// An alias, with the type that it stands for.
+#[derive(Clone, Copy)]
+pub struct Alias<'t> {
+    pub name: &'t str,
+    pub ty: MeasuredType,
 }
 
 /// What is read of a module so far.
@@ -73,6 +88,9 @@ struct Reader<'t> {
     overrides: Vec<Override<'t>>,
     entry_points: Vec<EntryPoint<'t>>,
     faults: Vec<Fault>,
+    declared: Declared<'t>,
+    aliases: Vec<Alias<'t>>,
+    left_out: Vec<&'t str>,
 }
 
 /// The module of a text with these tokens.
@@ -80,7 +98,9 @@ pub fn read_module<'t>(
     alloc: Global,
     text: &'t str,
     tokens: &'t [Token],
-) -> Result<Module<'t>, AllocError> {
+) -> Result<Module<'t>, AllocError>
+    ensures structs { IfOk result (λ m. AreStructsOf m.elements.items m.structs.items) }
+{
     let start = Cursor::start(text, tokens);
     let Declarations {
         declarations,
@@ -101,6 +121,9 @@ pub fn read_module<'t>(
         overrides: Vec::new(alloc),
         entry_points: Vec::new(alloc),
         faults,
+        declared: Declared::none(alloc),
+        aliases: Vec::new(alloc),
+        left_out: Vec::new(alloc),
     };
     match reader.read(&declarations) {
         Ok(()) => Ok(reader.finished()),
@@ -113,7 +136,9 @@ pub fn read_module<'t>(
 
 impl<'t> Reader<'t> {
     /// Reads the declarations.
-    fn read(&mut self, declarations: &[Declaration<'t>]) -> Result<(), AllocError> {
+    fn read(&mut self, declarations: &[Declaration<'t>]) -> Result<(), AllocError>
+        ensures { OnOk result (Keeps self.old self.new) }
+    {
         if has_byte_order_mark(self.start.text.as_bytes()) {
             self.faults.push(Fault {
                 at: 0,
@@ -122,14 +147,17 @@ impl<'t> Reader<'t> {
         }
         self.name_all(declarations)?;
         self.read_ordered(declarations)?;
-        self.list_structs(declarations)?;
+        self.list_types(declarations)?;
         self.read_others(declarations)?;
         self.faults.sort_unstable_by_key(|fault| fault.at);
         self.types.naga_only.sort_unstable_by_key(|fault| fault.at);
         Ok(())
     }
 
-    fn finished(self) -> Module<'t> {
+    fn finished(self) -> Module<'t>
+        ensures elements { result.elements ≡ self.entry.types.elements }
+        ensures structs { result.structs ≡ self.entry.structs }
+    {
         let Reader {
             scope,
             types,
@@ -139,6 +167,9 @@ impl<'t> Reader<'t> {
             overrides,
             entry_points,
             faults,
+            declared,
+            aliases,
+            left_out,
             ..
         } = self;
         let Types {
@@ -155,13 +186,27 @@ impl<'t> Reader<'t> {
             faults,
             naga_only,
             has_standard_uniform: scope.extensions.standard_uniform,
+            declared,
+            aliases,
+            left_out,
         }
     }
 
     /// Gives the declarations their names. If two have one name, the first keeps it.
-    fn name_all(&mut self, declarations: &[Declaration<'t>]) -> Result<(), AllocError> {
+    fn name_all(&mut self, declarations: &[Declaration<'t>]) -> Result<(), AllocError>
+        ensures { OnOk result (SameStructs self.old self.new) }
+    {
         for (index, declaration) in declarations.iter().enumerate() {
             let is_twice = self.scope.names.contains_key(&declaration.name);
+            match declaration.kind {
+                DeclarationKind::Alias | DeclarationKind::Struct => {
+                    self.declared.types.push(declaration.name)?;
+                }
+                DeclarationKind::Constant | DeclarationKind::Override => {
+                    self.declared.values.push(declaration.name)?;
+                }
+                DeclarationKind::Variable | DeclarationKind::Function => {}
+            }
             if is_twice {
                 let at = self.start.moved_to(declaration.named).index();
                 let cause = Cause::DeclaredTwice;
@@ -176,7 +221,9 @@ impl<'t> Reader<'t> {
         Ok(())
     }
 
-    fn mean(&mut self, index: usize, meaning: Meaning) {
+    fn mean(&mut self, index: usize, meaning: Meaning)
+        ensures { SameStructs self.old self.new }
+    {
         if let Some(now) = self.scope.meanings.get_mut(index) {
             *now = meaning;
         }
@@ -187,7 +234,9 @@ impl<'t> Reader<'t> {
     }
 
     /// Reads aliases, structs and constants, each after those that it names.
-    fn read_ordered(&mut self, declarations: &[Declaration<'t>]) -> Result<(), AllocError> {
+    fn read_ordered(&mut self, declarations: &[Declaration<'t>]) -> Result<(), AllocError>
+        ensures { OnOk result (Keeps self.old self.new) }
+    {
         let alloc = self.scope.alloc;
         let order = order_of(alloc, self.start, &self.scope.names, &*declarations)?;
         let read = self.read_in_order(&order, declarations);
@@ -199,7 +248,9 @@ impl<'t> Reader<'t> {
         &mut self,
         order: &Order,
         declarations: &[Declaration<'t>],
-    ) -> Result<(), AllocError> {
+    ) -> Result<(), AllocError>
+        ensures { OnOk result (Keeps self.old self.new) }
+    {
         for circular in &order.circular {
             if self.is_unread(circular.index) {
                 self.mean(circular.index, Meaning::Faulty);
@@ -214,20 +265,32 @@ impl<'t> Reader<'t> {
         Ok(())
     }
 
-    /// Lists the structs in the order of the text.
-    fn list_structs(&mut self, declarations: &[Declaration<'t>]) -> Result<(), AllocError> {
+    /// Lists aliases and structs, and the structs that are left out, in the order of the text.
+    fn list_types(&mut self, declarations: &[Declaration<'t>]) -> Result<(), AllocError>
+        ensures { OnOk result (SameStructs self.old self.new) }
+    {
         for (declaration, meaning) in declarations.iter().zip(&self.scope.meanings) {
-            if let (DeclarationKind::Struct, Meaning::Type(ty)) = (declaration.kind, meaning) {
-                if let TypeKind::Struct(index) = ty.kind {
-                    self.in_text.push(index)?;
+            match (declaration.kind, meaning) {
+                (DeclarationKind::Struct, Meaning::Type(ty)) => {
+                    if let TypeKind::Struct(index) = ty.kind {
+                        self.in_text.push(index)?;
+                    }
                 }
+                (DeclarationKind::Struct, _) => self.left_out.push(declaration.name)?,
+                (DeclarationKind::Alias, Meaning::Type(ty)) => self.aliases.push(Alias {
+                    name: declaration.name,
+                    ty: *ty,
+                })?,
+                _ => {}
             }
         }
         Ok(())
     }
 
     /// Reads variables, overrides and functions in the order of the text.
-    fn read_others(&mut self, declarations: &[Declaration<'t>]) -> Result<(), AllocError> {
+    fn read_others(&mut self, declarations: &[Declaration<'t>]) -> Result<(), AllocError>
+        ensures { OnOk result (Keeps self.old self.new) }
+    {
         for declaration in declarations {
             if !declaration.is_faulty {
                 let read = self.read_other(declaration);
@@ -237,7 +300,9 @@ impl<'t> Reader<'t> {
         Ok(())
     }
 
-    fn read_other(&mut self, declaration: &Declaration<'t>) -> Result<(), Stop> {
+    fn read_other(&mut self, declaration: &Declaration<'t>) -> Result<(), Stop>
+        ensures { Keeps self.old self.new }
+    {
         let mut cursor = self.start.moved_to(declaration.first);
         match declaration.kind {
             DeclarationKind::Variable => {
@@ -259,11 +324,9 @@ impl<'t> Reader<'t> {
         Ok(())
     }
 
-    fn read_unread(
-        &mut self,
-        index: usize,
-        declaration: &Declaration<'t>,
-    ) -> Result<(), AllocError> {
+    fn read_unread(&mut self, index: usize, declaration: &Declaration<'t>) -> Result<(), AllocError>
+        ensures { OnOk result (Keeps self.old self.new) }
+    {
         if !self.is_unread(index) {
             return Ok(());
         }
@@ -279,7 +342,11 @@ impl<'t> Reader<'t> {
         }
     }
 
-    fn read_meaning(&mut self, declaration: &Declaration<'t>) -> Result<Meaning, Stop> {
+    fn read_meaning(&mut self, declaration: &Declaration<'t>) -> Result<Meaning, Stop>
+        ensures keeps { Keeps self.old self.new }
+        ensures kept { declaration.now.kind ≡ DeclarationKind.Struct
+            → IfOk result (IsKept self.old.structs.items self.new.structs.items) }
+    {
         let mut cursor = self.start.moved_to(declaration.named);
         match declaration.kind {
             DeclarationKind::Override => return Ok(Meaning::Value(Value::Later)),
@@ -296,7 +363,9 @@ impl<'t> Reader<'t> {
     }
 
     /// Records the fault at which reading stopped.
-    fn tell(&mut self, read: Result<(), Stop>) -> Result<(), AllocError> {
+    fn tell(&mut self, read: Result<(), Stop>) -> Result<(), AllocError>
+        ensures { SameStructs self.old self.new }
+    {
         match read {
             Err(Stop::Fault(fault)) => Ok(self.faults.push(fault)?),
             Err(Stop::Memory(e)) => Err(e),
@@ -306,6 +375,7 @@ impl<'t> Reader<'t> {
 
     fn read_alias(&mut self, cursor: &mut Cursor<'t>) -> Result<Meaning, Stop>
         ensures goes_on { GoesOn cursor.old cursor.new }
+        ensures keeps { Keeps self.old self.new }
     {
         cursor.name(Expected::Name)?;
         cursor.expect(b'=')?;
@@ -316,6 +386,8 @@ impl<'t> Reader<'t> {
 
     fn read_struct(&mut self, cursor: &mut Cursor<'t>) -> Result<Meaning, Stop>
         ensures goes_on { GoesOn cursor.old cursor.new }
+        ensures keeps { Keeps self.old self.new }
+        ensures kept { IfOk result (IsKept self.old.structs.items self.new.structs.items) }
     {
         let structure = self.scope.read_struct(&mut self.types, cursor)?;
         let ty = structure.measured(self.structs.len());
@@ -326,6 +398,7 @@ impl<'t> Reader<'t> {
     /// Reads a constant. If its value is neither an integer nor a `bool` that is evaluated here, it is `Other`.
     fn read_constant(&mut self, cursor: &mut Cursor<'t>) -> Result<Meaning, Stop>
         ensures goes_on { GoesOn cursor.old cursor.new }
+        ensures keeps { Keeps self.old self.new }
     {
         cursor.name(Expected::Name)?;
         let mut declared = None;
@@ -354,31 +427,4 @@ impl<'t> Reader<'t> {
             },
         }
     }
-}
-
-/// What a declaration stands for before it is read.
-fn first_meaning(is_faulty: bool) -> Meaning {
-    if is_faulty {
-        Meaning::Faulty
-    } else {
-        Meaning::Unread
-    }
-}
-
-/// The meaning of a constant with this value, converted to its declared type if it has one.
-fn declared_value(value: Value, declared: Option<Scalar>) -> Result<Meaning, Cause> {
-    let value = match (declared, value) {
-        (None, _) | (Some(Scalar::Bool), Value::Bool(_)) => value,
-        (Some(Scalar::I32), Value::Integer(Integer::Abstract(number))) => {
-            Value::Integer(Integer::I32(to_i32(number)?))
-        }
-        (Some(Scalar::U32), Value::Integer(Integer::Abstract(number))) => {
-            Value::Integer(Integer::U32(to_u32(number)?))
-        }
-        (Some(Scalar::I32), Value::Integer(Integer::I32(_)))
-        | (Some(Scalar::U32), Value::Integer(Integer::U32(_))) => value,
-        (Some(Scalar::I32 | Scalar::U32), Value::Integer(_)) => return Err(Cause::MixedIntegers),
-        _ => return Ok(Meaning::Other),
-    };
-    Ok(Meaning::Value(value))
 }

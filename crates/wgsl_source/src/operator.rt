@@ -1,12 +1,12 @@
 // The binary operators of expressions: where they may stand, and their values.
 
-use crate::constants::integer::{Integer, IntegerOperator};
-use crate::constants::operator::{apply, compare, shift_left, shift_right};
 use crate::cursor::Cursor;
 use crate::expression::{Site, Value};
 use crate::fault::Cause;
 use crate::tokens::token::Kind;
 use std::cmp::Ordering;
+use wgsl_constants::integer::{Integer, IntegerOperator};
+use wgsl_constants::operator::{apply, compare, shift_left, shift_right};
 
 /// A binary operator.
 #[derive(Clone, Copy)]

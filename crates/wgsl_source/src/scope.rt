@@ -1,9 +1,13 @@
 // What the names of a module stand for.
 
 use crate::expression::Value;
+use crate::fault::Cause;
 use crate::measured::MeasuredType;
 use std::alloc::Global;
 use std::collections::BTreeMap;
+use wgsl_constants::integer::Integer;
+use wgsl_constants::operator::{to_i32, to_u32};
+use wgsl_syntax::scalar::Scalar;
 
 /// What a declaration stands for, or that it isn't read yet.
 #[derive(Clone, Copy)]
@@ -69,4 +73,31 @@ impl<'t> Scope<'t> {
         let index = self.names.get(&name)?;
         self.meanings.get(*index).copied()
     }
+}
+
+/// What a declaration stands for before it is read.
+pub fn first_meaning(is_faulty: bool) -> Meaning {
+    if is_faulty {
+        Meaning::Faulty
+    } else {
+        Meaning::Unread
+    }
+}
+
+/// The meaning of a constant with this value, converted to its declared type if it has one.
+pub fn declared_value(value: Value, declared: Option<Scalar>) -> Result<Meaning, Cause> {
+    let value = match (declared, value) {
+        (None, _) | (Some(Scalar::Bool), Value::Bool(_)) => value,
+        (Some(Scalar::I32), Value::Integer(Integer::Abstract(number))) => {
+            Value::Integer(Integer::I32(to_i32(number)?))
+        }
+        (Some(Scalar::U32), Value::Integer(Integer::Abstract(number))) => {
+            Value::Integer(Integer::U32(to_u32(number)?))
+        }
+        (Some(Scalar::I32), Value::Integer(Integer::I32(_)))
+        | (Some(Scalar::U32), Value::Integer(Integer::U32(_))) => value,
+        (Some(Scalar::I32 | Scalar::U32), Value::Integer(_)) => return Err(Cause::MixedIntegers),
+        _ => return Ok(Meaning::Other),
+    };
+    Ok(Meaning::Value(value))
 }

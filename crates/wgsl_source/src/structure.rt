@@ -1,7 +1,7 @@
 // Structs, read and laid out.
 ghost use Rattle.std.specs.Prelude.{◌≡◌, ◌++◌, ◌↔◌, IfOk, IsSome, IsTrue, None, OnOk, [], ◌∷◌};
-ghost use Rattle.wgsl_source.specs.Cursor.{GoesOn, Takes};
-ghost use Rattle.wgsl_source.specs.Layout.{IsLaidOut};
+ghost use Rattle.wgsl_source.specs.Cursor.{GoesOn, OnFault, Takes};
+ghost use Rattle.wgsl_source.specs.Layout.{HasNoLayout, IsLaidOut};
 ghost use Rattle.wgsl_source.specs.Members.{AreMeasured, AreSameMembers, EndsRuntimeSized, Grows, IsDraft, IsMeasuredMember, IsRuntimeSizedArray, IsTypeOf, members_of};
 
 use crate::attribute::Owner;
@@ -80,6 +80,7 @@ struct Layout<'t> {
 fn laid_out<'t>(alloc: Global, place: usize, written: &[Written<'t>]) -> Result<Layout<'t>, Stop>
     ensures layout { IfOk result (λ l. IsLaidOut l.members.items l.size l.align) }
     ensures same_members { IfOk result (λ l. AreSameMembers l.members.items (members_of written.now)) }
+    ensures refused { OnFault result (HasNoLayout (members_of written.now)) }
 {
     let mut placing = Placing::start();
     let mut members = Vec::with_capacity(alloc, written.len())?;

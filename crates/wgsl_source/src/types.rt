@@ -2,16 +2,17 @@
 ghost use Rattle.std.specs.Prelude.{◌≡◌, IfOk, Some, slice_get};
 ghost use Rattle.wgsl_rules.specs.layout.Layout.{IsExactly};
 ghost use Rattle.wgsl_source.specs.Cursor.{GoesOn};
+ghost use Rattle.wgsl_source.specs.Measures.{IsArrayAmong};
 ghost use Rattle.wgsl_source.specs.Members.{Grows, IsLeastSize};
 
 use crate::check::element_fault;
 use crate::cursor::Cursor;
 use crate::expression::{LEVELS, Site, Value};
 use crate::fault::{Cause, Expected, Fault, Stop};
-use crate::leaf::space_named;
+use crate::leaf::{open_layer, space_named};
 use crate::measured::{Count, MeasuredType, TypeKind};
-use crate::predeclared::{LayerName, PredeclaredType};
 use crate::scope::{Meaning, Scope};
+use wgsl_spelling::predeclared::{LayerName, PredeclaredType};
 use wgsl_syntax::address::AddressSpace;
 
 /// What is kept of the types that are read.
@@ -110,7 +111,7 @@ impl<'t> Scope<'t> {
         let Some(inner) = depth.checked_sub(1) else {
             return Err(cursor.stop(Cause::TooDeep));
         };
-        cursor.expect(b'<')?;
+        open_layer(cursor, layer, at)?;
         let space = self.read_pointed(types, cursor, layer)?;
         let inside = self.read_levels(types, cursor, inner)?;
         let formed = self.read_formed(types, cursor, layer, space, inside)?;
@@ -151,6 +152,7 @@ impl<'t> Scope<'t> {
     ) -> Result<Result<MeasuredType, Cause>, Stop>
         ensures goes_on { GoesOn cursor.old cursor.new }
         ensures grows { Grows types.old types.new }
+        ensures array { IfOk result (λ r. IfOk r (IsArrayAmong types.new.elements.items element)) }
     {
         let count = self.read_count(cursor)?;
         if let Some(cause) = element_fault(&element) {

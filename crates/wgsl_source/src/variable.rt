@@ -1,5 +1,6 @@
 // Variables of a module.
 ghost use Rattle.wgsl_source.specs.Cursor.{GoesOn};
+ghost use Rattle.wgsl_source.specs.Members.{Grows};
 
 use crate::attribute::{Attributes, Owner};
 use crate::cursor::Cursor;
@@ -40,6 +41,7 @@ impl<'t> Scope<'t> {
         cursor: &mut Cursor<'t>,
     ) -> Result<Option<Variable<'t>>, Stop>
         ensures goes_on { GoesOn cursor.old cursor.new }
+        ensures grows { Grows types.old types.new }
     {
         let variable = self.read_untyped(types, cursor)?;
         let mut ty = None;
@@ -69,6 +71,7 @@ impl<'t> Scope<'t> {
         space: AddressSpace,
     ) -> Result<MeasuredType, Stop>
         ensures goes_on { GoesOn cursor.old cursor.new }
+        ensures grows { Grows types.old types.new }
     {
         let at = cursor.index();
         let ty = self.read_type(types, cursor)?;
@@ -86,6 +89,7 @@ impl<'t> Scope<'t> {
         cursor: &mut Cursor<'t>,
     ) -> Result<UntypedVariable<'t>, Stop>
         ensures goes_on { GoesOn cursor.old cursor.new }
+        ensures grows { Grows types.old types.new }
     {
         let attributes = self.read_attributes(cursor, Owner::Variable)?;
         cursor.take_word(Expected::Declaration)?;
@@ -108,6 +112,7 @@ impl<'t> Scope<'t> {
         cursor: &mut Cursor<'t>,
     ) -> Result<(AddressSpace, AccessMode), Stop>
         ensures goes_on { GoesOn cursor.old cursor.new }
+        ensures grows { Grows types.old types.new }
     {
         if !cursor.take(b'<') {
             return Ok((AddressSpace::Handle, AccessMode::Read));

@@ -1,5 +1,7 @@
 -- What is called, and the overloads of it.
-use Rattle.std.specs.Prelude.{ℕ, List, Option, Some, None, Bool, true, false}
+use Rattle.std.specs.Prelude.{ℕ, List, Option, Some, None, Bool, true, false, ◌||◌, cond, is_some, map}
+use Rattle.std.specs.List.{list_any}
+use Rattle.std.specs.Str.{bytes_eq}
 use Rattle.wgsl_syntax.specs.declared.operator.BinaryOperator.{BinaryOperator}
 use Rattle.wgsl_syntax.specs.declared.operator.UnaryOperator.{UnaryOperator}
 use Rattle.wgsl_syntax.specs.declared.overload.Overload.{Overload}
@@ -7,6 +9,7 @@ use Rattle.wgsl_rules.specs.standard.Operators.{binary_overloads, unary_overload
 use Rattle.wgsl_rules.specs.standard.Names.{function_table, template_function_table, overloads_named}
 use Rattle.wgsl_rules.specs.standard.Evaluation.{is_const_function}
 use Rattle.wgsl_rules.specs.standard.ConstructorNames.{constructor_table, template_constructor_table}
+use Rattle.wgsl_standard.specs.declared.names.TheConstants.{ALIASES, OTHER_TYPES}
 use Rattle.wgsl_standard.specs.declared.callee.Callee.{Callee}
 use Rattle.wgsl_standard.specs.declared.callee.Callee.TheVariants as callees
 
@@ -36,6 +39,27 @@ overloads_listed (a_constructor name) true = overloads_named name template_const
 
 abbrev pub overloads_of : Callee → Bool → Option (List Overload)
 overloads_of callee has_template = overloads_listed (callee_view callee) has_template
+
+-- `vec3f`, `atomic`, `texture_2d`
+abbrev pub is_other_type : List ℕ → Bool
+is_other_type name = list_any (bytes_eq name) (map (λ other. other.now) ALIASES.now)
+    || list_any (bytes_eq name) (map (λ other. other.now) OTHER_TYPES.now)
+
+-- whether a built-in function, a constructor or another predeclared type has the name
+abbrev pub is_name : List ℕ → Bool
+is_name name = is_some (overloads_named name function_table) || is_some (overloads_named name template_function_table)
+    || is_some (overloads_named name constructor_table) || is_some (overloads_named name template_constructor_table)
+    || is_other_type name
+
+abbrev pub if_unknown : List ℕ → Option (List ℕ)
+if_unknown name = cond (is_name name) None (Some name)
+
+-- the name of what is called, if nothing has it: as `mxi`, and not `max`. Operators always have one
+abbrev pub unknown_name : WgslCallee → Option (List ℕ)
+unknown_name (a_unary o) = None
+unknown_name (a_binary o) = None
+unknown_name (a_function name) = if_unknown name
+unknown_name (a_constructor name) = if_unknown name
 
 -- Whether a call can be a const-expression. The operators and constructors always can.
 abbrev pub can_be_const_expression : WgslCallee → Bool

@@ -3,6 +3,7 @@ pub mod Resolved
 pub mod Results
 pub mod Answered
 pub mod Callees
+pub mod Meant
 pub mod Mismatches
 pub mod Explained
 pub mod Texts

@@ -46,10 +46,14 @@ lines_with callee has_template = lines_listed (callee_view callee) has_template
 abbrev pub overload_texts : Callee → List (List ℕ)
 overload_texts callee = texts_listed (callee_view callee)
 
--- `takes 2 arguments, not 3`; a template is none of them
+-- `takes 2 arguments, not 3`, `takes 1 argument, not 2`
+abbrev pub count_text : ℕ → ℕ → List ℕ
+count_text m n = codes "takes " ++ decimal m ++ (if m == 1 then codes " argument, not " else codes " arguments, not ") ++ decimal n
+
+-- a template is none of them
 abbrev pub counts_text : Bool → ℕ → ℕ → List ℕ
-counts_text false m n = codes "takes " ++ decimal m ++ codes " arguments, not " ++ decimal n
-counts_text true m n = codes "takes " ++ decimal (m - 1) ++ codes " arguments, not " ++ decimal (n - 1)
+counts_text false m n = count_text m n
+counts_text true m n = count_text (m - 1) (n - 1)
 
 -- `argument 2`, counted from 1; `the template`
 abbrev pub operand_text : Bool → ℕ → List ℕ
@@ -68,7 +72,7 @@ abbrev pub note_text : Note → List ℕ
 note_text n = line_of n.signature ++ codes ": "
     ++ reason_text n.signature.has_template n.count (option_map given_type n.found) n.mismatch
 
--- The notes on a call. Its operands are printed as they are given: a reference is not loaded.
+-- The notes on a call.
 
 abbrev pub types_given : List CodeOperand → List WgslType
 types_given xs = map (λ x. given_type x.ty) xs
@@ -82,9 +86,10 @@ abbrev pub begins_with_vector : List WgslType → Bool
 begins_with_vector [] = false
 begins_with_vector (t ∷ ts) = is_vector (value_of t)
 
+-- an operand is printed as the type that it loads as
 abbrev pub type_refused : Mismatch → List WgslType → Option WgslType
 type_refused (Count n) ts = None
-type_refused (Argument i) ts = slice_get ts i
+type_refused (Argument i) ts = option_map value_of (slice_get ts i)
 
 abbrev pub line_listed : WgslCallee → Bool → List WgslType → Overload × Mismatch → List ℕ
 line_listed callee has_template ts n = signature_text (name_of callee) has_template (begins_with_vector ts) n.0 ++ codes ": "

@@ -4,13 +4,14 @@ ghost use Rattle.wgsl_core.specs.View.{view};
 ghost use Rattle.wgsl_rules.specs.standard.Choice.{result_for as result_there};
 ghost use Rattle.wgsl_rules.specs.standard.Tables.{IsUnambiguous};
 ghost use Rattle.wgsl_rules.specs.standard.Answers.{IsStandardAnswer, IsNamedAnswer, is_template as may_be_template, template_operand, IsTemplateAnswer, IsCallAnswer};
-ghost use Rattle.wgsl_standard.specs.Answered.{Answers};
-ghost use Rattle.wgsl_standard.specs.Callees.{overloads_of};
+ghost use Rattle.wgsl_standard.specs.Answered.{Answers, IsRefusedAs, refusal_of};
+ghost use Rattle.wgsl_standard.specs.Callees.{callee_view, overloads_of};
 ghost use Rattle.wgsl_standard.specs.Operands.{operands_view};
 ghost use Rattle.wgsl_standard.specs.Results.{result_view};
 ghost use Rattle.wgsl_standard.specs.Texts.{types_given};
 
 use crate::callee::{Callee, overloads};
+use crate::meant::unknown_name;
 use crate::operand::Operand;
 use crate::resolve::resolve;
 use crate::substitution::{ResultType, result_type};
@@ -20,9 +21,27 @@ use wgsl_core::ty::Type;
 use wgsl_core::ty::form::Form;
 use wgsl_syntax::overload::{Overload, Substitution};
 
-/// No candidate takes the operands, or nothing has the name.
+/// Why a call has no answer.
 #[derive(Clone, Copy)]
-pub struct NoOverload;
+pub enum NoOverload {
+    /// No built-in function, no constructor and no other predeclared type has the name.
+    UnknownName,
+    /// No candidate takes the operands, or the template is abstract or a reference.
+    NoCandidate,
+}
+
+impl NoOverload {
+    /// The reason for this call, if it has no answer.
+    #[inline(never)]
+    pub(crate) fn of(callee: Callee<'_>) -> NoOverload
+        ensures { result ≡ refusal_of (callee_view callee.entry) }
+    {
+        match unknown_name(callee) {
+            Some(_) => NoOverload::UnknownName,
+            None => NoOverload::NoCandidate,
+        }
+    }
+}
 
 /// The type of a call, or None if it has no value. It is allocated only if it isn't a scalar, a vector or a matrix.
 /// Operators take no template.
@@ -33,12 +52,13 @@ pub fn type_of_call(
     template: Option<&Type>,
     operands: &[Operand<'_>],
 ) -> Result<Option<ResultType>, Fail<NoOverload>>
-    ensures { Answers (option_map result_view) (IsCallAnswer (overloads_of callee.entry false) (overloads_of callee.entry true)
+    ensures answer { Answers (option_map result_view) (IsCallAnswer (overloads_of callee.entry false) (overloads_of callee.entry true)
         (option_map (λ t. view t.now) template.entry) (operands_view operands.now)) result }
+    ensures refusal { IsRefusedAs (refusal_of (callee_view callee.entry)) result }
 {
     match template {
         Some(template) => type_with_template(alloc, callee, template, operands),
-        None => type_by(alloc, overloads(callee, false), operands),
+        None => type_by(alloc, callee, overloads(callee, false), operands),
     }
 }
 
@@ -50,13 +70,14 @@ fn type_with_template(
     template: &Type,
     operands: &[Operand<'_>],
 ) -> Result<Option<ResultType>, Fail<NoOverload>>
-    ensures { Answers (option_map result_view) (IsTemplateAnswer (overloads_of callee.entry true) (view template.now) (operands_view operands.now)) result }
+    ensures answer { Answers (option_map result_view) (IsTemplateAnswer (overloads_of callee.entry true) (view template.now) (operands_view operands.now)) result }
+    ensures refusal { IsRefusedAs (refusal_of (callee_view callee.entry)) result }
 {
     if !is_template(template) {
-        return Err(Fail::Error(NoOverload));
+        return Err(Fail::Error(NoOverload::of(callee)));
     }
     let all = operands_with(alloc, template, operands)?;
-    type_by(alloc, overloads(callee, true), &all)
+    type_by(alloc, callee, overloads(callee, true), &all)
 }
 
 /// Whether the type may be a template: it is concrete, and no reference.
@@ -90,14 +111,16 @@ pub(crate) fn operands_with<'a>(
 #[inline(always)]
 fn type_by(
     alloc: Global,
+    callee: Callee<'_>,
     overloads: Option<&[Overload]>,
     operands: &[Operand<'_>],
 ) -> Result<Option<ResultType>, Fail<NoOverload>>
     requires { IfSome overloads (λ o. IsUnambiguous o.now) }
-    ensures { Answers (option_map result_view) (IsNamedAnswer (option_map (λ o. o.now) overloads.entry) (operands_view operands.now)) result }
+    ensures answer { Answers (option_map result_view) (IsNamedAnswer (option_map (λ o. o.now) overloads.entry) (operands_view operands.now)) result }
+    ensures refusal { IsRefusedAs (refusal_of (callee_view callee.entry)) result }
 {
     let Some(overloads) = overloads else {
-        return Err(Fail::Error(NoOverload));
+        return Err(Fail::Error(NoOverload::of(callee)));
     };
     match chosen(overloads, operands) {
         Some((overload, substitution)) => Ok(result_type(
@@ -106,7 +129,7 @@ fn type_by(
             overload,
             operands,
         )?),
-        None => Err(Fail::Error(NoOverload)),
+        None => Err(Fail::Error(NoOverload::of(callee))),
     }
 }
 

@@ -1,10 +1,10 @@
 // What is called, and its overloads.
 ghost use Rattle.std.specs.Prelude.{◌≡◌, ◌<◌, ◌^◌, length, option_map, IfSome};
 ghost use Rattle.wgsl_rules.specs.standard.Tables.{IsUnambiguous};
-ghost use Rattle.wgsl_standard.specs.Callees.{callee_view, can_be_const_expression as can_be_there, overloads_of};
+ghost use Rattle.wgsl_standard.specs.Callees.{callee_view, can_be_const_expression as can_be_there, is_name as is_name_there, overloads_of};
 ghost use Rattle.wgsl_standard.specs.Explained.{or_none};
 
-use crate::names::{constructors, evaluation, find, find_function, templates};
+use crate::names::{constructors, evaluation, find, find_function, is_other_type, templates};
 use crate::operators::{binary_overloads, unary_overloads};
 use wgsl_syntax::operator::{BinaryOperator, UnaryOperator};
 use wgsl_syntax::overload::{Evaluation, Overload};
@@ -53,6 +53,17 @@ pub fn listed_overloads(callee: Callee<'_>, has_template: bool) -> &'static [Ove
         Some(overloads) => overloads,
         None => &[],
     }
+}
+
+/// Whether a built-in function, a constructor or another predeclared type has the name.
+pub(crate) fn is_name(name: &str) -> bool
+    ensures { result ≡ is_name_there name.now }
+{
+    find_function(name).is_some()
+        || find(name, TEMPLATE_FUNCTIONS).is_some()
+        || find(name, constructors()).is_some()
+        || find(name, templates()).is_some()
+        || is_other_type(name)
 }
 
 /// Whether a call can be a const-expression. It is one if its operands are too.

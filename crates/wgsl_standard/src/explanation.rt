@@ -8,7 +8,7 @@ ghost use Rattle.wgsl_standard.specs.Operands.{given_type, operands_view};
 ghost use Rattle.wgsl_standard.specs.Callees.{overloads_of};
 ghost use Rattle.wgsl_standard.specs.Explained.{or_none, note_view, AddsNote, AreNotes, IsExplained};
 ghost use Rattle.wgsl_standard.specs.Lines.{NoteStandsAtIndex};
-ghost use Rattle.wgsl_standard.specs.Texts.{begins_with_vector as vector_first, counts_text, is_vector as vector_there, line_with, note_line, note_text, operand_text, reason_text, type_refused, types_given};
+ghost use Rattle.wgsl_standard.specs.Texts.{begins_with_vector as vector_first, count_text, counts_text, is_vector as vector_there, line_with, note_line, note_text, operand_text, reason_text, type_refused, types_given};
 ghost use Rattle.wgsl_standard.specs.internal.FirstLines.{HasFirstLine};
 
 use crate::answer::{is_template, operands_with};
@@ -159,7 +159,7 @@ fn found<'a>(mismatch: Mismatch, operands: &[Operand<'a>]) -> Option<OperandType
     match mismatch {
         Mismatch::Count(_) => None,
         Mismatch::Argument(index) => match operands.get(index) {
-            Some(operand) => Some(operand.ty),
+            Some(operand) => Some(operand.ty.loaded()),
             None => None,
         },
     }
@@ -212,11 +212,20 @@ fn write_counts<W: Write>(
     ensures { WritesOnOk W.write_str_gives f.old result (counts_text has_template expected count) f.new }
 {
     if has_template {
-        let expected = expected.saturating_sub(1);
-        let count = count.saturating_sub(1);
-        return write!(f, "takes {expected} arguments, not {count}");
+        write_count(f, expected.saturating_sub(1), count.saturating_sub(1))
+    } else {
+        write_count(f, expected, count)
     }
-    write!(f, "takes {expected} arguments, not {count}")
+}
+
+fn write_count<W: Write>(f: &mut fmt::Formatter<W>, expected: usize, count: usize) -> fmt::Result
+    ensures { WritesOnOk W.write_str_gives f.old result (count_text expected count) f.new }
+{
+    if expected == 1 {
+        write!(f, "takes {expected} argument, not {count}")
+    } else {
+        write!(f, "takes {expected} arguments, not {count}")
+    }
 }
 
 fn write_argument<W: Write>(

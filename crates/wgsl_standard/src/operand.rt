@@ -59,6 +59,16 @@ impl<'a> OperandType<'a> {
             None => OperandType::Any(ty),
         }
     }
+
+    /// The type as it is loaded: a reference that can be read is the type that it refers to.
+    pub fn loaded(self) -> OperandType<'a>
+        ensures { given_type result ≡ value_of (given_type self.entry) }
+    {
+        match self {
+            OperandType::Any(ty) => OperandType::Any(loaded(ty)),
+            OperandType::Value(_, _) => self,
+        }
+    }
 }
 
 impl fmt::Display for OperandType<'_> {

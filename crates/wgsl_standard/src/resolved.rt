@@ -5,7 +5,7 @@ ghost use Rattle.wgsl_core.specs.View.{view};
 ghost use Rattle.wgsl_rules.specs.standard.Overloads.{in_order, patterns_of as patterns_there};
 ghost use Rattle.wgsl_rules.specs.standard.Choice.{parameters_for, result_for as result_there};
 ghost use Rattle.wgsl_rules.specs.standard.Signatures.{is_scalar_or_vector};
-ghost use Rattle.wgsl_standard.specs.Answered.{Answers};
+ghost use Rattle.wgsl_standard.specs.Answered.{Answers, IsRefusedAs, refusal_of};
 ghost use Rattle.wgsl_standard.specs.Callees.{callee_view};
 ghost use Rattle.wgsl_standard.specs.Operands.{operands_view};
 ghost use Rattle.wgsl_standard.specs.Resolved.{resolved_view, IsNamedResolution, IsCallResolution, IndexNamesLine};
@@ -41,13 +41,14 @@ pub fn resolve_callee(
     template: Option<&Type>,
     operands: &[Operand<'_>],
 ) -> Result<ResolvedCall, Fail<NoOverload>>
-    ensures { Answers resolved_view (IsCallResolution (callee_view callee.entry)
+    ensures answer { Answers resolved_view (IsCallResolution (callee_view callee.entry)
         (option_map (λ t. view t.now) template.entry) (operands_view operands.now)) result }
+    ensures refusal { IsRefusedAs (refusal_of (callee_view callee.entry)) result }
 {
     match template {
         Some(template) => {
             if !is_template(template) {
-                return Err(Fail::Error(NoOverload));
+                return Err(Fail::Error(NoOverload::of(callee)));
             }
             let all = operands_with(alloc, template, operands)?;
             resolve_by(alloc, callee, true, &all)
@@ -63,7 +64,8 @@ fn resolve_by(
     has_template: bool,
     operands: &[Operand<'_>],
 ) -> Result<ResolvedCall, Fail<NoOverload>>
-    ensures { Answers resolved_view (IsNamedResolution (callee_view callee.entry) has_template (operands_view operands.now)) result }
+    ensures answer { Answers resolved_view (IsNamedResolution (callee_view callee.entry) has_template (operands_view operands.now)) result }
+    ensures refusal { IsRefusedAs (refusal_of (callee_view callee.entry)) result }
 {
     let overloads = listed_overloads(callee, has_template);
     match resolve(overloads, operands) {
@@ -73,7 +75,7 @@ fn resolve_by(
             let call = resolved(alloc, line, overload, &choice.substitution, operands)?;
             Ok(call)
         }
-        None => Err(Fail::Error(NoOverload)),
+        None => Err(Fail::Error(NoOverload::of(callee))),
     }
 }
 

@@ -3,6 +3,7 @@ pub mod Attribute
 pub mod Enumerant
 pub mod Hash
 pub mod Names
+pub mod Nearest
 pub mod Operator
 pub mod ResultStruct
 pub mod Scalar

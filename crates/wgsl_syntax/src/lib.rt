@@ -10,6 +10,7 @@ pub mod enumerant;
 pub mod hash;
 pub mod layer;
 pub mod names;
+pub mod nearest;
 pub mod operator;
 pub mod overload;
 pub mod result_struct;

@@ -6,10 +6,12 @@ use Rattle.wgsl_rules.specs.types.Spelling.{spelling, spelling_by, wgsl_spelling
 use Rattle.wgsl_rules.specs.errors.Refusals.{Refusal, message}
 use Rattle.wgsl_rules.specs.standard.Choice.{types_of}
 use Rattle.wgsl_rules.specs.types.Signatures.{listed, template_text}
+use Rattle.wgsl_standard.specs.Callees.{unknown_name}
+use Rattle.wgsl_standard.specs.Meant.{meant}
 use Rattle.wgsl_standard.specs.Texts.{name_of}
 use Rattle.wgsl_forms.specs.Lists.{Fits}
 use Rattle.wgsl_forms.specs.Refusals.{Refusal as FormRefusal, refusal_text}
-use Rattle.wgsl_requests.specs.Calls.{WgslCall, WgslResolution}
+use Rattle.wgsl_requests.specs.Calls.{WgslCall, WgslResolution, loaded}
 use Rattle.wgsl_requests.specs.Answers.{WgslAnswer, a_number, a_size, a_common_type, a_type, a_value, some_offsets, a_layout, a_type_of, a_resolution_of, some_lines, a_form_type, a_fit, out_of_memory}
 use Rattle.wgsl_text.specs.Layouts.{layout_text, spaced}
 use Rattle.wgsl_text.specs.declared.write.TextKind.{TextKind}
@@ -35,12 +37,29 @@ abbrev pub lines_text : List (List ℕ) → List ℕ
 lines_text [] = codes "none"
 lines_text (line ∷ lines) = line ++ flat_map (λ line. codes "\n" ++ line) lines
 
--- ``no overload of `vec3<f32>` takes (bool, i32)``
-abbrev pub no_overload_text : WgslCall → List ℕ
-no_overload_text c = codes "no overload of `" ++ name_of c.callee ++ template_text c.template ++ codes "` takes ("
-    ++ listed wgsl_spelling (types_of c.operands) ++ codes ")"
+-- ``; did you mean `mix`?``
+abbrev pub suggestion : Option (List ℕ) → List ℕ
+suggestion (Some name) = codes "; did you mean `" ++ name ++ codes "`?"
+suggestion None = []
 
--- the text of a value, or that no overload takes the operands
+-- ``no overload of `vec3<f32>` takes (bool, i32)``; a reference is shown as the type that it loads as
+abbrev pub no_candidate_text : WgslCall → List ℕ
+no_candidate_text c = codes "no overload of `" ++ name_of c.callee ++ template_text c.template ++ codes "` takes ("
+    ++ listed wgsl_spelling (types_of (loaded c.operands)) ++ codes ")"
+
+-- ``nothing has the name `mxi`; did you mean `mix`?``
+abbrev pub unknown_text : List ℕ → List ℕ
+unknown_text name = codes "nothing has the name `" ++ name ++ codes "`" ++ suggestion (meant name)
+
+abbrev pub refusal_for : Option (List ℕ) → WgslCall → List ℕ
+refusal_for (Some name) c = unknown_text name
+refusal_for None c = no_candidate_text c
+
+-- why a call has no answer
+abbrev pub no_overload_text : WgslCall → List ℕ
+no_overload_text c = refusal_for (unknown_name c.callee) c
+
+-- the text of a value, or why there is none
 abbrev pub or_no_overload : {A : Type 0} → (A → List ℕ) → WgslCall → Option A → List ℕ
 or_no_overload text c (Some x) = text x
 or_no_overload text c None = no_overload_text c

@@ -1,6 +1,7 @@
 // Writes the answers about WGSL's own overloads.
 ghost use Rattle.std.specs.Prelude.{◌≡◌, ◌++◌, OnOk, map, option_map, string_bytes};
 ghost use Rattle.wgsl_rules.specs.types.Signatures.{listed, template_text};
+ghost use Rattle.wgsl_rules.specs.standard.Choice.{value_of};
 ghost use Rattle.wgsl_rules.specs.types.Spelling.{wgsl_spelling};
 ghost use Rattle.wgsl_core.specs.Instances.{parameter_view};
 ghost use Rattle.wgsl_core.specs.View.{view};
@@ -9,7 +10,7 @@ ghost use Rattle.wgsl_standard.specs.Resolved.{resolved_view};
 ghost use Rattle.wgsl_standard.specs.Results.{result_view};
 ghost use Rattle.wgsl_standard.specs.Texts.{callee_text, line_of, note_text};
 ghost use Rattle.wgsl_requests.specs.StandardViews.{call_view};
-ghost use Rattle.wgsl_text.specs.Texts.{lines_text, no_overload_text, or_no_overload, resolution_text, result_text, value_text};
+ghost use Rattle.wgsl_text.specs.Texts.{lines_text, no_candidate_text, no_overload_text, or_no_overload, resolution_text, result_text, suggestion, unknown_text, value_text};
 
 use crate::lists::{write_lines, write_parameters, write_types};
 use crate::write::{write_built, write_resolved, write_shown};
@@ -18,6 +19,7 @@ use wgsl_core::operators::resolve::ResolvedType;
 use wgsl_requests::requests::Call;
 use wgsl_standard::callee::Callee;
 use wgsl_standard::explanation::Note;
+use wgsl_standard::meant::{meant, unknown_name};
 use wgsl_standard::operand::{Operand, OperandType};
 use wgsl_standard::resolved::ResolvedCall;
 use wgsl_standard::signature::Signature;
@@ -92,11 +94,41 @@ fn write_result(text: &mut String, ty: &Option<Type>) -> Result<(), AllocError>
     }
 }
 
-/// Writes that no overload takes the operands of a call.
+/// Writes why a call has no answer.
 #[inline(never)]
 fn write_no_overload(text: &mut String, call: &Call<'_>) -> Result<(), AllocError>
     ensures { OnOk result (string_bytes text.new
         ≡ string_bytes text.old ++ no_overload_text (call_view call.now)) }
+{
+    match unknown_name(call.callee) {
+        Some(name) => write_unknown(text, name),
+        None => write_no_candidate(text, call),
+    }
+}
+
+/// Writes that nothing has the name, and which one may be meant.
+fn write_unknown(text: &mut String, name: &str) -> Result<(), AllocError>
+    ensures { OnOk result (string_bytes text.new
+        ≡ string_bytes text.old ++ unknown_text name.now) }
+{
+    write!(text, "nothing has the name `{name}`")?;
+    write_suggestion(text, meant(name))
+}
+
+fn write_suggestion(text: &mut String, name: Option<&str>) -> Result<(), AllocError>
+    ensures { OnOk result (string_bytes text.new
+        ≡ string_bytes text.old ++ suggestion (option_map (λ name. name.now) name.entry)) }
+{
+    match name {
+        Some(name) => write!(text, "; did you mean `{name}`?"),
+        None => Ok(()),
+    }
+}
+
+/// Writes that no overload takes the operands of a call.
+fn write_no_candidate(text: &mut String, call: &Call<'_>) -> Result<(), AllocError>
+    ensures { OnOk result (string_bytes text.new
+        ≡ string_bytes text.old ++ no_candidate_text (call_view call.now)) }
 {
     text.push_str("no overload of `")?;
     write_callee(text, call.callee)?;
@@ -106,19 +138,19 @@ fn write_no_overload(text: &mut String, call: &Call<'_>) -> Result<(), AllocErro
     text.push(')')
 }
 
-/// Writes the types of operands, with a comma between.
+/// Writes the types of operands, once they are loaded, with a comma between.
 #[inline(always)]
 fn write_operand_types(text: &mut String, operands: &[Operand<'_>]) -> Result<(), AllocError>
     ensures { OnOk result (string_bytes text.new ≡ string_bytes text.old
-        ++ listed (λ x. wgsl_spelling (given_type x.ty)) operands.now) }
+        ++ listed (λ x. wgsl_spelling (value_of (given_type x.ty))) operands.now) }
 {
     let Some((first, rest)) = operands.split_first() else {
         return Ok(());
     };
-    write_operand_type(text, first.ty)?;
+    write_operand_type(text, first.ty.loaded())?;
     for operand in rest {
         text.push_str(", ")?;
-        write_operand_type(text, operand.ty)?;
+        write_operand_type(text, operand.ty.loaded())?;
     }
     Ok(())
 }

@@ -2,6 +2,11 @@
 use crate::wanted::{Misfit, Misread, Wanted};
 use crate::words::Words;
 use std::alloc::AllocError;
+use std::str::FromStr;
+use wgsl_standard::callee::{Callee, overloads};
+use wgsl_standard::meant::meant_type;
+use wgsl_syntax::nearest::nearest_among;
+use wgsl_syntax::scalar::Scalar;
 
 /// Why a request can't be read.
 #[derive(Clone, Copy)]
@@ -12,10 +17,12 @@ pub enum Why {
     Word(Misread),
     /// The index of the byte from which an expression is none, and why.
     Expression(usize, &'static str),
+    /// The index of the byte from which an expression has no operand.
+    Operand(usize),
 }
 
 /// How many bytes of a word are written.
-const SHOWN: usize = 64;
+const SHOWN: usize = 40;
 
 /// Writes why the request can't be read.
 pub fn write_why(request: &[u8], why: Why, text: &mut String) -> Result<(), AllocError> {
@@ -28,8 +35,48 @@ pub fn write_why(request: &[u8], why: Why, text: &mut String) -> Result<(), Allo
             let column = at.saturating_add(1);
             return write!(text, "column {column}: {reason}");
         }
+        Why::Operand(at) => return write_no_operand(request, at, text),
     };
     text.push_str(reason)
+}
+
+/// Writes that no operand begins at that byte, and what the name there may mean.
+fn write_no_operand(request: &[u8], at: usize, text: &mut String) -> Result<(), AllocError> {
+    let column = at.saturating_add(1);
+    write!(text, "column {column}: ")?;
+    match token_at(request, at) {
+        Some(token) => {
+            write_word(token, text)?;
+            write_no_type(token, text)
+        }
+        None => text.push_str("expected an operand"),
+    }
+}
+
+fn write_no_type(token: &str, text: &mut String) -> Result<(), AllocError> {
+    if token.starts_with(|first: char| !first.is_ascii_alphabetic()) {
+        return text.push_str(" is no literal");
+    }
+    if overloads(Callee::Constructor(token), false).is_some() {
+        return write!(text, " needs its component: `{token}f`");
+    }
+    match meant_type(token) {
+        Some(name) => write!(text, " is no type; did you mean `{name}`?"),
+        None => text.push_str(" is no type: write types for names, as `f32 + 1`"),
+    }
+}
+
+/// The name or the number that begins at that byte, if one does.
+fn token_at(request: &[u8], at: usize) -> Option<&str> {
+    let rest = std::str::from_utf8(request.get(at..)?).ok()?;
+    let is_number = rest.starts_with(|first: char| !first.is_ascii_alphabetic());
+    let goes_on = |byte: &u8| byte.is_ascii_alphanumeric()
+        || *byte == b'_'
+        || is_number && *byte == b'.';
+    match rest.bytes().take_while(goes_on).count() {
+        0 => None,
+        length => rest.get(..length),
+    }
 }
 
 /// Writes the place and the fault of the word that can't be read.
@@ -63,7 +110,7 @@ fn write_fault(
         Some((word, end)) => {
             write_place(end.saturating_sub(word.len()), number, text)?;
             write_word(word, text)?;
-            write_verdict(wanted, text)
+            write_verdict(request, word, wanted, text)
         }
         None => {
             write_place(request.len(), number, text)?;
@@ -84,13 +131,40 @@ fn write_missing(wanted: Wanted, text: &mut String) -> Result<(), AllocError> {
     write!(text, "{article} {noun} is missing")
 }
 
-fn write_verdict(wanted: Option<Wanted>, text: &mut String) -> Result<(), AllocError> {
-    match wanted {
-        Some(wanted) => {
-            text.push_str(" is no ")?;
-            text.push_str(wanted.noun())
-        }
-        None => text.push_str(" is left over"),
+fn write_verdict(
+    request: &[u8],
+    word: &str,
+    wanted: Option<Wanted>,
+    text: &mut String,
+) -> Result<(), AllocError> {
+    let Some(wanted) = wanted else {
+        return text.push_str(" is left over");
+    };
+    let (noun, meant) = match (wanted, access_meant(request, word)) {
+        (Wanted::Type, Some(mode)) => (Wanted::AccessMode.noun(), Some(mode)),
+        (Wanted::Type, None) => (wanted.noun(), scalar_meant(word)),
+        _ => (wanted.noun(), None),
+    };
+    write!(text, " is no {noun}")?;
+    match meant {
+        Some(name) => write!(text, "; did you mean `{name}`?"),
+        None => Ok(()),
+    }
+}
+
+/// The scalar that a word may have meant: the other types are several words.
+fn scalar_meant(word: &str) -> Option<&str> {
+    match meant_type(word) {
+        Some(name) if Scalar::from_str(name).is_ok() => Some(name),
+        _ => None,
+    }
+}
+
+/// The access mode that the word of a variable may have meant.
+fn access_meant<'w>(request: &[u8], word: &'w str) -> Option<&'w str> {
+    match word_at(request, 1) {
+        Some(("var", _)) => nearest_among(word, &["read", "write", "read_write"]),
+        _ => None,
     }
 }
 

@@ -1,15 +1,16 @@
 //! WGSL's own rules, beside those of wgsl-types. First its overloads: what operators, calls of built-in functions and
 //! constructors return by WGSL's overload resolution, what they resolve to, which overloads there are, and why none takes the
 //! operands (WGSL, "Overload Resolution"). Then the forms without overloads: members, indexes, loads, `&` and `*`,
-//! constructors of arrays and structs, declarations, assignments, lists of values. Ray queries have neither.
+//! constructors of arrays and structs, declarations, assignments, lists of values, conditions, returned values. Ray
+//! queries have neither.
 ghost use Rattle.std.specs.Prelude.{[], ◌∷◌, None, false, option_map, true};
 ghost use Rattle.wgsl_core.specs.View.{view};
 ghost use Rattle.wgsl_rules.specs.standard.Answers.{IsCallAnswer, IsStandardAnswer};
 ghost use Rattle.wgsl_rules.specs.standard.Operators.{binary_overloads, unary_overloads};
 ghost use Rattle.wgsl_rules.specs.standard.Names.{function_table, template_function_table, overloads_named};
 ghost use Rattle.wgsl_rules.specs.standard.ConstructorNames.{constructor_table, template_constructor_table};
-ghost use Rattle.wgsl_standard.specs.Answered.{Answers, AnswersType};
-ghost use Rattle.wgsl_standard.specs.Callees.{a_binary, a_constructor, a_function, a_unary, overloads_of};
+ghost use Rattle.wgsl_standard.specs.Answered.{Answers, AnswersType, IsRefusedAs, refusal_of};
+ghost use Rattle.wgsl_standard.specs.Callees.{a_binary, a_constructor, a_function, a_unary, callee_view, overloads_of};
 ghost use Rattle.wgsl_standard.specs.Operands.{operand_view, operands_view};
 ghost use Rattle.wgsl_standard.specs.Resolved.{resolved_view, IsCallResolution};
 
@@ -25,6 +26,7 @@ pub use wgsl_forms::declare::{
     Declaration, declare, discard, is_const_type, is_let_type, override_without_value,
 };
 pub use wgsl_forms::expression::is_const_expression;
+pub use wgsl_forms::flow::{condition, return_value};
 pub use wgsl_forms::form::{Element, Form, FormType, MemoryView, UnbuiltType};
 pub use wgsl_forms::index::type_of_index;
 pub use wgsl_forms::kinds::{
@@ -41,6 +43,7 @@ pub use wgsl_standard::answer::NoOverload;
 use wgsl_standard::answer::type_of_call;
 pub use wgsl_standard::callee::{Callee, can_be_const_expression, overloads};
 pub use wgsl_standard::explanation::{Note, explain};
+pub use wgsl_standard::meant::{meant, unknown_name};
 pub use wgsl_standard::operand::{Operand, OperandType};
 pub use wgsl_standard::refusal::{Mismatch, refused_by};
 pub use wgsl_standard::resolved::ResolvedCall;
@@ -57,8 +60,9 @@ pub fn type_binary_op(
     lhs: Operand<'_>,
     rhs: Operand<'_>,
 ) -> Result<Option<Type>, Fail<NoOverload>>
-    ensures { AnswersType (IsStandardAnswer (binary_overloads operator)
+    ensures answer { AnswersType (IsStandardAnswer (binary_overloads operator)
         (operand_view lhs.entry ∷ operand_view rhs.entry ∷ [])) result }
+    ensures refusal { IsRefusedAs (refusal_of (a_binary operator)) result }
 {
     type_of(alloc, Callee::Binary(operator), None, &[lhs, rhs])
 }
@@ -69,7 +73,8 @@ pub fn type_unary_op(
     operator: UnaryOperator,
     operand: Operand<'_>,
 ) -> Result<Option<Type>, Fail<NoOverload>>
-    ensures { AnswersType (IsStandardAnswer (unary_overloads operator) (operand_view operand.entry ∷ [])) result }
+    ensures answer { AnswersType (IsStandardAnswer (unary_overloads operator) (operand_view operand.entry ∷ [])) result }
+    ensures refusal { IsRefusedAs (refusal_of (a_unary operator)) result }
 {
     type_of(alloc, Callee::Unary(operator), None, &[operand])
 }
@@ -81,8 +86,9 @@ pub fn type_builtin_fn(
     template: Option<&Type>,
     arguments: &[Operand<'_>],
 ) -> Result<Option<Type>, Fail<NoOverload>>
-    ensures { AnswersType (IsCallAnswer (overloads_named name.now function_table) (overloads_named name.now template_function_table)
+    ensures answer { AnswersType (IsCallAnswer (overloads_named name.now function_table) (overloads_named name.now template_function_table)
         (option_map (λ t. view t.now) template.entry) (operands_view arguments.now)) result }
+    ensures refusal { IsRefusedAs (refusal_of (a_function name.now)) result }
 {
     type_of(alloc, Callee::Function(name), template, arguments)
 }
@@ -95,8 +101,9 @@ pub fn type_ctor(
     template: Option<&Type>,
     arguments: &[Operand<'_>],
 ) -> Result<Option<Type>, Fail<NoOverload>>
-    ensures { AnswersType (IsCallAnswer (overloads_named name.now constructor_table) (overloads_named name.now template_constructor_table)
+    ensures answer { AnswersType (IsCallAnswer (overloads_named name.now constructor_table) (overloads_named name.now template_constructor_table)
         (option_map (λ t. view t.now) template.entry) (operands_view arguments.now)) result }
+    ensures refusal { IsRefusedAs (refusal_of (a_constructor name.now)) result }
 {
     type_of(alloc, Callee::Constructor(name), template, arguments)
 }
@@ -108,8 +115,9 @@ fn type_of(
     template: Option<&Type>,
     operands: &[Operand<'_>],
 ) -> Result<Option<Type>, Fail<NoOverload>>
-    ensures { AnswersType (IsCallAnswer (overloads_of callee.entry false) (overloads_of callee.entry true)
+    ensures answer { AnswersType (IsCallAnswer (overloads_of callee.entry false) (overloads_of callee.entry true)
         (option_map (λ t. view t.now) template.entry) (operands_view operands.now)) result }
+    ensures refusal { IsRefusedAs (refusal_of (callee_view callee.entry)) result }
 {
     let found = type_of_call(alloc, callee, template, operands)?;
     Ok(built(alloc, found)?)
@@ -122,8 +130,9 @@ pub fn resolve_binary_op(
     lhs: Operand<'_>,
     rhs: Operand<'_>,
 ) -> Result<ResolvedCall, Fail<NoOverload>>
-    ensures { Answers resolved_view (IsCallResolution (a_binary operator) None
+    ensures answer { Answers resolved_view (IsCallResolution (a_binary operator) None
         (operand_view lhs.entry ∷ operand_view rhs.entry ∷ [])) result }
+    ensures refusal { IsRefusedAs (refusal_of (a_binary operator)) result }
 {
     resolve_callee(alloc, Callee::Binary(operator), None, &[lhs, rhs])
 }
@@ -134,7 +143,8 @@ pub fn resolve_unary_op(
     operator: UnaryOperator,
     operand: Operand<'_>,
 ) -> Result<ResolvedCall, Fail<NoOverload>>
-    ensures { Answers resolved_view (IsCallResolution (a_unary operator) None (operand_view operand.entry ∷ [])) result }
+    ensures answer { Answers resolved_view (IsCallResolution (a_unary operator) None (operand_view operand.entry ∷ [])) result }
+    ensures refusal { IsRefusedAs (refusal_of (a_unary operator)) result }
 {
     resolve_callee(alloc, Callee::Unary(operator), None, &[operand])
 }
@@ -146,8 +156,9 @@ pub fn resolve_builtin_fn(
     template: Option<&Type>,
     arguments: &[Operand<'_>],
 ) -> Result<ResolvedCall, Fail<NoOverload>>
-    ensures { Answers resolved_view (IsCallResolution (a_function name.now)
+    ensures answer { Answers resolved_view (IsCallResolution (a_function name.now)
         (option_map (λ t. view t.now) template.entry) (operands_view arguments.now)) result }
+    ensures refusal { IsRefusedAs (refusal_of (a_function name.now)) result }
 {
     resolve_callee(alloc, Callee::Function(name), template, arguments)
 }
@@ -159,8 +170,9 @@ pub fn resolve_ctor(
     template: Option<&Type>,
     arguments: &[Operand<'_>],
 ) -> Result<ResolvedCall, Fail<NoOverload>>
-    ensures { Answers resolved_view (IsCallResolution (a_constructor name.now)
+    ensures answer { Answers resolved_view (IsCallResolution (a_constructor name.now)
         (option_map (λ t. view t.now) template.entry) (operands_view arguments.now)) result }
+    ensures refusal { IsRefusedAs (refusal_of (a_constructor name.now)) result }
 {
     resolve_callee(alloc, Callee::Constructor(name), template, arguments)
 }

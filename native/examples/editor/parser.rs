@@ -1,136 +1,122 @@
-//! A parser of expressions: enough for the example, whose expressions have no faults of syntax.
+//! Expressions, by what the crate's reader of WGSL notes: a stack of parts, and a step for each event.
 
 use super::{Expr, Kind};
-use wgsl_types_proved::builtin::is_ctor;
-use wgsl_types_proved::syntax::{BinaryOperator as Binary, UnaryOperator as Unary};
+use std::ops::Range;
+use wgsl_types_proved::reader::{read, tokens, Event, Mark, Rule, Token};
 use wgsl_types_proved::Type;
 
-/// The expression that a text is.
-pub fn parse(text: &str) -> Expr {
-    Parser { text, at: 0 }.expression(0)
+/// What was read and is no part of anything else yet.
+enum Part {
+    Whole(Expr),
+    Operator(Range<usize>),
+    /// What is called, with the type in its template list and its arguments so far.
+    Callee(Range<usize>, Option<Type>, Vec<Expr>),
 }
 
-/// The binary operators, with how strongly they bind. An operator comes after those that begin with it.
-const OPERATORS: [(&str, Binary, u8); 18] = [
-    ("||", Binary::ShortCircuitOr, 1),
-    ("&&", Binary::ShortCircuitAnd, 2),
-    ("|", Binary::BitwiseOr, 3),
-    ("^", Binary::BitwiseXor, 4),
-    ("&", Binary::BitwiseAnd, 5),
-    ("==", Binary::Equality, 6),
-    ("!=", Binary::Inequality, 6),
-    ("<=", Binary::LessThanEqual, 6),
-    (">=", Binary::GreaterThanEqual, 6),
-    ("<<", Binary::ShiftLeft, 7),
-    (">>", Binary::ShiftRight, 7),
-    ("<", Binary::LessThan, 6),
-    (">", Binary::GreaterThan, 6),
-    ("+", Binary::Addition, 8),
-    ("-", Binary::Subtraction, 8),
-    ("*", Binary::Multiplication, 9),
-    ("/", Binary::Division, 9),
-    ("%", Binary::Remainder, 9),
-];
-
-const UNARY: [(&str, Unary); 3] =
-    [("-", Unary::Negation), ("!", Unary::LogicalNegation), ("~", Unary::BitwiseComplement)];
+/// The expression that a text is. The example's have no faults of syntax.
+pub fn parse(text: &str) -> Expr {
+    let tokens = tokens(text).unwrap();
+    let mut parser = Parser { text, tokens: &tokens, parts: Vec::new(), lists: Vec::new() };
+    for event in read(Rule::Expression, &tokens).unwrap() {
+        parser.step(event);
+    }
+    parser.expr()
+}
 
 struct Parser<'t> {
     text: &'t str,
-    at: usize,
+    tokens: &'t [Token],
+    parts: Vec<Part>,
+    /// Where the template lists begin that are open.
+    lists: Vec<usize>,
 }
 
-impl<'t> Parser<'t> {
-    fn rest(&mut self) -> &'t str {
-        let rest = self.text[self.at..].trim_start();
-        self.at = self.text.len() - rest.len();
-        rest
-    }
-
-    fn take(&mut self, token: &str) -> bool {
-        let is_next = self.rest().starts_with(token);
-        self.at += if is_next { token.len() } else { 0 };
-        is_next
-    }
-
-    fn word(&mut self) -> &'t str {
-        let rest = self.rest();
-        let is_part = |c: char| c.is_alphanumeric() || c == '_' || c == '.';
-        let word = &rest[..rest.find(|c| !is_part(c)).unwrap_or(rest.len())];
-        self.at += word.len();
-        word
-    }
-
-    /// An expression whose operators bind more strongly than `strength`.
-    fn expression(&mut self, strength: u8) -> Expr {
-        self.rest();
-        let start = self.at;
-        let mut expr = self.operand();
-        loop {
-            let rest = self.rest();
-            let next = OPERATORS.into_iter().find(|(token, ..)| rest.starts_with(token));
-            let Some((token, operator, own)) = next.filter(|(_, _, own)| *own > strength) else {
-                return expr;
-            };
-            self.take(token);
-            let rhs = self.expression(own);
-            let kind = Kind::Binary(operator, Box::new(expr), Box::new(rhs));
-            expr = Expr { range: start..self.at, kind };
+impl Parser<'_> {
+    fn step(&mut self, event: Event) {
+        let token = &self.tokens[event.at - 1];
+        let at = token.at..token.at + token.len;
+        match event.mark {
+            Mark::OpenTemplate => self.lists.push(at.end),
+            Mark::Template => self.end_list(at.start),
+            _ if !self.lists.is_empty() => {}
+            Mark::Literal => {
+                let ty = token.literal_type(self.text).unwrap();
+                self.push(at, Kind::Literal(ty));
+            }
+            Mark::Name => self.parts.push(Part::Callee(at, None, Vec::new())),
+            Mark::Value => {
+                let (name, ..) = self.callee();
+                let text = self.text[name.clone()].to_string();
+                self.push(name, Kind::Variable(text));
+            }
+            Mark::Argument => {
+                let argument = self.expr();
+                let (name, template, mut arguments) = self.callee();
+                arguments.push(argument);
+                self.parts.push(Part::Callee(name, template, arguments));
+            }
+            Mark::Call => {
+                let (name, template, arguments) = self.callee();
+                let text = self.text[name.clone()].to_string();
+                let kind = Kind::Call { name: text, template, arguments };
+                self.push(name.start..at.end, kind);
+            }
+            Mark::Operator => self.parts.push(Part::Operator(at)),
+            Mark::Unary => {
+                let operand = self.expr();
+                let operator = self.operator();
+                let range = operator.start..operand.range.end;
+                let operator = self.text[operator].parse().unwrap();
+                self.push(range, Kind::Unary(operator, Box::new(operand)));
+            }
+            Mark::Binary => {
+                let (rhs, operator, lhs) = (self.expr(), self.operator(), self.expr());
+                let range = lhs.range.start..rhs.range.end;
+                let operator = self.text[operator].parse().unwrap();
+                self.push(range, Kind::Binary(operator, Box::new(lhs), Box::new(rhs)));
+            }
+            Mark::Brackets => {
+                let inside = self.expr();
+                let mut front = self.tokens.iter().rev();
+                let open = front.find(|token| token.at < inside.range.start).unwrap();
+                self.push(open.at..at.end, inside.kind);
+            }
+            mark => assert_eq!(mark, Mark::Open),
         }
     }
 
-    fn operand(&mut self) -> Expr {
-        let start = self.at;
-        if self.take("(") {
-            let inside = self.expression(0);
-            self.take(")");
-            return Expr { range: start..self.at, kind: inside.kind };
+    /// Ends a template list, whose type is that of what is called if it is no part of another.
+    fn end_list(&mut self, end: usize) {
+        let start = self.lists.pop().unwrap();
+        if self.lists.is_empty() {
+            let (name, _, arguments) = self.callee();
+            let ty = self.text[start..end].trim().parse().ok();
+            self.parts.push(Part::Callee(name, ty, arguments));
         }
-        let kind = match UNARY.into_iter().find(|(token, _)| self.take(token)) {
-            Some((_, operator)) => Kind::Unary(operator, Box::new(self.operand())),
-            None => self.named(),
-        };
-        Expr { range: start..self.at, kind }
     }
 
-    fn named(&mut self) -> Kind {
-        let word = self.word();
-        if word.starts_with(|c: char| c.is_ascii_digit()) {
-            return Kind::Literal(match word.chars().last() {
-                Some('u') => Type::U32,
-                Some('i') => Type::I32,
-                Some('f') => Type::F32,
-                _ if word.contains('.') => Type::AbstractFloat,
-                _ => Type::AbstractInt,
-            });
-        }
-        let (name, alias) = without_alias(word);
-        let has_template = matches!(name, "bitcast") || is_ctor(name);
-        let template = if has_template && self.take("<") {
-            let ty = self.word().parse().ok();
-            self.take(">");
-            ty
-        } else {
-            alias
-        };
-        if !self.take("(") {
-            return Kind::Variable(word.to_string());
-        }
-        let mut arguments = Vec::new();
-        while !self.take(")") {
-            arguments.push(self.expression(0));
-            self.take(",");
-        }
-        Kind::Call { name: name.to_string(), template, arguments }
+    fn push(&mut self, range: Range<usize>, kind: Kind) {
+        self.parts.push(Part::Whole(Expr { range, kind }));
     }
-}
 
-/// `vec3` and `f32` for `vec3f`, since only the constructor with its template has overloads.
-fn without_alias(word: &str) -> (&str, Option<Type>) {
-    let scalars = [("f", Type::F32), ("h", Type::F16), ("i", Type::I32), ("u", Type::U32)];
-    let aliased = scalars.into_iter().find_map(|(letter, scalar)| {
-        let name = word.strip_suffix(letter).filter(|name| is_ctor(name))?;
-        Some((name, Some(scalar)))
-    });
-    aliased.unwrap_or((word, None))
+    fn expr(&mut self) -> Expr {
+        match self.parts.pop() {
+            Some(Part::Whole(expr)) => expr,
+            _ => unreachable!("an expression comes first"),
+        }
+    }
+
+    fn operator(&mut self) -> Range<usize> {
+        match self.parts.pop() {
+            Some(Part::Operator(at)) => at,
+            _ => unreachable!("an operator comes first"),
+        }
+    }
+
+    fn callee(&mut self) -> (Range<usize>, Option<Type>, Vec<Expr>) {
+        match self.parts.pop() {
+            Some(Part::Callee(name, template, arguments)) => (name, template, arguments),
+            _ => unreachable!("a name comes first"),
+        }
+    }
 }

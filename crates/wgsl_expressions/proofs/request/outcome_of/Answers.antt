@@ -1,5 +1,4 @@
-use Rattle.wgsl_expressions.proofs.Asked.{not_utf8}
 use Rattle.wgsl_expressions.proofs.request.outcome_of.Goals as goal
 
 pub returns-in-Err : goal.returns-in-Err
-returns-in-Err c = not_utf8 c.args.expression.now c.in-Err.ensures.cases.0
+returns-in-Err c = absurd (c.in-Err.ensures.cases.0 c.requires)

@@ -2,12 +2,12 @@ use Rattle.std.proofs.Common.{◌≤◌, ◌-◌, All, IsUtf8, None, Some, lengt
 use Rattle.wgsl_text.specs.Replies.{IsLineOfText, answer}
 use Rattle.wgsl_text.specs.Words.{words_of}
 use Rattle.wgsl_syntax.specs.declared.rules.RuleSet.TheVariants.{Standard}
-use Rattle.wgsl_expressions.specs.Grammar.{IsTyped}
+use Rattle.wgsl_expressions.specs.Typing.{IsTyped}
 use Rattle.wgsl_expressions.specs.Reading.{Refuses}
 use Rattle.wgsl_expressions.specs.Replies.{IsReplyToLine, long_expression, no_text, outcome_text, to_expression}
 use Rattle.wgsl_expressions.specs.Views.{outcome_view}
-use Rattle.wgsl_expressions.proofs.Asked.{has_words, shorter}
-use Rattle.wgsl_expressions.proofs.Readers.{none_if}
+use Rattle.wgsl_text.proofs.Cuts.{text_of_words}
+use Rattle.wgsl_expressions.proofs.Asked.{has_words, is_text, none_if, shorter}
 use Rattle.wgsl_expressions.proofs.request.write_type.Goals as goal
 
 pub returns-then-request-gt-LONGEST-clause-no_words : goal.returns-then-request-gt-LONGEST-clause-no_words
@@ -53,3 +53,8 @@ returns-in-Err-Error-clause-reply c =
 
 pub returns-in-Err-Memory-clause-no_words : goal.returns-in-Err-Memory-clause-no_words
 returns-in-Err-Memory-clause-no_words c = has_words c.args.request.now c.args.expression.now c.requires
+
+pub outcome_of-requires : goal.outcome_of-requires
+outcome_of-requires c =
+    let all : All IsUtf8 (words_of c.args.request.now) = search rules in
+    is_text c.args.request.now c.args.expression.now c.requires ((text_of_words _).1 all)

@@ -9,4 +9,4 @@ use Rattle.wgsl_requests.proofs.standard.type_of.Goals as goal
 pub returns : goal.returns
 returns c =
     let P = IsCallAnswer (overloads_of c.args.call.now.callee false) (overloads_of c.args.call.now.callee true) in
-    answered (option_map result_view) P _ c.template_type.result c.in-Some.template c.args.call.now.operands.now _ _ c.template_type.ensures c.in-Some.is c.type_of_call.ensures c.if_resolved.ensures
+    answered (option_map result_view) P _ c.template_type.result c.in-Some.template c.args.call.now.operands.now _ _ c.template_type.ensures c.in-Some.is c.type_of_call.ensures.answer c.if_resolved.ensures

@@ -6,6 +6,8 @@ use Rattle.wgsl_source.specs.declared.structure.Written.{Written}
 use Rattle.wgsl_source.specs.Members.{AreSameMembers, members_of}
 use Rattle.wgsl_source.proofs.Members.{one_more_same}
 use Rattle.wgsl_source.proofs.Placed.{ArePlaced, all_placed_out, none_placed, one_placed}
+use Rattle.wgsl_source.proofs.Refused.{no_offset, no_size, at_fault}
+use Rattle.wgsl_source.specs.Layout.{HasNoLayout}
 use Rattle.wgsl_source.proofs.structure.laid_out.Goals as goal
 
 pub loop-next-init : goal.loop-next-init
@@ -33,4 +35,18 @@ returns-in-Some-size c =
     record {
       layout = all_placed_out l.members.items l.placing.end l.placing.greatest size l.invariant.placed ((c.in-Some-size.ensures size).0 refl);
       same_members = subst (λ (ws : List Written). AreSameMembers l.members.items (members_of ws)) (take_all l.next-index c.args.written.now c.loop-next-test.false) l.invariant.same;
+      refused = tt;
     }
+
+pub returns-in_default-clause-refused : goal.returns-in_default-clause-refused
+returns-in_default-clause-refused c =
+    let l = c.loop-next in
+    at_fault c.at.result (HasNoLayout (members_of c.args.written.now))
+    (no_offset l.members.items c.args.written.now l.next-index _ l.placing.end l.placing.greatest c.loop-next-test.true l.invariant.placed l.invariant.same c.in_default.ensures.offset)
+
+pub returns-clause-refused : goal.returns-clause-refused
+returns-clause-refused c =
+    let l = c.loop-next in
+    let same = subst (λ (ws : List Written). AreSameMembers l.members.items (members_of ws)) (take_all l.next-index c.args.written.now c.loop-next-test.false) l.invariant.same in
+    at_fault c.at-in-None.result (HasNoLayout (members_of c.args.written.now))
+    (no_size l.members.items c.args.written.now l.placing.end l.placing.greatest l.invariant.placed same c.in-None.ensures)

@@ -1,10 +1,11 @@
-use Rattle.std.proofs.Common.{codes, string_bytes}
-use Rattle.wgsl_text.proofs.Listings.{refusal_written}
-use Rattle.wgsl_text.proofs.Written.{on_ok, pushed}
+use Rattle.std.proofs.Common.{◌∙◌, ◌++◌, ap, string_bytes}
+use Rattle.std.specs.Prelude.{option_map}
+use Rattle.wgsl_requests.specs.StandardViews.{call_view}
+use Rattle.wgsl_text.proofs.Listings.{refused_unknown}
+use Rattle.wgsl_text.proofs.Written.{on_ok}
 use Rattle.wgsl_text.proofs.overloaded.write_no_overload.Goals as goal
 
-pub returns : goal.returns
-unfolding lib.Utf8.encode
-returns c =
-    on_ok c.push.result (λ e. refusal_written _ _ _ _ _ _ _ _ _ c.args.call.now.operands.now c.in_ok-push_str.ensures.bytes c.in_ok-write_callee.ensures c.in_ok-write_template.ensures c.in_ok-push_str-2.ensures.bytes c.in_ok-write_operand_types.ensures e)
-    (pushed c.push.result (string_bytes c.push.new.self) (string_bytes c.write_operand_types.new.text) (codes ")") c.push.ensures.bytes)
+pub returns-in-Some : goal.returns-in-Some
+returns-in-Some c =
+    let same = refused_unknown (call_view c.args.call.now) _ c.in-Some.name.now c.unknown_name.ensures (ap (option_map (λ name. name.now)) c.in-Some.is) in
+    on_ok c.write_unknown.result (λ e. e ∙ ap (λ text. string_bytes c.args.text.now ++ text) same) c.write_unknown.ensures

@@ -1,0 +1,117 @@
+// Functions on integers (WGSL, "Numeric Built-in Functions").
+
+ghost use Rattle.wgsl_constants.specs.Functions.{IsAbsolute, IsSign, OfPair, greatest, least, selected};
+
+use crate::integer::{Integer, IntegerError, IntegerPair};
+use crate::operator::{compare, pair_of, to_i32, to_u32};
+use std::cmp::Ordering;
+
+/// The bits of a 32-bit integer. An AbstractInt is taken as an `i32` if it fits, or else as a `u32`.
+pub fn bits_of(integer: Integer) -> Result<u32, IntegerError> {
+    match integer {
+        Integer::Abstract(value) => match to_i32(value) {
+            Ok(value) => Ok(value.cast_unsigned()),
+            Err(_) => to_u32(value),
+        },
+        Integer::I32(value) => Ok(value.cast_unsigned()),
+        Integer::U32(value) => Ok(value),
+    }
+}
+
+/// `abs`. For the least `i32` it is that `i32`.
+pub fn absolute(integer: Integer) -> Result<Integer, IntegerError>
+    ensures { IsAbsolute integer result }
+{
+    match integer {
+        Integer::Abstract(value) => match value.checked_abs() {
+            Some(value) => Ok(Integer::Abstract(value)),
+            None => Err(IntegerError::Overflow),
+        },
+        Integer::I32(value) => Ok(Integer::I32(value.wrapping_abs())),
+        Integer::U32(value) => Ok(Integer::U32(value)),
+    }
+}
+
+/// `sign`, which has no overload for `u32`.
+pub fn sign(integer: Integer) -> Result<Integer, IntegerError>
+    ensures { IsSign integer result }
+{
+    match integer {
+        Integer::Abstract(value) => Ok(Integer::Abstract(value.signum())),
+        Integer::I32(value) => Ok(Integer::I32(value.signum())),
+        Integer::U32(_) => Err(IntegerError::NegatedUnsigned),
+    }
+}
+
+/// `min`
+pub fn minimum(left: Integer, right: Integer) -> Result<Integer, IntegerError>
+    ensures { OfPair left right least result }
+{
+    match pair_of(left, right)? {
+        IntegerPair::Abstract(a, b) => Ok(Integer::Abstract(a.min(b))),
+        IntegerPair::I32(a, b) => Ok(Integer::I32(a.min(b))),
+        IntegerPair::U32(a, b) => Ok(Integer::U32(a.min(b))),
+    }
+}
+
+/// `max`
+pub fn maximum(left: Integer, right: Integer) -> Result<Integer, IntegerError>
+    ensures { OfPair left right greatest result }
+{
+    match pair_of(left, right)? {
+        IntegerPair::Abstract(a, b) => Ok(Integer::Abstract(a.max(b))),
+        IntegerPair::I32(a, b) => Ok(Integer::I32(a.max(b))),
+        IntegerPair::U32(a, b) => Ok(Integer::U32(a.max(b))),
+    }
+}
+
+/// `clamp` to `low` and `high`. It is an error if `low` is above `high`.
+pub fn clamp(value: Integer, low: Integer, high: Integer) -> Result<Integer, IntegerError> {
+    if compare(low, high)? == Ordering::Greater {
+        return Err(IntegerError::EmptyRange);
+    }
+    minimum(maximum(value, low)?, high)
+}
+
+/// `select`: `right` if the test holds, else `left`.
+pub fn select(left: Integer, right: Integer, test: bool) -> Result<Integer, IntegerError>
+    ensures { OfPair left right (selected test) result }
+{
+    match pair_of(left, right)? {
+        IntegerPair::Abstract(a, b) => Ok(Integer::Abstract(if test { b } else { a })),
+        IntegerPair::I32(a, b) => Ok(Integer::I32(if test { b } else { a })),
+        IntegerPair::U32(a, b) => Ok(Integer::U32(if test { b } else { a })),
+    }
+}
+
+/// `countOneBits`. An AbstractInt is taken as an `i32`.
+pub fn count_one_bits(integer: Integer) -> Result<Integer, IntegerError> {
+    match integer {
+        Integer::Abstract(value) => Ok(Integer::I32(one_bits(to_i32(value)?))),
+        Integer::I32(value) => Ok(Integer::I32(one_bits(value))),
+        Integer::U32(value) => Ok(Integer::U32(value.count_ones())),
+    }
+}
+
+fn one_bits(value: i32) -> i32 {
+    value.cast_unsigned().count_ones().cast_signed()
+}
+
+/// `firstLeadingBit`: the index of the first bit from the highest down that is 1, or that differs from the sign. If
+/// there is none, all bits of the result are 1. An AbstractInt is taken as an `i32`.
+pub fn first_leading_bit(integer: Integer) -> Result<Integer, IntegerError> {
+    match integer {
+        Integer::Abstract(value) => Ok(Integer::I32(first_bit_of(to_i32(value)?))),
+        Integer::I32(value) => Ok(Integer::I32(first_bit_of(value))),
+        Integer::U32(value) => Ok(Integer::U32(first_bit(value))),
+    }
+}
+
+fn first_bit(value: u32) -> u32 {
+    value.checked_ilog2().unwrap_or(u32::MAX)
+}
+
+fn first_bit_of(value: i32) -> i32 {
+    let bits = if value < 0 { !value } else { value };
+    first_bit(bits.cast_unsigned()).cast_signed()
+}

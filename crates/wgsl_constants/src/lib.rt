@@ -1,0 +1,8 @@
+//! Integers that are known at compile time: literals, operators and functions on them (WGSL, "Const-Expressions").
+#![tactic(auto)]
+
+pub mod function;
+pub mod integer;
+pub mod laws;
+pub mod literal;
+pub mod operator;

@@ -1,0 +1,292 @@
+// Operators on integers (WGSL, "Arithmetic Expressions", "Bit Expressions").
+
+ghost use Rattle.std.specs.Prelude.{◌≡◌, ◌<◌, ◌^◌, neg_ℤ, pos};
+ghost use Rattle.std.specs.Int.{int_shr, int_wrap, w32};
+ghost use Rattle.wgsl_constants.specs.Conversions.{IsI32, IsPair, IsU32};
+ghost use Rattle.wgsl_constants.specs.Arithmetic.{IsAbstractValue, IsI32Value, IsU32Value, IsValue};
+ghost use Rattle.wgsl_constants.specs.Functions.{OfPair, comparison};
+ghost use Rattle.wgsl_constants.specs.Shifts.{IsAbstractShift, IsCount, IsI32Shift, IsLeftShift, IsNegative, IsRightShift, IsU32Shift, complement_of};
+
+use crate::integer::{Integer, IntegerError, IntegerOperator, IntegerPair};
+use std::cmp::Ordering;
+
+/// Both integers in the type to which they convert.
+pub fn pair_of(left: Integer, right: Integer) -> Result<IntegerPair, IntegerError>
+    ensures { IsPair left right result }
+{
+    match (left, right) {
+        (Integer::Abstract(a), Integer::Abstract(b)) => Ok(IntegerPair::Abstract(a, b)),
+        (Integer::Abstract(a), Integer::I32(b)) => Ok(IntegerPair::I32(to_i32(a)?, b)),
+        (Integer::I32(a), Integer::Abstract(b)) => Ok(IntegerPair::I32(a, to_i32(b)?)),
+        (Integer::I32(a), Integer::I32(b)) => Ok(IntegerPair::I32(a, b)),
+        (Integer::Abstract(a), Integer::U32(b)) => Ok(IntegerPair::U32(to_u32(a)?, b)),
+        (Integer::U32(a), Integer::Abstract(b)) => Ok(IntegerPair::U32(a, to_u32(b)?)),
+        (Integer::U32(a), Integer::U32(b)) => Ok(IntegerPair::U32(a, b)),
+        (Integer::I32(_), Integer::U32(_)) | (Integer::U32(_), Integer::I32(_)) => {
+            Err(IntegerError::MixedTypes)
+        }
+    }
+}
+
+/// An AbstractInt as an `i32`.
+pub fn to_i32(value: i64) -> Result<i32, IntegerError>
+    ensures { IsI32 value result }
+{
+    match i32::try_from(value) {
+        Ok(value) => Ok(value),
+        Err(_) => Err(IntegerError::Overflow),
+    }
+}
+
+/// An AbstractInt as a `u32`.
+pub fn to_u32(value: i64) -> Result<u32, IntegerError>
+    ensures { IsU32 value result }
+{
+    match u32::try_from(value) {
+        Ok(value) => Ok(value),
+        Err(_) => Err(IntegerError::Overflow),
+    }
+}
+
+/// The value of an operator other than a shift, or why there is none.
+pub fn apply(
+    operator: IntegerOperator,
+    left: Integer,
+    right: Integer,
+) -> Result<Integer, IntegerError>
+    ensures { IsValue operator left right result }
+{
+    match pair_of(left, right)? {
+        IntegerPair::Abstract(a, b) => Ok(Integer::Abstract(apply_abstract(operator, a, b)?)),
+        IntegerPair::I32(a, b) => Ok(Integer::I32(apply_i32(operator, a, b)?)),
+        IntegerPair::U32(a, b) => Ok(Integer::U32(apply_u32(operator, a, b)?)),
+    }
+}
+
+fn apply_abstract(operator: IntegerOperator, a: i64, b: i64) -> Result<i64, IntegerError>
+    ensures { IsAbstractValue operator a b result }
+{
+    match operator {
+        IntegerOperator::Addition => a.checked_add(b).ok_or(IntegerError::Overflow),
+        IntegerOperator::Subtraction => a.checked_sub(b).ok_or(IntegerError::Overflow),
+        IntegerOperator::Multiplication => a.checked_mul(b).ok_or(IntegerError::Overflow),
+        IntegerOperator::Division => divide_abstract(a, b),
+        IntegerOperator::Remainder => remainder_abstract(a, b),
+        IntegerOperator::BitwiseOr => Ok(a | b),
+        IntegerOperator::BitwiseAnd => Ok(a & b),
+        IntegerOperator::BitwiseXor => Ok(a ^ b),
+    }
+}
+
+fn divide_abstract(a: i64, b: i64) -> Result<i64, IntegerError>
+    ensures { IsAbstractValue IntegerOperator.Division a b result }
+{
+    if b == 0 {
+        Err(IntegerError::DivisionByZero)
+    } else {
+        a.checked_div(b).ok_or(IntegerError::Overflow)
+    }
+}
+
+fn remainder_abstract(a: i64, b: i64) -> Result<i64, IntegerError>
+    ensures { IsAbstractValue IntegerOperator.Remainder a b result }
+{
+    if b == 0 {
+        Err(IntegerError::DivisionByZero)
+    } else {
+        a.checked_rem(b).ok_or(IntegerError::Overflow)
+    }
+}
+
+fn apply_i32(operator: IntegerOperator, a: i32, b: i32) -> Result<i32, IntegerError>
+    ensures { IsI32Value operator a b result }
+{
+    match operator {
+        IntegerOperator::Addition => Ok(a.wrapping_add(b)),
+        IntegerOperator::Subtraction => Ok(a.wrapping_sub(b)),
+        IntegerOperator::Multiplication => Ok(a.wrapping_mul(b)),
+        IntegerOperator::Division => divide_i32(a, b),
+        IntegerOperator::Remainder => remainder_i32(a, b),
+        IntegerOperator::BitwiseOr => Ok(a | b),
+        IntegerOperator::BitwiseAnd => Ok(a & b),
+        IntegerOperator::BitwiseXor => Ok(a ^ b),
+    }
+}
+
+fn divide_i32(a: i32, b: i32) -> Result<i32, IntegerError>
+    ensures { IsI32Value IntegerOperator.Division a b result }
+{
+    if b == 0 {
+        Err(IntegerError::DivisionByZero)
+    } else {
+        a.checked_div(b).ok_or(IntegerError::Overflow)
+    }
+}
+
+fn remainder_i32(a: i32, b: i32) -> Result<i32, IntegerError>
+    ensures { IsI32Value IntegerOperator.Remainder a b result }
+{
+    if b == 0 {
+        Err(IntegerError::DivisionByZero)
+    } else {
+        a.checked_rem(b).ok_or(IntegerError::Overflow)
+    }
+}
+
+fn apply_u32(operator: IntegerOperator, a: u32, b: u32) -> Result<u32, IntegerError>
+    ensures { IsU32Value operator a b result }
+{
+    match operator {
+        IntegerOperator::Addition => Ok(a.wrapping_add(b)),
+        IntegerOperator::Subtraction => Ok(a.wrapping_sub(b)),
+        IntegerOperator::Multiplication => Ok(a.wrapping_mul(b)),
+        IntegerOperator::Division => a.checked_div(b).ok_or(IntegerError::DivisionByZero),
+        IntegerOperator::Remainder => a.checked_rem(b).ok_or(IntegerError::DivisionByZero),
+        IntegerOperator::BitwiseOr => Ok(a | b),
+        IntegerOperator::BitwiseAnd => Ok(a & b),
+        IntegerOperator::BitwiseXor => Ok(a ^ b),
+    }
+}
+
+/// The number of bits by which a shift by an integer shifts.
+fn count_of(right: Integer) -> Result<u32, IntegerError>
+    ensures { IsCount right result }
+{
+    match right {
+        Integer::Abstract(count) => to_u32(count),
+        Integer::I32(_) => Err(IntegerError::MixedTypes),
+        Integer::U32(count) => Ok(count),
+    }
+}
+
+/// The value of `<<`, which is an error if it loses bits.
+pub fn shift_left(left: Integer, right: Integer) -> Result<Integer, IntegerError>
+    ensures { IsLeftShift left right result }
+{
+    let count = count_of(right)?;
+    match left {
+        Integer::Abstract(value) => match shift_abstract(value, count) {
+            Ok(value) => Ok(Integer::Abstract(value)),
+            Err(error) => Err(error),
+        },
+        Integer::I32(value) => match shift_i32(value, count) {
+            Ok(value) => Ok(Integer::I32(value)),
+            Err(error) => Err(error),
+        },
+        Integer::U32(value) => match shift_u32(value, count) {
+            Ok(value) => Ok(Integer::U32(value)),
+            Err(error) => Err(error),
+        },
+    }
+}
+
+/// Two to the power of a number below 63.
+fn power_of_two(exponent: u32) -> i64
+    requires { exponent < 63 }
+    ensures { result ≡ pos (2 ^ exponent) }
+{
+    1i64 << exponent
+}
+
+fn shift_abstract(value: i64, count: u32) -> Result<i64, IntegerError>
+    ensures { IsAbstractShift value count result }
+{
+    if value == 0 {
+        Ok(0)
+    } else if count < 63 {
+        value
+            .checked_mul(power_of_two(count))
+            .ok_or(IntegerError::Overflow)
+    } else if value == -1 && count == 63 {
+        Ok(i64::MIN)
+    } else {
+        Err(IntegerError::Overflow)
+    }
+}
+
+fn shift_i32(value: i32, count: u32) -> Result<i32, IntegerError>
+    ensures { IsI32Shift value count result }
+{
+    if count < 32 {
+        to_i32(i64::from(value) * power_of_two(count))
+    } else {
+        Err(IntegerError::ShiftTooFar)
+    }
+}
+
+fn shift_u32(value: u32, count: u32) -> Result<u32, IntegerError>
+    ensures { IsU32Shift value count result }
+{
+    if count < 32 {
+        to_u32(i64::from(value) * power_of_two(count))
+    } else {
+        Err(IntegerError::ShiftTooFar)
+    }
+}
+
+/// The value of `>>`.
+pub fn shift_right(left: Integer, right: Integer) -> Result<Integer, IntegerError>
+    ensures { IsRightShift left right result }
+{
+    let count = count_of(right)?;
+    match left {
+        Integer::Abstract(value) => Ok(Integer::Abstract(shift_down(value, count))),
+        Integer::I32(_) | Integer::U32(_) if count >= 32 => Err(IntegerError::ShiftTooFar),
+        Integer::I32(value) => Ok(Integer::I32(value >> count)),
+        Integer::U32(value) => Ok(Integer::U32(value >> count)),
+    }
+}
+
+fn shift_down(value: i64, count: u32) -> i64
+    ensures { result ≡ int_shr value count }
+{
+    if count < 64 {
+        value >> count
+    } else if value < 0 {
+        -1
+    } else {
+        0
+    }
+}
+
+/// The value of `-`.
+pub fn negative(integer: Integer) -> Result<Integer, IntegerError>
+    ensures { IsNegative integer result }
+{
+    match integer {
+        Integer::Abstract(value) => match value.checked_neg() {
+            Some(value) => Ok(Integer::Abstract(value)),
+            None => Err(IntegerError::Overflow),
+        },
+        Integer::I32(value) => Ok(Integer::I32(negative_i32(value))),
+        Integer::U32(_) => Err(IntegerError::NegatedUnsigned),
+    }
+}
+
+fn negative_i32(value: i32) -> i32
+    ensures { result ≡ int_wrap w32 (neg_ℤ value) }
+{
+    value.wrapping_neg()
+}
+
+/// The value of `~`.
+pub fn complement(integer: Integer) -> Integer
+    ensures { result ≡ complement_of integer }
+{
+    match integer {
+        Integer::Abstract(value) => Integer::Abstract(!value),
+        Integer::I32(value) => Integer::I32(!value),
+        Integer::U32(value) => Integer::U32(!value),
+    }
+}
+
+/// How the first of two integers of one type compares with the second.
+pub fn compare(left: Integer, right: Integer) -> Result<Ordering, IntegerError>
+    ensures { OfPair left right comparison result }
+{
+    match pair_of(left, right)? {
+        IntegerPair::Abstract(a, b) => Ok(a.cmp(&b)),
+        IntegerPair::I32(a, b) => Ok(a.cmp(&b)),
+        IntegerPair::U32(a, b) => Ok(a.cmp(&b)),
+    }
+}

@@ -1,0 +1,14 @@
+pub mod Gaps
+pub mod HasLines
+pub mod Frames
+pub mod Alone
+pub mod Declarations
+pub mod Found
+pub mod Rows
+pub mod OneOutcome
+pub mod Passed
+pub mod Prefixes
+pub mod SomeOutcome
+pub mod Steps
+pub mod Tokens
+pub mod Weights

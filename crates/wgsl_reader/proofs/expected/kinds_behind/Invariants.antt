@@ -1,0 +1,8 @@
+use Rattle.std.proofs.Common.{◌≡◌, map}
+use Rattle.std.specs.List.{All}
+use Rattle.wgsl_reader.specs.Expected.{MayStand}
+use Rattle.wgsl_reader.specs.Reading.{kind_of}
+use Rattle.wgsl_reader.proofs.expected.kinds_behind.Given as goal
+
+abbrev pub invariant-loop-kind : goal.invariant-loop-kind
+invariant-loop-kind l = (l.rule ≡ l.fn.rule) × (l.tokens ≡ l.fn.tokens) × (l.tried.items ≡ l.tokens) × All (MayStand l.rule (map kind_of l.tokens)) l.found.items

@@ -1,0 +1,12 @@
+use Rattle.std.proofs.Common.{◌≡◌, ◌++◌, map, option_map, refl, slice_get, sym, ap, ◌∙◌}
+use denote.Enum.Declared.{tag_of}
+use Rattle.wgsl_reader.specs.contracts.rule.Rule.{the_type as rule_type}
+use Rattle.wgsl_reader.specs.Grammar.{row_of, rules}
+use Rattle.wgsl_reader.proofs.Rows.{row_found}
+use Rattle.wgsl_reader.proofs.grammar.lines.Goals as goal
+
+pub returns : goal.returns
+returns c =
+    let all : map row_of c.expressions.result.now ++ (map row_of c.statements.result.now ++ map row_of c.modules.result.now) ≡ rules
+    = rw (c.expressions.ensures, c.statements.ensures, c.modules.ensures) refl in
+    c.lines_at.ensures ∙ (ap (λ rows. option_map (λ row. row.1) (slice_get rows (tag_of rule_type c.args.rule))) all ∙ sym (row_found c.args.rule))

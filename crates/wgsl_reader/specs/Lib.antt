@@ -1,0 +1,12 @@
+pub mod Bytes
+pub mod Signs
+pub mod Words
+pub mod Numbers
+pub mod Tokens
+pub mod Lists
+pub mod Seen
+pub mod Grammar
+pub mod Frames
+pub mod Reading
+pub mod Expected
+pub mod Modules

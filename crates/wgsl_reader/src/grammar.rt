@@ -1,0 +1,136 @@
+// The grammar of WGSL: each rule with its lines, of which the first is taken that begins with the next token.
+//
+// It differs from WGSL's own in four places. An attribute is a name with any arguments. A template list is found by tokens, so
+// that a `<` behind `true` begins none. Directives and declarations are read one by one (module.rt), so that `@const` stands in
+// front of `fn` alone. A reserved word is a token of its own.
+ghost use Rattle.std.specs.Prelude.{◌≡◌, ◌++◌, map, option_map, slice_get};
+ghost use Rattle.wgsl_reader.specs.Grammar.{chosen, is_chosen, line_of, lines_of, production, row_of};
+
+use crate::grammar::expressions::expressions;
+use crate::grammar::modules::modules;
+use crate::grammar::statements::statements;
+use crate::kind::Kind;
+use crate::mark::Mark;
+use crate::rule::Rule;
+
+/// What stands in a line.
+#[derive(Clone, Copy)]
+pub enum Symbol {
+    /// A token of this kind.
+    Token(Kind),
+    /// What a rule reads.
+    Rule(Rule),
+    /// What is noted here.
+    Mark(Mark),
+}
+
+/// The kind of the next token for which a line is taken, or None for any, and what its rule stands for then.
+pub type Line = (Option<Kind>, &'static [Symbol]);
+
+/// A token by its kind, `(Rule)`, or `{Mark}`.
+macro_rules! symbol {
+    (($rule:ident)) => {
+        Symbol::Rule(Rule::$rule)
+    };
+    ({$mark:ident}) => {
+        Symbol::Mark(Mark::$mark)
+    };
+    ($kind:ident) => {
+        Symbol::Token(Kind::$kind)
+    };
+}
+
+macro_rules! symbols {
+    ([$($symbol:tt)*]) => {
+        &[$(symbol!($symbol)),*]
+    };
+}
+
+/// A kind, or `_` for any other.
+macro_rules! next {
+    (_) => {
+        None
+    };
+    ($kind:ident) => {
+        Some(Kind::$kind)
+    };
+}
+
+/// Each rule with its lines: `A | B => [..]` for each kind of the next token, `_` for any other.
+macro_rules! grammar {
+    ($($rule:ident { $($($next:tt)|+ => $symbols:tt)* })*) => {
+        &[$((Rule::$rule, &[$($((next!($next), symbols!($symbols))),+),*])),*]
+    };
+}
+
+mod expressions;
+mod modules;
+mod statements;
+
+/// A table of rules with their lines.
+type Rows = &'static [(Rule, &'static [Line])];
+
+/// The lines of the rule that has this index in a table.
+#[tactic(auto, using(crate::proofs::Rows::no_row))]
+fn lines_in(index: usize, rows: Rows) -> Option<&'static [Line]>
+    ensures { option_map (λ lines. map line_of lines.now) result ≡ option_map (λ row. row.1) (slice_get (map row_of rows.now) index) }
+{
+    if index >= rows.len() {
+        return None;
+    }
+    Some(rows[index].1)
+}
+
+/// The lines of the rule that has this index in three tables, one behind the other.
+#[tactic(auto, using(crate::proofs::Rows::in_first, crate::proofs::Rows::in_second, crate::proofs::Rows::in_third))]
+fn lines_at(index: usize, first: Rows, second: Rows, third: Rows) -> Option<&'static [Line]>
+    ensures { option_map (λ lines. map line_of lines.now) result ≡ option_map (λ row. row.1) (slice_get (map row_of first.now ++ (map row_of second.now ++ map row_of third.now)) index) }
+{
+    if index < first.len() {
+        return lines_in(index, first);
+    }
+    let behind = index - first.len();
+    if behind < second.len() {
+        return lines_in(behind, second);
+    }
+    lines_in(behind - second.len(), third)
+}
+
+/// The lines of a rule. The tables have the rules in the order of their enumeration.
+fn lines(rule: Rule) -> Option<&'static [Line]>
+    ensures { option_map (λ lines. map line_of lines.now) result ≡ lines_of rule }
+{
+    lines_at(rule as usize, expressions(), statements(), modules())
+}
+
+/// What the first line stands for that is taken for the next token.
+fn chosen(next: Kind, lines: &'static [Line]) -> Option<&'static [Symbol]>
+    ensures { option_map (λ symbols. symbols.now) result ≡ chosen next (map line_of lines.now) }
+{
+    for (kind, symbols) in lines {
+        if is_chosen(next, *kind) {
+            return Some(*symbols);
+        }
+    }
+    None
+}
+
+/// Whether a line is taken for the next token.
+fn is_chosen(next: Kind, kind: Option<Kind>) -> bool
+    ensures { result ≡ is_chosen next kind }
+{
+    match kind {
+        Some(kind) => next == kind,
+        None => true,
+    }
+}
+
+/// What a rule stands for if this token is next; None if it can't begin with it.
+pub fn production(rule: Rule, next: Kind) -> Option<&'static [Symbol]>
+    ensures { option_map (λ symbols. symbols.now) result ≡ production rule next }
+{
+    match lines(rule) {
+        Some(lines) => chosen(next, lines),
+        None => None,
+    }
+}

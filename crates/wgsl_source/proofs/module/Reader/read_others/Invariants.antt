@@ -1,0 +1,5 @@
+use Rattle.wgsl_source.specs.Structs.{Keeps}
+use Rattle.wgsl_source.proofs.module.Reader.read_others.Given as goal
+
+abbrev pub invariant-loop-declaration : goal.invariant-loop-declaration
+invariant-loop-declaration l = Keeps l.fn.self l.self

@@ -1,0 +1,40 @@
+-- The structs that a module keeps (WGSL, "Structure Types").
+use Rattle.std.specs.Prelude.{◌≡◌, ◌++◌, ◌↔◌, IsTrue, List, [], ◌∷◌, length}
+use Rattle.std.specs.List.{All}
+use Rattle.wgsl_source.specs.Layout.{IsLaidOut}
+use Rattle.wgsl_source.specs.Members.{AreMeasured, EndsRuntimeSized, Grows, IsTypeOf}
+use Rattle.wgsl_source.specs.declared.measured.MeasuredType.{MeasuredType}
+use Rattle.wgsl_source.specs.declared.module.Reader.{Reader}
+use Rattle.wgsl_source.specs.declared.scope.Meaning.{Meaning}
+use Rattle.wgsl_source.specs.declared.scope.Meaning.TheVariants as meaning
+use Rattle.wgsl_source.specs.declared.structure.Struct.{Struct}
+
+-- a struct has the layout of its members, these the sizes and alignments of their attributes or of their types, and it is
+-- noted whether the last one is a runtime-sized array
+pub record IsStructOf (elements : List MeasuredType) (s : Struct) : Type 0 where
+  pub layout : IsLaidOut s.members.items s.size s.align
+  pub measured : AreMeasured elements s.members.items
+  pub runtime_sized : IsTrue s.is_runtime_sized ↔ EndsRuntimeSized s.members.items
+
+-- the structs of a module, which has these element types
+abbrev pub AreStructsOf : List MeasuredType → List Struct → Type 0
+AreStructsOf elements structs = All (IsStructOf elements) structs
+
+-- a struct is read and kept behind those that are there, and its type has its index
+pub record IsKept (old new : List Struct) (m : Meaning) : Type 0 where
+  pub struct : Struct
+  pub kept : new ≡ old ++ struct ∷ []
+  pub type : MeasuredType
+  pub named : m ≡ meaning.«Type» type
+  pub is : IsTypeOf struct (length old) type
+
+-- neither element types nor structs change
+abbrev pub SameStructs : Reader → Reader → Type 0
+SameStructs old new = (new.types.elements ≡ old.types.elements) × (new.structs ≡ old.structs)
+
+-- structs are only added, behind those that are there
+pub record Keeps (old new : Reader) : Type 0 where
+  pub grows : Grows old.types new.types
+  pub added : List Struct
+  pub kept : new.structs.items ≡ old.structs.items ++ added
+  pub laid_out : AreStructsOf new.types.elements.items added

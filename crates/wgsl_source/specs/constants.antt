@@ -1,5 +1,0 @@
-pub mod Answers
-pub mod Conversions
-pub mod Arithmetic
-pub mod Shifts
-pub mod Functions

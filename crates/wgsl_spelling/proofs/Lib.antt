@@ -1,0 +1,16 @@
+pub mod Names
+pub mod Steps
+pub mod OneSpelled
+pub mod Trees
+pub mod TreeTokens
+pub mod TreeNumbers
+pub mod Tokenized
+pub mod Listed
+pub mod TreeEvents
+pub mod Placed
+pub mod TokensPlaced
+pub mod Evaluated
+pub mod NamesGood
+pub mod TypeTrees
+pub mod TypesRead
+pub mod Printed

@@ -1,0 +1,10 @@
+pub mod Words
+pub mod Names
+pub mod Predeclared
+pub mod Items
+pub mod Chains
+pub mod Values
+pub mod Templates
+pub mod Spelled
+pub mod Seen
+pub mod Written

@@ -1,0 +1,24 @@
+// What is read of a type and isn't yet part of a larger one.
+
+use wgsl_constants::integer::Integer;
+use wgsl_reader::kind::Kind;
+use wgsl_reader::token::Token;
+
+/// What is read, with its first token.
+#[derive(Clone, Copy)]
+pub struct Item {
+    pub token: Token,
+    pub value: Value,
+}
+
+/// What an item stands for.
+#[derive(Clone, Copy)]
+pub enum Value {
+    /// A type, or a value of an enumeration such as an access mode.
+    Name,
+    /// The type that is read so far.
+    Type,
+    Integer(Integer),
+    /// An operator, or the `<` of a template list.
+    Sign(Kind),
+}

@@ -1,0 +1,72 @@
+//! The arguments of the programs that answer requests.
+
+use std::ffi::OsStr;
+use std::io::Write;
+use std::process::{Command, Stdio};
+
+const PROGRAMS: [&str; 2] = [env!("CARGO_BIN_EXE_wgsl_check"), env!("CARGO_BIN_EXE_wgsl_standard")];
+
+/// The status of a program with these arguments, its output and what it says on standard error. No input awaits it.
+fn end(program: &str, arguments: &[&OsStr]) -> (Option<i32>, String, String) {
+    let done = Command::new(program).args(arguments).stdin(Stdio::null()).output().unwrap();
+    let [output, notes] = [done.stdout, done.stderr].map(|text| String::from_utf8(text).unwrap());
+    (done.status.code(), output, notes)
+}
+
+#[test]
+fn other_arguments_are_refused() {
+    for program in PROGRAMS {
+        assert_eq!(end(program, &[]), (Some(0), String::new(), String::new()));
+        for word in ["-", "", "--", "--hel", "--Version", "size f32"] {
+            let (status, output, notes) = end(program, &[OsStr::new(word)]);
+            assert_eq!((status, output.as_str()), (Some(64), ""), "{word}");
+            assert!(notes.contains("--help") && notes.lines().count() == 1, "{word}: {notes}");
+        }
+        for word in ["--help", "--version"].map(OsStr::new) {
+            assert_eq!(end(program, &[word]).0, Some(0));
+            assert_eq!(end(program, &[word, word]).0, Some(64));
+        }
+    }
+}
+
+#[test]
+fn a_strict_run_fails_if_an_expression_is_refused() {
+    for program in PROGRAMS {
+        for (requests, plain, strict) in [
+            ("unary - f32\n\nrank f32 i32\n", 0, 0),
+            ("binary + f32 bool\nunary - f32", 0, 1),
+            ("binary + f32 bool\nunary -\n", 2, 2),
+        ] {
+            for (arguments, expected) in [(&[][..], plain), (&["--strict"][..], strict)] {
+                let mut command = Command::new(program);
+                command.args(arguments).stdin(Stdio::piped());
+                let mut run = command.stdout(Stdio::null()).stderr(Stdio::null()).spawn().unwrap();
+                run.stdin.take().unwrap().write_all(requests.as_bytes()).unwrap();
+                assert_eq!(run.wait().unwrap().code(), Some(expected), "{requests} {arguments:?}");
+            }
+        }
+    }
+}
+
+#[cfg(unix)]
+#[test]
+fn an_argument_that_is_no_text_is_refused() {
+    use std::os::unix::ffi::OsStrExt;
+    for program in PROGRAMS {
+        for bytes in [&b"\xff"[..], b"--help\xff"] {
+            assert_eq!(end(program, &[OsStr::from_bytes(bytes)]).0, Some(64));
+        }
+    }
+}
+
+#[cfg(target_os = "linux")]
+#[test]
+fn help_that_cannot_be_written_is_a_failure() {
+    for program in PROGRAMS {
+        for word in ["--help", "--version"] {
+            let full = std::fs::File::options().write(true).open("/dev/full").unwrap();
+            let status = Command::new(program).arg(word).stdout(full).status().unwrap();
+            assert_eq!(status.code(), Some(1), "{word}");
+        }
+    }
+}
