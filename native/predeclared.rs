@@ -15,7 +15,7 @@ use crate::syntax::{AddressSpace, RuleSet, Scalar, TexelFormat};
 use lists::*;
 
 /// What the build script makes.
-mod lists {
+pub(crate) mod lists {
     include!(concat!(env!("OUT_DIR"), "/lists.rs"));
 }
 

@@ -15,6 +15,8 @@
 //! # Ok::<(), usize>(())
 //! ```
 
+mod meant;
+
 use crate::proved::wgsl_expressions::literal::type_of_literal;
 pub use crate::proved::wgsl_reader::kind::Kind;
 pub use crate::proved::wgsl_reader::mark::Mark;
@@ -29,6 +31,7 @@ use crate::shim::std::alloc::Global;
 use crate::Type;
 use alloc::string::String;
 use alloc::vec::Vec;
+pub use meant::meant_at;
 
 impl Token {
     /// The bytes of the token, as a text.

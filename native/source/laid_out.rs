@@ -2,6 +2,7 @@
 
 use super::type_tree::{self, tree_of};
 use super::{EntryPoint, Layouts, Member, Message, Override, Resource, Struct, Variable};
+use crate::proved::wgsl_reader::module::{self, Misread};
 use crate::proved::wgsl_report::lines::Lines;
 use crate::proved::wgsl_report::message::{self, messages_of, Severity};
 use crate::proved::wgsl_report::rules::findings_of;
@@ -10,7 +11,7 @@ use crate::proved::wgsl_source::entry::{self, WorkgroupExtent};
 use crate::proved::wgsl_source::fault::{Cause, Fault};
 use crate::proved::wgsl_source::measured::TypeKind;
 use crate::proved::wgsl_source::module::{read_module, Module};
-use crate::proved::wgsl_source::tokens::token::tokens;
+use crate::proved::wgsl_source::text::{tokens, Text};
 use crate::proved::wgsl_source::{structure, variable};
 use crate::shim::always;
 use crate::shim::std::alloc::Global;
@@ -25,11 +26,15 @@ pub(super) fn layouts(bytes: &[u8]) -> Layouts {
     match core::str::from_utf8(bytes) {
         Ok(text) => {
             let tokens = always(tokens(Global, bytes));
-            Reading::new(bytes, always(read_module(Global, text, &tokens))).layouts(text)
+            let text = Text { text, tokens: &tokens };
+            let grammar = always(module::read_module(Global, &tokens));
+            Reading::new(bytes, always(read_module(Global, text, &grammar)))
+                .layouts(text, &grammar.misread)
         }
         Err(error) => {
             let fault = Fault { at: error.valid_up_to(), cause: Cause::NotUtf8 };
-            Reading::new(bytes, always(Module::rattle_faulty(Global, fault))).layouts("")
+            Reading::new(bytes, always(Module::rattle_faulty(Global, fault)))
+                .layouts(Text { text: "", tokens: &[] }, &[])
         }
     }
 }
@@ -37,7 +42,8 @@ pub(super) fn layouts(bytes: &[u8]) -> Layouts {
 /// The types that the text of a module declares.
 pub(super) fn types(text: &str) -> BTreeMap<String, Type> {
     let tokens = always(tokens(Global, text.as_bytes()));
-    type_tree::types(&always(read_module(Global, text, &tokens)))
+    let grammar = always(module::read_module(Global, &tokens));
+    type_tree::types(&always(read_module(Global, Text { text, tokens: &tokens }, &grammar)))
 }
 
 /// A module that is read, and the lines of its text.
@@ -51,10 +57,10 @@ impl<'t> Reading<'t> {
         Reading { lines: always(Lines::rattle_of(Global, bytes)), module }
     }
 
-    fn layouts(&self, text: &str) -> Layouts {
+    fn layouts(&self, text: Text<'t>, misread: &[Misread]) -> Layouts {
         let module = &self.module;
         let findings = always(findings_of(Global, module));
-        let messages = always(messages_of(Global, text, module, &findings));
+        let messages = always(messages_of(Global, text, misread, module, &findings));
         let (errors, findings): (Vec<_>, Vec<_>) =
             messages.iter().partition(|message| message.severity == Severity::Error);
         let structs = module.in_text.iter().filter_map(|index| module.structs.get(*index));
@@ -138,7 +144,7 @@ impl<'t> Reading<'t> {
     fn message(&self, of: &message::Message) -> Message {
         Message {
             start: self.lines.place(of.at),
-            end: self.lines.end_of_word(of.at),
+            end: self.lines.place(of.end),
             kind: of.kind.clone(),
             text: of.text.clone(),
         }

@@ -2,7 +2,9 @@
 //! events there; no word of `kept_words.txt` is a name.
 
 use std::fs;
-use wgsl_types_proved::reader::{expected_at, read, read_module, tokens, Kind, Rule};
+use wgsl_types_proved::reader::{
+    expected_at, meant_at, read, read_module, tokens, Kind, Misread, Rule,
+};
 
 fn facts(name: &str) -> String {
     fs::read_to_string(format!("tests/grammar/{name}.txt")).unwrap()
@@ -33,6 +35,30 @@ fn events_are_noted() {
         let events = events.iter().map(|event| format!("{:?}@{}", event.mark, event.at));
         let misread = misread.iter().map(|m| format!("{:?}:{}-{}", m.rule, m.from, m.at));
         assert_eq!(events.chain(misread).collect::<Vec<_>>().join(" "), expected, "{text}");
+    }
+}
+
+/// `const` and a type, as in requests, which no text of WGSL has.
+#[test]
+fn constant_operands_are_read() {
+    let marks = |text: &str| {
+        let mut tokens = tokens(text).unwrap();
+        for token in tokens.iter_mut().filter(|token| token.kind == Kind::Const) {
+            token.kind = Kind::ConstOperand;
+        }
+        let events = read(Rule::Expression, &tokens)?;
+        let marks: Vec<_> = events.iter().map(|event| format!("{:?}", event.mark)).collect();
+        Ok(marks.join(" "))
+    };
+    assert_eq!(marks("const i32"), Ok("Name Constant".to_string()));
+    assert_eq!(
+        marks("-const a<b>.x[1] * const c"),
+        Ok("Operator Name OpenTemplate Name Value Template Constant MemberOf OpenElement Literal \
+            Element Unary Operator Name Constant Binary"
+            .to_string())
+    );
+    for (text, at) in [("const", 1), ("const 1", 1), ("const(a)", 1), ("const a(b)", 2)] {
+        assert_eq!(marks(text), Err(at), "{text}");
     }
 }
 
@@ -72,6 +98,70 @@ fn tokens_have_places() {
     }
 }
 
+/// The tokens of a text, with a blank between each two.
+fn parted(text: &str) -> String {
+    let found = tokens(text).unwrap();
+    found.iter().map(|token| token.text(text)).collect::<Vec<_>>().join(" ")
+}
+
+/// Tokens alone; rows that have the same tokens without their blanks; and rows that haven't.
+#[test]
+fn tokens_are_the_longest_ones() {
+    let numbers =
+        "0 0u 0i 0f 0h 10 0X1F 0XaBu 0xFi 0x1P+1f 0X.8p1h 0x1.p-2 0x1.8 1E1 1e1f 1E-1h 1h \
+        1.h 1.f .0 .0f 00.5 01e2";
+    let signs = "& && &= | || |= ^ ^= + += - -> -= * *= / /= % %= = == ! != < << <= <<= \
+        ( ) [ ] { } @ , ; : . ~ _";
+    for token in numbers.split(' ').chain(signs.split(' ')) {
+        assert_eq!(parted(token), token);
+        let is_number = tokens(token).unwrap()[0].kind == Kind::Number;
+        assert_eq!(is_number, numbers.split(' ').any(|number| number == token), "{token}");
+    }
+    let rows = "0 0, 0 12, 0 8u, 0x1 h, 0x1.8 h, 0x1p1 u, 0x1 p + f, 0 x, 0 xg, 0 x . p1, 1 e, 1 e +, 1. e, \
+        1.5 u, 1f u, 1u 32, 1.5 .5, 1. .2, a .0, a . x, ^ ^, ~ =, != =, == =, && =, || =, -> >, << <, <<= =, \
+        a >> b, a >= b, a >>= b, i ++, i --, i ++ ;, ( i -- ), i - - j";
+    for row in rows.split(", ") {
+        assert_eq!(parted(&row.replace(' ', "")), row);
+    }
+    let kept = "a > > b, a > = b, a > >= b, a >> = b, i + + ;, i - - ;, - >, & &, | |, ! =, < <=";
+    for row in kept.split(", ") {
+        assert_eq!(parted(row), row);
+    }
+}
+
+#[test]
+fn blanks_and_comments_are_no_tokens() {
+    let blanks =
+        "\t \n \u{b} \u{c} \r \u{85} \u{200e} \u{200f} \u{2028} \u{2029}".split(' ').chain([" "]);
+    let comments =
+        ["/**/", "/***/", "/* // */", "/* * / */", "/* /* /* */ */ */", "/*/**/*/", "/*\n*/"];
+    for blank in blanks.chain(comments) {
+        assert_eq!(parted(&format!("a{blank}b")), "a b", "{blank:?}");
+    }
+    for end in ["\n", "\u{b}", "\u{c}", "\r", "\u{85}", "\u{2028}", "\u{2029}"] {
+        assert_eq!(parted(&format!("a/// b /*{end}c")), "a c", "{end:?}");
+    }
+    for inside in ["\t", " ", "\u{200e}", "\u{200f}", "\u{2005}", "\u{2027}", "\u{c5}", "*/"] {
+        assert_eq!(parted(&format!("a// b{inside}c")), "a", "{inside:?}");
+    }
+    for open in ["/*", "/*/", "/* *", "/* /* */", "/* /* /* */ */", "/* // */ /* */*/ /*"] {
+        assert!(tokens(&format!("a {open}")).is_err(), "{open}");
+    }
+}
+
+#[test]
+fn template_lists_are_found() {
+    for (insides, kind) in [
+        (", + - == != <= () [] (&&) [||] ++ #", Kind::OpenTemplate),
+        ("; { : = += <<= && || ( ) [ ]", Kind::Less),
+    ] {
+        for inside in insides.split(' ') {
+            let text = format!("a<b{inside}c>d").replace('#', " ");
+            assert!(tokens(&text).unwrap()[1].kind == kind, "{text}");
+        }
+    }
+}
+
 #[test]
 fn nested_texts_end() {
     const DEPTH: usize = 100_000;
@@ -108,5 +198,61 @@ fn what_may_stand_is_said() {
         let tokens = tokens(text).unwrap();
         let misread = read_module(&tokens).1;
         assert_eq!((misread.len(), &*expected_at(&misread[0], &tokens)), (1, message), "{text}");
+    }
+}
+
+/// A text, the word in it, and the keyword.
+#[test]
+fn misspelled_keywords_are_told() {
+    for (text, word, keyword) in [
+        ("fn f() { retrun x; }", "retrun", "return"),
+        ("fn f() { retrun -x; }", "retrun", "return"),
+        ("fn f() { retrun; }", "retrun", "return"),
+        ("strcut S { }", "strcut", "struct"),
+        ("Struct S { a: f32 }", "Struct", "struct"),
+        ("cosnt a = 1;", "cosnt", "const"),
+        ("fun f() { }", "fun", "fn"),
+        ("enabel f16;", "enabel", "enable"),
+        ("require a;", "require", "requires"),
+        ("const a = 1; @id(1) overide b: f32;", "overide", "override"),
+        ("fn f() { a = 1; fro (;;) { } }", "fro", "for"),
+        ("fn f() { for (;;) { } fro (var i = 0; i < 9; i++) { } }", "fro", "for"),
+        ("fn f() { cosnt a = 1; }", "cosnt", "const"),
+        ("fn f() { lte x = 1; }", "lte", "let"),
+        ("fn f() { if a { } esle { } }", "esle", "else"),
+        ("fn f() { whlie a { } }", "whlie", "while"),
+        ("fn f() { @a whlie a { } }", "whlie", "while"),
+        ("fn f() { swtich a { default { } } }", "swtich", "switch"),
+        ("fn f() { switch a { csae 1 { } } }", "csae", "case"),
+        ("fn f() { switch a { default { } } loop { contniuing { } } }", "contniuing", "continuing"),
+        ("fn f() { dicsard; }", "dicsard", "discard"),
+    ] {
+        let tokens = tokens(text).unwrap();
+        let (index, meant) = meant_at(&read_module(&tokens).1[0], &tokens, text).expect(text);
+        assert_eq!((tokens[index].text(text), meant), (word, keyword), "{text}");
+    }
+    for text in [
+        "lte x = 1;",
+        "let x = 1;",
+        "retrun x;",
+        "strcut;",
+        "fn f() { a b; }",
+        "fn f() { return x y; }",
+        "fn f() { color x; }",
+        "fn f() { four(i) { } }",
+        "fn f() { brek if x; }",
+        "fn f() { retrun",
+        "const a = b esle c;",
+        "fn f() { const a = retrun x; }",
+    ] {
+        let tokens = tokens(text).unwrap();
+        assert_eq!(meant_at(&read_module(&tokens).1[0], &tokens, text), None, "{text}");
+    }
+    let text = "dicsard;";
+    for (from, at, meant) in
+        [(0, 1, Some((0, "discard"))), (0, 9, None), (9, 0, None), (1, 0, None)]
+    {
+        let misread = Misread { rule: Rule::Statement, from, at };
+        assert_eq!(meant_at(&misread, &tokens(text).unwrap(), text), meant);
     }
 }

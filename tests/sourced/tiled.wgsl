@@ -67,6 +67,6 @@ fn main(
     @builtin(local_invocation_id) LocalInvocationID: vec3u,
 ) {
     let filterOffset = (params.filterDim - 1) / 2;
-    var i = 0u; i <<= 1u; i >>= 2u; i = i << 1u >> 2u;
+    var i = 0u; i <<= 1u; i >>= 2u; i = (i << 1u) >> 2u;
     workgroupBarrier();
 }

@@ -1,7 +1,7 @@
 -- An operator has the value that the function says.
 use Rattle.std.proofs.Common.{◌≡◌, ◌⊎◌, inl, inr, ℕ, ◌*◌, ◌<◌, ◌≤◌, ◌^◌, ℤ, pos, negsuc, ◌*ℤ◌, neg_ℤ, Bool, true, false, cond, Option, Some, None, Result, Ok, Err, FitsSigned, w32, w64, refl, sym, ap, ◌∙◌, arith}
 use Rattle.std.proofs.lemmas.Bool.{ltb-true, eqb-true, lt-ltb, eq-eqb}
-use Rattle.std.specs.Prelude.{nat_lt, nat_eq}
+use Rattle.std.specs.Prelude.{nat_lt, nat_eq, unsigned_abs}
 use Rattle.std.specs.Int.{FitsUnsignedBits}
 use Rattle.wgsl_constants.specs.declared.integer.Integer.{Integer}
 use Rattle.wgsl_constants.specs.declared.integer.Integer.TheVariants.{Abstract, I32, U32}
@@ -11,12 +11,12 @@ use Rattle.wgsl_constants.specs.declared.integer.IntegerOperator.{IntegerOperato
 use Rattle.wgsl_constants.specs.declared.integer.IntegerOperator.TheVariants.{Addition, Subtraction, Multiplication, Division, Remainder, BitwiseOr, BitwiseAnd, BitwiseXor}
 use Rattle.wgsl_constants.specs.declared.integer.IntegerError.{IntegerError}
 use Rattle.wgsl_constants.specs.declared.integer.IntegerError.TheVariants.{ShiftTooFar}
-use Rattle.wgsl_constants.specs.Answers.{IsFitting, Of, Then}
+use Rattle.wgsl_constants.specs.Answers.{IsFitting, Of, Then, fitting as fitting_of}
 use Rattle.wgsl_constants.specs.Arithmetic.{IsAbstractValue, IsDivided, IsDividedBy, IsI32Value, IsPairValue, IsU32Value, IsValue}
-use Rattle.wgsl_constants.specs.Conversions.{IsPair}
+use Rattle.wgsl_constants.specs.Conversions.{fits, fits_unsigned, i32_of, pair, u32_of}
 use Rattle.wgsl_constants.specs.Shifts.{IsCount, IsLeftShift, IsNegative, IsRightShift, IsShiftedLeft, IsShiftedRight}
 use Rattle.wgsl_constants.specs.Literals.{found, then}
-use Rattle.wgsl_constants.specs.Values.{abstract_value, fits, fits_unsigned, i32_value, if_fits, is_zero, left_shift, map_value, negative, pair_of, pair_value, right_shift, shift_count, shifted_left, shifted_right, u32_value, value}
+use Rattle.wgsl_constants.specs.Values.{abstract_value, i32_value, if_fits, is_zero, left_shift, map_value, negative, pair_value, right_shift, shift_count, shifted_left, shifted_right, u32_value, value}
 
 -- a test decides a condition
 abbrev Tests : Bool → Type 0 → Type 0
@@ -63,16 +63,12 @@ exact r e = ap found e
 refused : {A : Type 0} {e : IntegerError} (r : Result A IntegerError) → r ≡ Err e → found r ≡ None
 refused r e = ap found e
 
-pair : (a b : Integer) (r : Result IntegerPair IntegerError) → IsPair a b r → found r ≡ pair_of a b
-pair (Abstract a) (Abstract b) r is = exact r is
-pair (Abstract a) (I32 b) r is = fitting _ _ (fits 31 a) (fits32 a) r is
-pair (I32 a) (Abstract b) r is = fitting _ _ (fits 31 b) (fits32 b) r is
-pair (I32 a) (I32 b) r is = exact r is
-pair (Abstract a) (U32 b) r is = fitting _ _ (fits_unsigned 32 a) (unsigned32 a) r is
-pair (U32 a) (Abstract b) r is = fitting _ _ (fits_unsigned 32 b) (unsigned32 b) r is
-pair (U32 a) (U32 b) r is = exact r is
-pair (I32 a) (U32 b) r is = refused r is
-pair (U32 a) (I32 b) r is = refused r is
+found_fitting : {A : Type 0} (b : Bool) (v : A) → found (fitting_of b v) ≡ if_fits b v
+found_fitting true v = refl
+found_fitting false v = refl
+
+converted : {A : Type 0} (b : Bool) (v : A) (r : Result A IntegerError) → r ≡ fitting_of b v → found r ≡ if_fits b v
+converted b v r is = ap found is ∙ found_fitting b v
 
 divided : (P : Type 0) (v d : ℤ) (zero b : Bool) → Tests zero (d ≡ pos 0) → Tests b P → (r : Result ℤ IntegerError) → IsDivided d P v r → found r ≡ cond zero None (if_fits b v)
 divided P v d true b z t r (inl is) = refused r is.1
@@ -125,10 +121,10 @@ pair_is op (BothI32 a b) r is = of_type _ _ (i32_value op a b) (i32_is op a b) r
 pair_is op (BothU32 a b) r is = of_type _ _ (u32_value op a b) (u32_is op a b) r is
 
 pub value_is : (op : IntegerOperator) (a b : Integer) (r : Result Integer IntegerError) → IsValue op a b r → found r ≡ value op a b
-value_is op a b r (p, is_pair, rest) = rw (sym (pair a b p is_pair)) (and_then (pair_value op) p (pair_is op) r rest)
+value_is op a b r is = and_then (pair_value op) (pair a b) (pair_is op) r is
 
 count_is : (k : Integer) (r : Result ℕ IntegerError) → IsCount k r → found r ≡ shift_count k
-count_is (Abstract k) r is = fitting _ _ (fits_unsigned 32 k) (unsigned32 k) r is
+count_is (Abstract k) r is = converted (fits_unsigned 32 k) (unsigned_abs k) r is
 count_is (I32 k) r is = refused r is
 count_is (U32 k) r is = exact r is
 
@@ -147,11 +143,11 @@ left_is : (n : Integer) (k : ℕ) (r : Result Integer IntegerError) → IsShifte
 left_is (Abstract n) k r is = of_type _ _ (if_fits (fits 63 (n *ℤ pos (2 ^ k))) (n *ℤ pos (2 ^ k))) (fitting _ _ _ (fits64 _)) r is
 left_is (I32 n) k r is =
     of_type I32 _ (cond (nat_lt k 32) (if_fits (fits 31 (n *ℤ pos (2 ^ k))) (n *ℤ pos (2 ^ k))) None)
-    (λ s. near (IsFitting (FitsSigned w32 (n *ℤ pos (2 ^ k))) (n *ℤ pos (2 ^ k)) s) ShiftTooFar k (nat_lt k 32) (less k 32) _ s (fitting _ (n *ℤ pos (2 ^ k)) _ (fits32 (n *ℤ pos (2 ^ k))) s)) r is
+    (λ s. near (s ≡ i32_of (n *ℤ pos (2 ^ k))) ShiftTooFar k (nat_lt k 32) (less k 32) _ s (converted (fits 31 (n *ℤ pos (2 ^ k))) (n *ℤ pos (2 ^ k)) s)) r is
     ∙ map_cond I32 (nat_lt k 32) _
 left_is (U32 n) k r is =
     of_type U32 _ (cond (nat_lt k 32) (if_fits (nat_lt (n * 2 ^ k) (2 ^ 32)) (n * 2 ^ k)) None)
-    (λ s. near (IsFitting (n * 2 ^ k < 2 ^ 32) (n * 2 ^ k) s) ShiftTooFar k (nat_lt k 32) (less k 32) _ s (fitting _ (n * 2 ^ k) _ (less (n * 2 ^ k) (2 ^ 32)) s)) r is
+    (λ s. near (s ≡ u32_of (pos (n * 2 ^ k))) ShiftTooFar k (nat_lt k 32) (less k 32) _ s (converted (nat_lt (n * 2 ^ k) (2 ^ 32)) (n * 2 ^ k) s)) r is
     ∙ map_cond U32 (nat_lt k 32) _
 
 right_is : (n : Integer) (k : ℕ) (r : Result Integer IntegerError) → IsShiftedRight n k r → found r ≡ shifted_right n k

@@ -6,7 +6,7 @@ use Rattle.wgsl_constants.specs.declared.integer.Integer.TheVariants.{Abstract, 
 use Rattle.wgsl_constants.specs.declared.integer.IntegerPair.{IntegerPair}
 use Rattle.wgsl_constants.specs.declared.integer.IntegerPair.TheVariants.{Abstract as BothAbstract, I32 as BothI32, U32 as BothU32}
 use Rattle.wgsl_constants.specs.Answers.{IsFitting, Of, Then}
-use Rattle.wgsl_constants.specs.Conversions.{IsPair}
+use Rattle.wgsl_constants.specs.Conversions.{pair}
 use Rattle.wgsl_constants.specs.declared.integer.IntegerOperator.{IntegerOperator}
 use Rattle.wgsl_constants.specs.declared.integer.IntegerOperator.TheVariants.{Addition, Subtraction, Multiplication, Division, Remainder, BitwiseOr, BitwiseAnd, BitwiseXor}
 use Rattle.wgsl_constants.specs.declared.integer.IntegerError.{IntegerError}
@@ -61,4 +61,4 @@ IsPairValue op (BothU32 a b) r = Of U32 (IsU32Value op a b) r
 
 -- the value of an operator: both operands first convert to one type
 abbrev pub IsValue : IntegerOperator → Integer → Integer → Result Integer IntegerError → Type 0
-IsValue op a b r = (p : Result IntegerPair IntegerError) × IsPair a b p × Then p (IsPairValue op) r
+IsValue op a b r = Then (pair a b) (IsPairValue op) r

@@ -1,29 +1,38 @@
 -- The conversions of integers (WGSL, "Feasible Automatic Conversion", "Value Constructor Built-in Functions").
-use Rattle.std.specs.Prelude.{◌≡◌, ℕ, ℤ, Result, Ok, Err, FitsSigned, unsigned_abs}
-use Rattle.std.specs.Int.{w32, FitsUnsignedBits}
+use Rattle.std.specs.Prelude.{ℕ, ◌^◌, ℤ, pos, negsuc, Bool, false, Result, Ok, Err, nat_lt, unsigned_abs}
 use Rattle.wgsl_constants.specs.declared.integer.Integer.{Integer}
 use Rattle.wgsl_constants.specs.declared.integer.Integer.TheVariants.{Abstract, I32, U32}
 use Rattle.wgsl_constants.specs.declared.integer.IntegerPair.{IntegerPair}
 use Rattle.wgsl_constants.specs.declared.integer.IntegerPair.TheVariants.{Abstract as BothAbstract, I32 as BothI32, U32 as BothU32}
 use Rattle.wgsl_constants.specs.declared.integer.IntegerError.{IntegerError}
 use Rattle.wgsl_constants.specs.declared.integer.IntegerError.TheVariants.{MixedTypes}
-use Rattle.wgsl_constants.specs.Answers.{IsFitting}
+use Rattle.wgsl_constants.specs.Answers.{fitting, map_ok}
+
+-- an integer has a sign and this number of other bits
+abbrev pub fits : ℕ → ℤ → Bool
+fits bits (pos n) = nat_lt n (2 ^ bits)
+fits bits (negsuc n) = nat_lt n (2 ^ bits)
+
+-- the same without a sign
+abbrev pub fits_unsigned : ℕ → ℤ → Bool
+fits_unsigned bits (pos n) = nat_lt n (2 ^ bits)
+fits_unsigned bits (negsuc n) = false
 
 -- an AbstractInt as an `i32`, and as a `u32`. `u32(-1)` is an overflow
-abbrev pub IsI32 : ℤ → Result ℤ IntegerError → Type 0
-IsI32 n r = IsFitting (FitsSigned w32 n) n r
+abbrev pub i32_of : ℤ → Result ℤ IntegerError
+i32_of n = fitting (fits 31 n) n
 
-abbrev pub IsU32 : ℤ → Result ℕ IntegerError → Type 0
-IsU32 n r = IsFitting (FitsUnsignedBits 32 n) (unsigned_abs n) r
+abbrev pub u32_of : ℤ → Result ℕ IntegerError
+u32_of n = fitting (fits_unsigned 32 n) (unsigned_abs n)
 
 -- both integers in one type: an AbstractInt converts to the type of the other
-abbrev pub IsPair : Integer → Integer → Result IntegerPair IntegerError → Type 0
-IsPair (Abstract a) (Abstract b) r = r ≡ Ok (BothAbstract a b)
-IsPair (Abstract a) (I32 b) r = IsFitting (FitsSigned w32 a) (BothI32 a b) r
-IsPair (I32 a) (Abstract b) r = IsFitting (FitsSigned w32 b) (BothI32 a b) r
-IsPair (I32 a) (I32 b) r = r ≡ Ok (BothI32 a b)
-IsPair (Abstract a) (U32 b) r = IsFitting (FitsUnsignedBits 32 a) (BothU32 (unsigned_abs a) b) r
-IsPair (U32 a) (Abstract b) r = IsFitting (FitsUnsignedBits 32 b) (BothU32 a (unsigned_abs b)) r
-IsPair (U32 a) (U32 b) r = r ≡ Ok (BothU32 a b)
-IsPair (I32 a) (U32 b) r = r ≡ Err MixedTypes
-IsPair (U32 a) (I32 b) r = r ≡ Err MixedTypes
+abbrev pub pair : Integer → Integer → Result IntegerPair IntegerError
+pair (Abstract a) (Abstract b) = Ok (BothAbstract a b)
+pair (Abstract a) (I32 b) = map_ok (λ a. BothI32 a b) (i32_of a)
+pair (I32 a) (Abstract b) = map_ok (BothI32 a) (i32_of b)
+pair (I32 a) (I32 b) = Ok (BothI32 a b)
+pair (Abstract a) (U32 b) = map_ok (λ a. BothU32 a b) (u32_of a)
+pair (U32 a) (Abstract b) = map_ok (BothU32 a) (u32_of b)
+pair (U32 a) (U32 b) = Ok (BothU32 a b)
+pair (I32 a) (U32 b) = Err MixedTypes
+pair (U32 a) (I32 b) = Err MixedTypes

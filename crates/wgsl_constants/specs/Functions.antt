@@ -1,20 +1,21 @@
--- The values of built-in functions on integers (WGSL, "Numeric Built-in Functions", "Logical Built-in Functions").
-use Rattle.std.specs.Prelude.{◌≡◌, pos, Bool, true, false, neg_ℤ, min, max, Result, Ok, Err, FitsSigned, unsigned_abs}
-use Rattle.std.specs.Int.{w32, w64, cast_signed, int_max, int_min, int_signum}
+-- The values of built-in functions on integers (WGSL, "Numeric Built-in Functions", "Logical Built-in Functions", "bitcast").
+use Rattle.std.specs.Prelude.{ℕ, ◌-◌, ◌^◌, ℤ, pos, Bool, true, false, cond, neg_ℤ, min, max, Result, Ok, Err, count_ones, int_lt, nat_eq, unsigned_abs}
+use Rattle.std.specs.Int.{w32, cast_signed, cast_unsigned, int_bit_not, int_max, int_min, int_signum, leading_zeros}
 use Rattle.std.specs.Ordering.{int_cmp, nat_cmp}
 use Rattle.std.specs.declared.cmp.Ordering.{Ordering}
+use Rattle.std.specs.declared.cmp.Ordering.TheVariants.{Less, Equal, Greater}
 use Rattle.wgsl_constants.specs.declared.integer.Integer.{Integer}
 use Rattle.wgsl_constants.specs.declared.integer.Integer.TheVariants.{Abstract, I32, U32}
 use Rattle.wgsl_constants.specs.declared.integer.IntegerPair.{IntegerPair}
 use Rattle.wgsl_constants.specs.declared.integer.IntegerPair.TheVariants.{Abstract as BothAbstract, I32 as BothI32, U32 as BothU32}
 use Rattle.wgsl_constants.specs.declared.integer.IntegerError.{IntegerError}
-use Rattle.wgsl_constants.specs.declared.integer.IntegerError.TheVariants.{NegatedUnsigned}
-use Rattle.wgsl_constants.specs.Answers.{IsFitting, Of, Then}
-use Rattle.wgsl_constants.specs.Conversions.{IsPair}
+use Rattle.wgsl_constants.specs.declared.integer.IntegerError.TheVariants.{EmptyRange, NegatedUnsigned}
+use Rattle.wgsl_constants.specs.Answers.{fitting, map_ok, then_ok}
+use Rattle.wgsl_constants.specs.Conversions.{fits, i32_of, pair, u32_of}
 
 -- what holds of both integers in one type
-abbrev pub OfPair : {A : Type 0} → Integer → Integer → (IntegerPair → A) → Result A IntegerError → Type 0
-OfPair a b value r = (p : Result IntegerPair IntegerError) × IsPair a b p × Then p (λ pair answer. answer ≡ Ok (value pair)) r
+abbrev pub of_pair : {A : Type 0} → (IntegerPair → A) → Integer → Integer → Result A IntegerError
+of_pair value a b = map_ok value (pair a b)
 
 -- how two integers of one type compare
 abbrev pub comparison : IntegerPair → Ordering
@@ -41,14 +42,62 @@ selected false (BothAbstract a b) = Abstract a
 selected false (BothI32 a b) = I32 a
 selected false (BothU32 a b) = U32 a
 
+-- an integer between bounds that compare so: an error if the first is above the second
+abbrev pub between : Integer → Integer → Integer → Ordering → Result Integer IntegerError
+between a low high Greater = Err EmptyRange
+between a low high Less = then_ok (of_pair greatest a low) (λ a. of_pair least a high)
+between a low high Equal = then_ok (of_pair greatest a low) (λ a. of_pair least a high)
+
+-- `clamp`
+abbrev pub clamped : Integer → Integer → Integer → Result Integer IntegerError
+clamped a low high = then_ok (of_pair comparison low high) (between a low high)
+
 -- `abs`: of an `i32` the bits of its absolute value, so the least one is its own
-abbrev pub IsAbsolute : Integer → Result Integer IntegerError → Type 0
-IsAbsolute (Abstract n) r = Of Abstract (IsFitting (FitsSigned w64 (neg_ℤ n)) (pos (unsigned_abs n))) r
-IsAbsolute (I32 n) r = r ≡ Ok (I32 (cast_signed w32 (unsigned_abs n)))
-IsAbsolute (U32 n) r = r ≡ Ok (U32 n)
+abbrev pub absolute : Integer → Result Integer IntegerError
+absolute (Abstract n) = map_ok Abstract (fitting (fits 63 (neg_ℤ n)) (pos (unsigned_abs n)))
+absolute (I32 n) = Ok (I32 (cast_signed w32 (unsigned_abs n)))
+absolute (U32 n) = Ok (U32 n)
 
 -- `sign`, which a `u32` has not
-abbrev pub IsSign : Integer → Result Integer IntegerError → Type 0
-IsSign (Abstract n) r = r ≡ Ok (Abstract (int_signum n))
-IsSign (I32 n) r = r ≡ Ok (I32 (int_signum n))
-IsSign (U32 n) r = r ≡ Err NegatedUnsigned
+abbrev pub sign : Integer → Result Integer IntegerError
+sign (Abstract n) = Ok (Abstract (int_signum n))
+sign (I32 n) = Ok (I32 (int_signum n))
+sign (U32 n) = Err NegatedUnsigned
+
+-- the bits of an `i32`, or of a `u32` if it is none
+abbrev pub bits_of_either : Result ℤ IntegerError → Result ℕ IntegerError → Result ℕ IntegerError
+bits_of_either (Ok n) other = Ok (cast_unsigned w32 n)
+bits_of_either (Err e) other = other
+
+-- `bitcast`: the bits of an integer, where an AbstractInt is an `i32` if it fits, else a `u32`
+abbrev pub bits_of : Integer → Result ℕ IntegerError
+bits_of (Abstract n) = bits_of_either (i32_of n) (u32_of n)
+bits_of (I32 n) = Ok (cast_unsigned w32 n)
+bits_of (U32 n) = Ok n
+
+-- how many bits of an `i32` are 1
+abbrev pub one_bits : ℤ → ℤ
+one_bits n = cast_signed w32 (count_ones (cast_unsigned w32 n))
+
+-- `countOneBits`: an AbstractInt is an `i32`
+abbrev pub bit_count : Integer → Result Integer IntegerError
+bit_count (Abstract n) = map_ok (λ n. I32 (one_bits n)) (i32_of n)
+bit_count (I32 n) = Ok (I32 (one_bits n))
+bit_count (U32 n) = Ok (U32 (count_ones n))
+
+-- the index of the highest bit that is 1, or all bits
+abbrev pub first_bit : ℕ → ℕ
+first_bit n = cond (nat_eq n 0) (2 ^ 32 - 1) (31 - leading_zeros w32 n)
+
+-- the bits that differ from the sign
+abbrev pub unlike_sign : ℤ → ℤ
+unlike_sign n = cond (int_lt n (pos 0)) (int_bit_not w32 n) n
+
+abbrev pub first_bit_of : ℤ → ℤ
+first_bit_of n = cast_signed w32 (first_bit (cast_unsigned w32 (unlike_sign n)))
+
+-- `firstLeadingBit`: an AbstractInt is an `i32`
+abbrev pub leading_bit : Integer → Result Integer IntegerError
+leading_bit (Abstract n) = map_ok (λ n. I32 (first_bit_of n)) (i32_of n)
+leading_bit (I32 n) = Ok (I32 (first_bit_of n))
+leading_bit (U32 n) = Ok (U32 (first_bit n))

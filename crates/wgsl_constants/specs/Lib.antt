@@ -3,5 +3,7 @@ pub mod Conversions
 pub mod Arithmetic
 pub mod Shifts
 pub mod Functions
+pub mod Calls
+pub mod Vectors
 pub mod Literals
 pub mod Values

@@ -6,11 +6,11 @@ use Rattle.wgsl_constants.specs.declared.integer.Integer.TheVariants.{Abstract, 
 use Rattle.wgsl_constants.specs.declared.integer.IntegerError.{IntegerError}
 use Rattle.wgsl_constants.specs.declared.integer.IntegerError.TheVariants.{MixedTypes, NegatedUnsigned, ShiftTooFar}
 use Rattle.wgsl_constants.specs.Answers.{IsFitting, Of, Then}
-use Rattle.wgsl_constants.specs.Conversions.{IsU32}
+use Rattle.wgsl_constants.specs.Conversions.{i32_of, u32_of}
 
 -- the right operand of a shift is a `u32`
 abbrev pub IsCount : Integer → Result ℕ IntegerError → Type 0
-IsCount (Abstract k) r = IsU32 k r
+IsCount (Abstract k) r = r ≡ u32_of k
 IsCount (I32 k) r = r ≡ Err MixedTypes
 IsCount (U32 k) r = r ≡ Ok k
 
@@ -20,10 +20,10 @@ IsAbstractShift n k r = IsFitting (FitsSigned w64 (n *ℤ pos (2 ^ k))) (n *ℤ 
 
 -- an `i32` or a `u32` is shifted by fewer than 32 bits
 abbrev pub IsI32Shift : ℤ → ℕ → Result ℤ IntegerError → Type 0
-IsI32Shift n k r = ((32 ≤ k) × (r ≡ Err ShiftTooFar)) ⊎ ((k < 32) × IsFitting (FitsSigned w32 (n *ℤ pos (2 ^ k))) (n *ℤ pos (2 ^ k)) r)
+IsI32Shift n k r = ((32 ≤ k) × (r ≡ Err ShiftTooFar)) ⊎ ((k < 32) × (r ≡ i32_of (n *ℤ pos (2 ^ k))))
 
 abbrev pub IsU32Shift : ℕ → ℕ → Result ℕ IntegerError → Type 0
-IsU32Shift n k r = ((32 ≤ k) × (r ≡ Err ShiftTooFar)) ⊎ ((k < 32) × IsFitting (n * 2 ^ k < 2 ^ 32) (n * 2 ^ k) r)
+IsU32Shift n k r = ((32 ≤ k) × (r ≡ Err ShiftTooFar)) ⊎ ((k < 32) × (r ≡ u32_of (pos (n * 2 ^ k))))
 
 abbrev pub IsShiftedLeft : Integer → ℕ → Result Integer IntegerError → Type 0
 IsShiftedLeft (Abstract n) k r = Of Abstract (IsAbstractShift n k) r

@@ -7,17 +7,8 @@ use Rattle.wgsl_constants.specs.declared.integer.IntegerPair.{IntegerPair}
 use Rattle.wgsl_constants.specs.declared.integer.IntegerPair.TheVariants.{Abstract as BothAbstract, I32 as BothI32, U32 as BothU32}
 use Rattle.wgsl_constants.specs.declared.integer.IntegerOperator.{IntegerOperator}
 use Rattle.wgsl_constants.specs.declared.integer.IntegerOperator.TheVariants.{Addition, Subtraction, Multiplication, Division, Remainder, BitwiseOr, BitwiseAnd, BitwiseXor}
-use Rattle.wgsl_constants.specs.Literals.{then}
-
--- an integer has a sign and this number of other bits
-abbrev pub fits : ℕ → ℤ → Bool
-fits bits (pos n) = nat_lt n (2 ^ bits)
-fits bits (negsuc n) = nat_lt n (2 ^ bits)
-
--- the same without a sign
-abbrev pub fits_unsigned : ℕ → ℤ → Bool
-fits_unsigned bits (pos n) = nat_lt n (2 ^ bits)
-fits_unsigned bits (negsuc n) = false
+use Rattle.wgsl_constants.specs.Conversions.{fits, fits_unsigned, pair}
+use Rattle.wgsl_constants.specs.Literals.{found, then}
 
 abbrev pub is_zero : ℤ → Bool
 is_zero (pos n) = nat_eq n 0
@@ -30,17 +21,9 @@ abbrev pub map_value : {A B : Type 0} → (A → B) → Option A → Option B
 map_value f None = None
 map_value f (Some a) = Some (f a)
 
--- both integers in one type: an AbstractInt converts to the type of the other
+-- both integers in one type, or none
 abbrev pub pair_of : Integer → Integer → Option IntegerPair
-pair_of (Abstract a) (Abstract b) = Some (BothAbstract a b)
-pair_of (Abstract a) (I32 b) = if_fits (fits 31 a) (BothI32 a b)
-pair_of (I32 a) (Abstract b) = if_fits (fits 31 b) (BothI32 a b)
-pair_of (I32 a) (I32 b) = Some (BothI32 a b)
-pair_of (Abstract a) (U32 b) = if_fits (fits_unsigned 32 a) (BothU32 (unsigned_abs a) b)
-pair_of (U32 a) (Abstract b) = if_fits (fits_unsigned 32 b) (BothU32 a (unsigned_abs b))
-pair_of (U32 a) (U32 b) = Some (BothU32 a b)
-pair_of (I32 a) (U32 b) = None
-pair_of (U32 a) (I32 b) = None
+pair_of a b = found (pair a b)
 
 -- AbstractInt: the exact value, if it fits in 64 bits. `/` and `%` round toward zero.
 abbrev pub abstract_value : IntegerOperator → ℤ → ℤ → Option ℤ

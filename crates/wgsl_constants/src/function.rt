@@ -1,13 +1,16 @@
-// Functions on integers (WGSL, "Numeric Built-in Functions").
+// Functions on integers (WGSL, "Numeric Built-in Functions", "Logical Built-in Functions", "bitcast").
 
-ghost use Rattle.wgsl_constants.specs.Functions.{IsAbsolute, IsSign, OfPair, greatest, least, selected};
+ghost use Rattle.std.specs.Prelude.{◌≡◌};
+ghost use Rattle.wgsl_constants.specs.Functions.{absolute, bit_count, bits_of, clamped, first_bit, first_bit_of, greatest, leading_bit, least, of_pair, one_bits, selected, sign};
 
 use crate::integer::{Integer, IntegerError, IntegerPair};
 use crate::operator::{compare, pair_of, to_i32, to_u32};
 use std::cmp::Ordering;
 
 /// The bits of a 32-bit integer. An AbstractInt is taken as an `i32` if it fits, or else as a `u32`.
-pub fn bits_of(integer: Integer) -> Result<u32, IntegerError> {
+pub fn bits_of(integer: Integer) -> Result<u32, IntegerError>
+    ensures { result ≡ bits_of integer }
+{
     match integer {
         Integer::Abstract(value) => match to_i32(value) {
             Ok(value) => Ok(value.cast_unsigned()),
@@ -20,7 +23,7 @@ pub fn bits_of(integer: Integer) -> Result<u32, IntegerError> {
 
 /// `abs`. For the least `i32` it is that `i32`.
 pub fn absolute(integer: Integer) -> Result<Integer, IntegerError>
-    ensures { IsAbsolute integer result }
+    ensures { result ≡ absolute integer }
 {
     match integer {
         Integer::Abstract(value) => match value.checked_abs() {
@@ -34,7 +37,7 @@ pub fn absolute(integer: Integer) -> Result<Integer, IntegerError>
 
 /// `sign`, which has no overload for `u32`.
 pub fn sign(integer: Integer) -> Result<Integer, IntegerError>
-    ensures { IsSign integer result }
+    ensures { result ≡ sign integer }
 {
     match integer {
         Integer::Abstract(value) => Ok(Integer::Abstract(value.signum())),
@@ -45,7 +48,7 @@ pub fn sign(integer: Integer) -> Result<Integer, IntegerError>
 
 /// `min`
 pub fn minimum(left: Integer, right: Integer) -> Result<Integer, IntegerError>
-    ensures { OfPair left right least result }
+    ensures { result ≡ of_pair least left right }
 {
     match pair_of(left, right)? {
         IntegerPair::Abstract(a, b) => Ok(Integer::Abstract(a.min(b))),
@@ -56,7 +59,7 @@ pub fn minimum(left: Integer, right: Integer) -> Result<Integer, IntegerError>
 
 /// `max`
 pub fn maximum(left: Integer, right: Integer) -> Result<Integer, IntegerError>
-    ensures { OfPair left right greatest result }
+    ensures { result ≡ of_pair greatest left right }
 {
     match pair_of(left, right)? {
         IntegerPair::Abstract(a, b) => Ok(Integer::Abstract(a.max(b))),
@@ -66,16 +69,18 @@ pub fn maximum(left: Integer, right: Integer) -> Result<Integer, IntegerError>
 }
 
 /// `clamp` to `low` and `high`. It is an error if `low` is above `high`.
-pub fn clamp(value: Integer, low: Integer, high: Integer) -> Result<Integer, IntegerError> {
-    if compare(low, high)? == Ordering::Greater {
-        return Err(IntegerError::EmptyRange);
+pub fn clamp(value: Integer, low: Integer, high: Integer) -> Result<Integer, IntegerError>
+    ensures { result ≡ clamped value low high }
+{
+    match compare(low, high)? {
+        Ordering::Greater => Err(IntegerError::EmptyRange),
+        Ordering::Less | Ordering::Equal => minimum(maximum(value, low)?, high),
     }
-    minimum(maximum(value, low)?, high)
 }
 
 /// `select`: `right` if the test holds, else `left`.
 pub fn select(left: Integer, right: Integer, test: bool) -> Result<Integer, IntegerError>
-    ensures { OfPair left right (selected test) result }
+    ensures { result ≡ of_pair (selected test) left right }
 {
     match pair_of(left, right)? {
         IntegerPair::Abstract(a, b) => Ok(Integer::Abstract(if test { b } else { a })),
@@ -85,7 +90,9 @@ pub fn select(left: Integer, right: Integer, test: bool) -> Result<Integer, Inte
 }
 
 /// `countOneBits`. An AbstractInt is taken as an `i32`.
-pub fn count_one_bits(integer: Integer) -> Result<Integer, IntegerError> {
+pub fn count_one_bits(integer: Integer) -> Result<Integer, IntegerError>
+    ensures { result ≡ bit_count integer }
+{
     match integer {
         Integer::Abstract(value) => Ok(Integer::I32(one_bits(to_i32(value)?))),
         Integer::I32(value) => Ok(Integer::I32(one_bits(value))),
@@ -93,13 +100,17 @@ pub fn count_one_bits(integer: Integer) -> Result<Integer, IntegerError> {
     }
 }
 
-fn one_bits(value: i32) -> i32 {
+fn one_bits(value: i32) -> i32
+    ensures { result ≡ one_bits value }
+{
     value.cast_unsigned().count_ones().cast_signed()
 }
 
 /// `firstLeadingBit`: the index of the first bit from the highest down that is 1, or that differs from the sign. If
 /// there is none, all bits of the result are 1. An AbstractInt is taken as an `i32`.
-pub fn first_leading_bit(integer: Integer) -> Result<Integer, IntegerError> {
+pub fn first_leading_bit(integer: Integer) -> Result<Integer, IntegerError>
+    ensures { result ≡ leading_bit integer }
+{
     match integer {
         Integer::Abstract(value) => Ok(Integer::I32(first_bit_of(to_i32(value)?))),
         Integer::I32(value) => Ok(Integer::I32(first_bit_of(value))),
@@ -107,11 +118,19 @@ pub fn first_leading_bit(integer: Integer) -> Result<Integer, IntegerError> {
     }
 }
 
-fn first_bit(value: u32) -> u32 {
-    value.checked_ilog2().unwrap_or(u32::MAX)
+fn first_bit(value: u32) -> u32
+    ensures { result ≡ first_bit value }
+{
+    if value == 0 {
+        u32::MAX
+    } else {
+        31u32.saturating_sub(value.leading_zeros())
+    }
 }
 
-fn first_bit_of(value: i32) -> i32 {
+fn first_bit_of(value: i32) -> i32
+    ensures { result ≡ first_bit_of value }
+{
     let bits = if value < 0 { !value } else { value };
     first_bit(bits.cast_unsigned()).cast_signed()
 }

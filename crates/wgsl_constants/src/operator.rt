@@ -2,9 +2,9 @@
 
 ghost use Rattle.std.specs.Prelude.{◌≡◌, ◌<◌, ◌^◌, neg_ℤ, pos};
 ghost use Rattle.std.specs.Int.{int_shr, int_wrap, w32};
-ghost use Rattle.wgsl_constants.specs.Conversions.{IsI32, IsPair, IsU32};
+ghost use Rattle.wgsl_constants.specs.Conversions.{i32_of, pair, u32_of};
 ghost use Rattle.wgsl_constants.specs.Arithmetic.{IsAbstractValue, IsI32Value, IsU32Value, IsValue};
-ghost use Rattle.wgsl_constants.specs.Functions.{OfPair, comparison};
+ghost use Rattle.wgsl_constants.specs.Functions.{comparison, of_pair};
 ghost use Rattle.wgsl_constants.specs.Shifts.{IsAbstractShift, IsCount, IsI32Shift, IsLeftShift, IsNegative, IsRightShift, IsU32Shift, complement_of};
 
 use crate::integer::{Integer, IntegerError, IntegerOperator, IntegerPair};
@@ -12,7 +12,7 @@ use std::cmp::Ordering;
 
 /// Both integers in the type to which they convert.
 pub fn pair_of(left: Integer, right: Integer) -> Result<IntegerPair, IntegerError>
-    ensures { IsPair left right result }
+    ensures { result ≡ pair left right }
 {
     match (left, right) {
         (Integer::Abstract(a), Integer::Abstract(b)) => Ok(IntegerPair::Abstract(a, b)),
@@ -30,7 +30,7 @@ pub fn pair_of(left: Integer, right: Integer) -> Result<IntegerPair, IntegerErro
 
 /// An AbstractInt as an `i32`.
 pub fn to_i32(value: i64) -> Result<i32, IntegerError>
-    ensures { IsI32 value result }
+    ensures { result ≡ i32_of value }
 {
     match i32::try_from(value) {
         Ok(value) => Ok(value),
@@ -40,7 +40,7 @@ pub fn to_i32(value: i64) -> Result<i32, IntegerError>
 
 /// An AbstractInt as a `u32`.
 pub fn to_u32(value: i64) -> Result<u32, IntegerError>
-    ensures { IsU32 value result }
+    ensures { result ≡ u32_of value }
 {
     match u32::try_from(value) {
         Ok(value) => Ok(value),
@@ -282,7 +282,7 @@ pub fn complement(integer: Integer) -> Integer
 
 /// How the first of two integers of one type compares with the second.
 pub fn compare(left: Integer, right: Integer) -> Result<Ordering, IntegerError>
-    ensures { OfPair left right comparison result }
+    ensures { result ≡ of_pair comparison left right }
 {
     match pair_of(left, right)? {
         IntegerPair::Abstract(a, b) => Ok(a.cmp(&b)),

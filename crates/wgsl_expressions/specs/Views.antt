@@ -57,6 +57,10 @@ head_view (heads.Constructor name ps) = overloaded (a_constructor (string_bytes 
 head_view (heads.Function name ps) = overloaded (a_function (string_bytes name)) (option_map (λ ps. map parameter_view ps.items) ps)
 head_view (heads.Array t n) = typed_array (view t) n
 
+abbrev pub head_found : {F : Type 0} → Result CodeHead F → Option Head
+head_found (Ok head) = Some (head_view head)
+head_found (Err fault) = None
+
 abbrev pub source_view : CodeSource → Source
 source_view s = record { text = s.text.now; tokens = s.tokens.now; events = s.events.now }
 

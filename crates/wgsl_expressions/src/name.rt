@@ -5,7 +5,7 @@ ghost use Rattle.wgsl_core.specs.View.{view};
 ghost use Rattle.wgsl_rules.specs.types.Spelling.{wgsl_spelling};
 ghost use Rattle.wgsl_expressions.specs.Names.{callee_named, constructor_of, function_with, head_noted, is_constructor, other_head, with_type};
 ghost use Rattle.wgsl_expressions.specs.Outcomes.{overloaded};
-ghost use Rattle.wgsl_expressions.specs.Views.{head_view, source_view};
+ghost use Rattle.wgsl_expressions.specs.Views.{head_found, head_view, source_view};
 
 use crate::head::Head;
 use crate::source::{Source, between, first_count};
@@ -16,24 +16,28 @@ use wgsl_core::ty::Type;
 use wgsl_core::ty::form::Form;
 use wgsl_core::ty::show::ShownType;
 use wgsl_reader::read::Event;
+use wgsl_spelling::fault::Fault;
 use wgsl_standard::callee::{Callee, overloads};
 use wgsl_syntax::rules::RuleSet;
 
-/// What is called by the name and the list that are noted.
+/// What is called by the name and the list that are noted, or why they are no type.
 pub(crate) fn head_noted(
     alloc: Global,
     source: Source<'_>,
     events: &[Event],
-) -> Result<Option<Head>, AllocError>
-    ensures { IfOk result (λ found. option_map head_view found ≡ head_noted (source_view source.entry) events.now) }
+) -> Result<Result<Head, Fault>, AllocError>
+    ensures { IfOk result (λ found. head_found found ≡ head_noted (source_view source.entry) events.now) }
 {
     match source.type_noted(alloc, events)? {
-        Some(ty) => {
+        Ok(ty) => {
             let head = constructor_of(alloc, &ty);
             drop(ty);
-            Ok(Some(head?))
+            Ok(Ok(head?))
         }
-        None => other_head(alloc, source, events),
+        Err(fault) => match other_head(alloc, source, events)? {
+            Some(head) => Ok(Ok(head)),
+            None => Ok(Err(fault)),
+        },
     }
 }
 
@@ -90,12 +94,12 @@ fn other_head(
     }
     let list = between(events, 2, events.len().saturating_sub(1));
     match source.type_noted(alloc, list)? {
-        Some(ty) => {
+        Ok(ty) => {
             let head = function_with(alloc, name, &ty);
             drop(ty);
             Ok(Some(head?))
         }
-        None => Ok(None),
+        Err(_) => Ok(None),
     }
 }
 

@@ -1,9 +1,9 @@
 // A text, its tokens, and what is noted of them.
-ghost use Rattle.std.specs.Prelude.{◌≡◌, ◌-◌, IfOk, option_map, slice_get, slice_range};
-ghost use Rattle.wgsl_core.specs.View.{view};
+ghost use Rattle.std.specs.Prelude.{◌≡◌, ◌-◌, IfOk, slice_get, slice_range};
 ghost use Rattle.wgsl_expressions.specs.Reading.{IsMisread};
 ghost use Rattle.wgsl_expressions.specs.Source.{byte_at, first_count, kind_at, noted, text_at, type_noted};
 ghost use Rattle.wgsl_expressions.specs.Views.{source_view};
+ghost use Rattle.wgsl_spelling.specs.Seen.{type_found};
 
 use crate::misread::{Misread, Wanted};
 use std::alloc::{AllocError, Global};
@@ -12,7 +12,7 @@ use wgsl_core::ty::Type;
 use wgsl_reader::kind::Kind;
 use wgsl_reader::read::Event;
 use wgsl_reader::token::Token;
-use wgsl_spelling::fault::Stop;
+use wgsl_spelling::fault::{Fault, Stop};
 use wgsl_spelling::spelled::type_of_events;
 use wgsl_spelling::word::word;
 
@@ -69,17 +69,17 @@ impl<'t> Source<'t> {
         between(self.events, from, to)
     }
 
-    /// The type that is noted.
+    /// The type that is noted, or why none is.
     pub(crate) fn type_noted(
         self,
         alloc: Global,
         events: &[Event],
-    ) -> Result<Option<Type>, AllocError>
-        ensures { IfOk result (λ found. option_map view found ≡ type_noted (source_view self.entry) events.now) }
+    ) -> Result<Result<Type, Fault>, AllocError>
+        ensures { IfOk result (λ found. type_found found ≡ type_noted (source_view self.entry) events.now) }
     {
         match type_of_events(alloc, self.text, self.tokens, events) {
-            Ok(ty) => Ok(Some(ty)),
-            Err(Stop::Fault(_)) => Ok(None),
+            Ok(ty) => Ok(Ok(ty)),
+            Err(Stop::Fault(fault)) => Ok(Err(fault)),
             Err(Stop::Memory(error)) => Err(error),
         }
     }

@@ -22,8 +22,7 @@ use wgsl_forms::concrete::has_abstract_type;
 use wgsl_forms::form::Referent;
 use wgsl_reader::mark::Mark;
 use wgsl_reader::read::Event;
-use wgsl_spelling::fault::{Cause, Stop};
-use wgsl_spelling::spelled::type_of_events;
+use wgsl_spelling::fault::{Cause, Fault};
 use wgsl_spelling::word::word;
 
 /// A call with its arguments so far.
@@ -149,42 +148,28 @@ fn put_given(
     let from = take_name(source, items)?;
     let noted = source.noted(from, index);
     match source.type_noted(alloc, noted)? {
-        Some(ty) => {
+        Ok(ty) => {
             let is_constant = is_const || has_abstract_type(&ty);
             put(source, Ok(given(ty, is_constant)), items)
         }
-        None if is_const => Err(untyped(alloc, source, noted, Wanted::Type)?),
-        None => Err(untyped(alloc, source, noted, Wanted::Operand)?),
+        Err(fault) if is_const => Err(untyped(fault, Wanted::Type)),
+        Err(fault) => Err(untyped(fault, Wanted::Operand)),
     }
 }
 
 /// The error at a name with its list that spells no type: why, or what was expected in place of the name.
-fn untyped(
-    alloc: Global,
-    source: Source<'_>,
-    noted: &[Event],
-    wanted: Wanted,
-) -> Result<Fail<Misread>, AllocError>
-    ensures { IfOk result (λ e. IsMisread e) }
-{
-    match type_of_events(alloc, source.text, source.tokens, noted) {
-        Ok(ty) => {
-            drop(ty);
-            Ok(source.misread(first_count(noted), wanted))
-        }
-        Err(Stop::Fault(fault)) => match fault.cause {
-            Cause::UnknownType | Cause::NoList => Ok(misread(fault.at, wanted)),
-            Cause::TooDeep => Ok(misread(fault.at, Wanted::Shallower)),
-            cause => Ok(misread(fault.at, Wanted::Faultless(cause))),
-        },
-        Err(Stop::Memory(error)) => Err(error),
-    }
-}
-
-fn misread(at: usize, wanted: Wanted) -> Fail<Misread>
+fn untyped(fault: Fault, wanted: Wanted) -> Fail<Misread>
     ensures { IsMisread result }
 {
-    Fail::Error(Misread { at, wanted })
+    let wanted = match fault.cause {
+        Cause::UnknownType | Cause::NoList => wanted,
+        Cause::TooDeep => Wanted::Shallower,
+        cause => Wanted::Faultless(cause),
+    };
+    Fail::Error(Misread {
+        at: fault.at,
+        wanted,
+    })
 }
 
 /// The `(` behind what is called by the name that is noted with its list.
@@ -200,8 +185,8 @@ fn open(
     let noted = source.noted(from, index);
     let count = first_count(noted);
     match head_noted(alloc, source, noted)? {
-        Some(head) => push_call(alloc, source.byte_at(count), head, items),
-        None => Err(untyped(alloc, source, noted, Wanted::Type)?),
+        Ok(head) => push_call(alloc, source.byte_at(count), head, items),
+        Err(fault) => Err(untyped(fault, Wanted::Type)),
     }
 }
 

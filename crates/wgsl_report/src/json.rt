@@ -269,7 +269,7 @@ fn write_message(
         Piece::Text("\""),
         Piece::At(lines.place(message.at)),
         Piece::Text(",\"end\":{"),
-        Piece::Place(lines.end_of_word(message.at)),
+        Piece::Place(lines.place(message.end)),
         Piece::Text("},\"message\":\""),
         Piece::Escaped(message.text.as_str()),
         Piece::Text("\"}"),

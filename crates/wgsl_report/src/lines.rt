@@ -1,7 +1,6 @@
 // Lines and columns of a text.
 
 use std::alloc::{AllocError, Global};
-use wgsl_source::tokens::token::{Token, next_token};
 
 /// Where the lines of a text begin and end (WGSL, "Blankspace and Line Breaks").
 #[derive(Drop)]
@@ -61,23 +60,6 @@ impl<'a> Lines<'a> {
             line: before.saturating_add(1),
             column: column.saturating_add(1),
             utf16_column: column.saturating_sub(excess).saturating_add(1),
-        }
-    }
-
-    /// The place behind the word that stands at an index; that of the index if there is none.
-    pub fn end_of_word(&self, at: usize) -> Place {
-        let length = match self.word_at(at) {
-            Some(word) => word.end.saturating_sub(word.start),
-            None => 0,
-        };
-        self.place(at.saturating_add(length))
-    }
-
-    fn word_at(&self, at: usize) -> Option<Token> {
-        if at <= self.text.len() {
-            next_token(self.text, at)
-        } else {
-            None
         }
     }
 

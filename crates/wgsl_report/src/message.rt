@@ -4,10 +4,13 @@ use crate::finding::Finding;
 use crate::write::{Piece, write_all};
 use std::alloc::{AllocError, Global};
 use std::fmt::Debug;
+use wgsl_reader::expected::{expected, may_stand_behind};
+use wgsl_reader::kind::Kind;
+use wgsl_reader::module::Misread;
 use wgsl_source::fault::{Cause, Fault};
 use wgsl_source::meant::{Declared, meant};
 use wgsl_source::module::Module;
-use wgsl_source::tokens::token::next_token;
+use wgsl_source::text::Text;
 
 /// How severe a message is.
 #[derive(Clone, Copy, PartialEq, Eq)]
@@ -35,6 +38,8 @@ pub struct Message {
     /// The name of what is wrong, for programs.
     pub kind: String,
     pub at: usize,
+    /// The index behind the word that stands there.
+    pub end: usize,
     pub text: String,
 }
 
@@ -42,52 +47,132 @@ pub struct Message {
 /// spaces.
 pub fn messages_of<'t>(
     alloc: Global,
-    text: &'t str,
+    text: Text<'t>,
+    misread: &[Misread],
     module: &Module<'t>,
     findings: &[Finding],
 ) -> Result<Vec<Message>, AllocError> {
     let mut messages = Vec::new(alloc);
+    let mut left = EXPLAINED;
     for (index, fault) in module.faults.iter().enumerate() {
+        let misread = explained(misread, fault.cause, &mut left);
         let declared = if index < GUESSED {
             Some(&module.declared)
         } else {
             None
         };
-        messages.push(fault_message(alloc, text, *fault, Severity::Error, declared)?)?;
+        messages.push(fault_message(alloc, text, misread, *fault, declared)?)?;
     }
     for fault in &module.naga_only {
-        messages.push(fault_message(alloc, text, *fault, Severity::Finding, None)?)?;
+        let mut message = fault_message(alloc, text, None, *fault, None)?;
+        message.severity = Severity::Finding;
+        messages.push(message)?;
     }
     for finding in findings {
-        messages.push(finding_message(alloc, finding)?)?;
+        messages.push(finding_message(alloc, text, finding)?)?;
     }
     Ok(messages)
 }
 
+/// The error of a fault.
 fn fault_message<'t>(
     alloc: Global,
-    text: &'t str,
+    text: Text<'t>,
+    misread: Option<Misread>,
     fault: Fault,
-    severity: Severity,
     declared: Option<&Declared<'t>>,
 ) -> Result<Message, AllocError> {
     let mut told = String::new(alloc);
-    write_fault(&mut told, text, fault, declared)?;
+    match misread {
+        Some(misread) => write_misread(&mut told, alloc, text, misread, declared)?,
+        None => {
+            told.push_str(fault.cause.text())?;
+            let word = write_found(&mut told, text, fault)?;
+            if !matches!(fault.cause, Cause::Misread(_)) {
+                write_meant(&mut told, word, fault.cause, declared)?;
+            }
+        }
+    }
     Ok(Message {
-        severity,
+        severity: Severity::Error,
         kind: kind_of(alloc, &fault.cause)?,
         at: fault.at,
+        end: text.end_of_token(fault.at),
         text: told,
     })
 }
 
-fn finding_message(alloc: Global, finding: &Finding) -> Result<Message, AllocError> {
+/// What the grammar says of the declaration that has this fault, if as many tokens are left to be explained as stand in front of
+/// the fault.
+fn explained(misread: &[Misread], cause: Cause, left: &mut usize) -> Option<Misread> {
+    let found = match cause {
+        Cause::Misread(index) => misread.get(index).copied()?,
+        _ => return None,
+    };
+    *left = left.checked_sub(found.at.saturating_sub(found.from).saturating_add(1))?;
+    Some(found)
+}
+
+/// Writes what may stand where a declaration can't be read, and what stands there.
+fn write_misread<'t>(
+    output: &mut String,
+    alloc: Global,
+    text: Text<'t>,
+    misread: Misread,
+    declared: Option<&Declared<'t>>,
+) -> Result<(), AllocError> {
+    let front = text.tokens.get(misread.from..misread.at).unwrap_or(&[]);
+    let token = text.token(misread.at);
+    let fault = Fault {
+        at: token.at,
+        cause: Cause::Misread(0),
+    };
+    output.push_str(&expected(alloc, misread.rule, front)?)?;
+    let word = write_found(output, text, fault)?;
+    if front.is_empty() {
+        write_meant(output, word, fault.cause, declared)
+    } else if is_operator(token.kind)
+        && may_stand_behind(alloc, misread.rule, front, Kind::Period)?
+    {
+        output.push_str("; this operator needs parentheses")
+    } else {
+        Ok(())
+    }
+}
+
+/// Whether a token is an operator with two operands.
+fn is_operator(kind: Kind) -> bool {
+    matches!(
+        kind,
+        Kind::And
+            | Kind::AndAnd
+            | Kind::EqualEqual
+            | Kind::Greater
+            | Kind::GreaterEqual
+            | Kind::Less
+            | Kind::LessEqual
+            | Kind::Minus
+            | Kind::NotEqual
+            | Kind::Or
+            | Kind::OrOr
+            | Kind::Percent
+            | Kind::Plus
+            | Kind::ShiftLeft
+            | Kind::ShiftRight
+            | Kind::Slash
+            | Kind::Star
+            | Kind::Xor
+    )
+}
+
+fn finding_message(alloc: Global, text: Text, finding: &Finding) -> Result<Message, AllocError> {
     let mut told = String::new(alloc);
     finding.write_to(&mut told)?;
     Ok(Message {
         severity: Severity::Finding,
         kind: kind_of(alloc, &finding.trouble)?,
         at: finding.at,
+        end: text.end_of_token(finding.at),
         text: told,
     })
 }
@@ -108,35 +193,46 @@ fn kind_of(alloc: Global, of: &impl Debug) -> Result<String, AllocError> {
 /// How many characters of a word a message quotes.
 const QUOTED: usize = 40;
 
+/// How many tokens of misread declarations are read again, once for each kind of token, to tell what may stand there.
+const EXPLAINED: usize = 20000;
+
 /// How many errors of a text are told with a name that the word may have meant.
 const GUESSED: usize = 50;
 
-/// Writes what is wrong, the beginning of what stands there, and, if the declared names are given, what that may have meant.
-pub fn write_fault<'t>(
+/// Writes the beginning of the word that stands where something is wrong. Returns the word.
+fn write_found<'t>(
     output: &mut String,
-    text: &'t str,
+    text: Text<'t>,
     fault: Fault,
-    declared: Option<&Declared<'t>>,
-) -> Result<(), AllocError> {
+) -> Result<&'t str, AllocError> {
     let (start, word, end) = match (fault.cause, word_at(text, fault.at)) {
         (Cause::NoComponent, Some(word)) => (": `", word, "f`"),
         (Cause::NotUtf8 | Cause::OpenComment | Cause::ByteOrderMark, _) => ("", "", ""),
-        (Cause::Expected(_), Some(word)) => (", found `", word, "`"),
-        (Cause::Expected(_), None) => (", found the end", "", ""),
+        (Cause::Expected(_) | Cause::Misread(_), Some(word)) => (", found `", word, "`"),
+        (Cause::Expected(_) | Cause::Misread(_), None) => (", found the end", "", ""),
         (_, Some(word)) => (": `", word, "`"),
         (_, None) => ("", "", ""),
     };
     let (quoted, dots) = beginning(word);
     let pieces = [
-        Piece::Text(fault.cause.text()),
         Piece::Text(start),
         Piece::Visible(quoted),
         Piece::Text(dots),
         Piece::Text(end),
     ];
     write_all(output, &pieces)?;
+    Ok(word)
+}
+
+/// Writes what a word may have meant, if the declared names are given.
+fn write_meant<'t>(
+    output: &mut String,
+    word: &'t str,
+    cause: Cause,
+    declared: Option<&Declared<'t>>,
+) -> Result<(), AllocError> {
     let name = match declared {
-        Some(declared) => meant(fault.cause, word, declared),
+        Some(declared) => meant(cause, word, declared),
         None => None,
     };
     match name {
@@ -165,10 +261,11 @@ fn beginning(word: &str) -> (&str, &str) {
 }
 
 /// The word that stands at an index.
-fn word_at(text: &str, at: usize) -> Option<&str> {
-    if at > text.len() {
-        return None;
+fn word_at<'t>(text: Text<'t>, at: usize) -> Option<&'t str> {
+    let end = text.end_of_token(at);
+    if end == at {
+        None
+    } else {
+        text.text.get(at..end)
     }
-    let token = next_token(text.as_bytes(), at)?;
-    text.get(token.start..token.end)
 }

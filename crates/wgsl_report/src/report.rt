@@ -14,9 +14,10 @@ use crate::source::Source;
 use crate::table::write_tables;
 use std::alloc::{AllocError, Global};
 use std::str::from_utf8;
+use wgsl_reader::module::Misread;
 use wgsl_source::fault::{Cause, Fault};
 use wgsl_source::module::{Module, read_module};
-use wgsl_source::tokens::token::tokens;
+use wgsl_source::text::{Text, tokens};
 
 /// How a report is written.
 #[derive(Clone, Copy, PartialEq, Eq)]
@@ -83,8 +84,13 @@ pub fn report_on(
     match from_utf8(bytes) {
         Ok(text) => {
             let tokens = tokens(alloc, bytes)?;
-            let module = read_module(alloc, text, &tokens)?;
-            let messages = messages_on(alloc, text, &module)?;
+            let text = Text {
+                text,
+                tokens: &tokens,
+            };
+            let grammar = wgsl_reader::module::read_module(alloc, &tokens)?;
+            let module = read_module(alloc, text, &grammar)?;
+            let messages = messages_on(alloc, text, &grammar.misread, &module)?;
             report_module(alloc, options, &lines, &module, &messages)
         }
         Err(error) => {
@@ -93,7 +99,11 @@ pub fn report_on(
                 cause: Cause::NotUtf8,
             };
             let module = Module::faulty(alloc, fault)?;
-            let messages = messages_on(alloc, "", &module)?;
+            let nothing = Text {
+                text: "",
+                tokens: &[],
+            };
+            let messages = messages_on(alloc, nothing, &[], &module)?;
             report_module(alloc, options, &lines, &module, &messages)
         }
     }
@@ -101,11 +111,12 @@ pub fn report_on(
 
 fn messages_on<'t>(
     alloc: Global,
-    text: &'t str,
+    text: Text<'t>,
+    misread: &[Misread],
     module: &Module<'t>,
 ) -> Result<Vec<Message>, AllocError> {
     let findings = findings_of(alloc, &*module)?;
-    messages_of(alloc, text, module, &findings)
+    messages_of(alloc, text, misread, module, &findings)
 }
 
 fn report_module(

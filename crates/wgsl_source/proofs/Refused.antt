@@ -16,7 +16,7 @@ use Rattle.wgsl_source.specs.declared.fault.Stop.{Stop}
 use Rattle.wgsl_source.specs.declared.fault.Stop.TheVariants.{Elsewhere, Fault, Memory}
 use Rattle.wgsl_source.specs.declared.structure.Member.{Member}
 use Rattle.wgsl_source.specs.declared.structure.Written.{Written}
-use Rattle.wgsl_source.specs.Cursor.{AtFault}
+use Rattle.wgsl_source.specs.Faults.{AtFault}
 use Rattle.wgsl_source.specs.Layout.{HasNoLayout, layouts_of}
 use Rattle.wgsl_source.specs.Members.{AreSameMembers, members_of, without_offset}
 

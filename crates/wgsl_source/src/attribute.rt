@@ -1,13 +1,16 @@
 // Attributes, and where each may stand (WGSL, "Attributes").
-ghost use Rattle.wgsl_source.specs.Cursor.{GoesOn};
 
-use crate::cursor::Cursor;
+use crate::directive::severity_fault;
 use crate::entry::{Stage, WorkgroupExtent};
-use crate::expression::{Site, Value, close};
-use crate::fault::{Cause, Expected, Stop};
+use crate::fault::{Cause, Stop};
 use crate::meant::is_built_in_value;
+use crate::parts::{split_argument, split_attribute, split_first, without_last};
 use crate::scope::Scope;
-use crate::skip::skip_group;
+use crate::value::{PlacedValue, Value};
+use wgsl_constants::integer::Integer;
+use wgsl_reader::mark::Mark;
+use wgsl_reader::read::Event;
+use wgsl_reader::token::Token;
 
 /// What an attribute belongs to.
 #[derive(Clone, Copy, PartialEq, Eq)]
@@ -16,8 +19,6 @@ pub enum Owner {
     Variable,
     Override,
     Function,
-    /// A declaration without attributes: an alias, a struct or a constant.
-    Other,
 }
 
 /// An attribute of WGSL.
@@ -106,12 +107,24 @@ impl Name {
         }
     }
 
-    /// Whether the attribute takes arguments in parentheses.
-    fn has_arguments(self) -> bool {
-        !matches!(
-            self,
-            Name::Compute | Name::Fragment | Name::Invariant | Name::MustUse | Name::Vertex
-        )
+    /// Whether the attribute takes this number of arguments.
+    fn takes(self, count: usize) -> bool {
+        match self {
+            Name::Compute | Name::Fragment | Name::Invariant | Name::MustUse | Name::Vertex => {
+                count == 0
+            }
+            Name::Interpolate => count == 1 || count == 2,
+            Name::WorkgroupSize => 1 <= count && count <= 3,
+            Name::Diagnostic => true,
+            Name::Align
+            | Name::Binding
+            | Name::BlendSrc
+            | Name::Builtin
+            | Name::Group
+            | Name::Id
+            | Name::Location
+            | Name::Size => count == 1,
+        }
     }
 }
 
@@ -142,138 +155,217 @@ impl Attributes {
     }
 }
 
+/// An attribute of the text.
+#[derive(Clone, Copy)]
+struct Written<'e> {
+    /// The token of its name.
+    name: Token,
+    /// Its arguments, each with its `Argument`.
+    arguments: &'e [Event],
+}
+
 impl<'t> Scope<'t> {
     /// The attributes of a member or a declaration.
-    pub fn read_attributes(&self, cursor: &mut Cursor<'t>, owner: Owner) -> Result<Attributes, Stop>
-        ensures goes_on { GoesOn cursor.old cursor.new }
-    {
+    pub fn read_attributes(&self, events: &[Event], owner: Owner) -> Result<Attributes, Stop> {
         let mut attributes = Attributes::none();
-        while cursor.take(b'@') {
-            self.read_attribute(cursor, owner, &mut attributes)?;
+        let mut rest = events;
+        while let Some(split) = split_attribute(rest) {
+            self.read_attribute(split.front, owner, &mut attributes)?;
+            rest = split.rest;
         }
         Ok(attributes)
     }
 
-    /// Reads an attribute after its `@`.
     fn read_attribute(
         &self,
-        cursor: &mut Cursor<'t>,
+        events: &[Event],
         owner: Owner,
         attributes: &mut Attributes,
-    ) -> Result<(), Stop>
-        ensures goes_on { GoesOn cursor.old cursor.new }
-    {
-        let at = cursor.index();
-        let name = match Name::named(cursor.take_word(Expected::Name)?) {
-            Some(name) => name,
-            None if self.extensions.foreign => return skip_group(cursor),
-            None => return Err(Stop::at(at, Cause::UnknownAttribute)),
+    ) -> Result<(), Stop> {
+        let Some((first, rest)) = split_first(events) else {
+            return Ok(());
         };
-        if !name.may_stand(owner) {
-            return Err(Stop::at(at, Cause::MisplacedAttribute));
+        if first.mark == Mark::Severity {
+            return self.read_diagnostic(events, first, owner, attributes);
         }
-        if attributes.is_twice(name) {
-            return Err(Stop::at(at, Cause::AttributeTwice));
+        let written = Written {
+            name: self.text.token_before(first.at),
+            arguments: without_last(rest),
+        };
+        let name = match Name::named(self.text.word(written.name)) {
+            Some(name) => name,
+            None if self.extensions.foreign => return Ok(()),
+            None => return Err(written.stop(Cause::UnknownAttribute)),
+        };
+        note(name, written, owner, attributes)?;
+        if !name.takes(count_of(written.arguments)) || has_empty_list(first, rest) {
+            return Err(written.stop(Cause::AttributeArguments));
         }
-        if name.has_arguments() && !cursor.is_at(b'(') {
-            return Err(cursor.expected(Expected::Sign(b'(')));
+        self.read_arguments(name, written.arguments, attributes)
+    }
+
+    /// `@diagnostic(off, a.b)`
+    fn read_diagnostic(
+        &self,
+        events: &[Event],
+        first: Event,
+        owner: Owner,
+        attributes: &mut Attributes,
+    ) -> Result<(), Stop> {
+        let written = Written {
+            name: self.text.token_before(first.at.saturating_sub(2)),
+            arguments: &[],
+        };
+        note(Name::Diagnostic, written, owner, attributes)?;
+        match severity_fault(self.text, events) {
+            Some(fault) => Err(Stop::Fault(fault)),
+            None => Ok(()),
         }
+    }
+
+    fn read_arguments(
+        &self,
+        name: Name,
+        arguments: &[Event],
+        attributes: &mut Attributes,
+    ) -> Result<(), Stop> {
         match name {
-            Name::Align => attributes.align = Some(self.read_align(cursor)?),
-            Name::Size => attributes.size = Some(self.read_number(cursor)?),
-            Name::Group => attributes.group = Some(self.read_number(cursor)?),
-            Name::Binding => attributes.binding = Some(self.read_number(cursor)?),
-            Name::Id => attributes.id = Some(self.read_number(cursor)?),
+            Name::Align => attributes.align = Some(self.read_align(arguments)?),
+            Name::Size => attributes.size = Some(self.read_number(arguments)?),
+            Name::Group => attributes.group = Some(self.read_number(arguments)?),
+            Name::Binding => attributes.binding = Some(self.read_number(arguments)?),
+            Name::Id => attributes.id = Some(self.read_number(arguments)?),
             Name::WorkgroupSize => {
-                attributes.workgroup_size = Some(self.read_workgroup_size(cursor)?);
+                attributes.workgroup_size = Some(self.read_workgroup_size(arguments)?);
             }
             Name::Compute => attributes.stage = Some(Stage::Compute),
             Name::Fragment => attributes.stage = Some(Stage::Fragment),
             Name::Vertex => attributes.stage = Some(Stage::Vertex),
-            Name::Builtin => self.read_built_in(cursor)?,
-            Name::BlendSrc | Name::Diagnostic | Name::Interpolate | Name::Location => {
-                skip_group(cursor)?;
-            }
-            Name::Invariant | Name::MustUse => {}
+            Name::Builtin => self.read_built_in(arguments)?,
+            Name::BlendSrc
+            | Name::Diagnostic
+            | Name::Interpolate
+            | Name::Invariant
+            | Name::Location
+            | Name::MustUse => {}
         }
         Ok(())
     }
 
-    /// The number of an attribute in parentheses.
-    fn read_number(&self, cursor: &mut Cursor<'t>) -> Result<u32, Stop>
-        ensures goes_on { GoesOn cursor.old cursor.new }
-    {
-        cursor.expect(b'(')?;
-        let at = cursor.index();
-        let integer = self.read_integer(cursor)?;
-        close(cursor)?;
-        match u32::try_from(integer.value()) {
-            Ok(number) => Ok(number),
-            Err(_) => Err(Stop::at(at, Cause::NegativeAttribute)),
+    /// The value of an argument.
+    fn read_value(&self, arguments: &[Event]) -> Result<PlacedValue, Stop> {
+        match split_argument(arguments) {
+            Some(split) => self.value_noted(without_last(split.front)),
+            None => self.value_noted(arguments),
         }
     }
 
-    /// Reads the name of a built-in value in parentheses.
-    fn read_built_in(&self, cursor: &mut Cursor<'t>) -> Result<(), Stop>
-        ensures goes_on { GoesOn cursor.old cursor.new }
-    {
-        if self.extensions.foreign {
-            return skip_group(cursor);
-        }
-        cursor.expect(b'(')?;
-        let at = cursor.index();
-        let name = cursor.take_word(Expected::Name)?;
-        close(cursor)?;
-        if is_built_in_value(name) {
-            Ok(())
-        } else {
-            Err(Stop::at(at, Cause::UnknownBuiltInValue))
+    fn read_number(&self, arguments: &[Event]) -> Result<u32, Stop> {
+        let value = self.read_value(arguments)?;
+        match integer_of(value.value) {
+            Ok(integer) => match u32::try_from(integer.value()) {
+                Ok(number) => Ok(number),
+                Err(_) => Err(Stop::at(value.at, Cause::NegativeAttribute)),
+            },
+            Err(cause) => Err(Stop::at(value.at, cause)),
         }
     }
 
-    fn read_align(&self, cursor: &mut Cursor<'t>) -> Result<u32, Stop>
-        ensures goes_on { GoesOn cursor.old cursor.new }
-    {
-        let mut at = *cursor;
-        at.advance();
-        let align = self.read_number(cursor)?;
+    fn read_align(&self, arguments: &[Event]) -> Result<u32, Stop> {
+        let align = self.read_number(arguments)?;
         if align.is_power_of_two() {
             Ok(align)
         } else {
-            Err(at.stop(Cause::AlignNotPower))
+            let at = self.read_value(arguments)?.at;
+            Err(Stop::at(at, Cause::AlignNotPower))
+        }
+    }
+
+    /// Reads the name of a built-in value.
+    fn read_built_in(&self, arguments: &[Event]) -> Result<(), Stop> {
+        let Some((first, _)) = split_first(arguments) else {
+            return Ok(());
+        };
+        let token = self.text.token_before(first.at);
+        if self.extensions.foreign || is_built_in_value(self.text.word(token)) {
+            Ok(())
+        } else {
+            Err(Stop::at(token.at, Cause::UnknownBuiltInValue))
         }
     }
 
     /// Reads the one to three extents of a workgroup; a missing one is 1.
-    fn read_workgroup_size(&self, cursor: &mut Cursor<'t>) -> Result<[WorkgroupExtent; 3], Stop>
-        ensures goes_on { GoesOn cursor.old cursor.new }
-    {
-        cursor.expect(b'(')?;
-        let first = self.read_extent(cursor)?;
-        let mut second = WorkgroupExtent::Known(1);
-        let mut third = WorkgroupExtent::Known(1);
-        if cursor.take(b',') && !cursor.is_at(b')') {
-            second = self.read_extent(cursor)?;
-            if cursor.take(b',') && !cursor.is_at(b')') {
-                third = self.read_extent(cursor)?;
-                cursor.take(b',');
+    fn read_workgroup_size(&self, arguments: &[Event]) -> Result<[WorkgroupExtent; 3], Stop> {
+        let mut extents = [WorkgroupExtent::Known(1); 3];
+        let mut rest = arguments;
+        for extent in &mut extents {
+            if let Some(split) = split_argument(rest) {
+                *extent = self.read_extent(split.front)?;
+                rest = split.rest;
             }
         }
-        cursor.expect(b')')?;
-        Ok([first, second, third])
+        Ok(extents)
     }
 
-    fn read_extent(&self, cursor: &mut Cursor<'t>) -> Result<WorkgroupExtent, Stop>
-        ensures goes_on { GoesOn cursor.old cursor.new }
-    {
-        let at = cursor.index();
-        match self.read_value(cursor, Site::Other)? {
+    fn read_extent(&self, argument: &[Event]) -> Result<WorkgroupExtent, Stop> {
+        let value = self.value_noted(without_last(argument))?;
+        match value.value {
             Value::Later => Ok(WorkgroupExtent::Override),
             Value::Integer(integer) => match u32::try_from(integer.value()) {
                 Ok(number) if number > 0 => Ok(WorkgroupExtent::Known(number)),
-                _ => Err(Stop::at(at, Cause::EmptyWorkgroup)),
+                _ => Err(Stop::at(value.at, Cause::EmptyWorkgroup)),
             },
-            Value::Bool(_) | Value::Float(_) => Err(Stop::at(at, Cause::NotInteger)),
+            Value::Bool(_) | Value::Float(_) => Err(Stop::at(value.at, Cause::NotInteger)),
         }
+    }
+}
+
+/// Whether brackets without an argument stand behind an attribute's name.
+fn has_empty_list(name: Event, rest: &[Event]) -> bool {
+    match rest {
+        [end] => end.at > name.at,
+        _ => false,
+    }
+}
+
+impl Written<'_> {
+    /// A `Stop` at the name, for this cause.
+    fn stop(self, cause: Cause) -> Stop {
+        Stop::at(self.name.at, cause)
+    }
+}
+
+/// Notes that an attribute is there, if it may be.
+fn note(
+    name: Name,
+    written: Written,
+    owner: Owner,
+    attributes: &mut Attributes,
+) -> Result<(), Stop> {
+    if !name.may_stand(owner) {
+        Err(written.stop(Cause::MisplacedAttribute))
+    } else if attributes.is_twice(name) {
+        Err(written.stop(Cause::AttributeTwice))
+    } else {
+        Ok(())
+    }
+}
+
+/// How many arguments there are.
+fn count_of(arguments: &[Event]) -> usize {
+    let mut count: usize = 0;
+    let mut rest = arguments;
+    while let Some(split) = split_argument(rest) {
+        count = count.saturating_add(1);
+        rest = split.rest;
+    }
+    count
+}
+
+fn integer_of(value: Value) -> Result<Integer, Cause> {
+    match value {
+        Value::Integer(integer) => Ok(integer),
+        Value::Later => Err(Cause::KnownLater),
+        Value::Bool(_) | Value::Float(_) => Err(Cause::NotInteger),
     }
 }

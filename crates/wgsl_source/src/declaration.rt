@@ -1,14 +1,16 @@
 // What a module declares, and where.
-ghost use Rattle.std.specs.Prelude.{OnOk};
-ghost use Rattle.wgsl_source.specs.Cursor.{GoesOn, Takes};
 
-use crate::cursor::Cursor;
-use crate::extension::{enabled, required};
-use crate::fault::{Cause, Expected, ExtensionKind, Fault, Stop};
+use crate::directive::read_directive;
+use crate::extension::enabled;
+use crate::fault::{Cause, Fault};
+use crate::parts::{End, split_attributes, split_end, split_first, split_list};
 use crate::scope::Extensions;
-use crate::skip::{skip_attributes, skip_to_end};
-use crate::tokens::token::Kind;
+use crate::text::Text;
 use std::alloc::{AllocError, Global};
+use wgsl_reader::kind::Kind;
+use wgsl_reader::mark::Mark;
+use wgsl_reader::module::{Misread, Module as Grammar};
+use wgsl_reader::read::Event;
 
 /// What a declaration declares.
 #[derive(Clone, Copy)]
@@ -21,18 +23,21 @@ pub enum DeclarationKind {
     Function,
 }
 
-/// A declaration, with the indices of its tokens.
+/// A declaration, with its events. It has none if it can't be read.
 #[derive(Clone, Copy)]
 pub struct Declaration<'t> {
     pub kind: DeclarationKind,
     pub name: &'t str,
-    /// Its first token, perhaps an attribute.
-    pub first: usize,
-    /// The token of its name.
+    /// Where its name stands in the text.
+    pub place: usize,
+    /// How many tokens stand up to its name, with it.
     pub named: usize,
-    /// The token after its last.
-    pub end: usize,
-    /// Whether it has a fault already.
+    pub attributes: &'t [Event],
+    /// The template list of a variable.
+    pub list: &'t [Event],
+    /// What stands behind the name, without the last event, which says what is declared.
+    pub rest: &'t [Event],
+    /// Whether it can't be read.
     pub is_faulty: bool,
 }
 
@@ -42,198 +47,231 @@ pub struct Declarations<'t> {
     pub declarations: Vec<Declaration<'t>>,
     pub faults: Vec<Fault>,
     pub extensions: Extensions,
-    /// Whether a declaration has begun, so that no directive may follow.
-    has_begun: bool,
-}
-
-impl<'t> Declarations<'t> {
-    fn new(alloc: Global) -> Declarations<'t> {
-        Declarations {
-            declarations: Vec::new(alloc),
-            faults: Vec::new(alloc),
-            extensions: Extensions::none(),
-            has_begun: false,
-        }
-    }
-
-    /// Reads the next declaration. After a fault, reading goes on at the end of the declaration.
-    fn read_next(&mut self, cursor: &mut Cursor<'t>) -> Result<(), AllocError>
-        ensures goes_on { GoesOn cursor.old cursor.new }
-    {
-        let first = cursor.at;
-        let read = match read_beginning(cursor) {
-            Ok(Beginning::Named(kind)) => {
-                self.has_begun = true;
-                return self.read_named(cursor, first, kind);
-            }
-            Ok(Beginning::Directive(directive)) => self.read_directive(cursor, directive),
-            Ok(Beginning::Assertion) => {
-                self.has_begun = true;
-                Ok(())
-            }
-            Ok(Beginning::Empty) => {
-                self.has_begun = true;
-                return Ok(());
-            }
-            Err(stop) => Err(stop),
-        };
-        let end = skip_to_end(cursor);
-        match read.and(end) {
-            Err(stop) => self.tell(stop),
-            Ok(()) => Ok(()),
-        }
-    }
-
-    /// Reads a directive after its first word, and notes its extensions.
-    fn read_directive(&mut self, cursor: &mut Cursor<'t>, directive: Directive) -> Result<(), Stop>
-        ensures goes_on { GoesOn cursor.old cursor.new }
-    {
-        if self.has_begun {
-            return Err(cursor.stop(Cause::LateDirective));
-        }
-        if directive == Directive::Diagnostic {
-            return Ok(());
-        }
-        while cursor.kind() == Kind::Name {
-            let (is_known, kind) = match directive {
-                Directive::Enable => (
-                    enabled(&mut self.extensions, cursor.word()),
-                    ExtensionKind::Enabled,
-                ),
-                _ => (
-                    required(&mut self.extensions, cursor.word()),
-                    ExtensionKind::Required,
-                ),
-            };
-            if !is_known {
-                return Err(cursor.stop(Cause::UnknownExtension(kind)));
-            }
-            if !cursor.advance() || !cursor.take(b',') {
-                break;
-            }
-        }
-        Ok(())
-    }
-
-    /// The rest of a declaration from its name on.
-    fn read_named(
-        &mut self,
-        cursor: &mut Cursor<'t>,
-        first: usize,
-        kind: DeclarationKind,
-    ) -> Result<(), AllocError>
-        ensures goes_on { GoesOn cursor.old cursor.new }
-    {
-        let named = cursor.at;
-        let name = cursor.name(Expected::Name);
-        let end = skip_to_end(cursor);
-        let is_faulty = end.is_err();
-        match (name, end) {
-            (Err(stop), _) => return self.tell(stop),
-            (Ok(_), Err(stop)) => self.tell(stop)?,
-            (Ok(_), Ok(())) => {}
-        }
-        self.declarations.push(Declaration {
-            kind,
-            name: name.unwrap_or(""),
-            first,
-            named,
-            end: cursor.at,
-            is_faulty,
-        })?;
-        Ok(())
-    }
-
-    /// Records a fault, unless it is the last one again.
-    fn tell(&mut self, stop: Stop) -> Result<(), AllocError> {
-        match stop {
-            Stop::Fault(fault) if self.faults.last() != Some(&fault) => {
-                Ok(self.faults.push(fault)?)
-            }
-            _ => Ok(()),
-        }
-    }
-}
-
-/// The kind of declaration that a first word begins.
-#[derive(Clone, Copy)]
-enum Beginning {
-    Named(DeclarationKind),
-    Directive(Directive),
-    /// `const_assert`
-    Assertion,
-    /// A `;` alone.
-    Empty,
-}
-
-#[derive(Clone, Copy, PartialEq, Eq)]
-enum Directive {
-    Enable,
-    Requires,
-    Diagnostic,
 }
 
 /// The declarations of a module.
 pub fn read_declarations<'t>(
     alloc: Global,
-    start: Cursor<'t>,
+    text: Text<'t>,
+    grammar: &'t Grammar,
 ) -> Result<Declarations<'t>, AllocError> {
-    let mut declarations = Declarations::new(alloc);
-    let mut cursor = start;
-    while cursor.at < cursor.tokens.len() && cursor.kind() != Kind::End {
-        let before = cursor.at;
-        declarations.read_next(&mut cursor)?;
-        if cursor.at == before && !cursor.advance() {
-            break;
-        }
-    }
-    Ok(declarations)
-}
-
-/// Reads the attributes and the first word of a declaration, and the template list of a variable.
-fn read_beginning(cursor: &mut Cursor) -> Result<Beginning, Stop>
-    ensures goes_on { GoesOn cursor.old cursor.new }
-{
-    let first = *cursor;
-    skip_attributes(cursor)?;
-    let Some(beginning) = beginning_of(cursor.word()) else {
-        return Err(cursor.expected(Expected::Declaration));
+    let mut found = Declarations {
+        declarations: Vec::new(alloc),
+        faults: Vec::new(alloc),
+        extensions: Extensions::none(),
     };
-    if first.is_at(b'@') && !matches!(beginning, Beginning::Named(_)) {
-        return Err(first.stop(Cause::MisplacedAttribute));
+    let mut misread: usize = 0;
+    let mut rest: &'t [Event] = &grammar.events;
+    for _ in 0..rest.len() {
+        let Some(read) = next_declaration(text, rest) else {
+            break;
+        };
+        misread = found.read_misread(text, grammar, misread, read.named)?;
+        found.read_one(text, read)?;
+        rest = read.behind;
     }
-    cursor.advance();
-    if cursor.is_at(b'<') {
-        skip_list(cursor)?;
-    }
-    Ok(beginning)
+    found.read_misread(text, grammar, misread, text.tokens.len())?;
+    Ok(found)
 }
 
-fn beginning_of(word: &str) -> Option<Beginning> {
-    match word {
-        "alias" => Some(Beginning::Named(DeclarationKind::Alias)),
-        "struct" => Some(Beginning::Named(DeclarationKind::Struct)),
-        "const" => Some(Beginning::Named(DeclarationKind::Constant)),
-        "override" => Some(Beginning::Named(DeclarationKind::Override)),
-        "var" => Some(Beginning::Named(DeclarationKind::Variable)),
-        "fn" => Some(Beginning::Named(DeclarationKind::Function)),
-        "requires" => Some(Beginning::Directive(Directive::Requires)),
-        "enable" => Some(Beginning::Directive(Directive::Enable)),
-        "diagnostic" => Some(Beginning::Directive(Directive::Diagnostic)),
-        "const_assert" => Some(Beginning::Assertion),
-        ";" => Some(Beginning::Empty),
-        _ => None,
+/// A declaration, a directive or an assertion, and the events behind it.
+#[derive(Clone, Copy)]
+struct Read<'t> {
+    /// What is declared; None for a directive or an assertion.
+    kind: Option<DeclarationKind>,
+    attributes: &'t [Event],
+    list: &'t [Event],
+    /// How many tokens stand up to its first event behind these, with its own.
+    named: usize,
+    /// Its events from that one on.
+    events: &'t [Event],
+    behind: &'t [Event],
+}
+
+/// What the first events declare, if there are any.
+fn next_declaration<'t>(text: Text<'t>, events: &'t [Event]) -> Option<Read<'t>> {
+    let attributes = split_attributes(events);
+    let list = split_list(attributes.rest);
+    let (first, _) = split_first(list.rest)?;
+    let (kind, end) = kind_of(text, first);
+    let split = split_end(list.rest, end);
+    Some(Read {
+        kind,
+        attributes: attributes.front,
+        list: list.front,
+        named: first.at,
+        events: split.front,
+        behind: split.rest,
+    })
+}
+
+/// What a declaration declares whose first event this is, and what ends it.
+fn kind_of(text: Text, first: Event) -> (Option<DeclarationKind>, End) {
+    let word = text.token_before(first.at.saturating_sub(1)).kind;
+    match (first.mark, word) {
+        (Mark::Extension | Mark::Severity, _) => (None, End::Directive),
+        (Mark::Name, Kind::Alias) => (Some(DeclarationKind::Alias), End::Alias),
+        (Mark::Name, Kind::Struct) => (Some(DeclarationKind::Struct), End::Struct),
+        (Mark::Name, Kind::Const) => (Some(DeclarationKind::Constant), End::Constant),
+        (Mark::Name, Kind::Override) => (Some(DeclarationKind::Override), End::Override),
+        (Mark::Name, Kind::Var | Kind::CloseTemplate) => {
+            (Some(DeclarationKind::Variable), End::Variable)
+        }
+        (Mark::Name, Kind::Fn) => (Some(DeclarationKind::Function), End::Function),
+        _ => (None, End::Assertion),
     }
 }
 
-/// Skips the template list of a variable.
-fn skip_list(cursor: &mut Cursor) -> Result<(), Stop>
-    ensures goes_on { GoesOn cursor.old cursor.new }
-{
-    while !cursor.take(b'>') {
-        if cursor.is_at(b';') || cursor.kind() == Kind::End || !cursor.advance() {
-            return Err(cursor.expected(Expected::Sign(b'>')));
+impl<'t> Declarations<'t> {
+    /// Reads a declaration that the grammar reads.
+    fn read_one(&mut self, text: Text<'t>, read: Read<'t>) -> Result<(), AllocError> {
+        match (read.kind, read.events) {
+            (Some(kind), [_, rest @ .., _]) => {
+                let name = text.token_before(read.named);
+                self.declarations.push(Declaration {
+                    kind,
+                    name: text.word(name),
+                    place: name.at,
+                    named: read.named,
+                    attributes: read.attributes,
+                    list: read.list,
+                    rest,
+                    is_faulty: false,
+                })?;
+            }
+            (None, events) => {
+                if let Some(fault) = read_directive(text, &mut self.extensions, events) {
+                    self.faults.push(fault)?;
+                }
+            }
+            _ => {}
+        }
+        Ok(())
+    }
+
+    /// Notes the misread declarations from an index on that begin in front of a token. Returns the index behind them.
+    fn read_misread(
+        &mut self,
+        text: Text<'t>,
+        grammar: &Grammar,
+        from: usize,
+        before: usize,
+    ) -> Result<usize, AllocError> {
+        let mut index = from;
+        while let Some(misread) = grammar.misread.get(index) {
+            if misread.from >= before {
+                break;
+            }
+            let to = match grammar.misread.get(index.saturating_add(1)) {
+                Some(next) => next.from.min(before),
+                None => before,
+            };
+            let fault = match strange_in(text, misread.from, to) {
+                Some(fault) => fault,
+                None => fault_of(text, index, *misread),
+            };
+            self.faults.push(fault)?;
+            note_enabled(text, *misread, &mut self.extensions);
+            if let Some(declaration) = misread_declaration(text, *misread) {
+                self.declarations.push(declaration)?;
+            }
+            index = index.saturating_add(1);
+        }
+        Ok(index)
+    }
+}
+
+/// The first place from one token on, up to another, where no token begins.
+fn strange_in(text: Text, from: usize, to: usize) -> Option<Fault> {
+    for token in text.tokens.get(from..to)? {
+        if let Some(cause) = text.strange(*token) {
+            return Some(Fault {
+                at: token.at,
+                cause,
+            });
         }
     }
-    Ok(())
+    None
+}
+
+/// What is wrong with a misread declaration, which has this index.
+fn fault_of(text: Text, index: usize, misread: Misread) -> Fault {
+    let token = text.token(misread.at);
+    let cause = match token.kind {
+        Kind::Enable | Kind::Requires | Kind::Diagnostic if misread.at == misread.from => {
+            Cause::LateDirective
+        }
+        _ => Cause::Misread(index),
+    };
+    Fault {
+        at: token.at,
+        cause,
+    }
+}
+
+/// Notes the extensions that a misread directive enables, so that their types are known.
+fn note_enabled(text: Text, misread: Misread, extensions: &mut Extensions) {
+    if text.token(misread.from).kind == Kind::Enable {
+        for index in misread.from..misread.at {
+            enabled(extensions, text.word(text.token(index)));
+        }
+    }
+}
+
+/// What a misread declaration would declare, if its first word and a name behind it say so.
+fn misread_declaration<'t>(text: Text<'t>, misread: Misread) -> Option<Declaration<'t>> {
+    let first = first_word(text, misread);
+    let kind = match text.token(first).kind {
+        Kind::Alias => DeclarationKind::Alias,
+        Kind::Struct => DeclarationKind::Struct,
+        Kind::Const => DeclarationKind::Constant,
+        Kind::Override => DeclarationKind::Override,
+        Kind::Var => DeclarationKind::Variable,
+        Kind::Fn => DeclarationKind::Function,
+        _ => return None,
+    };
+    let named = behind_list(text, first.saturating_add(1), misread.at).saturating_add(1);
+    let name = text.token_before(named);
+    if name.kind != Kind::Name {
+        return None;
+    }
+    Some(Declaration {
+        kind,
+        name: text.word(name),
+        place: name.at,
+        named,
+        attributes: &[],
+        list: &[],
+        rest: &[],
+        is_faulty: true,
+    })
+}
+
+/// The index of the first word behind the attributes of a misread declaration.
+fn first_word(text: Text, misread: Misread) -> usize {
+    if text.token(misread.from).kind != Kind::At {
+        return misread.from;
+    }
+    for index in misread.from..misread.at {
+        if matches!(
+            text.token(index).kind,
+            Kind::Override | Kind::Var | Kind::Fn
+        ) {
+            return index;
+        }
+    }
+    misread.at
+}
+
+/// The index behind the template list of a misread variable that begins at an index, if one does.
+fn behind_list(text: Text, from: usize, to: usize) -> usize {
+    if text.token(from).kind != Kind::OpenTemplate {
+        return from;
+    }
+    for index in from..to {
+        if text.token(index).kind == Kind::CloseTemplate {
+            return index.saturating_add(1);
+        }
+    }
+    to
 }

@@ -1,14 +1,15 @@
 // Entry points and overrides: what a pipeline is created from.
-ghost use Rattle.wgsl_source.specs.Cursor.{GoesOn};
 ghost use Rattle.wgsl_source.specs.Members.{Grows};
 
 use crate::attribute::Owner;
-use crate::cursor::Cursor;
-use crate::expression::{Site, Value};
-use crate::fault::{Cause, Expected, Stop};
+use crate::declaration::Declaration;
+use crate::fault::{Cause, Stop};
+use crate::initialized::Initialized;
 use crate::scope::Scope;
 use crate::types::Types;
+use crate::value::Value;
 use wgsl_constants::integer::Integer;
+use wgsl_reader::read::Event;
 use wgsl_syntax::scalar::Scalar;
 
 /// The stage of a pipeline for which a function is an entry point.
@@ -65,89 +66,72 @@ pub struct Override<'t> {
 }
 
 impl<'t> Scope<'t> {
-    /// A function from its attributes on, if it is an entry point.
-    pub fn read_function(&self, cursor: &mut Cursor<'t>) -> Result<Option<EntryPoint<'t>>, Stop>
-        ensures goes_on { GoesOn cursor.old cursor.new }
-    {
-        let attributes = self.read_attributes(cursor, Owner::Function)?;
-        cursor.take_word(Expected::Declaration)?;
-        let place = cursor.index();
-        let name = cursor.name(Expected::Name)?;
+    /// The function that a declaration declares, if it is an entry point.
+    pub fn read_function(
+        &self,
+        declaration: &Declaration<'t>,
+    ) -> Result<Option<EntryPoint<'t>>, Stop> {
+        let attributes = self.read_attributes(declaration.attributes, Owner::Function)?;
         Ok(
             attributes.stage.map(|stage| EntryPoint {
-                name,
-                place,
+                name: declaration.name,
+                place: declaration.place,
                 stage,
                 workgroup_size: attributes.workgroup_size,
             }),
         )
     }
 
-    /// An override from its attributes on.
+    /// The override that a declaration declares.
     pub fn read_override(
         &self,
         types: &mut Types,
-        cursor: &mut Cursor<'t>,
+        declaration: &Declaration<'t>,
     ) -> Result<Override<'t>, Stop>
-        ensures goes_on { GoesOn cursor.old cursor.new }
-        ensures grows { Grows types.old types.new }
+        ensures { Grows types.old types.new }
     {
-        let attributes = self.read_attributes(cursor, Owner::Override)?;
-        cursor.take_word(Expected::Declaration)?;
-        let place = cursor.index();
-        let name = cursor.name(Expected::Name)?;
-        let declared = self.read_scalar(types, cursor)?;
-        let has_default = cursor.take(b'=');
-        if declared.is_none() && !has_default {
-            return Err(Stop::at(place, Cause::NoType));
-        }
-        let ty = match declared {
-            None => self.default_type(cursor)?,
-            some => some,
+        let attributes = self.read_attributes(declaration.attributes, Owner::Override)?;
+        let Initialized { ty, value, .. } = self.initialized(declaration);
+        let ty = match ty {
+            [] if value.is_empty() => return Err(Stop::at(declaration.place, Cause::NoType)),
+            [] => self.default_type(value)?,
+            _ => Some(self.read_scalar(types, ty)?),
         };
         Ok(Override {
-            name,
-            place,
+            name: declaration.name,
+            place: declaration.place,
             id: attributes.id,
             ty,
-            has_default,
+            has_default: !value.is_empty(),
         })
     }
 
-    /// Reads a `:` and a scalar type, if there is a `:`.
-    fn read_scalar(
-        &self,
-        types: &mut Types,
-        cursor: &mut Cursor<'t>,
-    ) -> Result<Option<Scalar>, Stop>
-        ensures goes_on { GoesOn cursor.old cursor.new }
-        ensures grows { Grows types.old types.new }
+    fn read_scalar(&self, types: &mut Types, noted: &[Event]) -> Result<Scalar, Stop>
+        ensures { Grows types.old types.new }
     {
-        if !cursor.take(b':') {
-            return Ok(None);
-        }
-        let at = cursor.index();
-        match self.read_type(types, cursor)?.as_scalar() {
-            None => Err(Stop::at(at, Cause::NotScalar)),
-            some => Ok(some),
+        match self.type_noted(types, noted)?.as_scalar() {
+            Some(scalar) => Ok(scalar),
+            None => Err(Stop::at(self.first_token(noted).at, Cause::NotScalar)),
         }
     }
 
-    /// The type of an override that follows from its initializer; None if that isn't read here.
-    fn default_type(&self, cursor: &mut Cursor<'t>) -> Result<Option<Scalar>, Stop>
-        ensures goes_on { GoesOn cursor.old cursor.new }
-    {
-        match self.read_value(cursor, Site::Other) {
-            Ok(Value::Integer(Integer::Abstract(_) | Integer::I32(_))) => Ok(Some(Scalar::I32)),
-            Ok(Value::Integer(Integer::U32(_))) => Ok(Some(Scalar::U32)),
-            Ok(Value::Bool(_)) => Ok(Some(Scalar::Bool)),
-            Ok(Value::Float(_)) => Ok(Some(Scalar::F32)),
-            Ok(Value::Later) => Ok(None),
-            Err(Stop::Fault(fault)) if !fault.cause.is_of_other_value() => {
-                Err(Stop::Fault(fault))
-            }
-            Err(Stop::Fault(_)) => Ok(None),
+    /// The type of an override that follows from its value; None if that isn't read here.
+    fn default_type(&self, value: &[Event]) -> Result<Option<Scalar>, Stop> {
+        match self.value_noted(value) {
+            Ok(found) => Ok(type_of_value(found.value)),
+            Err(Stop::Fault(fault)) if fault.cause.is_of_other_value() => Ok(None),
             Err(stop) => Err(stop),
         }
+    }
+}
+
+/// The type that an override has by its value.
+fn type_of_value(value: Value) -> Option<Scalar> {
+    match value {
+        Value::Integer(Integer::Abstract(_) | Integer::I32(_)) => Some(Scalar::I32),
+        Value::Integer(Integer::U32(_)) => Some(Scalar::U32),
+        Value::Bool(_) => Some(Scalar::Bool),
+        Value::Float(_) => Some(Scalar::F32),
+        Value::Later => None,
     }
 }

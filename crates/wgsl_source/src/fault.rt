@@ -6,16 +6,13 @@ use wgsl_constants::integer::IntegerError;
 /// What was expected where something else stands.
 #[derive(Clone, Copy, Debug, PartialEq, Eq)]
 pub enum Expected {
-    Declaration,
-    Name,
     Type,
-    Integer,
     AddressSpace,
     AccessMode,
     TexelFormat,
     SampledType,
     Flag,
-    Sign(u8),
+    Severity,
 }
 
 /// What a name should stand for.
@@ -38,6 +35,11 @@ pub enum ExtensionKind {
 /// What is wrong.
 #[derive(Clone, Copy, Debug, PartialEq, Eq)]
 pub enum Cause {
+    /// A declaration that can't be read by the grammar: the index of what the grammar says of it.
+    Misread(usize),
+    /// A character with which no token begins.
+    Strange,
+    OpenComment,
     Expected(Expected),
     UnknownName(Named),
     DeclaredTwice,
@@ -57,7 +59,6 @@ pub enum Cause {
     TooDeep,
     NotUtf8,
     ByteOrderMark,
-    OpenComment,
     /// An expression that has no known integer value.
     NotInteger,
     /// A value that is known only when the pipeline is created.
@@ -72,14 +73,20 @@ pub enum Cause {
     EmptyRange,
     /// A function with more or fewer arguments than it takes.
     WrongArgumentCount,
-    /// Operators that WGSL doesn't allow side by side without parentheses.
-    NoParentheses,
+    /// An attribute with more or fewer arguments than it takes.
+    AttributeArguments,
     /// An array without elements.
     NoElements,
     /// A type of half precision without `enable f16;`.
     NoHalf,
     /// A vector or a matrix without a template list.
     NoComponent,
+    /// Another type without the template list that it needs.
+    NoList,
+    /// A name that has no template list.
+    NeedlessList,
+    /// A template list with more or fewer parameters than it has.
+    WrongParameterCount,
     VectorComponent,
     MatrixComponent,
     AtomicContent,
@@ -127,25 +134,13 @@ impl Expected {
     /// The message.
     pub fn text(self) -> &'static str {
         match self {
-            Expected::Declaration => "expected a declaration",
-            Expected::Name => "expected a name",
             Expected::Type => "expected a type",
-            Expected::Integer => "expected an integer expression",
             Expected::AddressSpace => "expected an address space",
             Expected::AccessMode => "expected an access mode",
             Expected::TexelFormat => "expected a texel format",
             Expected::SampledType => "expected `f32`, `i32` or `u32`",
             Expected::Flag => "expected `vertex_return`",
-            Expected::Sign(b';') => "expected `;`",
-            Expected::Sign(b':') => "expected `:`",
-            Expected::Sign(b',') => "expected `,`",
-            Expected::Sign(b'=') => "expected `=`",
-            Expected::Sign(b'<') => "expected `<`",
-            Expected::Sign(b'>') => "expected `>`",
-            Expected::Sign(b'(') => "expected `(`",
-            Expected::Sign(b')') => "expected `)`",
-            Expected::Sign(b'{') => "expected `{`",
-            Expected::Sign(_) => "expected `}`",
+            Expected::Severity => "expected `error`, `warning`, `info` or `off`",
         }
     }
 }
@@ -153,12 +148,15 @@ impl Expected {
 impl Cause {
     /// Whether the expression that can't be read may have a value other than an integer.
     pub fn is_of_other_value(self) -> bool {
-        matches!(self, Cause::NotInteger | Cause::Expected(_))
+        matches!(self, Cause::NotInteger)
     }
 
     /// The message.
     pub fn text(self) -> &'static str {
         match self {
+            Cause::Misread(_) => "expected something else",
+            Cause::Strange => "no token of WGSL begins here",
+            Cause::OpenComment => "a comment has no end",
             Cause::Expected(expected) => expected.text(),
             Cause::UnknownName(_) => "no declaration has this name",
             Cause::DeclaredTwice => "another declaration has this name",
@@ -173,7 +171,6 @@ impl Cause {
             Cause::ContainsItself => "this declaration contains itself",
             Cause::TooDeep => "more than 255 levels",
             Cause::ByteOrderMark => "a byte order mark, which WGSL does not have",
-            Cause::OpenComment => "a comment has no end",
             Cause::NotUtf8 => "the text is not UTF-8 from here on",
             Cause::NotInteger => "this has no integer value",
             Cause::KnownLater => "an override has a value only when the pipeline is made",
@@ -183,11 +180,14 @@ impl Cause {
             Cause::NegatedUnsigned => "a u32 has no negative",
             Cause::ShiftTooFar => "a shift by 32 bits or more",
             Cause::EmptyRange => "the least value is above the greatest",
+            Cause::AttributeArguments => "this attribute takes another number of arguments",
             Cause::WrongArgumentCount => "this function takes another number of arguments",
-            Cause::NoParentheses => "this operator needs parentheses",
             Cause::NoElements => "an array has at least one element",
             Cause::NoHalf => "this type needs `enable f16;`",
             Cause::NoComponent => "this type needs its component",
+            Cause::NoList => "this type needs its template list",
+            Cause::NeedlessList => "this has no template list",
+            Cause::WrongParameterCount => "this takes another number of parameters",
             Cause::VectorComponent => "a vector's component is a scalar",
             Cause::MatrixComponent => "a matrix's component is f32 or f16",
             Cause::AtomicContent => "an atomic holds i32 or u32",

@@ -3,26 +3,28 @@
 #![tactic(auto)]
 
 mod attribute;
+mod call;
 mod check;
-mod cursor;
 mod declaration;
+mod directive;
 pub mod entry;
-mod expression;
 mod extension;
 pub mod fault;
-mod function;
-mod keyword;
+mod initialized;
+mod item;
 pub mod laws;
 mod leaf;
 mod literal;
 pub mod meant;
 pub mod measured;
 pub mod module;
+mod noted;
 mod operator;
 mod order;
+mod parts;
 mod scope;
-mod skip;
 pub mod structure;
-pub mod tokens;
+pub mod text;
 mod types;
+mod value;
 pub mod variable;

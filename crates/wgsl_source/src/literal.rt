@@ -1,37 +1,51 @@
 // Numbers, as they are written.
 
 use crate::fault::Cause;
-use wgsl_constants::integer::Integer;
-use wgsl_constants::literal::{self, LiteralError};
+use crate::value::Value;
+use wgsl_constants::literal::{LiteralError, integer_of};
 
-/// The integer that a literal stands for.
-pub fn integer_of(word: &str) -> Result<Integer, Cause> {
-    match literal::integer_of(word.as_bytes()) {
-        Ok(integer) => Ok(integer),
-        Err(LiteralError::NotInteger) => Err(Cause::NotInteger),
+/// What a number stands for. One of half precision needs `enable f16;`.
+pub fn value_of_literal(word: &str, has_half: bool) -> Result<Value, Cause> {
+    match integer_of(word.as_bytes()) {
+        Ok(integer) => Ok(Value::Integer(integer)),
         Err(LiteralError::Overflow) => Err(Cause::Overflow),
+        Err(LiteralError::NotInteger) if word.ends_with("h") && !has_half => Err(Cause::NoHalf),
+        Err(LiteralError::NotInteger) => match whole_part(word) {
+            Some(whole) => Ok(Value::Float(whole)),
+            None => Err(Cause::NotInteger),
+        },
     }
 }
 
 /// The whole part of a decimal literal of a float, as the nearest `i64`; None if the word is no such literal.
-pub fn whole_part(word: &str) -> Option<i64> {
+fn whole_part(word: &str) -> Option<i64> {
     let digits = match word.as_bytes() {
         [rest @ .., b'f' | b'h'] => rest,
         bytes => bytes,
     };
-    let (mantissa, exponent) = match digits.iter().position(|byte| matches!(byte, b'e' | b'E')) {
-        Some(at) => (
-            digits.get(..at)?,
-            exponent_of(digits.get(at.checked_add(1)?..)?)?,
-        ),
-        None => (digits, 0),
+    let (mantissa, exponent, is_negative) = match digits
+        .iter()
+        .position(|byte| matches!(byte, b'e' | b'E'))
+    {
+        Some(at) => {
+            let (exponent, is_negative) = match digits.get(at.checked_add(1)?..)? {
+                [b'-', exponent @ ..] => (exponent, true),
+                [b'+', exponent @ ..] | exponent => (exponent, false),
+            };
+            (digits.get(..at)?, exponent_of(exponent)?, is_negative)
+        }
+        None => (digits, 0, false),
     };
     let point = mantissa
         .iter()
         .position(|byte| *byte == b'.')
         .unwrap_or(mantissa.len());
     let mut value: i64 = 0;
-    let mut left = point.saturating_add(exponent);
+    let mut left = if is_negative {
+        point.saturating_sub(exponent)
+    } else {
+        point.saturating_add(exponent)
+    };
     for byte in mantissa {
         match byte {
             b'.' => {}

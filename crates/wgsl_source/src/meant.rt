@@ -35,6 +35,9 @@ vertex_index instance_index clip_distances position front_facing frag_depth samp
 local_invocation_index global_invocation_id global_invocation_index workgroup_id workgroup_index num_workgroups \
 subgroup_invocation_id subgroup_size subgroup_id num_subgroups primitive_index";
 
+/// The severities of diagnostics.
+const SEVERITIES: &str = "error warning info off";
+
 /// Whether a list has a word.
 pub fn has_word(list: &str, word: &str) -> bool {
     list.split_whitespace().any(|other| other == word)
@@ -43,6 +46,11 @@ pub fn has_word(list: &str, word: &str) -> bool {
 /// Whether WGSL has a built-in value with this name, or naga one for views.
 pub fn is_built_in_value(name: &str) -> bool {
     name == "view_index" || has_word(BUILT_IN_VALUES, name)
+}
+
+/// Whether WGSL has a severity with this name.
+pub fn is_severity(name: &str) -> bool {
+    has_word(SEVERITIES, name)
 }
 
 /// Whether WGSL has a function with this name.
@@ -76,10 +84,11 @@ pub fn meant<'t>(cause: Cause, word: &'t str, declared: &Declared<'t>) -> Option
 /// The names that may stand where a word has this fault.
 fn names_for(cause: Cause) -> &'static str {
     match cause {
-        Cause::Expected(Expected::Declaration) => DECLARATIONS,
+        Cause::Misread(_) => DECLARATIONS,
         Cause::Expected(Expected::AddressSpace) => SPACES,
         Cause::Expected(Expected::AccessMode) => ACCESS_MODES,
         Cause::Expected(Expected::TexelFormat) => TEXEL_FORMATS,
+        Cause::Expected(Expected::Severity) => SEVERITIES,
         Cause::UnknownBuiltInValue => BUILT_IN_VALUES,
         Cause::UnknownExtension(ExtensionKind::Enabled) => ENABLED,
         Cause::UnknownExtension(ExtensionKind::Required) => REQUIRED,

@@ -1,23 +1,22 @@
 // Modules: what they declare, and what is wrong with them.
 ghost use Rattle.std.specs.Prelude.{◌≡◌, IfOk, OnOk, length, ◌++◌, ◌∷◌, []};
-ghost use Rattle.wgsl_source.specs.Cursor.{GoesOn};
 ghost use Rattle.wgsl_source.specs.Structs.{AreStructsOf, IsKept, Keeps, SameStructs};
 
-use crate::attribute::Owner;
-use crate::cursor::Cursor;
 use crate::declaration::{Declaration, DeclarationKind, Declarations, read_declarations};
 use crate::entry::{EntryPoint, Override};
-use crate::expression::{Site, Value};
-use crate::fault::{Cause, Expected, Fault, Stop};
+use crate::fault::{Cause, Fault, Stop};
+use crate::initialized::Initialized;
 use crate::meant::Declared;
 use crate::measured::{MeasuredType, TypeKind};
 use crate::order::{Order, order_of};
-use crate::scope::{Meaning, Scope, declared_value, first_meaning};
+use crate::scope::{Meaning, Scope, first_meaning};
 use crate::structure::Struct;
-use crate::tokens::token::{Token, has_byte_order_mark};
+use crate::text::{Text, has_byte_order_mark};
 use crate::types::Types;
+use crate::value::{Value, declared_value};
 use crate::variable::Variable;
 use std::alloc::{AllocError, Global};
+use wgsl_reader::module::Module as Grammar;
 
 /// A module that is read.
 #[derive(Drop)]
@@ -79,7 +78,6 @@ pub struct Alias<'t> {
 /// What is read of a module so far.
 #[derive(Drop)]
 struct Reader<'t> {
-    start: Cursor<'t>,
     scope: Scope<'t>,
     types: Types,
     structs: Vec<Struct<'t>>,
@@ -93,28 +91,22 @@ struct Reader<'t> {
     left_out: Vec<&'t str>,
 }
 
-/// The module of a text with these tokens.
+/// The module of a text, by what the grammar says of its tokens.
 pub fn read_module<'t>(
     alloc: Global,
-    text: &'t str,
-    tokens: &'t [Token],
+    text: Text<'t>,
+    grammar: &'t Grammar,
 ) -> Result<Module<'t>, AllocError>
     ensures structs { IfOk result (λ m. AreStructsOf m.elements.items m.structs.items) }
 {
-    let start = Cursor::start(text, tokens);
     let Declarations {
         declarations,
         faults,
         extensions,
-        ..
-    } = read_declarations(alloc, start)?;
+    } = read_declarations(alloc, text, grammar)?;
     let mut reader = Reader {
-        start,
-        scope: Scope::new(alloc, extensions),
-        types: Types {
-            elements: Vec::new(alloc),
-            naga_only: Vec::new(alloc),
-        },
+        scope: Scope::new(alloc, text, extensions),
+        types: Types::none(alloc),
         structs: Vec::new(alloc),
         in_text: Vec::new(alloc),
         variables: Vec::new(alloc),
@@ -139,7 +131,7 @@ impl<'t> Reader<'t> {
     fn read(&mut self, declarations: &[Declaration<'t>]) -> Result<(), AllocError>
         ensures { OnOk result (Keeps self.old self.new) }
     {
-        if has_byte_order_mark(self.start.text.as_bytes()) {
+        if has_byte_order_mark(self.scope.text.text.as_bytes()) {
             self.faults.push(Fault {
                 at: 0,
                 cause: Cause::ByteOrderMark,
@@ -208,9 +200,10 @@ impl<'t> Reader<'t> {
                 DeclarationKind::Variable | DeclarationKind::Function => {}
             }
             if is_twice {
-                let at = self.start.moved_to(declaration.named).index();
-                let cause = Cause::DeclaredTwice;
-                self.faults.push(Fault { at, cause })?;
+                self.faults.push(Fault {
+                    at: declaration.place,
+                    cause: Cause::DeclaredTwice,
+                })?;
             } else {
                 self.scope.names.insert(declaration.name, index)?;
             }
@@ -238,7 +231,7 @@ impl<'t> Reader<'t> {
         ensures { OnOk result (Keeps self.old self.new) }
     {
         let alloc = self.scope.alloc;
-        let order = order_of(alloc, self.start, &self.scope.names, &*declarations)?;
+        let order = order_of(alloc, self.scope.text, &self.scope.names, &*declarations)?;
         let read = self.read_in_order(&order, declarations);
         drop(order);
         read
@@ -303,19 +296,18 @@ impl<'t> Reader<'t> {
     fn read_other(&mut self, declaration: &Declaration<'t>) -> Result<(), Stop>
         ensures { Keeps self.old self.new }
     {
-        let mut cursor = self.start.moved_to(declaration.first);
         match declaration.kind {
             DeclarationKind::Variable => {
-                if let Some(variable) = self.scope.read_variable(&mut self.types, &mut cursor)? {
+                if let Some(variable) = self.scope.read_variable(&mut self.types, declaration)? {
                     self.variables.push(variable)?;
                 }
             }
             DeclarationKind::Override => {
-                let read = self.scope.read_override(&mut self.types, &mut cursor)?;
+                let read = self.scope.read_override(&mut self.types, declaration)?;
                 self.overrides.push(read)?;
             }
             DeclarationKind::Function => {
-                if let Some(entry_point) = self.scope.read_function(&mut cursor)? {
+                if let Some(entry_point) = self.scope.read_function(declaration)? {
                     self.entry_points.push(entry_point)?;
                 }
             }
@@ -347,18 +339,12 @@ impl<'t> Reader<'t> {
         ensures kept { declaration.now.kind ≡ DeclarationKind.Struct
             → IfOk result (IsKept self.old.structs.items self.new.structs.items) }
     {
-        let mut cursor = self.start.moved_to(declaration.named);
         match declaration.kind {
-            DeclarationKind::Override => return Ok(Meaning::Value(Value::Later)),
-            DeclarationKind::Variable | DeclarationKind::Function => return Ok(Meaning::Other),
-            DeclarationKind::Alias | DeclarationKind::Struct | DeclarationKind::Constant => {}
-        }
-        let mut first = self.start.moved_to(declaration.first);
-        self.scope.read_attributes(&mut first, Owner::Other)?;
-        match declaration.kind {
-            DeclarationKind::Alias => self.read_alias(&mut cursor),
-            DeclarationKind::Struct => self.read_struct(&mut cursor),
-            _ => self.read_constant(&mut cursor),
+            DeclarationKind::Override => Ok(Meaning::Value(Value::Later)),
+            DeclarationKind::Variable | DeclarationKind::Function => Ok(Meaning::Other),
+            DeclarationKind::Alias => self.read_alias(declaration),
+            DeclarationKind::Struct => self.read_struct(declaration),
+            DeclarationKind::Constant => self.read_constant(declaration),
         }
     }
 
@@ -373,58 +359,34 @@ impl<'t> Reader<'t> {
         }
     }
 
-    fn read_alias(&mut self, cursor: &mut Cursor<'t>) -> Result<Meaning, Stop>
-        ensures goes_on { GoesOn cursor.old cursor.new }
-        ensures keeps { Keeps self.old self.new }
+    fn read_alias(&mut self, declaration: &Declaration<'t>) -> Result<Meaning, Stop>
+        ensures { Keeps self.old self.new }
     {
-        cursor.name(Expected::Name)?;
-        cursor.expect(b'=')?;
-        let ty = self.scope.read_type(&mut self.types, cursor)?;
-        cursor.expect(b';')?;
+        let ty = self.scope.type_noted(&mut self.types, declaration.rest)?;
         Ok(Meaning::Type(ty))
     }
 
-    fn read_struct(&mut self, cursor: &mut Cursor<'t>) -> Result<Meaning, Stop>
-        ensures goes_on { GoesOn cursor.old cursor.new }
+    fn read_struct(&mut self, declaration: &Declaration<'t>) -> Result<Meaning, Stop>
         ensures keeps { Keeps self.old self.new }
         ensures kept { IfOk result (IsKept self.old.structs.items self.new.structs.items) }
     {
-        let structure = self.scope.read_struct(&mut self.types, cursor)?;
+        let structure = self.scope.read_struct(&mut self.types, declaration)?;
         let ty = structure.measured(self.structs.len());
         self.structs.push(structure)?;
         Ok(Meaning::Type(ty))
     }
 
     /// Reads a constant. If its value is neither an integer nor a `bool` that is evaluated here, it is `Other`.
-    fn read_constant(&mut self, cursor: &mut Cursor<'t>) -> Result<Meaning, Stop>
-        ensures goes_on { GoesOn cursor.old cursor.new }
-        ensures keeps { Keeps self.old self.new }
+    fn read_constant(&mut self, declaration: &Declaration<'t>) -> Result<Meaning, Stop>
+        ensures { Keeps self.old self.new }
     {
-        cursor.name(Expected::Name)?;
-        let mut declared = None;
-        if cursor.take(b':') {
-            let ty = self.scope.read_type(&mut self.types, cursor)?;
-            match ty.as_scalar() {
-                None => return Ok(Meaning::Other),
-                some => declared = some,
+        let Initialized { ty, value, .. } = self.scope.typed(declaration);
+        match ty {
+            [] => self.scope.constant(value, None),
+            _ => {
+                let ty = self.scope.type_noted(&mut self.types, ty)?;
+                self.scope.typed_constant(value, ty.as_scalar())
             }
-        }
-        cursor.expect(b'=')?;
-        let at = cursor.index();
-        let value = match self.scope.read_value(cursor, Site::Other) {
-            Ok(value) => value,
-            Err(Stop::Fault(fault)) if fault.cause.is_of_other_value() => {
-                return Ok(Meaning::Other);
-            }
-            Err(stop) => return Err(stop),
-        };
-        match (value, cursor.is_at(b';')) {
-            (Value::Later, _) => Err(Stop::at(at, Cause::KnownLater)),
-            (_, false) => Ok(Meaning::Other),
-            (_, true) => match declared_value(value, declared) {
-                Ok(meaning) => Ok(meaning),
-                Err(cause) => Err(Stop::at(at, cause)),
-            },
         }
     }
 }

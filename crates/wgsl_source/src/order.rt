@@ -1,13 +1,13 @@
 // The order in which declarations are read: each after those that it names.
-ghost use Rattle.wgsl_source.specs.Cursor.{GoesOn};
 
-use crate::cursor::Cursor;
 use crate::declaration::{Declaration, DeclarationKind};
 use crate::fault::{Cause, Fault};
-use crate::skip::skip_group;
-use crate::tokens::token::Kind;
+use crate::text::Text;
 use std::alloc::{AllocError, Global};
 use std::collections::BTreeMap;
+use wgsl_reader::kind::Kind;
+use wgsl_reader::mark::Mark;
+use wgsl_reader::read::Event;
 
 /// Whether a declaration has its place in the order.
 #[derive(Clone, Copy, PartialEq, Eq)]
@@ -18,7 +18,7 @@ enum State {
     Ordered,
 }
 
-/// A declaration that is being ordered, and the token from which on its names are still unvisited.
+/// A declaration that is being ordered, and the event from which on its names are still unvisited.
 #[derive(Clone, Copy)]
 struct Visit {
     index: usize,
@@ -43,7 +43,7 @@ pub struct Circular {
 /// The state of the depth-first search that orders the declarations of a module.
 #[derive(Drop)]
 struct Sorter<'a, 't> {
-    start: Cursor<'t>,
+    text: Text<'t>,
     names: &'a BTreeMap<&'t str, usize>,
     declarations: &'a [Declaration<'t>],
     states: Vec<State>,
@@ -54,12 +54,12 @@ struct Sorter<'a, 't> {
 /// The order in which the declarations of a module are read.
 pub fn order_of<'a, 't>(
     alloc: Global,
-    start: Cursor<'t>,
+    text: Text<'t>,
     names: &'a BTreeMap<&'t str, usize>,
     declarations: &'a [Declaration<'t>],
 ) -> Result<Order, AllocError> {
     let mut sorter = Sorter {
-        start,
+        text,
         names,
         declarations,
         states: vec![in alloc; State::Unseen; declarations.len()]?,
@@ -90,15 +90,9 @@ impl<'a, 't> Sorter<'a, 't> {
 
     /// Begins to order a declaration, unless that was done.
     fn visit(&mut self, index: usize) -> Result<(), AllocError> {
-        if let (State::Unseen, Some(declaration)) = (
-            self.state(index),
-            self.declarations.get(index),
-        ) {
+        if self.state(index) == State::Unseen {
             self.set(index, State::Open);
-            self.open.push(Visit {
-                index,
-                at: declaration.named.saturating_add(1),
-            })?;
+            self.open.push(Visit { index, at: 0 })?;
         }
         Ok(())
     }
@@ -119,27 +113,26 @@ impl<'a, 't> Sorter<'a, 't> {
         let Some(declaration) = self.declarations.get(visit.index) else {
             return Ok(());
         };
-        let mut cursor = self.start.moved_to(visit.at);
-        let Some(use_at) = next_use(&mut cursor, *declaration, self.names) else {
+        let Some(next) = next_use(self.text, declaration, visit.at, self.names) else {
             self.set(visit.index, State::Ordered);
             self.order.sorted.push(visit.index)?;
             return Ok(());
         };
         self.open.push(Visit {
             index: visit.index,
-            at: cursor.at,
+            at: next.behind,
         })?;
-        if self.state(use_at.index) == State::Open {
+        if self.state(next.index) == State::Open {
             self.order.circular.push(Circular {
                 index: visit.index,
                 fault: Fault {
-                    at: use_at.place,
+                    at: next.place,
                     cause: Cause::ContainsItself,
                 },
             })?;
             return Ok(());
         }
-        self.visit(use_at.index)
+        self.visit(next.index)
     }
 }
 
@@ -150,51 +143,50 @@ struct Use {
     index: usize,
     /// Where the name stands in the text.
     place: usize,
+    /// The index of the event behind the name.
+    behind: usize,
 }
 
-/// The next name of another declaration in a declaration.
+/// The first name of another declaration in the events of a declaration from an index on.
 fn next_use<'t>(
-    cursor: &mut Cursor<'t>,
-    declaration: Declaration<'t>,
+    text: Text<'t>,
+    declaration: &Declaration<'t>,
+    from: usize,
     names: &BTreeMap<&'t str, usize>,
-) -> Option<Use>
-    ensures goes_on { GoesOn cursor.old cursor.new }
-{
+) -> Option<Use> {
     if matches!(
         declaration.kind,
         DeclarationKind::Function | DeclarationKind::Variable | DeclarationKind::Override
     ) {
         return None;
     }
-    while cursor.at < declaration.end {
-        let place = cursor.index();
-        let word = cursor.word();
-        let may_be_use = cursor.kind() == Kind::Name && !cursor.is_behind(b':');
-        if cursor.take(b'@') {
-            skip_attribute(cursor);
-        } else if cursor.take(b'.') {
-            cursor.advance();
-        } else if !cursor.advance() {
-            break;
-        } else if may_be_use {
-            if let Some(index) = names.get(&word) {
-                return Some(Use {
-                    index: *index,
-                    place,
-                });
+    let mut is_skipped = false;
+    for (index, event) in declaration.rest.get(from..)?.iter().enumerate() {
+        match event.mark {
+            Mark::AttributeName => {
+                let word = text.word(text.token_before(event.at));
+                is_skipped = !matches!(word, "size" | "align");
             }
+            Mark::Attribute => is_skipped = false,
+            Mark::Name if !is_skipped => {
+                if let Some(found) = used(text, *event, names) {
+                    return Some(Use {
+                        index: found,
+                        place: text.token_before(event.at).at,
+                        behind: from.saturating_add(index).saturating_add(1),
+                    });
+                }
+            }
+            _ => {}
         }
     }
     None
 }
 
-/// Skips an attribute after its `@`, up to where names of declarations may follow.
-fn skip_attribute(cursor: &mut Cursor)
-    ensures goes_on { GoesOn cursor.old cursor.new }
-{
-    let is_read = matches!(cursor.word(), "size" | "align");
-    cursor.advance();
-    if !is_read {
-        let _ = skip_group(cursor);
+/// The declaration that is named, if it isn't the name of a member.
+fn used<'t>(text: Text<'t>, name: Event, names: &BTreeMap<&'t str, usize>) -> Option<usize> {
+    if text.token(name.at).kind == Kind::Colon {
+        return None;
     }
+    names.get(&text.word(text.token_before(name.at))).copied()
 }

@@ -1,13 +1,10 @@
 // What the names of a module stand for.
 
-use crate::expression::Value;
-use crate::fault::Cause;
 use crate::measured::MeasuredType;
+use crate::text::Text;
+use crate::value::Value;
 use std::alloc::Global;
 use std::collections::BTreeMap;
-use wgsl_constants::integer::Integer;
-use wgsl_constants::operator::{to_i32, to_u32};
-use wgsl_syntax::scalar::Scalar;
 
 /// What a declaration stands for, or that it isn't read yet.
 #[derive(Clone, Copy)]
@@ -51,6 +48,7 @@ impl Extensions {
 #[derive(Drop)]
 pub struct Scope<'t> {
     pub alloc: Global,
+    pub text: Text<'t>,
     /// The index of the declaration with a name.
     pub names: BTreeMap<&'t str, usize>,
     pub meanings: Vec<Meaning>,
@@ -59,9 +57,10 @@ pub struct Scope<'t> {
 
 impl<'t> Scope<'t> {
     /// A scope without declarations.
-    pub fn new(alloc: Global, extensions: Extensions) -> Scope<'t> {
+    pub fn new(alloc: Global, text: Text<'t>, extensions: Extensions) -> Scope<'t> {
         Scope {
             alloc,
+            text,
             names: BTreeMap::new(alloc),
             meanings: Vec::new(alloc),
             extensions,
@@ -82,22 +81,4 @@ pub fn first_meaning(is_faulty: bool) -> Meaning {
     } else {
         Meaning::Unread
     }
-}
-
-/// The meaning of a constant with this value, converted to its declared type if it has one.
-pub fn declared_value(value: Value, declared: Option<Scalar>) -> Result<Meaning, Cause> {
-    let value = match (declared, value) {
-        (None, _) | (Some(Scalar::Bool), Value::Bool(_)) => value,
-        (Some(Scalar::I32), Value::Integer(Integer::Abstract(number))) => {
-            Value::Integer(Integer::I32(to_i32(number)?))
-        }
-        (Some(Scalar::U32), Value::Integer(Integer::Abstract(number))) => {
-            Value::Integer(Integer::U32(to_u32(number)?))
-        }
-        (Some(Scalar::I32), Value::Integer(Integer::I32(_)))
-        | (Some(Scalar::U32), Value::Integer(Integer::U32(_))) => value,
-        (Some(Scalar::I32 | Scalar::U32), Value::Integer(_)) => return Err(Cause::MixedIntegers),
-        _ => return Ok(Meaning::Other),
-    };
-    Ok(Meaning::Value(value))
 }

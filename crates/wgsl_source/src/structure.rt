@@ -1,19 +1,21 @@
 // Structs, read and laid out.
 ghost use Rattle.std.specs.Prelude.{◌≡◌, ◌++◌, ◌↔◌, IfOk, IsSome, IsTrue, None, OnOk, [], ◌∷◌};
-ghost use Rattle.wgsl_source.specs.Cursor.{GoesOn, OnFault, Takes};
+ghost use Rattle.wgsl_source.specs.Faults.{OnFault};
 ghost use Rattle.wgsl_source.specs.Layout.{HasNoLayout, IsLaidOut};
 ghost use Rattle.wgsl_source.specs.Members.{AreMeasured, AreSameMembers, EndsRuntimeSized, Grows, IsDraft, IsMeasuredMember, IsRuntimeSizedArray, IsTypeOf, members_of};
 
 use crate::attribute::Owner;
 use crate::check::member_fault;
-use crate::cursor::Cursor;
-use crate::fault::{Cause, Expected, Stop};
+use crate::declaration::Declaration;
+use crate::fault::{Cause, Stop};
 use crate::measured::{MeasuredType, TypeKind};
+use crate::parts::{split_attributes, split_member, type_of_member};
 use crate::scope::Scope;
 use crate::types::Types;
 use std::alloc::Global;
 use std::collections::BTreeMap;
 use wgsl_core::layout::placing::Placing;
+use wgsl_reader::read::Event;
 
 /// A struct with its layout in bytes.
 #[derive(Drop)]
@@ -152,24 +154,20 @@ impl<'t> Draft<'t> {
 }
 
 impl<'t> Scope<'t> {
-    /// Reads a struct from its name on, which comes next.
+    /// The struct that a declaration declares.
     pub fn read_struct(
         &self,
         types: &mut Types,
-        cursor: &mut Cursor<'t>,
+        declaration: &Declaration<'t>,
     ) -> Result<Struct<'t>, Stop>
-        ensures goes_on { GoesOn cursor.old cursor.new }
         ensures grows { Grows types.old types.new }
         ensures layout { IfOk result (λ s. IsLaidOut s.members.items s.size s.align) }
         ensures measured { IfOk result (λ s. AreMeasured types.new.elements.items s.members.items) }
         ensures runtime_sized { IfOk result (λ s. IsTrue s.is_runtime_sized ↔ EndsRuntimeSized s.members.items) }
     {
-        let place = cursor.index();
-        let name = cursor.name(Expected::Name)?;
-        cursor.expect(b'{')?;
         let mut draft = Draft::new(self.alloc);
-        let layout = match self.read_members(types, cursor, &mut draft) {
-            Ok(()) => laid_out(self.alloc, place, &draft.members),
+        let layout = match self.read_members(types, declaration.rest, &mut draft) {
+            Ok(()) => laid_out(self.alloc, declaration.place, &draft.members),
             Err(stop) => Err(stop),
         };
         let is_runtime_sized = draft.runtime_sized.is_some();
@@ -180,8 +178,8 @@ impl<'t> Scope<'t> {
             align,
         } = layout?;
         Ok(Struct {
-            name,
-            place,
+            name: declaration.name,
+            place: declaration.place,
             members,
             size,
             align,
@@ -192,38 +190,35 @@ impl<'t> Scope<'t> {
     fn read_members(
         &self,
         types: &mut Types,
-        cursor: &mut Cursor<'t>,
+        events: &'t [Event],
         draft: &mut Draft<'t>,
     ) -> Result<(), Stop>
-        ensures goes_on { GoesOn cursor.old cursor.new }
         ensures grows { Grows types.old types.new }
         ensures draft { IsDraft types.old.elements.items draft.old
             → OnOk result (IsDraft types.new.elements.items draft.new) }
     {
-        while !cursor.take(b'}') {
+        let mut rest = events;
+        while let Some(split) = split_member(rest) {
             if let Some(at) = draft.runtime_sized {
                 return Err(Stop::at(at, Cause::RuntimeSized));
             }
-            draft.add(self.read_member(types, cursor)?)?;
-            if !cursor.take(b',') && !cursor.is_at(b'}') {
-                return Err(cursor.expected(Expected::Sign(b',')));
-            }
+            draft.add(self.read_member(types, split.front)?)?;
+            rest = split.rest;
         }
         Ok(())
     }
 
-    fn read_member(&self, types: &mut Types, cursor: &mut Cursor<'t>) -> Result<Written<'t>, Stop>
-        ensures goes_on { GoesOn cursor.old cursor.new }
-        ensures one { OnOk result (Takes cursor.old cursor.new) }
+    /// Reads a member, which is these events.
+    fn read_member(&self, types: &mut Types, events: &[Event]) -> Result<Written<'t>, Stop>
         ensures grows { Grows types.old types.new }
         ensures measured { IfOk result (λ w. IsMeasuredMember types.new.elements.items w.member) }
     {
-        let attributes = self.read_attributes(cursor, Owner::Member)?;
-        let place = cursor.index();
-        let name = cursor.name(Expected::Name)?;
-        cursor.expect(b':')?;
-        let at = cursor.index();
-        let ty = self.read_type(types, cursor)?;
+        let split = split_attributes(events);
+        let attributes = self.read_attributes(split.front, Owner::Member)?;
+        let name = self.first_token(split.rest);
+        let noted = type_of_member(split.rest);
+        let at = self.first_token(noted).at;
+        let ty = self.type_noted(types, noted)?;
         if let Some(cause) = member_fault(&ty, attributes.size) {
             return Err(Stop::at(at, cause));
         }
@@ -233,8 +228,8 @@ impl<'t> Scope<'t> {
             return Err(Stop::at(at, Cause::NotPlain));
         };
         let member = Member {
-            name,
-            place,
+            name: self.text.word(name),
+            place: name.at,
             ty,
             size_attribute: attributes.size,
             align_attribute: attributes.align,

@@ -1,19 +1,24 @@
 // Types, as a module writes them.
 ghost use Rattle.std.specs.Prelude.{◌≡◌, IfOk, Some, slice_get};
 ghost use Rattle.wgsl_rules.specs.layout.Layout.{IsExactly};
-ghost use Rattle.wgsl_source.specs.Cursor.{GoesOn};
 ghost use Rattle.wgsl_source.specs.Measures.{IsArrayAmong};
 ghost use Rattle.wgsl_source.specs.Members.{Grows, IsLeastSize};
 
 use crate::check::element_fault;
-use crate::cursor::Cursor;
-use crate::expression::{LEVELS, Site, Value};
-use crate::fault::{Cause, Expected, Fault, Stop};
-use crate::leaf::{open_layer, space_named};
+use crate::fault::{Cause, Expected, Fault, Named, Stop};
+use crate::item::{Content, Item};
+use crate::leaf::space_named;
 use crate::measured::{Count, MeasuredType, TypeKind};
 use crate::scope::{Meaning, Scope};
-use wgsl_spelling::predeclared::{LayerName, PredeclaredType};
+use crate::value::Value;
+use std::alloc::Global;
+use wgsl_spelling::predeclared::{LayerName, PredeclaredType, predeclared};
 use wgsl_syntax::address::AddressSpace;
+use wgsl_syntax::scalar::Scalar;
+use wgsl_syntax::texture_name::TextureParameters;
+
+/// The greatest nesting depth of types.
+const LEVELS: u32 = 255;
 
 /// What is kept of the types that are read.
 #[derive(Drop)]
@@ -25,6 +30,14 @@ pub struct Types {
 }
 
 impl Types {
+    /// No types.
+    pub fn none(alloc: Global) -> Types {
+        Types {
+            elements: Vec::new(alloc),
+            naga_only: Vec::new(alloc),
+        }
+    }
+
     /// The size of a type, or of one element if it is a runtime-sized array.
     pub fn least_size(&self, ty: &MeasuredType) -> Option<u32>
         ensures { IsExactly result (IsLeastSize self.now.elements.items ty.now) }
@@ -54,210 +67,266 @@ impl Types {
 }
 
 impl<'t> Scope<'t> {
-    /// The type that comes next.
-    pub fn read_type(
-        &self,
-        types: &mut Types,
-        cursor: &mut Cursor<'t>,
-    ) -> Result<MeasuredType, Stop>
-        ensures goes_on { GoesOn cursor.old cursor.new }
-        ensures grows { Grows types.old types.new }
+    /// The type that an item stands for.
+    pub fn type_of(&self, types: &mut Types, item: Item) -> Result<MeasuredType, Stop>
+        ensures { Grows types.old types.new }
     {
-        self.read_levels(types, cursor, LEVELS)
+        match item.content {
+            Content::Type(ty) => Ok(ty),
+            Content::Name => match self.meaning(self.text.word(item.token)) {
+                Some(meaning) => declared_type(meaning, item),
+                None => {
+                    let named = self.predeclared_type(types, item)?;
+                    leaf(item, named)
+                }
+            },
+            Content::Bitcast(_) | Content::Function => {
+                Err(item.stop(Cause::UnknownName(Named::Type)))
+            }
+            Content::Value(_) | Content::Sign(_) => {
+                Err(item.stop(Cause::Expected(Expected::Type)))
+            }
+        }
     }
 
-    /// Reads the type that comes next, nested at most `depth` deep.
-    #[cycle(reading)]
-    fn read_levels(
+    /// What a predeclared name of a type stands for. A module has no name for some types that spellings have.
+    fn predeclared_type(&self, types: &mut Types, name: Item) -> Result<PredeclaredType, Stop>
+        ensures { Grows types.old types.new }
+    {
+        match predeclared(self.text.word(name.token)) {
+            None
+            | Some(
+                PredeclaredType::Scalar(Scalar::AbstractInt | Scalar::AbstractFloat)
+                | PredeclaredType::Layer(LayerName::Reference),
+            ) => Err(name.stop(Cause::UnknownName(Named::Type))),
+            Some(named) => {
+                if named.is_half() && !self.extensions.half {
+                    return Err(name.stop(Cause::NoHalf));
+                }
+                if named.is_naga_only() && !self.extensions.naga {
+                    types.note(name.token.at)?;
+                }
+                Ok(named)
+            }
+        }
+    }
+
+    /// What a name with a template list stands for.
+    pub fn listed(
         &self,
         types: &mut Types,
-        cursor: &mut Cursor<'t>,
-        depth: u32,
-    ) -> Result<MeasuredType, Stop>
-        ensures goes_on { GoesOn cursor.old cursor.new }
-        ensures grows { Grows types.old types.new }
+        name: Item,
+        parameters: &[Item],
+    ) -> Result<Content, Stop>
+        ensures { Grows types.old types.new }
     {
-        let at = cursor.index();
-        let name = cursor.take_word(Expected::Type)?;
-        if let Some(meaning) = self.meaning(name) {
-            return declared_type(meaning, at, depth);
+        let word = self.text.word(name.token);
+        match self.meaning(word) {
+            Some(Meaning::Faulty | Meaning::Unread) => Err(Stop::Elsewhere),
+            Some(_) => Err(name.stop(Cause::NeedlessList)),
+            None if word == "bitcast" => self.bitcast(types, parameters),
+            None if predeclared(word).is_none() => Ok(Content::Function),
+            None => {
+                let named = self.predeclared_type(types, name)?;
+                let ty = self.type_listed(types, name, named, parameters)?;
+                if ty.levels > LEVELS {
+                    Err(name.stop(Cause::TooDeep))
+                } else {
+                    Ok(Content::Type(ty))
+                }
+            }
         }
-        let named = match self.predeclared_type(name) {
-            Ok(named) => named,
-            Err(cause) => return Err(Stop::at(at, cause)),
+    }
+
+    fn bitcast(&self, types: &mut Types, parameters: &[Item]) -> Result<Content, Stop>
+        ensures { Grows types.old types.new }
+    {
+        match parameters {
+            [of] => {
+                let ty = self.type_of(types, *of)?;
+                Ok(Content::Bitcast(ty.as_scalar()))
+            }
+            _ => Ok(Content::Function),
+        }
+    }
+
+    /// The type of a predeclared name and the parameters in its template list.
+    fn type_listed(
+        &self,
+        types: &mut Types,
+        name: Item,
+        named: PredeclaredType,
+        parameters: &[Item],
+    ) -> Result<MeasuredType, Stop>
+        ensures { Grows types.old types.new }
+    {
+        let kind = match named {
+            PredeclaredType::Layer(layer) => {
+                return self.layered(types, name, layer, parameters);
+            }
+            PredeclaredType::Texture(texture) => {
+                TypeKind::Texture(self.texture(name, texture, parameters)?)
+            }
+            PredeclaredType::RayQuery => TypeKind::RayQuery(Some(self.flag(name, parameters)?)),
+            PredeclaredType::AccelerationStructure => {
+                TypeKind::AccelerationStructure(Some(self.flag(name, parameters)?))
+            }
+            _ => return Err(name.stop(Cause::NeedlessList)),
         };
-        if named.is_naga_only() && !self.extensions.naga {
-            types.note(at)?;
-        }
-        match named {
-            PredeclaredType::Layer(layer) => self.read_layer(types, cursor, layer, at, depth),
-            _ => self.read_leaf(cursor, named),
-        }
+        Ok(MeasuredType::resource(kind))
     }
 
-    /// Reads a type whose template list has another type. Its name is at this index of the text.
-    #[cycle(reading)]
-    fn read_layer(
+    /// A type around another.
+    fn layered(
         &self,
         types: &mut Types,
-        cursor: &mut Cursor<'t>,
+        name: Item,
         layer: LayerName,
-        at: usize,
-        depth: u32,
+        parameters: &[Item],
     ) -> Result<MeasuredType, Stop>
-        ensures goes_on { GoesOn cursor.old cursor.new }
-        ensures grows { Grows types.old types.new }
+        ensures { Grows types.old types.new }
     {
-        let Some(inner) = depth.checked_sub(1) else {
-            return Err(cursor.stop(Cause::TooDeep));
-        };
-        open_layer(cursor, layer, at)?;
-        let space = self.read_pointed(types, cursor, layer)?;
-        let inside = self.read_levels(types, cursor, inner)?;
-        let formed = self.read_formed(types, cursor, layer, space, inside)?;
-        cursor.take(b',');
-        cursor.expect(b'>')?;
-        match formed {
+        match self.formed(types, name, layer, parameters)? {
             Ok(ty) => Ok(ty),
-            Err(cause) => Err(Stop::at(at, cause)),
+            Err(cause) => Err(name.stop(cause)),
         }
     }
 
-    /// Reads what follows the inner type in the template list.
-    fn read_formed(
+    /// A type around another, or why there is none.
+    fn formed(
         &self,
         types: &mut Types,
-        cursor: &mut Cursor<'t>,
+        name: Item,
         layer: LayerName,
-        space: AddressSpace,
-        inside: MeasuredType,
+        parameters: &[Item],
     ) -> Result<Result<MeasuredType, Cause>, Stop>
-        ensures goes_on { GoesOn cursor.old cursor.new }
-        ensures grows { Grows types.old types.new }
+        ensures { Grows types.old types.new }
     {
-        match layer {
-            LayerName::Array => self.read_array(types, cursor, inside),
-            LayerName::BindingArray => self.read_binding_array(types, cursor, inside),
-            LayerName::Pointer => self.read_pointer(types, cursor, space, inside),
-            _ => Ok(scalars(layer, &inside)),
+        match (layer, parameters) {
+            (LayerName::Array, [of, rest @ ..]) => {
+                let element = self.type_of(types, *of)?;
+                array(types, element, self.count(name, rest)?)
+            }
+            (LayerName::BindingArray, [of, rest @ ..]) => {
+                let element = self.type_of(types, *of)?;
+                binding_array(types, element, self.count(name, rest)?)
+            }
+            (LayerName::Pointer, [space, of, rest @ ..]) => {
+                self.pointer(types, *space, *of, rest, name)
+            }
+            (LayerName::Vec(_) | LayerName::Mat(_, _) | LayerName::Atomic, [of]) => {
+                let inside = self.type_of(types, *of)?;
+                Ok(scalars(layer, &inside))
+            }
+            _ => Ok(Err(Cause::WrongParameterCount)),
         }
     }
 
-    /// Reads an array after its element type.
-    fn read_array(
+    /// A pointer. Its access mode may follow the type to which it points.
+    fn pointer(
         &self,
         types: &mut Types,
-        cursor: &mut Cursor<'t>,
-        element: MeasuredType,
+        space: Item,
+        of: Item,
+        rest: &[Item],
+        name: Item,
     ) -> Result<Result<MeasuredType, Cause>, Stop>
-        ensures goes_on { GoesOn cursor.old cursor.new }
-        ensures grows { Grows types.old types.new }
-        ensures array { IfOk result (λ r. IfOk r (IsArrayAmong types.new.elements.items element)) }
+        ensures { Grows types.old types.new }
     {
-        let count = self.read_count(cursor)?;
-        if let Some(cause) = element_fault(&element) {
-            return Ok(Err(cause));
-        }
-        let index = types.keep(element)?;
-        let array = element.array(index, count);
-        match (count, array.size) {
-            (Count::Known(_), None) => Ok(Err(Cause::TooLarge)),
-            _ => Ok(Ok(array)),
-        }
-    }
-
-    /// Reads a binding array after its element type.
-    fn read_binding_array(
-        &self,
-        types: &mut Types,
-        cursor: &mut Cursor<'t>,
-        element: MeasuredType,
-    ) -> Result<Result<MeasuredType, Cause>, Stop>
-        ensures goes_on { GoesOn cursor.old cursor.new }
-        ensures grows { Grows types.old types.new }
-    {
-        let count = self.read_count(cursor)?;
-        let index = types.keep(element)?;
-        Ok(Ok(element.around(TypeKind::BindingArray(index, count), None, None)))
-    }
-
-    /// Reads a pointer after the type to which it points.
-    fn read_pointer(
-        &self,
-        types: &mut Types,
-        cursor: &mut Cursor<'t>,
-        space: AddressSpace,
-        inside: MeasuredType,
-    ) -> Result<Result<MeasuredType, Cause>, Stop>
-        ensures goes_on { GoesOn cursor.old cursor.new }
-        ensures grows { Grows types.old types.new }
-    {
-        let access = self.read_memory_access(cursor, space)?;
+        let space = self.space(types, space)?;
+        let inside = self.type_of(types, of)?;
+        let access = self.memory_access(space, rest, name)?;
         let index = types.keep(inside)?;
         Ok(Ok(inside.around(TypeKind::Pointer(space, index, access), None, None)))
     }
 
-    /// Reads the number of elements of an array, if there is one.
-    fn read_count(&self, cursor: &mut Cursor<'t>) -> Result<Count, Stop>
-        ensures goes_on { GoesOn cursor.old cursor.new }
-    {
-        if !cursor.take(b',') || cursor.is_at(b'>') {
-            return Ok(Count::Runtime);
-        }
-        let at = cursor.index();
-        match count_of(self.read_value(cursor, Site::Template)?) {
+    /// The number of elements behind their type, if there is one.
+    fn count(&self, name: Item, rest: &[Item]) -> Result<Count, Stop> {
+        let item = match rest {
+            [] => return Ok(Count::Runtime),
+            [item] => *item,
+            _ => return Err(name.stop(Cause::WrongParameterCount)),
+        };
+        match count_of(self.value_of(item)?) {
             Ok(count) => Ok(count),
-            Err(cause) => Err(Stop::at(at, cause)),
+            Err(cause) => Err(item.stop(cause)),
         }
-    }
-
-    /// Reads the address space of a pointer, and the `,` after it.
-    fn read_pointed(
-        &self,
-        types: &mut Types,
-        cursor: &mut Cursor<'t>,
-        layer: LayerName,
-    ) -> Result<AddressSpace, Stop>
-        ensures goes_on { GoesOn cursor.old cursor.new }
-        ensures grows { Grows types.old types.new }
-    {
-        if layer != LayerName::Pointer {
-            return Ok(AddressSpace::Function);
-        }
-        let space = self.read_space(types, cursor)?;
-        cursor.expect(b',')?;
-        Ok(space)
     }
 
     /// An address space.
-    pub fn read_space(
-        &self,
-        types: &mut Types,
-        cursor: &mut Cursor<'t>,
-    ) -> Result<AddressSpace, Stop>
-        ensures goes_on { GoesOn cursor.old cursor.new }
-        ensures grows { Grows types.old types.new }
+    pub fn space(&self, types: &mut Types, item: Item) -> Result<AddressSpace, Stop>
+        ensures { Grows types.old types.new }
     {
-        let at = cursor.index();
-        let name = self.take_enumerant(cursor, Expected::AddressSpace)?;
+        let name = self.enumerant(item, Expected::AddressSpace)?;
         if name == "push_constant" && !self.extensions.naga {
-            types.note(at)?;
+            types.note(item.token.at)?;
         }
         match space_named(name) {
             Some(space) => Ok(space),
-            None => Err(Stop::at(at, Cause::Expected(Expected::AddressSpace))),
+            None => Err(item.stop(Cause::Expected(Expected::AddressSpace))),
         }
     }
 }
 
-/// The type that a declaration stands for, named at an index of the text.
-fn declared_type(meaning: Meaning, at: usize, depth: u32) -> Result<MeasuredType, Stop> {
-    match meaning {
-        Meaning::Type(ty) if ty.levels <= depth => Ok(ty),
-        Meaning::Type(_) => Err(Stop::at(at, Cause::TooDeep)),
-        Meaning::Faulty | Meaning::Unread => Err(Stop::Elsewhere),
-        _ => Err(Stop::at(at, Cause::Expected(Expected::Type))),
+/// An array of elements of this type, or why there is none.
+fn array(
+    types: &mut Types,
+    element: MeasuredType,
+    count: Count,
+) -> Result<Result<MeasuredType, Cause>, Stop>
+    ensures grows { Grows types.old types.new }
+    ensures array { IfOk result (λ r. IfOk r (IsArrayAmong types.new.elements.items element)) }
+{
+    if let Some(cause) = element_fault(&element) {
+        return Ok(Err(cause));
     }
+    let index = types.keep(element)?;
+    let array = element.array(index, count);
+    match (count, array.size) {
+        (Count::Known(_), None) => Ok(Err(Cause::TooLarge)),
+        _ => Ok(Ok(array)),
+    }
+}
+
+fn binding_array(
+    types: &mut Types,
+    element: MeasuredType,
+    count: Count,
+) -> Result<Result<MeasuredType, Cause>, Stop>
+    ensures { Grows types.old types.new }
+{
+    let index = types.keep(element)?;
+    Ok(Ok(element.around(TypeKind::BindingArray(index, count), None, None)))
+}
+
+/// The type that a declaration stands for, named by an item.
+fn declared_type(meaning: Meaning, name: Item) -> Result<MeasuredType, Stop> {
+    match meaning {
+        Meaning::Type(ty) => Ok(ty),
+        Meaning::Faulty | Meaning::Unread => Err(Stop::Elsewhere),
+        Meaning::Value(_) | Meaning::Other => Err(name.stop(Cause::Expected(Expected::Type))),
+    }
+}
+
+/// A type whose name has no template list.
+fn leaf(name: Item, named: PredeclaredType) -> Result<MeasuredType, Stop> {
+    let kind = match named {
+        PredeclaredType::Scalar(scalar) => return Ok(MeasuredType::scalar(scalar)),
+        PredeclaredType::Vec(n, scalar) => return Ok(MeasuredType::vector(n, scalar)),
+        PredeclaredType::Mat(c, r, scalar) => return Ok(MeasuredType::matrix(c, r, scalar)),
+        PredeclaredType::Sampler(sampler) => TypeKind::Sampler(sampler),
+        PredeclaredType::Texture(texture) => match texture.with(TextureParameters::None) {
+            Some(texture) => TypeKind::Texture(texture),
+            None => return Err(name.stop(Cause::NoList)),
+        },
+        PredeclaredType::RayQuery => TypeKind::RayQuery(None),
+        PredeclaredType::AccelerationStructure => TypeKind::AccelerationStructure(None),
+        PredeclaredType::Layer(LayerName::Vec(_) | LayerName::Mat(_, _)) => {
+            return Err(name.stop(Cause::NoComponent));
+        }
+        PredeclaredType::Layer(_) => return Err(name.stop(Cause::NoList)),
+    };
+    Ok(MeasuredType::resource(kind))
 }
 
 /// A vector, a matrix or an atomic of a type, or why there is none.

@@ -1,13 +1,16 @@
 // Variables of a module.
-ghost use Rattle.wgsl_source.specs.Cursor.{GoesOn};
 ghost use Rattle.wgsl_source.specs.Members.{Grows};
 
-use crate::attribute::{Attributes, Owner};
-use crate::cursor::Cursor;
+use crate::attribute::Owner;
+use crate::declaration::Declaration;
 use crate::fault::{Cause, Expected, Stop};
+use crate::initialized::Initialized;
+use crate::item::Item;
 use crate::measured::{Count, MeasuredType, TypeKind};
+use crate::parts::{split_first, without_last};
 use crate::scope::Scope;
 use crate::types::Types;
+use wgsl_reader::read::Event;
 use wgsl_syntax::address::{AccessMode, AddressSpace};
 
 /// A variable with a type.
@@ -23,43 +26,36 @@ pub struct Variable<'t> {
     pub ty: MeasuredType,
 }
 
-/// What is known of a variable when its type is read.
-#[derive(Clone, Copy)]
-struct UntypedVariable<'t> {
-    name: &'t str,
-    place: usize,
-    attributes: Attributes,
-    space: AddressSpace,
-    access: AccessMode,
-}
-
 impl<'t> Scope<'t> {
-    /// Reads a variable from its attributes on. None if its type follows from its initializer.
+    /// The variable that a declaration declares. None if its type follows from its initializer.
     pub fn read_variable(
         &self,
         types: &mut Types,
-        cursor: &mut Cursor<'t>,
+        declaration: &Declaration<'t>,
     ) -> Result<Option<Variable<'t>>, Stop>
-        ensures goes_on { GoesOn cursor.old cursor.new }
-        ensures grows { Grows types.old types.new }
+        ensures { Grows types.old types.new }
     {
-        let variable = self.read_untyped(types, cursor)?;
-        let mut ty = None;
-        if cursor.take(b':') {
-            ty = Some(self.read_stored_type(types, cursor, variable.space)?);
-        }
-        let at = cursor.index();
-        let has_value = cursor.take(b'=');
-        if has_value && variable.space != AddressSpace::Private {
-            return Err(Stop::at(at, Cause::NoInitializer));
-        }
-        if !has_value && !cursor.is_at(b';') {
-            return Err(cursor.expected(Expected::Sign(b';')));
-        }
-        match ty {
-            None if !has_value => Err(Stop::at(variable.place, Cause::NoType)),
-            None => Ok(None),
-            Some(ty) => Ok(Some(variable_of(variable, ty))),
+        let attributes = self.read_attributes(declaration.attributes, Owner::Variable)?;
+        let (space, access) = self.read_qualifiers(types, declaration)?;
+        let initialized = self.initialized(declaration);
+        match initialized.ty {
+            [] => {
+                check(declaration.place, space, initialized)?;
+                Ok(None)
+            }
+            noted => {
+                let ty = self.read_stored_type(types, noted, space)?;
+                check(declaration.place, space, initialized)?;
+                Ok(Some(Variable {
+                    name: declaration.name,
+                    place: declaration.place,
+                    group: attributes.group,
+                    binding: attributes.binding,
+                    space,
+                    access,
+                    ty,
+                }))
+            }
         }
     }
 
@@ -67,76 +63,63 @@ impl<'t> Scope<'t> {
     fn read_stored_type(
         &self,
         types: &mut Types,
-        cursor: &mut Cursor<'t>,
+        noted: &[Event],
         space: AddressSpace,
     ) -> Result<MeasuredType, Stop>
-        ensures goes_on { GoesOn cursor.old cursor.new }
-        ensures grows { Grows types.old types.new }
+        ensures { Grows types.old types.new }
     {
-        let at = cursor.index();
-        let ty = self.read_type(types, cursor)?;
+        let ty = self.type_noted(types, noted)?;
         match ty.kind {
             TypeKind::Array(_, Count::Override) if space != AddressSpace::Workgroup => {
-                Err(Stop::at(at, Cause::KnownLater))
+                Err(Stop::at(self.first_token(noted).at, Cause::KnownLater))
             }
             _ => Ok(ty),
         }
-    }
-
-    fn read_untyped(
-        &self,
-        types: &mut Types,
-        cursor: &mut Cursor<'t>,
-    ) -> Result<UntypedVariable<'t>, Stop>
-        ensures goes_on { GoesOn cursor.old cursor.new }
-        ensures grows { Grows types.old types.new }
-    {
-        let attributes = self.read_attributes(cursor, Owner::Variable)?;
-        cursor.take_word(Expected::Declaration)?;
-        let (space, access) = self.read_qualifiers(types, cursor)?;
-        let place = cursor.index();
-        let name = cursor.name(Expected::Name)?;
-        Ok(UntypedVariable {
-            name,
-            place,
-            attributes,
-            space,
-            access,
-        })
     }
 
     /// Reads the address space and the access mode of a variable. Without a template list they are those of resources.
     fn read_qualifiers(
         &self,
         types: &mut Types,
-        cursor: &mut Cursor<'t>,
+        declaration: &Declaration<'t>,
     ) -> Result<(AddressSpace, AccessMode), Stop>
-        ensures goes_on { GoesOn cursor.old cursor.new }
-        ensures grows { Grows types.old types.new }
+        ensures { Grows types.old types.new }
     {
-        if !cursor.take(b'<') {
+        let Some((_, list)) = split_first(declaration.list) else {
             return Ok((AddressSpace::Handle, AccessMode::Read));
-        }
-        let at = cursor.index();
-        let space = self.read_space(types, cursor)?;
+        };
+        let mut items = Vec::new(self.alloc);
+        self.read_all(types, &mut items, without_last(list))?;
+        self.qualifiers(types, &items)
+    }
+
+    /// The address space and the access mode that items say.
+    fn qualifiers(
+        &self,
+        types: &mut Types,
+        items: &[Item],
+    ) -> Result<(AddressSpace, AccessMode), Stop>
+        ensures { Grows types.old types.new }
+    {
+        let [first, rest @ ..] = items else {
+            return Ok((AddressSpace::Handle, AccessMode::Read));
+        };
+        let space = self.space(types, *first)?;
         if space == AddressSpace::Function {
-            return Err(Stop::at(at, Cause::Expected(Expected::AddressSpace)));
+            return Err(first.stop(Cause::Expected(Expected::AddressSpace)));
         }
-        let access = self.read_memory_access(cursor, space)?;
-        cursor.take(b',');
-        cursor.expect(b'>')?;
+        let access = self.memory_access(space, rest, *first)?;
         Ok((space, access))
     }
 }
 
-fn variable_of<'t>(variable: UntypedVariable<'t>, ty: MeasuredType) -> Variable<'t> {
-    Variable {
-        name: variable.name,
-        place: variable.place,
-        group: variable.attributes.group,
-        binding: variable.attributes.binding,
-        space: variable.space,
-        access: variable.access,
-        ty,
+/// Whether a variable, whose name stands at an index of the text, has a type or a value, and has none that it can't have.
+fn check(place: usize, space: AddressSpace, initialized: Initialized) -> Result<(), Stop> {
+    match (initialized.ty, initialized.value) {
+        ([], []) => Err(Stop::at(place, Cause::NoType)),
+        (_, [_, ..]) if space != AddressSpace::Private => {
+            Err(Stop::at(initialized.at, Cause::NoInitializer))
+        }
+        _ => Ok(()),
     }
 }

@@ -1,7 +1,8 @@
 -- What the events of a tree make of a state.
-use Rattle.std.proofs.Common.{◌≡◌, ◌+◌, ℕ, suc, false, List, ◌∷◌, Option, Some, None, decimal, length, pos, refl, ap, ◌∙◌}
+use Rattle.std.proofs.Common.{◌≡◌, ◌+◌, ℕ, suc, false, List, ◌∷◌, Option, Some, None, cond, decimal, length, pos, refl, ap, ◌∙◌}
 use Rattle.wgsl_constants.specs.Literals.{integer_of, then}
 use Rattle.wgsl_constants.specs.Values.{map_value}
+use Rattle.wgsl_constants.specs.declared.constant.Constant.TheVariants as constant
 use Rattle.wgsl_constants.specs.declared.integer.Integer.TheVariants.{Abstract}
 use Rattle.wgsl_reader.specs.declared.kind.Kind.TheVariants as k
 use Rattle.wgsl_reader.specs.declared.mark.Mark.TheVariants as m
@@ -9,7 +10,8 @@ use Rattle.wgsl_reader.specs.declared.read.Event.{Event}
 use Rattle.wgsl_reader.specs.declared.token.Token.{Token}
 use Rattle.wgsl_spelling.specs.Chains.{Chain}
 use Rattle.wgsl_spelling.specs.Items.{item}
-use Rattle.wgsl_spelling.specs.Spelled.{State, behind, step_by, state, token_before, with_item, with_listed}
+use Rattle.wgsl_spelling.specs.Spelled.{State, behind, closed_list, is_bitcast, step_by, state, token_before, with_bitcast, with_item, with_listed, with_type_list}
+use Rattle.wgsl_spelling.specs.Words.{word}
 use Rattle.wgsl_spelling.specs.Templates.{is_open, last_list, listed_in}
 use Rattle.wgsl_spelling.specs.declared.item.Item.{Item}
 use Rattle.wgsl_spelling.specs.declared.item.Value.{Value}
@@ -21,7 +23,7 @@ use Rattle.wgsl_spelling.proofs.Placed.{Located}
 use Rattle.wgsl_spelling.proofs.TokensPlaced.{Placed}
 use Rattle.wgsl_spelling.proofs.TreeEvents.{count, event, events, valued}
 use Rattle.wgsl_spelling.proofs.TreeNumbers.{integer_is}
-use Rattle.wgsl_spelling.proofs.Trees.{IsGood, Tree, digits, name, one, past, three, token, two}
+use Rattle.wgsl_spelling.proofs.Trees.{IsGood, IsName, Tree, digits, name, one, past, three, token, two}
 
 -- options
 
@@ -52,7 +54,7 @@ place (three w a b c) at = token k.Name at (length w)
 
 abbrev pub value : Tree → Value
 value (name w) = v.Name
-value (digits d) = v.Integer (Abstract (pos d))
+value (digits d) = v.Constant (constant.Integer (Abstract (pos d)))
 value (one w a) = v.Type
 value (two w a b) = v.Type
 value (three w a b c) = v.Type
@@ -104,11 +106,17 @@ three_list x y z at front items e f = rw (e, f) refl
 
 module _ (whole : List ℕ) (ts : List Token) where
   -- the end of a list
-  ends : (w : List ℕ) (at n : ℕ) (parameters : Parameters) (found items : List Item) (c : Chain) (more : List Event) → last_list found ≡ Some (list w at parameters, items)
+  ends : (w : List ℕ) (at n : ℕ) (parameters : Parameters) (found items : List Item) (c : Chain) (more : List Event)
+      → is_bitcast (word whole (token k.Name at (length w))) ≡ false → last_list found ≡ Some (list w at parameters, items)
       → behind whole ts (state found c) (event m.Template n ∷ more) ≡ then (closing whole (list w at parameters) c) (λ c. behind whole ts (state (item (token k.Name at (length w)) v.Type ∷ items) c) more)
-  ends w at n parameters found items c more is =
-      ap (λ l. then (then l (λ f. then (listed_in whole f.0) (λ x. map_value (state (item f.0.name.token v.Type ∷ f.1)) (with_listed whole x c)))) (λ next. behind whole ts next more)) is
-      ∙ then_map (listed_in whole (list w at parameters)) (λ x. with_listed whole x c) (state (item (token k.Name at (length w)) v.Type ∷ items)) (λ next. behind whole ts next more)
+  ends w at n parameters found items c more plain is =
+      let l : TemplateList × List Item = (list w at parameters, items) in
+      ap (λ o. then (then o (closed_list whole c)) (λ next. behind whole ts next more)) is
+      ∙ (ap (λ b. then (cond b (with_bitcast whole c l) (with_type_list whole c l)) (λ next. behind whole ts next more)) plain
+      ∙ then_map (listed_in whole (list w at parameters)) (λ x. with_listed whole x c) (state (item (token k.Name at (length w)) v.Type ∷ items)) (λ next. behind whole ts next more))
+
+  not_bitcast : (w : List ℕ) (at : ℕ) → IsName w → word whole (token k.Name at (length w)) ≡ w → is_bitcast (word whole (token k.Name at (length w))) ≡ false
+  not_bitcast w at good located = ap is_bitcast located ∙ good.plain
 
   -- a name and `<`
   begins : (w : List ℕ) (at n : ℕ) (s : State) (more : List Event) → token_before ts (n + 1) ≡ token k.Name at (length w) → token_before ts (n + 1 + 1) ≡ token k.OpenTemplate (at + length w) 1
@@ -131,8 +139,8 @@ module _ (whole : List ℕ) (ts : List Token) where
   evaluated (digits d) n at s more good located placed =
       let tok = token k.Number at (length (decimal d)) in
       ap (λ t. then (step_by whole t s m.Literal) (λ next. behind whole ts next more)) placed
-      ∙ (ap (λ w. then (map_value (λ i. with_item (item tok (v.Integer i)) s) (integer_of w)) (λ next. behind whole ts next more)) located
-      ∙ ap (λ o. then (map_value (λ i. with_item (item tok (v.Integer i)) s) o) (λ next. behind whole ts next more)) (integer_is d good))
+      ∙ (ap (λ w. then (map_value (λ x. with_item (item tok (v.Constant x)) s) (map_value constant.Integer (integer_of w))) (λ next. behind whole ts next more)) located
+      ∙ ap (λ o. then (map_value (λ x. with_item (item tok (v.Constant x)) s) (map_value constant.Integer o)) (λ next. behind whole ts next more)) (integer_is d good))
   evaluated (one w a) n at s more good located placed =
       let from = suc (at + length w) in
       let items = angle (at + length w) ∷ head w at ∷ s.items in
@@ -142,7 +150,7 @@ module _ (whole : List ℕ) (ts : List Token) where
       begins w at n s (events a (n + 1 + 1) behind_a) placed.0 placed.1
       ∙ (evaluated a (n + 1 + 1) from (state items s.chain) behind_a good.1 located.1 placed.2
       ∙ (then_ext (eval whole a from s.chain) (λ c. behind whole ts (state (made a from ∷ items) c) behind_a) (λ c. then (closing whole (list w at (One (made a from))) c) final)
-      (λ c. skipped a (n + 1 + 1) (state (made a from ∷ items) c) last ∙ ends w at (count (one w a) n) (One (made a from)) (made a from ∷ items) s.items c more (one_list (made a from) (at + length w) (head w at) s.items))
+      (λ c. skipped a (n + 1 + 1) (state (made a from ∷ items) c) last ∙ ends w at (count (one w a) n) (One (made a from)) (made a from ∷ items) s.items c more (not_bitcast w at good.0 located.0) (one_list (made a from) (at + length w) (head w at) s.items))
       ∙ then_then (eval whole a from s.chain) (closing whole (list w at (One (made a from)))) final))
   evaluated (two w a b) n at s more good located placed =
       let from = suc (at + length w) in
@@ -158,7 +166,7 @@ module _ (whole : List ℕ) (ts : List Token) where
       λ c. skipped a (n + 1 + 1) (state (made a from ∷ items) c) (events b n_b behind_b)
       ∙ (evaluated b n_b second (state (made a from ∷ items) c) behind_b good.2 located.2 placed.3
       ∙ (then_ext (eval whole b second c) (λ c. behind whole ts (state (made b second ∷ made a from ∷ items) c) behind_b) (λ c. then (closing whole (list w at parameters) c) final)
-      (λ c. skipped b n_b (state (made b second ∷ made a from ∷ items) c) last ∙ ends w at (count (two w a b) n) parameters (made b second ∷ made a from ∷ items) s.items c more (two_list (made b second) (made a from) (at + length w) (head w at) s.items (not_open a from)))
+      (λ c. skipped b n_b (state (made b second ∷ made a from ∷ items) c) last ∙ ends w at (count (two w a b) n) parameters (made b second ∷ made a from ∷ items) s.items c more (not_bitcast w at good.0 located.0) (two_list (made b second) (made a from) (at + length w) (head w at) s.items (not_open a from)))
       ∙ then_then (eval whole b second c) (closing whole (list w at parameters)) final)) in
       begins w at n s (events a (n + 1 + 1) behind_a) placed.0 placed.1
       ∙ (evaluated a (n + 1 + 1) from (state items s.chain) behind_a good.1 located.1 placed.2
@@ -182,7 +190,7 @@ module _ (whole : List ℕ) (ts : List Token) where
       λ c. skipped b n_b (state (made b second ∷ made a from ∷ items) c) (events d n_d behind_d)
       ∙ (evaluated d n_d third (state (made b second ∷ made a from ∷ items) c) behind_d good.3 located.3 placed.4
       ∙ (then_ext (eval whole d third c) (λ c. behind whole ts (state (made d third ∷ made b second ∷ made a from ∷ items) c) behind_d) (λ c. then (close c) final)
-      (λ c. skipped d n_d (state (made d third ∷ made b second ∷ made a from ∷ items) c) last ∙ ends w at (count (three w a b d) n) parameters (made d third ∷ made b second ∷ made a from ∷ items) s.items c more
+      (λ c. skipped d n_d (state (made d third ∷ made b second ∷ made a from ∷ items) c) last ∙ ends w at (count (three w a b d) n) parameters (made d third ∷ made b second ∷ made a from ∷ items) s.items c more (not_bitcast w at good.0 located.0)
       (three_list (made d third) (made b second) (made a from) (at + length w) (head w at) s.items (not_open b second) (not_open a from)))
       ∙ then_then (eval whole d third c) close final)) in
       let at_b : (c : Chain) → behind whole ts (state (made a from ∷ items) c) behind_a ≡ then (then (eval whole b second c) (λ c. then (eval whole d third c) close)) final =

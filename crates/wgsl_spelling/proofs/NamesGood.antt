@@ -65,95 +65,95 @@ written four_of = sym (decimal_digit 4 (omega arith))
 
 pub scalar_good : (s : Scalar) → IsName (scalar_text s)
 unfolding words
-scalar_good scalar.Bool = record { letter = refl; all = refl; kind = refl }
-scalar_good _ = record { letter = refl; all = refl; kind = refl }
+scalar_good scalar.Bool = record { letter = refl; all = refl; kind = refl; plain = refl }
+scalar_good _ = record { letter = refl; all = refl; kind = refl; plain = refl }
 
 pub sampler_good : (s : SamplerType) → IsName (sampler_text s)
 unfolding words
-sampler_good sampler.Sampler = record { letter = refl; all = refl; kind = refl }
-sampler_good _ = record { letter = refl; all = refl; kind = refl }
+sampler_good sampler.Sampler = record { letter = refl; all = refl; kind = refl; plain = refl }
+sampler_good _ = record { letter = refl; all = refl; kind = refl; plain = refl }
 
 pub sampled_good : (s : SampledType) → IsName (sampled_text s)
 unfolding words
-sampled_good sampled.I32 = record { letter = refl; all = refl; kind = refl }
-sampled_good _ = record { letter = refl; all = refl; kind = refl }
+sampled_good sampled.I32 = record { letter = refl; all = refl; kind = refl; plain = refl }
+sampled_good _ = record { letter = refl; all = refl; kind = refl; plain = refl }
 
 pub flag_good : (f : AccelerationStructureFlags) → IsName (flag_text f)
 unfolding words
-flag_good flag.VertexReturn = record { letter = refl; all = refl; kind = refl }
+flag_good flag.VertexReturn = record { letter = refl; all = refl; kind = refl; plain = refl }
 
 pub access_good : (m : AccessMode) → IsName (access_text m)
 unfolding words
-access_good access.Read = record { letter = refl; all = refl; kind = refl }
-access_good _ = record { letter = refl; all = refl; kind = refl }
+access_good access.Read = record { letter = refl; all = refl; kind = refl; plain = refl }
+access_good _ = record { letter = refl; all = refl; kind = refl; plain = refl }
 
 pub space_good : (rules : RuleSet) (s : AddressSpace) → IsName (space_text_by rules s)
 unfolding words
-space_good Standard space.PushConstant = record { letter = refl; all = refl; kind = refl }
-space_good Standard _ = record { letter = refl; all = refl; kind = refl }
-space_good Ported space.PushConstant = record { letter = refl; all = refl; kind = refl }
-space_good Ported _ = record { letter = refl; all = refl; kind = refl }
+space_good Standard space.PushConstant = record { letter = refl; all = refl; kind = refl; plain = refl }
+space_good Standard _ = record { letter = refl; all = refl; kind = refl; plain = refl }
+space_good Ported space.PushConstant = record { letter = refl; all = refl; kind = refl; plain = refl }
+space_good Ported _ = record { letter = refl; all = refl; kind = refl; plain = refl }
 
 pub texel_good : (rules : RuleSet) (f : TexelFormat) → IsName (texel_text_by rules f)
 unfolding words
-texel_good Standard texel.Rg11b10Float = record { letter = refl; all = refl; kind = refl }
-texel_good Standard _ = record { letter = refl; all = refl; kind = refl }
-texel_good Ported texel.Rg11b10Float = record { letter = refl; all = refl; kind = refl }
-texel_good Ported _ = record { letter = refl; all = refl; kind = refl }
+texel_good Standard texel.Rg11b10Float = record { letter = refl; all = refl; kind = refl; plain = refl }
+texel_good Standard _ = record { letter = refl; all = refl; kind = refl; plain = refl }
+texel_good Ported texel.Rg11b10Float = record { letter = refl; all = refl; kind = refl; plain = refl }
+texel_good Ported _ = record { letter = refl; all = refl; kind = refl; plain = refl }
 
 pub texture_good : (n : TextureName) → IsName (texture_name_text n)
 unfolding words
-texture_good texture_name.External = record { letter = refl; all = refl; kind = refl }
-texture_good _ = record { letter = refl; all = refl; kind = refl }
+texture_good texture_name.External = record { letter = refl; all = refl; kind = refl; plain = refl }
+texture_good _ = record { letter = refl; all = refl; kind = refl; plain = refl }
 
 pub array_good : IsName (codes "array")
 unfolding words
-array_good = record { letter = refl; all = refl; kind = refl }
+array_good = record { letter = refl; all = refl; kind = refl; plain = refl }
 
 pub binding_array_good : IsName (codes "binding_array")
 unfolding words
-binding_array_good = record { letter = refl; all = refl; kind = refl }
+binding_array_good = record { letter = refl; all = refl; kind = refl; plain = refl }
 
 pub atomic_good : IsName (codes "atomic")
 unfolding words
-atomic_good = record { letter = refl; all = refl; kind = refl }
+atomic_good = record { letter = refl; all = refl; kind = refl; plain = refl }
 
 pub ptr_good : IsName (codes "ptr")
 unfolding words
-ptr_good = record { letter = refl; all = refl; kind = refl }
+ptr_good = record { letter = refl; all = refl; kind = refl; plain = refl }
 
 pub ref_good : IsName (codes "ref")
 unfolding words
-ref_good = record { letter = refl; all = refl; kind = refl }
+ref_good = record { letter = refl; all = refl; kind = refl; plain = refl }
 
 pub ray_query_good : IsName (codes "ray_query")
 unfolding words
-ray_query_good = record { letter = refl; all = refl; kind = refl }
+ray_query_good = record { letter = refl; all = refl; kind = refl; plain = refl }
 
 pub acceleration_structure_good : IsName (codes "acceleration_structure")
 unfolding words
-acceleration_structure_good = record { letter = refl; all = refl; kind = refl }
+acceleration_structure_good = record { letter = refl; all = refl; kind = refl; plain = refl }
 
 vec_glyph : {n : ℕ} (s : Side n) → IsName (codes "vec" ++ glyph s)
 unfolding words
-vec_glyph two_of = record { letter = refl; all = refl; kind = refl }
-vec_glyph three_of = record { letter = refl; all = refl; kind = refl }
-vec_glyph four_of = record { letter = refl; all = refl; kind = refl }
+vec_glyph two_of = record { letter = refl; all = refl; kind = refl; plain = refl }
+vec_glyph three_of = record { letter = refl; all = refl; kind = refl; plain = refl }
+vec_glyph four_of = record { letter = refl; all = refl; kind = refl; plain = refl }
 
 pub vec_good : {n : ℕ} → Side n → IsName (codes "vec" ++ decimal n)
 vec_good s = subst (λ d. IsName (codes "vec" ++ d)) (written s) (vec_glyph s)
 
 mat_glyphs : {c r : ℕ} (a : Side c) (b : Side r) → IsName (codes "mat" ++ (glyph a ++ (codes "x" ++ glyph b)))
 unfolding words
-mat_glyphs two_of two_of = record { letter = refl; all = refl; kind = refl }
-mat_glyphs two_of three_of = record { letter = refl; all = refl; kind = refl }
-mat_glyphs two_of four_of = record { letter = refl; all = refl; kind = refl }
-mat_glyphs three_of two_of = record { letter = refl; all = refl; kind = refl }
-mat_glyphs three_of three_of = record { letter = refl; all = refl; kind = refl }
-mat_glyphs three_of four_of = record { letter = refl; all = refl; kind = refl }
-mat_glyphs four_of two_of = record { letter = refl; all = refl; kind = refl }
-mat_glyphs four_of three_of = record { letter = refl; all = refl; kind = refl }
-mat_glyphs four_of four_of = record { letter = refl; all = refl; kind = refl }
+mat_glyphs two_of two_of = record { letter = refl; all = refl; kind = refl; plain = refl }
+mat_glyphs two_of three_of = record { letter = refl; all = refl; kind = refl; plain = refl }
+mat_glyphs two_of four_of = record { letter = refl; all = refl; kind = refl; plain = refl }
+mat_glyphs three_of two_of = record { letter = refl; all = refl; kind = refl; plain = refl }
+mat_glyphs three_of three_of = record { letter = refl; all = refl; kind = refl; plain = refl }
+mat_glyphs three_of four_of = record { letter = refl; all = refl; kind = refl; plain = refl }
+mat_glyphs four_of two_of = record { letter = refl; all = refl; kind = refl; plain = refl }
+mat_glyphs four_of three_of = record { letter = refl; all = refl; kind = refl; plain = refl }
+mat_glyphs four_of four_of = record { letter = refl; all = refl; kind = refl; plain = refl }
 
 pub mat_good : {c r : ℕ} → Side c → Side r → IsName (codes "mat" ++ (decimal c ++ (codes "x" ++ decimal r)))
 mat_good {c} a b = subst (λ e. IsName (codes "mat" ++ (decimal c ++ (codes "x" ++ e)))) (written b) (subst (λ d. IsName (codes "mat" ++ (d ++ (codes "x" ++ glyph b)))) (written a) (mat_glyphs a b))

@@ -7,6 +7,7 @@ use Rattle.wgsl_reader.specs.Words.{word_of}
 use Rattle.wgsl_reader.specs.declared.kind.Kind.{Kind}
 use Rattle.wgsl_reader.specs.declared.kind.Kind.TheVariants as k
 use Rattle.wgsl_reader.specs.declared.token.Token.{Token}
+use Rattle.wgsl_spelling.specs.Spelled.{is_bitcast}
 
 pub data Tree : Type 0 where
   name : List ℕ → Tree
@@ -55,11 +56,12 @@ abbrev pub begins_letter : List ℕ → Bool
 begins_letter [] = false
 begins_letter (b ∷ bs) = nat_le 65 b
 
--- a name of ASCII that is no keyword
+-- a name of ASCII that is no keyword, and isn't `bitcast`
 pub record IsName (w : List ℕ) : Type 0 where
   pub letter : begins_letter w ≡ true
   pub all : list_all is_in_ascii_name w ≡ true
   pub kind : word_of w ≡ k.Name
+  pub plain : is_bitcast w ≡ false
 
 abbrev pub IsGood : Tree → Type 0
 IsGood (name w) = IsName w

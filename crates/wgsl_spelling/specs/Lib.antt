@@ -4,6 +4,7 @@ pub mod Predeclared
 pub mod Items
 pub mod Chains
 pub mod Values
+pub mod Calls
 pub mod Templates
 pub mod Spelled
 pub mod Seen

@@ -23,6 +23,11 @@ Gives view expected (Ok value) = expected ≡ Some (view value)
 Gives view expected (Err (Fault f)) = expected ≡ None
 Gives view expected (Err (Memory e)) = ⊤
 
+-- a fault, whatever its place and cause
+abbrev pub IsFault : Stop → Type 0
+IsFault (Fault f) = ⊤
+IsFault (Memory e) = ⊥
+
 -- the same of what is changed
 abbrev pub Becomes : {B : Type 0} → Option B → B → Result ⊤ Stop → Type 0
 Becomes expected new r = Gives (λ done. new) expected r

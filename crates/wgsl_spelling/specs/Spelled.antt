@@ -1,5 +1,6 @@
 -- The type that a text spells: what the events of the rule `Type` say, one by one.
-use Rattle.std.specs.Prelude.{◌≡◌, ℕ, ◌-◌, List, [], ◌∷◌, Option, Some, None, Ok, Err, map, slice_index_or}
+use Rattle.std.specs.Prelude.{◌≡◌, ℕ, ◌-◌, List, [], ◌∷◌, Bool, Option, Some, None, Ok, Err, codes, cond, map, slice_index_or}
+use Rattle.std.specs.Str.{bytes_eq}
 use Rattle.wgsl_reader.specs.Reading.{Outcome, ReadAt, kind_of}
 use Rattle.wgsl_reader.specs.Lists.{listed}
 use Rattle.wgsl_reader.specs.Tokens.{Tokens, tokens_of}
@@ -11,12 +12,13 @@ use Rattle.wgsl_reader.specs.declared.read.Event.{Event}
 use Rattle.wgsl_reader.specs.declared.rule.Rule.TheVariants as rules
 use Rattle.wgsl_reader.specs.declared.token.Token.{Token}
 use Rattle.wgsl_rules.specs.types.Types.{WgslType}
-use Rattle.wgsl_constants.specs.Literals.{integer_of, then}
+use Rattle.wgsl_constants.specs.Literals.{then}
 use Rattle.wgsl_constants.specs.Values.{map_value}
+use Rattle.wgsl_spelling.specs.Calls.{argued, called_item, member, opened}
 use Rattle.wgsl_spelling.specs.Chains.{Chain, begin, push, type_of, with_type}
-use Rattle.wgsl_spelling.specs.Items.{integer, item}
-use Rattle.wgsl_spelling.specs.Templates.{last_list, listed_in}
-use Rattle.wgsl_spelling.specs.Values.{binary, unary}
+use Rattle.wgsl_spelling.specs.Items.{is_value, item}
+use Rattle.wgsl_spelling.specs.Templates.{bitcast, last_list, listed_in}
+use Rattle.wgsl_spelling.specs.Values.{binary, literal, unary}
 use Rattle.wgsl_spelling.specs.Words.{word}
 use Rattle.wgsl_spelling.specs.declared.item.Item.{Item}
 use Rattle.wgsl_spelling.specs.declared.item.Value.TheVariants as v
@@ -47,9 +49,20 @@ abbrev pub with_listed : List ℕ → Listed → Chain → Option Chain
 with_listed text (listed_as.Leaf leaf) c = begin leaf c
 with_listed text (listed_as.Around layer i) c = then (with_type text i c) (push layer)
 
+abbrev pub with_type_list : List ℕ → Chain → TemplateList × List Item → Option State
+with_type_list text c found =
+    then (listed_in text found.0) (λ l. map_value (state (item found.0.name.token v.Type ∷ found.1)) (with_listed text l c))
+
+abbrev pub with_bitcast : List ℕ → Chain → TemplateList × List Item → Option State
+with_bitcast text c found =
+    map_value (λ f. state (item found.0.name.token (v.Function f) ∷ found.1) c) (bitcast text found.0.parameters)
+
+abbrev pub is_bitcast : List ℕ → Bool
+is_bitcast name = bytes_eq name (codes "bitcast")
+
 abbrev pub closed_list : List ℕ → Chain → TemplateList × List Item → Option State
 closed_list text c found =
-    then (listed_in text found.0) (λ l. map_value (state (item found.0.name.token v.Type ∷ found.1)) (with_listed text l c))
+    cond (is_bitcast (word text found.0.name.token)) (with_bitcast text c found) (with_type_list text c found)
 
 -- behind the `>` of a list
 abbrev pub closed : List ℕ → State → Option State
@@ -63,22 +76,42 @@ abbrev pub with_binary : Chain → List Item → Option State
 with_binary c (right ∷ operator ∷ left ∷ items) = map_value (λ i. state (i ∷ items) c) (binary left operator right)
 with_binary c few = None
 
--- only integers stand in brackets
+-- only what has a value stands in brackets
 abbrev pub with_brackets : Chain → List Item → Option State
-with_brackets c (inside ∷ items) = map_value (λ n. state (item inside.token (v.Integer n) ∷ items) c) (integer inside)
+with_brackets c (inside ∷ items) = cond (is_value inside.value) (Some (state (inside ∷ items) c)) None
 with_brackets c [] = None
+
+abbrev pub with_open : List ℕ → Chain → List Item → Option State
+with_open text c (callee ∷ items) = map_value (λ i. state (i ∷ items) c) (opened text callee)
+with_open text c [] = None
+
+abbrev pub with_argument : Chain → List Item → Option State
+with_argument c (last ∷ call ∷ items) = map_value (λ i. state (i ∷ items) c) (argued call last)
+with_argument c few = None
+
+abbrev pub with_call : Chain → List Item → Option State
+with_call c (call ∷ items) = map_value (λ i. state (i ∷ items) c) (called_item call)
+with_call c [] = None
+
+abbrev pub with_member : List ℕ → Chain → List Item → Option State
+with_member letter c (x ∷ items) = map_value (λ i. state (i ∷ items) c) (member letter x)
+with_member letter c [] = None
 
 -- what an event adds, behind this token
 abbrev pub step_by : List ℕ → Token → State → Mark → Option State
 step_by text t s mark.Name = Some (with_item (item t v.Name) s)
 step_by text t s mark.OpenTemplate = Some (with_item (item t (v.Sign t.kind)) s)
 step_by text t s mark.Operator = Some (with_item (item t (v.Sign t.kind)) s)
-step_by text t s mark.Literal = map_value (λ n. with_item (item t (v.Integer n)) s) (integer_of (word text t))
+step_by text t s mark.Literal = map_value (λ x. with_item (item t (v.Constant x)) s) (literal text t)
 step_by text t s mark.Template = closed text s
 step_by text t s mark.Unary = with_unary s.chain s.items
 step_by text t s mark.Binary = with_binary s.chain s.items
 step_by text t s mark.Brackets = with_brackets s.chain s.items
 step_by text t s mark.Value = Some s
+step_by text t s mark.Open = with_open text s.chain s.items
+step_by text t s mark.Argument = with_argument s.chain s.items
+step_by text t s mark.Call = with_call s.chain s.items
+step_by text t s mark.MemberOf = with_member (word text t) s.chain s.items
 step_by text t s other = None
 
 abbrev pub step : List ℕ → List Token → State → Event → Option State

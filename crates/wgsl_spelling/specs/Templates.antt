@@ -1,9 +1,10 @@
 -- What a name with a template list stands for.
-use Rattle.std.specs.Prelude.{ℕ, List, [], ◌∷◌, Bool, false, Option, Some, None, cond}
+use Rattle.std.specs.Prelude.{ℕ, List, [], ◌∷◌, Bool, false, Option, Some, None, codes, cond}
 use denote.Enum.Bare.{sameb}
 use Rattle.wgsl_reader.specs.contracts.kind.Kind.{the_type as kind_type}
 use Rattle.wgsl_reader.specs.declared.kind.Kind.TheVariants as k
 use Rattle.wgsl_syntax.specs.Address.{default_access}
+use Rattle.wgsl_syntax.specs.Names.{named}
 use Rattle.wgsl_syntax.specs.TextureName.{texture_with}
 use Rattle.wgsl_syntax.specs.declared.address.AccessMode.{AccessMode}
 use Rattle.wgsl_syntax.specs.declared.address.AddressSpace.{AddressSpace}
@@ -14,6 +15,8 @@ use Rattle.wgsl_syntax.specs.declared.texture_name.TextureName.{TextureName}
 use Rattle.wgsl_syntax.specs.declared.texture_name.TextureParameters.TheVariants as parameters
 use Rattle.wgsl_constants.specs.Literals.{then}
 use Rattle.wgsl_constants.specs.Values.{map_value}
+use Rattle.wgsl_constants.specs.declared.call.Function.{Function}
+use Rattle.wgsl_constants.specs.declared.call.Function.TheVariants as function
 use Rattle.wgsl_spelling.specs.Names.{access_named, flag_named, format_named, sampled_named, space_named}
 use Rattle.wgsl_spelling.specs.Predeclared.{predeclared}
 use Rattle.wgsl_spelling.specs.Values.{count}
@@ -99,6 +102,14 @@ texture text n (Three x y z) = None
 abbrev pub flag : List ℕ → Parameters → Option AccelerationStructureFlags
 flag text (One f) = flag_named (name text f)
 flag text other = None
+
+-- the function of `bitcast` with its list: `bitcast<u32>`
+abbrev pub bitcast_named : List ℕ → Option Function
+bitcast_named name = named ((function.BitcastU32, codes "u32") ∷ (function.BitcastI32, codes "i32") ∷ []) name
+
+abbrev pub bitcast : List ℕ → Parameters → Option Function
+bitcast text (One to) = bitcast_named (name text to)
+bitcast text other = None
 
 abbrev pub listed_by : List ℕ → PredeclaredType → Parameters → Option Listed
 listed_by text (p.Layer l) parameters = layered text l parameters

@@ -1,10 +1,15 @@
--- The values of operators in counts, and the counts themselves.
-use Rattle.std.specs.Prelude.{ℕ, pos, negsuc, Option, Some, None}
+-- The values of literals and operators in counts, and the counts themselves.
+use Rattle.std.specs.Prelude.{ℕ, pos, negsuc, List, Bool, true, false, cond, not, ◌&&◌, ◌||◌, Option, Some, None}
+use Rattle.std.specs.Ordering.{is_eq, is_ge, is_gt, is_le, is_lt, is_ne}
+use Rattle.std.specs.declared.cmp.Ordering.{Ordering}
 use Rattle.wgsl_reader.specs.declared.kind.Kind.{Kind}
 use Rattle.wgsl_reader.specs.declared.kind.Kind.TheVariants as k
-use Rattle.wgsl_constants.specs.Literals.{then}
+use Rattle.wgsl_constants.specs.Functions.{comparison, of_pair}
+use Rattle.wgsl_constants.specs.Literals.{found, integer_of, then}
 use Rattle.wgsl_constants.specs.Values.{left_shift, map_value, negative, right_shift, value}
 use Rattle.wgsl_constants.specs.Shifts.{complement_of}
+use Rattle.wgsl_constants.specs.declared.constant.Constant.{Constant}
+use Rattle.wgsl_constants.specs.declared.constant.Constant.TheVariants as c
 use Rattle.wgsl_constants.specs.declared.integer.Integer.{Integer}
 use Rattle.wgsl_constants.specs.declared.integer.Integer.TheVariants.{Abstract, I32, U32}
 use Rattle.wgsl_constants.specs.declared.integer.IntegerOperator.{IntegerOperator}
@@ -12,7 +17,11 @@ use Rattle.wgsl_constants.specs.declared.integer.IntegerOperator.TheVariants.{Ad
 use Rattle.wgsl_spelling.specs.declared.item.Item.{Item}
 use Rattle.wgsl_spelling.specs.declared.item.Value.{Value}
 use Rattle.wgsl_spelling.specs.declared.item.Value.TheVariants as v
-use Rattle.wgsl_spelling.specs.Items.{integer, item}
+use Rattle.wgsl_spelling.specs.Items.{constant, integer, item}
+use Rattle.wgsl_spelling.specs.Words.{word}
+use Rattle.wgsl_spelling.specs.declared.value.Comparison.{Comparison}
+use Rattle.wgsl_spelling.specs.declared.value.Comparison.TheVariants as test
+use Rattle.wgsl_reader.specs.declared.token.Token.{Token}
 
 -- a number of elements: 0 is one, -1 is none
 abbrev pub count_of : Integer → Option ℕ
@@ -25,10 +34,28 @@ count_of (U32 n) = Some n
 abbrev pub count : Item → Option ℕ
 count i = then (integer i) count_of
 
--- `-4`, `~4`
-abbrev pub unary_value : Value → Integer → Option Integer
-unary_value (v.Sign k.Minus) a = negative a
-unary_value (v.Sign k.Tilde) a = Some (complement_of a)
+-- Literals
+
+abbrev pub bool_of : Kind → Option Bool
+bool_of k.True = Some true
+bool_of k.False = Some false
+bool_of other = None
+
+abbrev pub literal_by : Option Bool → List ℕ → Option Constant
+literal_by (Some b) text = Some (c.Bool b)
+literal_by None text = map_value c.Integer (integer_of text)
+
+-- `4u`, `true`
+abbrev pub literal : List ℕ → Token → Option Constant
+literal text t = literal_by (bool_of t.kind) (word text t)
+
+-- Operators
+
+-- `-4`, `~4`, `!true`
+abbrev pub unary_value : Value → Constant → Option Constant
+unary_value (v.Sign k.Minus) (c.Integer a) = map_value c.Integer (negative a)
+unary_value (v.Sign k.Tilde) (c.Integer a) = Some (c.Integer (complement_of a))
+unary_value (v.Sign k.Bang) (c.Bool b) = Some (c.Bool (not b))
 unary_value other a = None
 
 abbrev pub operator_of : Kind → Option IntegerOperator
@@ -48,17 +75,57 @@ sign_value k.ShiftLeft a b = left_shift a b
 sign_value k.ShiftRight a b = right_shift a b
 sign_value kind a b = then (operator_of kind) (λ op. value op a b)
 
-abbrev pub binary_value : Value → Integer → Integer → Option Integer
-binary_value (v.Sign kind) a b = sign_value kind a b
+abbrev pub comparison_of : Kind → Option Comparison
+comparison_of k.EqualEqual = Some test.Equal
+comparison_of k.NotEqual = Some test.NotEqual
+comparison_of k.Less = Some test.Less
+comparison_of k.LessEqual = Some test.LessEqual
+comparison_of k.Greater = Some test.Greater
+comparison_of k.GreaterEqual = Some test.GreaterEqual
+comparison_of other = None
+
+abbrev pub holds : Comparison → Ordering → Bool
+holds test.Equal o = is_eq o
+holds test.NotEqual o = is_ne o
+holds test.Less o = is_lt o
+holds test.LessEqual o = is_le o
+holds test.Greater o = is_gt o
+holds test.GreaterEqual o = is_ge o
+
+abbrev pub compared : Comparison → Integer → Integer → Option Constant
+compared test a b = map_value (λ o. c.Bool (holds test o)) (found (of_pair comparison a b))
+
+-- `2 + 2`, `1 < 2`
+abbrev pub of_integers : Option Comparison → Kind → Integer → Integer → Option Constant
+of_integers (Some test) kind a b = compared test a b
+of_integers None kind a b = map_value c.Integer (sign_value kind a b)
+
+-- `true && false`
+abbrev pub of_bools : Kind → Bool → Bool → Option Bool
+of_bools k.AndAnd a b = Some (a && b)
+of_bools k.And a b = Some (a && b)
+of_bools k.OrOr a b = Some (a || b)
+of_bools k.Or a b = Some (a || b)
+of_bools k.EqualEqual a b = Some (cond a b (not b))
+of_bools k.NotEqual a b = Some (cond a (not b) b)
+of_bools other a b = None
+
+abbrev pub of_constants : Kind → Constant → Constant → Option Constant
+of_constants kind (c.Integer a) (c.Integer b) = of_integers (comparison_of kind) kind a b
+of_constants kind (c.Bool a) (c.Bool b) = map_value c.Bool (of_bools kind a b)
+of_constants kind a b = None
+
+abbrev pub binary_value : Value → Constant → Constant → Option Constant
+binary_value (v.Sign kind) a b = of_constants kind a b
 binary_value other a b = None
 
 -- the item of a value, which begins with this one
-abbrev pub valued : Item → Integer → Item
-valued first n = item first.token (v.Integer n)
+abbrev pub valued : Item → Constant → Item
+valued first x = item first.token (v.Constant x)
 
 abbrev pub unary : Item → Item → Option Item
-unary operator operand = then (integer operand) (λ a. map_value (valued operator) (unary_value operator.value a))
+unary operator operand = then (constant operand) (λ a. map_value (valued operator) (unary_value operator.value a))
 
 abbrev pub binary : Item → Item → Item → Option Item
 binary left operator right =
-    then (integer left) (λ a. then (integer right) (λ b. map_value (valued left) (binary_value operator.value a b)))
+    then (constant left) (λ a. then (constant right) (λ b. map_value (valued left) (binary_value operator.value a b)))

@@ -3,6 +3,7 @@ ghost use Rattle.std.specs.Prelude.{◌≡◌};
 ghost use Rattle.wgsl_spelling.specs.declared.fault.Stop.TheVariants.{Fault as of_fault};
 
 use std::alloc::{AllocError, AllocFailed};
+use wgsl_constants::call::CallError;
 use wgsl_constants::integer::IntegerError;
 
 /// What was expected where something else stands.
@@ -42,12 +43,20 @@ pub enum Cause {
     NegativeCount,
     /// An expression that isn't evaluated here, or isn't an integer.
     NotInteger,
+    /// A name of no function that is evaluated here.
+    UnknownFunction,
+    /// A function with more or fewer arguments than it takes.
+    WrongArgumentCount,
+    /// A component that a vector doesn't have, or more than one.
+    NoComponent,
     Overflow,
     DivisionByZero,
     /// An `i32` and a `u32`.
     MixedIntegers,
     NegatedUnsigned,
     ShiftTooFar,
+    /// A `clamp` whose lower bound is above its upper bound.
+    EmptyRange,
 }
 
 impl From<IntegerError> for Cause {
@@ -58,7 +67,17 @@ impl From<IntegerError> for Cause {
             IntegerError::MixedTypes => Cause::MixedIntegers,
             IntegerError::NegatedUnsigned => Cause::NegatedUnsigned,
             IntegerError::ShiftTooFar => Cause::ShiftTooFar,
-            IntegerError::EmptyRange => Cause::NotInteger,
+            IntegerError::EmptyRange => Cause::EmptyRange,
+        }
+    }
+}
+
+impl From<CallError> for Cause {
+    fn from(error: CallError) -> Cause {
+        match error {
+            CallError::Integer(error) => Cause::from(error),
+            CallError::NotInteger => Cause::NotInteger,
+            CallError::WrongArgumentCount => Cause::WrongArgumentCount,
         }
     }
 }
@@ -94,11 +113,15 @@ impl Cause {
             Cause::TooDeep => "more than 255 levels",
             Cause::NegativeCount => "an array has no negative number of elements",
             Cause::NotInteger => "this has no integer value",
+            Cause::UnknownFunction => "no function that is evaluated here has this name",
+            Cause::WrongArgumentCount => "this function takes another number of arguments",
+            Cause::NoComponent => "this vector has no such component",
             Cause::Overflow => "an integer overflows",
             Cause::DivisionByZero => "a division by 0",
             Cause::MixedIntegers => "an i32 and a u32 do not mix",
             Cause::NegatedUnsigned => "a u32 has no negative",
             Cause::ShiftTooFar => "a shift by 32 bits or more",
+            Cause::EmptyRange => "the least value is above the greatest",
         }
     }
 }

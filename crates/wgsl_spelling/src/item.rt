@@ -1,6 +1,8 @@
 // What is read of a type and isn't yet part of a larger one.
 
-use wgsl_constants::integer::Integer;
+use wgsl_constants::call::{Arguments, Function};
+use wgsl_constants::constant::Constant;
+use wgsl_constants::vector::{Size, Vector};
 use wgsl_reader::kind::Kind;
 use wgsl_reader::token::Token;
 
@@ -18,7 +20,20 @@ pub enum Value {
     Name,
     /// The type that is read so far.
     Type,
-    Integer(Integer),
+    Constant(Constant),
+    Vector(Vector),
+    /// A call, with the arguments that are read so far.
+    Call(Callee, Arguments),
+    /// `bitcast` with its list.
+    Function(Function),
     /// An operator, or the `<` of a template list.
     Sign(Kind),
+}
+
+/// What is called.
+#[derive(Clone, Copy)]
+pub enum Callee {
+    /// The constructor of a vector.
+    Vector(Size),
+    Function(Function),
 }

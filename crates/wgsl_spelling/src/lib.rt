@@ -10,9 +10,12 @@
 //!   formats, and its names `push_constant` and `rg11b10float`;
 //! - any type inside a vector, a matrix, an array and so on: `vec3<sampler>`. Requests ask about such types.
 //!
-//! What of WGSL isn't read: names that a module declares, structs, and calls in counts.
+//! What of WGSL isn't read: names that a module declares, structs, and in counts floats, and calls other than those of `u32`,
+//! `i32`, `bitcast`, `abs`, `sign`, `min`, `max`, `clamp`, `select`, `countOneBits`, `firstLeadingBit`, and of `vec2`, `vec3` and
+//! `vec4` for a component of integers.
 #![tactic(auto)]
 
+mod call;
 mod chain;
 pub mod fault;
 mod item;

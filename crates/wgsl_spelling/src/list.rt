@@ -2,7 +2,7 @@
 ghost use Rattle.std.specs.Prelude.{◌≡◌, MatchOption, None, Some, reverse};
 ghost use Rattle.wgsl_spelling.specs.Names.{access_named, format_named, sampled_named, space_named};
 ghost use Rattle.wgsl_spelling.specs.Seen.{Gives};
-ghost use Rattle.wgsl_spelling.specs.Templates.{flag, is_open, last_list, layered, listed_in, memory, name, texture};
+ghost use Rattle.wgsl_spelling.specs.Templates.{bitcast, bitcast_named, flag, is_open, last_list, layered, listed_in, memory, name, texture};
 
 use crate::chain::Leaf;
 use crate::fault::{Cause, Expected, Stop, stop_at};
@@ -11,6 +11,7 @@ use crate::predeclared::{LayerName, PredeclaredType, predeclared};
 use crate::value::count;
 use crate::word::word;
 use std::str::FromStr;
+use wgsl_constants::call::Function;
 use wgsl_reader::kind::Kind;
 use wgsl_syntax::address::{AccessMode, AddressSpace};
 use wgsl_syntax::around::Around;
@@ -166,6 +167,29 @@ fn texture(text: &str, name: TextureName, list: TemplateList) -> Result<TextureT
     match name.with(parameters) {
         Some(texture) => Ok(texture),
         None => Err(stop_at(list.name.token.at, Cause::WrongParameterCount)),
+    }
+}
+
+/// The function of `bitcast` with a list.
+pub fn bitcast(text: &str, list: TemplateList) -> Result<Function, Stop>
+    ensures { Gives (λ f. f) (bitcast text.now list.parameters) result }
+{
+    let Parameters::One(to) = list.parameters else {
+        return Err(stop_at(list.name.token.at, Cause::WrongParameterCount));
+    };
+    match bitcast_named(name(text, to)) {
+        Some(function) => Ok(function),
+        None => Err(stop_at(list.name.token.at, Cause::NotInteger)),
+    }
+}
+
+fn bitcast_named(name: &str) -> Option<Function>
+    ensures { result ≡ bitcast_named name.now }
+{
+    match name {
+        "u32" => Some(Function::BitcastU32),
+        "i32" => Some(Function::BitcastI32),
+        _ => None,
     }
 }
 

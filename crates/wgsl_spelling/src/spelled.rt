@@ -1,21 +1,19 @@
 // The type that a text spells.
 ghost use Rattle.std.specs.Prelude.{◌≡◌, IfOk, Some};
 ghost use Rattle.wgsl_core.specs.View.{view};
-ghost use Rattle.wgsl_constants.specs.Literals.{integer_of as integer_in};
 ghost use Rattle.wgsl_spelling.specs.Seen.{Becomes, Gives, Takes, chain_of, state_of, type_found};
-ghost use Rattle.wgsl_spelling.specs.Spelled.{Spells, TokensSpell, closed, end, no_token, step, token_before, type_of_events, with_binary, with_brackets, with_item, with_listed, with_unary};
+ghost use Rattle.wgsl_spelling.specs.Spelled.{Spells, TokensSpell, closed, end, no_token, step, token_before, type_of_events, with_argument, with_binary, with_brackets, with_call, with_item, with_listed, with_member, with_open, with_unary};
 ghost use Rattle.wgsl_spelling.specs.Items.{item};
 ghost use Rattle.wgsl_spelling.specs.Words.{word};
 
+use crate::call::{argued, called, member, opened};
 use crate::chain::Chain;
 use crate::fault::{Cause, Expected, Fault, Stop, stop_at};
 use crate::item::{Item, Value};
-use crate::list::{Listed, meaning_of, pop_list};
-use crate::value::{binary, integer, unary};
+use crate::list::{Listed, bitcast, meaning_of, pop_list};
+use crate::value::{binary, in_brackets, literal, unary};
 use crate::word::word;
 use std::alloc::{AllocError, Global};
-use wgsl_constants::integer::Integer;
-use wgsl_constants::literal::{LiteralError, integer_of};
 use wgsl_core::ty::Type;
 use wgsl_reader::kind::Kind;
 use wgsl_reader::lists::tokens_of;
@@ -90,12 +88,16 @@ impl Reading {
         match event.mark {
             Mark::Name => self.push(token, Value::Name),
             Mark::OpenTemplate | Mark::Operator => self.push(token, Value::Sign(token.kind)),
-            Mark::Literal => self.push(token, Value::Integer(literal(text, token)?)),
+            Mark::Literal => self.push(token, Value::Constant(literal(text, token)?)),
             Mark::Template => self.close(text, token),
             Mark::Unary => self.unary(token),
             Mark::Binary => self.binary(token),
             Mark::Brackets => self.brackets(token),
             Mark::Value => Ok(()),
+            Mark::Open => self.open(text, token),
+            Mark::Argument => self.argument(token),
+            Mark::Call => self.call(token),
+            Mark::MemberOf => self.member(text, token),
             _ => Err(stop_at(token.at, Cause::NotInteger)),
         }
     }
@@ -126,6 +128,10 @@ impl Reading {
             return Err(stop_at(token.at, Cause::WrongParameterCount));
         };
         let name = list.name.token;
+        if word(text, name) == "bitcast" {
+            let function = bitcast(text, list)?;
+            return self.push(name, Value::Function(function));
+        }
         add(&mut self.chain, text, meaning_of(text, list)?, name)?;
         self.push(name, Value::Type)
     }
@@ -151,13 +157,50 @@ impl Reading {
         self.push(found.token, found.value)
     }
 
-    /// Leaves what stands in brackets, which is an integer.
+    /// Leaves what stands in brackets, which has a value.
     fn brackets(&mut self, token: Token) -> Result<(), Stop>
         ensures { Becomes (with_brackets (state_of self.old).chain (state_of self.old).items) (state_of self.new) result }
     {
         let inside = self.pop(token)?;
-        let value = Value::Integer(integer(inside)?);
-        self.push(inside.token, value)
+        let found = in_brackets(inside)?;
+        self.push(found.token, found.value)
+    }
+
+    /// Begins a call.
+    fn open(&mut self, text: &str, token: Token) -> Result<(), Stop>
+        ensures { Becomes (with_open text.now (state_of self.old).chain (state_of self.old).items) (state_of self.new) result }
+    {
+        let callee = self.pop(token)?;
+        let found = opened(text, callee)?;
+        self.push(found.token, found.value)
+    }
+
+    /// Adds an argument to a call.
+    fn argument(&mut self, token: Token) -> Result<(), Stop>
+        ensures { Becomes (with_argument (state_of self.old).chain (state_of self.old).items) (state_of self.new) result }
+    {
+        let last = self.pop(token)?;
+        let call = self.pop(token)?;
+        let found = argued(call, last)?;
+        self.push(found.token, found.value)
+    }
+
+    /// Ends a call.
+    fn call(&mut self, token: Token) -> Result<(), Stop>
+        ensures { Becomes (with_call (state_of self.old).chain (state_of self.old).items) (state_of self.new) result }
+    {
+        let call = self.pop(token)?;
+        let found = called(call)?;
+        self.push(found.token, found.value)
+    }
+
+    /// Takes the component that is named by the token.
+    fn member(&mut self, text: &str, token: Token) -> Result<(), Stop>
+        ensures { Becomes (with_member (word text.now token) (state_of self.old).chain (state_of self.old).items) (state_of self.new) result }
+    {
+        let vector = self.pop(token)?;
+        let found = member(word(text, token), vector)?;
+        self.push(found.token, found.value)
     }
 
     /// The type of the only item.
@@ -232,16 +275,5 @@ fn untokenized(text: &[u8], at: usize) -> Cause {
     match text.get(at..) {
         Some([b'/', b'*', ..]) => Cause::OpenComment,
         _ => Cause::Strange,
-    }
-}
-
-/// The integer of a literal.
-fn literal(text: &str, token: Token) -> Result<Integer, Stop>
-    ensures { Gives (λ n. n) (integer_in (word text.now token)) result }
-{
-    match integer_of(word(text, token).as_bytes()) {
-        Ok(integer) => Ok(integer),
-        Err(LiteralError::NotInteger) => Err(stop_at(token.at, Cause::NotInteger)),
-        Err(LiteralError::Overflow) => Err(stop_at(token.at, Cause::Overflow)),
     }
 }

@@ -1,5 +1,5 @@
-use Rattle.std.proofs.Common.{◌≡◌, ◌↔◌, IfOk, IsSome, IsTrue, Bool, Ok, Err, sym, subst, ◌∙◌}
-use Rattle.wgsl_source.specs.Members.{AreMeasured, AreSameMembers, EndsRuntimeSized, members_of}
+use Rattle.std.proofs.Common.{◌↔◌, IfOk, IsSome, IsTrue, Bool, sym, subst, ◌∙◌}
+use Rattle.wgsl_source.specs.Members.{AreSameMembers, EndsRuntimeSized, members_of}
 use Rattle.wgsl_source.proofs.Members.{all_read, none_read}
 use Rattle.wgsl_source.proofs.scope.Scope.read_struct.Goals as goal
 use Rattle.wgsl_source.proofs.scope.Scope.read_struct.Goals.{in-Ok, in-Err}

@@ -1,0 +1,113 @@
+-- The values of calls: which function has which value for its arguments (WGSL, "Value Constructor Built-in Functions", "bitcast",
+-- "Logical Built-in Functions", "Numeric Built-in Functions").
+use Rattle.std.specs.Prelude.{ℕ, ◌-◌, ◌^◌, ℤ, pos, negsuc, List, [], ◌∷◌, Bool, cond, Option, Some, None, Result, Ok, Err, codes, int_lt}
+use Rattle.std.specs.Result.{result_unwrap_or}
+use Rattle.std.specs.Int.{w32, cast_signed, cast_unsigned}
+use Rattle.wgsl_syntax.specs.Names.{named}
+use Rattle.wgsl_constants.specs.declared.integer.Integer.{Integer}
+use Rattle.wgsl_constants.specs.declared.integer.Integer.TheVariants.{Abstract, I32, U32}
+use Rattle.wgsl_constants.specs.declared.integer.IntegerError.{IntegerError}
+use Rattle.wgsl_constants.specs.declared.constant.Constant.{Constant}
+use Rattle.wgsl_constants.specs.declared.constant.Constant.TheVariants as c
+use Rattle.wgsl_constants.specs.declared.call.Arguments.{Arguments}
+use Rattle.wgsl_constants.specs.declared.call.Arguments.TheVariants.{Zero, One, Two, Three, Four}
+use Rattle.wgsl_constants.specs.declared.call.CallError.{CallError}
+use Rattle.wgsl_constants.specs.declared.call.CallError.TheVariants as error
+use Rattle.wgsl_constants.specs.declared.call.Function.{Function}
+use Rattle.wgsl_constants.specs.declared.call.Function.TheVariants as f
+use Rattle.wgsl_constants.specs.Answers.{map_ok, then_ok}
+use Rattle.wgsl_constants.specs.Conversions.{i32_of, u32_of}
+use Rattle.wgsl_constants.specs.Functions.{absolute, bit_count, bits_of, clamped, greatest, leading_bit, least, of_pair, selected, sign}
+
+-- the functions by their names; `bitcast` has its type in a list behind its name
+abbrev pub function_names : List (Function × List ℕ)
+function_names =
+    (f.U32, codes "u32") ∷ (f.I32, codes "i32") ∷ (f.Abs, codes "abs") ∷ (f.Sign, codes "sign") ∷ (f.Min, codes "min") ∷
+    (f.Max, codes "max") ∷ (f.Clamp, codes "clamp") ∷ (f.Select, codes "select") ∷ (f.CountOneBits, codes "countOneBits") ∷
+    (f.FirstLeadingBit, codes "firstLeadingBit") ∷ []
+
+-- the function with this name
+abbrev pub function_named : List ℕ → Option Function
+function_named name = named function_names name
+
+-- one argument more, of at most four
+abbrev pub with_argument : Constant → Arguments → Option Arguments
+with_argument x Zero = Some (One x)
+with_argument x (One a) = Some (Two a x)
+with_argument x (Two a b) = Some (Three a b x)
+with_argument x (Three a b c) = Some (Four a b c x)
+with_argument x (Four a b c d) = None
+
+-- the error of a function on integers
+abbrev pub by_integers : {A : Type 0} → Result A IntegerError → Result A CallError
+by_integers (Ok value) = Ok value
+by_integers (Err e) = Err (error.Integer e)
+
+abbrev pub integer : Constant → Result Integer CallError
+integer (c.Integer n) = Ok n
+integer (c.Bool b) = Err error.NotInteger
+integer (c.Float n) = Err error.NotInteger
+
+abbrev pub test : Constant → Result Bool CallError
+test (c.Integer n) = Err error.NotInteger
+test (c.Bool b) = Ok b
+test (c.Float n) = Err error.NotInteger
+
+-- `u32(x)`, `i32(x)`: the bits of an integer, 0 or 1, or the value that is nearest to a float
+abbrev pub to_u32 : Constant → Result ℕ CallError
+to_u32 (c.Integer (Abstract n)) = by_integers (u32_of n)
+to_u32 (c.Integer (I32 n)) = Ok (cast_unsigned w32 n)
+to_u32 (c.Integer (U32 n)) = Ok n
+to_u32 (c.Bool b) = Ok (cond b 1 0)
+to_u32 (c.Float n) = Ok (result_unwrap_or (u32_of n) (cond (int_lt n (pos 0)) 0 (2 ^ 32 - 1)))
+
+abbrev pub to_i32 : Constant → Result ℤ CallError
+to_i32 (c.Integer (Abstract n)) = by_integers (i32_of n)
+to_i32 (c.Integer (I32 n)) = Ok n
+to_i32 (c.Integer (U32 n)) = Ok (cast_signed w32 n)
+to_i32 (c.Bool b) = Ok (cond b (pos 1) (pos 0))
+to_i32 (c.Float n) = Ok (result_unwrap_or (i32_of n) (cond (int_lt n (pos 0)) (negsuc (2 ^ 31 - 1)) (pos (2 ^ 31 - 1))))
+
+-- what a function on one integer, or on two, makes of constants
+abbrev pub of_integer : {A : Type 0} → (Integer → Result A IntegerError) → Constant → Result A CallError
+of_integer value a = then_ok (integer a) (λ a. by_integers (value a))
+
+abbrev pub of_integers : {A : Type 0} → (Integer → Integer → Result A IntegerError) → Constant → Constant → Result A CallError
+of_integers value a b = then_ok (integer a) (λ a. of_integer (value a) b)
+
+-- The table: without arguments, and of one, two and three
+
+abbrev pub of_none : Function → Result Integer CallError
+of_none f.U32 = Ok (U32 0)
+of_none f.I32 = Ok (I32 (pos 0))
+of_none other = Err error.WrongArgumentCount
+
+abbrev pub of_one : Function → Constant → Result Integer CallError
+of_one f.U32 a = map_ok U32 (to_u32 a)
+of_one f.I32 a = map_ok I32 (to_i32 a)
+of_one f.BitcastU32 a = map_ok U32 (of_integer bits_of a)
+of_one f.BitcastI32 a = map_ok (λ n. I32 (cast_signed w32 n)) (of_integer bits_of a)
+of_one f.Abs a = of_integer absolute a
+of_one f.Sign a = of_integer sign a
+of_one f.CountOneBits a = of_integer bit_count a
+of_one f.FirstLeadingBit a = of_integer leading_bit a
+of_one other a = Err error.WrongArgumentCount
+
+abbrev pub of_two : Function → Constant → Constant → Result Integer CallError
+of_two f.Min a b = of_integers (of_pair least) a b
+of_two f.Max a b = of_integers (of_pair greatest) a b
+of_two other a b = Err error.WrongArgumentCount
+
+-- `clamp(a, low, high)`, `select(a, b, test)`
+abbrev pub of_three : Function → Constant → Constant → Constant → Result Integer CallError
+of_three f.Clamp a b c = then_ok (integer a) (λ a. of_integers (clamped a) b c)
+of_three f.Select a b c = then_ok (integer a) (λ a. then_ok (integer b) (λ b. then_ok (test c) (λ t. by_integers (of_pair (selected t) a b))))
+of_three other a b c = Err error.WrongArgumentCount
+
+-- the value of a call
+abbrev pub called : Function → Arguments → Result Integer CallError
+called f Zero = of_none f
+called f (One a) = of_one f a
+called f (Two a b) = of_two f a b
+called f (Three a b c) = of_three f a b c
+called f (Four a b c d) = Err error.WrongArgumentCount

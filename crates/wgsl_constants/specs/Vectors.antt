@@ -1,0 +1,84 @@
+-- Vectors of integers, and their components (WGSL, "Value Constructor Built-in Functions", "Vector Access Expression").
+use Rattle.std.specs.Prelude.{ℕ, pos, List, [], ◌∷◌, false, Option, Some, None, Result, Ok, Err, codes}
+use Rattle.wgsl_syntax.specs.Names.{named}
+use Rattle.wgsl_constants.specs.declared.integer.Integer.{Integer}
+use Rattle.wgsl_constants.specs.declared.integer.Integer.TheVariants.{Abstract}
+use Rattle.wgsl_constants.specs.declared.integer.IntegerError.{IntegerError}
+use Rattle.wgsl_constants.specs.declared.call.Arguments.{Arguments}
+use Rattle.wgsl_constants.specs.declared.call.Arguments.TheVariants.{Zero, One, Two, Three, Four}
+use Rattle.wgsl_constants.specs.declared.call.CallError.{CallError}
+use Rattle.wgsl_constants.specs.declared.call.CallError.TheVariants as error
+use Rattle.wgsl_constants.specs.declared.vector.Component.{Component}
+use Rattle.wgsl_constants.specs.declared.vector.Component.TheVariants.{First, Second, Third, Fourth}
+use Rattle.wgsl_constants.specs.declared.vector.Size.{Size}
+use Rattle.wgsl_constants.specs.declared.vector.Size.TheVariants as size
+use Rattle.wgsl_constants.specs.declared.vector.Vector.{Vector}
+use Rattle.wgsl_constants.specs.declared.vector.Vector.TheVariants as v
+use Rattle.wgsl_constants.specs.Answers.{map_ok, then_ok}
+use Rattle.wgsl_constants.specs.Calls.{integer, of_integers}
+use Rattle.wgsl_constants.specs.Functions.{of_pair, selected}
+
+-- `vec2` to `vec4`
+abbrev pub size_names : List (Size × List ℕ)
+size_names = (size.Two, codes "vec2") ∷ (size.Three, codes "vec3") ∷ (size.Four, codes "vec4") ∷ []
+
+abbrev pub size_named : List ℕ → Option Size
+size_named name = named size_names name
+
+-- a component has two names: `x` and `r` are the first
+abbrev pub component_names : List (Component × List ℕ)
+component_names =
+    (First, codes "x") ∷ (First, codes "r") ∷ (Second, codes "y") ∷ (Second, codes "g") ∷
+    (Third, codes "z") ∷ (Third, codes "b") ∷ (Fourth, codes "w") ∷ (Fourth, codes "a") ∷ []
+
+abbrev pub component_named : List ℕ → Option Component
+component_named name = named component_names name
+
+-- the first integer, in the type of both
+abbrev pub alike : Integer → Integer → Result Integer IntegerError
+alike a b = of_pair (selected false) a b
+
+-- integers in the type of all: each is an AbstractInt, or has the type of the others
+abbrev pub two : Integer → Integer → Result Vector IntegerError
+two a b = then_ok (alike a b) (λ x. map_ok (v.Two x) (alike b a))
+
+abbrev pub three_like : Integer → Integer → Integer → Integer → Result Vector IntegerError
+three_like a b c t = then_ok (alike a t) (λ x. then_ok (alike b t) (λ y. map_ok (v.Three x y) (alike c t)))
+
+abbrev pub three : Integer → Integer → Integer → Result Vector IntegerError
+three a b c = then_ok (alike a b) (λ t. then_ok (alike t c) (three_like a b c))
+
+abbrev pub four_like : Integer → Integer → Integer → Integer → Integer → Result Vector IntegerError
+four_like a b c d t =
+    then_ok (alike a t) (λ x. then_ok (alike b t) (λ y. then_ok (alike c t) (λ z. map_ok (v.Four x y z) (alike d t))))
+
+abbrev pub four : Integer → Integer → Integer → Integer → Result Vector IntegerError
+four a b c d = then_ok (alike a b) (λ t. then_ok (alike t c) (λ t. then_ok (alike t d) (four_like a b c d)))
+
+-- one integer for all components
+abbrev pub same : Size → Integer → Vector
+same size.Two n = v.Two n n
+same size.Three n = v.Three n n n
+same size.Four n = v.Four n n n n
+
+-- `vec2()`, `vec3(4)`, `vec2(4, 1)`
+abbrev pub vector_of : Size → Arguments → Result Vector CallError
+vector_of s Zero = Ok (same s (Abstract (pos 0)))
+vector_of s (One a) = map_ok (same s) (integer a)
+vector_of size.Two (Two a b) = of_integers two a b
+vector_of size.Three (Three a b c) = then_ok (integer a) (λ a. of_integers (three a) b c)
+vector_of size.Four (Four a b c d) = then_ok (integer a) (λ a. then_ok (integer b) (λ b. of_integers (four a b) c d))
+vector_of s arguments = Err error.WrongArgumentCount
+
+-- the component of a vector, if it has so many
+abbrev pub component : Component → Vector → Option Integer
+component First (v.Two x y) = Some x
+component First (v.Three x y z) = Some x
+component First (v.Four x y z w) = Some x
+component Second (v.Two x y) = Some y
+component Second (v.Three x y z) = Some y
+component Second (v.Four x y z w) = Some y
+component Third (v.Three x y z) = Some z
+component Third (v.Four x y z w) = Some z
+component Fourth (v.Four x y z w) = Some w
+component other few = None

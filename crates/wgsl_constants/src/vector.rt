@@ -1,0 +1,141 @@
+// Vectors of integers, and their components (WGSL, "Value Constructor Built-in Functions", "Vector Access Expression").
+ghost use Rattle.std.specs.Prelude.{◌≡◌, false};
+ghost use Rattle.wgsl_constants.specs.Vectors.{alike, component, component_named, four, same, size_named, three, two, vector_of};
+
+use crate::call::{Arguments, CallError, by_integers, integer};
+use crate::function::select;
+use crate::integer::{Integer, IntegerError};
+
+/// The number of components of a vector.
+#[derive(Clone, Copy)]
+pub enum Size {
+    Two,
+    Three,
+    Four,
+}
+
+/// A component of a vector.
+#[derive(Clone, Copy)]
+pub enum Component {
+    First,
+    Second,
+    Third,
+    Fourth,
+}
+
+/// A vector of integers of one type.
+#[derive(Clone, Copy)]
+pub enum Vector {
+    Two(Integer, Integer),
+    Three(Integer, Integer, Integer),
+    Four(Integer, Integer, Integer, Integer),
+}
+
+impl Size {
+    /// The number of components of `vec2`, `vec3` or `vec4`.
+    pub fn named(name: &str) -> Option<Size>
+        ensures { result ≡ size_named name.now }
+    {
+        match name {
+            "vec2" => Some(Size::Two),
+            "vec3" => Some(Size::Three),
+            "vec4" => Some(Size::Four),
+            _ => None,
+        }
+    }
+}
+
+impl Component {
+    /// The component with this letter: one of `xyzw`, or of `rgba`.
+    pub fn named(letter: &str) -> Option<Component>
+        ensures { result ≡ component_named letter.now }
+    {
+        match letter {
+            "x" | "r" => Some(Component::First),
+            "y" | "g" => Some(Component::Second),
+            "z" | "b" => Some(Component::Third),
+            "w" | "a" => Some(Component::Fourth),
+            _ => None,
+        }
+    }
+}
+
+impl Vector {
+    /// The vector that a constructor makes: of one integer for all components, of one for each, or of zeros. It is
+    /// `WrongArgumentCount` for more or fewer arguments, else `NotInteger` if one is no integer, else the error of their
+    /// conversion to one type.
+    pub fn of(size: Size, arguments: Arguments) -> Result<Vector, CallError>
+        ensures { result ≡ vector_of size arguments }
+    {
+        match (arguments, size) {
+            (Arguments::Zero, _) => Ok(same(size, Integer::Abstract(0))),
+            (Arguments::One(a), _) => Ok(same(size, integer(a)?)),
+            (Arguments::Two(a, b), Size::Two) => by_integers(two(integer(a)?, integer(b)?)),
+            (Arguments::Three(a, b, c), Size::Three) => {
+                by_integers(three(integer(a)?, integer(b)?, integer(c)?))
+            }
+            (Arguments::Four(a, b, c, d), Size::Four) => {
+                by_integers(four(integer(a)?, integer(b)?, integer(c)?, integer(d)?))
+            }
+            _ => Err(CallError::WrongArgumentCount),
+        }
+    }
+
+    /// A component, if the vector has so many.
+    pub fn component(self, which: Component) -> Option<Integer>
+        ensures { result ≡ component which self }
+    {
+        match (which, self) {
+            (Component::First, Vector::Two(x, _) | Vector::Three(x, _, _)) => Some(x),
+            (Component::First, Vector::Four(x, _, _, _)) => Some(x),
+            (Component::Second, Vector::Two(_, y) | Vector::Three(_, y, _)) => Some(y),
+            (Component::Second, Vector::Four(_, y, _, _)) => Some(y),
+            (Component::Third, Vector::Three(_, _, z) | Vector::Four(_, _, z, _)) => Some(z),
+            (Component::Fourth, Vector::Four(_, _, _, w)) => Some(w),
+            _ => None,
+        }
+    }
+}
+
+/// The vector with one integer for all components.
+fn same(size: Size, n: Integer) -> Vector
+    ensures { result ≡ same size n }
+{
+    match size {
+        Size::Two => Vector::Two(n, n),
+        Size::Three => Vector::Three(n, n, n),
+        Size::Four => Vector::Four(n, n, n, n),
+    }
+}
+
+/// The first integer, in the type to which both convert.
+fn alike(a: Integer, b: Integer) -> Result<Integer, IntegerError>
+    ensures { result ≡ alike a b }
+{
+    select(a, b, false)
+}
+
+fn two(a: Integer, b: Integer) -> Result<Vector, IntegerError>
+    ensures { result ≡ two a b }
+{
+    Ok(Vector::Two(alike(a, b)?, alike(b, a)?))
+}
+
+fn three(a: Integer, b: Integer, c: Integer) -> Result<Vector, IntegerError>
+    ensures { result ≡ three a b c }
+{
+    let of_all = alike(alike(a, b)?, c)?;
+    Ok(Vector::Three(alike(a, of_all)?, alike(b, of_all)?, alike(c, of_all)?))
+}
+
+fn four(a: Integer, b: Integer, c: Integer, d: Integer) -> Result<Vector, IntegerError>
+    ensures { result ≡ four a b c d }
+{
+    let of_all = alike(alike(alike(a, b)?, c)?, d)?;
+    Ok(Vector::Four(
+        alike(a, of_all)?,
+        alike(b, of_all)?,
+        alike(c, of_all)?,
+        alike(d, of_all)?,
+    ))
+}

@@ -1,0 +1,237 @@
+// What the events of a type or a value say.
+ghost use Rattle.wgsl_source.specs.Members.{Grows};
+
+use crate::fault::{Cause, Expected, Named, Stop};
+use crate::item::{Content, Item, behind_sign, cut};
+use crate::literal::value_of_literal;
+use crate::measured::MeasuredType;
+use crate::operator::binary;
+use crate::scope::{Meaning, Scope};
+use crate::types::Types;
+use crate::value::{PlacedValue, Value, unary};
+use wgsl_reader::kind::Kind;
+use wgsl_reader::mark::Mark;
+use wgsl_reader::read::Event;
+use wgsl_reader::token::Token;
+
+impl<'t> Scope<'t> {
+    /// The type that events say.
+    pub fn type_noted(&self, types: &mut Types, events: &[Event]) -> Result<MeasuredType, Stop>
+        ensures { Grows types.old types.new }
+    {
+        let mut items = Vec::new(self.alloc);
+        self.read_all(types, &mut items, events)?;
+        let item = self.pop(&mut items)?;
+        self.type_of(types, item)
+    }
+
+    /// The value that events say.
+    pub fn value_noted(&self, events: &[Event]) -> Result<PlacedValue, Stop> {
+        let mut types = Types::none(self.alloc);
+        let mut items = Vec::new(self.alloc);
+        self.read_all(&mut types, &mut items, events)?;
+        let item = self.pop(&mut items)?;
+        Ok(PlacedValue {
+            value: self.value_of(item)?,
+            at: item.token.at,
+        })
+    }
+
+    /// Reads what events say, one by one.
+    pub fn read_all(
+        &self,
+        types: &mut Types,
+        items: &mut Vec<Item>,
+        events: &[Event],
+    ) -> Result<(), Stop>
+        ensures { Grows types.old types.new }
+    {
+        for event in events {
+            self.step(types, items, *event)?;
+        }
+        Ok(())
+    }
+
+    fn step(&self, types: &mut Types, items: &mut Vec<Item>, event: Event) -> Result<(), Stop>
+        ensures { Grows types.old types.new }
+    {
+        let token = self.text.token_before(event.at);
+        match event.mark {
+            Mark::Name => push(items, token, Content::Name),
+            Mark::OpenTemplate | Mark::Operator | Mark::Open | Mark::OpenElement => {
+                push(items, token, Content::Sign(token.kind))
+            }
+            Mark::Literal => {
+                let value = self.literal(token)?;
+                push(items, token, Content::Value(value))
+            }
+            Mark::Template => self.close_list(types, items, token),
+            Mark::Argument | Mark::Brackets => self.settle(items),
+            Mark::Call => self.close_call(items, token),
+            Mark::Unary => self.close_unary(items),
+            Mark::Binary => self.close_binary(items),
+            Mark::Value => Ok(()),
+            Mark::Element => self.close_element(items),
+            _ => self.close_part(items),
+        }
+    }
+
+    /// Takes the last item.
+    fn pop(&self, items: &mut Vec<Item>) -> Result<Item, Stop> {
+        match items.pop() {
+            Some(item) => Ok(item),
+            None => Err(Stop::at(self.text.text.len(), Cause::NotInteger)),
+        }
+    }
+
+    /// Ends a template list.
+    fn close_list(&self, types: &mut Types, items: &mut Vec<Item>, token: Token) -> Result<(), Stop>
+        ensures { Grows types.old types.new }
+    {
+        let first = behind_sign(items, Kind::OpenTemplate);
+        let name = callee(items, first, token)?;
+        let content = self.listed(types, name, behind(items, first))?;
+        cut(items, first.saturating_sub(2));
+        push(items, name.token, content)
+    }
+
+    /// Ends a call.
+    fn close_call(&self, items: &mut Vec<Item>, token: Token) -> Result<(), Stop> {
+        let first = behind_sign(items, Kind::OpenRound);
+        let name = callee(items, first, token)?;
+        let value = self.called(name, behind(items, first))?;
+        cut(items, first.saturating_sub(2));
+        push(items, name.token, Content::Value(value))
+    }
+
+    /// Replaces the last item by its value.
+    fn settle(&self, items: &mut Vec<Item>) -> Result<(), Stop> {
+        let item = self.pop(items)?;
+        let value = self.value_of(item)?;
+        push(items, item.token, Content::Value(value))
+    }
+
+    fn close_unary(&self, items: &mut Vec<Item>) -> Result<(), Stop> {
+        let operand = self.pop(items)?;
+        let operator = self.pop(items)?;
+        let value = self.value_of(operand)?;
+        match unary(sign_of(operator), value) {
+            Ok(value) => push(items, operator.token, Content::Value(value)),
+            Err(cause) => Err(operator.stop(cause)),
+        }
+    }
+
+    fn close_binary(&self, items: &mut Vec<Item>) -> Result<(), Stop> {
+        let right = self.pop(items)?;
+        let operator = self.pop(items)?;
+        let left = self.pop(items)?;
+        let (a, b) = (self.value_of(left)?, self.value_of(right)?);
+        match binary(sign_of(operator), a, b) {
+            Ok(value) => push(items, left.token, Content::Value(value)),
+            Err(cause) => Err(operator.stop(cause)),
+        }
+    }
+
+    /// Ends a component, which isn't evaluated here.
+    fn close_part(&self, items: &mut Vec<Item>) -> Result<(), Stop> {
+        let item = self.pop(items)?;
+        match self.value_of(item)? {
+            Value::Later => Err(item.stop(Cause::KnownLater)),
+            _ => Err(item.stop(Cause::NotInteger)),
+        }
+    }
+
+    /// Ends an element, which isn't evaluated here.
+    fn close_element(&self, items: &mut Vec<Item>) -> Result<(), Stop> {
+        self.settle(items)?;
+        self.pop(items)?;
+        self.pop(items)?;
+        self.close_part(items)
+    }
+
+    fn literal(&self, token: Token) -> Result<Value, Stop> {
+        let value = match token.kind {
+            Kind::True => Ok(Value::Bool(true)),
+            Kind::False => Ok(Value::Bool(false)),
+            _ => value_of_literal(self.text.word(token), self.extensions.half),
+        };
+        match value {
+            Ok(value) => Ok(value),
+            Err(cause) => Err(Stop::at(token.at, cause)),
+        }
+    }
+
+    /// The value that an item stands for.
+    pub fn value_of(&self, item: Item) -> Result<Value, Stop> {
+        match item.content {
+            Content::Value(value) => Ok(value),
+            Content::Name => match self.meaning(self.text.word(item.token)) {
+                Some(Meaning::Value(value)) => Ok(value),
+                Some(Meaning::Faulty | Meaning::Unread) => Err(Stop::Elsewhere),
+                Some(Meaning::Type(_) | Meaning::Other) => Err(item.stop(Cause::NotInteger)),
+                None => Err(item.stop(Cause::UnknownName(Named::Value))),
+            },
+            Content::Function => {
+                self.predeclared_function(item)?;
+                Err(item.stop(Cause::NotInteger))
+            }
+            _ => Err(item.stop(Cause::NotInteger)),
+        }
+    }
+
+    /// The first token of what events say.
+    pub fn first_token(&self, events: &[Event]) -> Token {
+        self.text.token_before(first_count(events))
+    }
+
+    /// Takes the name of an enumerant. It is none if the module declares that name.
+    pub fn enumerant(&self, item: Item, expected: Expected) -> Result<&'t str, Stop> {
+        let word = self.text.word(item.token);
+        match item.content {
+            Content::Name => match self.meaning(word) {
+                Some(_) => Err(item.stop(Cause::Shadowed)),
+                None => Ok(word),
+            },
+            _ => Err(item.stop(Cause::Expected(expected))),
+        }
+    }
+}
+
+/// How many tokens stand up to the first event, with its own.
+fn first_count(events: &[Event]) -> usize {
+    match events {
+        [first, ..] => first.at,
+        [] => 0,
+    }
+}
+
+fn push(items: &mut Vec<Item>, token: Token, content: Content) -> Result<(), Stop> {
+    items.push(Item { token, content })?;
+    Ok(())
+}
+
+/// The operator that an item is.
+fn sign_of(item: Item) -> Kind {
+    match item.content {
+        Content::Sign(kind) => kind,
+        _ => Kind::End,
+    }
+}
+
+/// The name in front of the sign behind which the items from an index on stand.
+fn callee(items: &[Item], first: usize, token: Token) -> Result<Item, Stop> {
+    match first.checked_sub(2) {
+        Some(index) => match items.get(index) {
+            Some(item) => Ok(*item),
+            None => Err(Stop::at(token.at, Cause::NotInteger)),
+        },
+        None => Err(Stop::at(token.at, Cause::NotInteger)),
+    }
+}
+
+fn behind(items: &[Item], first: usize) -> &[Item] {
+    match items.get(first..) {
+        Some(rest) => rest,
+        None => &[],
+    }
+}

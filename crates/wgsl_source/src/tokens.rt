@@ -1,4 +1,0 @@
-// The tokens of a WGSL text.
-
-pub mod gap;
-pub mod token;
