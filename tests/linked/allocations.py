@@ -76,7 +76,7 @@ def resolved(library, rng):
 
 
 # Modules with how often the library allocates for each.
-MODULES = [("", 6), ("struct S { a: f32 }", 30), ("@group(0) @binding(0) var<uniform> a: f32;", 18)]
+MODULES = [("", 6), ("struct S { a: f32 }", 33), ("@group(0) @binding(0) var<uniform> a: f32;", 24)]
 
 
 def questions(library, count):

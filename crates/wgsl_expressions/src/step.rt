@@ -186,6 +186,10 @@ fn open(
     let count = first_count(noted);
     match head_noted(alloc, source, noted)? {
         Ok(head) => push_call(alloc, source.byte_at(count), head, items),
+        // The list behind a function's name has no type in it.
+        Err(fault) if fault.cause == Cause::NotInteger && fault.at == source.byte_at(count) => {
+            Err(source.misread(count, Wanted::Type))
+        }
         Err(fault) => Err(untyped(fault, Wanted::Type)),
     }
 }
