@@ -141,7 +141,7 @@ test("the deepest types, and a text of any size", () => {
   assert.equal(sourceError(`struct S { a: ${"array<".repeat(300)}f32${", 1>".repeat(300)} }`).errors.length, 1);
   assert.equal(sourceError("/*".repeat(500_000)).errors.length, 1);
   const brackets = `const A = ${"(".repeat(100_000)}1${")".repeat(100_000)}; struct S { a: array<f32, A> }`;
-  assert.ok(sourceError(brackets).errors.length > 0);
+  assert.equal(wgsl.layouts(brackets).structs[0].size, 4);
   const many = Array.from({ length: 20_000 }, (_, index) => `struct S${index} { a: vec3f }`).join("\n");
   assert.equal(wgsl.layouts(many).structs.at(-1).name, "S19999");
 });

@@ -133,6 +133,7 @@ fn write_misread<'t>(
         write_meant(output, word, fault.cause, declared)
     } else if is_operator(token.kind)
         && may_stand_behind(alloc, misread.rule, front, Kind::Period)?
+        && !may_stand_behind(alloc, misread.rule, front, Kind::Equal)?
     {
         output.push_str("; this operator needs parentheses")
     } else {
