@@ -70,7 +70,7 @@ vector_of size.Three (Three a b c) = then_ok (integer a) (λ a. of_integers (thr
 vector_of size.Four (Four a b c d) = then_ok (integer a) (λ a. then_ok (integer b) (λ b. of_integers (four a b) c d))
 vector_of s arguments = Err error.WrongArgumentCount
 
--- the component of a vector, if it has so many
+-- the component of a vector; None if it has fewer
 abbrev pub component : Component → Vector → Option Integer
 component First (v.Two x y) = Some x
 component First (v.Three x y z) = Some x

@@ -81,7 +81,7 @@ impl Vector {
         }
     }
 
-    /// A component, if the vector has so many.
+    /// A component; None if the vector has fewer.
     pub fn component(self, which: Component) -> Option<Integer>
         ensures { result ≡ component which self }
     {
