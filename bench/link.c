@@ -5,7 +5,7 @@
 #include <string.h>
 #include <time.h>
 
-enum { ROUNDS = 5, CALLS = 100000, MOST = 1500 };
+enum { ROUNDS = 5, CALLS = 100000, MOST = 3000 };
 
 typedef uint8_t Call(const uint8_t *request, size_t request_len, uint8_t *buffer, size_t buffer_len, size_t *text_len);
 
@@ -22,13 +22,13 @@ static const char *const ported[] = {
     "call textureSample - texture_2d f32 sampler vec 2 f32",
 };
 static const char *const standard[] = {
-    "unary - f32",
-    "binary + AbstractInt vec 3 f32",
-    "binary + bool i32",
-    "resolve binary * mat 4 4 f32 vec 4 f32",
-    "ctor vec3 - f32 vec 2 f32",
-    "call clamp - AbstractInt f32 AbstractFloat",
-    "call textureSample - texture_2d f32 sampler vec 2 f32",
+    "type -f32",
+    "type 1 + vec3f",
+    "type bool + i32",
+    "resolve mat4x4f * vec4f",
+    "type vec3(f32, vec2f)",
+    "type clamp(1, f32, 1.5)",
+    "type textureSample(texture_2d<f32>, sampler, vec2f)",
 };
 
 static double nanoseconds(void) {

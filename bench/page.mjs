@@ -43,7 +43,7 @@ async function measurePackage() {
   const start = performance.now();
   const { layouts, standardAnswer, view } = await import(pathToFileURL(join(folder, "wgsl-types-proved/node.js")));
   console.log(`import in node: ${ms(performance.now() - start)}`);
-  const request = () => { for (let count = 0; count < 10_000; count++) standardAnswer("binary + AbstractInt vec 3 f32"); };
+  const request = () => { for (let count = 0; count < 10_000; count++) standardAnswer("type 1 + vec3f"); };
   console.log(`a request: ${(timed(5, request) / 10).toFixed(2)} µs`);
   const long = shader(), many = Array.from({ length: 10_000 }, (_, index) => `struct S${index} { a: vec3f, b: array<vec2f, 3>, c: mat3x3f, d: f32 }`);
   console.log(`layouts of ${long.split("\n").length} lines: ${ms(timed(RUNS, () => layouts(long)))}`);

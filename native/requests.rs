@@ -1,6 +1,6 @@
-//! Requests in text, answered in text: each is a line of the programs `wgsl_check` and `wgsl_standard`.
+//! Requests in text, answered in text: each is a line of the program `wgsl_standard`, in WGSL, or of `wgsl_check`, in words.
 
-use crate::proved::wgsl_expressions::request::{self, reply_to, Reply, TextKind};
+use crate::proved::wgsl_replies::request::{self, reply_to, Reply, TextKind};
 use crate::proved::wgsl_syntax::rules::RuleSet;
 use crate::shim::always;
 use crate::shim::std::alloc::Global;
@@ -11,11 +11,11 @@ use core::fmt;
 #[derive(Clone, Debug, PartialEq, Eq, Hash)]
 #[non_exhaustive]
 pub enum Error {
-    /// The request is no command, is blank, has a line feed, or has more than 4096 bytes. The text says why: the column in
-    /// bytes, the number of the word, and what was expected there.
+    /// The request isn't what can be asked, is blank, has a line feed, or has more than 4096 bytes. The text says why: the
+    /// column in bytes, in words also the number of the word, and what was expected there.
     Unreadable(String),
-    /// The rules refuse the expression. The text is their message. If there is no rank, common type, size or layout,
-    /// the answer is `none` and no error.
+    /// The rules refuse the expression. The text is their message, with the column in bytes if a part has no type. If there
+    /// is no rank, common type, size or layout, the answer is `none` and no error.
     Refused(String),
 }
 
@@ -30,25 +30,26 @@ impl fmt::Display for Error {
 
 impl core::error::Error for Error {}
 
-/// Answers a request by WGSL's own overloads, as a line of the program `wgsl_standard`. Names in requests and in answers may have NULs.
+/// Answers a request in WGSL by WGSL's own rules, as a line of the program `wgsl_standard`.
 ///
 /// ```
 /// use wgsl_types_proved::requests::{standard_answer, Error};
 ///
-/// assert_eq!(standard_answer("unary - vec 3 f32")?, "vec3<f32>");
-/// assert_eq!(standard_answer("resolve binary + const AbstractInt f32")?, "0 (f32, f32) -> f32");
-/// let refused = standard_answer("binary + bool bool");
-/// assert_eq!(refused, Err(Error::Refused("no overload of `+` takes (bool, bool)".to_string())));
-/// let why = standard_answer("why call sqrt - i32")?;
+/// assert_eq!(standard_answer("type -vec3f")?, "vec3<f32>");
+/// assert_eq!(standard_answer("resolve 1 + f32")?, "0 (f32, f32) -> f32");
+/// assert_eq!(standard_answer("struct S { a: f32 } let x: f32 = S.a * 2")?, "f32");
+/// let refused = "column 11: no overload of `+` takes (bool, bool)".to_string();
+/// assert_eq!(standard_answer("type bool + bool"), Err(Error::Refused(refused)));
+/// let why = standard_answer("why sqrt(i32)")?;
 /// assert_eq!(why.lines().next(), Some("sqrt(T) -> T, T: float: argument 1 is i32"));
-/// assert!(matches!(standard_answer("binary + i32"), Err(Error::Unreadable(_))));
+/// assert!(matches!(standard_answer("type i32 +"), Err(Error::Unreadable(_))));
 /// # Ok::<(), Error>(())
 /// ```
 pub fn standard_answer(request: &str) -> Result<String, Error> {
     answer_by(RuleSet::Standard, request)
 }
 
-/// Answers a request by the rules of the crate wgsl-types, as a line of the program `wgsl_check`. Names in requests and in
+/// Answers a request in words by the rules of the crate wgsl-types, as a line of the program `wgsl_check`. Names in requests and in
 /// answers may have NULs.
 ///
 /// ```
@@ -64,19 +65,19 @@ pub fn answer(request: &str) -> Result<String, Error> {
     answer_by(RuleSet::Ported, request)
 }
 
-/// Why a request can't be read by WGSL's own overloads; None if it has an answer.
+/// Why a request in WGSL can't be read; None if it can.
 ///
 /// ```
 /// use wgsl_types_proved::requests::standard_explain;
 ///
-/// assert_eq!(standard_explain("binary + i32").as_deref(), Some("column 13, word 4: a type is missing"));
+/// assert_eq!(standard_explain("type i32 +").as_deref(), Some("column 11: expected an operand"));
 /// assert_eq!(standard_explain("overloads clamp"), None);
 /// ```
 pub fn standard_explain(request: &str) -> Option<String> {
     explain_by(RuleSet::Standard, request)
 }
 
-/// Why a request can't be read by the rules of the crate wgsl-types; None if it has an answer.
+/// Why a request in words can't be read; None if it can.
 ///
 /// ```
 /// use wgsl_types_proved::requests::explain;

@@ -1,7 +1,8 @@
-"""Types as WGSL spells them, and the same types in the words of the program."""
+"""Types as WGSL spells them, and the same types in the words of wgsl_check."""
 import functools
 
 SCALARS = "bool AbstractInt AbstractFloat i32 u32 f32 f16".split()
+OWN_SCALARS = "i64 u64 f64".split()  # naga's, of which the search for overloads knows nothing
 STRUCTS = {
     "Light": [("color", "vec3<f32>"), ("level", "f32")],
     "Counter": [("count", "atomic<u32>")],
@@ -30,7 +31,7 @@ def parts_of(t):
 
 @functools.cache
 def words(t):
-    """The type in the words of the program. A struct that isn't listed has no members."""
+    """The type in the words of wgsl_check. A struct that isn't listed has no members."""
     name, parts = parts_of(t)
     if name in ("ptr", "ref"):
         space, inner, access = parts
@@ -47,6 +48,20 @@ def words(t):
         members = STRUCTS.get(name, [])
         return f"struct {name} {len(members)}" + "".join(f" {member} - - {words(of)}" for member, of in members)
     return " ".join([name, *map(words, parts)])
+
+
+def structs_in(t):
+    """The structs that a type is made of, each behind those inside it."""
+    name, parts = parts_of(t)
+    inside = [of for _, of in STRUCTS[name]] if name in STRUCTS else parts
+    found = [struct for part in inside for struct in structs_in(part)]
+    return [*found, name] if name in STRUCTS else found
+
+
+def declarations(types):
+    """What declares the structs that types are made of, to stand in front of a request."""
+    names = dict.fromkeys(name for t in types for name in structs_in(t))
+    return "".join(f"struct {name} {{ {', '.join(map(': '.join, STRUCTS[name]))} }} " for name in names)
 
 
 def is_abstract(t):

@@ -1,7 +1,7 @@
-/* The type rules of WGSL for C and C++: one call answers one request, which is a line of the program wgsl_standard or
- * wgsl_check.
+/* The type rules of WGSL for C and C++: one call answers one request, which is a line of the program wgsl_standard, in WGSL, or
+ * of wgsl_check, in words.
  *
- *     binary + AbstractInt vec 3 f32     is answered     vec3<f32>
+ *     type 1 + vec3f     is answered     vec3<f32>
  *
  * docs/USING.md lists the requests. Link with libwgsl.a or libwgsl.so. The proved library runs on x86-64 Linux, on processors with
  * SSE4.2; the one that cargo builds of the same sources runs wherever Rust does. This header needs C99 or C++11.
@@ -26,7 +26,7 @@ enum {
     WGSL_ANSWERED = 0,      /* The answer is at the start of the buffer: UTF-8, without a NUL at its end, but with those that
                              * the names in it have. */
     WGSL_RULED_OUT = 1,     /* WGSL's rules refuse the expression. The message is at the start of the buffer. */
-    WGSL_UNREADABLE = 2,    /* The request is no command, is blank, isn't UTF-8, has a line feed, or is too long. */
+    WGSL_UNREADABLE = 2,    /* The request isn't what can be asked, is blank, isn't UTF-8, has a line feed, or is too long. */
     WGSL_OUT_OF_MEMORY = 3, /* malloc or realloc gave no memory. All that the call had got is freed. The library that cargo builds
                              * ends the process instead. */
     WGSL_NO_ROOM = 4        /* The length that is set is more than that of the buffer: ask again with a buffer as long. */
@@ -38,7 +38,7 @@ enum {
     WGSL_SOURCE_STACK = 512 * 1024 /* and for any WGSL text: at least twice what the deepest takes. */
 };
 
-/* By WGSL's own overloads: answers one request, and sets *text_len: to the length of the answer or of the message if it
+/* By WGSL's own rules: answers one request in WGSL, and sets *text_len: to the length of the answer or of the message if it
  * returns WGSL_ANSWERED, WGSL_RULED_OUT or WGSL_NO_ROOM, and else to 0. Nothing but these bytes is written.
  *
  * The caller ensures, and nothing checks:
@@ -51,11 +51,11 @@ enum {
  * The library keeps nothing between calls: any number of threads may call it at once. It returns for every request. */
 uint8_t wgsl_standard_answer(const uint8_t *request, size_t request_len, uint8_t *buffer, size_t buffer_len, size_t *text_len);
 
-/* Explains why a request is unreadable, as the program does on its standard error: `column 13, word 4: a type is missing`.
+/* Explains why a request is unreadable, as the program does on its standard error: `column 9: expected an operand`.
  * It returns WGSL_UNREADABLE, and explains nothing, if the request isn't unreadable. All else is as above. */
 uint8_t wgsl_standard_explain(const uint8_t *request, size_t request_len, uint8_t *buffer, size_t buffer_len, size_t *text_len);
 
-/* The same by the rules of wgsl-types, as the program wgsl_check answers. */
+/* The same by the rules of wgsl-types for requests in words, `unary - f32`, as the program wgsl_check answers. */
 uint8_t wgsl_answer(const uint8_t *request, size_t request_len, uint8_t *buffer, size_t buffer_len, size_t *text_len);
 uint8_t wgsl_explain(const uint8_t *request, size_t request_len, uint8_t *buffer, size_t buffer_len, size_t *text_len);
 

@@ -1,6 +1,6 @@
 /* The type rules of WGSL for C++17: the calls of wgsl.h over texts. Header only: link with libwgsl.
  *
- *     if (auto sum = wgsl::answer("binary + AbstractInt vec 3 f32")) std::puts(sum.text.c_str());    // vec3<f32>
+ *     if (auto sum = wgsl::answer("type 1 + vec3f")) std::puts(sum.text.c_str());    // vec3<f32>
  *
  * docs/USING.md lists the requests. No function throws, but std::string if memory runs out. A call may be made by several
  * threads at once; it needs the stack that wgsl.h names. */
@@ -32,7 +32,7 @@ struct Result {
     explicit operator bool() const { return status == Status::answered; }
 };
 
-/* Whose rules answer: WGSL's own overloads, or those of wgsl-types. */
+/* Whose rules answer: WGSL's own, to a request in WGSL, or those of wgsl-types, to one in words. */
 enum class Rules { standard, ported };
 
 namespace detail {

@@ -11,22 +11,23 @@ let compiled = null; // the WebAssembly.Module
 let wasm = null; // the exports of its instance
 let room = { at: 0, size: 0 }; // the memory of the instance that is ours
 
-/** A request that can't be read: it is no command, is blank, has a line feed, or is longer than 4096 bytes. */
-export class Unreadable extends Error {
+/** Why a request has no answer. */
+class Failure extends Error {
   constructor(request, message) {
     super(message);
-    this.name = "Unreadable";
     const column = /^column (\d+)/.exec(message);
     this.index = column ? indexOfByte(request, Number(column[1]) - 1) : null;
   }
 }
 
+/** A request that can't be read: it isn't what can be asked, is blank, has a line feed, or is longer than 4096 bytes. */
+export class Unreadable extends Failure {
+  name = "Unreadable";
+}
+
 /** What the rules refuse: no overload takes the operands, for example. */
-export class Refused extends Error {
-  constructor(message) {
-    super(message);
-    this.name = "Refused";
-  }
+export class Refused extends Failure {
+  name = "Refused";
 }
 
 /** A WGSL text with errors. */
@@ -122,7 +123,7 @@ function answerOf(name, request, language) {
 function answered(name, explainName, request) {
   const { status, text } = ask(name, request);
   if (status === Status.ANSWERED) return text;
-  if (status === Status.RULED_OUT) throw new Refused(text);
+  if (status === Status.RULED_OUT) throw new Refused(request, text);
   throw new Unreadable(request, explained(explainName, request));
 }
 
@@ -136,7 +137,7 @@ export function answer(request) {
   return answered("wgsl_answer", "wgsl_explain", request);
 }
 
-/** Answers a request by WGSL's own overloads. */
+/** Answers a request by WGSL's own rules. */
 export function standardAnswer(request) {
   return answered("wgsl_standard_answer", "wgsl_standard_explain", request);
 }
@@ -146,7 +147,7 @@ export function explain(request) {
   return explained("wgsl_explain", request);
 }
 
-/** Why a request can't be read by WGSL's own overloads, or null if it can. */
+/** Why a request can't be read by WGSL's own rules, or null if it can. */
 export function standardExplain(request) {
   return explained("wgsl_standard_explain", request);
 }

@@ -11,14 +11,17 @@ export function initSync(source: BufferSource | WebAssembly.Module | string): vo
 /** The version of the library. */
 export function version(): string;
 
-/** A request that can't be read: it is no command, is blank, has a line feed, or is longer than 4096 bytes. */
+/** A request that can't be read: it isn't what can be asked, is blank, has a line feed, or is longer than 4096 bytes. */
 export class Unreadable extends Error {
   /** Where in the request, as an index of its string; null if no place is meant. */
   readonly index: number | null;
 }
 
 /** What the rules refuse: no overload takes the operands, for example. */
-export class Refused extends Error {}
+export class Refused extends Error {
+  /** Where in the request the part begins that has no type, as an index of its string; null if no place is meant. */
+  readonly index: number | null;
+}
 
 /** A WGSL text with errors. */
 export class SourceError extends Error {
@@ -32,9 +35,9 @@ export class SourceError extends Error {
 
 export type Language = "c" | "rust" | "numpy" | "typescript";
 
-/** Answers a request, as `unary - vec 3 f32`, by WGSL's own overloads. Throws `Unreadable` or `Refused`. */
+/** Answers a request in WGSL, as `type -vec3f`, by WGSL's own rules. Throws `Unreadable` or `Refused`. */
 export function standardAnswer(request: string): string;
-/** Answers a request by the rules of the Rust crate wgsl-types. Throws `Unreadable` or `Refused`. */
+/** Answers a request in words, as `unary - f32`, by the rules of the Rust crate wgsl-types. Throws `Unreadable` or `Refused`. */
 export function answer(request: string): string;
 /** Why `standardAnswer` can't read a request, or null if it can. */
 export function standardExplain(request: string): string | null;

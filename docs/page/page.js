@@ -169,9 +169,7 @@ async function copy(text, what) {
 // The calculator.
 
 function ask() {
-  const { asked, elements } = answersTo(request.value);
-  at("asked").replaceChildren(...(asked ? ["in words: ", h("code", {}, asked)] : []));
-  at("answers").replaceChildren(...elements);
+  at("answers").replaceChildren(...answersTo(request.value));
 }
 
 // The state of the page is its address.

@@ -10,7 +10,7 @@ const LISTS: [(&str, &str, [&str; 2]); 7] = [
     ("SPACES", "wgsl_syntax/src/address.rt", ["fn", "space_named"]),
     ("FORMATS", "wgsl_syntax/src/texel.rt", ["fn", "texel_named"]),
     ("FLAGS", "wgsl_syntax/src/attribute.rt", ["fn", "flag_named"]),
-    ("ATTRIBUTES", "wgsl_source/src/attribute.rt", ["const", "ATTRIBUTES"]),
+    ("ATTRIBUTES", "wgsl_source/src/attribute.rt", ["fn", "attribute_named"]),
     ("KEPT_WORDS", "wgsl_reader/src/word.rt", ["static", "WORDS"]),
 ];
 

@@ -42,7 +42,12 @@ pub mod fmt {
     pub use core::fmt::{Debug, Display, Formatter, Result};
 }
 
-#[cfg(feature = "std")]
+#[cfg(feature = "text")]
+pub mod marker {
+    /// A type of which contracts see one value, as a list.
+    pub trait Model {}
+}
+
 pub mod simd {
     pub mod prelude {
         pub use crate::shim::simd::u8x16;

@@ -32,6 +32,8 @@ fn told(text: &str, tokens: &[Token], misread: &Misread) -> Told {
     let is_directive = matches!(token.kind, Kind::Enable | Kind::Requires | Kind::Diagnostic);
     let what = if is_directive && misread.at == misread.from {
         format!("a directive stands in front of all declarations: `{word}`")
+    } else if token.kind == Kind::Less && expected.contains("`<`") && !expected.contains("`.`") {
+        "this list has no `>`".to_string()
     } else {
         format!("{expected}, found `{word}`")
     };

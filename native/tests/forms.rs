@@ -1,19 +1,16 @@
 //! Members, indexes, loads, declarations, assignments and lists of values: each question of `tests/forms/questions.txt`, or of
 //! the file that the variable `QUESTIONS` names, has its answer.
 
-mod words;
+mod asked;
 
+use asked::Asked;
 use std::{env, fs};
 use wgsl_types_proved::mem::StructLayout;
-use wgsl_types_proved::requests::{self, standard_answer};
+use wgsl_types_proved::requests::{standard_answer, Error};
 use wgsl_types_proved::standard::*;
-use wgsl_types_proved::syntax::{AddressSpace, AssignmentOperator, UnaryOperator};
+use wgsl_types_proved::syntax::AddressSpace;
 use wgsl_types_proved::ty::StructType;
 use wgsl_types_proved::Type;
-use words::Words;
-
-/// What no request asks, or a request whose answer has another form.
-const NO_REQUESTS: [&str; 1] = ["layout"];
 
 #[test]
 fn questions_are_answered() {
@@ -22,20 +19,30 @@ fn questions_are_answered() {
     let rows = text.lines().filter(|line| !line.starts_with('#'));
     let mut count = 0;
     for (question, expected) in rows.filter_map(|row| row.split_once('\t')) {
-        let mut words = Words::new(question);
-        let found = answer(&mut words).map(in_wgsl);
-        if !NO_REQUESTS.iter().any(|form| question.starts_with(form)) {
-            let refused = |refusal: Refusal| requests::Error::Refused(refusal.to_string());
-            let answered = found.clone().map_err(refused);
-            assert_eq!(standard_answer(question), answered, "{question}");
+        let mut asked = Asked::new(question);
+        let found = answer(&mut asked).map(in_wgsl);
+        assert!(asked.is_empty(), "{question}");
+        if !question.contains("layout struct ") {
+            compare(question, &found);
         }
         let refused = |refusal| format!("refused\t{}", in_wgsl(variant(&refusal)));
         let found = found.unwrap_or_else(refused);
         assert_eq!(found, expected, "{question}");
-        assert!(words.is_empty(), "{question}");
         count += 1;
     }
     assert!(count > 600, "there are only {count} questions");
+}
+
+/// The request has the same answer, of a part of an expression behind its column.
+fn compare(question: &str, found: &Result<String, Refusal>) {
+    match (standard_answer(question), found) {
+        (Ok(answered), Ok(found)) => assert_eq!(&answered, found, "{question}"),
+        (Err(Error::Refused(told)), Err(refusal)) => {
+            let message = told.split_once(": ").filter(|(place, _)| place.starts_with("column "));
+            assert_eq!(message.map_or(&*told, |(_, why)| why), refusal.to_string(), "{question}");
+        }
+        (answered, found) => panic!("{question}: {answered:?}, and not {found:?}"),
+    }
 }
 
 #[test]
@@ -72,28 +79,31 @@ fn in_wgsl(text: String) -> String {
 }
 
 /// The answer to a question.
-fn answer(words: &mut Words) -> Result<String, Refusal> {
-    let found = match words.next() {
-        "load" => typed(load(&words.operand())),
-        "member" => typed(type_of_member(&words.operand(), words.next())),
-        "index" => typed(type_of_index(&words.operand(), &words.operand())),
-        "unary" => typed(memory_operator(words)),
-        "let" => declared(Declaration::Let, words),
-        "const" => declared(Declaration::Const, words),
-        "override" => declared(Declaration::Override, words),
-        "var" => stored(words),
-        "assign" => assigned(words),
-        "increment" | "decrement" => increment(&words.operand()),
-        "construct" => typed(construct_struct(&words.ty(), &words.operands())),
-        "ctor" => constructed_array(words),
-        "switch" => Ok(switch_type(&words.operand(), &words.operands())?),
-        "fit" => {
-            let values = words.operands();
-            fit(&values, &words.types())?;
-            return Ok("fits".to_string());
+fn answer(asked: &mut Asked) -> Result<String, Refusal> {
+    let found = match asked {
+        _ if asked.take("type ") => typed(expression(asked)),
+        _ if asked.take("load ") => typed(load(&asked.operand())),
+        _ if asked.take("_ = ") => discard(&asked.operand()),
+        _ if asked.take("let x") => declared(Declaration::Let, asked),
+        _ if asked.take("const x") => declared(Declaration::Const, asked),
+        _ if asked.take("override x") => declared(Declaration::Override, asked),
+        _ if asked.take("var") => stored(asked),
+        _ if asked.take("switch ") => switch(asked),
+        _ if asked.take("if ") => {
+            let value = asked.operand();
+            asked.expect("{ }");
+            return fitted(&[value], &[Type::Bool]);
         }
-        "layout" => return Ok(layout_text(words.ty())),
-        form => panic!("`{form}` is no form"),
+        _ if asked.take("fn f(") => {
+            let types = asked.list(")", |asked| {
+                asked.word();
+                asked.declared().expect("a type")
+            });
+            asked.expect("f(");
+            return fitted(&asked.operands(")"), &types);
+        }
+        _ if asked.take("layout struct ") => return Ok(layout_text(asked.structure())),
+        _ => assigned(asked),
     };
     found.map(|ty| ty.to_string())
 }
@@ -102,70 +112,94 @@ fn typed(found: Result<Operand, impl Into<Refusal>>) -> Result<Type, Refusal> {
     found.map(|operand| operand.shown_type().clone()).map_err(Into::into)
 }
 
-fn memory_operator(words: &mut Words) -> Result<Operand, Refusal> {
-    match words.name() {
-        Some(UnaryOperator::AddressOf) => {
-            let is_component = words.take("component");
-            let referent = if is_component { Referent::Component } else { Referent::Whole };
-            address_of(&Operand { referent, ..words.operand() })
-        }
-        _ => indirection(&words.operand()),
+fn fitted(values: &[Operand], types: &[Type]) -> Result<String, Refusal> {
+    fit(values, types)?;
+    Ok("fits".to_string())
+}
+
+/// An operator, a call, or an operand with a member or an index behind it.
+fn expression(asked: &mut Asked) -> Result<Operand, Refusal> {
+    if asked.take("&") {
+        let x = asked.operand();
+        let part = if asked.take(".") { type_of_member(&x, asked.word())? } else { x };
+        return address_of(&part);
+    }
+    if asked.take("*") {
+        return indirection(&asked.operand());
+    }
+    if asked.take("array(") {
+        return Ok(construct_array(&asked.operands(")"))?);
+    }
+    let x = asked.operand();
+    if asked.take(".") {
+        type_of_member(&x, asked.word())
+    } else if asked.take("[") {
+        let index = asked.operand();
+        asked.expect("]");
+        type_of_index(&x, &index)
+    } else {
+        asked.expect("(");
+        let values = asked.operands(")");
+        Ok(match &x.ty {
+            Type::Array(element, count) => construct_array_of(element, *count, &values)?,
+            structure => construct_struct(structure, &values)?,
+        })
     }
 }
 
-fn declared(declaration: Declaration, words: &mut Words) -> Result<Type, Refusal> {
-    if let Some(ty) = words.declared() {
-        return override_without_value(&ty);
+/// A declared type, and a value behind `=`.
+fn declared(declaration: Declaration, asked: &mut Asked) -> Result<Type, Refusal> {
+    let ty = asked.declared();
+    if !asked.take("= ") {
+        return override_without_value(&ty.expect("a type"));
     }
-    let value = words.operand();
-    declare(declaration, &value, words.declared().as_ref())
+    declare(declaration, &asked.operand(), ty.as_ref())
 }
 
-fn stored(words: &mut Words) -> Result<Type, Refusal> {
-    let said = words.space();
-    let space = said.unwrap_or(AddressSpace::Function);
-    let access = if said.is_some() { words.access() } else { None };
-    if let Some(ty) = words.declared() {
-        return variable(space, access, &ty);
+fn stored(asked: &mut Asked) -> Result<Type, Refusal> {
+    let (mut space, mut access) = (AddressSpace::Function, None);
+    if asked.take("<") {
+        (space, access) = (asked.space(), asked.access());
+        asked.expect(">");
     }
-    let value = words.operand();
-    initialized_variable(space, access, &value, words.declared().as_ref())
+    asked.expect("x");
+    let ty = asked.declared();
+    if !asked.take("= ") {
+        return variable(space, access, &ty.expect("a type"));
+    }
+    initialized_variable(space, access, &asked.operand(), ty.as_ref())
 }
 
-fn assigned(words: &mut Words) -> Result<Type, Refusal> {
-    let operator = words.name::<AssignmentOperator>();
-    let Some(operator) = operator else {
-        assert!(words.take("_"));
-        return discard(&words.operand());
-    };
-    let (x, y) = (words.operand(), words.operand());
-    let found = assign_by(operator, &x, &y);
-    if operator == AssignmentOperator::Equal {
+fn switch(asked: &mut Asked) -> Result<Type, Refusal> {
+    let selector = asked.operand();
+    asked.expect("{");
+    let cases = if asked.take("case ") { asked.operands("{ }") } else { Vec::new() };
+    asked.expect("default { } }");
+    Ok(switch_type(&selector, &cases)?)
+}
+
+/// `x = y`, `x += y`, `x++`
+fn assigned(asked: &mut Asked) -> Result<Type, Refusal> {
+    let is_bracketed = asked.take("(");
+    let x = asked.operand();
+    if is_bracketed {
+        asked.expect(")");
+    }
+    if asked.take("++") || asked.take("--") {
+        return increment(&x);
+    }
+    let operator = asked.until(|c| c == ' ');
+    let y = asked.operand();
+    let found = assign_by(operator.parse().expect(operator), &x, &y);
+    if operator == "=" {
         assert_eq!(assign(&x, &y), found);
     }
     found
 }
 
-/// What `array - X..` or `array < t T n N > X..` makes.
-fn constructed_array(words: &mut Words) -> Result<Type, Refusal> {
-    assert!(words.take("array"));
-    if words.take("-") {
-        return typed(construct_array(&words.operands()));
-    }
-    assert!(words.take("<") && words.take("t"));
-    let element = words.ty();
-    let count = if words.take("n") { words.name() } else { None };
-    assert!(words.take(">"));
-    typed(construct_array_of(&element, count, &words.operands()))
-}
-
 /// The layout as the file has it: the stride of the array at the end is the size of its one element.
-fn layout_text(ty: Type) -> String {
-    let layout = match ty {
-        Type::Struct(of) => of.min_layout(),
-        _ => None,
-    };
-    let Some(StructLayout { members, size, align }) = layout else {
+fn layout_text(structure: StructType) -> String {
+    let Some(StructLayout { members, size, align }) = structure.min_layout() else {
         return "none".to_string();
     };
     let offsets: Vec<String> = members.iter().map(|member| member.offset.to_string()).collect();

@@ -31,12 +31,15 @@ fn other_arguments_are_refused() {
 
 #[test]
 fn a_strict_run_fails_if_an_expression_is_refused() {
-    for program in PROGRAMS {
-        for (requests, plain, strict) in [
-            ("unary - f32\n\nrank f32 i32\n", 0, 0),
-            ("binary + f32 bool\nunary - f32", 0, 1),
-            ("binary + f32 bool\nunary -\n", 2, 2),
-        ] {
+    let in_words = [
+        "unary - f32\n\nrank f32 i32\n",
+        "binary + f32 bool\nunary - f32",
+        "binary + f32 bool\nunary -\n",
+    ];
+    let in_wgsl =
+        ["type -f32\n\nrank f32, i32\n", "type f32 + bool\ntype -f32", "type f32 + bool\ntype -\n"];
+    for (program, texts) in PROGRAMS.into_iter().zip([in_words, in_wgsl]) {
+        for (requests, [plain, strict]) in texts.into_iter().zip([[0, 0], [0, 1], [2, 2]]) {
             for (arguments, expected) in [(&[][..], plain), (&["--strict"][..], strict)] {
                 let mut command = Command::new(program);
                 command.args(arguments).stdin(Stdio::piped());

@@ -2,26 +2,30 @@
 
 mod random;
 
-use random::{words, Random};
+use random::Random;
 use std::collections::BTreeSet;
 use wgsl_types_proved::builtin::is_ctor;
-use wgsl_types_proved::requests::standard_answer;
+use wgsl_types_proved::requests::{standard_answer, Error};
 use wgsl_types_proved::standard::*;
 use wgsl_types_proved::syntax::{BinaryOperator, UnaryOperator};
 use wgsl_types_proved::Type;
 
 const ROUNDS: usize = 20_000;
 
-fn expect(request: &str, found: &str) {
-    let answered = standard_answer(request).unwrap_or_else(|refused| refused.to_string());
-    assert_eq!(answered, found, "{request}");
+/// Whether a request can be read; then it has that answer, of a part of an expression behind its column.
+fn is_answered(request: &str, found: &str) -> bool {
+    match standard_answer(request) {
+        Ok(answered) => assert_eq!(answered, found, "{request}"),
+        Err(Error::Refused(told)) => {
+            let message = told.split_once(": ").filter(|(place, _)| place.starts_with("column "));
+            assert_eq!(message.map_or(&*told, |(_, why)| why), found, "{request}");
+        }
+        Err(_) => return false,
+    }
+    true
 }
 
-fn operand_words(operand: &Operand) -> String {
-    format!("{}{}", if operand.is_constant { "const " } else { "" }, words(&operand.ty))
-}
-
-/// The operand as WGSL spells it, but for structs.
+/// The operand as WGSL spells it, but for structs and vectors of other lengths, which no request can spell.
 fn spelled(operand: &Operand) -> String {
     format!("{}{}", if operand.is_constant { "const " } else { "" }, operand.ty)
 }
@@ -48,44 +52,47 @@ fn resolution_text(found: Result<Resolution, NoOverload>) -> String {
 const FORMS: [&str; 5] = ["vec", "mat", "texture", "sampler", "ptr"];
 
 /// The text at the index of a resolution has a template if the call has one, and parameters of the forms of the types.
-fn expect_form(asked: &str, found: &Resolution) {
-    let words: Vec<&str> = asked.split(' ').collect();
-    let has_template = words[0].starts_with('c') && words[2] == "<";
-    let overload = &overloads(words[1])[found.overload];
-    assert_eq!(overload.has_template(), has_template, "{asked}");
+fn expect_form((name, has_template): (&str, bool), found: &Resolution) {
+    let overload = &overloads(name)[found.overload];
+    assert_eq!(overload.has_template(), has_template, "{name}");
     let form = |text: &str| FORMS.iter().find(|form| text.starts_with(**form));
     let texts = overload.parameters().into_iter().map(|at| form(&overload.text[at]));
     let types = found.parameters[usize::from(has_template)..].iter();
-    assert!(texts.eq(types.map(|ty| form(&ty.to_string()))), "{asked}: {overload}");
+    assert!(texts.eq(types.map(|ty| form(&ty.to_string()))), "{name}: {overload}");
 }
 
-/// Calls without overloads, whose requests are answered by the rules of forms.
-const NO_OVERLOADS: [&str; 3] = ["unary & ", "unary * ", "ctor array "];
+/// Calls without overloads, whose types are those of forms.
+const NO_OVERLOADS: [&str; 3] = ["& ", "* ", "array"];
 
-/// What is asked, in words behind the command, with its value, its resolution and, if it is refused, why. Whether the value of the
-/// expression is a const-expression is as a type shows it; returns 1 if one does.
+/// An expression, by the name of its operator or call and whether that has a template, with its value, its resolution and, if it
+/// is refused, why. Returns whether requests have answered the same, and whether a type shows if it is a const-expression.
 fn compare(
-    asked: &str,
+    callee: (&str, bool),
     expression: &str,
     value: Result<Option<Operand>, NoOverload>,
     resolution: Result<Resolution, NoOverload>,
-) -> usize {
+) -> [bool; 2] {
     match &resolution {
         Ok(found) => {
-            expect_form(asked, found);
-            assert_eq!(value.as_ref(), Ok(&found.result), "{asked}");
+            expect_form(callee, found);
+            assert_eq!(value.as_ref(), Ok(&found.result), "{expression}");
         }
-        Err(refused) => expect_reasons(asked, refused),
+        Err(refused) => expect_reasons(expression, refused),
     }
     let is_constant = is_shown_constant(expression);
     if let (Ok(Some(value)), Some(is_constant)) = (&value, is_constant) {
         assert_eq!(value.is_constant || value.ty.is_abstract(), is_constant, "{expression}");
     }
-    if !NO_OVERLOADS.iter().any(|call| asked.starts_with(call)) {
-        expect(asked, &type_text(value));
-    }
-    expect(&format!("resolve {asked}"), &resolution_text(resolution));
-    usize::from(is_constant.is_some())
+    let has_overloads = !NO_OVERLOADS.iter().any(|call| expression.starts_with(call));
+    let is_asked = has_overloads
+        && is_answered(&format!("type {expression}"), &type_text(value))
+        && is_answered(&format!("resolve {expression}"), &resolution_text(resolution));
+    [is_asked, is_constant.is_some()]
+}
+
+/// How often the first and the second of these hold.
+fn counts(found: impl Iterator<Item = [bool; 2]>) -> [usize; 2] {
+    found.fold([0, 0], |[a, b], [x, y]| [a + usize::from(x), b + usize::from(y)])
 }
 
 /// Whether an expression is a const-expression, if a type shows it.
@@ -99,7 +106,7 @@ fn is_shown_constant(expression: &str) -> Option<bool> {
 }
 
 /// The reasons are those that are asked for by `why`, in another order: the nearest first.
-fn expect_reasons(asked: &str, refused: &NoOverload) {
+fn expect_reasons(expression: &str, refused: &NoOverload) {
     let mut reasons = refused.explanations();
     let listed = overloads(&refused.callee.to_string());
     for why in &reasons {
@@ -130,67 +137,59 @@ fn expect_reasons(asked: &str, refused: &NoOverload) {
         Mismatch::Argument { index, .. } => (0, 99 - index, why.overload),
         Mismatch::Template(_) => (0, 100, why.overload),
     };
-    assert!(reasons.windows(2).all(|pair| distance(&pair[0]) < distance(&pair[1])), "{asked}");
+    assert!(reasons.windows(2).all(|pair| distance(&pair[0]) < distance(&pair[1])), "{expression}");
     reasons.sort_by_key(|why| why.overload);
     let why: Vec<String> = reasons.iter().map(Explanation::to_string).collect();
-    let why = if why.is_empty() { "none".to_string() } else { why.join("\n") };
-    expect(&format!("why {asked}"), &why);
+    let why = match &why[..] {
+        [] if refused.is_unknown_name => refused.to_string(),
+        [] => "none".to_string(),
+        lines => lines.join("\n"),
+    };
+    is_answered(&format!("why {expression}"), &why);
 }
 
 #[test]
 fn operators() {
     let mut random = Random::new(6);
-    let mut shown = 0;
-    for _ in 0..ROUNDS {
+    let [asked, shown] = counts((0..ROUNDS).flat_map(|_| {
         let (operator, unary) = (random.binary_operator(), random.unary_operator());
         let (lhs, rhs) = (random.operand(), random.operand());
-        shown += compare(
-            &format!("binary {operator} {} {}", operand_words(&lhs), operand_words(&rhs)),
+        let binary = compare(
+            (&operator.to_string(), false),
             &format!("{} {operator} {}", spelled(&lhs), spelled(&rhs)),
             type_binary_op(operator, &lhs, &rhs).map(Some),
             resolve_binary_op(operator, &lhs, &rhs),
         );
-        shown += compare(
-            &format!("unary {unary} {}", operand_words(&lhs)),
+        let unary = compare(
+            (&unary.to_string(), false),
             &format!("{unary} {}", spelled(&lhs)),
             type_unary_op(unary, &lhs).map(Some),
             resolve_unary_op(unary, &lhs),
         );
-    }
-    assert!(shown > ROUNDS / 5, "{shown}");
+        [binary, unary]
+    }));
+    assert!(asked > ROUNDS && shown > ROUNDS / 5, "{asked}, {shown}");
 }
 
 #[test]
 fn constructors_and_calls() {
     let mut random = Random::new(7);
-    let mut shown = 0;
-    for _ in 0..ROUNDS {
+    let [asked, shown] = counts((0..ROUNDS).map(|_| {
         let (name, template, operands) = random.standard_call();
-        let in_words: Vec<String> = operands.iter().map(operand_words).collect();
-        let in_brackets =
-            template.as_ref().map_or("-".to_string(), |ty| format!("< t {} >", words(ty)));
-        let rest = format!("{name} {in_brackets} {}", in_words.join(" "));
-        let list = template.as_ref().map_or(String::new(), |ty| format!("<{ty}>"));
+        let template = template.as_ref();
+        let list = template.map_or(String::new(), |ty| format!("<{ty}>"));
         let arguments: Vec<String> = operands.iter().map(spelled).collect();
         let expression = format!("{name}{list}({})", arguments.join(", "));
-        let template = template.as_ref();
-        shown += if is_ctor(name) {
-            compare(
-                &format!("ctor {rest}"),
-                &expression,
-                type_ctor(name, template, &operands).map(Some),
-                resolve_ctor(name, template, &operands),
-            )
+        let (value, resolution) = if is_ctor(name) {
+            let value = type_ctor(name, template, &operands).map(Some);
+            (value, resolve_ctor(name, template, &operands))
         } else {
-            compare(
-                &format!("call {rest}"),
-                &expression,
-                type_builtin_fn(name, template, &operands),
-                resolve_builtin_fn(name, template, &operands),
-            )
+            let value = type_builtin_fn(name, template, &operands);
+            (value, resolve_builtin_fn(name, template, &operands))
         };
-    }
-    assert!(shown > ROUNDS / 20, "{shown}");
+        compare((name, template.is_some()), &expression, value, resolution)
+    }));
+    assert!(asked > ROUNDS / 2 && shown > ROUNDS / 20, "{asked}, {shown}");
 }
 
 #[test]
@@ -213,7 +212,7 @@ fn overloads_are_listed() {
     for name in ["-", "+", "<<", "select", "vec3", "textureStore", "bitcast", "no_such_name"] {
         let texts: Vec<String> = overloads(name).into_iter().map(|listed| listed.text).collect();
         let found = if texts.is_empty() { "none".to_string() } else { texts.join("\n") };
-        expect(&format!("overloads {name}"), &found);
+        assert!(is_answered(&format!("overloads {name}"), &found));
     }
 }
 

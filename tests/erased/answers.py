@@ -4,7 +4,7 @@ import os
 import re
 
 from check_forms import questions as form_questions
-from random_lines import random_lines
+from random_lines import broken_requests, random_lines
 from random_requests import random_requests
 from tools import TESTS, TOP, answers_of, cargo, fail
 
@@ -55,9 +55,10 @@ def compare_arguments(native):
 def questions():
     asked = list(rows())
     names = sorted({row.split()[1] for row in asked if re.match(r"(call|ctor) \S", row)})
-    forms = [request for request, _ in form_questions()] + random_requests(FORMS)
-    lines = [row.encode() for row in asked + forms] + random_lines(names, LINES)
-    return b"\n".join(lines) + b"\n"
+    forms = random_requests(FORMS)
+    in_wgsl = [request for request, _ in form_questions()] + forms + broken_requests(forms)
+    lines = [row.encode() for row in asked + in_wgsl]
+    return b"\n".join(lines + random_lines(names, LINES)) + b"\n"
 
 
 def compare_lines(native):

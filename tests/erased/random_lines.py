@@ -1,5 +1,6 @@
-"""Random requests: right ones, ones with operands that don't fit, and broken ones."""
+"""Random requests in words, right ones, ones with operands that don't fit, and broken ones; and requests in WGSL, broken."""
 import random
+import re
 
 SCALARS = "bool AbstractInt AbstractFloat i32 u32 f32 f16 i64 u64 f64".split()
 SPACES = "function private workgroup uniform storage handle immediate push_constant".split()
@@ -59,12 +60,9 @@ class Random(random.Random):
             return self.type(2)
         return self.choice(SCALARS) if kind < 5 else f"vec {self.choice('23')} {self.choice(SCALARS)}"
 
-    def operand(self):
-        return ("const " if self.randrange(6) == 0 else "") + self.value()
-
     def operands(self):
-        same, count = self.operand(), self.randrange(5)
-        return [same if self.randrange(2) else self.operand() for _ in range(count)]
+        same, count = self.value(), self.randrange(5)
+        return [same if self.randrange(2) else self.value() for _ in range(count)]
 
     def template(self):
         if self.randrange(4):
@@ -78,26 +76,23 @@ class Random(random.Random):
 
     def operator(self):
         if self.randrange(3) == 0:
-            return f"unary {self.choice(UNARY)} {self.operand()}"
-        return f"binary {self.choice(BINARY)} {self.operand()} {self.operand()}"
+            return f"unary {self.choice(UNARY)} {self.value()}"
+        return f"binary {self.choice(BINARY)} {self.value()} {self.value()}"
 
     def request(self):
-        kind = self.randrange(12)
+        kind = self.randrange(11)
         if kind < 6:
-            front = self.choice(["", "", "", "resolve ", "why "])
-            return front + (self.call() if kind < 4 else self.operator())
+            return self.call() if kind < 4 else self.operator()
         return [
             lambda: f"rank {self.type()} {self.type()}",
             lambda: f"rank {self.value()} {self.value()}",
             lambda: " ".join(["common", *(self.value() for _ in range(self.randrange(5)))]),
             lambda: f"size {self.type()}",
             lambda: f"{self.choice(['layout', 'offsets'])} {self.struct(3)}",
-            lambda: f"overloads {self.choice(self.names)}",
         ][kind - 6]()
 
-    def broken(self, line):
-        """The line with one word left out, doubled or replaced, or cut."""
-        words = line.split(" ")
+    def broken(self, words, blank=" "):
+        """The words with one left out, doubled or replaced, or cut."""
         at = self.randrange(len(words))
         change = self.randrange(5)
         if change == 0:
@@ -109,12 +104,12 @@ class Random(random.Random):
         elif change == 3:
             words[at] = words[at][:-1]
         else:
-            return line[:self.randrange(len(line) + 1)]
-        return " ".join(words)
+            words = words[:at + 1]
+        return blank.join(words)
 
     def line(self):
         request = self.request()
-        return (self.broken(request) if self.randrange(5) == 0 else request).replace("\n", " ")
+        return self.broken(request.split(" ")) if self.randrange(5) == 0 else request
 
 
 def random_lines(names, count, seed=1):
@@ -124,3 +119,9 @@ def random_lines(names, count, seed=1):
     for at in range(0, count, 1000):
         lines[at] += b"\xff"
     return lines
+
+
+def broken_requests(requests, seed=2):
+    """The requests in WGSL, each with a token left out, doubled or replaced, or cut."""
+    found = Random(seed, [])
+    return [found.broken(re.findall(r"\w+|\W", request), "") for request in requests]

@@ -8,7 +8,7 @@ import sys
 
 HERE = os.path.dirname(os.path.abspath(__file__))
 TESTS = os.path.dirname(HERE)
-sys.path[:0] = [HERE, os.path.join(TESTS, "overloads"), os.path.join(TESTS, "erased"), TESTS]
+sys.path[:0] = [HERE, *(os.path.join(TESTS, name) for name in ("overloads", "erased", "expression")), TESTS]
 from form_requests import answer  # noqa: E402, beside the parts of this program
 from random_requests import random_requests  # noqa: E402
 from tools import cargo, fail  # noqa: E402

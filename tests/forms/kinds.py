@@ -2,8 +2,7 @@
 import re
 
 from search import RANKS
-from spelling import STRUCTS, parts_of
-from types_in_words import SCALARS
+from spelling import OWN_SCALARS, SCALARS, STRUCTS, parts_of
 
 CONCRETE = {"AbstractInt": "i32", "AbstractFloat": "f32"}
 RESULT_STRUCT = re.compile(r"__(frexp|modf)_result_(?:vec\d_)?(abstract|f32|f16)")
@@ -75,7 +74,7 @@ def is_constructible(t):
         return all(is_constructible(of) for _, of in STRUCTS[t])
     if element_of(t):
         return not is_runtime_sized(t) and is_constructible(element_of(t))
-    return t in SCALARS
+    return t in SCALARS + OWN_SCALARS
 
 
 def contains(wanted, t):

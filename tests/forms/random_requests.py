@@ -1,13 +1,14 @@
-"""Random requests in words. Nearly half of them have a type."""
+"""Random requests. Nearly half of them have a type."""
 import random
+import re
 
+from form_requests import Operand
 from kinds import concrete, element_of, is_abstract, is_constructible, is_matrix, is_vector, with_element
-from request_words import ACCESSES, SPACES, Operand
 from rules import behind, default_access, has_fixed_footprint, is_host_shareable, is_reference
-from spelling import STRUCTS, words
-from types_in_words import SCALARS
+from spelling import OWN_SCALARS, SCALARS, STRUCTS, declarations
 
-OWN_SCALARS = ["i64", "u64", "f64"]  # naga's, of which the search for overloads knows nothing
+SPACES = "function private workgroup uniform storage immediate handle".split()
+ACCESSES = "read write read_write atomic".split()
 OPERATORS = "+ - * / % & | ^ << >>".split()
 STORED = {
     "S": [("a", "i32"), ("b", "vec3<f32>")],
@@ -30,11 +31,14 @@ STORED = {
 SHAPES = {"": "%s", "vec2_": "vec2<%s>", "vec3_": "vec3<%s>", "vec4_": "vec4<%s>"}
 PRECISIONS = {"abstract": ("AbstractFloat", "AbstractInt"), "f32": ("f32", "i32"), "f16": ("f16", "i32")}
 RETURNED = {"__atomic_compare_exchange_result": [("old_value", "i32"), ("exchanged", "bool")]}
+# The calls that return them, of what may be a const-expression.
+CALLS = {"__atomic_compare_exchange_result": "atomicCompareExchangeWeak(ptr<storage, atomic<i32>, read_write>, i32, i32)"}
 for shape, spelled in SHAPES.items():
     for precision, (float_type, exponent) in PRECISIONS.items():
-        fract = "fract", spelled % float_type
-        RETURNED[f"__frexp_result_{shape}{precision}"] = [fract, ("exp", spelled % exponent)]
-        RETURNED[f"__modf_result_{shape}{precision}"] = [fract, ("whole", spelled % float_type)]
+        x = spelled % float_type
+        RETURNED[f"__frexp_result_{shape}{precision}"] = [("fract", x), ("exp", spelled % exponent)]
+        RETURNED[f"__modf_result_{shape}{precision}"] = [("fract", x), ("whole", x)]
+        CALLS |= {f"__{name}_result_{shape}{precision}": f"{name}(%s{x})" for name in ("frexp", "modf")}
 STRUCTS.update(STORED | RETURNED)
 HANDLES = ["sampler", "sampler_comparison", "texture_2d<f32>", "texture_2d<u32>", "texture_3d<i32>", "texture_depth_2d"]
 HANDLES += ["texture_external", "texture_multisampled_2d<f32>", "texture_storage_2d<rgba8unorm, write>"]
@@ -50,7 +54,7 @@ class Random(random.Random):
     # Types
 
     def scalar(self):
-        return self.choice(OWN_SCALARS if self.is_rare() else SCALARS[:7])
+        return self.choice(OWN_SCALARS if self.is_rare() else SCALARS)
 
     def vector(self):
         return f"vec{self.choice('234')}<{self.scalar()}>"
@@ -63,8 +67,8 @@ class Random(random.Random):
 
     def value(self):
         """Mostly the type of a value, else one that is only stored."""
-        kinds = [self.scalar, self.vector, self.matrix, self.array]
-        [kind] = self.choices([*kinds, lambda: self.choice([*STORED]), lambda: self.choice([*RETURNED])], [6, 6, 3, 3, 4, 1])
+        kinds = [self.scalar, self.vector, self.matrix, self.array, lambda: self.choice([*STORED])]
+        [kind] = self.choices(kinds, [6, 6, 3, 3, 4])
         return kind()
 
     def stored(self):
@@ -97,6 +101,9 @@ class Random(random.Random):
 
     def operand(self):
         kind = self.random()
+        if kind < 0.03:
+            t = self.choice([*RETURNED])
+            return Operand(t, self.random() < 0.5 and "%s" in CALLS[t])
         if kind < 0.35:
             return Operand(self.reference(), self.is_rare())
         return Operand(self.type(), kind < 0.6)
@@ -111,14 +118,14 @@ class Random(random.Random):
 
     def target(self, t):
         """A type to which a value of the type often converts."""
-        return self.type() if self.random() < 0.15 else self.near(TARGETS, concrete(t) if self.random() < 0.3 else t)
+        return self.type() if self.random() < 0.15 or t in RETURNED else self.near(TARGETS, concrete(t) if self.random() < 0.3 else t)
 
     def source(self, t):
         """An operand that often converts to the type."""
         kind = self.random()
         if kind < 0.15:
             return self.operand()
-        if kind < 0.4 and (self.is_rare() or not is_abstract(t)):
+        if kind < 0.4 and t not in RETURNED and (self.is_rare() or not is_abstract(t)):
             return Operand(self.memory("ref", t), False)
         return Operand(self.near(SOURCES, t), self.random() < 0.5)
 
@@ -132,43 +139,44 @@ class Random(random.Random):
             return self.choice(STRUCTS[t])[0]
         letters = self.choice(["xyzw", "rgba"])
         letters = letters[: int(t[3])] if is_vector(t) and self.random() < 0.7 else letters
-        letters = "xyzwrgbastuv" if self.is_rare() else letters
+        letters = "xyzwrgbatu" if self.is_rare() else letters
         return "".join(self.choices(letters, k=self.choice([1, 1, 1, 2, 3, 4, 5])))
 
     def member(self):
-        x = self.operand() if self.random() < 0.5 else self.source(self.choice([self.vector(), self.choice([*STRUCTS])]))
-        return f"member {said(x)} {self.member_name(behind(x.type))}"
+        x = self.operand() if self.random() < 0.5 else self.source(self.choice([self.vector(), self.choice([*STORED])]))
+        return f"type {said(x)}.{self.member_name(behind(x.type))}"
 
     def parts(self):
         x = self.operand() if self.random() < 0.4 else self.source(self.choice([self.vector, self.matrix, self.array])())
-        return f"index {said(x)} {said(self.index())}"
+        return f"type {said(x)}[{said(self.index())}]"
+
+    def initialized(self, x):
+        declared = f": {self.target(loaded(x.type))}" if self.random() < 0.5 else ""
+        return f"x{declared} = {said(x)}"
 
     def declaration(self):
         form = self.choice(["let", "const", "override"])
         x = self.operand() if form == "let" or self.random() < 0.3 else Operand(self.type(), True)
         if form == "override" and self.random() < 0.7:
             x = Operand(self.scalar(), True)
-        if self.random() < 0.5:
-            return f"{form} {said(x)}"
-        if form == "override" and self.random() < 0.3:
-            return f"override : {words(self.type())}"
-        return f"{form} {said(x)} : {words(self.target(loaded(x.type)))}"
+        if form == "override" and self.random() < 0.15:
+            return f"override x: {self.target(loaded(x.type))}"
+        return f"{form} {self.initialized(x)}"
 
     def variable(self):
         space = self.choice(["", *SPACES])
         access = self.choice(ACCESSES[:3]) if space and self.random() < 0.3 else ""
-        start = " ".join(filter(None, ["var", space, access]))
+        memory = ", ".join(filter(None, [space, access]))
+        start = f"var<{memory}>" if memory else "var"
         if self.random() < (0.3 if space in ("", "function", "private") else 0.9):
             held = self.choice([*HANDLES, "binding_array<sampler, 4>"])
-            return f"{start} : {words(held if space == 'handle' and self.random() < 0.5 else self.stored())}"
+            return f"{start} x: {held if space == 'handle' and self.random() < 0.5 else self.stored()}"
         x = Operand(self.value(), True) if space == "private" and self.random() < 0.7 else self.operand()
-        if self.random() < 0.5:
-            return f"{start} {said(x)}"
-        return f"{start} {said(x)} : {words(self.target(loaded(x.type)))}"
+        return f"{start} {self.initialized(x)}"
 
     def assignment(self):
         x = Operand(self.reference(), False) if self.random() < 0.93 else self.operand()
-        return f"assign = {said(x)} {said(self.source(behind(x.type)))}"
+        return f"{assigned(x)} = {said(self.source(behind(x.type)))}"
 
     def operator(self, t):
         """One that takes the scalar, mostly."""
@@ -184,79 +192,90 @@ class Random(random.Random):
         x = Operand(self.memory("ref", t), False) if self.random() < 0.93 else self.operand()
         same = t.replace("i32", "u32") if operator in ("<<", ">>") else t
         other = self.choice([same, same, concrete(element_of(t) or t), self.vector(), self.matrix()])
-        request = f"assign {operator}= {said(x)} {said(self.source(other))}"
+        request = f"{assigned(x)} {operator}= {said(self.source(other))}"
         return self.compound() if is_own(request) or is_abstract(behind(x.type)) else request
 
     def increment(self):
         x = Operand(self.memory("ref", self.choice(["i32", "u32"])), False) if self.random() < 0.6 else self.operand()
-        return f"{self.choice(['increment', 'decrement'])} {said(x)}"
+        return f"{assigned(x)}{self.choice(['++', '--'])}"
 
     def passed(self, types):
         """Operands for the types, mostly as many."""
         operands = [self.source(t) for t in types]
         if self.is_rare():
             operands = self.choice([operands[1:], [*operands, self.operand()]])
-        return " ".join(map(said, operands))
+        return ", ".join(map(said, operands))
 
     def fit(self):
+        if self.random() < 0.2:
+            return f"if {said(self.source('bool'))} {{ }}"
         types = [self.type() if self.random() < 0.3 else concrete(self.value()) for _ in range(self.choice([0, 1, 1, 1, 2, 3]))]
-        return " ".join(["fit", *self.passed(types).split(), ">", *map(words, types)])
+        parameters = ", ".join(f"{name}: {t}" for name, t in zip("abc", types))
+        return f"fn f({parameters}) f({self.passed(types)})"
 
     def construct(self):
-        names = [*STRUCTS] if self.random() < 0.3 else [name for name in STRUCTS if is_constructible(name)]
+        names = [*STORED] if self.random() < 0.3 else [name for name in STORED if is_constructible(name)]
         name = self.choice(names)
-        operands = self.passed([of for _, of in STRUCTS[name]]) if self.random() < 0.9 else ""
-        return f"construct {words(name)} {operands}".rstrip()
+        return f"type {name}({self.passed([of for _, of in STRUCTS[name]]) if self.random() < 0.9 else ''})"
 
     def switch(self):
         t = self.choice(["i32", "u32", "AbstractInt"])
         cases = [Operand(self.choice([t, t, t, "AbstractInt", "u32"]), not self.is_rare()) for _ in range(self.randrange(4))]
-        return " ".join(["switch", said(self.source(t)), *map(said, cases)])
+        clause = f"case {', '.join(map(said, cases))} {{ }} " if cases else ""
+        return f"switch {said(self.source(t))} {{ {clause}default {{ }} }}"
 
     def array_constructor(self):
         t, number = self.value(), self.randrange(5)
         operands = self.passed([t] * number)
         kind = self.random()
         if kind < 0.45:
-            return f"ctor array - {operands}".rstrip()
-        declared = words(concrete(t) if self.random() < 0.8 else self.type())
+            return f"type array({operands})"
+        declared = concrete(t) if self.random() < 0.8 else self.type()
         if kind < 0.5:
-            return f"ctor array < t {declared} > {operands}".rstrip()
+            return f"type array<{declared}>({operands})"
         number = self.choice([number or 2, number or 2, 3])
-        return f"ctor array < t {declared} n {number} > {operands}".rstrip()
+        return f"type array<{declared}, {number}>({operands})"
 
     def memory_operator(self):
         """`&` and `*`."""
         kind = self.random()
         if kind < 0.4:
-            return f"unary & {'component ' if self.is_rare() else ''}{words(self.reference())}"
-        return f"unary * {words(self.memory('ptr'))}" if kind < 0.7 else f"unary {self.choice('&*')} {said(self.operand())}"
+            component = ".x" if self.is_rare() else ""
+            return f"type &{self.memory('ref', self.vector()) if component else self.reference()}{component}"
+        return f"type *{self.memory('ptr')}" if kind < 0.7 else f"type {self.choice('&*')}{said(self.operand())}"
 
     def layout(self):
         """Of a struct that ends in a runtime-sized array, mostly. Without scalars of 64 bits, whose vectors may have no alignment."""
-        shareable = [t for t in (self.stored() for _ in range(12)) if is_host_shareable(t) and not is_own(words(t))]
-        members = shareable[: self.randrange(4)] + [f"array<{(shareable or ['f32'])[-1]}>"]
+        shareable = [t for t in (self.stored() for _ in range(12)) if is_host_shareable(t) and not is_own(declarations([t]) + t)]
+        types = shareable[: self.randrange(4)] + [f"array<{(shareable or ['f32'])[-1]}>"]
         if self.is_rare():
-            members.append(self.choice(["u32", "array<f32>", "Ends"]))
-        sizes = [self.choice(["-", "-", "-", "512"]) if has_fixed_footprint(t) else "-" for t in members]
-        aligns = self.choices(["-", "-", "-", "16", "32", "256"], k=len(members))
-        said = [f"m{at} {size} {align} {words(t)}" for at, (t, size, align) in enumerate(zip(members, sizes, aligns))]
-        return " ".join([f"layout struct L {len(members)}", *said])
+            types.append(self.choice(["u32", "array<f32>", "Ends"]))
+        sizes = ["@size(512) " if has_fixed_footprint(t) and self.random() < 0.25 else "" for t in types]
+        aligns = self.choices(["", "", "", "@align(16) ", "@align(32) ", "@align(256) "], k=len(types))
+        members = [f"{size}{align}m{at}: {t}" for at, (t, size, align) in enumerate(zip(types, sizes, aligns))]
+        return f"layout struct L {{ {', '.join(members)} }}"
 
     def request(self):
         forms = [self.member, self.parts, self.declaration, self.variable, self.assignment, self.compound, self.increment]
         forms += [self.fit, self.construct, self.switch, self.array_constructor, self.memory_operator, self.layout]
-        loads = [lambda: f"load {said(self.operand())}", lambda: f"assign _ {said(self.operand())}"]
-        return self.choice([*forms, *loads])()
+        loads = [lambda: f"load {said(self.operand())}", lambda: f"_ = {said(self.operand())}"]
+        text = self.choice([*forms, *loads])()
+        return declarations(re.findall(r"\w+", text)) + text
 
 
-def is_own(said_words):
-    """Whether a scalar of 64 bits is among the words."""
-    return not set(said_words.split()).isdisjoint(OWN_SCALARS)
+def is_own(text):
+    """Whether a scalar of 64 bits is in the text."""
+    return not set(re.findall(r"\w+", text)).isdisjoint(OWN_SCALARS)
 
 
 def said(x):
-    return ("const " if x.says_const else "") + words(x.type)
+    const = "const " if x.says_const else ""
+    return CALLS[x.type].replace("%s", const) if x.type in CALLS else const + x.type
+
+
+def assigned(x):
+    """The left of an assignment: a `const` in front of a statement begins a declaration."""
+    return f"({said(x)})" if x.says_const else said(x)
 
 
 def loaded(t):

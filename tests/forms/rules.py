@@ -8,8 +8,7 @@ from facts import read_facts
 from kinds import can_be_named_value, common_type, concrete, contains, converts, element_of, is_abstract, is_array, is_atomic
 from kinds import is_binding_array, is_constructible, is_handle, is_matrix, is_pointer, is_runtime_sized, is_vector
 from search import Search
-from spelling import STRUCTS, parts_of
-from types_in_words import SCALARS
+from spelling import OWN_SCALARS, SCALARS, STRUCTS, parts_of
 
 
 class Refused(Exception):
@@ -180,7 +179,7 @@ def is_made_of(is_part, t):
         return all(is_part(of) for _, of in STRUCTS[t])
     if element_of(t):
         return not is_runtime_sized(t) and is_part(element_of(t))
-    return t in SCALARS and not is_abstract(t)
+    return t in SCALARS + OWN_SCALARS and not is_abstract(t)
 
 
 def has_fixed_footprint(t):

@@ -1,11 +1,12 @@
 """Layouts of structs that end in a runtime-sized array, which counts as one element."""
 import math
 
-from request_words import ATTRIBUTES
 from kinds import contains, element_of, is_matrix, is_runtime_sized, is_vector
 from rules import without_runtime_sized_end
 from spelling import STRUCTS, parts_of
 
+# The attributes `size` and `align` of members, by the names of struct and member.
+ATTRIBUTES = {}
 SIZES = {"i32": 4, "u32": 4, "f32": 4, "f16": 2, "i64": 8, "u64": 8, "f64": 8}
 
 

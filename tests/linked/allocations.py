@@ -4,8 +4,7 @@ By the ported rules a vector that is read or built takes one allocation; the typ
 takes one, and so does an answer that is one word or has at most 8 bytes. Other answers of at most 16 bytes take two. `common`
 has three lists, the types, the types on their lines and copies of them, and if they convert a fourth, of the results.
 
-By WGSL's own overloads nothing is allocated for scalars and vectors of scalars, be they operands or results. A call takes one,
-and that of a name one more for the list of its operands. The text of a vector grows once for each 8 bytes behind the first."""
+By WGSL's own rules a request takes as many as one of the same form with `f32` for each scalar and `vec2f` for each vector."""
 import os
 import random
 import sys
@@ -64,15 +63,19 @@ def ported(library, rng):
     return f"answer {request}", in_text(command, types, status, answer.decode())
 
 
-def resolved(library, rng):
-    """A request by WGSL's own overloads, with the number of its allocations. Refusals are long."""
-    command = rng.choice(list(NAMES))
-    types = [rng.choice(["", "const "]) + ty for ty in short_types(rng, command)]
-    request = " ".join(head(rng, command) + types)
-    status, answer = library.ask("standard_answer", request.encode())
-    grown = (len(answer) - 1) // 8 if answer.startswith(b"vec") else 0
-    is_refused = status == 1 or answer.startswith(b"no overload")
-    return f"standard_answer {request}", None if is_refused else 1 + (command in ("call", "ctor")) + grown
+FORMS = ["type -{}", "type {} + {}", "type {} * {}", "resolve {} - {}", "type max({}, {})", "type clamp({}, {}, {})", "let x = {}"]
+VECTORS = [f"vec{count}{scalar}" for count in "234" for scalar in "iufh"]
+
+
+def in_wgsl(library, rng):
+    """A request by WGSL's own rules, with another that is to allocate as often. Both have an answer."""
+    form, first = rng.choice(FORMS), rng.choice(["f32", "i32", "u32", "f16", *VECTORS])
+    operands = [first if rng.randrange(2) else rng.choice(SCALARS + VECTORS) for _ in range(form.count("{}"))]
+    pair = [form.format(*types) for types in (operands, ["vec2f" if t in VECTORS else "f32" for t in operands])]
+    replies = [library.ask("standard_answer", request.encode()) for request in pair]
+    # The text of an answer grows once for each 8 bytes behind the first.
+    is_alike = all(status == 0 for status, _ in replies) and len({(len(text) - 1) // 8 for _, text in replies}) == 1
+    return f"standard_answer {pair[0]}", f"standard_answer {pair[1]}" if is_alike else None
 
 
 # Modules with how often the library allocates for each.
@@ -80,7 +83,7 @@ MODULES = [("", 6), ("struct S { a: f32 }", 33), ("@group(0) @binding(0) var<uni
 
 
 def questions(library, count):
-    """Short requests with the number of their allocations."""
+    """Short requests with the number of their allocations, or with another that takes as many."""
     rng = random.Random(5)
-    asked = [ask(library, rng) for ask in (ported, resolved) for _ in range(count)]
+    asked = [ask(library, rng) for ask in (ported, in_wgsl) for _ in range(count)]
     return [row for row in asked if row[1] is not None] + [(f"source_layout {module}", number) for module, number in MODULES]

@@ -15,7 +15,7 @@ from statuses import check_statuses
 from tools import BINDINGS, LINKED, TOP, WARNINGS, answers_and_notes, compare, compare_both, compile_c, compile_cpp, expect_shown
 from tools import is_there, run, write_shown
 
-# How many calls by WGSL's own overloads are asked, and short requests whose allocations are counted.
+# How many calls by WGSL's own rules are asked, and short requests whose allocations are counted.
 CALLED, COUNTED = 150, 1500
 WRAPPED = ["-Wl,--wrap=malloc,--wrap=realloc,--wrap=free"]
 VALGRIND = ["valgrind", "--quiet", "--leak-check=full", "--show-leak-kinds=all", "--error-exitcode=9"]
@@ -32,8 +32,8 @@ def lines_of(*folders):
 
 
 def requests():
-    """The requests of tests/lines, some that can't be read or only by WGSL's own overloads, and a long answer."""
-    lines = lines_of("lines") + ["unary - const f32", "overloads cross", "why unary - f32"]
+    """The requests of tests/lines, some that can't be read or only by WGSL's own rules, and a long answer."""
+    lines = lines_of("lines") + ["unary - const f32", "overloads cross", "why -f32"]
     lines += ["", " \t\r", "\0", " \0 ", "foo", "binary + i32", "unary - " + "atomic " * 500 + "f32"]
     lines += ["\v", " \f\u0085", "\u3000 ", "\x1c", "rank\rf32\r\tf32"]
     lines += ["size struct a\0b 1 x - - f32", "layout struct S\0 2 \0 - - f32 a\0\0b - - vec 3 f32", "call a\0 - f32"]
@@ -42,10 +42,10 @@ def requests():
 
 
 def standard_requests():
-    """The same by WGSL's own overloads, with some calls of tests/standard, and all lists of overloads."""
+    """The same by WGSL's own rules, with some calls of tests/standard, and all lists of overloads."""
     lines = lines_of("lines", "standard") + standard_calls.requests(CALLED)
-    lines += ["", " \t\r", "\v", "size\rf32", "\0", "foo", "why", "unary - " + "atomic " * 500 + "f32", " " * 4096, " " * 4097]
-    return [line.encode() for line in lines] + [b"overloads \xff", b"unary - f32\r"]
+    lines += ["", " \t\r", "\v", "size\rf32", "\0", "foo", "why", "type -" + "array<" * 250 + "f32" + ">" * 250, " " * 4096, " " * 4097]
+    return [line.encode() for line in lines] + [b"overloads \xff", b"type -f32\r"]
 
 
 def names_in(*command):
@@ -108,7 +108,7 @@ def check_cpp(folder, swept, wanted, standard_swept, standard_wanted):
         return
     lines = compile_cpp(folder, os.path.join(LINKED, "lines.cpp"), "lines_cpp")
     compare_both("C++", wanted, answers_and_notes(lines, asked=swept))
-    compare_both("C++, by WGSL's own overloads", standard_wanted, answers_and_notes(lines, "standard", asked=standard_swept))
+    compare_both("C++, by WGSL's own rules", standard_wanted, answers_and_notes(lines, "standard", asked=standard_swept))
     layout = compile_cpp(folder, os.path.join(LINKED, "layout.cpp"), "layout_cpp")
     for path in source_calls.MODULES:
         text = source_calls.read(path)
@@ -144,12 +144,15 @@ def check_memory(folder, library, asked):
 
 
 def count_short(program, short):
-    """How often the library allocates for each of the requests: as often as it is to."""
-    questions = "".join(f"{question}\n" for question, _ in short)
-    counts = [int(count) for count in run(program, asked=questions.encode()).split()]
-    for (question, wanted), count in zip(short, counts, strict=True):
-        if count != wanted:
-            sys.exit(f"link: {question} allocates {count} times, not {wanted}")
+    """How often the library allocates for each of the requests: as often as it is to, or as for another one."""
+    others = [wanted for _, wanted in short if isinstance(wanted, str)]
+    asked = [*(question for question, _ in short), *others]
+    counts = [int(count) for count in run(program, asked="".join(f"{question}\n" for question in asked).encode()).split()]
+    known = dict(zip(asked, counts, strict=True))
+    for question, wanted in short:
+        wanted = known.get(wanted, wanted)
+        if known[question] != wanted:
+            sys.exit(f"link: {question} allocates {known[question]} times, not {wanted}")
     return counts
 
 
@@ -178,18 +181,18 @@ def check_ruled_out(library, name, lines):
 
 
 def check_standard_text(library, swept):
-    """Texts are answered by WGSL's own overloads, and explained, as the program prints them. Returns what it prints."""
+    """Texts are answered by WGSL's own rules, and explained, as the program prints them. Returns what it prints."""
     wanted = answers_and_notes(os.path.join(TOP, "wgsl_standard"), asked=swept)
     printed, notes = [], []
     for number, line in enumerate(swept.split(b"\n")[:-1], 1):
-        if len(line) <= sweeps.LONGEST and not line.strip(b" \t\r"):
-            continue
         text, why = library.text("standard_answer", line), library.text("standard_explain", line)
+        if why == "no words":
+            continue
         if (text is None) == (why is None):
             sys.exit(f"link: {line[:1000]} is answered by {text}, and explained by {why}")
         printed.append(f"{text}\n" if why is None else f"bad line {number}\n")
         notes += [] if why is None else [f"line {number}: {why}\n"]
-    compare_both("the library, by WGSL's own overloads", wanted, ("".join(printed).encode(), "".join(notes).encode()))
+    compare_both("the library, by WGSL's own rules", wanted, ("".join(printed).encode(), "".join(notes).encode()))
     return wanted
 
 

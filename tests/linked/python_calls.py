@@ -1,16 +1,16 @@
-"""The calls of the Python package over types as WGSL spells them, compared with requests in words. The words come from
-tests/spelling.py."""
+"""The calls of the Python package, compared with requests about the same."""
 import os
 import random
+import re
 import sys
 
 import wgsl
 
 TESTS = os.path.dirname(os.path.dirname(os.path.abspath(__file__)))
 sys.path[1:1] = [TESTS, os.path.join(TESTS, "overloads")]
-from calls import UNIVERSE, Calls, in_words, is_constructor  # noqa: E402, beside tests/standard
+from calls import UNIVERSE, Calls, request  # noqa: E402, beside tests/standard
 from facts import read_facts  # noqa: E402
-from spelling import STRUCTS, words  # noqa: E402
+from spelling import SCALARS, STRUCTS  # noqa: E402
 
 CALLED, PAIRS, LISTS = 20000, 5000, 2000
 SHORT = {"i": "i32", "u": "u32", "f": "f32", "h": "f16"}
@@ -21,23 +21,24 @@ def wrong(what):
 
 
 def outcome(ask, *given, **named):
-    """What a call returns, or the message of a refusal."""
+    """What a call returns, or the message of a refusal without its column. What has no value is None."""
     try:
         return ask(*given, **named)
     except wgsl.Refused as refused:
-        return "refused", str(refused)
+        message = re.sub(r"^column \d+: ", "", str(refused))
+        return None if message == "no value" else ("refused", message)
 
 
-def expect_same(request, found):
+def expect_same(text, found):
     """The call gave what the request is answered."""
-    wanted = outcome(wgsl.answer, request)
-    wanted = None if wanted in ("no value", "none") else wanted
+    wanted = outcome(wgsl.answer, text)
+    wanted = None if wanted == "none" else wanted
     if found != wanted:
-        wrong(f"{request} is {wanted}, and by a call {found}")
+        wrong(f"{text} is {wanted}, and by a call {found}")
 
 
 def is_spelled(call):
-    """Whether no struct stands in a call: these can't be spelled."""
+    """Whether no struct stands in a call: none is declared in its arguments."""
     return not any(struct in operand for operand in call[2] for struct in STRUCTS)
 
 
@@ -46,12 +47,12 @@ def compare_call(call):
     given = [("const " if is_const else "") + operand for operand, is_const in zip(operands, constant)]
     if not name[0].isalpha():
         found = outcome(wgsl.unary, name, *given) if len(given) == 1 else outcome(wgsl.binary, name, *given)
-    elif is_constructor(name):
+    elif name in SCALARS or name.startswith(("vec", "mat")):
         found = outcome(wgsl.construct, name, given, template=template)
     else:
         found = outcome(wgsl.call, name, given, template)
         compare_resolution(call, given)
-    expect_same(in_words(call), found)
+    expect_same(request("type", call)[0], found)
 
 
 def compare_resolution(call, given):
@@ -62,7 +63,7 @@ def compare_resolution(call, given):
             wrong(f"{call[0]} of {given} is {found}")
         result = "" if found.result is None else f" -> {found.result}"
         found = f"{found.overload} ({', '.join(found.parameters)}){result}"
-    expect_same(f"resolve {in_words(call)}", found)
+    expect_same(request("resolve", call)[0], found)
 
 
 def compare_calls():
@@ -76,20 +77,18 @@ def compare_calls():
 
 
 def compare_types():
-    """Ranks, common types, sizes, also of types in words."""
+    """Ranks, common types, sizes."""
     rng, types = random.Random(62), [ty for ty in UNIVERSE if ty not in STRUCTS]
-    for ty in UNIVERSE:
-        expect_same(f"common {words(ty)} {words(ty)}", wgsl.common([words(ty), f" {words(ty)} "]))
     for ty in types:
         size = wgsl.size(ty)
-        expect_same(f"size {words(ty)}", " ".join("none" if n is None else str(n) for n in size))
+        expect_same(f"size {ty}", " ".join("none" if n is None else str(n) for n in size))
     for _ in range(PAIRS):
         a, b = rng.choice(types), rng.choice(types)
         rank = wgsl.rank(a, b)
-        expect_same(f"rank {words(a)} {words(b)}", None if rank is None else str(rank))
+        expect_same(f"rank {a}, {b}", None if rank is None else str(rank))
     for _ in range(LISTS):
         some = rng.choices(types, k=rng.randrange(4))
-        expect_same(" ".join(["common", *map(words, some)]), wgsl.common(iter(some)))
+        expect_same(f"common {', '.join(some)}", wgsl.common(iter(some)))
 
 
 def compare_aliases():
@@ -112,8 +111,8 @@ def compare_aliases():
             wrong(f"{wrong_type} has the size {wgsl.size(wrong_type)}")
         except wgsl.Unreadable:
             pass
-    if wgsl.size("struct Light 2 color - - vec3<f32> power - - f32") != (16, 16):
-        wrong("a struct in words has another size")
+    if wgsl.size("struct Light { color: vec3<f32>, power: f32 }") != (16, 16):
+        wrong("a struct has another size")
 
 
 def compare_source():
@@ -129,14 +128,13 @@ def compare_source():
 
 def compare_notes():
     """A refusal and what can't be read have their request, and a refusal its notes."""
-    request = "call cross - f32 vec 3 f32"
-    for kind, asked in ((wgsl.Refused, request), (wgsl.Unreadable, f"{request} f33")):
+    for kind, asked in ((wgsl.Refused, "type cross(f32, vec3f)"), (wgsl.Unreadable, "type cross(f32, f33)")):
         try:
             wrong(f"{asked} is {wgsl.answer(asked)}")
         except kind as raised:
             if raised.request != asked or str(raised) == asked:
                 wrong(f"{asked} raises {raised!r} of {raised.request!r}")
-            if kind is wgsl.Refused and "\n".join(raised.notes) != wgsl.answer(f"why {request}"):
+            if kind is wgsl.Refused and "\n".join(raised.notes) != wgsl.answer(f"why {asked[5:]}"):
                 wrong(f"the notes are {raised.notes}")
 
 
@@ -156,4 +154,4 @@ compare_aliases()
 compare_source()
 compare_notes()
 compare_rare()
-print(f"{CALLED} calls, {PAIRS} ranks, {LISTS} common types, as requests in words answer")
+print(f"{CALLED} calls, {PAIRS} ranks, {LISTS} common types, as requests answer")

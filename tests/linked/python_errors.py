@@ -5,8 +5,6 @@ import traceback
 
 import wgsl
 
-ATOMIC = "struct S 1 a - - atomic u32"
-
 # Arguments of a wrong type, with the message.
 WRONG_TYPES = [
     (wgsl.answer, (b"size f32",), "a request is a str, not bytes"),
@@ -40,48 +38,55 @@ WRONG_TYPES = [
 
 # Arguments that can't be read: which it is, and a request that has the same fault.
 MISREAD = [
-    (wgsl.unary, ("~~", "f32"), "operator", "unary ~~ f32"),
-    (wgsl.unary, ("- f32", ""), "operator", "overloads - f32"),
-    (wgsl.unary, ("-", "int"), "operand", "size int"),
-    (wgsl.unary, ("-", "const int"), "operand", "size int"),
-    (wgsl.unary, ("-", "f32 f32"), "operand", "size f32 f32"),
-    (wgsl.unary, ("-", ""), "operand", "size"),
+    (wgsl.unary, ("~~", "f32"), "operator", "overloads ~~"),
+    (wgsl.unary, ("- f32", ""), "operator", "overloads + - f32"),
+    (wgsl.unary, ("abs", "(f32)"), "operator", "overloads + abs"),
+    (wgsl.unary, ("vec2", "f"), "operator", "overloads + vec2"),
+    (wgsl.unary, ("-&", "f32"), "operator", "overloads -&"),
+    (wgsl.unary, ("+", "f32"), "operator", "type + f32"),
+    (wgsl.unary, ("-", "int"), "operand", "type int"),
+    (wgsl.unary, ("-", "const int"), "operand", "type const int"),
+    (wgsl.unary, ("-", "f32 f32"), "operand", "type f32 f32"),
+    (wgsl.unary, ("-", ""), "operand", "type"),
     (wgsl.binary, ("", "f32", "f32"), "operator", "overloads"),
-    (wgsl.binary, ("+\n", "f32", "f32"), "operator", "overloads \n"),
-    (wgsl.binary, ("++", "int", "f32"), "operator", "binary ++ f32 f32"),
-    (wgsl.binary, ("+ f32", "", "f32"), "operator", "overloads + f32"),
-    (wgsl.binary, ("+", "int", "f32"), "left", "size int"),
-    (wgsl.binary, ("+", "x", "f32"), "left", "size x"),
-    (wgsl.binary, ("+", "f32 f32", ""), "left", "size f32 f32"),
-    (wgsl.binary, ("+", "", "f32 f32"), "left", "size"),
-    (wgsl.binary, ("+", "const ", "f32"), "left", "size"),
-    (wgsl.binary, ("+", "f32", "const const f32"), "right", "size const f32"),
-    (wgsl.binary, ("+", "f32", "vec 3 f33"), "right", "size vec 3 f33"),
-    (wgsl.binary, ("+", "f32", "f32\nf32"), "right", "size \n"),
-    (wgsl.binary, ("+", "f32", "\ud800"), "right", "size \ud800"),
-    (wgsl.call, ("max f32", []), "name", "overloads max f32"),
-    (wgsl.call, ("ß", ["f32", "ü", "f32"]), "argument 2", "size ü"),
-    (wgsl.call, ("max", ["ü", "f32"]), "argument 1", "size ü"),
-    (wgsl.call, ("max", ["f32", "f32 "] + ["f33"]), "argument 3", "size f33"),
-    (wgsl.call, ("max", ["f32 f32"]), "argument 1", "size f32 f32"),
-    (wgsl.call, ("max", ["f32", ""]), "argument 2", "size"),
+    (wgsl.binary, ("+ -", "f32", "f32"), "operator", "overloads + -"),
+    (wgsl.binary, ("!", "f32", "f32"), "operator", "type f32 ! f32"),
+    (wgsl.binary, ("+ f32 +", "", "f32"), "operator", "overloads + + f32 +"),
+    (wgsl.binary, ("+", "int", "f32"), "left", "type int"),
+    (wgsl.binary, ("+", "x", "f32"), "left", "type x"),
+    (wgsl.binary, ("+", "f32 f32", ""), "left", "type f32 f32"),
+    (wgsl.binary, ("+", "f32) + (f32", "f32"), "left", "type f32) + (f32"),
+    (wgsl.binary, ("+", "", "f32 f32"), "left", "type"),
+    (wgsl.binary, ("+", "const ", "f32"), "left", "type const"),
+    (wgsl.binary, ("+", "f32", "const const f32"), "right", "type const const f32"),
+    (wgsl.binary, ("+", "f32", "vec3<f33>"), "right", "type vec3<f33>"),
+    (wgsl.binary, ("+", "f32", "f32\nf32"), "right", "type f32 f32"),
+    (wgsl.binary, ("+", "f32", "\ud800"), "right", "type \ud800"),
+    (wgsl.call, ("max(f32) + max", []), "name", "fn max(f32) + max() type bool"),
+    (wgsl.call, ("-", ["f32"]), "name", "fn -() type bool"),
+    (wgsl.call, ("", ["f32"]), "name", "fn () type bool"),
+    (wgsl.call, ("max", ["ü", "f32"]), "argument 1", "type ü"),
+    (wgsl.call, ("max", ["f32", "f32 "] + ["f33"]), "argument 3", "type f33"),
+    (wgsl.call, ("max", ["f32, f32"]), "argument 1", "type f32, f32"),
+    (wgsl.call, ("max", ["f32", ""]), "argument 2", "type"),
     (wgsl.call, ("bitcast", ["f32"], "int"), "template", "size int"),
-    (wgsl.call, ("bitcast", [], "i32 f32"), "template", "size i32 f32"),
-    (wgsl.construct, ("vec3f", ["f32", "int"]), "argument 2", "size int"),
-    (wgsl.construct, ("", []), "name", "overloads"),
+    (wgsl.call, ("bitcast", [], "i32, f32"), "template", "size i32, f32"),
+    (wgsl.construct, ("vec3f", ["f32", "int"]), "argument 2", "type int"),
+    (wgsl.construct, ("", []), "name", "fn () type bool"),
     (wgsl.construct, ("vec3", [], "vec3<f32"), "template", "size vec3<f32"),
-    (wgsl.resolve_call, ("max", ["int", "f32"]), "argument 1", "size int"),
-    (wgsl.resolve_call, ("max - f32", []), "name", "overloads max - f32"),
+    (wgsl.resolve_call, ("max", ["int", "f32"]), "argument 1", "type int"),
+    (wgsl.resolve_call, ("max -", []), "name", "fn max -() type bool"),
     (wgsl.overloads, ("a b",), "name", "overloads a b"),
     (wgsl.overloads, ("",), "name", "overloads"),
     (wgsl.rank, ("int", "f32"), "source", "size int"),
     (wgsl.rank, ("f32", "int"), "target", "size int"),
-    (wgsl.rank, ("f32 f32", ""), "source", "size f32 f32"),
+    (wgsl.rank, ("f32, f32", "f32"), "source", "size f32, f32"),
+    (wgsl.rank, ("const f32", "f32"), "source", "size const f32"),
     (wgsl.common, (["f32", "f32", "int"],), "type 3", "size int"),
-    (wgsl.common, (["f32 f32"],), "type 1", "size f32 f32"),
+    (wgsl.common, (["f32, f32"],), "type 1", "size f32, f32"),
     (wgsl.size, ("int",), "ty", "size int"),
     (wgsl.size, ("const f32",), "ty", "size const f32"),
-    (wgsl.size, ("array<\u00a0f32, 4>",), "ty", "size array<\u00a0f32,4>"),
+    (wgsl.size, ("array<\u00a0f32, 4>",), "ty", "size array<\u00a0f32, 4>"),
     (wgsl.size, ("f" * 4097,), "ty", "size" + "f" * 4097),
 ]
 
@@ -108,7 +113,7 @@ def check_arguments():
         expect(str(error) == message, f"{ask.__name__}{given!r} raises {error!r}, not {message!r}")
     for ask, given, argument, request in MISREAD:
         error = raised(wgsl.Unreadable, ask, given)
-        why = re.sub(r"^column \d+, word \d+: ", "", str(raised(wgsl.Unreadable, wgsl.answer, (request,))))
+        why = re.sub(r"^column \d+: ", "", str(raised(wgsl.Unreadable, wgsl.answer, (request,))))
         expect(str(error) == f"{argument}: {why}", f"{ask.__name__}{given!r:.90} raises {error!r:.200}, not {argument}: {why}")
         expect(str(raised(wgsl.Unreadable, wgsl.answer, (error.request,))).endswith(why), f"{error!r} has the request {error.request!r}")
         expect("column" not in "".join(traceback.format_exception(type(error), error, None)), f"{error!r} is printed with a column")
@@ -116,30 +121,39 @@ def check_arguments():
     expect(str(long) == str(raised(wgsl.Unreadable, wgsl.answer, ("size" * 1025,))), f"a long request raises {long!r}")
 
 
-def check_words():
-    """An operand may be in words. Each blank of WGSL may stand around a type and in its list."""
+def check_operands():
+    """An operand may be a literal or an expression. Each blank of WGSL may stand around a type and in its list."""
     for blank in "\t\n\v\f\r \x85\u200e\u200f\u2028\u2029":
         size = wgsl.size("".join(f"{blank}{token}" for token in ("array", "<", "vec3f", ",", "4", ">", "")))
         expect(size == (64, 16), f"with {blank!r} between tokens a size is {size}")
-    found = wgsl.binary("*", " const vec 3 f32\n", "const\t f32 "), wgsl.call("max", ["vec 2 f32", "const  vec 2 f32"]), wgsl.common([ATOMIC, ATOMIC])
-    expect(found == ("vec3<f32>", "vec2<f32>", "S"), f"operands in words make {found}")
-    component = raised(wgsl.Refused, wgsl.unary, ("&", "component ref<function, f32, read_write>"))
+    found = wgsl.binary("*", " const vec3f\n", "const\t f32 "), wgsl.call("max", ["1h", "2"]), wgsl.binary("<<", "1", "const u32")
+    expect(found == ("vec3<f32>", "f16", "AbstractInt"), f"operands make {found}")
+    found = wgsl.binary("*", "mat3x3f + mat3x3f", "vec3f - vec3(1, 2, 3)"), wgsl.unary("-", "vec2(f32, 1).yx"), wgsl.call("max", ["(1)", "(u32)"])
+    expect(found == ("vec3<f32>", "vec2<f32>", "u32"), f"expressions make {found}")
+    found = wgsl.construct("array", ["1", "2u"]), wgsl.construct("vec3", ["vec2f(1, 2)", "1"]), wgsl.size("struct S { a: vec3f }")
+    expect(found == ("array<u32, 2>", "vec3<f32>", (16, 16)), f"constructors make {found}")
+    expect("(bool)" in str(raised(wgsl.Refused, wgsl.unary, ("-", "f32 == 1"))), "an operator binds stronger than that of its operand")
+    component = raised(wgsl.Refused, wgsl.unary, ("&", "ref<function, vec2f, read_write>.x"))
     expect("component" in str(component) and component.notes == [], f"& of a component raises {component!r}")
 
 
 def check_refused():
     """A refusal has its notes, and a traceback prints them; what has no overloads has none."""
-    for command in ("binary + vec3<f32> vec3<i32>", "resolve call max - f32 vec2f", " \tresolve unary ! f32"):
-        refused, wanted = raised(wgsl.Refused, wgsl.answer, (command,)), wgsl.answer(f"why {command.replace('resolve', '')}").split("\n")
-        expect(refused.notes == wanted == refused.__notes__, f"{command!r} has the notes {refused.notes}")
+    asked = [("type vec3<f32> + vec3<i32>", "why vec3<f32> + vec3<i32>"), (" \tresolve max(f32, vec2f)", "why max(f32, vec2f)")]
+    asked.append(("struct S { resolve: f32 } type S.resolve * true", "struct S { resolve: f32 } why S.resolve * true"))
+    for request, why in asked:
+        refused, wanted = raised(wgsl.Refused, wgsl.answer, (request,)), wgsl.answer(why).split("\n")
+        expect(refused.notes == wanted == refused.__notes__, f"{request!r} has the notes {refused.notes}")
         if hasattr(refused, "add_note"):
             refused.add_note("as a note of the caller")
             printed = "".join(traceback.format_exception(refused))
             expect(printed.endswith("\n".join([f"wgsl.requests.Refused: {refused}", *wanted, "as a note of the caller", ""])), f"a traceback is {printed}")
-    for command in ("member f32 x", "index f32 i32", "let f32 : i32", "type f32 + bool", "fit f32 > i32", "call max - bool" + " " * 4081):
-        refused = raised(wgsl.Refused, wgsl.answer, (command,))
-        expect(refused.notes == refused.__notes__ == [], f"{command[:90]!r} has the notes {refused.notes}")
+    for request in ("type f32.x", "type f32[i32]", "let x: f32 = i32", "type f32 + bool + 1", "fn f(a: i32) f(f32)", "type -(f32 + bool)"):
+        refused = raised(wgsl.Refused, wgsl.answer, (request,))
+        expect(refused.notes == refused.__notes__ == [], f"{request[:90]!r} has the notes {refused.notes}")
     expect(not wgsl.Refused("", "unary ! f32", "wgsl-types").__notes__, "the rules of wgsl-types have notes")
+    refused = raised(wgsl.Refused, wgsl.binary, ("+", "f32", "vec3<bool>"))
+    expect(str(refused) == "no overload of `+` takes (f32, vec3<bool>)" and len(refused.notes) == 4, f"a call raises {refused!r}")
 
 
 def check_copies():
@@ -202,7 +216,7 @@ def check_dtypes():
 
 
 check_arguments()
-check_words()
+check_operands()
 check_refused()
 check_copies()
 check_aliases()

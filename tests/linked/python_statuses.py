@@ -38,10 +38,10 @@ def check_statuses():
 
 def check_refused():
     """A refusal has its request, and asks why; by the rules of wgsl-types there are no notes."""
-    for command, asked in (("refuse a", "refuse a"), (" resolve\tsay b", "\tsay b"), ("resolved", "resolved"), ("none", None)):
+    for command, asked in (("type a", "a"), ("resolve resolve b", "resolve b"), ("resolved a", None), ("a.type b", None), ("type: b", None), ("none", None)):
         notes = wgsl.Refused("", command, "wgsl").notes
         expect(notes == ([] if asked is None else [asked]), f"{command!r} has the notes {notes}")
-    expect(wgsl.Refused("", "refuse a", "wgsl-types").notes == [], "the rules of wgsl-types have notes")
+    expect(wgsl.Refused("", "type a", "wgsl-types").notes == [], "the rules of wgsl-types have notes")
     try:
         wgsl.answer("refuse a", rules="wgsl-types")
     except wgsl.Refused as refused:

@@ -28,7 +28,7 @@ def different(requests, wanted, start):
 
 def main():
     requests = sys.stdin.buffer.read().decode(errors="surrogateescape").split("\n")
-    requests += [f"size struct {name} 1 a - - f32" for name in SURROGATES]
+    requests += [f"size struct {name} {{ a: f32 }}" for name in SURROGATES]
     wanted = [reply(request) for request in requests]
     if any(wanted[-len(SURROGATES):]):
         sys.exit("link: in Python a lone surrogate is read")

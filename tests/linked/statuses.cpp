@@ -5,8 +5,11 @@
 #include <string>
 #include <thread>
 
+using wgsl::Language;
 using wgsl::Rules;
 using wgsl::Status;
+
+static_assert(int(Language::c) == WGSL_C && int(Language::rust) == WGSL_RUST && int(Language::typescript) == WGSL_TYPESCRIPT);
 
 static bool is(const wgsl::Result &reply, Status status, std::string_view text) {
     return reply.status == status && reply.text == text && bool(reply) == (status == Status::answered);
@@ -37,7 +40,9 @@ int main() {
         EXPECT(replies("refuse " + text, Status::ruled_out, text));
         EXPECT(replies(text, Status::unreadable, text));
         EXPECT(is(wgsl::source_layout("say " + text), Status::answered, text));
-        EXPECT(is(wgsl::source_code("say " + text, wgsl::Language::numpy), Status::answered, text));
+        EXPECT(is(wgsl::source_code("say " + text, Language::numpy), Status::answered, text));
+        for (auto other : {Language::c, Language::rust, Language::typescript})
+            EXPECT(is(wgsl::source_code("say " + text, other), Status::unreadable, ""));
     }
     EXPECT(replies({}, Status::unreadable, ""));
     EXPECT(replies("unexplained", Status::out_of_memory, ""));

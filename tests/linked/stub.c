@@ -10,7 +10,7 @@
  *   status N    the status N
  *
  * Any other request is unreadable, which is explained by the request itself, but for `unexplained`: that runs out of memory.
- * A request at NULL has a status that wgsl.h doesn't name. Requests of WGSL's own overloads are answered in the same way. A
+ * A request at NULL has a status that wgsl.h doesn't name. Requests by WGSL's own rules are answered in the same way. A
  * WGSL text is answered as a request is. The version is that of wgsl.h, or OTHER_VERSION. */
 #include "wgsl.h"
 #include <sched.h>

@@ -67,46 +67,52 @@ def padded(n):
     return [f"rank i32 u32{blanks}", f"{blanks}rank i32 u32", f"rank {blanks}i32 u32", f"rank i32\t{blanks}\ru32"]
 
 
-# By WGSL's own overloads.
+# By WGSL's own rules.
 
-def named_in_overloads(name):
+def named_in_wgsl(name):
     return [
         name,
         f"overloads {name}",
-        f"unary {name} i32",
-        f"resolve binary {name} i32 const i32",
-        f"why {name} - i32",
-        f"call {name} - f32",
-        f"resolve call {name} < t i32 > vec 2 f32",
-        f"why ctor {name} - f32",
-        f"ctor vec2 < e {name} > f32",
-        f"call foo < n 0{name}u > f32",
-        f"call max - struct {name} 1 a - - f32 f32",
-        f"why call max - f32 struct {name} 1 b{name} - - f32",
-        f"call abs - ref {name} read f32",
+        f"type {name}i32",
+        f"resolve i32 {name} const i32",
+        f"why {name}(i32)",
+        f"type {name}(f32)",
+        f"resolve {name}<i32>(vec2f)",
+        f"type vec2<{name}>(f32)",
+        f"type 0{name}u",
+        f"struct {name} {{ a: f32 }} type max({name}, f32)",
+        f"struct {name} {{ b{name}: f32 }} why max(f32, {name})",
+        f"layout struct S {{ {name}: f32 }}",
+        f"fn {name}(a: f32) -> u32 type {name}(1) + 1",
+        f"let {name}: f32 = 1",
+        f"type abs(ref<{name}, i32, read>)",
+        f"/*{name}*/ _ = i32 //{name}",
     ]
 
 
-def listed_in_overloads(n):
+def listed_in_wgsl(n):
     return [
-        "unary -" + " vec 2" * n + " i32",
-        "resolve unary -" + " ref function read" * n + " i32",
-        "why unary -" + " array 1" * n + " i32",
-        "binary + i32" + " atomic" * n + " i32",
-        "call max -" + " const i32" * n,
-        "resolve call min -" + " AbstractInt" * n,
-        "why call select -" + " vec 2 f16" * n,
-        "why call foo <" + " t i32" * n + " n 7u" * n + " > f32",
-        "ctor vec4 -" + " f32" * n,
-        "resolve ctor vec2 <" + " t f32" * n + " > f32",
-        "why ctor vec3 -" + " vec 2 i32" * n,
-        f"why call max - struct S {n}" + " a - - f16" * n + " f32",
+        "type -" + "vec2<" * n + "i32" + ">" * n,
+        "resolve -" + "array<" * n + "i32" + ", 1>" * n,
+        "why -" + "ref<function, " * n + "i32" + ">" * n,
+        "type " + "-" * n + "f32",
+        "type " + "(" * n + "f32" + ")" * n,
+        "type f32" + " + f32" * n,
+        "type max(" + "const i32, " * n + ")",
+        "resolve min(" + "AbstractInt, " * n + "1)",
+        "why select(" + "vec2h, " * n + "bool)",
+        "type vec2f" + ".xy" * n,
+        "common f32" + ", AbstractInt" * n,
+        "layout struct S { " + "a: f16, " * n + "}",
+        "struct S { " + "a: f16, " * n + "} why max(S, f32)",
+        "fn f(" + "a: f32, " * n + ") f(" + "1, " * n + ")",
+        "switch 1 { case " + "1, " * n + "{ } default { } }",
     ]
 
 
-def padded_in_overloads(n):
+def padded_in_wgsl(n):
     blanks = " " * n
-    return [f"unary - i32{blanks}", f"{blanks}overloads cross", f"why{blanks} call dot - f32", f"binary + const{blanks} i32\t{blanks}\ru32"]
+    return [f"type -i32{blanks}", f"{blanks}overloads cross", f"why{blanks} dot(f32)", f"type const{blanks} i32\t{blanks}\r+u32"]
 
 
 def swept(named, listed, padded):
@@ -124,7 +130,7 @@ def text_requests():
 
 
 def standard_requests():
-    return swept(named_in_overloads, listed_in_overloads, padded_in_overloads)
+    return swept(named_in_wgsl, listed_in_wgsl, padded_in_wgsl)
 
 
 # Texts of WGSL.

@@ -6,7 +6,7 @@ import random
 
 from search import conversions
 from signatures import SAMPLES
-from spelling import SCALARS, is_abstract, is_value, parts_of, words
+from spelling import SCALARS, declarations, is_abstract, is_value, parts_of
 
 CONCRETE = ["bool", "i32", "u32", "f32", "f16"]
 VALUES = [shape % s for shape in ("%s", "vec2<%s>", "vec3<%s>", "vec4<%s>") for s in SCALARS]
@@ -43,17 +43,17 @@ def storage_textures(formats):
     return [f"texture_storage_{kind}<{f}, {a}>" for kind in STORAGE for f in formats for a in ACCESSES]
 
 
-def in_words(call):
+def request(command, call):
+    """The request about a call, and the column of what is called. The command is `type`, `resolve` or `why`."""
     name, template, operands, constant = call
-    said = [("const " if is_const else "") + words(t) for t, is_const in zip(operands, constant)]
-    if not name[0].isalpha():
-        return " ".join(["unary" if len(operands) == 1 else "binary", name, *said])
-    in_brackets = f"< t {words(template)} >" if template else "-"
-    return " ".join(["ctor" if is_constructor(name) else "call", name, in_brackets, *said])
-
-
-def is_constructor(name):
-    return name in SCALARS or name.startswith(("vec", "mat"))
+    said = [("const " if is_const else "") + t for t, is_const in zip(operands, constant)]
+    front = f"{declarations(filter(None, [template, *operands]))}{command} "
+    if name[0].isalpha():
+        listed = f"<{template}>" if template else ""
+        return f"{front}{name}{listed}({', '.join(said)})", len(front) + 1
+    *left, right = said
+    front += "".join(f"{x} " for x in left)
+    return f"{front}{name} {right}", len(front) + 1
 
 
 def with_constants(rng, operands):
@@ -223,11 +223,11 @@ class Calls:
         return FEWER if is_value(t) and self.rng.random() < 0.5 else UNIVERSE
 
     def near_names(self):
-        """Names that are none: each without its last letter, and with one more."""
+        """Names that are none: each without its last letter, and with one more. Some of these are reserved."""
         for name in self.names():
             _, parameters, _ = min(self.table[name], key=str)
             for near in (name[:-1], name + "A"):
-                if near not in self.table:
+                if near not in [*self.table, "do", "mod"]:
                     yield from self.asked(near, None, parameters)
 
 

@@ -34,34 +34,42 @@ function sourceError(text) {
   return assert.fail(`it has no errors: ${text.slice(0, 60)}`);
 }
 
-test("a request is answered by both rules", () => {
-  assert.equal(wgsl.standardAnswer("unary - vec 3 f32"), "vec3<f32>");
+test("a request in WGSL is answered by WGSL's own rules, one in words by the ported rules", () => {
+  assert.equal(wgsl.standardAnswer("type -vec3f"), "vec3<f32>");
+  assert.equal(wgsl.standardAnswer("let x: f32 = vec3f.x"), "f32");
   assert.equal(wgsl.answer("binary + AbstractInt vec 3 f32"), "vec3<f32>");
-  assert.equal(wgsl.standardAnswer("why unary - u32"), "-(T) -> T, T: signed number: argument 1 is u32");
+  assert.equal(wgsl.standardAnswer("why -u32"), "-(T) -> T, T: signed number: argument 1 is u32");
 });
 
-test("what the rules refuse is thrown", () => {
-  assert.throws(() => wgsl.answer("unary - vec 3 f32"), { name: "Refused", message: "cannot use unary operator `-` on type `vec3<f32>`" });
-  assert.throws(() => wgsl.standardAnswer("binary + bool i32"), { name: "Refused", message: "no overload of `+` takes (bool, i32)" });
+test("what the rules refuse is thrown, with the index of the part that has no type", () => {
+  assert.throws(() => wgsl.answer("unary - vec 3 f32"), { name: "Refused", message: "cannot use unary operator `-` on type `vec3<f32>`", index: null });
+  assert.throws(() => wgsl.standardAnswer("type bool + i32"), { name: "Refused", message: "column 11: no overload of `+` takes (bool, i32)", index: 10 });
+  assert.throws(() => wgsl.standardAnswer("let x: i32 = f32"), { name: "Refused", index: null });
+  const text = "/* é🦀 */ type 1 + (f32 + bool)";
+  assert.throws(() => wgsl.standardAnswer(text), { name: "Refused", index: text.lastIndexOf("+") });
 });
 
 test("a request that can't be read is thrown", () => {
   assert.throws(() => wgsl.answer("unary - vec 3"), { name: "Unreadable", message: "column 14, word 5: a type is missing", index: 13 });
-  assert.throws(() => wgsl.standardAnswer(""), { name: "Unreadable", message: "no words", index: null });
+  assert.throws(() => wgsl.answer(""), { name: "Unreadable", message: "no words", index: null });
+  assert.throws(() => wgsl.standardAnswer("type 1 +"), { name: "Unreadable", message: "column 9: expected an operand", index: 8 });
+  assert.throws(() => wgsl.standardAnswer(""), wgsl.Unreadable);
   assert.throws(() => wgsl.answer("size ü"), { index: 5 });
   for (const [request, found] of [["call 🦀🦀 - f33", "f33"], ["call é漢\u0085🦀 - vec 3 f33 f32", "f33"], ["call 🦀 - ü🦀", "ü🦀"]]) {
     assert.throws(() => wgsl.answer(request), { index: request.indexOf(found) });
   }
   assert.throws(() => wgsl.answer("rank f32 f32\nrank f32 f32"), wgsl.Unreadable);
+  assert.throws(() => wgsl.standardAnswer("rank f32, f32\nrank f32, f32"), wgsl.Unreadable);
   assert.throws(() => wgsl.answer(`size struct ${"é".repeat(3000)} 0`), wgsl.Unreadable);
 });
 
 test("why a request can't be read", () => {
   assert.equal(wgsl.explain("unary - vec 3"), "column 14, word 5: a type is missing");
-  assert.equal(wgsl.standardExplain("unary - vec 3"), "column 14, word 5: a type is missing");
+  assert.equal(wgsl.standardExplain("type -vec3f."), "column 13: expected a name");
   assert.equal(wgsl.explain("unary - f32"), null);
   assert.notEqual(wgsl.explain("overloads dot"), null);
   assert.equal(wgsl.standardExplain("overloads dot"), null);
+  assert.equal(wgsl.standardExplain("type f32 + bool"), null);
 });
 
 test("the layouts of a text", () => {
@@ -128,11 +136,11 @@ test("a name keeps NULs, a byte order mark and every other character", () => {
 
 test("counts of 2^32 and more are refused, and those below are taken", () => {
   assert.equal(wgsl.answer("ctor array < t f32 n 4294967295 >").slice(0, 5), "array");
+  assert.equal(wgsl.standardAnswer("type array<f32, 4294967295>()"), "array<f32, 4294967295>");
   for (const count of [2n ** 32n, 2n ** 32n + 1n, 2n ** 63n - 1n]) {
-    for (const call of [wgsl.answer, wgsl.standardAnswer]) {
-      assert.throws(() => call(`size array ${count} f32`), wgsl.Unreadable);
-      assert.throws(() => call(`ctor array < t f32 n ${count} >`), wgsl.Refused);
-    }
+    assert.throws(() => wgsl.answer(`size array ${count} f32`), wgsl.Unreadable);
+    assert.throws(() => wgsl.answer(`ctor array < t f32 n ${count} >`), wgsl.Refused);
+    for (const request of [`size array<f32, ${count}>`, `type array<f32, ${count}>()`]) assert.throws(() => wgsl.standardAnswer(request), wgsl.Unreadable);
   }
 });
 
@@ -184,9 +192,9 @@ test("a million calls leave the memory as it is", { timeout: 300_000 }, () => {
   const error = () => assert.throws(() => wgsl.layouts(`${LIGHT} bad`), wgsl.SourceError);
   wgsl.layouts(big);
   error();
-  for (let i = 0; i < 1000; i++) wgsl.standardAnswer("why binary + f32 f32");
+  for (let i = 0; i < 1000; i++) wgsl.standardAnswer("why f32 + f32");
   const before = memorySize();
-  for (let i = 0; i < 1_000_000; i++) wgsl.standardAnswer("binary + AbstractInt vec 3 f32");
+  for (let i = 0; i < 1_000_000; i++) wgsl.standardAnswer("type 1 + vec3f");
   for (let i = 0; i < 100_000; i++) wgsl.explain("unary - vec 3");
   for (let i = 0; i < 10_000; i++) wgsl.layouts(LIGHT);
   for (let i = 0; i < 1000; i++) error();
@@ -223,7 +231,7 @@ test("the entry for browsers takes an address, bytes, a response, a module; a 40
   const address = `data:application/wasm;base64,${MODULE.toString("base64")}`;
   for (const source of [MODULE, await WebAssembly.compile(MODULE), Promise.resolve(new Response(MODULE)), address, new URL(address)]) {
     await browser.init(source);
-    assert.equal(browser.standardAnswer("binary + f32 f32"), "f32");
+    assert.equal(browser.standardAnswer("type f32 + f32"), "f32");
   }
   await browser.init();
   await assert.rejects(browser.init(new Response("", { status: 404 })), /404/);
@@ -257,7 +265,7 @@ test("before init a call says what is missing", async () => {
 
 test("the entry with the module in it works at once, and all entries export the same", async () => {
   const inline = await import("wgsl-types-proved/inline");
-  assert.equal(inline.standardAnswer("binary + f32 f32"), "f32");
+  assert.equal(inline.standardAnswer("type f32 + f32"), "f32");
   await inline.init();
   const names = ["Refused", "SourceError", "Unreadable", "answer", "code", "explain", "init", "initSync", "layouts", "standardAnswer", "standardExplain", "version", "view"];
   for (const entry of [inline, browser, wgsl]) assert.deepEqual(Object.keys(entry).sort(), names);

@@ -44,7 +44,7 @@ test("nothing is wider than the window, in any example, in light and dark", asyn
       await page.look({ width, height: 800, dark });
       for (const name of names) {
         await page.run(`{ const list = document.getElementById("examples"); list.value = ${JSON.stringify(name)}; list.dispatchEvent(new Event("change")) }`);
-        for (const request of ["clamp(vec3f, true, i32)", "layout struct S 2 a - - f32 b - - vec 3", "overloads textureSampleLevel"]) {
+        for (const request of ["clamp(vec3f, true, i32)", "layout struct S { a: f32, b: vec3 }", "overloads textureSampleLevel"]) {
           await page.run(ask(request));
           const wide = await page.run("document.documentElement.scrollWidth");
           assert.ok(wide <= width, `${name}, ${request}: ${wide} of ${width}`);
@@ -206,42 +206,44 @@ test("what the page writes in C, Rust and TypeScript is compiled, and each offse
   assert.deepEqual(page.errors, []);
 });
 
-test("the calculator answers expressions, words, and what it can't read", async () => {
+test("the calculator answers expressions, requests, words, and what it can't read", async () => {
   const page = await opened();
   const cases = [
-    ["vec3f + 1", ["vec3<f32>", "vec3<f32>"], "+(vecN<T>, T) -> vecN<T>, T: number"],
-    ["1.5 + f16", ["f16", "f16"], "+(T, T) -> T, T: number"],
-    ["1.5 + i32", ["no overload of + takes (AbstractFloat, i32)", "cannot use binary operator + with operands AbstractFloat and i32"], null],
-    ["1.5f + 0x1fu", ["no overload of + takes (f32, u32)", "cannot use binary operator + with operands f32 and u32"], null],
-    ["-vec3<f32>", ["vec3<f32>", "cannot use unary operator - on type vec3<f32>"], "-(vecN<T>) -> vecN<T>, T: signed number"],
-    ["vec3f - 1", ["vec3<f32>", "vec3<f32>"], "-(vecN<T>, T) -> vecN<T>, T: number"],
-    ["call extractBits - vec 2 u32 u32 u32", ["vec2<u32>", "vec2<u32>"], "extractBits(vecN<T>, u32, u32) -> vecN<T>, T: concrete integer"],
-    ["1 << const u32", ["AbstractInt", "AbstractInt"], "<<(T, u32) -> T, T: integer"],
-    ["vec3<f32>(vec3i)", ["vec3<f32>", "vec3<f32>"], "vec3<T>(vec3<U>) -> vec3<T>, T: concrete scalar, U: scalar"],
-    ["true + true", ["no overload of + takes (bool, bool)", "bool"], null],
-    ["array<f32, 4>", ["array<f32, 4>"], null],
-    ["size vec 3 bool", ["12 16", "12 none"], null],
-    ["mix(vec3f, vec3f, 1) * f32", ["vec3<f32>"], null],
-    ["  type  -vec3f ", ["vec3<f32>", "cannot use unary operator - on type vec3<f32>"], "-(vecN<T>) -> vecN<T>, T: signed number"],
-    ["mat4x3f[u32].xy + const f32", ["vec2<f32>"], null],
-    ["const f32", ["f32"], null],
-    ["const const f32", ["f32"], null],
-    ["const AbstractInt : f32", ["f32"], null],
-    ["const f32 + 1", ["f32", "f32"], "+(T, T) -> T, T: number"],
-    ["1.5f + 0x1f", ["f32", "f32"], "+(T, T) -> T, T: number"],
-    ["i32 < u32", ["no overload of < takes (i32, u32)", "cannot use binary operator < with operands i32 and u32"], null],
-    ["atomicLoad(ptr<workgroup, atomic<u32>>)", ["u32", "u32"], "atomicLoad(ptr<S, atomic<T>, read_write>) -> T, T: concrete integer, S: workgroup or storage"],
-    ["why unary - u32", ["-(T) -> T, T: signed number: argument 1 is u32"], null],
-    ["why unary - i32", ["none"], null],
-    ["common bool f32", ["none"], null],
+    ["vec3f + 1", "vec3<f32>", "Overload 3: (vec3<f32>, f32) -> vec3<f32>"],
+    ["1.5 + f16", "f16", "Overload 0: (f16, f16) -> f16"],
+    ["1.5 + i32", "no overload of + takes (AbstractFloat, i32)", null],
+    ["1.5f + 0x1fu", "no overload of + takes (f32, u32)", null],
+    ["-vec3<f32>", "vec3<f32>", "Overload 1: (vec3<f32>) -> vec3<f32>"],
+    ["1 << const u32", "AbstractInt", "Overload 0: (AbstractInt, u32) -> AbstractInt"],
+    ["vec3<f32>(vec3i)", "vec3<f32>", "Overload 7: (f32, vec3<i32>) -> vec3<f32>"],
+    ["true + true", "no overload of + takes (bool, bool)", null],
+    ["array<f32, 4>", "array<f32, 4>", null],
+    ["size vec3<bool>", "12 16", null],
+    ["mix(vec3f, vec3f, 1) * f32", "vec3<f32>", "Overload 3: (vec3<f32>, f32) -> vec3<f32>"],
+    ["  type  -vec3f ", "vec3<f32>", "Overload 1: (vec3<f32>) -> vec3<f32>"],
+    ["vec3f.xy", "vec2<f32>", null],
+    ["const f32", "f32", null],
+    ["const x: f32 = 1", "f32", null],
+    ["struct S { a: vec3f } type S.a", "vec3<f32>", null],
+    ["fn f(a: f32) -> u32 f(1)", "fits", null],
+    ["storageBarrier()", "no value", null],
+    ["why -u32", "-(T) -> T, T: signed number: argument 1 is u32", null],
+    ["why -i32", "none", null],
+    ["common bool, f32", "none", null],
+    ["binary + bool bool", "bool", null],
+    ["unary - vec 3 f32", "cannot use unary operator - on type vec3<f32>", null],
   ];
-  for (const [request, answers, taken] of cases) {
+  for (const [request, answer, note] of cases) {
     await page.run(ask(request));
-    if (answers) assert.deepEqual(await page.run(texts(".verdict .answer")), answers, request);
-    if (taken) assert.deepEqual(await page.run(texts(".why .taken code")), [taken], request);
+    assert.deepEqual(await page.run(`[${texts(".verdict .answer")}, ${texts(".verdict .overload")}]`), [[answer], note ? [note] : []], request);
   }
-  await page.run(ask("layout struct S 2 a - - f32 b - - vec 3"));
-  assert.match(await page.run("document.querySelector('#answers .request').textContent"), /vec 3\n {39}\^ a type is missing$/);
+  assert.deepEqual(await page.run(texts(".verdict h3")), ["Rules of the crate wgsl-types"]);
+  for (const [request, kind] of [["-f32", "yes"], ["-u32", "no"], ["common i32, f32", "no"]]) {
+    await page.run(ask(request));
+    assert.equal(await page.run("document.querySelector('.verdict').className"), `verdict ${kind}`, request);
+  }
+  await page.run(ask("layout struct S { a: f32, b: vec3 }"));
+  assert.match(await page.run("document.querySelector('#answers .request').textContent"), /b: vec3 \}\n {29}\^ \S/);
   await page.run(ask("vec3f + "));
   assert.match(await page.run("document.querySelector('#answers .request').textContent"), /^vec3f \+\n {7}\^ \w/);
   assert.deepEqual(page.errors, []);

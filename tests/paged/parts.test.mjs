@@ -5,10 +5,9 @@ import { mkdtempSync, readFileSync, rmSync } from "node:fs";
 import { tmpdir } from "node:os";
 import { join } from "node:path";
 import test from "node:test";
-import { requestOf } from "page/expression";
 import { paddingOf, runsOf } from "page/pieces";
 import { commentsOf, foreignOf, leftOut } from "page/wgsl";
-import { SourceError, code, layouts, standardAnswer } from "wgsl-types-proved";
+import { SourceError, code, layouts } from "wgsl-types-proved";
 
 const { TOP, PACKAGE } = process.env;
 
@@ -41,33 +40,6 @@ test("of a member that takes more than seven rows, the first four and the last a
   assert.deepEqual(runs("a: array<f32, 40>, b: array<f32, 40>"), [[0, 4, null], [4, 9, 0], [9, 14, null], [14, 19, 1], [19, 20, null]]);
   assert.deepEqual(runs("a: array<vec4f, 512>", new Set([0])), [[0, 512, null]]);
   assert.deepEqual(runs("a: array<vec4f, 513>", new Set([0])), [[0, 4, null], [4, 512, 0], [512, 513, null]]);
-});
-
-test("an expression of one operator or call is a request in words, which has the answer of `type`", () => {
-  const requests = {
-    "vec3f + 1": "binary + vec 3 f32 AbstractInt", "-u32": "unary - u32", "!true": "unary ! const bool", "const f32 * f16": "binary * const f32 f16",
-    "0x1f + 1": "binary + AbstractInt AbstractInt", "0x1fu + 0XAi": "binary + const u32 const i32", "0x1e * 1e3": "binary * AbstractInt AbstractFloat",
-    "1f / 2h": "binary / const f32 const f16", "1. - .5": "binary - AbstractFloat AbstractFloat", "7i % 7u": "binary % const i32 const u32",
-    "i32 < u32": "binary < i32 u32", "i32 > i32": "binary > i32 i32", "vec2<f32> <= vec2h": "binary <= vec 2 f32 vec 2 f16", "i32 << u32": "binary << i32 u32",
-    "bool && bool": "binary && bool bool", "i32 & i32": "binary & i32 i32", "abs(vec3i)": "call abs - vec 3 i32", "clamp(vec3f, 0, f32,)": "call clamp - vec 3 f32 AbstractInt f32",
-    "vec3<f32>(vec3i)": "ctor vec3 < t f32 > vec 3 i32", "vec3h(f16)": "ctor vec3 < t f16 > f16", "mat2x3(vec3f, vec3f)": "ctor mat2x3 - vec 3 f32 vec 3 f32",
-    "array<f32, 2>(f32, 1)": "ctor array < t f32 n 2 > f32 AbstractInt", "bitcast<u32>(f32)": "call bitcast < t u32 > f32",
-    "atomicLoad(ptr<workgroup, atomic<u32>>)": "call atomicLoad - ptr workgroup read_write atomic u32", "*ptr<storage, f32, read>": "unary * ptr storage read f32",
-    "*ptr<workgroup, i32>": "unary * ptr workgroup read_write i32", "*ptr<private, i32>": "unary * ptr private read_write i32", "*ptr<function, i32>": "unary * ptr function read_write i32",
-    "*ptr<uniform, i32>": "unary * ptr uniform read i32", "textureLoad(texture_2d<f32>, vec2i, 0)": "call textureLoad - texture_2d f32 vec 2 i32 AbstractInt",
-  };
-  for (const [text, request] of Object.entries(requests)) {
-    assert.equal(requestOf(text), request, text);
-    const [wanted, typed] = [request, `type ${text}`].map((asked) => {
-      try {
-        return standardAnswer(asked);
-      } catch ({ message }) {
-        return message.replace(/^column \d+: /, "");
-      }
-    });
-    assert.equal(typed, wanted, text);
-  }
-  for (const text of ["mix(vec3f, vec3f, 1) * f32", "f32", "1 + 2 + 3", "(f32)", "f32 +", "🦀"]) assert.throws(() => requestOf(text), { name: "Error" }, text);
 });
 
 test("code is that of the text, errors or not, and an error has the end of its word", () => {

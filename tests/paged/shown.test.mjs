@@ -57,7 +57,7 @@ test("README's first example is the page's first, and its answers are README's",
     assert.equal(await page.run("request.value"), request);
     assert.deepEqual(await page.run(texts(".verdict .answer")), [wanted[index]]);
   }
-  const unread = await page.run(`[...document.querySelectorAll("#tries button")].filter((button) => (button.click(), document.querySelector("#answers .request"))).map(({ textContent }) => textContent)`);
+  const unread = await page.run(`[...document.querySelectorAll("#tries button")].filter((button) => (button.click(), !document.querySelector("#answers .verdict"))).map(({ textContent }) => textContent)`);
   assert.deepEqual(unread, []);
 });
 
@@ -68,7 +68,11 @@ test("what has no type is marked where it stands, as it was written", async () =
   assert.equal(await marked("type 1 + (f32 + bool)"), "1 + (f32 + bool)\n         ^");
   assert.match(await marked("f32 + )"), /^f32 \+ \)\n {6}\^ \w/);
   assert.match(await marked("const f32 + )"), /^const f32 \+ \)\n {12}\^ \w/);
-  assert.match(await marked("size vec 3"), /^size vec 3\n {10}\^ \w/);
+  assert.match(await marked("size vec3<f32"), /^size vec3<f32\n {5,}\^ \S/);
+  assert.match(await marked("size f32 f32"), /^size f32 f32\n {9}\^ \w/);
+  assert.match(await marked("let x = 1 + "), /^let x = 1 \+\n {11}\^ \w/);
+  assert.match(await marked("let x = 1 + true"), /^let x = 1 \+ true\n {10}\^$/);
+  assert.match(await marked("/*é*/ 1 + true"), /^\/\*é\*\/ 1 \+ true\n {8}\^$/);
   assert.match(await marked("é + f32"), /^é \+ f32\n\^ \w/);
   assert.equal(await marked(`${"1 + ".repeat(1100)}1`).then((shown) => shown.length > 4400), true);
   await page.run(`request.value = "f32 + \\ud800"; request.dispatchEvent(new Event("input"))`);
@@ -76,18 +80,19 @@ test("what has no type is marked where it stands, as it was written", async () =
   assert.deepEqual(page.errors, []);
 });
 
-test("the overloads of an operator or a call stand in WGSL's order behind the one that takes the operands", async () => {
+test("of an operator or a call it is shown which overload it has, and why others don't take the operands", async () => {
   const page = await opened();
-  const shown = async (request) => (await page.run(ask(request)), page.run(`[${text("#asked")}, ${texts(".why h3")}, ${texts(".why li")}, ${text(".verdict .note")}]`));
-  assert.deepEqual(await shown("vec3f + 1"), ["in words: binary + vec 3 f32 AbstractInt", ["The overloads"], [
-    "+(vecN<T>, T) -> vecN<T>, T: numbertakes the operands", "+(vecN<T>, vecN<T>) -> vecN<T>, T: numberargument 2 is AbstractInt",
-    "+(T, vecN<T>) -> vecN<T>, T: numberargument 1 is vec3<f32>", "+(matNxM<T>, matNxM<T>) -> matNxM<T>, T: floatargument 1 is vec3<f32>",
-  ], "The operands convert to (vec3<f32>, f32)"]);
-  assert.deepEqual(await shown("mix(vec3f, vec3f, 1)"), ["in words: call mix - vec 3 f32 vec 3 f32 AbstractInt", ["The overloads"], [
-    "mix(vecN<T>, vecN<T>, T) -> vecN<T>, T: floattakes the operands", "mix(vecN<T>, vecN<T>, vecN<T>) -> vecN<T>, T: floatargument 3 is AbstractInt",
-  ], "The operands convert to (vec3<f32>, vec3<f32>, f32)"]);
-  assert.deepEqual(await shown("unary - u32"), ["", ["Why no overload takes the operands"], ["-(T) -> T, T: signed numberargument 1 is u32"], null]);
-  assert.deepEqual(await shown("1 + (f32 + bool)"), ["", [], [], null]);
+  const shown = async (request) => (await page.run(ask(request)), page.run(`[${texts(".why h3")}, ${texts(".why li")}, ${text(".verdict .overload")}]`));
+  assert.deepEqual(await shown("vec3f + 1"), [["Why other overloads don’t take the operands"], [
+    "+(vecN<T>, vecN<T>) -> vecN<T>, T: numberargument 2 is AbstractInt", "+(T, vecN<T>) -> vecN<T>, T: numberargument 1 is vec3<f32>",
+    "+(matNxM<T>, matNxM<T>) -> matNxM<T>, T: floatargument 1 is vec3<f32>",
+  ], "Overload 3: (vec3<f32>, f32) -> vec3<f32>"]);
+  assert.deepEqual(await shown("mix(vec3f, vec3f, 1)"), [["Why other overloads don’t take the operands"], [
+    "mix(vecN<T>, vecN<T>, vecN<T>) -> vecN<T>, T: floatargument 3 is AbstractInt",
+  ], "Overload 2: (vec3<f32>, vec3<f32>, f32) -> vec3<f32>"]);
+  assert.deepEqual(await shown("-u32"), [["Why no overload takes the operands"], ["-(T) -> T, T: signed numberargument 1 is u32"], null]);
+  assert.deepEqual(await shown("1 + (f32 + bool)"), [[], [], null]);
+  assert.deepEqual(await shown("dot(vec2f, vec2f)"), [[], [], "Overload 0: (vec2<f32>, vec2<f32>) -> f32"]);
 });
 
 test("a struct with an error keeps a grey card, with the error in it", async () => {

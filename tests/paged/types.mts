@@ -16,7 +16,7 @@ try {
 } catch (error) {
   if (error instanceof SourceError) error.errors.map(({ kind, index }: Message) => kind + index);
   else if (error instanceof Unreadable) console.log(error.index, place, bytes, why);
-  else if (error instanceof Refused) console.log(error.message);
+  else if (error instanceof Refused) console.log(error.message, error.index);
 }
 
 /** The struct inside all arrays, as a type says it. */

@@ -13,11 +13,11 @@ static void show_layout() {
 static void show_sum() {
     auto sum = wgsl::answer("binary + bool i32", wgsl::Rules::ported);
     std::puts(sum.text.c_str());
-    auto root = wgsl::answer("call sqrt - AbstractInt");
+    auto root = wgsl::answer("type sqrt(2)");
     if (root) std::puts(root.text.c_str());
 }
 
-// Lines that begin with `wgsl ` are answered by WGSL's own overloads.
+// Lines that begin with `wgsl ` are in WGSL, and answered by its own rules.
 static void answer_lines() {
     for (std::string line; std::getline(std::cin, line);) {
         bool is_standard = line.rfind("wgsl ", 0) == 0;

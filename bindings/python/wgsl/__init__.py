@@ -6,8 +6,8 @@
     >>> wgsl.source_layout("struct Light { color: vec3f, power: f32 }")["structs"][0]["size"]
     16
 
-A type is a `str` as WGSL spells it. The calls answer by WGSL's own overloads; `answer` takes any request in words, and answers
-by the rules of the Rust crate wgsl-types too. `source_layout` reads a whole file, and `source_code` writes its structs as C,
+A type is a `str` as WGSL spells it. The calls answer by WGSL's own rules; `answer` takes any request in WGSL, and requests in words
+by the rules of the Rust crate wgsl-types. `source_layout` reads a whole file, and `source_code` writes its structs as C,
 Rust, numpy or TypeScript.
 
 The library libwgsl.so is beside this package. For another, the environment variable WGSL_LIB names the folder where

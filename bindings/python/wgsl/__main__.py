@@ -13,6 +13,8 @@ try:
 except ImportError as wrong:
     sys.exit(f"wgsl: {wrong}")
 
+NOTHING = "no words"  # what is told of a blank line, or of a comment
+
 
 def read_arguments() -> argparse.Namespace:
     parser = argparse.ArgumentParser(
@@ -33,13 +35,13 @@ def answer_lines(rules: str) -> int:
     status = 0
     for number, line in enumerate(sys.stdin, 1):
         request = line[:-1] if line.endswith("\n") else line
-        if len(request) <= 4096 and not request.strip(" \t\r"):
-            continue
         try:
             print(answer(request, rules))
         except Refused as refused:
             print(refused)
         except Unreadable as unreadable:
+            if str(unreadable) == NOTHING:
+                continue
             print(f"bad line {number}")
             print(f"line {number}: {unreadable}", file=sys.stderr)
             status = 2

@@ -1,25 +1,29 @@
-"""The arguments of a call as words of a request, and which of them can't be read. Nothing here asks the library."""
+"""The arguments of a call as parts of a request. Nothing here asks the library."""
 from __future__ import annotations
 
 import re
-from typing import Iterable, NamedTuple, Sequence
+from typing import Callable, Iterable, NamedTuple
 
-# What WGSL allows between two tokens, and where it parts no words: around a type, and in its list.
-_BLANK = "[ \t\n\v\f\r\x85\u200e\u200f\u2028\u2029]"
-_WITHIN = re.compile(f"^{_BLANK}+|{_BLANK}+$|{_BLANK}+(?=[<>,])|(?<=[<,]){_BLANK}+")
-
-# One word of a request: it has no blank, and can be encoded.
-_WORD = re.compile(f"[^{_BLANK[1:-1]}\ud800-\udfff]+")
-_PLACE = re.compile(r"column (\d+), word \d+: ")
-_ALIAS = re.compile("(vec[234])([iufh])|(mat[234]x[234])([fh])")
-_SCALARS = {"i": "i32", "u": "u32", "f": "f32", "h": "f16"}
+# A name, or `const` and a name: it reads as one part wherever it stands.
+_WORD = re.compile(r"(?:const )?[^\W\d]\w*")
+_PLACE = re.compile(r"column \d+: ")
 
 
 class Argument(NamedTuple):
-    """The name of an argument of a call, and its words in a request."""
+    """The name of an argument of a call, its text, and a request that reads it alone."""
 
     name: str
-    words: str
+    text: str
+    alone: str
+
+    def is_word(self) -> bool:
+        """Whether the text can't be more than a name."""
+        return _WORD.fullmatch(self.text) is not None
+
+    @property
+    def bracketed(self) -> str:
+        """The text as an operand of an operator or a call."""
+        return self.text if self.is_word() else f"({self.text})"
 
 
 def text_of(name: str, kind: str, value: object) -> str:
@@ -29,42 +33,33 @@ def text_of(name: str, kind: str, value: object) -> str:
     return value
 
 
-def type_of(name: str, ty: object) -> Argument:
-    """A type, or an operand, without the blanks that WGSL allows in it, since blanks separate the words of a request."""
-    text = text_of(name, "a type", ty)
-    return Argument(name, text if is_word(text) else _WITHIN.sub("", text))
+def argument(name: str, kind: str, value: object, alone: str) -> Argument:
+    """An argument, which stands for `%s` in the request. That is one line, so blanks stand for the ends of lines."""
+    text = text_of(name, kind, value).replace("\n", " ").strip()
+    return Argument(name, text, alone.replace("%s", text))
 
 
-def types_of(name: str, each: str, types: Iterable[str]) -> list[Argument]:
-    """The types in a list. One is called `each` and its number, from 1."""
-    if isinstance(types, (str, bytes)) or not hasattr(types, "__iter__"):
-        raise TypeError(f"{name}: a list of types is wanted, not {type(types).__name__}")
-    return [type_of(f"{each} {number}", ty) for number, ty in enumerate(types, 1)]
+def type_of(name: str, value: object) -> Argument:
+    return argument(name, "a type", value, "size %s")
 
 
-def is_word(text: str) -> bool:
-    """Whether a text is one word of a request, and no `const`, which is half an operand."""
-    return text != "const" and _WORD.fullmatch(text) is not None
+def operand_of(name: str, value: object) -> Argument:
+    return argument(name, "a type", value, "type %s")
 
 
-def bare(operand: Argument) -> Argument:
-    """The type of an operand, without `const `."""
-    return Argument(operand.name, re.sub("^const(?:[ \t\r]+|$)", "", operand.words))
+def operator_of(value: object) -> Argument:
+    """An operator. It has no letters: a name in front of brackets would be a call, so that can't be read."""
+    operator = argument("operator", "an operator", value, "overloads %s")
+    return operator._replace(alone=f"overloads + {operator.text}") if re.search(r"\w", operator.text) else operator
 
 
-def constructor_of(name: str, template: str | None) -> tuple[str, str | None]:
-    """The name and the template of a constructor. An alias that WGSL predeclares is both: `vec3f` is `vec3<f32>`."""
-    alias = _ALIAS.fullmatch(name) if template is None else None
-    return (name, template) if alias is None else (alias[1] or alias[3], _SCALARS[alias[2] or alias[4]])
+def list_of(of: Callable[[str, object], Argument], name: str, each: str, values: Iterable[str]) -> list[Argument]:
+    """The arguments in a list. One is called `each` and its number, from 1."""
+    if isinstance(values, (str, bytes)) or not hasattr(values, "__iter__"):
+        raise TypeError(f"{name}: a list of types is wanted, not {type(values).__name__}")
+    return [of(f"{each} {number}", value) for number, value in enumerate(values, 1)]
 
 
-def reason(why: str, command: str, arguments: Sequence[Argument]) -> str:
-    """Why a request of a command and its arguments can't be read, with the argument in place of the column in the request."""
-    place, end = _PLACE.match(why), len(command)
-    if place is None:
-        return f"{arguments[0].name}: {why}" if len(arguments) == 1 else why
-    for argument in arguments:
-        end += 1 + len(argument.words.encode("utf-8", "surrogatepass"))
-        if int(place[1]) <= end:
-            break
-    return f"{argument.name}: {why[place.end():]}"
+def without_place(message: str) -> str:
+    """A message without the column in the request."""
+    return _PLACE.sub("", message, count=1)

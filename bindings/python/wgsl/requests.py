@@ -6,26 +6,29 @@ from dataclasses import dataclass
 from functools import cached_property
 from typing import TYPE_CHECKING, Any, Iterable, NamedTuple
 
-from ._arguments import Argument, bare, constructor_of, is_word, reason, text_of, type_of, types_of
+from ._arguments import Argument, argument, list_of, operand_of, operator_of, type_of, without_place
 from ._library import ANSWERED, REFUSED, ask
 
 # The calls that answer and explain, by the rules that they ask.
 RULES = {"wgsl": ("wgsl_standard_answer", "wgsl_standard_explain"), "wgsl-types": ("wgsl_answer", "wgsl_explain")}
 
+# Where a request asks for the type of an expression.
+_ASKS = re.compile(r"\b(?:type|resolve)(?=[ \t\r])")
+
 
 class Unreadable(ValueError):
-    """The request is no command, is blank, isn't one line of text, or has more than 4096 bytes.
+    """The request isn't what can be asked, is blank, isn't one line of text, or has more than 4096 bytes.
 
-    Its text says why: for a request in words the column in bytes, the number of the word, and what was expected there; for any
-    other call the argument, and what is wrong with it. `request` is the request.
+    Its text says why: for a request the column in bytes, and what was expected there; for any other call the argument, and what
+    is wrong with it. `request` is the request.
 
-    >>> for ask in (lambda: answer("unary - vec3<f33>"), lambda: binary("+", "f32", "vec3<f33>")):
+    >>> for ask in (lambda: answer("type -vec3<f33>"), lambda: binary("+", "f32", "vec3<f33>")):
     ...     try:
     ...         ask()
     ...     except Unreadable as unreadable:
     ...         print(unreadable)
-    column 9, word 3: `vec3<f33>` is no type
-    right: `vec3<f33>` is no type
+    column 12: `f33` is no type; did you mean `f32`?
+    right: `f33` is no type; did you mean `f32`?
     """
 
     def __init__(self, why: str, request: str) -> None:
@@ -59,11 +62,10 @@ class Refused(Exception):
     @property
     def notes(self) -> list[str]:
         """For each overload of WGSL's own why it doesn't take the operands. There are none by the rules of wgsl-types, nor of what
-        has no overloads, as `member`."""
-        asked = re.sub(r"^[ \t\r]*resolve(?=[ \t\r])", "", self.request)
+        has no overloads, as members and declarations."""
         try:
-            return _lines(answer(f"why {asked}")) if self.rules == "wgsl" else []
-        except Unreadable:
+            return _lines(answer(_ASKS.sub("why", self.request, count=1))) if self.rules == "wgsl" else []
+        except (Refused, Unreadable):
             return []
 
     if not TYPE_CHECKING:  # whose `__notes__` is a list that can be set
@@ -79,7 +81,7 @@ def _lines(text: str) -> list[str]:
 
 
 def _value(text: str) -> str | None:
-    return None if text in ("none", "no value") else text
+    return None if text == "none" else text
 
 
 def _number(text: str) -> int | None:
@@ -87,13 +89,12 @@ def _number(text: str) -> int | None:
 
 
 def answer(request: str, rules: str = "wgsl") -> str:
-    """Answers one request, by WGSL's own overloads or by the rules of the Rust crate `wgsl-types`. Names in requests and answers
-    may have NULs.
+    """Answers one request: in WGSL by WGSL's own rules, or in words by those of the Rust crate `wgsl-types`.
 
     Raises Refused if the rules refuse the expression, Unreadable, or MemoryError if memory runs out.
 
-    >>> answer("binary + AbstractInt vec3<f32>")
-    'vec3<f32>'
+    >>> answer("type AbstractInt + vec3<f32>"), answer("let x: f32 = vec3f.x"), answer("binary + f32 f32", rules="wgsl-types")
+    ('vec3<f32>', 'f32', 'f32')
     """
     if not isinstance(request, str):
         raise TypeError(f"a request is a str, not {type(request).__name__}")
@@ -110,46 +111,48 @@ def answer(request: str, rules: str = "wgsl") -> str:
     return text
 
 
-def _asked(command: str, *arguments: Argument) -> str:
-    """The answer to a request of a command and its arguments. If it can't be read, Unreadable names the argument."""
-    request = " ".join([command, *(argument.words for argument in arguments)])
+def _read(arguments: Iterable[Argument]) -> None:
+    """Raises Unreadable for the first argument that can't be read alone."""
+    for given in arguments:
+        try:
+            answer(given.alone)
+        except Unreadable as unreadable:
+            raise Unreadable(f"{given.name}: {without_place(str(unreadable))}", unreadable.request) from None
+        except Refused:
+            pass
+
+
+def _asked(request: str, *arguments: Argument) -> str:
+    """The answer to a request that is made of arguments. If it can't be read, Unreadable names the argument."""
+    _read(given for given in arguments if given.name == "operator" or not given.is_word())
     try:
         return answer(request)
+    except Refused as refused:
+        raise Refused(without_place(str(refused)), request, refused.rules) from None
     except Unreadable as unreadable:
-        raise Unreadable(reason(str(unreadable), command, arguments), request) from None
+        _read(arguments)
+        why, told = without_place(str(unreadable)), str(unreadable)
+        raise Unreadable(why if why == told else f"{arguments[0].name}: {why}", request) from None
 
 
-def _one(argument: Argument, command: str) -> Argument:
-    """An argument that a command with one argument reads. In another request two types would be read as two arguments."""
-    if not is_word(argument.words):
-        _asked(command, argument)
-    return argument
-
-
-def _word(name: str, kind: str, value: str) -> Argument:
-    """An operator or a name."""
-    return _one(Argument(name, text_of(name, kind, value)), "overloads")
-
-
-def _operand(operand: Argument) -> Argument:
-    """An operand in a request with others."""
-    if not is_word(operand.words):
-        _one(bare(operand), "size")
-    return operand
-
-
-def _callee(name: str, arguments: Iterable[str], template: str | None) -> list[Argument]:
-    words = "-" if template is None else f"< t {_operand(type_of('template', template)).words} >"
-    return [Argument("name", name), Argument("template", words), *map(_operand, types_of("arguments", "argument", arguments))]
+def _called(command: str, name: str, arguments: Iterable[str], template: str | None) -> str:
+    """The answer about a call."""
+    callee = argument("name", "a name", name, "fn %s() type bool")
+    listed = [] if template is None else [type_of("template", template)]
+    given = list_of(operand_of, "arguments", "argument", arguments)
+    text = callee.text + "".join(f"<{ty.text}>" for ty in listed)
+    return _asked(f"{command} {text}({', '.join(operand.bracketed for operand in given)})", callee, *listed, *given)
 
 
 def unary(operator: str, operand: str) -> str:
-    """The type of a unary expression. An operand is a type as WGSL spells it, with `const ` in front of a const-expression.
+    """The type of a unary expression. An operand is a type as WGSL spells it, with `const ` in front of a const-expression; a
+    literal; or an expression of these.
 
-    >>> unary("-", "vec3<f32>")
-    'vec3<f32>'
+    >>> unary("-", "vec3<f32>"), unary("&", "ref<function, i32, read_write>")
+    ('vec3<f32>', 'ptr<function, i32, read_write>')
     """
-    return _asked("unary", _word("operator", "an operator", operator), type_of("operand", operand))
+    sign, x = operator_of(operator), operand_of("operand", operand)
+    return _asked(f"type {sign.text} {x.bracketed}", sign, x)
 
 
 def binary(operator: str, left: str, right: str) -> str:
@@ -158,8 +161,8 @@ def binary(operator: str, left: str, right: str) -> str:
     >>> binary("*", "mat4x3f", "vec4<f32>"), binary("<<", "const AbstractInt", "u32")
     ('vec3<f32>', 'i32')
     """
-    first = _word("operator", "an operator", operator)
-    return _asked("binary", first, _operand(type_of("left", left)), _operand(type_of("right", right)))
+    sign, x, y = operator_of(operator), operand_of("left", left), operand_of("right", right)
+    return _asked(f"type {x.bracketed} {sign.text} {y.bracketed}", sign, x, y)
 
 
 def call(name: str, arguments: Iterable[str], template: str | None = None) -> str | None:
@@ -168,7 +171,7 @@ def call(name: str, arguments: Iterable[str], template: str | None = None) -> st
     >>> call("clamp", ["vec3f", "vec3f", "vec3f"]), call("bitcast", ["f32"], template="i32"), call("storageBarrier", [])
     ('vec3<f32>', 'i32', None)
     """
-    return _value(_asked("call", *_callee(_word("name", "a name", name).words, arguments, template)))
+    return resolve_call(name, arguments, template).result
 
 
 def construct(name: str, arguments: Iterable[str], template: str | None = None) -> str:
@@ -177,8 +180,7 @@ def construct(name: str, arguments: Iterable[str], template: str | None = None) 
     >>> construct("vec3", ["f32", "vec2<f32>"]), construct("mat2x2", ["vec2h", "vec2h"], template="f16"), construct("vec2u", [])
     ('vec3<f32>', 'mat2x2<f16>', 'vec2<u32>')
     """
-    named, given = constructor_of(_word("name", "a name", name).words, template)
-    return _asked("ctor", *_callee(named, arguments, given))
+    return _called("type", name, arguments, template)
 
 
 @dataclass(frozen=True)
@@ -203,7 +205,7 @@ def resolve_call(name: str, arguments: Iterable[str], template: str | None = Non
     >>> overloads("mix")[2]
     'mix(vecN<T>, vecN<T>, T) -> vecN<T>, T: float'
     """
-    index, _, rest = _asked("resolve call", *_callee(_word("name", "a name", name).words, arguments, template)).partition(" (")
+    index, _, rest = _called("resolve", name, arguments, template).partition(" (")
     parameters, _, result = rest.partition(")")
     types: list[str] = []
     for part in parameters.split(", ") if parameters else []:
@@ -221,7 +223,8 @@ def overloads(name: str) -> list[str]:
     >>> overloads("cross")
     ['cross(vec3<T>, vec3<T>) -> vec3<T>, T: float']
     """
-    return _lines(_asked("overloads", _word("name", "a name", name)))
+    named = argument("name", "a name", name, "overloads %s")
+    return _lines(_asked(named.alone, named))
 
 
 def rank(source: str, target: str) -> int | None:
@@ -230,7 +233,8 @@ def rank(source: str, target: str) -> int | None:
     >>> rank("AbstractInt", "f32"), rank("f32", "i32")
     (6, None)
     """
-    return _number(_asked("rank", _operand(type_of("source", source)), _operand(type_of("target", target))))
+    types = type_of("source", source), type_of("target", target)
+    return _number(_asked(f"rank {', '.join(ty.text for ty in types)}", *types))
 
 
 def common(types: Iterable[str]) -> str | None:
@@ -239,7 +243,8 @@ def common(types: Iterable[str]) -> str | None:
     >>> common(["AbstractInt", "f16", "AbstractFloat"]), common(["i32", "u32"])
     ('f16', None)
     """
-    return _value(_asked("common", *map(_operand, types_of("types", "type", types))))
+    given = list_of(type_of, "types", "type", types)
+    return _value(_asked(f"common {', '.join(ty.text for ty in given)}", *given))
 
 
 class Size(NamedTuple):
@@ -254,9 +259,10 @@ class Size(NamedTuple):
 
 
 def size(ty: str) -> Size:
-    """The size and the alignment of a type.
+    """The size and the alignment of a type, which may be a struct.
 
-    >>> size("array<mat4x3f, 4>"), size("array<vec3<f32>>")
-    (Size(size=256, align=16), Size(size=None, align=16))
+    >>> size("array<mat4x3f, 4>"), size("array<vec3<f32>>"), size("struct Light { color: vec3f, level: f32 }")
+    (Size(size=256, align=16), Size(size=None, align=16), Size(size=16, align=16))
     """
-    return Size(*map(_number, _asked("size", type_of("ty", ty)).split(" ")))
+    given = type_of("ty", ty)
+    return Size(*map(_number, _asked(given.alone, given).split(" ")))

@@ -1,17 +1,16 @@
 -- What follows for a caller from the reply that is returned.
-use Rattle.std.proofs.Common.{◌≡◌, ◌≢◌, ◌⊎◌, ◌<◌, ◌≤◌, ℕ, List, [], Result, Ok, Err, IsUtf8, arith, drop, inl, inr, length, subst}
+use Rattle.std.proofs.Common.{◌≡◌, ◌≢◌, ◌⊎◌, ◌<◌, ◌≤◌, ℕ, List, Result, Ok, Err, IsUtf8, arith, drop, inl, inr, length, subst}
 use Rattle.std.specs.Prelude.{IfOk, string_bytes}
 use Rattle.std.specs.declared.alloc.AllocError.{AllocError}
 use Rattle.std.proofs.Math.Seq.{drop-append_seam, take-append_seam}
 use Rattle.std.proofs.lemmas.Bool.{cases_lt}
 use Rattle.std.proofs.lemmas.Str.{IsUtf8-string_bytes}
-use Rattle.wgsl_text.specs.Words.{words_of}
-use Rattle.wgsl_expressions.specs.Replies.{IsExplanation}
+use Rattle.wgsl_replies.specs.Replies.{IsBlank, IsExplanation}
 use Rattle.wgsl_syntax.specs.declared.rules.RuleSet.{RuleSet}
-use Rattle.wgsl_expressions.specs.declared.request.Reply.{Reply}
-use Rattle.wgsl_expressions.specs.declared.request.Reply.TheVariants.{Nothing, Answer, Unreadable}
-use Rattle.wgsl_text.specs.declared.write.TextKind.{TextKind}
-use Rattle.wgsl_text.specs.declared.write.TextKind.TheVariants as kinds
+use Rattle.wgsl_replies.specs.declared.request.Reply.{Reply}
+use Rattle.wgsl_replies.specs.declared.request.Reply.TheVariants.{Nothing, Answer, Unreadable}
+use Rattle.wgsl_requests.specs.declared.reply.TextKind.{TextKind}
+use Rattle.wgsl_requests.specs.declared.reply.TextKind.TheVariants as kinds
 use Rattle.wgsl_c.specs.HandOver.{IsAnswer, IsAnswered, IsCode, IsEmpty, IsExplained, IsHandedOver, IsPromised, IsText, IsTold, IsTransfer, IsTranslated, IsWritten, status_of}
 
 at_most_one : (kind : TextKind) → status_of kind ≤ 1
@@ -71,10 +70,10 @@ module _ (old new : List ℕ) (len status : ℕ) where
   if_nothing (Ok r) is h = let k : IsEmpty 2 old new len status = subst (λ r. IsHandedOver (Ok r) old new len status) is h in inl k.answers
   if_nothing (Err e) is h = inr h.answers
 
-  wordless : (rules : RuleSet) (request : List ℕ) (reply : Result Reply AllocError) → IsPromised rules request reply → IsHandedOver reply old new len status → words_of request ≡ [] → (status ≡ 2) ⊎ (status ≡ 3)
-  wordless rules request reply p h none = elim (cases_lt 4096 (length request)) [
+  if_blank : (rules : RuleSet) (request : List ℕ) (reply : Result Reply AllocError) → IsPromised rules request reply → IsHandedOver reply old new len status → IsBlank rules request → (status ≡ 2) ⊎ (status ≡ 3)
+  if_blank rules request reply p h none = elim (cases_lt 4096 (length request)) [
     | inl long ↦ inl (unreadable reply (p.too_long long) h)
-    | inr short ↦ if_nothing reply (p.no_words (omega (arith, short)) none) h
+    | inr short ↦ if_nothing reply (p.blank (omega (arith, short)) none) h
   ]
 
   pub answered : (rules : RuleSet) (request : List ℕ) (reply : Result Reply AllocError) → IsPromised rules request reply → IsHandedOver reply old new len status → IsAnswered rules request old new len status
@@ -86,7 +85,7 @@ module _ (old new : List ℕ) (len status : ℕ) where
     too_long = λ long. unreadable reply (p.too_long long) h;
     forbidden = λ found. unreadable reply (p.forbidden found) h;
     no_text = λ other. if_unreadable reply (p.no_text other) h;
-    no_words = wordless rules request reply p h;
+    blank = if_blank rules request reply p h;
   }
 
   -- a text that is no refusal

@@ -1,21 +1,21 @@
 -- What is returned to C.
-use Rattle.std.specs.Prelude.{◌≡◌, ◌≢◌, ◌⊎◌, ◌<◌, ◌≤◌, ◌++◌, ℕ, List, [], All, IfOk, IsUtf8, Result, Ok, Err, drop, length, string_bytes, take, true}
+use Rattle.std.specs.Prelude.{◌≡◌, ◌≢◌, ◌⊎◌, ◌<◌, ◌≤◌, ◌++◌, ℕ, List, IfOk, IsUtf8, Result, Ok, Err, drop, length, string_bytes, take, true}
 use Rattle.std.specs.declared.alloc.AllocError.{AllocError}
-use Rattle.wgsl_expressions.specs.Replies.{IsExplanation, IsReplyTo, reply_text}
-use Rattle.wgsl_text.specs.Words.{has_line_feed, words_of}
+use Rattle.wgsl_requests.specs.Replies.{has_line_feed}
+use Rattle.wgsl_replies.specs.Replies.{IsBlank, IsExplanation, IsReplyTo, reply_text}
 use Rattle.wgsl_syntax.specs.declared.rules.RuleSet.{RuleSet}
-use Rattle.wgsl_expressions.specs.declared.request.Reply.{Reply}
-use Rattle.wgsl_expressions.specs.declared.request.Reply.TheVariants.{Nothing, Answer, Unreadable}
-use Rattle.wgsl_text.specs.declared.write.TextKind.{TextKind}
-use Rattle.wgsl_text.specs.declared.write.TextKind.TheVariants as kinds
+use Rattle.wgsl_replies.specs.declared.request.Reply.{Reply}
+use Rattle.wgsl_replies.specs.declared.request.Reply.TheVariants.{Nothing, Answer, Unreadable}
+use Rattle.wgsl_requests.specs.declared.reply.TextKind.{TextKind}
+use Rattle.wgsl_requests.specs.declared.reply.TextKind.TheVariants as kinds
 
 -- What the library promises of the reply to a request, by a set of rules: which it is, and when memory can't have run out.
 pub record IsPromised (rules : RuleSet) (request : List ℕ) (reply : Result Reply AllocError) : Type 0 where
   pub which : IfOk reply (λ r. IsReplyTo rules request (reply_text r))
   pub too_long : 4096 < length request → reply ≡ Ok Unreadable
   pub forbidden : has_line_feed request ≡ true → reply ≡ Ok Unreadable
-  pub no_text : ¬ All IsUtf8 (words_of request) → IfOk reply (λ r. r ≡ Unreadable)
-  pub no_words : length request ≤ 4096 → words_of request ≡ [] → IfOk reply (λ r. r ≡ Nothing)
+  pub no_text : ¬ IsUtf8 request → IfOk reply (λ r. r ≡ Unreadable)
+  pub blank : length request ≤ 4096 → IsBlank rules request → IfOk reply (λ r. r ≡ Nothing)
 
 -- 0 answered, 1 ruled out
 abbrev pub status_of : TextKind → ℕ
@@ -63,8 +63,8 @@ pub record IsAnswered (rules : RuleSet) (request old new : List ℕ) (len status
   pub transfer : IsTransfer old new len status
   pub too_long : 4096 < length request → status ≡ 2
   pub forbidden : has_line_feed request ≡ true → status ≡ 2
-  pub no_text : ¬ All IsUtf8 (words_of request) → (status ≡ 2) ⊎ (status ≡ 3)
-  pub no_words : words_of request ≡ [] → (status ≡ 2) ⊎ (status ≡ 3)
+  pub no_text : ¬ IsUtf8 request → (status ≡ 2) ⊎ (status ≡ 3)
+  pub blank : IsBlank rules request → (status ≡ 2) ⊎ (status ≡ 3)
 
 -- What a call gets that explains a request: there is an explanation exactly if there is no answer.
 pub record IsExplained (rules : RuleSet) (request old new : List ℕ) (len status : ℕ) : Type 0 where

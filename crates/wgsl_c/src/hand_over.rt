@@ -3,7 +3,7 @@ ghost use Rattle.std.specs.Prelude.{◌≡◌};
 ghost use Rattle.wgsl_c.specs.HandOver.{IsHandedOver, IsWritten, status_of};
 
 use std::alloc::AllocError;
-use wgsl_expressions::request::{Reply, TextKind};
+use wgsl_replies::request::{Reply, TextKind};
 
 /// The request can't be read; or, when an explanation is wanted, it can be read.
 const UNREADABLE: u8 = 2;

@@ -3,7 +3,7 @@ ghost use Rattle.wgsl_c.specs.HandOver.{IsAnswered, IsExplained};
 
 use crate::hand_over::hand_over;
 use std::alloc::Global;
-use wgsl_expressions::request::{explain, reply_to};
+use wgsl_replies::request::{explain, reply_to};
 use wgsl_syntax::rules::RuleSet;
 
 /// Answers one request.

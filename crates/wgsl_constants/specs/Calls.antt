@@ -1,6 +1,6 @@
 -- The values of calls: which function has which value for its arguments (WGSL, "Value Constructor Built-in Functions", "bitcast",
 -- "Logical Built-in Functions", "Numeric Built-in Functions").
-use Rattle.std.specs.Prelude.{ℕ, ◌-◌, ◌^◌, ℤ, pos, negsuc, List, [], ◌∷◌, Bool, cond, Option, Some, None, Result, Ok, Err, codes, int_lt}
+use Rattle.std.specs.Prelude.{ℕ, ◌-◌, ◌^◌, ℤ, pos, negsuc, List, [], ◌∷◌, Bool, cond, Option, Some, None, Result, Ok, Err, codes, int_lt, nat_le, unsigned_abs}
 use Rattle.std.specs.Result.{result_unwrap_or}
 use Rattle.std.specs.Int.{w32, cast_signed, cast_unsigned}
 use Rattle.wgsl_syntax.specs.Names.{named}
@@ -16,15 +16,18 @@ use Rattle.wgsl_constants.specs.declared.call.CallError.TheVariants as error
 use Rattle.wgsl_constants.specs.declared.call.Function.{Function}
 use Rattle.wgsl_constants.specs.declared.call.Function.TheVariants as f
 use Rattle.wgsl_constants.specs.Answers.{map_ok, then_ok}
-use Rattle.wgsl_constants.specs.Conversions.{i32_of, u32_of}
-use Rattle.wgsl_constants.specs.Functions.{absolute, bit_count, bits_of, clamped, greatest, leading_bit, least, of_pair, selected, sign}
+use Rattle.wgsl_constants.specs.declared.function.BitFunction.TheVariants as bit
+use Rattle.wgsl_constants.specs.Conversions.{i32_of, number, u32_of}
+use Rattle.wgsl_constants.specs.Functions.{absolute, bits_of, clamped, greatest, leading_bit, least, of_bits, of_pair, selected, sign}
 
 -- the functions by their names; `bitcast` has its type in a list behind its name
 abbrev pub function_names : List (Function × List ℕ)
 function_names =
     (f.U32, codes "u32") ∷ (f.I32, codes "i32") ∷ (f.Abs, codes "abs") ∷ (f.Sign, codes "sign") ∷ (f.Min, codes "min") ∷
-    (f.Max, codes "max") ∷ (f.Clamp, codes "clamp") ∷ (f.Select, codes "select") ∷ (f.CountOneBits, codes "countOneBits") ∷
-    (f.FirstLeadingBit, codes "firstLeadingBit") ∷ []
+    (f.Max, codes "max") ∷ (f.Clamp, codes "clamp") ∷ (f.Select, codes "select") ∷ (f.F32, codes "f32") ∷ (f.F16, codes "f16") ∷
+    (f.FirstLeadingBit, codes "firstLeadingBit") ∷ (f.Bits bit.CountLeadingZeros, codes "countLeadingZeros") ∷
+    (f.Bits bit.CountOneBits, codes "countOneBits") ∷ (f.Bits bit.CountTrailingZeros, codes "countTrailingZeros") ∷
+    (f.Bits bit.FirstTrailingBit, codes "firstTrailingBit") ∷ (f.Bits bit.ReverseBits, codes "reverseBits") ∷ []
 
 -- the function with this name
 abbrev pub function_named : List ℕ → Option Function
@@ -68,6 +71,16 @@ to_i32 (c.Integer (U32 n)) = Ok (cast_signed w32 n)
 to_i32 (c.Bool b) = Ok (cond b (pos 1) (pos 0))
 to_i32 (c.Float n) = Ok (result_unwrap_or (i32_of n) (cond (int_lt n (pos 0)) (negsuc (2 ^ 31 - 1)) (pos (2 ^ 31 - 1))))
 
+-- the whole part of a value
+abbrev pub whole_of : Constant → ℤ
+whole_of (c.Integer n) = number n
+whole_of (c.Bool b) = cond b (pos 1) (pos 0)
+whole_of (c.Float n) = n
+
+-- `f32(x)`: only where a float holds the whole part exactly, which is up to this one
+abbrev pub to_float : ℕ → Constant → Result Constant CallError
+to_float exact a = cond (nat_le (unsigned_abs (whole_of a)) exact) (Ok (c.Float (whole_of a))) (Err error.NotInteger)
+
 -- what a function on one integer, or on two, makes of constants
 abbrev pub of_integer : {A : Type 0} → (Integer → Result A IntegerError) → Constant → Result A CallError
 of_integer value a = then_ok (integer a) (λ a. by_integers (value a))
@@ -77,21 +90,28 @@ of_integers value a b = then_ok (integer a) (λ a. of_integer (value a) b)
 
 -- The table: without arguments, and of one, two and three
 
-abbrev pub of_none : Function → Result Integer CallError
-of_none f.U32 = Ok (U32 0)
-of_none f.I32 = Ok (I32 (pos 0))
+abbrev pub of_none : Function → Result Constant CallError
+of_none f.U32 = Ok (c.Integer (U32 0))
+of_none f.I32 = Ok (c.Integer (I32 (pos 0)))
+of_none f.F32 = Ok (c.Float (pos 0))
+of_none f.F16 = Ok (c.Float (pos 0))
 of_none other = Err error.WrongArgumentCount
 
-abbrev pub of_one : Function → Constant → Result Integer CallError
-of_one f.U32 a = map_ok U32 (to_u32 a)
-of_one f.I32 a = map_ok I32 (to_i32 a)
-of_one f.BitcastU32 a = map_ok U32 (of_integer bits_of a)
-of_one f.BitcastI32 a = map_ok (λ n. I32 (cast_signed w32 n)) (of_integer bits_of a)
-of_one f.Abs a = of_integer absolute a
-of_one f.Sign a = of_integer sign a
-of_one f.CountOneBits a = of_integer bit_count a
-of_one f.FirstLeadingBit a = of_integer leading_bit a
-of_one other a = Err error.WrongArgumentCount
+abbrev pub integer_of : Function → Constant → Result Integer CallError
+integer_of f.U32 a = map_ok U32 (to_u32 a)
+integer_of f.I32 a = map_ok I32 (to_i32 a)
+integer_of f.BitcastU32 a = map_ok U32 (of_integer bits_of a)
+integer_of f.BitcastI32 a = map_ok (λ n. I32 (cast_signed w32 n)) (of_integer bits_of a)
+integer_of f.Abs a = of_integer absolute a
+integer_of f.Sign a = of_integer sign a
+integer_of f.FirstLeadingBit a = of_integer leading_bit a
+integer_of (f.Bits g) a = of_integer (of_bits g) a
+integer_of other a = Err error.WrongArgumentCount
+
+abbrev pub of_one : Function → Constant → Result Constant CallError
+of_one f.F32 a = to_float (2 ^ 24) a
+of_one f.F16 a = to_float (2 ^ 11) a
+of_one f a = map_ok c.Integer (integer_of f a)
 
 abbrev pub of_two : Function → Constant → Constant → Result Integer CallError
 of_two f.Min a b = of_integers (of_pair least) a b
@@ -105,9 +125,9 @@ of_three f.Select a b c = then_ok (integer a) (λ a. then_ok (integer b) (λ b. 
 of_three other a b c = Err error.WrongArgumentCount
 
 -- the value of a call
-abbrev pub called : Function → Arguments → Result Integer CallError
+abbrev pub called : Function → Arguments → Result Constant CallError
 called f Zero = of_none f
 called f (One a) = of_one f a
-called f (Two a b) = of_two f a b
-called f (Three a b c) = of_three f a b c
-called f (Four a b c d) = Err error.WrongArgumentCount
+called f (Two a b) = map_ok c.Integer (of_two f a b)
+called f (Three x y z) = map_ok c.Integer (of_three f x y z)
+called f (Four x y z w) = Err error.WrongArgumentCount

@@ -18,6 +18,12 @@ abbrev pub fits_unsigned : ℕ → ℤ → Bool
 fits_unsigned bits (pos n) = nat_lt n (2 ^ bits)
 fits_unsigned bits (negsuc n) = false
 
+-- an integer without its type
+abbrev pub number : Integer → ℤ
+number (Abstract n) = n
+number (I32 n) = n
+number (U32 n) = pos n
+
 -- an AbstractInt as an `i32`, and as a `u32`. `u32(-1)` is an overflow
 abbrev pub i32_of : ℤ → Result ℤ IntegerError
 i32_of n = fitting (fits 31 n) n

@@ -1,9 +1,11 @@
 -- The values of built-in functions on integers (WGSL, "Numeric Built-in Functions", "Logical Built-in Functions", "bitcast").
 use Rattle.std.specs.Prelude.{ℕ, ◌-◌, ◌^◌, ℤ, pos, Bool, true, false, cond, neg_ℤ, min, max, Result, Ok, Err, count_ones, int_lt, nat_eq, unsigned_abs}
-use Rattle.std.specs.Int.{w32, cast_signed, cast_unsigned, int_bit_not, int_max, int_min, int_signum, leading_zeros}
+use Rattle.std.specs.Int.{w32, cast_signed, cast_unsigned, int_bit_not, int_max, int_min, int_signum, leading_zeros, reverse_bits, trailing_zeros}
 use Rattle.std.specs.Ordering.{int_cmp, nat_cmp}
 use Rattle.std.specs.declared.cmp.Ordering.{Ordering}
 use Rattle.std.specs.declared.cmp.Ordering.TheVariants.{Less, Equal, Greater}
+use Rattle.wgsl_constants.specs.declared.function.BitFunction.{BitFunction}
+use Rattle.wgsl_constants.specs.declared.function.BitFunction.TheVariants as bit
 use Rattle.wgsl_constants.specs.declared.integer.Integer.{Integer}
 use Rattle.wgsl_constants.specs.declared.integer.Integer.TheVariants.{Abstract, I32, U32}
 use Rattle.wgsl_constants.specs.declared.integer.IntegerPair.{IntegerPair}
@@ -75,15 +77,22 @@ bits_of (Abstract n) = bits_of_either (i32_of n) (u32_of n)
 bits_of (I32 n) = Ok (cast_unsigned w32 n)
 bits_of (U32 n) = Ok n
 
--- how many bits of an `i32` are 1
-abbrev pub one_bits : ℤ → ℤ
-one_bits n = cast_signed w32 (count_ones (cast_unsigned w32 n))
+-- `countOneBits(7)` is 3, `countTrailingZeros(8u)` 3u, `firstTrailingBit(0u)` has all bits
+abbrev pub of_u32 : BitFunction → ℕ → ℕ
+of_u32 bit.CountLeadingZeros n = leading_zeros w32 n
+of_u32 bit.CountOneBits n = count_ones n
+of_u32 bit.CountTrailingZeros n = trailing_zeros w32 n
+of_u32 bit.FirstTrailingBit n = cond (nat_eq n 0) (2 ^ 32 - 1) (trailing_zeros w32 n)
+of_u32 bit.ReverseBits n = reverse_bits w32 n
 
--- `countOneBits`: an AbstractInt is an `i32`
-abbrev pub bit_count : Integer → Result Integer IntegerError
-bit_count (Abstract n) = map_ok (λ n. I32 (one_bits n)) (i32_of n)
-bit_count (I32 n) = Ok (I32 (one_bits n))
-bit_count (U32 n) = Ok (U32 (count_ones n))
+abbrev pub of_i32 : BitFunction → ℤ → ℤ
+of_i32 f n = cast_signed w32 (of_u32 f (cast_unsigned w32 n))
+
+-- a function of bits has a value of its argument's type, where an AbstractInt is an `i32`
+abbrev pub of_bits : BitFunction → Integer → Result Integer IntegerError
+of_bits f (Abstract n) = map_ok (λ n. I32 (of_i32 f n)) (i32_of n)
+of_bits f (I32 n) = Ok (I32 (of_i32 f n))
+of_bits f (U32 n) = Ok (U32 (of_u32 f n))
 
 -- the index of the highest bit that is 1, or all bits
 abbrev pub first_bit : ℕ → ℕ

@@ -38,22 +38,22 @@ component_named name = named component_names name
 abbrev pub alike : Integer → Integer → Result Integer IntegerError
 alike a b = of_pair (selected false) a b
 
--- integers in the type of all: each is an AbstractInt, or has the type of the others
-abbrev pub two : Integer → Integer → Result Vector IntegerError
-two a b = then_ok (alike a b) (λ x. map_ok (v.Two x) (alike b a))
-
-abbrev pub three_like : Integer → Integer → Integer → Integer → Result Vector IntegerError
-three_like a b c t = then_ok (alike a t) (λ x. then_ok (alike b t) (λ y. map_ok (v.Three x y) (alike c t)))
-
-abbrev pub three : Integer → Integer → Integer → Result Vector IntegerError
-three a b c = then_ok (alike a b) (λ t. then_ok (alike t c) (three_like a b c))
-
-abbrev pub four_like : Integer → Integer → Integer → Integer → Integer → Result Vector IntegerError
-four_like a b c d t =
+-- a vector in the type of an integer: each component is an AbstractInt, or has that type
+abbrev pub like : Integer → Vector → Result Vector IntegerError
+like t (v.Two a b) = then_ok (alike a t) (λ x. map_ok (v.Two x) (alike b t))
+like t (v.Three a b c) = then_ok (alike a t) (λ x. then_ok (alike b t) (λ y. map_ok (v.Three x y) (alike c t)))
+like t (v.Four a b c d) =
     then_ok (alike a t) (λ x. then_ok (alike b t) (λ y. then_ok (alike c t) (λ z. map_ok (v.Four x y z) (alike d t))))
 
+-- integers in the type of all
+abbrev pub two : Integer → Integer → Result Vector IntegerError
+two a b = then_ok (alike a b) (λ t. like t (v.Two a b))
+
+abbrev pub three : Integer → Integer → Integer → Result Vector IntegerError
+three a b c = then_ok (alike a b) (λ t. then_ok (alike t c) (λ t. like t (v.Three a b c)))
+
 abbrev pub four : Integer → Integer → Integer → Integer → Result Vector IntegerError
-four a b c d = then_ok (alike a b) (λ t. then_ok (alike t c) (λ t. then_ok (alike t d) (four_like a b c d)))
+four a b c d = then_ok (alike a b) (λ t. then_ok (alike t c) (λ t. then_ok (alike t d) (λ t. like t (v.Four a b c d))))
 
 -- one integer for all components
 abbrev pub same : Size → Integer → Vector

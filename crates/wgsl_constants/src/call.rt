@@ -1,11 +1,11 @@
-// Calls of functions that have integers as values (WGSL, "Value Constructor Built-in Functions", "bitcast", "Logical
+// Calls of functions whose values are known at compile time (WGSL, "Value Constructor Built-in Functions", "bitcast", "Logical
 // Built-in Functions", "Numeric Built-in Functions").
 ghost use Rattle.std.specs.Prelude.{◌≡◌};
-ghost use Rattle.wgsl_constants.specs.Calls.{by_integers, called, function_named, integer, of_none, of_one, of_three, of_two, test, to_i32, to_u32, with_argument};
+ghost use Rattle.wgsl_constants.specs.Calls.{called, function_named, integer, integer_of, of_none, of_one, of_three, of_two, test, to_float, to_i32, to_u32, with_argument};
 
 use crate::constant::Constant;
 use crate::function::{
-    absolute, bits_of, clamp, count_one_bits, first_leading_bit, maximum, minimum, select, sign,
+    BitFunction, absolute, bits_of, clamp, first_leading_bit, maximum, minimum, select, sign,
 };
 use crate::integer::{Integer, IntegerError};
 use crate::operator;
@@ -15,6 +15,8 @@ use crate::operator;
 pub enum Function {
     U32,
     I32,
+    F32,
+    F16,
     BitcastU32,
     BitcastI32,
     Abs,
@@ -23,8 +25,8 @@ pub enum Function {
     Max,
     Clamp,
     Select,
-    CountOneBits,
     FirstLeadingBit,
+    Bits(BitFunction),
 }
 
 /// The arguments of a call. No function takes more than four.
@@ -44,6 +46,17 @@ pub enum CallError {
     /// An argument of a type that the function doesn't take.
     NotInteger,
     WrongArgumentCount,
+}
+
+impl From<IntegerError> for CallError {
+    ghost use Rattle.std.specs.Prelude.{◌≡◌};
+    ghost use Rattle.wgsl_constants.specs.declared.call.CallError.TheVariants.{Integer};
+
+    ghost from_gives = { λ e s. s ≡ Integer e };
+
+    fn from(error: IntegerError) -> CallError {
+        CallError::Integer(error)
+    }
 }
 
 impl Arguments {
@@ -75,50 +88,65 @@ impl Function {
             "max" => Some(Function::Max),
             "clamp" => Some(Function::Clamp),
             "select" => Some(Function::Select),
-            "countOneBits" => Some(Function::CountOneBits),
+            "f32" => Some(Function::F32),
+            "f16" => Some(Function::F16),
             "firstLeadingBit" => Some(Function::FirstLeadingBit),
+            "countLeadingZeros" => Some(Function::Bits(BitFunction::CountLeadingZeros)),
+            "countOneBits" => Some(Function::Bits(BitFunction::CountOneBits)),
+            "countTrailingZeros" => Some(Function::Bits(BitFunction::CountTrailingZeros)),
+            "firstTrailingBit" => Some(Function::Bits(BitFunction::FirstTrailingBit)),
+            "reverseBits" => Some(Function::Bits(BitFunction::ReverseBits)),
             _ => None,
         }
     }
 
     /// The value for these arguments. It is `WrongArgumentCount` if the function takes more or fewer, else `NotInteger` if
-    /// it doesn't take one of their types, else the error of the function on integers.
-    pub fn apply(self, arguments: Arguments) -> Result<Integer, CallError>
+    /// it doesn't take one of their types, or if a float can't hold it exactly, else the error of the function on integers.
+    pub fn apply(self, arguments: Arguments) -> Result<Constant, CallError>
         ensures { result ≡ called self arguments }
     {
         match arguments {
             Arguments::Zero => self.of_none(),
             Arguments::One(a) => self.of_one(a),
-            Arguments::Two(a, b) => self.of_two(a, b),
-            Arguments::Three(a, b, c) => self.of_three(a, b, c),
+            Arguments::Two(a, b) => Ok(Constant::Integer(self.of_two(a, b)?)),
+            Arguments::Three(a, b, c) => Ok(Constant::Integer(self.of_three(a, b, c)?)),
             Arguments::Four(_, _, _, _) => Err(CallError::WrongArgumentCount),
         }
     }
 
-    fn of_none(self) -> Result<Integer, CallError>
+    fn of_none(self) -> Result<Constant, CallError>
         ensures { result ≡ of_none self }
     {
         match self {
-            Function::U32 => Ok(Integer::U32(0)),
-            Function::I32 => Ok(Integer::I32(0)),
+            Function::U32 => Ok(Constant::Integer(Integer::U32(0))),
+            Function::I32 => Ok(Constant::Integer(Integer::I32(0))),
+            Function::F32 | Function::F16 => Ok(Constant::Float(0)),
             _ => Err(CallError::WrongArgumentCount),
         }
     }
 
-    fn of_one(self, a: Constant) -> Result<Integer, CallError>
+    fn of_one(self, a: Constant) -> Result<Constant, CallError>
         ensures { result ≡ of_one self a }
+    {
+        match self {
+            Function::F32 => to_float(a, F32_EXACT),
+            Function::F16 => to_float(a, F16_EXACT),
+            _ => Ok(Constant::Integer(self.integer_of(a)?)),
+        }
+    }
+
+    fn integer_of(self, a: Constant) -> Result<Integer, CallError>
+        ensures { result ≡ integer_of self a }
     {
         match self {
             Function::U32 => Ok(Integer::U32(to_u32(a)?)),
             Function::I32 => Ok(Integer::I32(to_i32(a)?)),
-            Function::BitcastU32 => Ok(Integer::U32(by_integers(bits_of(integer(a)?))?)),
-            Function::BitcastI32 => {
-                Ok(Integer::I32(by_integers(bits_of(integer(a)?))?.cast_signed()))
-            }
-            Function::Abs => by_integers(absolute(integer(a)?)),
-            Function::Sign => by_integers(sign(integer(a)?)),
-            Function::CountOneBits => by_integers(count_one_bits(integer(a)?)),
-            Function::FirstLeadingBit => by_integers(first_leading_bit(integer(a)?)),
+            Function::BitcastU32 => Ok(Integer::U32(bits_of(integer(a)?)?)),
+            Function::BitcastI32 => Ok(Integer::I32(bits_of(integer(a)?)?.cast_signed())),
+            Function::Abs => Ok(absolute(integer(a)?)?),
+            Function::Sign => Ok(sign(integer(a)?)?),
+            Function::FirstLeadingBit => Ok(first_leading_bit(integer(a)?)?),
+            Function::Bits(function) => Ok(function.apply(integer(a)?)?),
             _ => Err(CallError::WrongArgumentCount),
         }
     }
@@ -127,8 +155,8 @@ impl Function {
         ensures { result ≡ of_two self a b }
     {
         match self {
-            Function::Min => by_integers(minimum(integer(a)?, integer(b)?)),
-            Function::Max => by_integers(maximum(integer(a)?, integer(b)?)),
+            Function::Min => Ok(minimum(integer(a)?, integer(b)?)?),
+            Function::Max => Ok(maximum(integer(a)?, integer(b)?)?),
             _ => Err(CallError::WrongArgumentCount),
         }
     }
@@ -137,25 +165,37 @@ impl Function {
         ensures { result ≡ of_three self a b c }
     {
         match self {
-            Function::Clamp => by_integers(clamp(integer(a)?, integer(b)?, integer(c)?)),
-            Function::Select => by_integers(select(integer(a)?, integer(b)?, test(c)?)),
+            Function::Clamp => Ok(clamp(integer(a)?, integer(b)?, integer(c)?)?),
+            Function::Select => Ok(select(integer(a)?, integer(b)?, test(c)?)?),
             _ => Err(CallError::WrongArgumentCount),
         }
     }
 }
 
-/// The value of a function on integers, or its error.
-pub(crate) fn by_integers<T>(value: Result<T, IntegerError>) -> Result<T, CallError>
-    ensures { result ≡ by_integers value }
+/// An `f32` holds each integer up to this one, and its negative.
+const F32_EXACT: u64 = 16777216;
+
+/// The same of an `f16`.
+const F16_EXACT: u64 = 2048;
+
+/// The conversion to a float that holds each integer up to a bound.
+fn to_float(constant: Constant, exact: u64) -> Result<Constant, CallError>
+    ensures { result ≡ to_float exact constant }
 {
-    match value {
-        Ok(value) => Ok(value),
-        Err(error) => Err(CallError::Integer(error)),
+    let whole = match constant {
+        Constant::Integer(integer) => integer.value(),
+        Constant::Bool(test) => { if test { 1 } else { 0 } }
+        Constant::Float(whole) => whole,
+    };
+    if whole.unsigned_abs() <= exact {
+        Ok(Constant::Float(whole))
+    } else {
+        Err(CallError::NotInteger)
     }
 }
 
-/// The integer that an argument is.
-pub(crate) fn integer(constant: Constant) -> Result<Integer, CallError>
+/// The integer that a constant is; `NotInteger` of another.
+pub fn integer(constant: Constant) -> Result<Integer, CallError>
     ensures { result ≡ integer constant }
 {
     match constant {
@@ -178,7 +218,7 @@ fn to_u32(constant: Constant) -> Result<u32, CallError>
     ensures { result ≡ to_u32 constant }
 {
     match constant {
-        Constant::Integer(Integer::Abstract(value)) => by_integers(operator::to_u32(value)),
+        Constant::Integer(Integer::Abstract(value)) => Ok(operator::to_u32(value)?),
         Constant::Integer(Integer::I32(value)) => Ok(value.cast_unsigned()),
         Constant::Integer(Integer::U32(value)) => Ok(value),
         Constant::Bool(test) => Ok(if test { 1 } else { 0 }),
@@ -194,7 +234,7 @@ fn to_i32(constant: Constant) -> Result<i32, CallError>
     ensures { result ≡ to_i32 constant }
 {
     match constant {
-        Constant::Integer(Integer::Abstract(value)) => by_integers(operator::to_i32(value)),
+        Constant::Integer(Integer::Abstract(value)) => Ok(operator::to_i32(value)?),
         Constant::Integer(Integer::I32(value)) => Ok(value),
         Constant::Integer(Integer::U32(value)) => Ok(value.cast_signed()),
         Constant::Bool(test) => Ok(if test { 1 } else { 0 }),

@@ -1,7 +1,7 @@
 // Functions on integers (WGSL, "Numeric Built-in Functions", "Logical Built-in Functions", "bitcast").
 
 ghost use Rattle.std.specs.Prelude.{◌≡◌};
-ghost use Rattle.wgsl_constants.specs.Functions.{absolute, bit_count, bits_of, clamped, first_bit, first_bit_of, greatest, leading_bit, least, of_pair, one_bits, selected, sign};
+ghost use Rattle.wgsl_constants.specs.Functions.{absolute, bits_of, clamped, first_bit, first_bit_of, greatest, leading_bit, least, of_bits, of_i32, of_pair, of_u32, selected, sign};
 
 use crate::integer::{Integer, IntegerError, IntegerPair};
 use crate::operator::{compare, pair_of, to_i32, to_u32};
@@ -89,21 +89,46 @@ pub fn select(left: Integer, right: Integer, test: bool) -> Result<Integer, Inte
     }
 }
 
-/// `countOneBits`. An AbstractInt is taken as an `i32`.
-pub fn count_one_bits(integer: Integer) -> Result<Integer, IntegerError>
-    ensures { result ≡ bit_count integer }
-{
-    match integer {
-        Integer::Abstract(value) => Ok(Integer::I32(one_bits(to_i32(value)?))),
-        Integer::I32(value) => Ok(Integer::I32(one_bits(value))),
-        Integer::U32(value) => Ok(Integer::U32(value.count_ones())),
-    }
+/// A function of the bits of an integer (WGSL, "Numeric Built-in Functions").
+#[derive(Clone, Copy)]
+pub enum BitFunction {
+    CountLeadingZeros,
+    CountOneBits,
+    CountTrailingZeros,
+    FirstTrailingBit,
+    ReverseBits,
 }
 
-fn one_bits(value: i32) -> i32
-    ensures { result ≡ one_bits value }
-{
-    value.cast_unsigned().count_ones().cast_signed()
+impl BitFunction {
+    /// The value for an integer, of its type. An AbstractInt is taken as an `i32`.
+    pub fn apply(self, integer: Integer) -> Result<Integer, IntegerError>
+        ensures { result ≡ of_bits self integer }
+    {
+        match integer {
+            Integer::Abstract(value) => Ok(Integer::I32(self.of_i32(to_i32(value)?))),
+            Integer::I32(value) => Ok(Integer::I32(self.of_i32(value))),
+            Integer::U32(value) => Ok(Integer::U32(self.of_u32(value))),
+        }
+    }
+
+    fn of_i32(self, value: i32) -> i32
+        ensures { result ≡ of_i32 self value }
+    {
+        self.of_u32(value.cast_unsigned()).cast_signed()
+    }
+
+    fn of_u32(self, value: u32) -> u32
+        ensures { result ≡ of_u32 self value }
+    {
+        match self {
+            BitFunction::CountLeadingZeros => value.leading_zeros(),
+            BitFunction::CountOneBits => value.count_ones(),
+            BitFunction::CountTrailingZeros => value.trailing_zeros(),
+            BitFunction::FirstTrailingBit if value == 0 => u32::MAX,
+            BitFunction::FirstTrailingBit => value.trailing_zeros(),
+            BitFunction::ReverseBits => value.reverse_bits(),
+        }
+    }
 }
 
 /// `firstLeadingBit`: the index of the first bit from the highest down that is 1, or that differs from the sign. If

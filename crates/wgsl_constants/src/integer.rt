@@ -1,4 +1,6 @@
 // Integers that are known at compile time.
+ghost use Rattle.std.specs.Prelude.{◌≡◌};
+ghost use Rattle.wgsl_constants.specs.Conversions.{number};
 
 /// An integer with its type (WGSL, "Integer Types").
 #[derive(Clone, Copy)]
@@ -48,7 +50,9 @@ pub enum IntegerError {
 
 impl Integer {
     /// The number, without its type.
-    pub fn value(self) -> i64 {
+    pub fn value(self) -> i64
+        ensures { result ≡ number self }
+    {
         match self {
             Integer::Abstract(value) => value,
             Integer::I32(value) => i64::from(value),

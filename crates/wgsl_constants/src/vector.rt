@@ -1,8 +1,8 @@
 // Vectors of integers, and their components (WGSL, "Value Constructor Built-in Functions", "Vector Access Expression").
 ghost use Rattle.std.specs.Prelude.{◌≡◌, false};
-ghost use Rattle.wgsl_constants.specs.Vectors.{alike, component, component_named, four, same, size_named, three, two, vector_of};
+ghost use Rattle.wgsl_constants.specs.Vectors.{alike, component, component_named, four, like, same, size_named, three, two, vector_of};
 
-use crate::call::{Arguments, CallError, by_integers, integer};
+use crate::call::{Arguments, CallError, integer};
 use crate::function::select;
 use crate::integer::{Integer, IntegerError};
 
@@ -70,14 +70,32 @@ impl Vector {
         match (arguments, size) {
             (Arguments::Zero, _) => Ok(same(size, Integer::Abstract(0))),
             (Arguments::One(a), _) => Ok(same(size, integer(a)?)),
-            (Arguments::Two(a, b), Size::Two) => by_integers(two(integer(a)?, integer(b)?)),
+            (Arguments::Two(a, b), Size::Two) => Ok(two(integer(a)?, integer(b)?)?),
             (Arguments::Three(a, b, c), Size::Three) => {
-                by_integers(three(integer(a)?, integer(b)?, integer(c)?))
+                Ok(three(integer(a)?, integer(b)?, integer(c)?)?)
             }
             (Arguments::Four(a, b, c, d), Size::Four) => {
-                by_integers(four(integer(a)?, integer(b)?, integer(c)?, integer(d)?))
+                Ok(four(integer(a)?, integer(b)?, integer(c)?, integer(d)?)?)
             }
             _ => Err(CallError::WrongArgumentCount),
+        }
+    }
+
+    /// The vector in the type to which its components and an integer convert.
+    pub fn like(self, of: Integer) -> Result<Vector, IntegerError>
+        ensures { result ≡ like of self }
+    {
+        match self {
+            Vector::Two(a, b) => Ok(Vector::Two(alike(a, of)?, alike(b, of)?)),
+            Vector::Three(a, b, c) => {
+                Ok(Vector::Three(alike(a, of)?, alike(b, of)?, alike(c, of)?))
+            }
+            Vector::Four(a, b, c, d) => Ok(Vector::Four(
+                alike(a, of)?,
+                alike(b, of)?,
+                alike(c, of)?,
+                alike(d, of)?,
+            )),
         }
     }
 
@@ -109,7 +127,7 @@ fn same(size: Size, n: Integer) -> Vector
 }
 
 /// The first integer, in the type to which both convert.
-fn alike(a: Integer, b: Integer) -> Result<Integer, IntegerError>
+pub fn alike(a: Integer, b: Integer) -> Result<Integer, IntegerError>
     ensures { result ≡ alike a b }
 {
     select(a, b, false)
@@ -118,24 +136,17 @@ fn alike(a: Integer, b: Integer) -> Result<Integer, IntegerError>
 fn two(a: Integer, b: Integer) -> Result<Vector, IntegerError>
     ensures { result ≡ two a b }
 {
-    Ok(Vector::Two(alike(a, b)?, alike(b, a)?))
+    Vector::Two(a, b).like(alike(a, b)?)
 }
 
 fn three(a: Integer, b: Integer, c: Integer) -> Result<Vector, IntegerError>
     ensures { result ≡ three a b c }
 {
-    let of_all = alike(alike(a, b)?, c)?;
-    Ok(Vector::Three(alike(a, of_all)?, alike(b, of_all)?, alike(c, of_all)?))
+    Vector::Three(a, b, c).like(alike(alike(a, b)?, c)?)
 }
 
 fn four(a: Integer, b: Integer, c: Integer, d: Integer) -> Result<Vector, IntegerError>
     ensures { result ≡ four a b c d }
 {
-    let of_all = alike(alike(alike(a, b)?, c)?, d)?;
-    Ok(Vector::Four(
-        alike(a, of_all)?,
-        alike(b, of_all)?,
-        alike(c, of_all)?,
-        alike(d, of_all)?,
-    ))
+    Vector::Four(a, b, c, d).like(alike(alike(alike(a, b)?, c)?, d)?)
 }

@@ -1,7 +1,9 @@
 pub mod Layered
 pub mod Operands
+pub mod AskedTokens
 pub mod Steps
 pub mod OneOutcome
 pub mod Total
-pub mod Asked
 pub mod OneReply
+pub mod Scopes
+pub mod SomeReply

@@ -2,7 +2,7 @@
 use Rattle.std.proofs.Common.{◌≡◌, ℕ, ◌+◌, ◌<◌, ◌++◌, List, [], ◌∷◌, drop, length, map, slice_index_or, slice_set, take, zero, suc, refl, ap, ◌∙◌, arith}
 use Rattle.wgsl_reader.specs.declared.kind.Kind.{Kind}
 use Rattle.wgsl_reader.specs.declared.token.Token.{Token}
-use Rattle.wgsl_expressions.specs.Typing.{as_operand, operand_token}
+use Rattle.wgsl_expressions.specs.RequestTokens.{as_operand, operand_token}
 
 -- the tokens, of which the first `n` are an operand's
 abbrev pub so_far : ℕ → List Token → List Token

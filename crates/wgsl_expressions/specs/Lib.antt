@@ -2,9 +2,15 @@ pub mod Source
 pub mod Literals
 pub mod Operators
 pub mod Reading
+pub mod RequestTokens
+pub mod Scopes
 pub mod Outcomes
 pub mod Depth
 pub mod Names
+pub mod Statements
+pub mod Stack
+pub mod Headings
+pub mod Steps
 pub mod Typing
 pub mod Views
 pub mod Replies

@@ -1,24 +1,23 @@
 -- What the parts of an expression are, by the requests about them.
-use Rattle.std.specs.Prelude.{◌≡◌, ℕ, List, [], ◌∷◌, ◌++◌, Option, Some, None, Result, Ok, Err, Bool, true, cond, ◌&&◌, map}
+use Rattle.std.specs.Prelude.{◌≡◌, ℕ, List, [], ◌∷◌, ◌++◌, Option, Some, None, Result, Ok, Err, Bool, false, true, codes, cond, ◌&&◌, map}
 use Rattle.std.specs.List.{list_all}
-use Rattle.wgsl_syntax.specs.declared.operator.BinaryOperator.{BinaryOperator}
-use Rattle.wgsl_syntax.specs.declared.operator.UnaryOperator.{UnaryOperator}
 use Rattle.wgsl_syntax.specs.declared.operator.UnaryOperator.TheVariants.{AddressOf}
 use Rattle.wgsl_rules.specs.standard.Choice.{Operand}
 use Rattle.wgsl_rules.specs.types.Signatures.{Parameter}
-use Rattle.wgsl_rules.specs.types.Types.{WgslType}
-use Rattle.wgsl_standard.specs.Callees.{WgslCallee, a_binary, a_unary, can_be_const_expression}
+use Rattle.wgsl_rules.specs.types.Types.{WgslType, struct}
+use Rattle.wgsl_standard.specs.Callees.{WgslCallee, a_constructor, a_function, a_unary, can_be_const_expression}
 use Rattle.wgsl_forms.specs.Expressions.{Expression, is_const_expression, shown_type}
 use Rattle.wgsl_forms.specs.Index.{is_vector}
 use Rattle.wgsl_forms.specs.Member.{is_swizzle}
 use Rattle.wgsl_forms.specs.Memory.{behind, formed_from, is_memory}
 use Rattle.wgsl_forms.specs.declared.form.Referent.{Referent}
 use Rattle.wgsl_forms.specs.declared.form.Referent.TheVariants.{Whole, Component, Swizzle}
-use Rattle.wgsl_requests.specs.Answers.{Answers, WgslAnswer, a_type_of, a_form_type}
+use Rattle.wgsl_requests.specs.Answers.{Answers, WgslAnswer, a_fit, a_type_of, a_form_type}
 use Rattle.wgsl_requests.specs.CallForms.{type_asked}
-use Rattle.wgsl_requests.specs.Forms.{address_of, index_of, member_of, typed_array_of}
-use Rattle.wgsl_requests.specs.Requests.{WgslRequest, form_of}
-use Rattle.wgsl_text.specs.Texts.{answer_text}
+use Rattle.wgsl_requests.specs.Calls.{WgslCall}
+use Rattle.wgsl_requests.specs.Forms.{address_of, construct_of, index_of, member_of, typed_array_of}
+use Rattle.wgsl_requests.specs.Requests.{WgslRequest, fit_of, form_of}
+use Rattle.wgsl_requests.specs.Texts.{answer_text}
 
 -- a part that has no type: the index of its first byte, and why
 pub record Refused : Type 0 where
@@ -49,21 +48,27 @@ operand x = record { of_type = x.of_type; is_constant = x.is_constant }
 abbrev pub is_constant : Expression → Bool
 is_constant x = is_const_expression (operand x)
 
--- the type that an answer is
-abbrev pub type_of_answer : WgslAnswer → Option WgslType
-type_of_answer (a_type_of c (Some (Some t))) = Some t
-type_of_answer (a_form_type (Ok t)) = Some t
-type_of_answer a = None
+-- the type that an answer is; if a function takes the values, that of its result
+abbrev pub type_of_answer : Option WgslType → WgslAnswer → Option WgslType
+type_of_answer result (a_type_of c (Some (Some t))) = Some t
+type_of_answer result (a_form_type (Ok t)) = Some t
+type_of_answer result (a_fit (Ok fits)) = result
+type_of_answer result a = None
 
--- the expression of the type that an answer is, or the text of the answer
+-- why an answer is no type
+abbrev pub message_of : WgslAnswer → List ℕ
+message_of (a_fit (Ok fits)) = codes "no value"
+message_of a = answer_text a
+
+-- the expression of the type that an answer is, or why it is none
 abbrev pub outcome_by : ℕ → (WgslType → Expression) → WgslAnswer → Option WgslType → Outcome
 outcome_by at expression a (Some t) = Ok (expression t)
-outcome_by at expression a None = Err (record { at = at; message = answer_text a })
+outcome_by at expression a None = Err (record { at = at; message = message_of a })
 
 -- what the request about a part answers
-abbrev pub IsOutcome : ℕ → (WgslType → Expression) → WgslRequest → Outcome → Type 0
-IsOutcome at expression request r =
-    (a : WgslAnswer) × Answers request a × (r ≡ outcome_by at expression a (type_of_answer a))
+abbrev pub IsOutcome : ℕ → (WgslType → Expression) → Option WgslType → WgslRequest → Outcome → Type 0
+IsOutcome at expression result request r =
+    (a : WgslAnswer) × Answers request a × (r ≡ outcome_by at expression a (type_of_answer result a))
 
 -- a component of a vector in memory is marked, since there is no pointer to it
 abbrev pub part_in : Expression → Bool → WgslType → Expression
@@ -78,12 +83,12 @@ member_in x name t = cond (is_swizzle (operand x) name) (swizzle_in x t) (part_i
 
 -- `x.name`
 abbrev pub IsMember : ℕ → List ℕ → Outcome → Outcome → Type 0
-IsMember at name (Ok x) r = IsOutcome at (member_in x name) (form_of (member_of (operand x) name)) r
+IsMember at name (Ok x) r = IsOutcome at (member_in x name) None (form_of (member_of (operand x) name)) r
 IsMember at name (Err e) r = r ≡ Err e
 
 -- `x[i]`
 abbrev pub IsElement : ℕ → Outcome → Outcome → Outcome → Type 0
-IsElement at (Ok x) (Ok i) r = IsOutcome at (part_in x (is_constant x && is_constant i)) (form_of (index_of (operand x) (operand i))) r
+IsElement at (Ok x) (Ok i) r = IsOutcome at (part_in x (is_constant x && is_constant i)) None (form_of (index_of (operand x) (operand i))) r
 IsElement at (Ok x) (Err e) r = r ≡ Err e
 IsElement at (Err e) i r = r ≡ Err e
 
@@ -92,6 +97,10 @@ pub data Head : Type 0 where
   overloaded : WgslCallee → Option (List Parameter) → Head
   -- `array<f32, 4>`
   typed_array : WgslType → Option ℕ → Head
+  -- the constructor of a struct
+  a_struct : WgslType → Head
+  -- a function that the text declares: its name, the types of its parameters, and that of its result
+  declared : List ℕ → List WgslType → Option WgslType → Head
 
 -- what the only operand refers to
 abbrev pub referent_of : List Expression → Referent
@@ -112,14 +121,34 @@ operand_by head x = record { of_type = shown_type x; is_constant = x.is_constant
 abbrev pub asked_with : Head → Referent → List Operand → WgslRequest
 asked_with (overloaded callee template) referent xs = marked referent (type_asked (record { callee = callee; template = template; operands = xs }))
 asked_with (typed_array t n) referent xs = form_of (typed_array_of t n xs)
+asked_with (a_struct t) referent xs = form_of (construct_of t xs)
+asked_with (declared name ts result) referent xs = fit_of xs ts
 
 abbrev pub asked : Head → List Expression → WgslRequest
 asked head xs = asked_with head (referent_of xs) (map (operand_by head) xs)
+
+abbrev pub struct_name : WgslType → List ℕ
+struct_name (struct name ms) = name
+struct_name t = []
+
+-- the call as its overloads take it; the names of types and of declared functions have none
+abbrev pub call_of : Head → List Operand → WgslCall
+call_of (overloaded callee template) xs = record { callee = callee; template = template; operands = xs }
+call_of (typed_array t n) xs = record { callee = a_constructor (codes "array"); template = None; operands = xs }
+call_of (a_struct t) xs = record { callee = a_constructor (struct_name t); template = None; operands = xs }
+call_of (declared name ts result) xs = record { callee = a_function name; template = None; operands = xs }
+
+-- the result of a function that the text declares
+abbrev pub result_of_call : Head → Option WgslType
+result_of_call (declared name ts result) = result
+result_of_call head = None
 
 -- whether it makes a const-expression of const-expressions
 abbrev pub makes_constant : Head → Bool
 makes_constant (overloaded callee template) = can_be_const_expression callee
 makes_constant (typed_array t n) = true
+makes_constant (a_struct t) = true
+makes_constant (declared name ts result) = false
 
 -- `max(1u, 2u)` is a const-expression, and `subgroupAdd(1u)` isn't
 abbrev pub is_const_call : Head → List Expression → Bool
@@ -130,12 +159,5 @@ result_of head xs t = record { of_type = t; is_constant = is_const_call head xs;
 
 -- `-x`, `x + y`, `f(x, y)`
 abbrev pub IsCalled : ℕ → Head → Parts → Outcome → Type 0
-IsCalled at head (Ok xs) r = IsOutcome at (result_of head xs) (asked head xs) r
+IsCalled at head (Ok xs) r = IsOutcome at (result_of head xs) (result_of_call head) (asked head xs) r
 IsCalled at head (Err e) r = r ≡ Err e
-
-abbrev pub IsBinary : ℕ → BinaryOperator → Outcome → Outcome → Outcome → Type 0
-IsBinary at o x y r = IsCalled at (overloaded (a_binary o) None) (with_part (with_part no_parts x) y) r
-
--- `-x`
-abbrev pub IsUnary : ℕ → UnaryOperator → Outcome → Outcome → Type 0
-IsUnary at o x r = IsCalled at (overloaded (a_unary o) None) (with_part no_parts x) r

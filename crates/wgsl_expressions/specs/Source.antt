@@ -1,12 +1,15 @@
 -- A text, its tokens, and what is noted of them.
-use Rattle.std.specs.Prelude.{ℕ, ◌-◌, List, [], ◌∷◌, Option, Some, None, slice_get, slice_range}
+use Rattle.std.specs.Prelude.{ℕ, ◌+◌, ◌-◌, List, [], ◌∷◌, Option, Some, None, cond, length, nat_le, nat_lt, option_map, slice_get, slice_range}
 use Rattle.wgsl_reader.specs.declared.kind.Kind.{Kind}
 use Rattle.wgsl_reader.specs.declared.kind.Kind.TheVariants.{End}
 use Rattle.wgsl_reader.specs.declared.read.Event.{Event}
 use Rattle.wgsl_reader.specs.declared.token.Token.{Token}
 use Rattle.wgsl_rules.specs.types.Types.{WgslType}
-use Rattle.wgsl_spelling.specs.Spelled.{type_of_events}
+use Rattle.wgsl_constants.specs.Literals.{then}
+use Rattle.wgsl_spelling.specs.Chains.{Chain, name_of, type_of, wrapped}
+use Rattle.wgsl_spelling.specs.Spelled.{chain_of_events, count_of_events}
 use Rattle.wgsl_spelling.specs.Words.{word}
+use Rattle.wgsl_expressions.specs.Scopes.{Scope, type_named}
 
 -- a text, its tokens, and what is noted of them
 pub record Source : Type 0 where
@@ -46,6 +49,23 @@ abbrev pub first_count : List Event → ℕ
 first_count [] = 0
 first_count (e ∷ events) = e.at
 
--- the type that is noted
-abbrev pub type_noted : Source → List Event → Option WgslType
-type_noted s events = type_of_events s.text s.tokens events
+-- a declared type in the layers of a chain: at most 255 types are inside
+abbrev pub declared_in : Option (WgslType × ℕ) → Chain → Option (WgslType × ℕ)
+declared_in None c = None
+declared_in (Some found) c = cond (nat_le found.1 (255 - length c.layers)) (Some (wrapped found.0 c.layers, length c.layers + found.1)) None
+
+abbrev pub type_by : List ℕ → Scope → Chain → Option Token → Option (WgslType × ℕ)
+type_by text scope c None = option_map (λ t. (t, length c.layers)) (type_of c)
+type_by text scope c (Some name) = declared_in (type_named (word text name) scope) c
+
+-- the type in parts, whose leaf may be a name of the scope, and how many types are inside it
+abbrev pub type_in : List ℕ → Scope → Chain → Option (WgslType × ℕ)
+type_in text scope c = type_by text scope c (name_of c)
+
+-- the type that is noted, and how many types are inside it
+abbrev pub type_noted : Source → Scope → List Event → Option (WgslType × ℕ)
+type_noted s scope events = then (chain_of_events s.text s.tokens events) (type_in s.text scope)
+
+-- the number of 32 bits that is noted
+abbrev pub number_noted : Source → List Event → Option ℕ
+number_noted s events = then (count_of_events s.text s.tokens events) (λ n. cond (nat_lt n 4294967296) (Some n) None)

@@ -1,148 +1,25 @@
--- The type of an expression, by what its reading notes.
-use Rattle.std.specs.Prelude.{◌≡◌, ℕ, suc, ◌+◌, ◌-◌, List, [], ◌∷◌, Option, Some, None, Ok, Err, Bool, false, true, ◌||◌, nat_eq, cond, map, slice_get}
-use Rattle.wgsl_rules.specs.types.Types.{WgslType, scalar}
-use Rattle.wgsl_forms.specs.Concrete.{has_abstract_type}
-use Rattle.wgsl_forms.specs.Expressions.{Expression}
-use Rattle.wgsl_forms.specs.declared.form.Referent.TheVariants.{Whole}
+-- What a text is, by what its reading notes: an expression, or a request.
+use Rattle.std.specs.Prelude.{◌≡◌, ℕ, zero, suc, ◌+◌, ◌-◌, List, [], ◌∷◌, Option, Some, None, Ok, Err, Bool, false, true, map, option_map}
 use Rattle.wgsl_reader.specs.Lists.{listed}
 use Rattle.wgsl_reader.specs.Reading.{Outcome as Read, ReadAt, kind_of}
 use Rattle.wgsl_reader.specs.Tokens.{Tokens, tokens_of}
 use Rattle.wgsl_reader.specs.declared.grammar.Symbol.TheVariants as s
-use Rattle.wgsl_reader.specs.declared.kind.Kind.{Kind}
-use Rattle.wgsl_reader.specs.declared.kind.Kind.TheVariants as k
+use Rattle.wgsl_reader.specs.declared.kind.Kind.TheVariants.{End}
 use Rattle.wgsl_reader.specs.declared.mark.Mark.{Mark}
 use Rattle.wgsl_reader.specs.declared.mark.Mark.TheVariants as m
 use Rattle.wgsl_reader.specs.declared.read.Event.{Event}
-use Rattle.wgsl_reader.specs.declared.rule.Rule.TheVariants.{Expression as an_expression}
+use Rattle.wgsl_reader.specs.declared.rule.Rule.{Rule}
+use Rattle.wgsl_reader.specs.declared.rule.Rule.TheVariants.{Expression as an_expression, Request}
 use Rattle.wgsl_reader.specs.declared.token.Token.{Token}
-use Rattle.wgsl_spelling.specs.Words.{word}
-use Rattle.wgsl_expressions.specs.Depth.{is_outcome_too_deep}
-use Rattle.wgsl_expressions.specs.Literals.{type_of_literal}
-use Rattle.wgsl_expressions.specs.Names.{head_noted}
-use Rattle.wgsl_expressions.specs.Operators.{binary_of, unary_of}
-use Rattle.wgsl_expressions.specs.Outcomes.{Head, IsBinary, IsCalled, IsElement, IsMember, IsUnary, Outcome, Parts, no_parts, with_part}
-use Rattle.wgsl_expressions.specs.Source.{Source, byte_at, first_count, kind_at, noted, text_at, type_noted}
-
--- a call with its arguments so far, and the index of its first byte
-pub record Call : Type 0 where
-  pub at : ℕ
-  pub head : Head
-  pub parts : Parts
-
--- What was read and isn't yet part of anything else. A name is there by the index at which it is noted, an operator by the number of
--- tokens up to it, a bracket by the index of its byte.
-pub data Item : Type 0 where
-  an_operand : Outcome → Item
-  a_name : ℕ → Item
-  an_operator : ℕ → Item
-  a_bracket : ℕ → Item
-  a_call : Call → Item
-
--- what stands on top, and the items below, the last first
-abbrev pub Top : Type 0 → Type 0
-Top A = Option (A × List Item)
-
-abbrev pub operand_on : List Item → Top Outcome
-operand_on (an_operand x ∷ items) = Some (x, items)
-operand_on items = None
-
-abbrev pub name_on : List Item → Top ℕ
-name_on (a_name count ∷ items) = Some (count, items)
-name_on items = None
-
-abbrev pub operator_on : List Item → Top ℕ
-operator_on (an_operator count ∷ items) = Some (count, items)
-operator_on items = None
-
-abbrev pub bracket_on : List Item → Top ℕ
-bracket_on (a_bracket at ∷ items) = Some (at, items)
-bracket_on items = None
-
-abbrev pub call_on : List Item → Top Call
-call_on (a_call call ∷ items) = Some (call, items)
-call_on items = None
-
--- the items that come of others, or None where there is no expression
-abbrev pub Next : Type 1
-Next = List Item → Option (List Item) → Type 0
-
--- what is done with what stands on top
-abbrev pub On : {A : Type 0} → Top A → (A → Next) → Option (List Item) → Type 0
-On None Then r = r ≡ None
-On (Some found) Then r = Then found.0 found.1 r
-
--- what is done with what is there
-abbrev pub By : {A : Type 0} → Option A → (A → Next) → Next
-By None Then items r = r ≡ None
-By (Some x) Then items r = Then x items r
-
--- no expression has a type of more than 255 layers
-abbrev pub with_operand : Outcome → List Item → Option (List Item)
-with_operand x items = cond (is_outcome_too_deep x) None (Some (an_operand x ∷ items))
-
-abbrev pub Puts : (Outcome → Type 0) → Next
-Puts Is items r = (x : Outcome) × Is x × (r ≡ with_operand x items)
-
--- an operand that is given by its type
-abbrev pub given : Bool → WgslType → Expression
-given is_constant t = record { of_type = t; is_constant = is_constant; referent = Whole }
-
-abbrev pub with_given : Bool → WgslType → Next
-with_given is_constant t items r = r ≡ with_operand (Ok (given is_constant t)) items
-
-abbrev pub literal_of : List ℕ → Token → WgslType
-literal_of text t = scalar (type_of_literal t.kind (word text t))
-
--- `1.5`, `true`
-abbrev pub Literal : Source → ℕ → Next
-Literal s count items r = By (slice_get s.tokens (count - 1)) (λ t. with_given true (literal_of s.text t)) items r
-
--- a type in place of a value, noted from the name on; it is a const-expression if that is said, or if it is abstract
-abbrev pub Typed : Bool → Source → ℕ → ℕ → Next
-Typed is_const s index from items r = By (type_noted s (noted s from index)) (λ t. with_given (is_const || has_abstract_type t) t) items r
-
--- `f32`, `const f32`
-abbrev pub Given : Bool → Source → ℕ → Next
-Given is_const s index items r = On (name_on items) (Typed is_const s index) r
-
-abbrev pub begun : ℕ → Head → Call
-begun at head = record { at = at; head = head; parts = no_parts }
-
--- the `(` behind what is called by the name that is noted with its list
-abbrev pub Begins : Source → List Event → Next
-Begins s events items r = By (head_noted s events) (λ head items r. r ≡ Some (a_call (begun (byte_at s (first_count events)) head) ∷ items)) items r
-
-abbrev pub Opens : Source → ℕ → Next
-Opens s index items r = On (name_on items) (λ from. Begins s (noted s from index)) r
-
--- one more argument
-abbrev pub with_argument : Outcome → Call → Call
-with_argument x call = record { at = call.at; head = call.head; parts = with_part call.parts x }
-
-abbrev pub Argument : Next
-Argument items r = On (operand_on items) (λ x below. On (call_on below) (λ call below r. r ≡ Some (a_call (with_argument x call) ∷ below))) r
-
--- `f(a, b)`
-abbrev pub Calls : Next
-Calls items r = On (call_on items) (λ call. Puts (IsCalled call.at call.head call.parts)) r
-
--- `a.x`
-abbrev pub Member : Source → ℕ → Next
-Member s count items r = On (operand_on items) (λ x. Puts (IsMember (byte_at s count) (text_at s count) x)) r
-
--- `a[i]`
-abbrev pub Element : Next
-Element items r = On (operand_on items) (λ i below. On (bracket_on below) (λ at below. On (operand_on below) (λ x. Puts (IsElement at x i)))) r
-
--- `-a`
-abbrev pub Unary : Source → Next
-Unary s items r = On (operand_on items) (λ x below. On (operator_on below) (λ count.
-    By (unary_of (kind_at s count)) (λ o. Puts (IsUnary (byte_at s count) o x)))) r
-
--- `a + b`
-abbrev pub Binary : Source → Next
-Binary s items r = On (operand_on items) (λ y below. On (operator_on below) (λ count below. On (operand_on below) (λ x.
-    By (binary_of (kind_at s count)) (λ o. Puts (IsBinary (byte_at s count) o x y))))) r
+use Rattle.wgsl_expressions.specs.Headings.{Attributed, Headed, Membered, Resulted, declared_by, function_declared, struct_declared}
+use Rattle.wgsl_expressions.specs.Outcomes.{Outcome}
+use Rattle.wgsl_expressions.specs.RequestTokens.{asked_behind, operand_token}
+use Rattle.wgsl_expressions.specs.Scopes.{Declared, Scope}
+use Rattle.wgsl_expressions.specs.Source.{Source, byte_at, noted}
+use Rattle.wgsl_expressions.specs.Stack.{Heading, Item, Next, a_bracket, a_name, an_operand, an_operator}
+use Rattle.wgsl_expressions.specs.declared.statement.Question.{Question}
+use Rattle.wgsl_expressions.specs.declared.statement.Question.TheVariants as q
+use Rattle.wgsl_expressions.specs.Steps.{Annotated, Argument, Asks, Assigns, AssignsBy, Begun, Binary, Calls, Element, Given, InSpace, Increments, Literal, Member, Opens, Overloads, Unary, Value, WithAccess, WithStruct, given}
 
 -- what is done where something is noted
 pub data Step : Type 0 where
@@ -159,12 +36,29 @@ pub data Step : Type 0 where
   operator : Step
   unary : Step
   binary : Step
+  keyword : Step
+  space : Step
+  access : Step
+  annotation : Step
+  struct_type : Step
+  value : Step
+  assignment : Step
+  assignment_by : Step
+  increment : Step
+  question : Question → Step
+  overloads : Step
+  heading : Step
+  attribute : Step
+  -- of a struct or a function
+  declared_member : Step
+  result : Step
   -- `(a)` is what `a` is
   nothing : Step
 
 abbrev pub step_of : Mark → Step
 step_of m.Literal = literal
 step_of m.Name = name
+step_of m.AttributeName = name
 step_of m.Value = given_type false
 step_of m.Constant = given_type true
 step_of m.Open = opening
@@ -176,70 +70,134 @@ step_of m.Element = element
 step_of m.Operator = operator
 step_of m.Unary = unary
 step_of m.Binary = binary
+step_of m.Keyword = keyword
+step_of m.AddressSpace = space
+step_of m.AccessMode = access
+step_of m.Typed = annotation
+step_of m.StructType = struct_type
+step_of m.Initialized = value
+step_of m.Condition = value
+step_of m.Selector = value
+step_of m.CaseSelector = value
+step_of m.Returned = value
+step_of m.Assign = assignment
+step_of m.AssignBy = assignment_by
+step_of m.Increment = increment
+step_of m.Decrement = increment
+step_of m.CallStatement = question q.Type
+step_of m.Resolve = question q.Resolution
+step_of m.Why = question q.Explanation
+step_of m.Overloads = overloads
+step_of m.Heading = heading
+step_of m.Attribute = attribute
+step_of m.Member = declared_member
+step_of m.Parameter = declared_member
+step_of m.Result = result
 step_of other = nothing
 
--- what is done where something is noted at an index, behind this many tokens
-abbrev pub Steps : Source → ℕ → Step → ℕ → Next
-Steps s index literal count items r = Literal s count items r
-Steps s index name count items r = r ≡ Some (a_name index ∷ items)
-Steps s index (given_type is_const) count items r = Given is_const s index items r
-Steps s index opening count items r = Opens s index items r
-Steps s index bracket count items r = r ≡ Some (a_bracket (byte_at s count) ∷ items)
-Steps s index argument count items r = Argument items r
-Steps s index called count items r = Calls items r
-Steps s index member count items r = Member s count items r
-Steps s index element count items r = Element items r
-Steps s index operator count items r = r ≡ Some (an_operator count ∷ items)
-Steps s index unary count items r = Unary s items r
-Steps s index binary count items r = Binary s items r
-Steps s index nothing count items r = r ≡ Some items
+-- what is done where something is noted at an index, behind this many tokens, with the names of a scope
+abbrev pub Steps : Source → Scope → ℕ → Step → ℕ → Next
+Steps s scope index literal count items r = Literal s count items r
+Steps s scope index name count items r = r ≡ Some (a_name index ∷ items)
+Steps s scope index (given_type is_const) count items r = Given is_const s scope index items r
+Steps s scope index opening count items r = Opens s scope index items r
+Steps s scope index bracket count items r = r ≡ Some (a_bracket (byte_at s count) ∷ items)
+Steps s scope index argument count items r = Argument items r
+Steps s scope index called count items r = Calls s index items r
+Steps s scope index member count items r = Member s count items r
+Steps s scope index element count items r = Element items r
+Steps s scope index operator count items r = r ≡ Some (an_operator count ∷ items)
+Steps s scope index unary count items r = Unary s index items r
+Steps s scope index binary count items r = Binary s index items r
+Steps s scope index keyword count items r = Begun s scope count items r
+Steps s scope index space count items r = InSpace s count items r
+Steps s scope index access count items r = WithAccess s count items r
+Steps s scope index annotation count items r = Annotated s scope index items r
+Steps s scope index struct_type count items r = WithStruct items r
+Steps s scope index value count items r = Value items r
+Steps s scope index assignment count items r = Assigns items r
+Steps s scope index assignment_by count items r = AssignsBy s items r
+Steps s scope index increment count items r = Increments items r
+Steps s scope index (question asked) count items r = Asks asked items r
+Steps s scope index overloads count items r = Overloads s count items r
+Steps s scope index heading count items r = Headed s count items r
+Steps s scope index attribute count items r = Attributed s index items r
+Steps s scope index declared_member count items r = Membered s scope index items r
+Steps s scope index result count items r = Resulted s scope index items r
+Steps s scope index nothing count items r = r ≡ Some items
 
--- one operand
-abbrev pub whole : List Item → Option Outcome
-whole (an_operand x ∷ []) = Some x
+-- the names that are declared, and the items
+abbrev pub State : Type 0
+State = Scope × List Item
+
+-- what is declared where something is noted
+abbrev pub declaration_of : Mark → Option (Heading → Declared)
+declaration_of m.Struct = Some struct_declared
+declaration_of m.Function = Some function_declared
+declaration_of other = None
+
+abbrev pub MovesBy : Option (Heading → Declared) → Source → ℕ → Event → State → Option State → Type 0
+MovesBy (Some declare) s index e state r = r ≡ declared_by declare state.0 state.1
+MovesBy None s index e state r = (items : Option (List Item)) × Steps s state.0 index (step_of e.mark) e.at state.1 items × (r ≡ option_map (λ items. (state.0, items)) items)
+
+-- In a list nothing is done: a name has its list.
+abbrev pub MovesIn : ℕ → Source → ℕ → Event → State → Option State → Type 0
+MovesIn zero s index e state r = MovesBy (declaration_of e.mark) s index e state r
+MovesIn (suc opened) s index e state r = r ≡ Some state
+
+-- how many lists are open behind the end of a template list or of an attribute, and behind the beginning of one
+abbrev pub closed_by : ℕ → Mark → ℕ
+closed_by opened m.Template = opened - 1
+closed_by opened m.Attribute = opened - 1
+closed_by opened other = opened
+
+abbrev pub opened_by : ℕ → Mark → ℕ
+opened_by opened m.OpenTemplate = opened + 1
+opened_by opened m.AttributeName = opened + 1
+opened_by opened other = opened
+
+-- the one item that is left
+abbrev pub whole : List Item → Option Item
+whole (item ∷ []) = Some item
 whole items = None
 
-abbrev pub whole_of_any : Option (List Item) → Option Outcome
+abbrev pub whole_of_any : Option State → Option Item
 whole_of_any None = None
-whole_of_any (Some items) = whole items
+whole_of_any (Some state) = whole state.1
 
--- how many template lists are open behind a mark
-abbrev pub open_behind : ℕ → Mark → ℕ
-open_behind opened m.OpenTemplate = suc opened
-open_behind opened m.Template = opened - 1
-open_behind opened other = opened
-
--- in a template list nothing is done: a name has its list
-abbrev pub step_in : ℕ → Mark → Step
-step_in opened mark = cond (nat_eq opened 0) (step_of mark) nothing
-
--- what comes of items by what is noted from an index on, where this many template lists are open
-abbrev pub Comes : Source → ℕ → ℕ → Option (List Item) → List Event → Option Outcome → Type 0
-Comes s opened index items [] r = r ≡ whole_of_any items
+-- what comes of names and items by what is noted from an index on, where this many lists are open
+abbrev pub Comes : Source → ℕ → ℕ → Option State → List Event → Option Item → Type 0
+Comes s opened index state [] r = r ≡ whole_of_any state
 Comes s opened index None (e ∷ events) r = r ≡ None
-Comes s opened index (Some items) (e ∷ events) r = (next : Option (List Item)) ×
-    Steps s index (step_in opened e.mark) e.at items next × Comes s (open_behind opened e.mark) (index + 1) next events r
+Comes s opened index (Some state) (e ∷ events) r = (next : Option State) ×
+    MovesIn (closed_by opened e.mark) s index e state next × Comes s (opened_by (closed_by opened e.mark) e.mark) (index + 1) next events r
 
--- the tokens of an expression, in which `const` stands in front of an operand's type
-abbrev pub as_operand : Kind → Kind
-as_operand k.Const = k.ConstOperand
-as_operand other = other
+abbrev pub NotedBy : Scope → List ℕ → List Token → Read → Option Item → Type 0
+NotedBy scope text tokens (Err at) r = r ≡ None
+NotedBy scope text tokens (Ok events) r = Comes (record { text = text; tokens = tokens; events = events }) 0 0 (Some (scope, [])) events r
 
-abbrev pub operand_token : Token → Token
-operand_token t = record { kind = as_operand t.kind; at = t.at; len = t.len }
+-- what the tokens are by the grammar, and what comes of what is noted
+abbrev pub TokensAre : Scope → Rule → List ℕ → List Token → Option Item → Type 0
+TokensAre scope rule text tokens r = (read : Read) × ReadAt (s.Rule rule ∷ []) 0 (map kind_of tokens) read × NotedBy scope text tokens read r
 
-abbrev pub TypedBy : List ℕ → List Token → Read → Option Outcome → Type 0
-TypedBy text tokens (Err at) r = r ≡ None
-TypedBy text tokens (Ok events) r = Comes (record { text = text; tokens = tokens; events = events }) 0 0 (Some []) events r
+abbrev pub outcome_in : Option Item → Option Outcome
+outcome_in (Some (an_operand x)) = Some x
+outcome_in other = None
 
--- what the tokens are by the grammar, and their type by what is noted
-abbrev pub TypedTokens : List ℕ → List Token → Option Outcome → Type 0
-TypedTokens text tokens r = (read : Read) × ReadAt (s.Rule an_expression ∷ []) 0 (map kind_of tokens) read × TypedBy text tokens read r
+abbrev pub TextIs : Scope → List ℕ → Tokens → Option Item → Type 0
+TextIs scope text (Err at) r = r ≡ None
+TextIs scope text (Ok tokens) r = TokensAre scope an_expression text (map operand_token tokens) r
 
-abbrev pub TypedText : List ℕ → Tokens → Option Outcome → Type 0
-TypedText text (Err at) r = r ≡ None
-TypedText text (Ok tokens) r = TypedTokens text (map operand_token tokens) r
+-- All of a text is an expression, with the names of a scope, and this is its outcome; None if it is none.
+abbrev pub IsTyped : Scope → List ℕ → Option Outcome → Type 0
+IsTyped scope text r = (item : Option Item) × TextIs scope text (listed (tokens_of text)) item × (r ≡ outcome_in item)
 
--- All of a text is an expression, and this is its outcome; None if it is none.
-abbrev pub IsTyped : List ℕ → Option Outcome → Type 0
-IsTyped text r = TypedText text (listed (tokens_of text)) r
+-- the tokens of a line; None if it has none
+abbrev pub LineIs : List ℕ → Tokens → Option (Option Item) → Type 0
+LineIs text (Err at) r = r ≡ None
+LineIs text (Ok []) r = r ≡ Some None
+LineIs text (Ok (t ∷ ts)) r = (item : Option Item) × TokensAre [] Request text (asked_behind text End (t ∷ ts)) item × (r ≡ option_map Some item)
+
+-- All of a line is a request, or has no tokens: then there is no item in it. None if it is no request.
+abbrev pub IsAsked : List ℕ → Option (Option Item) → Type 0
+IsAsked text r = LineIs text (listed (tokens_of text)) r

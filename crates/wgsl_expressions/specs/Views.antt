@@ -3,25 +3,39 @@ use Rattle.std.specs.Prelude.{◌≡◌, ℕ, List, Result, Ok, Err, Option, Som
 use Rattle.wgsl_core.specs.Instances.{parameter_view}
 use Rattle.wgsl_rules.specs.types.Types.{WgslType}
 use Rattle.wgsl_requests.specs.Answers.{Answers, WgslAnswer}
-use Rattle.wgsl_requests.specs.Requests.{WgslRequest}
-use Rattle.wgsl_text.specs.Texts.{answer_text}
-use Rattle.wgsl_core.specs.View.{view}
+use Rattle.wgsl_requests.specs.FormViews.{form_view}
+use Rattle.wgsl_requests.specs.Requests.{WgslRequest, fit_of, form_of, type_of}
+use Rattle.wgsl_requests.specs.StandardViews.{call_view as call_of, written_view}
+use Rattle.wgsl_core.specs.View.{member_view, view}
+use Rattle.wgsl_core.specs.declared.ty.Type.{«Type»}
+use Rattle.wgsl_reader.specs.declared.token.Token.{Token}
 use Rattle.wgsl_standard.specs.Callees.{a_unary, a_binary, a_function, a_constructor}
 use Rattle.wgsl_forms.specs.Expressions.{Expression}
 use Rattle.wgsl_core.specs.declared.error.Fail.{Fail}
-use Rattle.wgsl_expressions.specs.Outcomes.{Head, Outcome, Refused, overloaded, type_of_answer, typed_array}
+use Rattle.wgsl_expressions.specs.Outcomes.{Head, Outcome, Refused, a_struct, declared, message_of, overloaded, type_of_answer, typed_array}
 use Rattle.wgsl_expressions.specs.Reading.{Answers as AnswersIn}
 use Rattle.wgsl_expressions.specs.Source.{Source}
-use Rattle.wgsl_expressions.specs.Typing.{Call, Item, IsTyped, Top, a_bracket, a_call, a_name, an_operand, an_operator}
+use Rattle.wgsl_expressions.specs.Statements.{Asked}
+use Rattle.wgsl_expressions.specs.Scopes.{Declared, Meaning, Scope, a_function, a_type}
+use Rattle.wgsl_expressions.specs.Stack.{Call, Heading, Item, Top, a_bracket, a_call, a_heading, a_name, a_question, an_asked, an_operand, an_operator, an_overloads}
+use Rattle.wgsl_expressions.specs.Typing.{IsAsked, IsTyped, LineIs, State}
+use Rattle.wgsl_expressions.specs.declared.called.Called.{Called}
+use Rattle.wgsl_expressions.specs.declared.called.Called.TheVariants as calleds
+use Rattle.wgsl_expressions.specs.declared.heading.Heading.{Heading as CodeHeading}
+use Rattle.wgsl_expressions.specs.declared.scope.Declared.{Declared as CodeDeclared}
+use Rattle.wgsl_expressions.specs.declared.scope.Meaning.{Meaning as CodeMeaning}
+use Rattle.wgsl_expressions.specs.declared.scope.Meaning.TheVariants as meanings
+use Rattle.wgsl_expressions.specs.declared.scope.Scope.{Scope as CodeScope}
 use Rattle.wgsl_expressions.specs.declared.misread.Misread.{Misread}
 use Rattle.wgsl_expressions.specs.declared.head.Head.{Head as CodeHead}
 use Rattle.wgsl_expressions.specs.declared.head.Head.TheVariants as heads
 use Rattle.wgsl_expressions.specs.declared.source.Source.{Source as CodeSource}
 use Rattle.wgsl_expressions.specs.declared.outcome.Typed.{Typed}
 use Rattle.wgsl_expressions.specs.declared.outcome.Refused.{Refused as CodeRefused}
-use Rattle.wgsl_expressions.specs.declared.step.Call.{Call as CodeCall}
-use Rattle.wgsl_expressions.specs.declared.step.Item.{Item as CodeItem}
-use Rattle.wgsl_expressions.specs.declared.step.Item.TheVariants as items
+use Rattle.wgsl_expressions.specs.declared.item.Asked.{Asked as CodeAsked}
+use Rattle.wgsl_expressions.specs.declared.item.Call.{Call as CodeCall}
+use Rattle.wgsl_expressions.specs.declared.item.Item.{Item as CodeItem}
+use Rattle.wgsl_expressions.specs.declared.item.Item.TheVariants as items
 
 abbrev pub typed_view : Typed → Expression
 typed_view x = record { of_type = view x.ty; is_constant = x.is_constant; referent = x.referent }
@@ -42,13 +56,13 @@ abbrev pub found_outcome : ℕ → (WgslType → Expression) → Result WgslType
 found_outcome at expression (Ok t) = Ok (expression t)
 found_outcome at expression (Err text) = Err (record { at = at; message = text })
 
-abbrev pub IsFoundIn : WgslAnswer → Result WgslType (List ℕ) → Type 0
-IsFoundIn a (Ok t) = type_of_answer a ≡ Some t
-IsFoundIn a (Err text) = (type_of_answer a ≡ None) × (text ≡ answer_text a)
+abbrev pub IsFoundIn : Option WgslType → WgslAnswer → Result WgslType (List ℕ) → Type 0
+IsFoundIn result a (Ok t) = type_of_answer result a ≡ Some t
+IsFoundIn result a (Err text) = (type_of_answer result a ≡ None) × (text ≡ message_of a)
 
 -- what is answered to the request
-abbrev pub IsFound : WgslRequest → Result WgslType (List ℕ) → Type 0
-IsFound request found = (a : WgslAnswer) × Answers request a × IsFoundIn a found
+abbrev pub IsFound : Option WgslType → WgslRequest → Result WgslType (List ℕ) → Type 0
+IsFound result request found = (a : WgslAnswer) × Answers request a × IsFoundIn result a found
 
 abbrev pub head_view : CodeHead → Head
 head_view (heads.Unary o) = overloaded (a_unary o) None
@@ -56,16 +70,57 @@ head_view (heads.Binary o) = overloaded (a_binary o) None
 head_view (heads.Constructor name ps) = overloaded (a_constructor (string_bytes name)) (option_map (λ ps. map parameter_view ps.items) ps)
 head_view (heads.Function name ps) = overloaded (a_function (string_bytes name)) (option_map (λ ps. map parameter_view ps.items) ps)
 head_view (heads.Array t n) = typed_array (view t) n
+head_view (heads.Struct t) = a_struct (view t)
+head_view (heads.Declared name ts result) = declared (string_bytes name) (map view ts.items) (option_map view result)
 
 abbrev pub head_found : {F : Type 0} → Result CodeHead F → Option Head
 head_found (Ok head) = Some (head_view head)
 head_found (Err fault) = None
+
+-- what is asked about a call
+abbrev pub called_view : Called → WgslRequest
+called_view (calleds.Overloaded call) = type_of (call_of call)
+called_view (calleds.Form form) = form_of (form_view form)
+called_view (calleds.Declared values types) = fit_of (map written_view values.now) (map view types.now)
+
+abbrev pub meaning_view : CodeMeaning → Meaning
+meaning_view (meanings.Type t n) = a_type (view t) n
+meaning_view (meanings.Function ts result) = a_function (map view ts.items) (option_map view result)
+
+abbrev pub declared_view : CodeDeclared → Declared
+declared_view d = record { name = string_bytes d.name; meaning = meaning_view d.meaning }
+
+-- declared names, the last first
+abbrev pub scope_view : CodeScope → Scope
+scope_view s = map declared_view (reverse s.declared.items)
+
+-- a type and how many types are inside it, or None where there is a fault
+abbrev pub type_found : {F : Type 0} → Result («Type» × ℕ) F → Option (WgslType × ℕ)
+type_found (Ok found) = Some (view found.0, found.1)
+type_found (Err fault) = None
+
+abbrev pub number_found : {F : Type 0} → Result ℕ F → Option ℕ
+number_found (Ok n) = Some n
+number_found (Err fault) = None
+
+abbrev pub heading_view : CodeHeading → Heading
+heading_view h = record {
+  name = string_bytes h.name;
+  members = map member_view h.members.items;
+  inside = h.inside;
+  size = h.size;
+  align = h.align;
+  result = option_map view h.result;
+}
 
 abbrev pub source_view : CodeSource → Source
 source_view s = record { text = s.text.now; tokens = s.tokens.now; events = s.events.now }
 
 abbrev pub call_view : CodeCall → Call
 call_view call = record { at = call.at; head = head_view call.head; parts = shown (λ v. map typed_view v.items) refused_view call.parts }
+
+abbrev pub asked_view : CodeAsked → Asked
+asked_view a = record { statement = a.statement; types = map view a.types.items; parts = shown (λ v. map typed_view v.items) refused_view a.parts }
 
 -- what was read, the last first
 abbrev pub item_view : CodeItem → Item
@@ -74,6 +129,10 @@ item_view (items.Name count) = a_name count
 item_view (items.Operator count) = an_operator count
 item_view (items.Bracket at) = a_bracket at
 item_view (items.Call call) = a_call (call_view call)
+item_view (items.Heading h) = a_heading (heading_view h)
+item_view (items.Asked a) = an_asked (asked_view a)
+item_view (items.Question question call) = a_question question (call_view call)
+item_view (items.Overloads token) = an_overloads token
 
 abbrev pub items_view : List CodeItem → List Item
 items_view items = map item_view (reverse items)
@@ -89,9 +148,21 @@ Takes view found after r = AnswersIn (λ x. found ≡ Some (view x, items_view a
 abbrev pub Does : (Option (List Item) → Type 0) → List CodeItem → Result (Unit {0}) (Fail Misread) → Type 0
 Does Is after r = AnswersIn (λ done. Is (Some (items_view after))) (Is None) r
 
--- the outcome that was found, or None where the error is a misread one
-abbrev pub IsOutcomeOf : (Option Outcome → Type 0) → Result (Result Typed CodeRefused) (Fail Misread) → Type 0
-IsOutcomeOf Is r = AnswersIn (λ x. Is (Some (outcome_view x))) (Is None) r
+-- the names and the items that come of others
+abbrev pub Moves : (Option State → Type 0) → CodeScope → List CodeItem → Result (Unit {0}) (Fail Misread) → Type 0
+Moves Is scope items r = AnswersIn (λ done. Is (Some (scope_view scope, items_view items))) (Is None) r
 
-abbrev pub IsTypedText : List ℕ → Result (Result Typed CodeRefused) (Fail Misread) → Type 0
-IsTypedText text r = IsOutcomeOf (IsTyped text) r
+-- the item that was found, or None where the error is a misread one
+abbrev pub Finds : (Option Item → Type 0) → Result CodeItem (Fail Misread) → Type 0
+Finds IsIt r = AnswersIn (λ item. IsIt (Some (item_view item))) (IsIt None) r
+
+-- what a line asks, if it has tokens; the error is a misread one only if it is no request
+abbrev pub AsksIn : List ℕ → List Token → Result (Option CodeItem) (Fail Misread) → Type 0
+AsksIn line tokens r = AnswersIn (λ item. LineIs line (Ok tokens) (Some (option_map item_view item))) (LineIs line (Ok tokens) None) r
+
+abbrev pub IsAskedLine : List ℕ → Result (Option CodeItem) (Fail Misread) → Type 0
+IsAskedLine line r = AnswersIn (λ item. IsAsked line (Some (option_map item_view item))) (IsAsked line None) r
+
+-- the outcome that was found, or None where the error is a misread one
+abbrev pub IsTypedText : Scope → List ℕ → Result (Result Typed CodeRefused) (Fail Misread) → Type 0
+IsTypedText scope text r = AnswersIn (λ x. IsTyped scope text (Some (outcome_view x))) (IsTyped scope text None) r

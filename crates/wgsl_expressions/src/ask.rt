@@ -1,24 +1,19 @@
 // Requests about the parts of an expression.
-ghost use Rattle.std.specs.Prelude.{◌≡◌, IfOk, map, option_map, string_bytes};
+ghost use Rattle.std.specs.Prelude.{◌≡◌, IfOk, None, map, option_map, string_bytes};
+ghost use Rattle.std.specs.List.{list_all};
 ghost use Rattle.wgsl_core.specs.View.{view};
 ghost use Rattle.wgsl_forms.specs.Memory.{formed_from, is_memory};
-ghost use Rattle.wgsl_core.specs.Instances.{parameter_view};
-ghost use Rattle.wgsl_standard.specs.Callees.{callee_view};
-ghost use Rattle.wgsl_requests.specs.CallForms.{type_asked};
-ghost use Rattle.std.specs.List.{list_all};
-ghost use Rattle.wgsl_requests.specs.FormViews.{form_view};
 ghost use Rattle.wgsl_requests.specs.Forms.{index_of, member_of};
 ghost use Rattle.wgsl_requests.specs.Requests.{form_of};
 ghost use Rattle.wgsl_requests.specs.StandardViews.{written_view};
 ghost use Rattle.wgsl_requests.specs.Views.{request_view};
-ghost use Rattle.wgsl_text.specs.internal.Asked.{called};
-ghost use Rattle.wgsl_expressions.specs.Outcomes.{IsBinary, IsCalled, IsElement, IsMember, IsUnary, asked, asked_with, is_const_call, is_constant, makes_constant, marked, member_in, operand, operand_by, part_in, referent_of, swizzle_in};
+ghost use Rattle.wgsl_expressions.specs.Outcomes.{IsCalled, IsElement, IsMember, asked, asked_with, is_const_call, is_constant, makes_constant, member_in, operand, operand_by, part_in, referent_of, result_of_call, swizzle_in};
 ghost use Rattle.wgsl_expressions.specs.Views.{IsFound, found_outcome, head_view, outcome_view, refused_view, shown, typed_view};
 
+use crate::called::asked_about;
 use crate::head::Head;
-use crate::outcome::{Outcome, Parts, Refused, Typed, behind, shown_type, with_part};
+use crate::outcome::{Outcome, Parts, Refused, Typed, behind, shown_type};
 use std::alloc::{AllocError, Global};
-use wgsl_core::signature::TpltParam;
 use wgsl_core::ty::Type;
 use wgsl_core::ty::form::Form as TypeForm;
 use wgsl_forms::expression::is_const_expression;
@@ -26,17 +21,21 @@ use wgsl_forms::form::Referent;
 use wgsl_forms::member::is_swizzle;
 use wgsl_requests::answers::Answer;
 use wgsl_requests::ask::answer;
-use wgsl_requests::call_forms::form_of_call;
-use wgsl_requests::requests::{Call, Form, Request};
+use wgsl_requests::requests::{Form, Request};
+use wgsl_requests::write::write;
 use wgsl_standard::callee::{Callee, can_be_const_expression};
 use wgsl_standard::operand::Operand;
 use wgsl_standard::substitution::built;
-use wgsl_syntax::operator::{BinaryOperator, UnaryOperator};
-use wgsl_text::write::write;
+use wgsl_syntax::operator::UnaryOperator;
 
-/// The type that is answered to a request, or the text of the answer.
-fn type_or_text(alloc: Global, request: Request<'_>) -> Result<Result<Type, String>, AllocError>
-    ensures { IfOk result (λ found. IsFound (request_view request.entry) (shown view string_bytes found)) }
+/// The type that is answered to a request, or the text of the answer. What is returned is the result of a function, if the
+/// request is whether it takes the values.
+fn type_or_text(
+    alloc: Global,
+    of_result: Option<&Type>,
+    request: Request<'_>,
+) -> Result<Result<Type, String>, AllocError>
+    ensures { IfOk result (λ found. IsFound (option_map (λ t. view t.now) of_result.entry) (request_view request.entry) (shown view string_bytes found)) }
 {
     match answer(alloc, request)? {
         Answer::TypeOf(_, Some(found)) => match built(alloc, found)? {
@@ -44,16 +43,22 @@ fn type_or_text(alloc: Global, request: Request<'_>) -> Result<Result<Type, Stri
             None => Ok(Err(String::from_str(alloc, "no value")?)),
         },
         Answer::FormType(Ok(ty)) => Ok(Ok(ty.build(alloc)?)),
+        Answer::Fit(Ok(())) => match of_result {
+            Some(ty) => Ok(Ok(ty.clone(alloc)?)),
+            None => Ok(Err(String::from_str(alloc, "no value")?)),
+        },
         other => {
             let mut text = String::new(alloc);
-            write(other, &mut text)?;
+            let written = write(&other, &mut text);
+            drop(other);
+            written?;
             Ok(Err(text))
         }
     }
 }
 
 /// An expression as an operand of a request.
-fn operand_of(x: &Typed) -> Operand<'_>
+pub(crate) fn operand_of(x: &Typed) -> Operand<'_>
     ensures { written_view result ≡ operand (typed_view x.now) }
 {
     Operand::of(&x.ty, x.is_constant)
@@ -138,10 +143,10 @@ fn ask_member<'p>(
     x: &'p Typed,
     name: &'p str,
 ) -> Result<Result<Type, String>, AllocError>
-    ensures { IfOk result (λ found. IsFound (form_of (member_of (operand (typed_view x.now)) name.now)) (shown view string_bytes found)) }
+    ensures { IfOk result (λ found. IsFound None (form_of (member_of (operand (typed_view x.now)) name.now)) (shown view string_bytes found)) }
 {
     let form = Form::Member(operand_of(x), name);
-    type_or_text(alloc, Request::Form(&form))
+    type_or_text(alloc, None, Request::Form(&form))
 }
 
 fn ask_element<'p>(
@@ -149,10 +154,10 @@ fn ask_element<'p>(
     x: &'p Typed,
     index: &'p Typed,
 ) -> Result<Result<Type, String>, AllocError>
-    ensures { IfOk result (λ found. IsFound (form_of (index_of (operand (typed_view x.now)) (operand (typed_view index.now)))) (shown view string_bytes found)) }
+    ensures { IfOk result (λ found. IsFound None (form_of (index_of (operand (typed_view x.now)) (operand (typed_view index.now)))) (shown view string_bytes found)) }
 {
     let form = Form::Index(operand_of(x), operand_of(index));
-    type_or_text(alloc, Request::Form(&form))
+    type_or_text(alloc, None, Request::Form(&form))
 }
 
 /// `x[i]`, whose `[` is that byte.
@@ -215,33 +220,6 @@ fn is_memory(ty: &Type) -> bool
     )
 }
 
-/// `x + y`, whose operator is at that byte.
-pub(crate) fn binary(
-    alloc: Global,
-    at: usize,
-    operator: BinaryOperator,
-    x: Outcome,
-    y: Outcome,
-) -> Result<Outcome, AllocError>
-    ensures { IfOk result (λ z. IsBinary at operator (outcome_view x) (outcome_view y) (outcome_view z)) }
-{
-    let parts = with_part(with_part(Ok(Vec::new(alloc)), x)?, y)?;
-    call(alloc, at, &Head::Binary(operator), parts)
-}
-
-/// `-x`, whose operator is at that byte.
-pub(crate) fn unary(
-    alloc: Global,
-    at: usize,
-    operator: UnaryOperator,
-    x: Outcome,
-) -> Result<Outcome, AllocError>
-    ensures { IfOk result (λ y. IsUnary at operator (outcome_view x) (outcome_view y)) }
-{
-    let parts = with_part(Ok(Vec::new(alloc)), x)?;
-    call(alloc, at, &Head::Unary(operator), parts)
-}
-
 /// The outcome of a call or a constructor with its operands, whose first token is at that byte.
 pub(crate) fn call(
     alloc: Global,
@@ -270,16 +248,39 @@ pub(crate) fn call(
 
 /// Asks about what stands in front of operands with them.
 fn ask_of(alloc: Global, head: &Head, parts: &[Typed]) -> Result<Result<Type, String>, AllocError>
-    ensures { IfOk result (λ found. IsFound (asked (head_view head.now) (map typed_view parts.now)) (shown view string_bytes found)) }
+    ensures { IfOk result (λ found. IsFound (result_of_call (head_view head.now)) (asked (head_view head.now) (map typed_view parts.now)) (shown view string_bytes found)) }
 {
-    let operands = operands_of(alloc, head, parts)?;
+    let operands = operands_by(alloc, head, parts)?;
     let found = ask_with(alloc, head, referent_of(parts), &operands);
     drop(operands);
     found
 }
 
+fn ask_with<'x>(
+    alloc: Global,
+    head: &'x Head,
+    referent: Referent,
+    operands: &'x [Operand<'x>],
+) -> Result<Result<Type, String>, AllocError>
+    ensures { IfOk result (λ found. IsFound (result_of_call (head_view head.now)) (asked_with (head_view head.now) referent (map written_view operands.now))
+        (shown view string_bytes found)) }
+{
+    let asked = asked_about(head, referent, operands);
+    type_or_text(alloc, result_of_call(head), asked.request())
+}
+
+/// The result of a function that the text declares.
+fn result_of_call(head: &Head) -> Option<&Type>
+    ensures { option_map (λ t. view t.now) result ≡ result_of_call (head_view head.now) }
+{
+    match head {
+        Head::Declared(_, _, result) => result.as_ref(),
+        _ => None,
+    }
+}
+
 /// What the only operand refers to.
-fn referent_of(parts: &[Typed]) -> Referent
+pub(crate) fn referent_of(parts: &[Typed]) -> Referent
     ensures { result ≡ referent_of (map typed_view parts.now) }
 {
     match parts {
@@ -313,11 +314,14 @@ fn makes_constant(head: &Head) -> bool
 {
     match head {
         Head::Function(name, _) => can_be_const_expression(Callee::Function(name.as_str())),
-        Head::Unary(_) | Head::Binary(_) | Head::Constructor(_, _) | Head::Array(_, _) => true,
+        Head::Declared(_, _, _) => false,
+        Head::Unary(_) | Head::Binary(_) | Head::Constructor(_, _) => true,
+        Head::Array(_, _) | Head::Struct(_) => true,
     }
 }
 
-fn operands_of<'p>(
+/// The operands of what stands in front of them.
+pub(crate) fn operands_by<'p>(
     alloc: Global,
     head: &Head,
     parts: &'p [Typed],
@@ -342,69 +346,8 @@ fn operand_by<'p>(head: &Head, x: &'p Typed) -> Operand<'p>
         | Head::Binary(_)
         | Head::Constructor(_, _)
         | Head::Function(_, _)
-        | Head::Array(_, _) => Operand::of(shown_type(x), x.is_constant),
-    }
-}
-
-fn ask_with(
-    alloc: Global,
-    head: &Head,
-    referent: Referent,
-    operands: &[Operand<'_>],
-) -> Result<Result<Type, String>, AllocError>
-    ensures { IfOk result (λ found. IsFound (asked_with (head_view head.now) referent (map written_view operands.now))
-        (shown view string_bytes found)) }
-{
-    match head {
-        Head::Unary(operator) => {
-            ask_call(alloc, Callee::Unary(*operator), None, referent, operands)
-        }
-        Head::Binary(operator) => {
-            ask_call(alloc, Callee::Binary(*operator), None, referent, operands)
-        }
-        Head::Constructor(name, template) => {
-            let callee = Callee::Constructor(name.as_str());
-            ask_call(alloc, callee, template.as_deref(), referent, operands)
-        }
-        Head::Function(name, template) => {
-            let callee = Callee::Function(name.as_str());
-            ask_call(alloc, callee, template.as_deref(), referent, operands)
-        }
-        Head::Array(ty, count) => {
-            let form = Form::ArrayOf(ty, *count, operands);
-            type_or_text(alloc, Request::Form(&form))
-        }
-    }
-}
-
-fn ask_call(
-    alloc: Global,
-    callee: Callee<'_>,
-    template: Option<&[TpltParam]>,
-    referent: Referent,
-    operands: &[Operand<'_>],
-) -> Result<Result<Type, String>, AllocError>
-    ensures { IfOk result (λ found. IsFound (marked referent (type_asked (called (callee_view callee.entry)
-        (option_map (λ ps. map parameter_view ps.now) template.entry) (map written_view operands.now))))
-        (shown view string_bytes found)) }
-{
-    let call = Call {
-        callee,
-        template,
-        operands,
-    };
-    match form_of_call(&call) {
-        Some(form) => type_or_text(alloc, Request::Form(&marked(form, referent))),
-        None => type_or_text(alloc, Request::Type(&call)),
-    }
-}
-
-/// The form, which says of the operand of `&` what it refers to.
-fn marked(form: Form<'_>, referent: Referent) -> Form<'_>
-    ensures { form_of (form_view result) ≡ marked referent (form_of (form_view form.entry)) }
-{
-    match form {
-        Form::Address(x, _) => Form::Address(x, referent),
-        other => other,
+        | Head::Array(_, _)
+        | Head::Struct(_)
+        | Head::Declared(_, _, _) => Operand::of(shown_type(x), x.is_constant),
     }
 }

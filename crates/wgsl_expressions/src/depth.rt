@@ -8,8 +8,9 @@ use crate::outcome::Outcome;
 use wgsl_core::ty::Type;
 use wgsl_core::ty::form::Form;
 
-/// How many layers a type may have, one around another. Types are copied and dropped by recursion.
-const MOST_LAYERS: u8 = 255;
+/// How many types may be inside a struct, and how many layers a type may have, one around another. Types are copied and dropped
+/// by recursion.
+pub(crate) const MOST_INSIDE: usize = 255;
 
 /// Whether the type of an outcome has more layers than a type may have.
 pub(crate) fn is_too_deep(x: &Outcome) -> bool
@@ -25,7 +26,7 @@ fn is_deep(ty: &Type) -> bool
     ensures { result ≡ is_deeper most_layers (view ty.now) }
 {
     let mut inside = ty;
-    let mut left = MOST_LAYERS;
+    let mut left = MOST_INSIDE;
     while has_layer(inside) {
         if left == 0 {
             return true;

@@ -1,13 +1,21 @@
-// The type of an expression that a text spells.
-ghost use Rattle.std.specs.Prelude.{◌≡◌, ◌+◌, ◌<◌, ◌≤◌, ◌^◌, Ok, map};
-ghost use Rattle.wgsl_expressions.specs.Typing.{TypedBy, TypedTokens, as_operand, open_behind, operand_token, whole};
-ghost use Rattle.wgsl_expressions.specs.Views.{IsOutcomeOf, IsTypedText, items_view};
+// What a text is: an expression, a declaration or a statement.
+ghost use Rattle.std.specs.Prelude.{◌≡◌, ◌+◌, ◌<◌, ◌≤◌, ◌^◌, [], Ok, map};
+ghost use Rattle.wgsl_reader.specs.Lists.{listed};
+ghost use Rattle.wgsl_reader.specs.Tokens.{tokens_of};
+ghost use Rattle.wgsl_expressions.specs.Reading.{IsMisread};
+ghost use Rattle.wgsl_expressions.specs.RequestTokens.{asked_behind, operand_token};
+ghost use Rattle.wgsl_expressions.specs.Typing.{MovesBy, MovesIn, NotedBy, TextIs, TokensAre, closed_by, declaration_of, opened_by, whole};
+ghost use Rattle.wgsl_expressions.specs.Views.{AsksIn, Finds, IsAskedLine, IsTypedText, Moves, items_view, scope_view, source_view};
 
+use crate::heading::{declare_function, declare_struct};
+use crate::item::Item;
 use crate::misread::{Misread, Wanted};
 use crate::operator::binary_of;
 use crate::outcome::Outcome;
+use crate::request_token::{as_asked, as_operand};
+use crate::scope::Scope;
 use crate::source::Source;
-use crate::step::{Item, step_in, take_operand};
+use crate::step::step;
 use std::alloc::{AllocError, Global};
 use wgsl_core::error::Fail;
 use wgsl_reader::expected::may_stand_behind;
@@ -21,30 +29,102 @@ use wgsl_reader::token::Token;
 /// What is expected where a token of such a kind may stand.
 static WANTED: &[(Kind, Wanted)] = &[
     (Kind::Number, Wanted::Operand),
+    (Kind::Struct, Wanted::Type),
     (Kind::Name, Wanted::Name),
     (Kind::CloseRound, Wanted::Parenthesis),
     (Kind::CloseSquare, Wanted::Bracket),
     (Kind::CloseTemplate, Wanted::ListEnd),
+    (Kind::PlusPlus, Wanted::Assignment),
+    (Kind::Equal, Wanted::Equal),
+    (Kind::Case, Wanted::Clause),
+    (Kind::Semicolon, Wanted::End),
+    (Kind::Comma, Wanted::Comma),
+    (Kind::OpenCurly, Wanted::Brace),
+    (Kind::CloseCurly, Wanted::CloseBrace),
 ];
 
-/// The type of the expression that a text spells (WGSL, "Expressions"), or its first part without a type and why. Operands
-/// are types as WGSL spells them, `const` and such a type, or literals. The error says from where on the text is no expression.
-pub fn type_of_expression(alloc: Global, text: &str) -> Result<Outcome, Fail<Misread>>
-    ensures { IsTypedText text.now result }
+/// The type of the expression that a text spells (WGSL, "Expressions"), with the names of a scope, or its first part without a type
+/// and why. The error says from where on the text is no expression.
+pub fn type_of_expression(
+    alloc: Global,
+    scope: &mut Scope,
+    text: &str,
+) -> Result<Outcome, Fail<Misread>>
+    ensures { IsTypedText (scope_view scope.old) text.now result }
+{
+    match item_of_text(alloc, scope, text)? {
+        Item::Operand(x) => Ok(x),
+        other => {
+            drop(other);
+            Err(Fail::Error(Misread {
+                at: 0,
+                wanted: Wanted::Operand,
+            }))
+        }
+    }
+}
+
+/// What the tokens of a text are as an expression.
+fn item_of_text(alloc: Global, scope: &mut Scope, text: &str) -> Result<Item, Fail<Misread>>
+    ensures { Finds (TextIs (scope_view scope.old) text.now (listed (tokens_of text.now))) result }
 {
     match tokens_of(alloc, text.as_bytes())? {
         Ok(tokens) => {
             let mut tokens = tokens;
             all_as_operands(&mut tokens);
-            let outcome = type_of_tokens(alloc, text, &tokens);
+            let item = item_of_tokens(alloc, scope, Rule::Expression, text, &tokens);
             drop(tokens);
-            outcome
+            item
         }
-        Err(at) => Err(Fail::Error(Misread {
-            at,
-            wanted: Wanted::Token,
-        })),
+        Err(at) => Err(no_token(at)),
     }
+}
+
+fn no_token(at: usize) -> Fail<Misread>
+    ensures { IsMisread result }
+{
+    Fail::Error(Misread {
+        at,
+        wanted: Wanted::Token,
+    })
+}
+
+/// What a line asks; None if it has no tokens. The error says from where on it is no request.
+pub(crate) fn item_of_line(alloc: Global, line: &str) -> Result<Option<Item>, Fail<Misread>>
+    ensures { IsAskedLine line.now result }
+{
+    match tokens_of(alloc, line.as_bytes())? {
+        Ok(tokens) => item_of_asked(alloc, line, tokens),
+        Err(at) => Err(no_token(at)),
+    }
+}
+
+/// What the tokens of a line ask; None if there are none.
+fn item_of_asked(
+    alloc: Global,
+    line: &str,
+    tokens: Vec<Token>,
+) -> Result<Option<Item>, Fail<Misread>>
+    ensures { AsksIn line.now tokens.items result }
+{
+    if tokens.is_empty() {
+        drop(tokens);
+        return Ok(None);
+    }
+    Ok(Some(item_of_some(alloc, line, tokens)?))
+}
+
+/// What the tokens of a line ask, which has some.
+fn item_of_some(alloc: Global, line: &str, tokens: Vec<Token>) -> Result<Item, Fail<Misread>>
+    ensures { Finds (TokensAre [] Rule.Request line.now (asked_behind line.now Kind.End tokens.items)) result }
+{
+    let mut tokens = tokens;
+    as_asked(line, &mut tokens);
+    let mut scope = Scope::empty(alloc);
+    let item = item_of_tokens(alloc, &mut scope, Rule::Request, line, &tokens);
+    drop(scope);
+    drop(tokens);
+    item
 }
 
 /// Takes each `const` for one in front of an operand's type.
@@ -58,37 +138,35 @@ fn all_as_operands(tokens: &mut [Token])
     }
 }
 
-fn as_operand(kind: Kind) -> Kind
-    ensures { result ≡ as_operand kind }
-{
-    match kind {
-        Kind::Const => Kind::ConstOperand,
-        other => other,
-    }
-}
-
-/// The type of the expression that all tokens are.
-fn type_of_tokens(alloc: Global, text: &str, tokens: &[Token]) -> Result<Outcome, Fail<Misread>>
-    ensures { IsOutcomeOf (TypedTokens text.now tokens.now) result }
-{
-    match read(alloc, Rule::Expression, tokens, 0)? {
-        Ok(events) => {
-            let outcome = outcome_of_events(alloc, text, tokens, &events);
-            drop(events);
-            outcome
-        }
-        Err(at) => Err(Fail::Error(misread_at(alloc, text, tokens, at)?)),
-    }
-}
-
-/// What comes of what is noted.
-fn outcome_of_events(
+/// What all tokens are.
+fn item_of_tokens(
     alloc: Global,
+    scope: &mut Scope,
+    rule: Rule,
+    text: &str,
+    tokens: &[Token],
+) -> Result<Item, Fail<Misread>>
+    ensures { Finds (TokensAre (scope_view scope.old) rule text.now tokens.now) result }
+{
+    match read(alloc, rule, tokens, 0)? {
+        Ok(events) => {
+            let item = item_of_events(alloc, scope, text, tokens, &events);
+            drop(events);
+            item
+        }
+        Err(at) => Err(Fail::Error(misread_at(alloc, rule, text, tokens, at)?)),
+    }
+}
+
+/// What comes of what is noted, with the names of a scope, to which those are added that are declared.
+fn item_of_events(
+    alloc: Global,
+    scope: &mut Scope,
     text: &str,
     tokens: &[Token],
     events: &[Event],
-) -> Result<Outcome, Fail<Misread>>
-    ensures { IsOutcomeOf (TypedBy text.now tokens.now (Ok events.now)) result }
+) -> Result<Item, Fail<Misread>>
+    ensures { Finds (NotedBy (scope_view scope.old) text.now tokens.now (Ok events.now)) result }
 {
     let source = Source {
         text,
@@ -100,40 +178,88 @@ fn outcome_of_events(
     let mut index = 0;
     while index < events.len() {
         let event = events[index];
-        step_in(alloc, source, opened, index, event, &mut items)?;
-        opened = open_behind(opened, event.mark);
+        opened = closed_by(opened, event.mark);
+        step_in(alloc, source, scope, opened, index, event, &mut items)?;
+        opened = opened_by(opened, event.mark);
         index += 1;
     }
     whole(source, items)
 }
 
-/// How many template lists are open behind a mark.
-fn open_behind(opened: usize, mark: Mark) -> usize
-    requires { opened + 1 < 2 ^ 64 }
-    ensures exact { result ≡ open_behind opened mark }
-    ensures few { result ≤ opened + 1 }
+/// Does with the names and the items what is noted at an index, where this many lists are open. In a list nothing is done: a name has
+/// its list.
+fn step_in(
+    alloc: Global,
+    source: Source<'_>,
+    scope: &mut Scope,
+    opened: usize,
+    index: usize,
+    event: Event,
+    items: &mut Vec<Item>,
+) -> Result<(), Fail<Misread>>
+    ensures { Moves (MovesIn opened (source_view source.entry) index event (scope_view scope.old, items_view items.old.items)) scope.new items.new.items result }
+{
+    if opened == 0 {
+        declare_or_step(alloc, source, scope, index, event, items)
+    } else {
+        Ok(())
+    }
+}
+
+fn declare_or_step(
+    alloc: Global,
+    source: Source<'_>,
+    scope: &mut Scope,
+    index: usize,
+    event: Event,
+    items: &mut Vec<Item>,
+) -> Result<(), Fail<Misread>>
+    ensures { Moves (MovesBy (declaration_of event.mark) (source_view source.entry) index event (scope_view scope.old, items_view items.old.items)) scope.new items.new.items result }
+{
+    match event.mark {
+        Mark::Struct => declare_struct(alloc, source, scope, items),
+        Mark::Function => declare_function(alloc, source, scope, items),
+        _ => step(alloc, source, scope, index, event, items),
+    }
+}
+
+/// How many lists are open behind the end of a template list or of an attribute.
+fn closed_by(opened: usize, mark: Mark) -> usize
+    ensures exact { result ≡ closed_by opened mark }
+    ensures few { result ≤ opened }
 {
     match mark {
-        Mark::OpenTemplate => opened + 1,
-        Mark::Template => opened.saturating_sub(1),
+        Mark::Template | Mark::Attribute => opened.saturating_sub(1),
         _ => opened,
     }
 }
 
-/// The one operand that is left.
-fn whole(source: Source<'_>, items: Vec<Item>) -> Result<Outcome, Fail<Misread>>
-    ensures { IsOutcomeOf (λ r. r ≡ whole (items_view items.items)) result }
+/// How many lists are open behind the beginning of one.
+fn opened_by(opened: usize, mark: Mark) -> usize
+    requires { opened + 1 < 2 ^ 64 }
+    ensures exact { result ≡ opened_by opened mark }
+    ensures few { result ≤ opened + 1 }
+{
+    match mark {
+        Mark::OpenTemplate | Mark::AttributeName => opened + 1,
+        _ => opened,
+    }
+}
+
+/// The one item that is left.
+fn whole(source: Source<'_>, items: Vec<Item>) -> Result<Item, Fail<Misread>>
+    ensures { Finds (λ r. r ≡ whole (items_view items.items)) result }
 {
     let mut items = items;
-    let x = take_operand(source, &mut items);
+    let item = items.pop();
     let is_alone = items.is_empty();
     drop(items);
-    let x = x?;
-    if is_alone {
-        Ok(x)
-    } else {
-        drop(x);
-        Err(source.misread(1, Wanted::Operand))
+    match item {
+        Some(item) if is_alone => Ok(item),
+        other => {
+            drop(other);
+            Err(source.misread(1, Wanted::Operand))
+        }
     }
 }
 
@@ -141,6 +267,7 @@ fn whole(source: Source<'_>, items: Vec<Item>) -> Result<Outcome, Fail<Misread>>
 /// of: `1.5u`.
 fn misread_at(
     alloc: Global,
+    rule: Rule,
     text: &str,
     tokens: &[Token],
     count: usize,
@@ -152,11 +279,11 @@ fn misread_at(
         }),
         (_, Some(token)) => Ok(Misread {
             at: token.at,
-            wanted: wanted_at(alloc, tokens, count, Some(token.kind))?,
+            wanted: wanted_at(alloc, rule, tokens, count, Some(token.kind))?,
         }),
         (_, None) => Ok(Misread {
             at: text.len(),
-            wanted: wanted_at(alloc, tokens, count, None)?,
+            wanted: wanted_at(alloc, rule, tokens, count, None)?,
         }),
     }
 }
@@ -171,18 +298,24 @@ fn is_in_number(number: Token, token: Token) -> bool {
 /// What may stand behind that many tokens, in place of a token of this kind.
 fn wanted_at(
     alloc: Global,
+    rule: Rule,
     tokens: &[Token],
     count: usize,
     next: Option<Kind>,
 ) -> Result<Wanted, AllocError> {
     let front = tokens.get(..count).unwrap_or(tokens);
+    match (first_wanted(alloc, rule, front)?, next) {
+        (Wanted::End, Some(kind)) if binary_of(kind).is_some() => Ok(Wanted::Grouping),
+        (wanted, _) => Ok(wanted),
+    }
+}
+
+/// What may stand behind these tokens.
+fn first_wanted(alloc: Global, rule: Rule, tokens: &[Token]) -> Result<Wanted, AllocError> {
     for (kind, wanted) in WANTED {
-        if may_stand_behind(alloc, Rule::Expression, front, *kind)? {
+        if may_stand_behind(alloc, rule, tokens, *kind)? {
             return Ok(*wanted);
         }
     }
-    match next {
-        Some(kind) if binary_of(kind).is_some() => Ok(Wanted::Grouping),
-        _ => Ok(Wanted::End),
-    }
+    Ok(Wanted::End)
 }

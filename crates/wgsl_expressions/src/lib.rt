@@ -1,17 +1,26 @@
-//! The types of expressions, as texts.
+//! What expressions, declarations and statements over types are, as texts.
 #![tactic(auto)]
 
 mod ask;
+mod called;
 mod depth;
 pub mod expression;
+mod form;
 mod head;
+pub mod heading;
+mod item;
 pub mod laws;
+pub mod line;
 pub mod literal;
 pub mod misread;
 mod name;
 mod operator;
 pub mod outcome;
 mod reply;
-pub mod request;
+mod request_token;
+pub mod scope;
 mod source;
+pub mod statement;
+mod statement_step;
 mod step;
+pub mod why;

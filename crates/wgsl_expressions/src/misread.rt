@@ -1,6 +1,8 @@
-// Why a text is no expression.
+// Why a text is no request.
+ghost use Rattle.wgsl_expressions.specs.Reading.{IsMisread};
 
-use wgsl_spelling::fault::Cause;
+use wgsl_core::error::Fail;
+use wgsl_spelling::fault::{Cause, Fault};
 
 /// What was expected in place of a token.
 #[derive(Clone, Copy)]
@@ -11,6 +13,13 @@ pub enum Wanted {
     Operand,
     Type,
     Name,
+    /// An integer without a sign.
+    Number,
+    /// An operator, a call or a constructor.
+    Call,
+    /// A function in front.
+    Function,
+    Struct,
     /// `)`
     Parenthesis,
     /// `]`
@@ -21,6 +30,18 @@ pub enum Wanted {
     End,
     /// Brackets around an operand of this operator.
     Grouping,
+    /// `=`, `+=`, `++`, or an operator.
+    Assignment,
+    /// `=`
+    Equal,
+    /// `,`
+    Comma,
+    /// `case`, `default`
+    Clause,
+    /// `{`
+    Brace,
+    /// `}`
+    CloseBrace,
     /// A type with fewer layers.
     Shallower,
     /// A type without this fault.
@@ -35,20 +56,45 @@ impl Wanted {
             Wanted::Operand => "expected an operand",
             Wanted::Type => "expected a type",
             Wanted::Name => "expected a name",
+            Wanted::Number => "expected an integer",
+            Wanted::Call => "expected an operator, a call or a constructor",
+            Wanted::Struct => "expected a struct",
+            Wanted::Function => "expected a function in front of this",
             Wanted::Parenthesis => "expected `)`",
             Wanted::Bracket => "expected `]`",
             Wanted::ListEnd => "expected `>`",
             Wanted::End => "expected an operator or the end",
             Wanted::Grouping => "an operand of this operator needs brackets",
-            Wanted::Shallower => "a type is nested more than 255 deep",
+            Wanted::Assignment => "expected an assignment",
+            Wanted::Equal => "expected `=`",
+            Wanted::Comma => "expected `,`",
+            Wanted::Clause => "expected `case` or `default`",
+            Wanted::Brace => "expected `{`",
+            Wanted::CloseBrace => "expected `}`",
+            Wanted::Shallower => "more than 255 types are inside a type",
             Wanted::Faultless(cause) => cause.text(),
         }
     }
 }
 
-/// The index of the byte from which a text is no expression, and what was expected there.
+/// The index of the byte from which a text is no request, and what was expected there.
 #[derive(Clone, Copy)]
 pub struct Misread {
     pub at: usize,
     pub wanted: Wanted,
+}
+
+/// The error at a name with its list that spells no type: why, or what was expected in place of the name.
+pub(crate) fn untyped(fault: Fault, wanted: Wanted) -> Fail<Misread>
+    ensures { IsMisread result }
+{
+    let wanted = match fault.cause {
+        Cause::UnknownType | Cause::NoList => wanted,
+        Cause::TooDeep => Wanted::Shallower,
+        cause => Wanted::Faultless(cause),
+    };
+    Fail::Error(Misread {
+        at: fault.at,
+        wanted,
+    })
 }

@@ -3,11 +3,12 @@ ghost use Rattle.std.specs.Prelude.{◌≡◌, IfOk, None, Some, map, option_map
 ghost use Rattle.wgsl_core.specs.Instances.{parameter_view};
 ghost use Rattle.wgsl_core.specs.View.{view};
 ghost use Rattle.wgsl_rules.specs.types.Spelling.{wgsl_spelling};
-ghost use Rattle.wgsl_expressions.specs.Names.{callee_named, constructor_of, function_with, head_noted, is_constructor, other_head, with_type};
-ghost use Rattle.wgsl_expressions.specs.Outcomes.{overloaded};
-ghost use Rattle.wgsl_expressions.specs.Views.{head_found, head_view, source_view};
+ghost use Rattle.wgsl_expressions.specs.Names.{constructor_of, function_with, head_noted, is_constructor, other_head, plain_head, with_type};
+ghost use Rattle.wgsl_expressions.specs.Outcomes.{declared};
+ghost use Rattle.wgsl_expressions.specs.Views.{head_found, head_view, meaning_view, scope_view, source_view};
 
 use crate::head::Head;
+use crate::scope::{Meaning, Scope};
 use crate::source::{Source, between, first_count};
 use std::alloc::{AllocError, Global};
 use std::fmt::Write;
@@ -24,17 +25,18 @@ use wgsl_syntax::rules::RuleSet;
 pub(crate) fn head_noted(
     alloc: Global,
     source: Source<'_>,
+    scope: &Scope,
     events: &[Event],
 ) -> Result<Result<Head, Fault>, AllocError>
-    ensures { IfOk result (λ found. head_found found ≡ head_noted (source_view source.entry) events.now) }
+    ensures { IfOk result (λ found. head_found found ≡ head_noted (source_view source.entry) (scope_view scope.now) events.now) }
 {
-    match source.type_noted(alloc, events)? {
-        Ok(ty) => {
+    match source.type_noted(alloc, scope, events)? {
+        Ok((ty, _)) => {
             let head = constructor_of(alloc, &ty);
             drop(ty);
             Ok(Ok(head?))
         }
-        Err(fault) => match other_head(alloc, source, events)? {
+        Err(fault) => match other_head(alloc, source, scope, events)? {
             Some(head) => Ok(Ok(head)),
             None => Ok(Err(fault)),
         },
@@ -57,6 +59,7 @@ fn constructor_of(alloc: Global, ty: &Type) -> Result<Head, AllocError>
             Ok(Head::Constructor(name, Some(with_type(alloc, of)?)))
         }
         Form::Array(count, of) => Ok(Head::Array(of.clone(alloc)?, count)),
+        Form::Struct(_) => Ok(Head::Struct(ty.clone(alloc)?)),
         _ => Ok(Head::Constructor(spelling_of(alloc, ty)?, None)),
     }
 }
@@ -84,17 +87,18 @@ fn with_type(alloc: Global, ty: &Type) -> Result<Vec<TpltParam>, AllocError>
 fn other_head(
     alloc: Global,
     source: Source<'_>,
+    scope: &Scope,
     events: &[Event],
 ) -> Result<Option<Head>, AllocError>
-    ensures { IfOk result (λ found. option_map head_view found ≡ other_head (source_view source.entry) events.now) }
+    ensures { IfOk result (λ found. option_map head_view found ≡ other_head (source_view source.entry) (scope_view scope.now) events.now) }
 {
     let name = source.text_at(first_count(events));
     if events.len() == 1 {
-        return Ok(Some(plain_head(alloc, name)?));
+        return Ok(Some(plain_head(alloc, name, scope.find(name))?));
     }
     let list = between(events, 2, events.len().saturating_sub(1));
-    match source.type_noted(alloc, list)? {
-        Ok(ty) => {
+    match source.type_noted(alloc, scope, list)? {
+        Ok((ty, _)) => {
             let head = function_with(alloc, name, &ty);
             drop(ty);
             Ok(Some(head?))
@@ -103,15 +107,37 @@ fn other_head(
     }
 }
 
-fn plain_head(alloc: Global, name: &str) -> Result<Head, AllocError>
-    ensures { IfOk result (λ head. head_view head ≡ overloaded (callee_named name.now) None) }
+/// What is called by a name without a list, which may be declared.
+fn plain_head(alloc: Global, name: &str, declared: Option<&Meaning>) -> Result<Head, AllocError>
+    ensures { IfOk result (λ head. head_view head ≡ plain_head name.now (option_map (λ m. meaning_view m.now) declared.entry)) }
 {
     let owned = String::from_str(alloc, name)?;
-    if is_constructor(name) {
-        Ok(Head::Constructor(owned, None))
-    } else {
-        Ok(Head::Function(owned, None))
+    match declared {
+        Some(Meaning::Function(parameters, result)) => {
+            declared_head(alloc, owned, parameters, result.as_ref())
+        }
+        _ if is_constructor(name) => Ok(Head::Constructor(owned, None)),
+        _ => Ok(Head::Function(owned, None)),
     }
+}
+
+fn declared_head(
+    alloc: Global,
+    name: String,
+    parameters: &[Type],
+    of_result: Option<&Type>,
+) -> Result<Head, AllocError>
+    ensures { IfOk result (λ head. head_view head ≡ declared (string_bytes name) (map view parameters.now) (option_map (λ t. view t.now) of_result.entry)) }
+{
+    let mut types = Vec::with_capacity(alloc, parameters.len())?;
+    for ty in parameters {
+        types.push(ty.clone(alloc)?)?;
+    }
+    let copied = match of_result {
+        Some(ty) => Some(ty.clone(alloc)?),
+        None => None,
+    };
+    Ok(Head::Declared(name, types, copied))
 }
 
 fn function_with(alloc: Global, name: &str, ty: &Type) -> Result<Head, AllocError>

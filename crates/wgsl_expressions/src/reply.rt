@@ -1,34 +1,355 @@
-// What is replied of an expression.
-ghost use Rattle.std.specs.Prelude.{◌≡◌, ◌++◌, IfOk, string_bytes};
-ghost use Rattle.wgsl_expressions.specs.Replies.{outcome_kind, outcome_text};
-ghost use Rattle.wgsl_expressions.specs.Views.{outcome_view};
+// What is replied to a request.
+ghost use Rattle.std.specs.Prelude.{◌≡◌, ◌++◌, [], IfOk, Some, map, option_map, string_bytes};
+ghost use Rattle.wgsl_core.specs.View.{struct_view, view};
+ghost use Rattle.wgsl_requests.specs.Requests.{common, explanation_of, resolution_of};
+ghost use Rattle.wgsl_rules.specs.types.Spelling.{wgsl_spelling};
+ghost use Rattle.wgsl_requests.specs.StandardViews.{written_view};
+ghost use Rattle.wgsl_requests.specs.Views.{request_view};
+ghost use Rattle.wgsl_requests.specs.Replies.{IsUnreadable, WritesReply};
+ghost use Rattle.wgsl_expressions.specs.Outcomes.{asked_with, call_of, operand};
+ghost use Rattle.wgsl_expressions.specs.Replies.{AnswersItem, AnswersRequest, outcome_kind, outcome_text};
+ghost use Rattle.wgsl_expressions.specs.Statements.{only_struct, other_request, question_of, rank_of, request_of, request_on, size_of, struct_of};
+ghost use Rattle.wgsl_expressions.specs.Stack.{a_question, an_asked};
+ghost use Rattle.wgsl_expressions.specs.Views.{asked_view, call_view, head_view, item_view, outcome_view, typed_view};
 
-use crate::outcome::{Outcome, shown_type};
-use std::alloc::AllocError;
+use crate::ask::{operand_of, operands_by, referent_of};
+use crate::called::{asked_about, call_of};
+use crate::form::form_of;
+use crate::head::Head;
+use crate::item::{Asked, Call, Item};
+use crate::misread::Wanted;
+use crate::outcome::{Outcome, Typed, shown_type};
+use crate::statement::{Question, Statement};
+use crate::why::Why;
+use std::alloc::{AllocError, Global};
+use wgsl_core::ty::form::Form;
 use wgsl_core::ty::show::ShownType;
+use wgsl_core::ty::{StructType, Type};
+use wgsl_forms::form::Referent;
+use wgsl_requests::common::write_common as write_common_of;
+use wgsl_requests::reply::{ReplyKind, TextKind};
+use wgsl_requests::requests::Request;
+use wgsl_requests::write::write_answer_to;
+use wgsl_spelling::word::word;
+use wgsl_standard::operand::Operand;
 use wgsl_syntax::rules::RuleSet;
-use wgsl_text::write::TextKind;
+use wgsl_types::typed::typed_lines;
 
-/// Writes the outcome of an expression behind that many bytes of its line, and returns of which kind the text is.
-pub(crate) fn write_outcome(
-    before: usize,
-    outcome: Outcome,
+/// Writes what is replied to what a line is, and returns of which kind that is.
+pub(crate) fn write_item(
+    alloc: Global,
+    line: &str,
+    item: Item,
     text: &mut String,
-) -> Result<TextKind, AllocError>
+) -> Result<ReplyKind<Why>, AllocError>
+    ensures { IfOk result (λ kind. WritesReply (AnswersItem line.now (item_view item)) kind
+        (string_bytes text.old) (string_bytes text.new)) }
+{
+    match item {
+        Item::Operand(outcome) => Ok(ReplyKind::Answer(write_outcome(outcome, text)?)),
+        Item::Asked(asked) => write_asked(alloc, asked, text),
+        Item::Question(question, call) => write_question(alloc, question, call, text),
+        Item::Overloads(token) => write_request(alloc, Request::Overloads(word(line, token)), text),
+        other => {
+            drop(other);
+            Ok(unreadable(Wanted::Operand))
+        }
+    }
+}
+
+fn unreadable(wanted: Wanted) -> ReplyKind<Why>
+    ensures { IsUnreadable result }
+{
+    ReplyKind::Unreadable(Why::Misread(0, wanted.text()))
+}
+
+/// Writes the answer to a request, or the first of its values that has no type.
+fn write_asked(alloc: Global, asked: Asked, text: &mut String) -> Result<ReplyKind<Why>, AllocError>
+    ensures { IfOk result (λ kind. WritesReply (AnswersItem [] (an_asked (asked_view asked))) kind
+        (string_bytes text.old) (string_bytes text.new)) }
+{
+    let Asked {
+        statement,
+        types,
+        parts,
+    } = asked;
+    match parts {
+        Ok(values) => {
+            let written = write_statement(alloc, statement, types, &values, text);
+            drop(values);
+            written
+        }
+        Err(refused) => {
+            drop(types);
+            Ok(ReplyKind::Answer(write_outcome(Err(refused), text)?))
+        }
+    }
+}
+
+/// Writes the answer to what is asked about a call, or the first of its operands that has no type.
+fn write_question(
+    alloc: Global,
+    question: Question,
+    call: Call,
+    text: &mut String,
+) -> Result<ReplyKind<Why>, AllocError>
+    ensures { IfOk result (λ kind. WritesReply (AnswersItem [] (a_question question (call_view call))) kind
+        (string_bytes text.old) (string_bytes text.new)) }
+{
+    let Call { head, parts, .. } = call;
+    match parts {
+        Ok(values) => {
+            let written = write_of_call(alloc, question, &head, &values, text);
+            drop(values);
+            drop(head);
+            written
+        }
+        Err(refused) => {
+            drop(head);
+            Ok(ReplyKind::Answer(write_outcome(Err(refused), text)?))
+        }
+    }
+}
+
+fn write_of_call(
+    alloc: Global,
+    question: Question,
+    head: &Head,
+    values: &[Typed],
+    text: &mut String,
+) -> Result<ReplyKind<Why>, AllocError>
+    ensures { IfOk result (λ kind. WritesReply
+        (AnswersRequest (Some (question_of question (head_view head.now) (map typed_view values.now))))
+        kind (string_bytes text.old) (string_bytes text.new)) }
+{
+    let operands = operands_by(alloc, head, values)?;
+    let written = match question {
+        Question::Type => write_type_of(alloc, head, referent_of(values), &operands, text),
+        Question::Resolution => write_resolution(alloc, head, &operands, text),
+        Question::Explanation => write_explanation(alloc, head, &operands, text),
+    };
+    drop(operands);
+    written
+}
+
+/// Writes the type of a call, or whether a declared function takes the values.
+fn write_type_of<'x>(
+    alloc: Global,
+    head: &'x Head,
+    referent: Referent,
+    operands: &'x [Operand<'x>],
+    text: &mut String,
+) -> Result<ReplyKind<Why>, AllocError>
+    ensures { IfOk result (λ kind. WritesReply
+        (AnswersRequest (Some (asked_with (head_view head.now) referent (map written_view operands.now))))
+        kind (string_bytes text.old) (string_bytes text.new)) }
+{
+    let asked = asked_about(head, referent, operands);
+    write_request(alloc, asked.request(), text)
+}
+
+fn write_resolution<'x>(
+    alloc: Global,
+    head: &'x Head,
+    operands: &'x [Operand<'x>],
+    text: &mut String,
+) -> Result<ReplyKind<Why>, AllocError>
+    ensures { IfOk result (λ kind. WritesReply
+        (AnswersRequest (Some (resolution_of (call_of (head_view head.now) (map written_view operands.now)))))
+        kind (string_bytes text.old) (string_bytes text.new)) }
+{
+    let call = call_of(head, operands);
+    write_request(alloc, Request::Resolution(&call), text)
+}
+
+fn write_explanation<'x>(
+    alloc: Global,
+    head: &'x Head,
+    operands: &'x [Operand<'x>],
+    text: &mut String,
+) -> Result<ReplyKind<Why>, AllocError>
+    ensures { IfOk result (λ kind. WritesReply
+        (AnswersRequest (Some (explanation_of (call_of (head_view head.now) (map written_view operands.now)))))
+        kind (string_bytes text.old) (string_bytes text.new)) }
+{
+    let call = call_of(head, operands);
+    write_request(alloc, Request::Explanation(&call), text)
+}
+
+/// Writes what is answered to a statement with these types and values.
+fn write_statement(
+    alloc: Global,
+    statement: Statement,
+    types: Vec<Type>,
+    values: &[Typed],
+    text: &mut String,
+) -> Result<ReplyKind<Why>, AllocError>
+    ensures { IfOk result (λ kind. WritesReply
+        (AnswersRequest (request_of statement (map view types.items) (map operand (map typed_view values.now))))
+        kind (string_bytes text.old) (string_bytes text.new)) }
+{
+    match statement {
+        Statement::Common => write_common(alloc, types, text),
+        _ => {
+            let written = write_other(alloc, statement, &types, values, text);
+            drop(types);
+            written
+        }
+    }
+}
+
+/// Writes the common type of types, or `none`.
+fn write_common(
+    alloc: Global,
+    types: Vec<Type>,
+    text: &mut String,
+) -> Result<ReplyKind<Why>, AllocError>
+    ensures { IfOk result (λ kind. WritesReply (AnswersRequest (Some (common RuleSet.Standard (map view types.items))))
+        kind (string_bytes text.old) (string_bytes text.new)) }
+{
+    let values = typed_lines(alloc, types)?;
+    let written = write_common_of(alloc, RuleSet::Standard, &values, text);
+    drop(values);
+    Ok(ReplyKind::Answer(written?))
+}
+
+/// Writes what is answered to another statement than one about a common type.
+fn write_other(
+    alloc: Global,
+    statement: Statement,
+    types: &[Type],
+    values: &[Typed],
+    text: &mut String,
+) -> Result<ReplyKind<Why>, AllocError>
+    ensures { IfOk result (λ kind. WritesReply
+        (AnswersRequest (other_request statement (map view types.now) (map operand (map typed_view values.now))))
+        kind (string_bytes text.old) (string_bytes text.new)) }
+{
+    let operands = operands_of(alloc, values)?;
+    let written = write_answer(alloc, statement, types, &operands, text);
+    drop(operands);
+    written
+}
+
+fn operands_of<'p>(alloc: Global, values: &'p [Typed]) -> Result<Vec<Operand<'p>>, AllocError>
+    ensures { IfOk result (λ v. map written_view v.items ≡ map operand (map typed_view values.now)) }
+{
+    let mut operands = Vec::with_capacity(alloc, values.len())?;
+    for value in values {
+        operands.push(operand_of(value))?;
+    }
+    Ok(operands)
+}
+
+fn write_answer(
+    alloc: Global,
+    statement: Statement,
+    types: &[Type],
+    operands: &[Operand<'_>],
+    text: &mut String,
+) -> Result<ReplyKind<Why>, AllocError>
+    ensures { IfOk result (λ kind. WritesReply
+        (AnswersRequest (other_request statement (map view types.now) (map written_view operands.now)))
+        kind (string_bytes text.old) (string_bytes text.new)) }
+{
+    match statement {
+        Statement::Fit => write_request(alloc, Request::Fit(operands, types), text),
+        Statement::Rank | Statement::Size | Statement::Offsets | Statement::Layout => {
+            match request_on(statement, types) {
+                Some(request) => write_request(alloc, request, text),
+                None => Ok(unreadable(Wanted::Struct)),
+            }
+        }
+        _ => match form_of(statement, types.first(), operands) {
+            Some(form) => write_request(alloc, Request::Form(&form), text),
+            None => Ok(unreadable(Wanted::Operand)),
+        },
+    }
+}
+
+/// The request about types that a question is. None if it is one about a struct, and there is none.
+fn request_on<'r>(statement: Statement, types: &'r [Type]) -> Option<Request<'r>>
+    ensures { option_map request_view result ≡ request_on statement (map view types.now) }
+{
+    match statement {
+        Statement::Rank => rank_of(types),
+        Statement::Size => size_of(types),
+        Statement::Offsets => Some(Request::Offsets(RuleSet::Standard, only_struct(types)?)),
+        Statement::Layout => Some(Request::Layout(RuleSet::Standard, only_struct(types)?)),
+        _ => None,
+    }
+}
+
+fn rank_of(types: &[Type]) -> Option<Request<'_>>
+    ensures { option_map request_view result ≡ rank_of (map view types.now) }
+{
+    match types {
+        [from, to] => Some(Request::Rank(from, to)),
+        _ => None,
+    }
+}
+
+fn size_of(types: &[Type]) -> Option<Request<'_>>
+    ensures { option_map request_view result ≡ size_of (map view types.now) }
+{
+    match types {
+        [ty] => Some(Request::Size(RuleSet::Standard, ty)),
+        _ => None,
+    }
+}
+
+fn only_struct(types: &[Type]) -> Option<&StructType>
+    ensures { option_map (λ s. ((struct_view s.now).name, (struct_view s.now).members)) result ≡ only_struct (map view types.now) }
+{
+    match types {
+        [ty] => struct_of(ty),
+        _ => None,
+    }
+}
+
+fn struct_of(ty: &Type) -> Option<&StructType>
+    ensures { option_map (λ s. ((struct_view s.now).name, (struct_view s.now).members)) result ≡ struct_of (view ty.now) }
+{
+    match ty.form() {
+        Form::Struct(structure) => Some(structure),
+        _ => None,
+    }
+}
+
+/// Writes the answer to a request.
+fn write_request(
+    alloc: Global,
+    request: Request<'_>,
+    text: &mut String,
+) -> Result<ReplyKind<Why>, AllocError>
+    ensures { IfOk result (λ kind. WritesReply (AnswersRequest (Some (request_view request.entry)))
+        kind (string_bytes text.old) (string_bytes text.new)) }
+{
+    Ok(ReplyKind::Answer(write_answer_to(alloc, request, text)?))
+}
+
+/// Writes a type as WGSL spells it.
+fn write_type(ty: &Type, text: &mut String) -> Result<(), AllocError>
+    ensures { IfOk result (λ done. string_bytes text.new ≡ string_bytes text.old ++ wgsl_spelling (view ty.now)) }
+{
+    let rules = RuleSet::Standard;
+    write!(text, "{}", ShownType { ty, rules })
+}
+
+/// Writes the outcome of an expression, and returns of which kind the text is.
+fn write_outcome(outcome: Outcome, text: &mut String) -> Result<TextKind, AllocError>
     ensures { IfOk result (λ kind. (kind ≡ outcome_kind (outcome_view outcome))
-        × (string_bytes text.new ≡ string_bytes text.old ++ outcome_text before (outcome_view outcome))) }
+        × (string_bytes text.new ≡ string_bytes text.old ++ outcome_text (outcome_view outcome))) }
 {
     match outcome {
         Ok(typed) => {
-            let ty = shown_type(&typed);
-            let rules = RuleSet::Standard;
-            let written = write!(text, "{}", ShownType { ty, rules });
+            let written = write_type(shown_type(&typed), text);
             drop(typed);
             written?;
             Ok(TextKind::Answer)
         }
         Err(refused) => {
-            let column = before as u128 + refused.at as u128 + 1;
+            let column = refused.at as u128 + 1;
             let message = refused.message.as_str();
             let written = write!(text, "column {column}: {message}");
             drop(refused);

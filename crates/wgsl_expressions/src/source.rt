@@ -1,19 +1,23 @@
 // A text, its tokens, and what is noted of them.
-ghost use Rattle.std.specs.Prelude.{◌≡◌, ◌-◌, IfOk, slice_get, slice_range};
+ghost use Rattle.std.specs.Prelude.{◌≡◌, ◌-◌, IfOk, option_map, slice_get, slice_range};
+ghost use Rattle.wgsl_core.specs.View.{view};
+ghost use Rattle.wgsl_spelling.specs.Seen.{chain_of};
 ghost use Rattle.wgsl_expressions.specs.Reading.{IsMisread};
-ghost use Rattle.wgsl_expressions.specs.Source.{byte_at, first_count, kind_at, noted, text_at, type_noted};
-ghost use Rattle.wgsl_expressions.specs.Views.{source_view};
-ghost use Rattle.wgsl_spelling.specs.Seen.{type_found};
+ghost use Rattle.wgsl_expressions.specs.Source.{byte_at, declared_in, first_count, kind_at, noted, number_noted, text_at, type_in, type_noted};
+ghost use Rattle.wgsl_expressions.specs.Views.{number_found, scope_view, source_view, type_found};
 
+use crate::depth::MOST_INSIDE;
 use crate::misread::{Misread, Wanted};
+use crate::scope::Scope;
 use std::alloc::{AllocError, Global};
 use wgsl_core::error::Fail;
 use wgsl_core::ty::Type;
 use wgsl_reader::kind::Kind;
 use wgsl_reader::read::Event;
 use wgsl_reader::token::Token;
-use wgsl_spelling::fault::{Fault, Stop};
-use wgsl_spelling::spelled::type_of_events;
+use wgsl_spelling::chain::Chain;
+use wgsl_spelling::fault::{Cause, Fault, Stop};
+use wgsl_spelling::spelled::{chain_of_events, count_of_events};
 use wgsl_spelling::word::word;
 
 /// A text, its tokens with their template lists, and what is noted of them.
@@ -69,16 +73,39 @@ impl<'t> Source<'t> {
         between(self.events, from, to)
     }
 
-    /// The type that is noted, or why none is.
+    /// The type that is noted with the number of types inside it, or why none is.
     pub(crate) fn type_noted(
         self,
         alloc: Global,
+        scope: &Scope,
         events: &[Event],
-    ) -> Result<Result<Type, Fault>, AllocError>
-        ensures { IfOk result (λ found. type_found found ≡ type_noted (source_view self.entry) events.now) }
+    ) -> Result<Result<(Type, usize), Fault>, AllocError>
+        ensures { IfOk result (λ found. type_found found ≡ type_noted (source_view self.entry) (scope_view scope.now) events.now) }
     {
-        match type_of_events(alloc, self.text, self.tokens, events) {
-            Ok(ty) => Ok(Ok(ty)),
+        match chain_of_events(alloc, self.text, self.tokens, events) {
+            Ok(chain) => {
+                let found = type_in(alloc, self.text, scope, &chain);
+                drop(chain);
+                found
+            }
+            Err(Stop::Fault(fault)) => Ok(Err(fault)),
+            Err(Stop::Memory(error)) => Err(error),
+        }
+    }
+
+    /// The number that is noted, or why none is.
+    pub(crate) fn number_noted(
+        self,
+        alloc: Global,
+        events: &[Event],
+    ) -> Result<Result<u32, Fault>, AllocError>
+        ensures { IfOk result (λ found. number_found found ≡ number_noted (source_view self.entry) events.now) }
+    {
+        match count_of_events(alloc, self.text, self.tokens, events) {
+            Ok(count) => Ok(u32::try_from(count).map_err(|_| Fault {
+                at: self.byte_at(first_count(events)),
+                cause: Cause::Overflow,
+            })),
             Err(Stop::Fault(fault)) => Ok(Err(fault)),
             Err(Stop::Memory(error)) => Err(error),
         }
@@ -92,6 +119,53 @@ impl<'t> Source<'t> {
             at: self.byte_at(count),
             wanted,
         })
+    }
+}
+
+/// The type in parts, whose leaf may be a name of the scope.
+fn type_in(
+    alloc: Global,
+    text: &str,
+    scope: &Scope,
+    chain: &Chain,
+) -> Result<Result<(Type, usize), Fault>, AllocError>
+    ensures { IfOk result (λ found. type_found found ≡ type_in text.now (scope_view scope.now) (chain_of chain.now)) }
+{
+    match chain.name() {
+        Some(token) => named_in(alloc, scope.type_named(word(text, token)), token.at, chain),
+        None => match chain.ty(alloc)? {
+            Some(ty) => Ok(Ok((ty, chain.layers.len()))),
+            None => Ok(Err(Fault {
+                at: 0,
+                cause: Cause::UnknownType,
+            })),
+        },
+    }
+}
+
+/// A declared type in the layers of a chain, or the fault at its name.
+fn named_in(
+    alloc: Global,
+    declared: Option<(&Type, usize)>,
+    at: usize,
+    chain: &Chain,
+) -> Result<Result<(Type, usize), Fault>, AllocError>
+    ensures { IfOk result (λ found. type_found found ≡ declared_in (option_map (λ t. (view t.0.now, t.1)) declared.entry) (chain_of chain.now)) }
+{
+    let layers = chain.layers.len();
+    match declared {
+        Some((ty, inside)) if inside <= MOST_INSIDE.saturating_sub(layers) => {
+            let ty = chain.wrap(alloc, ty.clone(alloc)?)?;
+            Ok(Ok((ty, layers + inside)))
+        }
+        Some(_) => Ok(Err(Fault {
+            at,
+            cause: Cause::TooDeep,
+        })),
+        None => Ok(Err(Fault {
+            at,
+            cause: Cause::UnknownType,
+        })),
     }
 }
 

@@ -1,20 +1,30 @@
 // What is done with what was read, by what is noted.
 ghost use Rattle.std.specs.Prelude.{◌≡◌, ◌∷◌, IfOk, Some, map};
-ghost use Rattle.wgsl_expressions.specs.Outcomes.{IsCalled};
 ghost use Rattle.wgsl_core.specs.View.{view};
-ghost use Rattle.wgsl_expressions.specs.Reading.{IsMisread};
-ghost use Rattle.wgsl_expressions.specs.Typing.{Argument, Binary, Calls, Element, Given, Literal, Member, Opens, Steps, Unary, a_call, begun, bracket_on, call_on, given, name_on, operand_on, operator_on, step_in, step_of, with_operand};
-ghost use Rattle.wgsl_expressions.specs.Views.{Does, Takes, call_view, head_view, item_view, items_view, outcome_view, refused_view, same, shown, source_view, typed_view};
+ghost use Rattle.wgsl_expressions.specs.Outcomes.{IsCalled};
+ghost use Rattle.wgsl_expressions.specs.Stack.{a_call};
+ghost use Rattle.wgsl_expressions.specs.Steps.{Argument, Binary, Calls, Element, Ends, Given, Literal, Member, Opens, Unary, asks_behind, asks_call, begun, given};
+ghost use Rattle.wgsl_expressions.specs.Typing.{Steps, step_of};
+ghost use Rattle.wgsl_expressions.specs.Views.{Does, call_view, head_view, items_view, outcome_view, refused_view, scope_view, shown, source_view, typed_view};
 
-use crate::ask::{binary, call, element, member, unary};
-use crate::depth::is_too_deep;
+use crate::ask::{call, element, member};
 use crate::head::Head;
+use crate::heading::{begin_heading, put_attribute, put_member as put_declared, put_result};
+use crate::item::{
+    Call, Item, push, put, take_bracket, take_call, take_name, take_operand, take_operator,
+};
 use crate::literal::type_of_literal;
-use crate::misread::{Misread, Wanted};
+use crate::misread::{Misread, Wanted, untyped};
 use crate::name::head_noted;
 use crate::operator::{binary_of, unary_of};
-use crate::outcome::{Outcome, Parts, Typed, with_part};
+use crate::outcome::{Outcome, Typed, with_part};
+use crate::scope::Scope;
 use crate::source::{Source, first_count};
+use crate::statement::Question;
+use crate::statement_step::{
+    annotate, assign, assign_by, begin, increment, put_access, put_overloads, put_question,
+    put_space, put_struct_type, put_value,
+};
 use std::alloc::{AllocError, Global};
 use wgsl_core::error::Fail;
 use wgsl_core::ty::Type;
@@ -22,93 +32,53 @@ use wgsl_forms::concrete::has_abstract_type;
 use wgsl_forms::form::Referent;
 use wgsl_reader::mark::Mark;
 use wgsl_reader::read::Event;
-use wgsl_spelling::fault::{Cause, Fault};
 use wgsl_spelling::word::word;
 
-/// A call with its arguments so far.
-#[derive(Drop)]
-pub(crate) struct Call {
-    /// The index of its first byte.
-    pub at: usize,
-    pub head: Head,
-    pub parts: Parts,
-}
-
-/// What was read and isn't yet part of anything else.
-#[derive(Drop)]
-pub(crate) enum Item {
-    Operand(Outcome),
-    /// A name, by the number of tokens up to it.
-    Name(usize),
-    /// An operator, by the number of tokens up to it.
-    Operator(usize),
-    /// The `[` behind an operand, by the index of its byte.
-    Bracket(usize),
-    Call(Call),
-}
-
-/// Does with the items what is noted at an index: the last is on top.
-fn step(
+/// Does with the items what is noted at an index, with the names of a scope: the last item is on top.
+pub(crate) fn step(
     alloc: Global,
     source: Source<'_>,
+    scope: &Scope,
     index: usize,
     event: Event,
     items: &mut Vec<Item>,
 ) -> Result<(), Fail<Misread>>
-    ensures { Does (Steps (source_view source.entry) index (step_of event.mark) event.at (items_view items.old.items)) items.new.items result }
+    ensures { Does (Steps (source_view source.entry) (scope_view scope.now) index (step_of event.mark) event.at (items_view items.old.items)) items.new.items result }
 {
     match event.mark {
         Mark::Literal => put_literal(source, event.at, items),
-        Mark::Name => push(Item::Name(index), items),
-        Mark::Value => put_given(alloc, source, index, false, items),
-        Mark::Constant => put_given(alloc, source, index, true, items),
-        Mark::Open => open(alloc, source, index, items),
+        Mark::Name | Mark::AttributeName => push(Item::Name(index), items),
+        Mark::Value => put_given(alloc, source, scope, index, false, items),
+        Mark::Constant => put_given(alloc, source, scope, index, true, items),
+        Mark::Open => open(alloc, source, scope, index, items),
         Mark::OpenElement => push(Item::Bracket(source.byte_at(event.at)), items),
         Mark::Argument => put_argument(source, items),
-        Mark::Call => put_call(alloc, source, items),
+        Mark::Call => put_call(alloc, source, index, items),
         Mark::MemberOf => put_member(alloc, source, event.at, items),
         Mark::Element => put_element(alloc, source, items),
         Mark::Operator => push(Item::Operator(event.at), items),
-        Mark::Unary => put_unary(alloc, source, items),
-        Mark::Binary => put_binary(alloc, source, items),
+        Mark::Unary => put_unary(alloc, source, index, items),
+        Mark::Binary => put_binary(alloc, source, index, items),
+        Mark::Keyword => begin(alloc, source, scope, event.at, items),
+        Mark::AddressSpace => put_space(source, event.at, items),
+        Mark::AccessMode => put_access(source, event.at, items),
+        Mark::Typed => annotate(alloc, source, scope, index, items),
+        Mark::Initialized | Mark::Condition => put_value(source, items),
+        Mark::Selector | Mark::CaseSelector | Mark::Returned => put_value(source, items),
+        Mark::Assign => assign(alloc, source, items),
+        Mark::AssignBy => assign_by(alloc, source, items),
+        Mark::Increment | Mark::Decrement => increment(alloc, source, items),
+        Mark::CallStatement => put_question(source, Question::Type, event.at, items),
+        Mark::Resolve => put_question(source, Question::Resolution, event.at, items),
+        Mark::Why => put_question(source, Question::Explanation, event.at, items),
+        Mark::Overloads => put_overloads(source, event.at, items),
+        Mark::StructType => put_struct_type(alloc, source, items),
+        Mark::Heading => begin_heading(alloc, source, event.at, items),
+        Mark::Attribute => put_attribute(alloc, source, index, items),
+        Mark::Member | Mark::Parameter => put_declared(alloc, source, scope, index, items),
+        Mark::Result => put_result(alloc, source, scope, index, items),
         _ => Ok(()),
     }
-}
-
-/// The same where this many template lists are open: a name has what is noted in its list.
-pub(crate) fn step_in(
-    alloc: Global,
-    source: Source<'_>,
-    opened: usize,
-    index: usize,
-    event: Event,
-    items: &mut Vec<Item>,
-) -> Result<(), Fail<Misread>>
-    ensures { Does (Steps (source_view source.entry) index (step_in opened event.mark) event.at (items_view items.old.items)) items.new.items result }
-{
-    if opened == 0 {
-        step(alloc, source, index, event, items)
-    } else {
-        Ok(())
-    }
-}
-
-fn push(item: Item, items: &mut Vec<Item>) -> Result<(), Fail<Misread>>
-    ensures { Does (λ r. r ≡ Some (item_view item ∷ items_view items.old.items)) items.new.items result }
-{
-    items.push(item)?;
-    Ok(())
-}
-
-/// Puts an operand that ends behind that many tokens, if its type isn't too deep.
-fn put(source: Source<'_>, x: Outcome, items: &mut Vec<Item>) -> Result<(), Fail<Misread>>
-    ensures { Does (λ r. r ≡ with_operand (outcome_view x) (items_view items.old.items)) items.new.items result }
-{
-    if is_too_deep(&x) {
-        drop(x);
-        return Err(source.misread(1, Wanted::Shallower));
-    }
-    push(Item::Operand(x), items)
 }
 
 /// An operand that is given by its type.
@@ -139,16 +109,17 @@ fn put_literal(source: Source<'_>, count: usize, items: &mut Vec<Item>) -> Resul
 fn put_given(
     alloc: Global,
     source: Source<'_>,
+    scope: &Scope,
     index: usize,
     is_const: bool,
     items: &mut Vec<Item>,
 ) -> Result<(), Fail<Misread>>
-    ensures { Does (Given is_const (source_view source.entry) index (items_view items.old.items)) items.new.items result }
+    ensures { Does (Given is_const (source_view source.entry) (scope_view scope.now) index (items_view items.old.items)) items.new.items result }
 {
     let from = take_name(source, items)?;
     let noted = source.noted(from, index);
-    match source.type_noted(alloc, noted)? {
-        Ok(ty) => {
+    match source.type_noted(alloc, scope, noted)? {
+        Ok((ty, _)) => {
             let is_constant = is_const || has_abstract_type(&ty);
             put(source, Ok(given(ty, is_constant)), items)
         }
@@ -157,39 +128,21 @@ fn put_given(
     }
 }
 
-/// The error at a name with its list that spells no type: why, or what was expected in place of the name.
-fn untyped(fault: Fault, wanted: Wanted) -> Fail<Misread>
-    ensures { IsMisread result }
-{
-    let wanted = match fault.cause {
-        Cause::UnknownType | Cause::NoList => wanted,
-        Cause::TooDeep => Wanted::Shallower,
-        cause => Wanted::Faultless(cause),
-    };
-    Fail::Error(Misread {
-        at: fault.at,
-        wanted,
-    })
-}
-
 /// The `(` behind what is called by the name that is noted with its list.
 fn open(
     alloc: Global,
     source: Source<'_>,
+    scope: &Scope,
     index: usize,
     items: &mut Vec<Item>,
 ) -> Result<(), Fail<Misread>>
-    ensures { Does (Opens (source_view source.entry) index (items_view items.old.items)) items.new.items result }
+    ensures { Does (Opens (source_view source.entry) (scope_view scope.now) index (items_view items.old.items)) items.new.items result }
 {
     let from = take_name(source, items)?;
     let noted = source.noted(from, index);
     let count = first_count(noted);
-    match head_noted(alloc, source, noted)? {
+    match head_noted(alloc, source, scope, noted)? {
         Ok(head) => push_call(alloc, source.byte_at(count), head, items),
-        // The list behind a function's name has no type in it.
-        Err(fault) if fault.cause == Cause::NotInteger && fault.at == source.byte_at(count) => {
-            Err(source.misread(count, Wanted::Type))
-        }
         Err(fault) => Err(untyped(fault, Wanted::Type)),
     }
 }
@@ -219,12 +172,57 @@ fn put_argument(source: Source<'_>, items: &mut Vec<Item>) -> Result<(), Fail<Mi
 }
 
 /// `f(a, b)`
-fn put_call(alloc: Global, source: Source<'_>, items: &mut Vec<Item>) -> Result<(), Fail<Misread>>
-    ensures { Does (Calls (items_view items.old.items)) items.new.items result }
+fn put_call(
+    alloc: Global,
+    source: Source<'_>,
+    index: usize,
+    items: &mut Vec<Item>,
+) -> Result<(), Fail<Misread>>
+    ensures { Does (Calls (source_view source.entry) index (items_view items.old.items)) items.new.items result }
 {
     let call = take_call(source, items)?;
+    end_call(alloc, source, index, call, items)
+}
+
+/// Puts a call with all of its operands, or its type if nothing is asked about the call itself.
+fn end_call(
+    alloc: Global,
+    source: Source<'_>,
+    index: usize,
+    call: Call,
+    items: &mut Vec<Item>,
+) -> Result<(), Fail<Misread>>
+    ensures { Does (Ends (source_view source.entry) index (call_view call) (items_view items.old.items)) items.new.items result }
+{
+    if asks_behind(source.noted(index, source.events.len())) {
+        return push(Item::Call(call), items);
+    }
     let outcome = called(alloc, call)?;
     put(source, outcome, items)
+}
+
+/// Whether what is noted behind the first event asks about it.
+fn asks_behind(events: &[Event]) -> bool
+    ensures { result ≡ asks_behind events.now }
+{
+    match events {
+        [_, rest @ ..] => asks_call(rest),
+        [] => false,
+    }
+}
+
+/// Whether the next event, but for brackets, asks about what is in front of it.
+fn asks_call(events: &[Event]) -> bool
+    ensures { result ≡ asks_call events.now }
+{
+    for event in events {
+        match event.mark {
+            Mark::Brackets => {}
+            Mark::Resolve | Mark::Why | Mark::CallStatement => return true,
+            _ => return false,
+        }
+    }
+    false
 }
 
 /// The outcome of a call.
@@ -267,15 +265,22 @@ fn put_element(
 }
 
 /// `-a`
-fn put_unary(alloc: Global, source: Source<'_>, items: &mut Vec<Item>) -> Result<(), Fail<Misread>>
-    ensures { Does (Unary (source_view source.entry) (items_view items.old.items)) items.new.items result }
+fn put_unary(
+    alloc: Global,
+    source: Source<'_>,
+    index: usize,
+    items: &mut Vec<Item>,
+) -> Result<(), Fail<Misread>>
+    ensures { Does (Unary (source_view source.entry) index (items_view items.old.items)) items.new.items result }
 {
     let x = take_operand(source, items)?;
     let count = take_operator(source, items)?;
     match unary_of(source.kind_at(count)) {
         Some(operator) => {
-            let outcome = unary(alloc, source.byte_at(count), operator, x)?;
-            put(source, outcome, items)
+            let at = source.byte_at(count);
+            let head = Head::Unary(operator);
+            let parts = with_part(Ok(Vec::new(alloc)), x)?;
+            end_call(alloc, source, index, Call { at, head, parts }, items)
         }
         None => {
             drop(x);
@@ -285,16 +290,23 @@ fn put_unary(alloc: Global, source: Source<'_>, items: &mut Vec<Item>) -> Result
 }
 
 /// `a + b`
-fn put_binary(alloc: Global, source: Source<'_>, items: &mut Vec<Item>) -> Result<(), Fail<Misread>>
-    ensures { Does (Binary (source_view source.entry) (items_view items.old.items)) items.new.items result }
+fn put_binary(
+    alloc: Global,
+    source: Source<'_>,
+    index: usize,
+    items: &mut Vec<Item>,
+) -> Result<(), Fail<Misread>>
+    ensures { Does (Binary (source_view source.entry) index (items_view items.old.items)) items.new.items result }
 {
     let y = take_operand(source, items)?;
     let count = take_operator(source, items)?;
     let x = take_operand(source, items)?;
     match binary_of(source.kind_at(count)) {
         Some(operator) => {
-            let outcome = binary(alloc, source.byte_at(count), operator, x, y)?;
-            put(source, outcome, items)
+            let at = source.byte_at(count);
+            let head = Head::Binary(operator);
+            let parts = with_part(with_part(Ok(Vec::new(alloc)), x)?, y)?;
+            end_call(alloc, source, index, Call { at, head, parts }, items)
         }
         None => {
             drop(x);
@@ -302,65 +314,4 @@ fn put_binary(alloc: Global, source: Source<'_>, items: &mut Vec<Item>) -> Resul
             Err(source.misread(count, Wanted::Operand))
         }
     }
-}
-
-/// Takes the operand on top.
-pub(crate) fn take_operand(
-    source: Source<'_>,
-    items: &mut Vec<Item>,
-) -> Result<Outcome, Fail<Misread>>
-    ensures { Takes outcome_view (operand_on (items_view items.old.items)) items.new.items result }
-{
-    match items.pop() {
-        Some(Item::Operand(x)) => Ok(x),
-        other => Err(without(source, other)),
-    }
-}
-
-/// Takes the name on top, by the number of tokens up to it.
-fn take_name(source: Source<'_>, items: &mut Vec<Item>) -> Result<usize, Fail<Misread>>
-    ensures { Takes same (name_on (items_view items.old.items)) items.new.items result }
-{
-    match items.pop() {
-        Some(Item::Name(count)) => Ok(count),
-        other => Err(without(source, other)),
-    }
-}
-
-/// Takes the operator on top, by the number of tokens up to it.
-fn take_operator(source: Source<'_>, items: &mut Vec<Item>) -> Result<usize, Fail<Misread>>
-    ensures { Takes same (operator_on (items_view items.old.items)) items.new.items result }
-{
-    match items.pop() {
-        Some(Item::Operator(count)) => Ok(count),
-        other => Err(without(source, other)),
-    }
-}
-
-/// Takes the bracket on top, by the index of its byte.
-fn take_bracket(source: Source<'_>, items: &mut Vec<Item>) -> Result<usize, Fail<Misread>>
-    ensures { Takes same (bracket_on (items_view items.old.items)) items.new.items result }
-{
-    match items.pop() {
-        Some(Item::Bracket(at)) => Ok(at),
-        other => Err(without(source, other)),
-    }
-}
-
-/// Takes the call on top.
-fn take_call(source: Source<'_>, items: &mut Vec<Item>) -> Result<Call, Fail<Misread>>
-    ensures { Takes call_view (call_on (items_view items.old.items)) items.new.items result }
-{
-    match items.pop() {
-        Some(Item::Call(call)) => Ok(call),
-        other => Err(without(source, other)),
-    }
-}
-
-/// The error that something else is on top.
-fn without(source: Source<'_>, top: Option<Item>) -> Fail<Misread>
-    ensures { IsMisread result }
-{
-    drop(top);
-    source.misread(1, Wanted::Operand)
 }

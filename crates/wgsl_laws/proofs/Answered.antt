@@ -1,16 +1,18 @@
 -- Every request has an answer.
-use Rattle.std.proofs.Common.{ℕ, List, Some, None, refl, inl, inr}
+use Rattle.std.proofs.Common.{ℕ, ◌≡◌, List, Option, Some, None, refl, inl, inr}
 use Rattle.wgsl_rules.specs.types.Types.{WgslType, Members}
 use Rattle.wgsl_syntax.specs.declared.rules.RuleSet.{RuleSet}
+use Rattle.wgsl_standard.specs.Callees.{unknown_name}
 use Rattle.wgsl_standard.specs.Lines.{lines_named}
-use Rattle.wgsl_requests.specs.Answers.{Answers, WgslAnswer, WgslLayout, a_number, a_size, a_common_type, a_type, a_value, some_offsets, a_layout, a_type_of, a_resolution_of, some_lines, a_form_type, a_fit, rank_is, common_is, unary_is, binary_is, size_is, offsets_are, layout_is, ctor_is, call_is, type_of_is, resolution_of_is, explanation_of_is, overloads_of_are, form_is, fit_is}
+use Rattle.wgsl_requests.specs.Answers.{Answers, WgslAnswer, WgslLayout, a_number, a_size, a_common_type, a_type, a_value, some_offsets, a_layout, a_type_of, a_resolution_of, some_lines, a_form_type, a_fit, rank_is, common_is, unary_is, binary_is, size_is, offsets_are, layout_is, ctor_is, call_is, type_of_is, resolution_of_is, explanation_of_is, unknown_is, overloads_of_are, form_is, fit_is}
 use Rattle.wgsl_rules.specs.standard.Choice.{types_of}
 use Rattle.wgsl_forms.specs.Lists.{list_fits}
+use Rattle.wgsl_requests.specs.Calls.{WgslCall}
 use Rattle.wgsl_requests.specs.Requests.{WgslRequest, rank, common, unary, binary, size, offsets, layout, ctor, call, type_of, resolution_of, explanation_of, overloads_of, form_of, fit_of}
 use Rattle.wgsl_laws.proofs.Calls.{a_call}
 use Rattle.wgsl_laws.proofs.Constructors.{a_constructor}
 use Rattle.wgsl_laws.proofs.Conversions.{a_rank, a_received}
-use Rattle.wgsl_laws.proofs.FormsFound.{some_form_type}
+use Rattle.wgsl_laws.proofs.Forms.{some_form_type}
 use Rattle.wgsl_laws.proofs.Operators.{a_binary, a_unary}
 use Rattle.wgsl_laws.proofs.Sizes.{exact_alignment, exact_size}
 use Rattle.wgsl_laws.proofs.Standard.{a_resolution_of as some_resolution, a_type_of as some_type, an_explanation_of}
@@ -35,6 +37,10 @@ of_layout rules name ms = elim (layout_or_cause rules ms) [
   | inr cause ↦ (a_layout name ms None, layout_is None cause)
 ]
 
+some_explanation : (c : WgslCall) (unknown : Option (List ℕ)) → unknown_name c.callee ≡ unknown → Answered (explanation_of c)
+some_explanation c (Some name) is = (a_type_of c None, unknown_is name is)
+some_explanation c None is = let r = an_explanation_of c in (some_lines r.0, explanation_of_is r.0 is r.1)
+
 pub some_answer : (request : WgslRequest) → Answered request
 some_answer (rank t u) = let w = a_rank t u in (a_number w.0, rank_is w.0 w.1)
 some_answer (common rules ts) = of_common rules ts
@@ -47,7 +53,7 @@ some_answer (ctor c) = let r = a_constructor c in (a_type r.0, ctor_is r.0 r.1)
 some_answer (call c) = let r = a_call c in (a_value r.0, call_is r.0 r.1)
 some_answer (type_of c) = let r = some_type c in (a_type_of c r.0, type_of_is r.0 r.1)
 some_answer (resolution_of c) = let r = some_resolution c in (a_resolution_of c r.0, resolution_of_is r.0 r.1)
-some_answer (explanation_of c) = let r = an_explanation_of c in (some_lines r.0, explanation_of_is r.0 r.1)
+some_answer (explanation_of c) = some_explanation c (unknown_name c.callee) refl
 some_answer (overloads_of name) = (some_lines (lines_named name), overloads_of_are (lines_named name) refl)
 some_answer (form_of f) = let r = some_form_type f in (a_form_type r.0, form_is r.0 r.1)
 some_answer (fit_of xs ts) = let r = list_fits ts (types_of xs) in (a_fit r, fit_is r refl)

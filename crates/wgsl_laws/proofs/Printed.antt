@@ -3,8 +3,8 @@ use Rattle.std.proofs.Common.{◌≡◌, ℕ, Bool, List, [], ◌∷◌, refl}
 use Rattle.std.specs.List.{AllZip, list_all}
 use Rattle.wgsl_lines.specs.Output.{Prints, is_readable, lines_of, printed_from}
 use Rattle.wgsl_lines.proofs.OneText.{one_text}
-use Rattle.wgsl_text.specs.Replies.{ReplyText}
-use Rattle.wgsl_expressions.specs.Replies.{IsReplyToLine}
+use Rattle.wgsl_requests.specs.Replies.{ReplyText}
+use Rattle.wgsl_replies.specs.Replies.{IsReplyToLine}
 use Rattle.wgsl_syntax.specs.declared.rules.RuleSet.{RuleSet}
 use Rattle.wgsl_laws.proofs.Replied.{some_line_reply}
 

@@ -3,10 +3,11 @@ ghost use Rattle.std.specs.Prelude.{◌≡◌, ℕ, Bool, List, Option};
 ghost use Rattle.wgsl_requests.specs.Answers.{Answers, WgslAnswer};
 ghost use Rattle.wgsl_requests.specs.Requests.{WgslRequest};
 ghost use Rattle.wgsl_lines.specs.Output.{Prints};
-ghost use Rattle.wgsl_text.specs.Replies.{ReplyText};
-ghost use Rattle.wgsl_expressions.specs.Typing.{IsTyped};
+ghost use Rattle.wgsl_requests.specs.Replies.{ReplyText};
 ghost use Rattle.wgsl_expressions.specs.Outcomes.{Outcome};
-ghost use Rattle.wgsl_expressions.specs.Replies.{IsReplyTo};
+ghost use Rattle.wgsl_expressions.specs.Scopes.{Scope};
+ghost use Rattle.wgsl_expressions.specs.Typing.{IsTyped};
+ghost use Rattle.wgsl_replies.specs.Replies.{IsReplyTo};
 ghost use Rattle.wgsl_syntax.specs.declared.rules.RuleSet.{RuleSet};
 
 /// Every request has an answer, whatever types it names.
@@ -21,11 +22,12 @@ pub fn no_request_has_two_answers()
         → Answers request a → Answers request b → a ≡ b }
 {}
 
-/// A text has exactly one outcome: it is no expression, or one that has a type or a first part without one.
+/// With the names of a scope, a text has exactly one outcome: it is no expression, or one that has a type or a first part
+/// without one.
 #[tactic(auto, using(crate::proofs::ExpressionsFound::only_outcome))]
 pub fn every_text_has_one_outcome()
-    ensures { (text : List ℕ) → (r : Option Outcome) × IsTyped text r
-        × ((other : Option Outcome) → IsTyped text other → other ≡ r) }
+    ensures { (scope : Scope) (text : List ℕ) → (r : Option Outcome) × IsTyped scope text r
+        × ((other : Option Outcome) → IsTyped scope text other → other ≡ r) }
 {}
 
 /// The bytes of a request have exactly one reply, by either set of rules.

@@ -3,7 +3,7 @@ use Rattle.std.proofs.Common.{◌≡◌, ◌≢◌, ◌∙◌, ℕ, nat_eq, Bool
 use Rattle.std.proofs.lemmas.Bool.{ne_eqb}
 use Rattle.std.proofs.lemmas.List.{append-nil}
 use Rattle.std.proofs.lemmas.List.Elements.{All-head, All-tail}
-use Rattle.wgsl_text.specs.Words.{into_first}
+use Rattle.wgsl_words.specs.Words.{into_first}
 use Rattle.wgsl_lines.specs.Output.{lines_of}
 use Rattle.wgsl_lines.specs.Session.{Ends}
 

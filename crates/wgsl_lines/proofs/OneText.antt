@@ -3,9 +3,9 @@ use Rattle.std.proofs.Common.{◌≡◌, ◌∙◌, ℕ, Bool, List, [], ◌∷�
 use Rattle.std.proofs.Math.Seq.{take-append_seam}
 use Rattle.std.specs.Io.{StartsWith}
 use Rattle.std.specs.List.{AllZip, list_all}
-use Rattle.wgsl_text.specs.Replies.{ReplyText}
-use Rattle.wgsl_expressions.specs.Replies.{IsReplyToLine}
-use Rattle.wgsl_expressions.proofs.OneReply.{one_line_reply}
+use Rattle.wgsl_requests.specs.Replies.{ReplyText}
+use Rattle.wgsl_replies.specs.Replies.{IsReplyToLine}
+use Rattle.wgsl_replies.proofs.OneReply.{one_line_reply}
 use Rattle.wgsl_lines.specs.declared.run.RunError.{RunError}
 use Rattle.wgsl_lines.specs.declared.run.RunError.TheVariants.{Read, Write, Memory}
 use Rattle.wgsl_lines.specs.Output.{is_readable, lines_of, printed_from, Prints, PrintsFirst, PrintsUntil, PrintsUpTo}

@@ -5,9 +5,9 @@ use Rattle.std.proofs.lemmas.Bool.{leb-true, leb-false}
 use Rattle.std.proofs.lemmas.List.{append-nil, take_all}
 use Rattle.std.proofs.lemmas.List.Folds.{list_all-append}
 use Rattle.std.specs.List.{list_all}
-use Rattle.wgsl_expressions.proofs.OneReply.{long_line, one_line_reply}
-use Rattle.wgsl_text.specs.Replies.{ReplyText, unreadable}
-use Rattle.wgsl_expressions.specs.Replies.{IsReplyToLine}
+use Rattle.wgsl_replies.proofs.OneReply.{long_line, one_line_reply}
+use Rattle.wgsl_requests.specs.Replies.{ReplyText, unreadable}
+use Rattle.wgsl_replies.specs.Replies.{IsReplyToLine}
 use Rattle.wgsl_lines.specs.Output.{is_readable, next_number, printed, printed_from}
 use Rattle.wgsl_lines.specs.Session.{number_after}
 use Rattle.wgsl_syntax.specs.declared.rules.RuleSet.{RuleSet}

@@ -4,7 +4,7 @@ use Rattle.std.proofs.lemmas.List.{append-nil, take_all}
 use Rattle.std.proofs.lemmas.List.Elements.{All-append, All-nil}
 use Rattle.std.proofs.lemmas.Slice.Zip.{all_zipped_more}
 use Rattle.std.specs.List.{AllZip, list_all}
-use Rattle.wgsl_expressions.specs.Replies.{IsReplyToLine}
+use Rattle.wgsl_replies.specs.Replies.{IsReplyToLine}
 use Rattle.wgsl_lines.specs.declared.run.RunError.TheVariants.{Write, Memory}
 use Rattle.wgsl_lines.specs.declared.run.Session.{Session}
 use Rattle.wgsl_lines.specs.Output.{is_readable, lines_of, next_number, printed, printed_from, Prints, PrintsLines, PrintsUntil, PrintsUpTo}

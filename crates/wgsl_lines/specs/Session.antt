@@ -3,18 +3,18 @@ use Rattle.std.specs.Prelude.{◌≡◌, ◌≢◌, ◌++◌, ◌&&◌, ℕ, Boo
 use Rattle.std.specs.Prelude.{string_bytes}
 use Rattle.std.specs.Io.KnownBytes.{Appends}
 use Rattle.std.specs.List.{AllZip, list_all}
-use Rattle.wgsl_text.specs.Replies.{ReplyText, nothing, answer, unreadable}
-use Rattle.wgsl_expressions.specs.Replies.{IsReplyToLine}
-use Rattle.wgsl_text.specs.declared.request.ReplyKind.{ReplyKind}
+use Rattle.wgsl_requests.specs.Replies.{ReplyText, nothing, answer, unreadable}
+use Rattle.wgsl_replies.specs.Replies.{IsReplyToLine}
+use Rattle.wgsl_requests.specs.declared.reply.ReplyKind.{ReplyKind}
 use Rattle.wgsl_syntax.specs.declared.rules.RuleSet.{RuleSet}
-use Rattle.wgsl_text.specs.declared.request.ReplyKind.TheVariants as k
+use Rattle.wgsl_requests.specs.declared.reply.ReplyKind.TheVariants as k
 use Rattle.wgsl_lines.specs.declared.run.RunError.{RunError}
 use Rattle.wgsl_lines.specs.declared.run.Session.{Session}
 use Rattle.wgsl_lines.specs.Output.{is_readable, lines_of, next_number, printed, printed_from}
 use Rattle.wgsl_lines.specs.Output.{Prints, PrintsUntil}
 
 -- a reply of this kind, if this text was written for it
-abbrev pub reply_of_kind : ReplyKind → List ℕ → ReplyText
+abbrev pub reply_of_kind : {W : Type 0} → ReplyKind W → List ℕ → ReplyText
 reply_of_kind k.Nothing text = nothing
 reply_of_kind (k.Answer kind) text = answer kind text
 reply_of_kind (k.Unreadable why) text = unreadable

@@ -5,14 +5,13 @@ ghost use Rattle.wgsl_lines.specs.Output.{Prints, PrintsFirst, PrintsUntil, bad_
 ghost use Rattle.wgsl_lines.specs.Status.{status_of};
 ghost use Rattle.wgsl_lines.specs.declared.run.RunError.TheVariants.{Memory};
 ghost use Rattle.wgsl_lines.specs.Session.{reply_of_kind};
-ghost use Rattle.wgsl_expressions.specs.Replies.{IsReplyToLine};
+ghost use Rattle.wgsl_replies.specs.Replies.{IsReplyToLine};
 
 use crate::line::{Line, split_line};
 use std::alloc::{AllocError, Global};
 use std::io::{ErrorKind, Read, Write};
-use wgsl_expressions::request::{ReplyKind, TextKind, write_reply};
+use wgsl_replies::request::{ReplyKind, TextKind, Why, has_place, write_reply, write_why};
 use wgsl_syntax::rules::RuleSet;
-use wgsl_text::why::{Why, write_why};
 
 /// Why a run stopped.
 #[derive(Clone, Copy, Debug, PartialEq, Eq)]
@@ -316,10 +315,7 @@ fn push_note(
     notes: &mut String,
 ) -> Result<(), AllocError> {
     let number = line.number;
-    let before = match why {
-        Why::Word(_) | Why::Expression(_, _) | Why::Operand(_) => ",",
-        _ => ":",
-    };
+    let before = if has_place(why) { "," } else { ":" };
     write!(notes, "{program}: line {number}{before} ")?;
     let bytes = if line.bytes.is_empty() {
         end
@@ -339,7 +335,7 @@ fn write_reply_to(
     line: &mut Line,
     end: &[u8],
     text: &mut String,
-) -> Result<ReplyKind, AllocError>
+) -> Result<ReplyKind<Why>, AllocError>
     ensures reply { string_bytes text.old ≡ [] → IfOk result (λ kind.
         IsReplyToLine rules (line.old.bytes.items ++ end.now) (reply_of_kind kind (string_bytes text.new))) }
     ensures number { line.new.number ≡ line.old.number }

@@ -6,7 +6,7 @@ use lib.Dec.{eqb}
 use denote.Enum.Declared.{rowss, tag_of}
 use denote.Enum.Enum.{tag_below}
 use Rattle.wgsl_reader.specs.contracts.rule.Rule.{the_type as rule_type}
-use Rattle.wgsl_reader.specs.Grammar.{Line, expressions, lines_of, modules, rules, statements}
+use Rattle.wgsl_reader.specs.Grammar.{Line, expressions, lines_of, modules, requests, rules, statements}
 use Rattle.wgsl_reader.specs.declared.rule.Rule.{Rule}
 
 -- the lines of the rule that has this number among the variants
@@ -31,7 +31,7 @@ below n (suc m) lt h = turn (nat_lt n m) refl (λ less. below n m less (and_part
     turn false e deeper = let same : m ≡ n = omega (arith, lt, ltb-false n m e) in subst (λ n. IsTrue (numbered n)) same (and_parts (numbered m) (all_below m) h).0
 
 all_numbered : IsTrue (all_below (length (rowss rule_type.parts)))
-unfolding expressions statements modules
+unfolding expressions statements requests modules
 all_numbered = refl
 
 pub has_lines : (rule : Rule) → IsTrue (is_some (lines_of rule))

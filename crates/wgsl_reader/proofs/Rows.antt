@@ -7,7 +7,7 @@ use Rattle.std.proofs.lemmas.Option.{slice_get-map, slice_get_past, slice_get-ge
 use lib.Dec.{eqb}
 use denote.Enum.Declared.{tag_of}
 use Rattle.wgsl_reader.specs.contracts.rule.Rule.{the_type as rule_type}
-use Rattle.wgsl_reader.specs.Grammar.{Line, expressions, find, line_of, lines_of, modules, row_of, rules, statements}
+use Rattle.wgsl_reader.specs.Grammar.{Line, expressions, find, line_of, lines_of, modules, requests, row_of, rules, statements}
 use Rattle.wgsl_reader.specs.declared.kind.Kind.{Kind}
 use Rattle.wgsl_reader.specs.declared.grammar.Symbol.{Symbol}
 use Rattle.wgsl_reader.specs.declared.rule.Rule.{Rule}
@@ -35,6 +35,13 @@ behind [] ys i past = ap (slice_get ys) (omega arith)
 behind (x ∷ xs) ys zero past = absurd (omega (arith, past))
 behind (x ∷ xs) ys (suc i) past = behind xs ys i (omega (arith, past)) ∙ ap (slice_get ys) (omega arith)
 
+module _ {A B : Type 0} (f : A → B) (xs : List A) (rest : List B) (i : ℕ) where
+  pub in_front : i < length xs → slice_get (map f xs) i ≡ slice_get (map f xs ++ rest) i
+  in_front lt = sym (within (map f xs) rest i (omega (arith, lt, length-map xs f)))
+
+  pub in_rest : length xs ≤ i → slice_get rest (i - length xs) ≡ slice_get (map f xs ++ rest) i
+  in_rest le = sym (behind (map f xs) rest i (omega (arith, le, length-map xs f)) ∙ ap (λ n. slice_get rest (i - n)) (length-map xs f))
+
 module _ {A B : Type 0} (f : A → B) (xs ys zs : List A) (i : ℕ) where
   pub in_first : i < length xs → slice_get (map f xs) i ≡ slice_get (map f xs ++ (map f ys ++ map f zs)) i
   in_first lt = sym (within (map f xs) (map f ys ++ map f zs) i (omega (arith, lt, length-map xs f)))
@@ -57,7 +64,7 @@ numbered_from n [] = true
 numbered_from n (row ∷ rows) = eqb n (tag_of rule_type row.0) && numbered_from (suc n) rows
 
 rules_numbered : IsTrue (numbered_from 0 rules)
-unfolding expressions statements modules
+unfolding expressions statements requests modules
 rules_numbered = refl
 
 found : (rule : Rule) (rows : List (Rule × List Line)) (n : ℕ) → n ≤ tag_of rule_type rule → IsTrue (numbered_from n rows)

@@ -5,7 +5,7 @@ use Rattle.std.specs.List.{list_all, list_any}
 use Rattle.std.proofs.lemmas.Bool.{and_parts, ltb-true}
 use denote.Enum.Bare.{sameb, same_true}
 use Rattle.wgsl_reader.specs.contracts.rule.Rule.{the_type as rule_type}
-use Rattle.wgsl_reader.specs.Grammar.{Line, chosen, chosen_if_any, expressions, find, is_chosen, lines_of, modules, production, rules, statements}
+use Rattle.wgsl_reader.specs.Grammar.{Line, chosen, chosen_if_any, expressions, find, is_chosen, lines_of, modules, production, requests, rules, statements}
 use Rattle.wgsl_reader.specs.declared.kind.Kind.{Kind}
 use Rattle.wgsl_reader.specs.declared.mark.Mark.{Mark}
 use Rattle.wgsl_reader.specs.declared.rule.Rule.{Rule}
@@ -60,7 +60,7 @@ abbrev pub all_light : List (Rule × List Line) → Bool
 all_light rows = list_all (λ row. list_all (λ line. is_light row.0 line.1) row.1) rows
 
 rules_light : IsTrue (all_light rules)
-unfolding expressions statements modules is_empty weighs
+unfolding expressions statements requests modules is_empty weighs
 rules_light = refl
 
 -- so each line that is chosen is light

@@ -9,6 +9,7 @@ use Rattle.wgsl_reader.specs.declared.rule.Rule.{Rule}
 use Rattle.wgsl_reader.specs.declared.grammar.Symbol.{Symbol}
 use Rattle.wgsl_reader.specs.declared.grammar.expressions.TheConstants.{EXPRESSIONS}
 use Rattle.wgsl_reader.specs.declared.grammar.statements.TheConstants.{STATEMENTS}
+use Rattle.wgsl_reader.specs.declared.grammar.requests.TheConstants.{REQUESTS}
 use Rattle.wgsl_reader.specs.declared.grammar.modules.TheConstants.{MODULES}
 
 -- the kind of the next token for which a line is taken, or None for any, and what its rule stands for then
@@ -30,13 +31,17 @@ expressions = map (λ row. (row.0, map (λ line. (line.0, line.1.now)) row.1.now
 unfoldable pub statements : List (Rule × List Line)
 statements = map (λ row. (row.0, map (λ line. (line.0, line.1.now)) row.1.now)) STATEMENTS.now
 
+-- the rules of requests
+unfoldable pub requests : List (Rule × List Line)
+requests = map (λ row. (row.0, map (λ line. (line.0, line.1.now)) row.1.now)) REQUESTS.now
+
 -- the rules of directives and declarations
 unfoldable pub modules : List (Rule × List Line)
 modules = map (λ row. (row.0, map (λ line. (line.0, line.1.now)) row.1.now)) MODULES.now
 
 -- all rules
 abbrev pub rules : List (Rule × List Line)
-rules = expressions ++ (statements ++ modules)
+rules = expressions ++ (statements ++ (requests ++ modules))
 
 abbrev pub find : Rule → List (Rule × List Line) → Option (List Line)
 find rule [] = None

@@ -8,6 +8,7 @@ ghost use Rattle.wgsl_reader.specs.Grammar.{chosen, is_chosen, line_of, lines_of
 
 use crate::grammar::expressions::expressions;
 use crate::grammar::modules::modules;
+use crate::grammar::requests::requests;
 use crate::grammar::statements::statements;
 use crate::kind::Kind;
 use crate::mark::Mark;
@@ -65,6 +66,7 @@ macro_rules! grammar {
 
 mod expressions;
 mod modules;
+mod requests;
 mod statements;
 
 /// A table of rules with their lines.
@@ -96,11 +98,34 @@ fn lines_at(index: usize, first: Rows, second: Rows, third: Rows) -> Option<&'st
     lines_in(behind - second.len(), third)
 }
 
+/// The lines of the rule that has this index in four tables, one behind the other.
+#[tactic(auto, using(crate::proofs::Rows::in_front, crate::proofs::Rows::in_rest))]
+fn lines_among(
+    index: usize,
+    first: Rows,
+    second: Rows,
+    third: Rows,
+    fourth: Rows,
+) -> Option<&'static [Line]>
+    ensures { option_map (λ lines. map line_of lines.now) result ≡ option_map (λ row. row.1) (slice_get (map row_of first.now ++ (map row_of second.now ++ (map row_of third.now ++ map row_of fourth.now))) index) }
+{
+    if index < first.len() {
+        return lines_in(index, first);
+    }
+    lines_at(index - first.len(), second, third, fourth)
+}
+
 /// The lines of a rule. The tables have the rules in the order of their enumeration.
 fn lines(rule: Rule) -> Option<&'static [Line]>
     ensures { option_map (λ lines. map line_of lines.now) result ≡ lines_of rule }
 {
-    lines_at(rule as usize, expressions(), statements(), modules())
+    lines_among(
+        rule as usize,
+        expressions(),
+        statements(),
+        requests(),
+        modules(),
+    )
 }
 
 /// What the first line stands for that is taken for the next token.

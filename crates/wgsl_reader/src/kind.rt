@@ -20,7 +20,7 @@ pub enum Kind {
     Case,
     /// `const`
     Const,
-    /// `const` in front of the type of an operand. Only what makes tokens of an operand makes it: no text of WGSL's has one.
+    /// `const` in a request: in front of the type of an operand, or of a declaration. Only what makes tokens of a request makes it.
     ConstOperand,
     /// `const_assert`
     ConstAssert,
@@ -66,6 +66,27 @@ pub enum Kind {
     Var,
     /// `while`
     While,
+    // The first words of requests. Only what makes tokens of a request makes these.
+    /// `type`
+    TypeOf,
+    /// `load`
+    Load,
+    /// `resolve`
+    Resolve,
+    /// `why`
+    Why,
+    /// `overloads`
+    Overloads,
+    /// `rank`
+    Rank,
+    /// `common`
+    Common,
+    /// `size`
+    Size,
+    /// `offsets`
+    Offsets,
+    /// `layout`
+    Layout,
     // Brackets.
     /// `(`
     OpenRound,

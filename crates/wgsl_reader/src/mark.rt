@@ -133,4 +133,20 @@ pub enum Mark {
     Element,
     /// `a + b`, behind its operands
     Binary,
+    /// The first word of a request: `let`, `if`, `size`, `_`.
+    Keyword,
+    /// `struct S`, `fn f` in front of a request.
+    Heading,
+    /// `struct S { .. }` in place of a type.
+    StructType,
+    /// `resolve a`
+    Resolve,
+    /// `why a`
+    Why,
+    /// `overloads f`
+    Overloads,
+    /// `storage` in `var<storage, read>`
+    AddressSpace,
+    /// `read` in `var<storage, read>`
+    AccessMode,
 }

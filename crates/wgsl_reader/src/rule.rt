@@ -109,6 +109,41 @@ pub enum Rule {
     LeftCore,
     /// `= b`, `+= b`, `++`
     Assignment,
+    // Requests about types.
+    /// `struct S { a: i32 } let a: i32 = S.a;`, where types stand for names.
+    Request,
+    /// `let a: f32 = 1`, `if a { }`, `a += b`, `size f32`
+    Asked,
+    /// `struct S { a: i32 }`
+    Headed,
+    /// `f32`, `struct S { a: i32 }`
+    AskedType,
+    /// `f32, i32`, if they are there
+    AskedTypes,
+    /// `, i32`
+    MoreAskedTypes,
+    /// The value behind `return` in a request, if it is there.
+    ReturnedIfAny,
+    /// What may stand behind a name: `(a)`, `<f32>(a)`, `.x = b`.
+    AfterFirst,
+    /// `.x = b`, or nothing behind a call
+    AfterCall,
+    /// `: f32 = 1`, `: f32`, `= 1`
+    Valued,
+    /// `<storage, read>`, if it is there
+    Memory,
+    /// `, read`, if it is there
+    MoreMemory,
+    /// `read,`, or nothing behind the last comma
+    AccessMode,
+    /// `{ }`, if it is there
+    BlockIfAny,
+    /// Clauses without statements, up to `}`.
+    EmptyClauses,
+    /// `case 1, 2: { }`, `default { }`
+    EmptyClause,
+    /// `;`, if it is there
+    SemicolonIfAny,
     // Directives and declarations.
     /// `enable f16;`, or a declaration
     DirectiveOrDeclaration,

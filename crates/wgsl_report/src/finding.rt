@@ -76,7 +76,7 @@ impl Trouble {
             Trouble::Atomic => "none may stand: use `workgroup`, or `storage` with `read_write`",
             Trouble::Array => "none may stand: use vectors, matrices or members",
             Trouble::RuntimeSized => "it needs a number of elements, or use `storage`",
-            Trouble::NoData => "it can't stand: a sampler or a texture has no address space",
+            Trouble::NoData => "it can't stand: only data can",
             Trouble::NoHandle => "it can't stand: use `var<uniform>` or `var<storage>`",
             Trouble::NoBinding => "it needs both",
             Trouble::NeedlessBinding => "it has no use for them",

@@ -11,6 +11,7 @@ use wgsl_source::fault::{Cause, Fault};
 use wgsl_source::meant::{Declared, meant};
 use wgsl_source::module::Module;
 use wgsl_source::text::Text;
+use wgsl_spelling::fault::Cause as SpellingCause;
 
 /// How severe a message is.
 #[derive(Clone, Copy, PartialEq, Eq)]
@@ -127,6 +128,12 @@ fn write_misread<'t>(
         at: token.at,
         cause: Cause::Misread(0),
     };
+    if token.kind == Kind::Less
+        && may_stand_behind(alloc, misread.rule, front, Kind::OpenTemplate)?
+        && !may_stand_behind(alloc, misread.rule, front, Kind::Period)?
+    {
+        return output.push_str(SpellingCause::OpenList.text());
+    }
     output.push_str(&expected(alloc, misread.rule, front)?)?;
     let word = write_found(output, text, fault)?;
     if front.is_empty() {
@@ -237,7 +244,7 @@ fn write_meant<'t>(
         None => None,
     };
     match name {
-        Some(name) => write_all(
+        Some(name) if name != word => write_all(
             output,
             &[
                 Piece::Text("; did you mean `"),
@@ -245,7 +252,7 @@ fn write_meant<'t>(
                 Piece::Text("`?"),
             ],
         ),
-        None => Ok(()),
+        _ => Ok(()),
     }
 }
 

@@ -11,7 +11,7 @@ use Rattle.wgsl_rules.proofs.constructors.OneAnswer.{constructor_answer_once}
 use Rattle.wgsl_rules.proofs.layout.OneLayout.{layout_once, offsets_once}
 use Rattle.wgsl_rules.proofs.layout.StructSizes.{never_both}
 use Rattle.wgsl_rules.proofs.operators.OneAnswer.{operator_answer_once, unary_answer_once}
-use Rattle.wgsl_requests.specs.Answers.{Answers, WgslAnswer, WgslLayout, IsReceivedCommon, AreOffsetsOf, IsLayoutOf, a_number, a_size, a_common_type, a_type, a_value, some_offsets, a_layout, a_type_of, a_resolution_of, some_lines, a_form_type, a_fit, rank_is, common_is, unary_is, binary_is, size_is, offsets_are, layout_is, ctor_is, call_is, type_of_is, resolution_of_is, explanation_of_is, overloads_of_are, form_is, fit_is}
+use Rattle.wgsl_requests.specs.Answers.{Answers, WgslAnswer, WgslLayout, IsReceivedCommon, AreOffsetsOf, IsLayoutOf, a_number, a_size, a_common_type, a_type, a_value, some_offsets, a_layout, a_type_of, a_resolution_of, some_lines, a_form_type, a_fit, rank_is, common_is, unary_is, binary_is, size_is, offsets_are, layout_is, ctor_is, call_is, type_of_is, resolution_of_is, explanation_of_is, unknown_is, overloads_of_are, form_is, fit_is}
 use Rattle.wgsl_requests.specs.Forms.{WgslForm, IsFormType, member_of, index_of, load_of, declaration_of, override_of, assignment_of, increment_of, discard_of, construct_of, switch_of, address_of, indirection_of, array_of, typed_array_of, variable_of, initialized_of}
 use Rattle.wgsl_requests.specs.Requests.{WgslRequest}
 use Rattle.wgsl_forms.specs.Assign.{operator_of}
@@ -76,7 +76,10 @@ same_answer (ctor_is {c} r f) (ctor_is s g) = ap a_type (constructor_answer_once
 same_answer (call_is {c} r f) (call_is s g) = ap a_value (call_answer_once c r s f g)
 same_answer (type_of_is {c} r f) (type_of_is s g) = ap (a_type_of c) (type_once c r s f g)
 same_answer (resolution_of_is {c} r f) (resolution_of_is s g) = ap (a_resolution_of c) (resolution_once c r s f g)
-same_answer (explanation_of_is {c} r f) (explanation_of_is s g) = ap some_lines (explanation_once c r s f g)
+same_answer (explanation_of_is {c} r is f) (explanation_of_is s has g) = ap some_lines (explanation_once c r s f g)
+same_answer (explanation_of_is {c} r is f) (unknown_is name has) = absurd (cc (is, has))
+same_answer (unknown_is {c} name is) (explanation_of_is s has g) = absurd (cc (is, has))
+same_answer (unknown_is {c} name is) (unknown_is other has) = refl
 same_answer (overloads_of_are r f) (overloads_of_are s g) = ap some_lines (f ∙ sym g)
 same_answer (form_is {f} r h) (form_is s k) = ap a_form_type (one_form_type f r s h k)
 same_answer (fit_is r f) (fit_is s g) = ap a_fit (f ∙ sym g)

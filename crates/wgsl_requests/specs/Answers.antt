@@ -15,6 +15,7 @@ use Rattle.wgsl_rules.specs.operators.Answers.{IsOperatorAnswer, IsUnaryAnswer}
 use Rattle.wgsl_rules.specs.constructors.Constructors.{IsConstructorAnswer}
 use Rattle.wgsl_rules.specs.calls.Answers.{IsCallAnswer}
 use Rattle.wgsl_rules.specs.standard.Choice.{Operand, types_of}
+use Rattle.wgsl_standard.specs.Callees.{unknown_name}
 use Rattle.wgsl_standard.specs.Lines.{lines_named}
 use Rattle.wgsl_forms.specs.Lists.{Fits, list_fits}
 use Rattle.wgsl_forms.specs.Refusals.{Refusal as FormRefusal}
@@ -88,8 +89,11 @@ pub data Answers : WgslRequest → WgslAnswer → Type 0 where
       IsTypeOf c r → Answers (type_of c) (a_type_of c r)
   resolution_of_is : {c : WgslCall} (r : Option WgslResolution) →
       IsResolutionOf c r → Answers (resolution_of c) (a_resolution_of c r)
-  explanation_of_is : {c : WgslCall} (lines : List (List ℕ)) →
+  explanation_of_is : {c : WgslCall} (lines : List (List ℕ)) → unknown_name c.callee ≡ None →
       IsExplanationOf c lines → Answers (explanation_of c) (some_lines lines)
+  -- nothing has the name
+  unknown_is : {c : WgslCall} (name : List ℕ) → unknown_name c.callee ≡ Some name →
+      Answers (explanation_of c) (a_type_of c None)
   overloads_of_are : {name : List ℕ} (lines : List (List ℕ)) →
       lines ≡ lines_named name → Answers (overloads_of name) (some_lines lines)
   form_is : {f : WgslForm} (r : Result WgslType FormRefusal) →

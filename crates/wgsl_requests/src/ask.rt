@@ -20,6 +20,7 @@ use wgsl_core::operators::resolve::{ResolvedType, resolve_operator};
 use wgsl_core::operators::type_unary_op;
 use wgsl_core::ty::Type;
 use wgsl_forms::lists::fit;
+use wgsl_standard::meant::unknown_name;
 use wgsl_syntax::operator::BinaryOperator;
 
 /// The answer to the request.
@@ -57,7 +58,10 @@ pub fn answer<'r>(alloc: Global, request: Request<'r>) -> Result<Answer<'r>, All
         Request::Type(call) => Ok(Answer::TypeOf(call, type_of(alloc, call)?)),
         Request::Resolution(call) => Ok(Answer::Resolution(call, resolution_of(alloc, call)?)),
         Request::Overloads(name) => Ok(Answer::Overloads(signatures_named(alloc, name)?)),
-        Request::Explanation(call) => Ok(Answer::Notes(notes_on(alloc, call)?)),
+        Request::Explanation(call) => match unknown_name(call.callee) {
+            Some(_) => Ok(Answer::TypeOf(call, None)),
+            None => Ok(Answer::Notes(notes_on(alloc, call)?)),
+        },
         Request::Form(form) => Ok(Answer::FormType(type_of_form(form))),
         Request::Fit(values, types) => Ok(Answer::Fit(fit(values, types))),
     }

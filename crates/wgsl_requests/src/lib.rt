@@ -1,10 +1,15 @@
-//! Requests and their answers as values, and the function that answers a request.
+//! Requests and their answers as values, the function that answers a request, and the text of an answer.
 #![tactic(auto)]
 
 pub mod answers;
 pub mod ask;
 pub mod call_forms;
+pub mod common;
+mod fast;
 mod forms;
+pub mod laws;
 mod overloads;
+pub mod reply;
 pub mod requests;
 pub mod standard;
+pub mod write;

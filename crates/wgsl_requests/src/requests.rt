@@ -35,7 +35,7 @@ pub enum Request<'r> {
     Resolution(&'r Call<'r>),
     /// The overloads of a name, which may be an operator.
     Overloads(&'r str),
-    /// Why overloads don't take the operands of a call.
+    /// Why overloads don't take the operands of a call; of a name that nothing has, the answer is that of its type.
     Explanation(&'r Call<'r>),
     /// The type of a form that has no overloads.
     Form(&'r Form<'r>),

@@ -1,6 +1,8 @@
 -- The structs that a module keeps (WGSL, "Structure Types").
 use Rattle.std.specs.Prelude.{◌≡◌, ◌++◌, ◌↔◌, IsTrue, List, [], ◌∷◌, length}
 use Rattle.std.specs.List.{All}
+use Rattle.wgsl_reader.specs.declared.read.Event.{Event}
+use Rattle.wgsl_source.specs.TextStructs.{IsDeclared}
 use Rattle.wgsl_source.specs.Layout.{IsLaidOut}
 use Rattle.wgsl_source.specs.Members.{AreMeasured, EndsRuntimeSized, Grows, IsTypeOf}
 use Rattle.wgsl_source.specs.declared.measured.MeasuredType.{MeasuredType}
@@ -8,6 +10,7 @@ use Rattle.wgsl_source.specs.declared.module.Reader.{Reader}
 use Rattle.wgsl_source.specs.declared.scope.Meaning.{Meaning}
 use Rattle.wgsl_source.specs.declared.scope.Meaning.TheVariants as meaning
 use Rattle.wgsl_source.specs.declared.structure.Struct.{Struct}
+use Rattle.wgsl_source.specs.declared.text.Text.{Text}
 
 -- a struct has the layout of its members, these the sizes and alignments of their attributes or of their types, and it is
 -- noted whether the last one is a runtime-sized array
@@ -28,13 +31,15 @@ pub record IsKept (old new : List Struct) (m : Meaning) : Type 0 where
   pub named : m ≡ meaning.«Type» type
   pub is : IsTypeOf struct (length old) type
 
--- neither element types nor structs change
+-- the text, element types and structs stay as they are
 abbrev pub SameStructs : Reader → Reader → Type 0
-SameStructs old new = (new.types.elements ≡ old.types.elements) × (new.structs ≡ old.structs)
+SameStructs old new = (new.types.elements ≡ old.types.elements) × (new.structs ≡ old.structs) × (new.scope.text ≡ old.scope.text)
 
--- structs are only added, behind those that are there
-pub record Keeps (old new : Reader) : Type 0 where
+-- Structs are only added, behind those that are there. If the declarations are those of the text, so are the structs.
+pub record Keeps (Known : Text → List Event → Type 0) (old new : Reader) : Type 0 where
   pub grows : Grows old.types new.types
   pub added : List Struct
   pub kept : new.structs.items ≡ old.structs.items ++ added
   pub laid_out : AreStructsOf new.types.elements.items added
+  pub text : new.scope.text ≡ old.scope.text
+  pub declared : (whole : List Event) → Known old.scope.text whole → All (IsDeclared old.scope.text whole) added

@@ -1,5 +1,10 @@
 // Attributes, and where each may stand (WGSL, "Attributes").
 
+ghost use Rattle.std.specs.Prelude.{◌≡◌, IfOk, None, OnOk};
+ghost use Rattle.wgsl_syntax.specs.Names.{named};
+ghost use Rattle.wgsl_source.specs.Attributes.{Adds, HasSizes, SameSizes, attribute_in, attribute_names, is_severity, sizing_of};
+ghost use Rattle.wgsl_source.specs.Declarations.{BehindAttributes};
+
 use crate::directive::severity_fault;
 use crate::entry::{Stage, WorkgroupExtent};
 use crate::fault::{Cause, Stop};
@@ -7,6 +12,7 @@ use crate::meant::is_built_in_value;
 use crate::parts::{split_argument, split_attribute, split_first, without_last};
 use crate::scope::Scope;
 use crate::value::{PlacedValue, Value};
+use wgsl_constants::call::integer;
 use wgsl_constants::integer::Integer;
 use wgsl_reader::mark::Mark;
 use wgsl_reader::read::Event;
@@ -56,36 +62,32 @@ pub struct Attributes {
     is_there: [bool; 16],
 }
 
-/// The attributes, in the order of `Name`.
-pub const ATTRIBUTES: [(&str, Name); 16] = [
-    ("align", Name::Align),
-    ("binding", Name::Binding),
-    ("blend_src", Name::BlendSrc),
-    ("builtin", Name::Builtin),
-    ("compute", Name::Compute),
-    ("diagnostic", Name::Diagnostic),
-    ("fragment", Name::Fragment),
-    ("group", Name::Group),
-    ("id", Name::Id),
-    ("interpolate", Name::Interpolate),
-    ("invariant", Name::Invariant),
-    ("location", Name::Location),
-    ("must_use", Name::MustUse),
-    ("size", Name::Size),
-    ("vertex", Name::Vertex),
-    ("workgroup_size", Name::WorkgroupSize),
-];
+/// The attribute with this name.
+fn attribute_named(word: &str) -> Option<Name>
+    ensures { result ≡ named attribute_names word.now }
+{
+    match word {
+        "align" => Some(Name::Align),
+        "binding" => Some(Name::Binding),
+        "blend_src" => Some(Name::BlendSrc),
+        "builtin" => Some(Name::Builtin),
+        "compute" => Some(Name::Compute),
+        "diagnostic" => Some(Name::Diagnostic),
+        "fragment" => Some(Name::Fragment),
+        "group" => Some(Name::Group),
+        "id" => Some(Name::Id),
+        "interpolate" => Some(Name::Interpolate),
+        "invariant" => Some(Name::Invariant),
+        "location" => Some(Name::Location),
+        "must_use" => Some(Name::MustUse),
+        "size" => Some(Name::Size),
+        "vertex" => Some(Name::Vertex),
+        "workgroup_size" => Some(Name::WorkgroupSize),
+        _ => None,
+    }
+}
 
 impl Name {
-    fn named(word: &str) -> Option<Name> {
-        for (text, name) in &ATTRIBUTES {
-            if *text == word {
-                return Some(*name);
-            }
-        }
-        None
-    }
-
     /// Whether the attribute may stand there.
     fn may_stand(self, owner: Owner) -> bool {
         match self {
@@ -129,7 +131,10 @@ impl Name {
 }
 
 impl Attributes {
-    fn none() -> Attributes {
+    fn none() -> Attributes
+        ensures size { result.size ≡ None }
+        ensures align { result.align ≡ None }
+    {
         Attributes {
             size: None,
             align: None,
@@ -143,7 +148,9 @@ impl Attributes {
     }
 
     /// Notes an attribute. Returns whether it is a repetition; `diagnostic` may be repeated.
-    fn is_twice(&mut self, name: Name) -> bool {
+    fn is_twice(&mut self, name: Name) -> bool
+        ensures { SameSizes self.old self.new }
+    {
         match self.is_there.get_mut(name as usize) {
             Some(is_there) if name != Name::Diagnostic => {
                 let is_twice = *is_there;
@@ -165,15 +172,22 @@ struct Written<'e> {
 }
 
 impl<'t> Scope<'t> {
-    /// The attributes of a member or a declaration.
-    pub fn read_attributes(&self, events: &[Event], owner: Owner) -> Result<Attributes, Stop> {
+    /// The attributes in front of a member or a declaration, and what stands behind them.
+    pub fn read_attributes<'e>(
+        &self,
+        events: &'e [Event],
+        owner: Owner,
+    ) -> Result<(Attributes, &'e [Event]), Stop>
+        ensures behind { IfOk result (λ r. BehindAttributes events.now r.1.now) }
+        ensures sizes { IfOk result (λ r. HasSizes self.now.text events.now r.0) }
+    {
         let mut attributes = Attributes::none();
         let mut rest = events;
         while let Some(split) = split_attribute(rest) {
             self.read_attribute(split.front, owner, &mut attributes)?;
             rest = split.rest;
         }
-        Ok(attributes)
+        Ok((attributes, rest))
     }
 
     fn read_attribute(
@@ -181,18 +195,20 @@ impl<'t> Scope<'t> {
         events: &[Event],
         owner: Owner,
         attributes: &mut Attributes,
-    ) -> Result<(), Stop> {
+    ) -> Result<(), Stop>
+        ensures { OnOk result (Adds (attribute_in self.now.text events.now) attributes.old attributes.new) }
+    {
         let Some((first, rest)) = split_first(events) else {
             return Ok(());
         };
-        if first.mark == Mark::Severity {
+        if is_severity(first.mark) {
             return self.read_diagnostic(events, first, owner, attributes);
         }
         let written = Written {
             name: self.text.token_before(first.at),
             arguments: without_last(rest),
         };
-        let name = match Name::named(self.text.word(written.name)) {
+        let name = match attribute_named(self.text.word(written.name)) {
             Some(name) => name,
             None if self.extensions.foreign => return Ok(()),
             None => return Err(written.stop(Cause::UnknownAttribute)),
@@ -211,7 +227,9 @@ impl<'t> Scope<'t> {
         first: Event,
         owner: Owner,
         attributes: &mut Attributes,
-    ) -> Result<(), Stop> {
+    ) -> Result<(), Stop>
+        ensures { SameSizes attributes.old attributes.new }
+    {
         let written = Written {
             name: self.text.token_before(first.at.saturating_sub(2)),
             arguments: &[],
@@ -228,7 +246,9 @@ impl<'t> Scope<'t> {
         name: Name,
         arguments: &[Event],
         attributes: &mut Attributes,
-    ) -> Result<(), Stop> {
+    ) -> Result<(), Stop>
+        ensures { OnOk result (Adds (sizing_of name) attributes.old attributes.new) }
+    {
         match name {
             Name::Align => attributes.align = Some(self.read_align(arguments)?),
             Name::Size => attributes.size = Some(self.read_number(arguments)?),
@@ -309,15 +329,23 @@ impl<'t> Scope<'t> {
 
     fn read_extent(&self, argument: &[Event]) -> Result<WorkgroupExtent, Stop> {
         let value = self.value_noted(without_last(argument))?;
-        match value.value {
-            Value::Later => Ok(WorkgroupExtent::Override),
-            Value::Integer(integer) => match u32::try_from(integer.value()) {
+        if let Value::Later = value.value {
+            return Ok(WorkgroupExtent::Override);
+        }
+        match integer_of(value.value) {
+            Ok(integer) => match u32::try_from(integer.value()) {
                 Ok(number) if number > 0 => Ok(WorkgroupExtent::Known(number)),
                 _ => Err(Stop::at(value.at, Cause::EmptyWorkgroup)),
             },
-            Value::Bool(_) | Value::Float(_) => Err(Stop::at(value.at, Cause::NotInteger)),
+            Err(cause) => Err(Stop::at(value.at, cause)),
         }
     }
+}
+
+fn is_severity(mark: Mark) -> bool
+    ensures { result ≡ is_severity mark }
+{
+    matches!(mark, Mark::Severity)
 }
 
 /// Whether brackets without an argument stand behind an attribute's name.
@@ -336,12 +364,9 @@ impl Written<'_> {
 }
 
 /// Notes that an attribute is there, if it may be.
-fn note(
-    name: Name,
-    written: Written,
-    owner: Owner,
-    attributes: &mut Attributes,
-) -> Result<(), Stop> {
+fn note(name: Name, written: Written, owner: Owner, attributes: &mut Attributes) -> Result<(), Stop>
+    ensures { SameSizes attributes.old attributes.new }
+{
     if !name.may_stand(owner) {
         Err(written.stop(Cause::MisplacedAttribute))
     } else if attributes.is_twice(name) {
@@ -364,8 +389,8 @@ fn count_of(arguments: &[Event]) -> usize {
 
 fn integer_of(value: Value) -> Result<Integer, Cause> {
     match value {
-        Value::Integer(integer) => Ok(integer),
+        Value::Known(constant) => Ok(integer(constant)?),
+        Value::Vector(_) => Err(Cause::NotInteger),
         Value::Later => Err(Cause::KnownLater),
-        Value::Bool(_) | Value::Float(_) => Err(Cause::NotInteger),
     }
 }

@@ -1,9 +1,14 @@
 // What a module declares, and where.
+ghost use Rattle.std.specs.Prelude.{◌≡◌, ◌++◌, IfOk, ◌-◌, IfSome, IsTrue, List, MatchOption, OnOk, Some, ⊤};
+ghost use Rattle.std.specs.List.{All};
+ghost use Rattle.wgsl_reader.specs.declared.read.Event.{Event as of_event};
+ghost use Rattle.wgsl_source.specs.Declarations.{token_before};
+ghost use Rattle.wgsl_source.specs.internal.Read.{IsDeclaration, IsReadAt};
 
 use crate::directive::read_directive;
 use crate::extension::enabled;
 use crate::fault::{Cause, Fault};
-use crate::parts::{End, split_attributes, split_end, split_first, split_list};
+use crate::parts::{End, inner, split_attributes, split_first, split_list, split_to};
 use crate::scope::Extensions;
 use crate::text::Text;
 use std::alloc::{AllocError, Global};
@@ -54,7 +59,9 @@ pub fn read_declarations<'t>(
     alloc: Global,
     text: Text<'t>,
     grammar: &'t Grammar,
-) -> Result<Declarations<'t>, AllocError> {
+) -> Result<Declarations<'t>, AllocError>
+    ensures { IfOk result (λ found. All (IsDeclaration text.entry grammar.now.events.items) found.declarations.items) }
+{
     let mut found = Declarations {
         declarations: Vec::new(alloc),
         faults: Vec::new(alloc),
@@ -89,12 +96,15 @@ struct Read<'t> {
 }
 
 /// What the first events declare, if there are any.
-fn next_declaration<'t>(text: Text<'t>, events: &'t [Event]) -> Option<Read<'t>> {
+fn next_declaration<'t>(text: Text<'t>, events: &'t [Event]) -> Option<Read<'t>>
+    ensures { MatchOption result ⊤ (λ read. (whole front : List of_event) → whole ≡ front ++ events.now
+        → IsReadAt text.entry whole read × (behind : List of_event) × (whole ≡ behind ++ read.behind.now)) }
+{
     let attributes = split_attributes(events);
     let list = split_list(attributes.rest);
     let (first, _) = split_first(list.rest)?;
     let (kind, end) = kind_of(text, first);
-    let split = split_end(list.rest, end);
+    let split = split_to(list.rest, end)?;
     Some(Read {
         kind,
         attributes: attributes.front,
@@ -106,7 +116,9 @@ fn next_declaration<'t>(text: Text<'t>, events: &'t [Event]) -> Option<Read<'t>>
 }
 
 /// What a declaration declares whose first event this is, and what ends it.
-fn kind_of(text: Text, first: Event) -> (Option<DeclarationKind>, End) {
+fn kind_of(text: Text, first: Event) -> (Option<DeclarationKind>, End)
+    ensures { result.0 ≡ Some DeclarationKind.Struct → ((token_before text.entry (first.at - 1)).kind ≡ Kind.Struct) × (result.1 ≡ End.Struct) }
+{
     let word = text.token_before(first.at.saturating_sub(1)).kind;
     match (first.mark, word) {
         (Mark::Extension | Mark::Severity, _) => (None, End::Directive),
@@ -124,9 +136,13 @@ fn kind_of(text: Text, first: Event) -> (Option<DeclarationKind>, End) {
 
 impl<'t> Declarations<'t> {
     /// Reads a declaration that the grammar reads.
-    fn read_one(&mut self, text: Text<'t>, read: Read<'t>) -> Result<(), AllocError> {
-        match (read.kind, read.events) {
-            (Some(kind), [_, rest @ .., _]) => {
+    fn read_one(&mut self, text: Text<'t>, read: Read<'t>) -> Result<(), AllocError>
+        ensures { (whole : List of_event) → IsReadAt text.entry whole read.entry
+            → All (IsDeclaration text.entry whole) self.old.declarations.items
+            → OnOk result (All (IsDeclaration text.entry whole) self.new.declarations.items) }
+    {
+        match read.kind {
+            Some(kind) => {
                 let name = text.token_before(read.named);
                 self.declarations.push(Declaration {
                     kind,
@@ -135,16 +151,15 @@ impl<'t> Declarations<'t> {
                     named: read.named,
                     attributes: read.attributes,
                     list: read.list,
-                    rest,
+                    rest: inner(read.events),
                     is_faulty: false,
                 })?;
             }
-            (None, events) => {
-                if let Some(fault) = read_directive(text, &mut self.extensions, events) {
+            None => {
+                if let Some(fault) = read_directive(text, &mut self.extensions, read.events) {
                     self.faults.push(fault)?;
                 }
             }
-            _ => {}
         }
         Ok(())
     }
@@ -156,7 +171,10 @@ impl<'t> Declarations<'t> {
         grammar: &Grammar,
         from: usize,
         before: usize,
-    ) -> Result<usize, AllocError> {
+    ) -> Result<usize, AllocError>
+        ensures { (whole : List of_event) → All (IsDeclaration text.entry whole) self.old.declarations.items
+            → IfOk result (λ index. All (IsDeclaration text.entry whole) self.new.declarations.items) }
+    {
         let mut index = from;
         while let Some(misread) = grammar.misread.get(index) {
             if misread.from >= before {
@@ -219,7 +237,9 @@ fn note_enabled(text: Text, misread: Misread, extensions: &mut Extensions) {
 }
 
 /// What a misread declaration would declare, if its first word and a name behind it say so.
-fn misread_declaration<'t>(text: Text<'t>, misread: Misread) -> Option<Declaration<'t>> {
+fn misread_declaration<'t>(text: Text<'t>, misread: Misread) -> Option<Declaration<'t>>
+    ensures { IfSome result (λ d. IsTrue d.is_faulty) }
+{
     let first = first_word(text, misread);
     let kind = match text.token(first).kind {
         Kind::Alias => DeclarationKind::Alias,

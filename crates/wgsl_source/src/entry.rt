@@ -8,7 +8,9 @@ use crate::initialized::Initialized;
 use crate::scope::Scope;
 use crate::types::Types;
 use crate::value::Value;
+use wgsl_constants::constant::Constant;
 use wgsl_constants::integer::Integer;
+use wgsl_constants::operator::to_i32;
 use wgsl_reader::read::Event;
 use wgsl_syntax::scalar::Scalar;
 
@@ -71,7 +73,7 @@ impl<'t> Scope<'t> {
         &self,
         declaration: &Declaration<'t>,
     ) -> Result<Option<EntryPoint<'t>>, Stop> {
-        let attributes = self.read_attributes(declaration.attributes, Owner::Function)?;
+        let (attributes, _) = self.read_attributes(declaration.attributes, Owner::Function)?;
         Ok(
             attributes.stage.map(|stage| EntryPoint {
                 name: declaration.name,
@@ -90,7 +92,7 @@ impl<'t> Scope<'t> {
     ) -> Result<Override<'t>, Stop>
         ensures { Grows types.old types.new }
     {
-        let attributes = self.read_attributes(declaration.attributes, Owner::Override)?;
+        let (attributes, _) = self.read_attributes(declaration.attributes, Owner::Override)?;
         let Initialized { ty, value, .. } = self.initialized(declaration);
         let ty = match ty {
             [] if value.is_empty() => return Err(Stop::at(declaration.place, Cause::NoType)),
@@ -118,20 +120,29 @@ impl<'t> Scope<'t> {
     /// The type of an override that follows from its value; None if that isn't read here.
     fn default_type(&self, value: &[Event]) -> Result<Option<Scalar>, Stop> {
         match self.value_noted(value) {
-            Ok(found) => Ok(type_of_value(found.value)),
+            Ok(found) => match type_of_value(found.value) {
+                Ok(ty) => Ok(ty),
+                Err(cause) => Err(Stop::at(found.at, cause)),
+            },
             Err(Stop::Fault(fault)) if fault.cause.is_of_other_value() => Ok(None),
             Err(stop) => Err(stop),
         }
     }
 }
 
-/// The type that an override has by its value.
-fn type_of_value(value: Value) -> Option<Scalar> {
-    match value {
-        Value::Integer(Integer::Abstract(_) | Integer::I32(_)) => Some(Scalar::I32),
-        Value::Integer(Integer::U32(_)) => Some(Scalar::U32),
-        Value::Bool(_) => Some(Scalar::Bool),
-        Value::Float(_) => Some(Scalar::F32),
-        Value::Later => None,
-    }
+/// The type that an override has by its value. An AbstractInt becomes an `i32`, which may overflow.
+fn type_of_value(value: Value) -> Result<Option<Scalar>, Cause> {
+    let Value::Known(constant) = value else {
+        return Ok(None);
+    };
+    Ok(Some(match constant {
+        Constant::Integer(Integer::Abstract(number)) => {
+            to_i32(number)?;
+            Scalar::I32
+        }
+        Constant::Integer(Integer::I32(_)) => Scalar::I32,
+        Constant::Integer(Integer::U32(_)) => Scalar::U32,
+        Constant::Bool(_) => Scalar::Bool,
+        Constant::Float(_) => Scalar::F32,
+    }))
 }

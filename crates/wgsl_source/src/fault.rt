@@ -1,6 +1,7 @@
 // Why a text was not read.
 
 use std::alloc::{AllocError, AllocFailed};
+use wgsl_constants::call::CallError;
 use wgsl_constants::integer::IntegerError;
 
 /// What was expected where something else stands.
@@ -71,6 +72,8 @@ pub enum Cause {
     ShiftTooFar,
     /// A `clamp` whose lower bound is above its upper bound.
     EmptyRange,
+    /// A component or an element that a vector doesn't have.
+    NoSuchComponent,
     /// A function with more or fewer arguments than it takes.
     WrongArgumentCount,
     /// An attribute with more or fewer arguments than it takes.
@@ -115,6 +118,16 @@ pub enum Cause {
     SizedRuntimeArray,
     /// A type or an address space that naga has and WGSL doesn't.
     NagaOnly,
+}
+
+impl From<CallError> for Cause {
+    fn from(error: CallError) -> Cause {
+        match error {
+            CallError::Integer(error) => Cause::from(error),
+            CallError::NotInteger => Cause::NotInteger,
+            CallError::WrongArgumentCount => Cause::WrongArgumentCount,
+        }
+    }
 }
 
 impl From<IntegerError> for Cause {
@@ -180,6 +193,7 @@ impl Cause {
             Cause::NegatedUnsigned => "a u32 has no negative",
             Cause::ShiftTooFar => "a shift by 32 bits or more",
             Cause::EmptyRange => "the least value is above the greatest",
+            Cause::NoSuchComponent => "this has no such component",
             Cause::AttributeArguments => "this attribute takes another number of arguments",
             Cause::WrongArgumentCount => "this function takes another number of arguments",
             Cause::NoElements => "an array has at least one element",

@@ -19,7 +19,6 @@ pub mod meant;
 pub mod measured;
 pub mod module;
 mod noted;
-mod operator;
 mod order;
 mod parts;
 mod scope;

@@ -1,17 +1,17 @@
 // Numbers, as they are written.
 
 use crate::fault::Cause;
-use crate::value::Value;
+use wgsl_constants::constant::Constant;
 use wgsl_constants::literal::{LiteralError, integer_of};
 
 /// What a number stands for. One of half precision needs `enable f16;`.
-pub fn value_of_literal(word: &str, has_half: bool) -> Result<Value, Cause> {
+pub fn value_of_literal(word: &str, has_half: bool) -> Result<Constant, Cause> {
     match integer_of(word.as_bytes()) {
-        Ok(integer) => Ok(Value::Integer(integer)),
+        Ok(integer) => Ok(Constant::Integer(integer)),
         Err(LiteralError::Overflow) => Err(Cause::Overflow),
         Err(LiteralError::NotInteger) if word.ends_with("h") && !has_half => Err(Cause::NoHalf),
         Err(LiteralError::NotInteger) => match whole_part(word) {
-            Some(whole) => Ok(Value::Float(whole)),
+            Some(whole) => Ok(Constant::Float(whole)),
             None => Err(Cause::NotInteger),
         },
     }

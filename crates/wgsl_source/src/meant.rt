@@ -1,6 +1,5 @@
 // What a misspelled word of a module may have meant: WGSL's names, and the module's own.
 
-use crate::attribute::ATTRIBUTES;
 use crate::extension::{ENABLED, REQUIRED};
 use crate::fault::{Cause, Expected, ExtensionKind, Named};
 use std::alloc::Global;
@@ -29,6 +28,10 @@ impl<'t> Declared<'t> {
 
 const DECLARATIONS: &str =
     "alias struct const override var fn enable requires diagnostic const_assert";
+
+const ATTRIBUTES: &str = "\
+align binding blend_src builtin compute diagnostic fragment group id interpolate invariant location must_use size vertex \
+workgroup_size";
 
 const BUILT_IN_VALUES: &str = "\
 vertex_index instance_index clip_distances position front_facing frag_depth sample_index sample_mask local_invocation_id \
@@ -76,7 +79,6 @@ pub fn meant<'t>(cause: Cause, word: &'t str, declared: &Declared<'t>) -> Option
         )),
         Cause::UnknownName(Named::Value) => nearest(word, &declared.values, "true false"),
         Cause::UnknownName(Named::Function) => nearest_function(word),
-        Cause::UnknownAttribute => nearest_attribute(word),
         _ => nearest(word, &[], names_for(cause)),
     }
 }
@@ -89,6 +91,7 @@ fn names_for(cause: Cause) -> &'static str {
         Cause::Expected(Expected::AccessMode) => ACCESS_MODES,
         Cause::Expected(Expected::TexelFormat) => TEXEL_FORMATS,
         Cause::Expected(Expected::Severity) => SEVERITIES,
+        Cause::UnknownAttribute => ATTRIBUTES,
         Cause::UnknownBuiltInValue => BUILT_IN_VALUES,
         Cause::UnknownExtension(ExtensionKind::Enabled) => ENABLED,
         Cause::UnknownExtension(ExtensionKind::Required) => REQUIRED,
@@ -111,14 +114,6 @@ fn nearest<'t>(word: &'t str, own: &[&'t str], list: &'static str) -> Option<&'t
 fn nearest_function(word: &str) -> Option<&str> {
     let mut nearest = Nearest::to(word);
     for (name, _, _) in FUNCTIONS {
-        nearest.offer(*name);
-    }
-    nearest.name
-}
-
-fn nearest_attribute(word: &str) -> Option<&str> {
-    let mut nearest = Nearest::to(word);
-    for (name, _) in &ATTRIBUTES {
         nearest.offer(*name);
     }
     nearest.name

@@ -1,5 +1,8 @@
 // Modules: what they declare, and what is wrong with them.
 ghost use Rattle.std.specs.Prelude.{◌≡◌, IfOk, OnOk, length, ◌++◌, ◌∷◌, []};
+ghost use Rattle.std.specs.List.{All};
+ghost use Rattle.wgsl_source.specs.TextStructs.{IsDeclared};
+ghost use Rattle.wgsl_source.specs.internal.Read.{Known, KnownAll, KnownAt, KnownStruct, Nothing};
 ghost use Rattle.wgsl_source.specs.Structs.{AreStructsOf, IsKept, Keeps, SameStructs};
 
 use crate::declaration::{Declaration, DeclarationKind, Declarations, read_declarations};
@@ -13,7 +16,7 @@ use crate::scope::{Meaning, Scope, first_meaning};
 use crate::structure::Struct;
 use crate::text::{Text, has_byte_order_mark};
 use crate::types::Types;
-use crate::value::{Value, declared_value};
+use crate::value::Value;
 use crate::variable::Variable;
 use std::alloc::{AllocError, Global};
 use wgsl_reader::module::Module as Grammar;
@@ -98,6 +101,7 @@ pub fn read_module<'t>(
     grammar: &'t Grammar,
 ) -> Result<Module<'t>, AllocError>
     ensures structs { IfOk result (λ m. AreStructsOf m.elements.items m.structs.items) }
+    ensures declared { IfOk result (λ m. All (IsDeclared text.entry grammar.now.events.items) m.structs.items) }
 {
     let Declarations {
         declarations,
@@ -129,7 +133,7 @@ pub fn read_module<'t>(
 impl<'t> Reader<'t> {
     /// Reads the declarations.
     fn read(&mut self, declarations: &[Declaration<'t>]) -> Result<(), AllocError>
-        ensures { OnOk result (Keeps self.old self.new) }
+        ensures { OnOk result (Keeps (KnownAll declarations.now) self.old self.new) }
     {
         if has_byte_order_mark(self.scope.text.text.as_bytes()) {
             self.faults.push(Fault {
@@ -142,6 +146,7 @@ impl<'t> Reader<'t> {
         self.list_types(declarations)?;
         self.read_others(declarations)?;
         self.faults.sort_unstable_by_key(|fault| fault.at);
+        self.faults.dedup();
         self.types.naga_only.sort_unstable_by_key(|fault| fault.at);
         Ok(())
     }
@@ -207,9 +212,7 @@ impl<'t> Reader<'t> {
             } else {
                 self.scope.names.insert(declaration.name, index)?;
             }
-            self.scope
-                .meanings
-                .push(first_meaning(is_twice || declaration.is_faulty))?;
+            self.scope.meanings.push(first_meaning(is_twice))?;
         }
         Ok(())
     }
@@ -228,7 +231,7 @@ impl<'t> Reader<'t> {
 
     /// Reads aliases, structs and constants, each after those that it names.
     fn read_ordered(&mut self, declarations: &[Declaration<'t>]) -> Result<(), AllocError>
-        ensures { OnOk result (Keeps self.old self.new) }
+        ensures { OnOk result (Keeps (KnownAll declarations.now) self.old self.new) }
     {
         let alloc = self.scope.alloc;
         let order = order_of(alloc, self.scope.text, &self.scope.names, &*declarations)?;
@@ -242,7 +245,7 @@ impl<'t> Reader<'t> {
         order: &Order,
         declarations: &[Declaration<'t>],
     ) -> Result<(), AllocError>
-        ensures { OnOk result (Keeps self.old self.new) }
+        ensures { OnOk result (Keeps (KnownAll declarations.now) self.old self.new) }
     {
         for circular in &order.circular {
             if self.is_unread(circular.index) {
@@ -282,7 +285,7 @@ impl<'t> Reader<'t> {
 
     /// Reads variables, overrides and functions in the order of the text.
     fn read_others(&mut self, declarations: &[Declaration<'t>]) -> Result<(), AllocError>
-        ensures { OnOk result (Keeps self.old self.new) }
+        ensures { OnOk result (Keeps (KnownAll declarations.now) self.old self.new) }
     {
         for declaration in declarations {
             if !declaration.is_faulty {
@@ -293,8 +296,9 @@ impl<'t> Reader<'t> {
         Ok(())
     }
 
+    #[tactic(auto, using(crate::proofs::Structs::keeps_grown))]
     fn read_other(&mut self, declaration: &Declaration<'t>) -> Result<(), Stop>
-        ensures { Keeps self.old self.new }
+        ensures { Keeps Nothing self.old self.new }
     {
         match declaration.kind {
             DeclarationKind::Variable => {
@@ -317,9 +321,13 @@ impl<'t> Reader<'t> {
     }
 
     fn read_unread(&mut self, index: usize, declaration: &Declaration<'t>) -> Result<(), AllocError>
-        ensures { OnOk result (Keeps self.old self.new) }
+        ensures { OnOk result (Keeps (Known declaration.now) self.old self.new) }
     {
         if !self.is_unread(index) {
+            return Ok(());
+        }
+        if declaration.is_faulty {
+            self.mean(index, Meaning::Faulty);
             return Ok(());
         }
         match self.read_meaning(declaration) {
@@ -335,7 +343,7 @@ impl<'t> Reader<'t> {
     }
 
     fn read_meaning(&mut self, declaration: &Declaration<'t>) -> Result<Meaning, Stop>
-        ensures keeps { Keeps self.old self.new }
+        ensures keeps { Keeps (KnownStruct declaration.now) self.old self.new }
         ensures kept { declaration.now.kind ≡ DeclarationKind.Struct
             → IfOk result (IsKept self.old.structs.items self.new.structs.items) }
     {
@@ -360,14 +368,14 @@ impl<'t> Reader<'t> {
     }
 
     fn read_alias(&mut self, declaration: &Declaration<'t>) -> Result<Meaning, Stop>
-        ensures { Keeps self.old self.new }
+        ensures { Keeps (KnownStruct declaration.now) self.old self.new }
     {
         let ty = self.scope.type_noted(&mut self.types, declaration.rest)?;
         Ok(Meaning::Type(ty))
     }
 
     fn read_struct(&mut self, declaration: &Declaration<'t>) -> Result<Meaning, Stop>
-        ensures keeps { Keeps self.old self.new }
+        ensures keeps { Keeps (KnownAt declaration.now) self.old self.new }
         ensures kept { IfOk result (IsKept self.old.structs.items self.new.structs.items) }
     {
         let structure = self.scope.read_struct(&mut self.types, declaration)?;
@@ -376,17 +384,12 @@ impl<'t> Reader<'t> {
         Ok(Meaning::Type(ty))
     }
 
-    /// Reads a constant. If its value is neither an integer nor a `bool` that is evaluated here, it is `Other`.
+    #[tactic(auto, using(crate::proofs::Structs::keeps_grown))]
     fn read_constant(&mut self, declaration: &Declaration<'t>) -> Result<Meaning, Stop>
-        ensures { Keeps self.old self.new }
+        ensures { Keeps (KnownStruct declaration.now) self.old self.new }
     {
         let Initialized { ty, value, .. } = self.scope.typed(declaration);
-        match ty {
-            [] => self.scope.constant(value, None),
-            _ => {
-                let ty = self.scope.type_noted(&mut self.types, ty)?;
-                self.scope.typed_constant(value, ty.as_scalar())
-            }
-        }
+        let ty = self.scope.declared_type(&mut self.types, ty)?;
+        self.scope.constant(value, ty)
     }
 }

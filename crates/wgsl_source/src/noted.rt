@@ -1,14 +1,16 @@
 // What the events of a type or a value say.
+ghost use Rattle.std.specs.Prelude.{◌≡◌};
+ghost use Rattle.wgsl_source.specs.Declarations.{first_count, token_before};
 ghost use Rattle.wgsl_source.specs.Members.{Grows};
 
 use crate::fault::{Cause, Expected, Named, Stop};
 use crate::item::{Content, Item, behind_sign, cut};
 use crate::literal::value_of_literal;
 use crate::measured::MeasuredType;
-use crate::operator::binary;
 use crate::scope::{Meaning, Scope};
 use crate::types::Types;
-use crate::value::{PlacedValue, Value, unary};
+use crate::value::{PlacedValue, Value, binary, element, member, unary};
+use wgsl_constants::constant::Constant;
 use wgsl_reader::kind::Kind;
 use wgsl_reader::mark::Mark;
 use wgsl_reader::read::Event;
@@ -23,6 +25,20 @@ impl<'t> Scope<'t> {
         self.read_all(types, &mut items, events)?;
         let item = self.pop(&mut items)?;
         self.type_of(types, item)
+    }
+
+    /// The type that events say, if there are any.
+    pub fn declared_type(
+        &self,
+        types: &mut Types,
+        events: &[Event],
+    ) -> Result<Option<MeasuredType>, Stop>
+        ensures { Grows types.old types.new }
+    {
+        match events {
+            [] => Ok(None),
+            _ => Ok(Some(self.type_noted(types, events)?)),
+        }
     }
 
     /// The value that events say.
@@ -71,6 +87,7 @@ impl<'t> Scope<'t> {
             Mark::Unary => self.close_unary(items),
             Mark::Binary => self.close_binary(items),
             Mark::Value => Ok(()),
+            Mark::MemberOf => self.close_member(items, token),
             Mark::Element => self.close_element(items),
             _ => self.close_part(items),
         }
@@ -115,10 +132,7 @@ impl<'t> Scope<'t> {
         let operand = self.pop(items)?;
         let operator = self.pop(items)?;
         let value = self.value_of(operand)?;
-        match unary(sign_of(operator), value) {
-            Ok(value) => push(items, operator.token, Content::Value(value)),
-            Err(cause) => Err(operator.stop(cause)),
-        }
+        put(items, operator, unary(sign_of(operator), value), operator)
     }
 
     fn close_binary(&self, items: &mut Vec<Item>) -> Result<(), Stop> {
@@ -126,13 +140,26 @@ impl<'t> Scope<'t> {
         let operator = self.pop(items)?;
         let left = self.pop(items)?;
         let (a, b) = (self.value_of(left)?, self.value_of(right)?);
-        match binary(sign_of(operator), a, b) {
-            Ok(value) => push(items, left.token, Content::Value(value)),
-            Err(cause) => Err(operator.stop(cause)),
-        }
+        put(items, left, binary(sign_of(operator), a, b), operator)
     }
 
-    /// Ends a component, which isn't evaluated here.
+    /// Ends a component, whose letter is a token.
+    fn close_member(&self, items: &mut Vec<Item>, letter: Token) -> Result<(), Stop> {
+        let item = self.pop(items)?;
+        let value = self.value_of(item)?;
+        put(items, item, member(value, self.text.word(letter)), item)
+    }
+
+    /// Ends an element.
+    fn close_element(&self, items: &mut Vec<Item>) -> Result<(), Stop> {
+        let index = self.pop(items)?;
+        self.pop(items)?;
+        let item = self.pop(items)?;
+        let index = self.value_of(index)?;
+        put(items, item, element(self.value_of(item)?, index), item)
+    }
+
+    /// Ends what isn't evaluated here.
     fn close_part(&self, items: &mut Vec<Item>) -> Result<(), Stop> {
         let item = self.pop(items)?;
         match self.value_of(item)? {
@@ -141,22 +168,14 @@ impl<'t> Scope<'t> {
         }
     }
 
-    /// Ends an element, which isn't evaluated here.
-    fn close_element(&self, items: &mut Vec<Item>) -> Result<(), Stop> {
-        self.settle(items)?;
-        self.pop(items)?;
-        self.pop(items)?;
-        self.close_part(items)
-    }
-
     fn literal(&self, token: Token) -> Result<Value, Stop> {
         let value = match token.kind {
-            Kind::True => Ok(Value::Bool(true)),
-            Kind::False => Ok(Value::Bool(false)),
+            Kind::True => Ok(Constant::Bool(true)),
+            Kind::False => Ok(Constant::Bool(false)),
             _ => value_of_literal(self.text.word(token), self.extensions.half),
         };
         match value {
-            Ok(value) => Ok(value),
+            Ok(constant) => Ok(Value::Known(constant)),
             Err(cause) => Err(Stop::at(token.at, cause)),
         }
     }
@@ -168,11 +187,12 @@ impl<'t> Scope<'t> {
             Content::Name => match self.meaning(self.text.word(item.token)) {
                 Some(Meaning::Value(value)) => Ok(value),
                 Some(Meaning::Faulty | Meaning::Unread) => Err(Stop::Elsewhere),
+                Some(Meaning::NoValue(fault)) => Err(Stop::Fault(fault)),
                 Some(Meaning::Type(_) | Meaning::Other) => Err(item.stop(Cause::NotInteger)),
                 None => Err(item.stop(Cause::UnknownName(Named::Value))),
             },
             Content::Function => {
-                self.predeclared_function(item)?;
+                self.check_function(item)?;
                 Err(item.stop(Cause::NotInteger))
             }
             _ => Err(item.stop(Cause::NotInteger)),
@@ -180,7 +200,9 @@ impl<'t> Scope<'t> {
     }
 
     /// The first token of what events say.
-    pub fn first_token(&self, events: &[Event]) -> Token {
+    pub fn first_token(&self, events: &[Event]) -> Token
+        ensures { result ≡ token_before self.now.text (first_count events.now) }
+    {
         self.text.token_before(first_count(events))
     }
 
@@ -198,7 +220,9 @@ impl<'t> Scope<'t> {
 }
 
 /// How many tokens stand up to the first event, with its own.
-fn first_count(events: &[Event]) -> usize {
+pub fn first_count(events: &[Event]) -> usize
+    ensures { result ≡ first_count events.now }
+{
     match events {
         [first, ..] => first.at,
         [] => 0,
@@ -208,6 +232,19 @@ fn first_count(events: &[Event]) -> usize {
 fn push(items: &mut Vec<Item>, token: Token, content: Content) -> Result<(), Stop> {
     items.push(Item { token, content })?;
     Ok(())
+}
+
+/// Adds a value that begins with the first item. An error is at the other one.
+fn put(
+    items: &mut Vec<Item>,
+    first: Item,
+    value: Result<Value, Cause>,
+    at: Item,
+) -> Result<(), Stop> {
+    match value {
+        Ok(value) => push(items, first.token, Content::Value(value)),
+        Err(cause) => Err(at.stop(cause)),
+    }
 }
 
 /// The operator that an item is.

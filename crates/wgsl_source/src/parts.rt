@@ -1,5 +1,6 @@
 // The parts of a declaration: slices of its events.
-ghost use Rattle.std.specs.Prelude.{◌≡◌, ◌<◌, ◌≤◌, ◌-◌, IfSome, length};
+ghost use Rattle.std.specs.Prelude.{◌≡◌, ◌≢◌, ℕ, [], ◌∷◌, ◌<◌, ◌≤◌, IfSome, MatchOption, drop, length, slice_get, take};
+ghost use Rattle.wgsl_source.specs.Declarations.{BehindAttributes, attribute_len, diagnostic_len, end_of, inner, is_diagnostic, is_diagnostic_mark, is_end, len_to};
 
 use wgsl_reader::mark::Mark;
 use wgsl_reader::read::Event;
@@ -13,19 +14,11 @@ pub struct Split<'e> {
 
 /// The events up to an index, and those behind it.
 fn split_at<'e>(events: &'e [Event], index: usize) -> Split<'e>
-    ensures { length result.rest.now ≡ length events.now - index }
+    ensures front { result.front.now ≡ take index events.now }
+    ensures rest { result.rest.now ≡ drop index events.now }
 {
-    if index < events.len() {
-        Split {
-            front: &events[..index],
-            rest: &events[index..],
-        }
-    } else {
-        Split {
-            front: events,
-            rest: &[],
-        }
-    }
+    let (front, rest) = events.split_at(index.min(events.len()));
+    Split { front, rest }
 }
 
 /// What ends a part: its last event.
@@ -45,7 +38,9 @@ pub enum End {
 }
 
 /// The part that ends with such an event.
-fn end_of(mark: Mark) -> Option<End> {
+fn end_of(mark: Mark) -> Option<End>
+    ensures { result ≡ end_of mark }
+{
     match mark {
         Mark::Attribute => Some(End::Attribute),
         Mark::Typed => Some(End::Typed),
@@ -62,14 +57,24 @@ fn end_of(mark: Mark) -> Option<End> {
     }
 }
 
+fn is_end(end: End, found: Option<End>) -> bool
+    ensures { result ≡ is_end end found }
+{
+    match found {
+        Some(other) => end == other,
+        None => false,
+    }
+}
+
 /// How many events there are up to the first one that ends such a part, and with it; none if there is no such event.
 fn len_to(events: &[Event], end: End) -> usize
-    ensures { result ≤ length events.now }
+    ensures exact { result ≡ len_to end events.now }
+    ensures bound { result ≤ length events.now }
 {
     let mut at = 0;
     while at < events.len() {
         at += 1;
-        if end_of(events[at - 1].mark) == Some(end) {
+        if is_end(end, end_of(events[at - 1].mark)) {
             return at;
         }
     }
@@ -78,7 +83,7 @@ fn len_to(events: &[Event], end: End) -> usize
 
 /// How many events the attribute has that stands in front, if one does: `@size(16)`, `@const`, `@diagnostic(off, a)`.
 fn attribute_len(events: &[Event]) -> usize
-    ensures { result ≤ length events.now }
+    ensures { result ≡ attribute_len events.now }
 {
     match events {
         [first, ..] => match first.mark {
@@ -93,18 +98,39 @@ fn attribute_len(events: &[Event]) -> usize
 
 /// How many events `@diagnostic(off, a)` has, with which these begin; none if they are a directive.
 fn diagnostic_len(events: &[Event]) -> usize
-    ensures { result ≤ length events.now }
+    ensures { result ≡ diagnostic_len events.now }
 {
-    match events {
-        [_, _, end, ..] if matches!(end.mark, Mark::DiagnosticAttribute) => 3,
-        [_, _, _, end, ..] if matches!(end.mark, Mark::DiagnosticAttribute) => 4,
-        _ => 0,
+    if is_diagnostic(events, 2) {
+        3
+    } else if is_diagnostic(events, 3) {
+        4
+    } else {
+        0
     }
+}
+
+/// Whether an attribute `@diagnostic(..)` ends with the event at an index.
+fn is_diagnostic(events: &[Event], index: usize) -> bool
+    ensures { result ≡ is_diagnostic (slice_get events.now index) }
+{
+    match events.get(index) {
+        Some(event) => is_diagnostic_mark(event.mark),
+        None => false,
+    }
+}
+
+fn is_diagnostic_mark(mark: Mark) -> bool
+    ensures { result ≡ is_diagnostic_mark mark }
+{
+    matches!(mark, Mark::DiagnosticAttribute)
 }
 
 /// The attribute in front, if there is one.
 pub fn split_attribute<'e>(events: &'e [Event]) -> Option<Split<'e>>
-    ensures { IfSome result (λ split. length split.rest.now < length events.now) }
+    ensures exact { MatchOption result (attribute_len events.now ≡ 0)
+        (λ split. (attribute_len events.now ≢ 0) × (split.front.now ≡ take (attribute_len events.now) events.now)
+        × (split.rest.now ≡ drop (attribute_len events.now) events.now)) }
+    ensures less { IfSome result (λ split. length split.rest.now < length events.now) }
 {
     match attribute_len(events) {
         0 => None,
@@ -113,18 +139,15 @@ pub fn split_attribute<'e>(events: &'e [Event]) -> Option<Split<'e>>
 }
 
 /// The attributes in front.
-pub fn split_attributes<'e>(events: &'e [Event]) -> Split<'e> {
-    let mut at: usize = 0;
-    for _ in 0..events.len() {
-        match events.get(at..) {
-            Some(rest) => match attribute_len(rest) {
-                0 => break,
-                len => at = at.saturating_add(len),
-            },
-            None => break,
-        }
+pub fn split_attributes<'e>(events: &'e [Event]) -> Split<'e>
+    ensures { BehindAttributes events.now result.rest.now }
+{
+    let mut rest = events;
+    while let Some(split) = split_attribute(rest) {
+        rest = split.rest;
     }
-    split_at(events, at)
+    let front = split_at(events, events.len().saturating_sub(rest.len())).front;
+    Split { front, rest }
 }
 
 /// The argument in front, with its `Argument`, if there is one.
@@ -147,7 +170,9 @@ pub fn split_argument<'e>(events: &'e [Event]) -> Option<Split<'e>>
 }
 
 /// The template list of a variable, if it stands in front.
-pub fn split_list<'e>(events: &'e [Event]) -> Split<'e> {
+pub fn split_list<'e>(events: &'e [Event]) -> Split<'e>
+    ensures { (n : ℕ) × (result.rest.now ≡ drop n events.now) }
+{
     let mut lists: usize = 0;
     let mut at = 0;
     while at < events.len() {
@@ -169,34 +194,33 @@ pub fn split_typed<'e>(events: &'e [Event]) -> Split<'e> {
     split_at(events, len_to(events, End::Typed))
 }
 
-/// The events up to the first one that ends such a declaration, and with it; all if none does.
-pub fn split_end<'e>(events: &'e [Event], end: End) -> Split<'e> {
-    match len_to(events, end) {
-        0 => split_at(events, events.len()),
-        len => split_at(events, len),
-    }
-}
-
-/// The member in front, with its attributes and its `Member`, if there is one.
-pub fn split_member<'e>(events: &'e [Event]) -> Option<Split<'e>>
-    ensures { IfSome result (λ split. length split.rest.now < length events.now) }
+/// The part in front that ends so, with its end, if there is one.
+pub fn split_to<'e>(events: &'e [Event], end: End) -> Option<Split<'e>>
+    ensures exact { MatchOption result (len_to end events.now ≡ 0)
+        (λ split. (len_to end events.now ≢ 0) × (split.front.now ≡ take (len_to end events.now) events.now)
+        × (split.rest.now ≡ drop (len_to end events.now) events.now)) }
+    ensures less { IfSome result (λ split. length split.rest.now < length events.now) }
 {
-    match len_to(events, End::Member) {
+    match len_to(events, end) {
         0 => None,
         len => Some(split_at(events, len)),
     }
 }
 
-/// The type of a member without attributes.
-pub fn type_of_member<'e>(events: &'e [Event]) -> &'e [Event] {
+/// The events without the first and the last one.
+pub fn inner<'e>(events: &'e [Event]) -> &'e [Event]
+    ensures { result.now ≡ inner events.now }
+{
     match events {
-        [_, ty @ .., _] => ty,
+        [_, inside @ .., _] => inside,
         _ => &[],
     }
 }
 
 /// The first event, and those behind it.
-pub fn split_first<'e>(events: &'e [Event]) -> Option<(Event, &'e [Event])> {
+pub fn split_first<'e>(events: &'e [Event]) -> Option<(Event, &'e [Event])>
+    ensures { MatchOption result (events.now ≡ []) (λ found. events.now ≡ found.0 ∷ found.1.now) }
+{
     match events {
         [first, rest @ ..] => Some((*first, rest)),
         [] => None,

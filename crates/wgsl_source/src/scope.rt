@@ -1,5 +1,7 @@
 // What the names of a module stand for.
+ghost use Rattle.std.specs.Prelude.{◌≡◌};
 
+use crate::fault::Fault;
 use crate::measured::MeasuredType;
 use crate::text::Text;
 use crate::value::Value;
@@ -15,7 +17,9 @@ pub enum Meaning {
     Value(Value),
     /// An alias or a struct.
     Type(MeasuredType),
-    /// Neither a type nor a value that is evaluated here.
+    /// A constant whose value isn't evaluated here, and what of it isn't.
+    NoValue(Fault),
+    /// Neither a type nor a value.
     Other,
 }
 
@@ -57,7 +61,9 @@ pub struct Scope<'t> {
 
 impl<'t> Scope<'t> {
     /// A scope without declarations.
-    pub fn new(alloc: Global, text: Text<'t>, extensions: Extensions) -> Scope<'t> {
+    pub fn new(alloc: Global, text: Text<'t>, extensions: Extensions) -> Scope<'t>
+        ensures { result.text ≡ text.entry }
+    {
         Scope {
             alloc,
             text,
@@ -74,9 +80,9 @@ impl<'t> Scope<'t> {
     }
 }
 
-/// What a declaration stands for before it is read.
-pub fn first_meaning(is_faulty: bool) -> Meaning {
-    if is_faulty {
+/// What a declaration stands for before it is read. One with the name of another stands for nothing.
+pub fn first_meaning(is_twice: bool) -> Meaning {
+    if is_twice {
         Meaning::Faulty
     } else {
         Meaning::Unread

@@ -1,6 +1,8 @@
 // Structs, read and laid out.
 ghost use Rattle.std.specs.Prelude.{◌≡◌, ◌++◌, ◌↔◌, IfOk, IsSome, IsTrue, None, OnOk, [], ◌∷◌};
+ghost use Rattle.wgsl_source.specs.TextStructs.{AreMembers, IsMember};
 ghost use Rattle.wgsl_source.specs.Faults.{OnFault};
+ghost use Rattle.wgsl_source.specs.internal.Read.{IsFrom};
 ghost use Rattle.wgsl_source.specs.Layout.{HasNoLayout, IsLaidOut};
 ghost use Rattle.wgsl_source.specs.Members.{AreMeasured, AreSameMembers, EndsRuntimeSized, Grows, IsDraft, IsMeasuredMember, IsRuntimeSizedArray, IsTypeOf, members_of};
 
@@ -9,7 +11,7 @@ use crate::check::member_fault;
 use crate::declaration::Declaration;
 use crate::fault::{Cause, Stop};
 use crate::measured::{MeasuredType, TypeKind};
-use crate::parts::{split_attributes, split_member, type_of_member};
+use crate::parts::{End, inner, split_to};
 use crate::scope::Scope;
 use crate::types::Types;
 use std::alloc::Global;
@@ -164,6 +166,7 @@ impl<'t> Scope<'t> {
         ensures layout { IfOk result (λ s. IsLaidOut s.members.items s.size s.align) }
         ensures measured { IfOk result (λ s. AreMeasured types.new.elements.items s.members.items) }
         ensures runtime_sized { IfOk result (λ s. IsTrue s.is_runtime_sized ↔ EndsRuntimeSized s.members.items) }
+        ensures declared { IfOk result (IsFrom self.now.text declaration.now) }
     {
         let mut draft = Draft::new(self.alloc);
         let layout = match self.read_members(types, declaration.rest, &mut draft) {
@@ -196,9 +199,11 @@ impl<'t> Scope<'t> {
         ensures grows { Grows types.old types.new }
         ensures draft { IsDraft types.old.elements.items draft.old
             → OnOk result (IsDraft types.new.elements.items draft.new) }
+        ensures declared { draft.old.members.items ≡ []
+            → OnOk result (AreMembers self.now.text events.now (members_of draft.new.members.items)) }
     {
         let mut rest = events;
-        while let Some(split) = split_member(rest) {
+        while let Some(split) = split_to(rest, End::Member) {
             if let Some(at) = draft.runtime_sized {
                 return Err(Stop::at(at, Cause::RuntimeSized));
             }
@@ -212,11 +217,11 @@ impl<'t> Scope<'t> {
     fn read_member(&self, types: &mut Types, events: &[Event]) -> Result<Written<'t>, Stop>
         ensures grows { Grows types.old types.new }
         ensures measured { IfOk result (λ w. IsMeasuredMember types.new.elements.items w.member) }
+        ensures declared { IfOk result (λ w. IsMember self.now.text events.now w.member) }
     {
-        let split = split_attributes(events);
-        let attributes = self.read_attributes(split.front, Owner::Member)?;
-        let name = self.first_token(split.rest);
-        let noted = type_of_member(split.rest);
+        let (attributes, rest) = self.read_attributes(events, Owner::Member)?;
+        let name = self.first_token(rest);
+        let noted = inner(rest);
         let at = self.first_token(noted).at;
         let ty = self.type_noted(types, noted)?;
         if let Some(cause) = member_fault(&ty, attributes.size) {

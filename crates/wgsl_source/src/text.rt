@@ -1,4 +1,7 @@
 // A text and its tokens.
+ghost use Rattle.std.specs.Prelude.{◌≡◌};
+ghost use Rattle.wgsl_source.specs.Declarations.{end, token, token_before};
+ghost use Rattle.wgsl_spelling.specs.Words.{word};
 
 use crate::fault::Cause;
 use std::alloc::{AllocError, Global};
@@ -17,7 +20,9 @@ pub struct Text<'t> {
 
 impl<'t> Text<'t> {
     /// The last of that many tokens; if there is none, the end of the text.
-    pub fn token_before(self, count: usize) -> Token {
+    pub fn token_before(self, count: usize) -> Token
+        ensures { result ≡ token_before self.entry count }
+    {
         match count.checked_sub(1) {
             Some(index) => self.token(index),
             None => self.end(),
@@ -25,14 +30,18 @@ impl<'t> Text<'t> {
     }
 
     /// The token at an index, or the end of the text.
-    pub fn token(self, index: usize) -> Token {
+    pub fn token(self, index: usize) -> Token
+        ensures { result ≡ token self.entry index }
+    {
         match self.tokens.get(index) {
             Some(token) => *token,
             None => self.end(),
         }
     }
 
-    fn end(self) -> Token {
+    fn end(self) -> Token
+        ensures { result ≡ end self.entry }
+    {
         Token {
             kind: Kind::End,
             at: self.text.len(),
@@ -64,7 +73,9 @@ impl<'t> Text<'t> {
     }
 
     /// The text of a token.
-    pub fn word(self, token: Token) -> &'t str {
+    pub fn word(self, token: Token) -> &'t str
+        ensures { result.now ≡ word self.entry.text.now token }
+    {
         word(self.text, token)
     }
 }

@@ -12,6 +12,7 @@ use crate::measured::{Count, MeasuredType, TypeKind};
 use crate::scope::{Meaning, Scope};
 use crate::value::Value;
 use std::alloc::Global;
+use wgsl_constants::call::integer;
 use wgsl_spelling::predeclared::{LayerName, PredeclaredType, predeclared};
 use wgsl_syntax::address::AddressSpace;
 use wgsl_syntax::scalar::Scalar;
@@ -304,7 +305,9 @@ fn declared_type(meaning: Meaning, name: Item) -> Result<MeasuredType, Stop> {
     match meaning {
         Meaning::Type(ty) => Ok(ty),
         Meaning::Faulty | Meaning::Unread => Err(Stop::Elsewhere),
-        Meaning::Value(_) | Meaning::Other => Err(name.stop(Cause::Expected(Expected::Type))),
+        Meaning::Value(_) | Meaning::NoValue(_) | Meaning::Other => Err(name.stop(Cause::Expected(
+            Expected::Type,
+        ))),
     }
 }
 
@@ -346,9 +349,9 @@ fn scalars(layer: LayerName, inside: &MeasuredType) -> Result<MeasuredType, Caus
 /// The number of elements that a value gives, or why it gives none.
 fn count_of(value: Value) -> Result<Count, Cause> {
     let number = match value {
-        Value::Integer(integer) => integer.value(),
+        Value::Known(constant) => integer(constant)?.value(),
+        Value::Vector(_) => return Err(Cause::NotInteger),
         Value::Later => return Ok(Count::Override),
-        Value::Bool(_) | Value::Float(_) => return Err(Cause::NotInteger),
     };
     match u32::try_from(number) {
         Ok(0) => Err(Cause::NoElements),

@@ -35,7 +35,7 @@ impl<'t> Scope<'t> {
     ) -> Result<Option<Variable<'t>>, Stop>
         ensures { Grows types.old types.new }
     {
-        let attributes = self.read_attributes(declaration.attributes, Owner::Variable)?;
+        let (attributes, _) = self.read_attributes(declaration.attributes, Owner::Variable)?;
         let (space, access) = self.read_qualifiers(types, declaration)?;
         let initialized = self.initialized(declaration);
         match initialized.ty {

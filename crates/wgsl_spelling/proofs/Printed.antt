@@ -24,7 +24,7 @@ use Rattle.wgsl_reader.specs.Tokens.{mark_len, tokens_from, tokens_of}
 use Rattle.wgsl_reader.specs.declared.kind.Kind.TheVariants as k
 use Rattle.wgsl_reader.specs.declared.rule.Rule.TheVariants as r
 use Rattle.wgsl_reader.specs.declared.grammar.Symbol.TheVariants as s
-use Rattle.wgsl_spelling.specs.Chains.{type_of}
+use Rattle.wgsl_spelling.specs.Chains.{Chain, type_of}
 use Rattle.wgsl_spelling.specs.Spelled.{Spells, SpellsBy, State, TokensSpell, behind, end, nothing, state, type_of_events}
 use Rattle.wgsl_spelling.specs.Written.{IsWritable, layers}
 use Rattle.wgsl_spelling.proofs.Evaluated.{eval, evaluated, made}
@@ -169,12 +169,12 @@ events_say rules t is shallow =
     let good = tree_good rules t is in
     let there = located tr whole [] [] 0 good at_end refl refl in
     let read = reads whole rules t 0 is shallow there in
-    let final : State → Option WgslType = end whole in
+    let final : State → Option Chain = end whole in
     let all : behind whole (listed tr 0 []) nothing (events tr 0 []) ≡ then (eval whole tr 0 nothing.chain) (λ c. Some (state (made tr 0 ∷ []) c)) =
     evaluated whole (listed tr 0 []) tr 0 0 nothing [] good there (placed tr (listed tr 0 []) [] [] 0 0 refl refl) in
     sym (
-    ap (λ o. then o final) all
-    ∙ (ap (λ o. then (then o (λ c. Some (state (made tr 0 ∷ []) c))) final) read.evaluated
+    ap (λ o. then (then o final) type_of) all
+    ∙ (ap (λ o. then (then (then o (λ c. Some (state (made tr 0 ∷ []) c))) final) type_of) read.evaluated
     ∙ (ap (λ o. then o type_of) read.typed ∙ chain_type t is))
     )
 

@@ -16,6 +16,7 @@ use Rattle.wgsl_syntax.specs.declared.texture_name.TextureParameters.TheVariants
 use Rattle.wgsl_rules.specs.types.Around.{around}
 use Rattle.wgsl_rules.specs.types.Types.{WgslType, scalar, struct, atomic, pointer, reference, texture, sampler, binding_array, ray_query, acceleration_structure, array, vec, mat}
 use Rattle.wgsl_constants.specs.Values.{map_value}
+use Rattle.wgsl_constants.specs.Literals.{then}
 use Rattle.wgsl_spelling.specs.Chains.{Chain, leaf_type, type_of, wrapped}
 use Rattle.wgsl_spelling.specs.Written.{IsWritable, layers}
 use Rattle.wgsl_spelling.specs.declared.chain.Leaf.{Leaf}
@@ -145,11 +146,11 @@ wrapped_last t [] layer = refl
 wrapped_last t (l ∷ ls) layer = wrapped_last (around l t) ls layer
 
 around_type : (layer : Around) (c : Chain) (t : WgslType) → type_of c ≡ Some t → type_of (around_of layer c) ≡ Some (around layer t)
-around_type layer c t is = by c.leaf c.layers is
+around_type layer c t is = by (then c.leaf leaf_type) c.layers is
   where
-    by : (l : Option Leaf) (ls : List Around) → type_of (record { leaf = l; layers = ls }) ≡ Some t → type_of (record { leaf = l; layers = ls ++ layer ∷ [] }) ≡ Some (around layer t)
+    by : (o : Option WgslType) (ls : List Around) → map_value (λ u. wrapped u ls) o ≡ Some t → map_value (λ u. wrapped u (ls ++ layer ∷ [])) o ≡ Some (around layer t)
     by None ls e = cc
-    by (Some l) ls e = ap Some (wrapped_last (leaf_type l) ls layer) ∙ ap (map_value (around layer)) e
+    by (Some u) ls e = ap Some (wrapped_last u ls layer) ∙ ap (map_value (around layer)) e
 
 pub chain_type : (t : WgslType) → IsWritable t → type_of (chain t) ≡ Some t
 chain_type (scalar s) is = refl

@@ -19,7 +19,7 @@ use Rattle.wgsl_syntax.specs.declared.texture_name.TextureParameters.TheVariants
 use Rattle.wgsl_rules.specs.types.Types.{WgslType, scalar, struct, atomic, pointer, reference, texture, sampler, binding_array, ray_query, acceleration_structure, array, vec, mat}
 use Rattle.wgsl_constants.specs.Literals.{then}
 use Rattle.wgsl_constants.specs.Values.{map_value}
-use Rattle.wgsl_spelling.specs.Chains.{Chain, plain, push, with_name, with_plain, with_type}
+use Rattle.wgsl_spelling.specs.Chains.{Chain, plain, push, with_name, with_plain, with_type, with_word}
 use Rattle.wgsl_spelling.specs.Names.{access_named, flag_named, format_named, sampled_named, space_named}
 use Rattle.wgsl_spelling.specs.Predeclared.{predeclared}
 use Rattle.wgsl_spelling.specs.Spelled.{nothing, with_listed}
@@ -55,12 +55,12 @@ memory_of i s m = (s, i, m)
 
 module _ (whole : List ℕ) where
   -- a name alone
-  named_read : (w : List ℕ) (at : ℕ) (named : PredeclaredType) (c : Chain) → word whole (token k.Name at (length w)) ≡ w → predeclared w ≡ Some named → then (plain named) (with_plain nothing.chain) ≡ Some c
+  named_read : (w : List ℕ) (at : ℕ) (named : PredeclaredType) (c : Chain) → word whole (token k.Name at (length w)) ≡ w → predeclared w ≡ Some named → with_name nothing.chain named ≡ Some c
       → Read whole (name w) at c
   named_read w at named c located is found = record {
     after = nothing.chain;
     evaluated = refl;
-    typed = ap (λ w. with_name nothing.chain (predeclared w)) located ∙ (ap (with_name nothing.chain) is ∙ found);
+    typed = ap (λ v. with_word (token k.Name at (length w)) nothing.chain (predeclared v)) located ∙ (ap (with_word (token k.Name at (length w)) nothing.chain) is ∙ found);
   }
 
   -- a name with a list

@@ -38,7 +38,7 @@ argued call x =
 
 abbrev pub called_value : Callee → Arguments → Option Value
 called_value (callee.Vector size) arguments = map_value v.Vector (found (vector_of size arguments))
-called_value (callee.Function f) arguments = map_value (λ n. v.Constant (c.Integer n)) (found (called f arguments))
+called_value (callee.Function f) arguments = map_value v.Constant (found (called f arguments))
 
 -- behind the `)`: what has the value of the call
 abbrev pub called_item : Item → Option Item

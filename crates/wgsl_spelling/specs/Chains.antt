@@ -54,24 +54,31 @@ plain (p.Layer l) = None
 abbrev pub with_plain : Chain → Leaf × Option Around → Option Chain
 with_plain c found = then (begin found.0 c) (push_if_any found.1)
 
-abbrev pub with_name : Chain → Option PredeclaredType → Option Chain
-with_name c named = then (then named plain) (with_plain c)
+abbrev pub with_name : Chain → PredeclaredType → Option Chain
+with_name c named = then (plain named) (with_plain c)
+
+-- a name that isn't predeclared is a leaf
+abbrev pub with_word : Token → Chain → Option PredeclaredType → Option Chain
+with_word token c None = begin (leaf.Named token) c
+with_word token c (Some named) = with_name c named
 
 abbrev pub with_value : List ℕ → Token → Chain → Value → Option Chain
 with_value text token c v.Type = Some c
-with_value text token c v.Name = with_name c (predeclared (word text token))
+with_value text token c v.Name = with_word token c (predeclared (word text token))
 with_value text token c other = None
 
 -- the chain with the type of an item
 abbrev pub with_type : List ℕ → Item → Chain → Option Chain
 with_type text i c = with_value text i.token c i.value
 
-abbrev pub leaf_type : Leaf → WgslType
-leaf_type (leaf.Scalar s) = scalar s
-leaf_type (leaf.Sampler s) = sampler s
-leaf_type (leaf.Texture x) = texture x
-leaf_type (leaf.RayQuery f) = ray_query f
-leaf_type (leaf.AccelerationStructure f) = acceleration_structure f
+-- a name that isn't predeclared is no type by itself
+abbrev pub leaf_type : Leaf → Option WgslType
+leaf_type (leaf.Scalar s) = Some (scalar s)
+leaf_type (leaf.Sampler s) = Some (sampler s)
+leaf_type (leaf.Texture x) = Some (texture x)
+leaf_type (leaf.RayQuery f) = Some (ray_query f)
+leaf_type (leaf.AccelerationStructure f) = Some (acceleration_structure f)
+leaf_type (leaf.Named token) = None
 
 -- a type inside layers, the first innermost
 abbrev pub wrapped : WgslType → List Around → WgslType
@@ -80,4 +87,12 @@ wrapped t (layer ∷ layers) = wrapped (around layer t) layers
 
 -- the type of a chain
 abbrev pub type_of : Chain → Option WgslType
-type_of c = map_value (λ l. wrapped (leaf_type l) c.layers) c.leaf
+type_of c = map_value (λ t. wrapped t c.layers) (then c.leaf leaf_type)
+
+abbrev pub leaf_name : Option Leaf → Option Token
+leaf_name (Some (leaf.Named token)) = Some token
+leaf_name other = None
+
+-- the name at its leaf, if that isn't predeclared
+abbrev pub name_of : Chain → Option Token
+name_of c = leaf_name c.leaf

@@ -18,7 +18,7 @@ use Rattle.wgsl_spelling.specs.Calls.{argued, called_item, member, opened}
 use Rattle.wgsl_spelling.specs.Chains.{Chain, begin, push, type_of, with_type}
 use Rattle.wgsl_spelling.specs.Items.{is_value, item}
 use Rattle.wgsl_spelling.specs.Templates.{bitcast, last_list, listed_in}
-use Rattle.wgsl_spelling.specs.Values.{binary, literal, unary}
+use Rattle.wgsl_spelling.specs.Values.{binary, count, literal, unary}
 use Rattle.wgsl_spelling.specs.Words.{word}
 use Rattle.wgsl_spelling.specs.declared.item.Item.{Item}
 use Rattle.wgsl_spelling.specs.declared.item.Value.TheVariants as v
@@ -122,20 +122,28 @@ abbrev pub behind : List ℕ → List Token → State → List Event → Option 
 behind text tokens s [] = Some s
 behind text tokens s (e ∷ es) = then (step text tokens s e) (λ next. behind text tokens next es)
 
--- the type of the only item
-abbrev pub type_in : List ℕ → Chain → List Item → Option WgslType
-type_in text c (i ∷ []) = then (with_type text i c) type_of
-type_in text c other = None
+abbrev pub only : List Item → Option Item
+only (i ∷ []) = Some i
+only other = None
 
-abbrev pub end : List ℕ → State → Option WgslType
-end text s = type_in text s.chain s.items
+-- the chain of the only item
+abbrev pub end : List ℕ → State → Option Chain
+end text s = then (only s.items) (λ i. with_type text i s.chain)
 
 abbrev pub nothing : State
 nothing = state [] (record { leaf = None; layers = [] })
 
+-- the type in parts that events say; its leaf may be a name that isn't predeclared
+abbrev pub chain_of_events : List ℕ → List Token → List Event → Option Chain
+chain_of_events text tokens events = then (behind text tokens nothing events) (end text)
+
 -- the type that events say
 abbrev pub type_of_events : List ℕ → List Token → List Event → Option WgslType
-type_of_events text tokens events = then (behind text tokens nothing events) (end text)
+type_of_events text tokens events = then (chain_of_events text tokens events) type_of
+
+-- the number, at least 0, that events say
+abbrev pub count_of_events : List ℕ → List Token → List Event → Option ℕ
+count_of_events text tokens events = then (behind text tokens nothing events) (λ s. then (only s.items) count)
 
 abbrev pub type_of_outcome : List ℕ → List Token → Outcome → Option WgslType
 type_of_outcome text tokens (Ok events) = type_of_events text tokens events

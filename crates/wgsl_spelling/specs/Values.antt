@@ -1,5 +1,6 @@
 -- The values of literals and operators in counts, and the counts themselves.
-use Rattle.std.specs.Prelude.{ℕ, pos, negsuc, List, Bool, true, false, cond, not, ◌&&◌, ◌||◌, Option, Some, None}
+use Rattle.std.specs.Prelude.{ℕ, pos, negsuc, ◌-ℤ◌, List, Bool, true, false, cond, not, ◌&&◌, ◌||◌, Option, Some, None}
+use Rattle.std.specs.Int.{w64, saturate_signed}
 use Rattle.std.specs.Ordering.{is_eq, is_ge, is_gt, is_le, is_lt, is_ne}
 use Rattle.std.specs.declared.cmp.Ordering.{Ordering}
 use Rattle.wgsl_reader.specs.declared.kind.Kind.{Kind}
@@ -51,11 +52,17 @@ literal text t = literal_by (bool_of t.kind) (word text t)
 
 -- Operators
 
+-- the operator that an item is, or the end
+abbrev pub sign_in : Value → Kind
+sign_in (v.Sign kind) = kind
+sign_in other = k.End
+
 -- `-4`, `~4`, `!true`
-abbrev pub unary_value : Value → Constant → Option Constant
-unary_value (v.Sign k.Minus) (c.Integer a) = map_value c.Integer (negative a)
-unary_value (v.Sign k.Tilde) (c.Integer a) = Some (c.Integer (complement_of a))
-unary_value (v.Sign k.Bang) (c.Bool b) = Some (c.Bool (not b))
+abbrev pub unary_value : Kind → Constant → Option Constant
+unary_value k.Minus (c.Integer a) = map_value c.Integer (negative a)
+unary_value k.Minus (c.Float a) = Some (c.Float (saturate_signed w64 (pos 0 -ℤ a)))
+unary_value k.Tilde (c.Integer a) = Some (c.Integer (complement_of a))
+unary_value k.Bang (c.Bool b) = Some (c.Bool (not b))
 unary_value other a = None
 
 abbrev pub operator_of : Kind → Option IntegerOperator
@@ -110,22 +117,18 @@ of_bools k.EqualEqual a b = Some (cond a b (not b))
 of_bools k.NotEqual a b = Some (cond a (not b) b)
 of_bools other a b = None
 
-abbrev pub of_constants : Kind → Constant → Constant → Option Constant
-of_constants kind (c.Integer a) (c.Integer b) = of_integers (comparison_of kind) kind a b
-of_constants kind (c.Bool a) (c.Bool b) = map_value c.Bool (of_bools kind a b)
-of_constants kind a b = None
-
-abbrev pub binary_value : Value → Constant → Constant → Option Constant
-binary_value (v.Sign kind) a b = of_constants kind a b
-binary_value other a b = None
+abbrev pub binary_value : Kind → Constant → Constant → Option Constant
+binary_value kind (c.Integer a) (c.Integer b) = of_integers (comparison_of kind) kind a b
+binary_value kind (c.Bool a) (c.Bool b) = map_value c.Bool (of_bools kind a b)
+binary_value kind a b = None
 
 -- the item of a value, which begins with this one
 abbrev pub valued : Item → Constant → Item
 valued first x = item first.token (v.Constant x)
 
 abbrev pub unary : Item → Item → Option Item
-unary operator operand = then (constant operand) (λ a. map_value (valued operator) (unary_value operator.value a))
+unary operator operand = then (constant operand) (λ a. map_value (valued operator) (unary_value (sign_in operator.value) a))
 
 abbrev pub binary : Item → Item → Item → Option Item
 binary left operator right =
-    then (constant left) (λ a. then (constant right) (λ b. map_value (valued left) (binary_value operator.value a b)))
+    then (constant left) (λ a. then (constant right) (λ b. map_value (valued left) (binary_value (sign_in operator.value) a b)))

@@ -83,9 +83,7 @@ fn called_value(callee: Callee, given: Arguments) -> Result<Value, CallError>
 {
     match callee {
         Callee::Vector(size) => Ok(Value::Vector(Vector::of(size, given)?)),
-        Callee::Function(function) => {
-            Ok(Value::Constant(Constant::Integer(function.apply(given)?)))
-        }
+        Callee::Function(function) => Ok(Value::Constant(function.apply(given)?)),
     }
 }
 

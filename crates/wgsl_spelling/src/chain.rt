@@ -1,7 +1,8 @@
 // A type in parts: a leaf, and what stands around it.
 ghost use Rattle.std.specs.Prelude.{◌≡◌, IfOk, option_map};
 ghost use Rattle.wgsl_core.specs.View.{view};
-ghost use Rattle.wgsl_spelling.specs.Chains.{begin, leaf_type, plain, push, push_if_any, type_of, with_name, with_type, wrapped};
+ghost use Rattle.wgsl_constants.specs.Literals.{then};
+ghost use Rattle.wgsl_spelling.specs.Chains.{begin, leaf_type, name_of, plain, push, push_if_any, type_of, with_name, with_type, wrapped};
 ghost use Rattle.wgsl_spelling.specs.Seen.{Becomes, chain_of};
 ghost use Rattle.wgsl_spelling.specs.Spelled.{nothing};
 
@@ -26,6 +27,8 @@ pub enum Leaf {
     Texture(TextureType),
     RayQuery(Option<AccelerationStructureFlags>),
     AccelerationStructure(Option<AccelerationStructureFlags>),
+    /// A name that WGSL doesn't predeclare.
+    Named(Token),
 }
 
 /// The type that is read so far: a leaf, or None if no type is read; and what stands around it, the innermost first.
@@ -77,18 +80,18 @@ impl Chain {
     {
         match item.value {
             Value::Type => Ok(()),
-            Value::Name => self.read_name(predeclared(word(text, item.token)), item.token),
+            Value::Name => match predeclared(word(text, item.token)) {
+                Some(named) => self.read_name(named, item.token),
+                None => self.begin(Leaf::Named(item.token), item.token),
+            },
             _ => Err(stop_at(item.token.at, Cause::Expected(Expected::Type))),
         }
     }
 
-    /// Reads the type of a name without a template list.
-    fn read_name(&mut self, named: Option<PredeclaredType>, token: Token) -> Result<(), Stop>
+    /// Reads the type of a predeclared name without a template list.
+    fn read_name(&mut self, named: PredeclaredType, token: Token) -> Result<(), Stop>
         ensures { Becomes (with_name (chain_of self.old) named) (chain_of self.new) result }
     {
-        let Some(named) = named else {
-            return Err(stop_at(token.at, Cause::UnknownType));
-        };
         let Some((leaf, layer)) = plain(named) else {
             return Err(stop_at(token.at, Cause::NoList));
         };
@@ -105,14 +108,36 @@ impl Chain {
         }
     }
 
+    /// The name at its leaf, if WGSL doesn't predeclare it.
+    pub fn name(&self) -> Option<Token>
+        ensures { result ≡ name_of (chain_of self.now) }
+    {
+        match self.leaf {
+            Some(Leaf::Named(token)) => Some(token),
+            _ => None,
+        }
+    }
+
     /// The type.
     pub fn ty(&self, alloc: Global) -> Result<Option<Type>, AllocError>
         ensures { IfOk result (λ found. option_map view found ≡ type_of (chain_of self.now)) }
     {
-        let Some(leaf) = self.leaf else {
-            return Ok(None);
-        };
-        Ok(Some(wrap(alloc, leaf_type(leaf), &self.layers)?))
+        match leaf_of(self.leaf) {
+            Some(innermost) => Ok(Some(self.wrap(alloc, innermost)?)),
+            None => Ok(None),
+        }
+    }
+
+    /// Puts the layers around a type.
+    pub fn wrap(&self, alloc: Global, innermost: Type) -> Result<Type, AllocError>
+        ensures { IfOk result (λ ty. view ty ≡ wrapped (view innermost) (chain_of self.now).layers) }
+    {
+        let mut ty = innermost;
+        for layer in &self.layers {
+            let inner = Box::new(alloc, ty)?;
+            ty = Type::around(*layer, inner);
+        }
+        Ok(ty)
     }
 }
 
@@ -139,26 +164,16 @@ fn plain(named: PredeclaredType) -> Option<(Leaf, Option<Around>)>
     }
 }
 
-fn leaf_type(leaf: Leaf) -> Type
-    ensures { view result ≡ leaf_type leaf }
+/// The type that a leaf is, if its name is predeclared.
+fn leaf_of(leaf: Option<Leaf>) -> Option<Type>
+    ensures { option_map view result ≡ then leaf leaf_type }
 {
-    match leaf {
-        Leaf::Scalar(scalar) => Type::from(scalar),
-        Leaf::Sampler(sampler) => Type::Sampler(sampler),
-        Leaf::Texture(texture) => Type::Texture(texture),
-        Leaf::RayQuery(flag) => Type::RayQuery(flag),
-        Leaf::AccelerationStructure(flag) => Type::AccelerationStructure(flag),
+    match leaf? {
+        Leaf::Scalar(scalar) => Some(Type::from(scalar)),
+        Leaf::Sampler(sampler) => Some(Type::Sampler(sampler)),
+        Leaf::Texture(texture) => Some(Type::Texture(texture)),
+        Leaf::RayQuery(flag) => Some(Type::RayQuery(flag)),
+        Leaf::AccelerationStructure(flag) => Some(Type::AccelerationStructure(flag)),
+        Leaf::Named(_) => None,
     }
-}
-
-/// Puts layers around a type, the first innermost.
-fn wrap(alloc: Global, innermost: Type, layers: &[Around]) -> Result<Type, AllocError>
-    ensures { IfOk result (λ ty. view ty ≡ wrapped (view innermost) layers.now) }
-{
-    let mut ty = innermost;
-    for layer in layers {
-        let inner = Box::new(alloc, ty)?;
-        ty = Type::around(*layer, inner);
-    }
-    Ok(ty)
 }

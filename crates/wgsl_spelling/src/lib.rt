@@ -10,13 +10,14 @@
 //!   formats, and its names `push_constant` and `rg11b10float`;
 //! - any type inside a vector, a matrix, an array and so on: `vec3<sampler>`. Requests ask about such types.
 //!
-//! What of WGSL isn't read: names that a module declares, structs, and in counts floats, and calls other than those of `u32`,
-//! `i32`, `bitcast`, `abs`, `sign`, `min`, `max`, `clamp`, `select`, `countOneBits`, `firstLeadingBit`, and of `vec2`, `vec3` and
-//! `vec4` for a component of integers.
+//! What of WGSL isn't read: names that a module declares, but for one at the leaf of a type, which is left to the caller
+//! (`spelled::chain_of_events`); and in counts literals of floats, and calls other than those of `u32`, `i32`, `f32`, `f16`,
+//! `bitcast`, `abs`, `sign`, `min`, `max`, `clamp`, `select`, `countLeadingZeros`, `countOneBits`, `countTrailingZeros`,
+//! `firstLeadingBit`, `firstTrailingBit`, `reverseBits`, and of `vec2`, `vec3` and `vec4` for a component of integers.
 #![tactic(auto)]
 
 mod call;
-mod chain;
+pub mod chain;
 pub mod fault;
 mod item;
 pub mod laws;
@@ -24,5 +25,5 @@ mod list;
 pub mod meant;
 pub mod predeclared;
 pub mod spelled;
-mod value;
+pub mod value;
 pub mod word;

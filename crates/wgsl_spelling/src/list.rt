@@ -179,7 +179,10 @@ pub fn bitcast(text: &str, list: TemplateList) -> Result<Function, Stop>
     };
     match bitcast_named(name(text, to)) {
         Some(function) => Ok(function),
-        None => Err(stop_at(list.name.token.at, Cause::NotInteger)),
+        None if predeclared(name(text, to)).is_some() => {
+            Err(stop_at(list.name.token.at, Cause::NotInteger))
+        }
+        None => Err(stop_at(to.token.at, Cause::UnknownType)),
     }
 }
 

@@ -1,9 +1,11 @@
 // The type that a text spells.
 ghost use Rattle.std.specs.Prelude.{◌≡◌, IfOk, Some};
 ghost use Rattle.wgsl_core.specs.View.{view};
-ghost use Rattle.wgsl_spelling.specs.Seen.{Becomes, Gives, Takes, chain_of, state_of, type_found};
-ghost use Rattle.wgsl_spelling.specs.Spelled.{Spells, TokensSpell, closed, end, no_token, step, token_before, type_of_events, with_argument, with_binary, with_brackets, with_call, with_item, with_listed, with_member, with_open, with_unary};
+ghost use Rattle.wgsl_spelling.specs.Seen.{Becomes, Gives, IsFault, Takes, chain_of, state_of, type_found};
+ghost use Rattle.wgsl_spelling.specs.Spelled.{Spells, TokensSpell, behind, chain_of_events, closed, count_of_events, end, no_token, nothing, only, step, token_before, type_of_events, with_argument, with_binary, with_brackets, with_call, with_item, with_listed, with_member, with_open, with_unary};
+ghost use Rattle.wgsl_constants.specs.Literals.{then};
 ghost use Rattle.wgsl_spelling.specs.Items.{item};
+ghost use Rattle.wgsl_spelling.specs.Values.{count};
 ghost use Rattle.wgsl_spelling.specs.Words.{word};
 
 use crate::call::{argued, called, member, opened};
@@ -11,7 +13,7 @@ use crate::chain::Chain;
 use crate::fault::{Cause, Expected, Fault, Stop, stop_at};
 use crate::item::{Item, Value};
 use crate::list::{Listed, bitcast, meaning_of, pop_list};
-use crate::value::{binary, in_brackets, literal, unary};
+use crate::value::{binary, count, in_brackets, literal, unary};
 use crate::word::word;
 use std::alloc::{AllocError, Global};
 use wgsl_core::ty::Type;
@@ -62,6 +64,59 @@ pub fn type_of_events(
 ) -> Result<Type, Stop>
     ensures { Gives view (type_of_events text.now tokens.now events.now) result }
 {
+    let chain = chain_of_events(alloc, text, tokens, events)?;
+    let found = chain.ty(alloc);
+    let fault = unnamed(chain.name());
+    drop(chain);
+    match found? {
+        Some(ty) => Ok(ty),
+        None => Err(fault),
+    }
+}
+
+/// The fault of a chain that is no type.
+fn unnamed(name: Option<Token>) -> Stop
+    ensures { IsFault result }
+{
+    match name {
+        Some(token) => stop_at(token.at, Cause::UnknownType),
+        None => stop_at(0, Cause::Expected(Expected::Type)),
+    }
+}
+
+/// The type in parts that events of a text say, or why they say none. Its leaf may be a name that isn't predeclared.
+pub fn chain_of_events(
+    alloc: Global,
+    text: &str,
+    tokens: &[Token],
+    events: &[Event],
+) -> Result<Chain, Stop>
+    ensures { Gives chain_of (chain_of_events text.now tokens.now events.now) result }
+{
+    read_events(alloc, text, tokens, events)?.end(text)
+}
+
+/// The number, at least 0, that events of a text say, or why they say none.
+pub fn count_of_events(
+    alloc: Global,
+    text: &str,
+    tokens: &[Token],
+    events: &[Event],
+) -> Result<usize, Stop>
+    ensures { Gives (λ n. n) (count_of_events text.now tokens.now events.now) result }
+{
+    read_events(alloc, text, tokens, events)?.count()
+}
+
+/// What is read of events.
+fn read_events(
+    alloc: Global,
+    text: &str,
+    tokens: &[Token],
+    events: &[Event],
+) -> Result<Reading, Stop>
+    ensures { Gives state_of (behind text.now tokens.now nothing events.now) result }
+{
     let mut reading = Reading {
         items: Vec::new(alloc),
         chain: Chain::none(alloc),
@@ -69,7 +124,7 @@ pub fn type_of_events(
     for event in events {
         reading.step(text, tokens, *event)?;
     }
-    reading.end(alloc, text)
+    Ok(reading)
 }
 
 /// What is read so far.
@@ -203,19 +258,34 @@ impl Reading {
         self.push(found.token, found.value)
     }
 
-    /// The type of the only item.
-    fn end(&mut self, alloc: Global, text: &str) -> Result<Type, Stop>
-        ensures { Gives view (end text.now (state_of self.old)) result }
+    /// Takes the only item.
+    fn pop_only(&mut self) -> Result<Item, Stop>
+        ensures only { Gives (λ i. i) (only (state_of self.old).items) result }
+        ensures chain { (state_of self.new).chain ≡ (state_of self.old).chain }
     {
         let item = self.pop(no_token())?;
-        if self.items.pop().is_some() {
-            return Err(stop_at(item.token.at, Cause::Misread));
+        match self.items.pop() {
+            Some(_) => Err(stop_at(item.token.at, Cause::Misread)),
+            None => Ok(item),
         }
-        self.chain.read(text, item)?;
-        match self.chain.ty(alloc)? {
-            Some(ty) => Ok(ty),
-            None => Err(stop_at(item.token.at, Cause::Expected(Expected::Type))),
-        }
+    }
+
+    /// The type in parts of the only item.
+    fn end(self, text: &str) -> Result<Chain, Stop>
+        ensures { Gives chain_of (end text.now (state_of self)) result }
+    {
+        let mut reading = self;
+        let item = reading.pop_only()?;
+        reading.chain.read(text, item)?;
+        Ok(reading.chain)
+    }
+
+    /// The number that the only item is.
+    fn count(self) -> Result<usize, Stop>
+        ensures { Gives (λ n. n) (then (only (state_of self).items) count) result }
+    {
+        let mut reading = self;
+        count(reading.pop_only()?)
     }
 }
 

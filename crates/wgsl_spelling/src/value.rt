@@ -4,14 +4,15 @@ ghost use Rattle.wgsl_constants.specs.Literals.{found};
 ghost use Rattle.wgsl_constants.specs.Values.{negative, value};
 ghost use Rattle.wgsl_spelling.specs.Items.{constant, integer, is_value};
 ghost use Rattle.wgsl_spelling.specs.Seen.{Gives, IsFault};
-ghost use Rattle.wgsl_spelling.specs.Values.{binary, binary_value, bool_of, compared, comparison_of, count, count_of, holds, literal, of_bools, of_constants, operator_of, sign_value, unary, unary_value, valued};
+ghost use Rattle.wgsl_spelling.specs.Values.{binary, binary_value, bool_of, compared, comparison_of, count, count_of, holds, literal, of_bools, operator_of, sign_in, sign_value, unary, unary_value, valued};
 
 use crate::fault::{Cause, Expected, Stop, stop_at};
 use crate::item::{Item, Value};
 use crate::word::word;
 use std::cmp::Ordering;
+use wgsl_constants::call::CallError;
 use wgsl_constants::constant::Constant;
-use wgsl_constants::integer::{Integer, IntegerError, IntegerOperator};
+use wgsl_constants::integer::{Integer, IntegerOperator};
 use wgsl_constants::literal::{LiteralError, integer_of};
 use wgsl_constants::operator::{apply, compare, complement, negative, shift_left, shift_right};
 use wgsl_reader::kind::Kind;
@@ -113,66 +114,70 @@ fn count_of(integer: Integer) -> Option<usize>
     }
 }
 
+/// The operator that an item is; the end if it is none.
+fn sign_in(value: Value) -> Kind
+    ensures { result ≡ sign_in value }
+{
+    match value {
+        Value::Sign(kind) => kind,
+        _ => Kind::End,
+    }
+}
+
 /// `-4`, `~4`, `!true`
 pub fn unary(operator: Item, operand: Item) -> Result<Item, Stop>
     ensures { Gives (λ i. i) (unary operator operand) result }
 {
-    match unary_value(operator.value, constant(operand)?) {
+    match unary_value(sign_in(operator.value), constant(operand)?) {
         Ok(constant) => Ok(valued(operator, constant)),
-        Err(cause) => Err(stop_at(operator.token.at, cause)),
+        Err(error) => Err(stop_at(operator.token.at, Cause::from(error))),
     }
 }
 
-fn unary_value(operator: Value, operand: Constant) -> Result<Constant, Cause>
-    ensures { found result ≡ unary_value operator operand }
+/// The value of `-`, `~` or `!` in front of a constant. It is `NotInteger` of another sign, and of a constant that it doesn't take.
+pub fn unary_value(sign: Kind, operand: Constant) -> Result<Constant, CallError>
+    ensures { found result ≡ unary_value sign operand }
 {
-    match (operator, operand) {
-        (Value::Sign(Kind::Minus), Constant::Integer(a)) => Ok(Constant::Integer(negated(a)?)),
-        (Value::Sign(Kind::Tilde), Constant::Integer(a)) => Ok(Constant::Integer(complement(a))),
-        (Value::Sign(Kind::Bang), Constant::Bool(test)) => Ok(Constant::Bool(!test)),
-        _ => Err(Cause::NotInteger),
+    match (sign, operand) {
+        (Kind::Minus, Constant::Integer(a)) => Ok(Constant::Integer(negated(a)?)),
+        (Kind::Minus, Constant::Float(whole)) => Ok(Constant::Float(0i64.saturating_sub(whole))),
+        (Kind::Tilde, Constant::Integer(a)) => Ok(Constant::Integer(complement(a))),
+        (Kind::Bang, Constant::Bool(test)) => Ok(Constant::Bool(!test)),
+        _ => Err(CallError::NotInteger),
     }
 }
 
 #[tactic(auto, using(wgsl_constants::proofs::Values::negative_is))]
-fn negated(a: Integer) -> Result<Integer, Cause>
+fn negated(a: Integer) -> Result<Integer, CallError>
     ensures { found result ≡ negative a }
 {
-    by_cause(negative(a))
+    Ok(negative(a)?)
 }
 
 /// `2 + 2`, `true && false`
 pub fn binary(left: Item, operator: Item, right: Item) -> Result<Item, Stop>
     ensures { Gives (λ i. i) (binary left operator right) result }
 {
-    match binary_value(operator.value, constant(left)?, constant(right)?) {
+    match binary_value(sign_in(operator.value), constant(left)?, constant(right)?) {
         Ok(constant) => Ok(valued(left, constant)),
-        Err(cause) => Err(stop_at(operator.token.at, cause)),
+        Err(error) => Err(stop_at(operator.token.at, Cause::from(error))),
     }
 }
 
-fn binary_value(operator: Value, a: Constant, b: Constant) -> Result<Constant, Cause>
-    ensures { found result ≡ binary_value operator a b }
-{
-    match operator {
-        Value::Sign(kind) => of_constants(kind, a, b),
-        _ => Err(Cause::NotInteger),
-    }
-}
-
-fn of_constants(kind: Kind, a: Constant, b: Constant) -> Result<Constant, Cause>
-    ensures { found result ≡ of_constants kind a b }
+/// The value of an operator between two constants. It is `NotInteger` of another sign, and of constants that it doesn't take.
+pub fn binary_value(sign: Kind, a: Constant, b: Constant) -> Result<Constant, CallError>
+    ensures { found result ≡ binary_value sign a b }
 {
     match (a, b) {
-        (Constant::Integer(a), Constant::Integer(b)) => match comparison_of(kind) {
+        (Constant::Integer(a), Constant::Integer(b)) => match comparison_of(sign) {
             Some(comparison) => compared(comparison, a, b),
-            None => Ok(Constant::Integer(sign_value(kind, a, b)?)),
+            None => Ok(Constant::Integer(sign_value(sign, a, b)?)),
         },
-        (Constant::Bool(a), Constant::Bool(b)) => match of_bools(kind, a, b) {
+        (Constant::Bool(a), Constant::Bool(b)) => match of_bools(sign, a, b) {
             Some(test) => Ok(Constant::Bool(test)),
-            None => Err(Cause::NotInteger),
+            None => Err(CallError::NotInteger),
         },
-        _ => Err(Cause::NotInteger),
+        _ => Err(CallError::NotInteger),
     }
 }
 
@@ -190,13 +195,10 @@ fn comparison_of(kind: Kind) -> Option<Comparison>
     }
 }
 
-fn compared(comparison: Comparison, a: Integer, b: Integer) -> Result<Constant, Cause>
+fn compared(comparison: Comparison, a: Integer, b: Integer) -> Result<Constant, CallError>
     ensures { found result ≡ compared comparison a b }
 {
-    match compare(a, b) {
-        Ok(ordering) => Ok(Constant::Bool(holds(comparison, ordering))),
-        Err(error) => Err(Cause::from(error)),
-    }
+    Ok(Constant::Bool(holds(comparison, compare(a, b)?)))
 }
 
 fn holds(comparison: Comparison, ordering: Ordering) -> bool
@@ -225,34 +227,24 @@ fn of_bools(kind: Kind, a: bool, b: bool) -> Option<bool>
 }
 
 #[tactic(auto, using(wgsl_constants::proofs::Values::left_shift_is, wgsl_constants::proofs::Values::right_shift_is))]
-fn sign_value(kind: Kind, a: Integer, b: Integer) -> Result<Integer, Cause>
+fn sign_value(kind: Kind, a: Integer, b: Integer) -> Result<Integer, CallError>
     ensures { found result ≡ sign_value kind a b }
 {
     match kind {
-        Kind::ShiftLeft => by_cause(shift_left(a, b)),
-        Kind::ShiftRight => by_cause(shift_right(a, b)),
+        Kind::ShiftLeft => Ok(shift_left(a, b)?),
+        Kind::ShiftRight => Ok(shift_right(a, b)?),
         _ => match operator_of(kind) {
             Some(operator) => applied(operator, a, b),
-            None => Err(Cause::NotInteger),
+            None => Err(CallError::NotInteger),
         },
     }
 }
 
 #[tactic(auto, using(wgsl_constants::proofs::Values::value_is))]
-fn applied(operator: IntegerOperator, a: Integer, b: Integer) -> Result<Integer, Cause>
+fn applied(operator: IntegerOperator, a: Integer, b: Integer) -> Result<Integer, CallError>
     ensures { found result ≡ value operator a b }
 {
-    by_cause(apply(operator, a, b))
-}
-
-/// The error of an operator as a cause.
-fn by_cause(value: Result<Integer, IntegerError>) -> Result<Integer, Cause>
-    ensures { found result ≡ found value }
-{
-    match value {
-        Ok(integer) => Ok(integer),
-        Err(error) => Err(Cause::from(error)),
-    }
+    Ok(apply(operator, a, b)?)
 }
 
 /// The item of a value that begins with the first item.

@@ -104,7 +104,8 @@ impl fmt::Display for AddressSpace {
     }
 }
 
-fn space_named(s: &str) -> Option<AddressSpace>
+/// The address space that naga calls so.
+pub fn space_named(s: &str) -> Option<AddressSpace>
     ensures { result ≡ named (table space_text spaces) s.now }
 {
     match s {
@@ -186,7 +187,8 @@ impl fmt::Display for AccessMode {
     }
 }
 
-fn access_named(s: &str) -> Option<AccessMode>
+/// The access mode of this name.
+pub fn access_named(s: &str) -> Option<AccessMode>
     ensures { result ≡ named (table access_text access_modes) s.now }
 {
     match s {

@@ -282,7 +282,8 @@ impl fmt::Display for AccelerationStructureFlags {
     }
 }
 
-fn flag_named(s: &str) -> Option<AccelerationStructureFlags>
+/// The flag of this name.
+pub fn flag_named(s: &str) -> Option<AccelerationStructureFlags>
     ensures { result ≡ named (table flag_text flags) s.now }
 {
     match s {

@@ -59,7 +59,8 @@ impl fmt::Display for UnaryOperator {
     }
 }
 
-fn unary_named(s: &str) -> Option<UnaryOperator>
+/// The unary operator that is written so.
+pub fn unary_named(s: &str) -> Option<UnaryOperator>
     ensures { result ≡ named (table unary_text unary_operators) s.now }
 {
     match s {
@@ -186,7 +187,8 @@ impl fmt::Display for BinaryOperator {
     }
 }
 
-fn binary_named(s: &str) -> Option<BinaryOperator>
+/// The binary operator that is written so.
+pub fn binary_named(s: &str) -> Option<BinaryOperator>
     ensures { result ≡ named (table binary_text binary_operators) s.now }
 {
     match s {

@@ -46,7 +46,8 @@ impl fmt::Display for Scalar {
     }
 }
 
-fn scalar_named(s: &str) -> Option<Scalar>
+/// The scalar of this name.
+pub fn scalar_named(s: &str) -> Option<Scalar>
     ensures { result ≡ named (table scalar_text scalars) s.now }
 {
     match s {

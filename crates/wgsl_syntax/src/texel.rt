@@ -282,7 +282,8 @@ impl fmt::Display for TexelFormat {
     }
 }
 
-fn texel_named(s: &str) -> Option<TexelFormat>
+/// The texel format that naga calls so.
+pub fn texel_named(s: &str) -> Option<TexelFormat>
     ensures { result ≡ named (table texel_text texel_formats) s.now }
 {
     match s {

@@ -50,7 +50,8 @@ impl fmt::Display for SampledType {
     }
 }
 
-fn sampled_named(s: &str) -> Option<SampledType>
+/// The sampled type of this name.
+pub fn sampled_named(s: &str) -> Option<SampledType>
     ensures { result ≡ named (table sampled_text sampled_types) s.now }
 {
     match s {
@@ -105,7 +106,8 @@ impl fmt::Display for SamplerType {
     }
 }
 
-fn sampler_named(s: &str) -> Option<SamplerType>
+/// The sampler type of this name.
+pub fn sampler_named(s: &str) -> Option<SamplerType>
     ensures { result ≡ named (table sampler_text samplers) s.now }
 {
     match s {

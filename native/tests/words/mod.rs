@@ -6,7 +6,6 @@ mod parameters;
 
 use std::iter::Peekable;
 use std::str::{FromStr, SplitTerminator};
-use wgsl_types_proved::standard::Operand;
 use wgsl_types_proved::syntax::{AccessMode, AddressSpace, RuleSet};
 use wgsl_types_proved::ty::{StructMemberType, StructType};
 use wgsl_types_proved::Type;
@@ -55,47 +54,19 @@ impl<'a> Words<'a> {
         Some(named)
     }
 
-    pub fn operand(&mut self) -> Operand {
-        let says_const = self.take("const");
-        let ty = self.ty();
-        if says_const {
-            Operand::constant(ty)
-        } else {
-            Operand::new(ty)
-        }
-    }
-
-    /// The operands up to the end, or up to a `>`, which is consumed too.
-    pub fn operands(&mut self) -> Vec<Operand> {
-        let mut operands = Vec::new();
-        while !self.is_empty() && !self.take(">") {
-            operands.push(self.operand());
-        }
-        operands
-    }
-
     pub fn types(&mut self) -> Vec<Type> {
-        self.operands().into_iter().map(|operand| operand.ty).collect()
+        let mut types = Vec::new();
+        while !self.is_empty() {
+            types.push(self.ty());
+        }
+        types
     }
 
     /// An address space, by WGSL's name or by naga's.
-    pub fn space(&mut self) -> Option<AddressSpace> {
+    fn space(&mut self) -> Option<AddressSpace> {
         let space = AddressSpace::named_by(RuleSet::Standard, self.0.peek()?)?;
         self.next();
         Some(space)
-    }
-
-    /// An access mode; `atomic` begins a type.
-    pub fn access(&mut self) -> Option<AccessMode> {
-        match self.0.peek()? {
-            &"atomic" => None,
-            _ => self.name(),
-        }
-    }
-
-    /// The type after a colon, if there is one.
-    pub fn declared(&mut self) -> Option<Type> {
-        self.take(":").then(|| self.ty())
     }
 
     pub fn ty(&mut self) -> Type {

@@ -9,6 +9,6 @@ returns c =
       too_long = c.reply_to.ensures.too_long;
       forbidden = c.reply_to.ensures.forbidden;
       no_text = c.reply_to.ensures.no_text;
-      no_words = c.reply_to.ensures.no_words;
+      blank = c.reply_to.ensures.blank;
     })
     c.hand_over.ensures

@@ -1,11 +1,11 @@
-use Rattle.std.proofs.Common.{ap, map, ◌∙◌}
+use Rattle.std.proofs.Common.{ap, map, sym, ◌∙◌}
 use Rattle.std.specs.Prelude.{option_map}
 use Rattle.wgsl_rules.specs.operators.Answers.{IsUnaryAnswer}
 use Rattle.wgsl_rules.specs.constructors.Constructors.{IsConstructorAnswer}
 use Rattle.wgsl_rules.specs.calls.Answers.{IsCallAnswer}
 use Rattle.wgsl_core.specs.View.{struct_view, view}
 use Rattle.wgsl_requests.specs.Requests.{unary, ctor, call}
-use Rattle.wgsl_requests.specs.Answers.{a_type, a_value, rank_is, unary_is, binary_is, size_is, offsets_are, layout_is, ctor_is, call_is, type_of_is, resolution_of_is, explanation_of_is, overloads_of_are, form_is, fit_is}
+use Rattle.wgsl_requests.specs.Answers.{a_type, a_value, rank_is, unary_is, binary_is, size_is, offsets_are, layout_is, ctor_is, call_is, type_of_is, resolution_of_is, explanation_of_is, unknown_is, overloads_of_are, form_is, fit_is}
 use Rattle.wgsl_calls.specs.Calls.{signature_of}
 use Rattle.wgsl_forms.specs.Lists.{list_fits}
 use Rattle.wgsl_requests.proofs.Noted.{same_types}
@@ -59,8 +59,13 @@ returns-in_ok-resolution_of-in-Resolution c = rw c.in-Resolution.is (resolution_
 pub returns-in_ok-signatures_named-in-Overloads : goal.returns-in_ok-signatures_named-in-Overloads
 returns-in_ok-signatures_named-in-Overloads c = rw c.in-Overloads.is (overloads_of_are _ c.in_ok-signatures_named-in-Overloads.ensures)
 
-pub returns-in_ok-notes_on-in-Explanation : goal.returns-in_ok-notes_on-in-Explanation
-returns-in_ok-notes_on-in-Explanation c = rw c.in-Explanation.is (explanation_of_is _ c.in_ok-notes_on-in-Explanation.ensures)
+pub returns-in-Some : goal.returns-in-Some
+returns-in-Some c = rw c.in-Explanation.is (unknown_is _ (sym c.unknown_name.ensures ∙ ap (option_map (λ name. name.now)) c.in-Some.is))
+
+pub returns-in_ok-notes_on-in-None : goal.returns-in_ok-notes_on-in-None
+returns-in_ok-notes_on-in-None c =
+    let known = sym c.unknown_name.ensures ∙ ap (option_map (λ name. name.now)) c.in-None.is in
+    rw c.in-Explanation.is (explanation_of_is _ known c.in_ok-notes_on-in-None.ensures)
 
 pub returns-in-Form : goal.returns-in-Form
 returns-in-Form c = rw c.in-Form.is (form_is _ c.type_of_form.ensures)

@@ -1,10 +1,13 @@
-use Rattle.std.proofs.Common.{length}
-use Rattle.wgsl_source.specs.Members.{Grows, IsDraft}
+use Rattle.std.proofs.Common.{◌≡◌, List, [], ◌++◌, length}
+use Rattle.wgsl_source.specs.TextStructs.{AreMembers}
+use Rattle.wgsl_source.specs.Members.{Grows, IsDraft, members_of}
+use Rattle.wgsl_source.specs.declared.structure.Member.{Member}
 use Rattle.wgsl_source.proofs.scope.Scope.read_members.Given as goal
 
 abbrev pub invariant-loop-split : goal.invariant-loop-split
 invariant-loop-split l = record {
   grows : Grows l.fn.types l.types;
+  declared : (more : List Member) → AreMembers l.self.text l.rest more → l.fn.draft.members.items ≡ [] → AreMembers l.self.text l.fn.events (members_of l.draft.members.items ++ more);
   draft : IsDraft l.fn.types.elements.items l.fn.draft → IsDraft l.types.elements.items l.draft;
 }
 

@@ -1,0 +1,9 @@
+use Rattle.std.proofs.Common.{◌≡◌, map, take}
+use Rattle.wgsl_requests.specs.StandardViews.{written_view}
+use Rattle.wgsl_expressions.specs.Outcomes.{operand_by}
+use Rattle.wgsl_expressions.specs.Views.{head_view, typed_view}
+use Rattle.wgsl_expressions.proofs.ask.operands_by.Given as goal
+
+-- an operand for each part so far
+abbrev pub invariant-loop-part : goal.invariant-loop-part
+invariant-loop-part l = map written_view l.operands.items ≡ map (operand_by (head_view l.head)) (map typed_view (take l.part-index l.parts))

@@ -1,0 +1,29 @@
+use Rattle.std.proofs.Common.{◌≡◌, ◌∙◌, ℕ, [], List, Result, ap, arith, length, subst}
+use Rattle.std.proofs.lemmas.Grind.{common_steps}
+use Rattle.std.proofs.lemmas.List.{take_at}
+use Rattle.wgsl_core.specs.declared.error.Fail.{Fail}
+use Rattle.wgsl_reader.specs.declared.rule.Rule.TheVariants.{Request}
+use Rattle.wgsl_reader.specs.declared.token.Token.{Token}
+use Rattle.wgsl_reader.specs.declared.kind.Kind.TheVariants.{End}
+use Rattle.wgsl_expressions.specs.RequestTokens.{asked_behind}
+use Rattle.wgsl_expressions.specs.Scopes.{Scope}
+use Rattle.wgsl_expressions.specs.Typing.{TokensAre}
+use Rattle.wgsl_expressions.specs.Views.{Finds}
+use Rattle.wgsl_expressions.specs.declared.item.Item.{Item}
+use Rattle.wgsl_expressions.specs.declared.misread.Misread.{Misread}
+use Rattle.wgsl_expressions.proofs.AskedTokens.{as_many}
+use Rattle.wgsl_expressions.proofs.expression.item_of_some.Goals as goal
+
+-- without names, of the tokens as they are asked
+asked : (scope : Scope) (tokens as_asked : List Token) (line : List ℕ) (r : Result Item (Fail Misread)) → scope ≡ [] → tokens ≡ as_asked →
+    Finds (TokensAre scope Request line tokens) r → Finds (TokensAre [] Request line as_asked) r
+asked scope tokens as_asked line r none same h =
+    subst (λ tokens. Finds (TokensAre [] Request line tokens) r) same (subst (λ scope. Finds (TokensAre scope Request line tokens) r) none h)
+
+pub returns : goal.returns
+returns c =
+    let changed : c.as_asked.new.tokens ≡ asked_behind c.args.line.now End c.args.tokens.items =
+    c.as_asked.ensures ∙ ap (asked_behind c.args.line.now End) c.deref_mut.ensures.value in
+    let many : length c.as_asked.new.tokens ≡ c.args.tokens.len =
+    grind (arith, common_steps, ap length changed, as_many c.args.line.now End c.args.tokens.items, c.args.tokens.ok) in
+    asked _ _ _ c.args.line.now _ c.empty-scope.ensures (c.deref.ensures.value ∙ (take_at _ _ _ many ∙ changed)) c.item_of_tokens-item.ensures

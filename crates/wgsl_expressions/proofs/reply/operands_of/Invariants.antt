@@ -1,0 +1,9 @@
+use Rattle.std.proofs.Common.{◌≡◌, map, take}
+use Rattle.wgsl_requests.specs.StandardViews.{written_view}
+use Rattle.wgsl_expressions.specs.Outcomes.{operand}
+use Rattle.wgsl_expressions.specs.Views.{typed_view}
+use Rattle.wgsl_expressions.proofs.reply.operands_of.Given as goal
+
+-- an operand for each value so far
+abbrev pub invariant-loop-value : goal.invariant-loop-value
+invariant-loop-value l = map written_view l.operands.items ≡ map operand (map typed_view (take l.value-index l.values))

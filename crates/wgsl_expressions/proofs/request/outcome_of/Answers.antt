@@ -1,4 +1,0 @@
-use Rattle.wgsl_expressions.proofs.request.outcome_of.Goals as goal
-
-pub returns-in-Err : goal.returns-in-Err
-returns-in-Err c = absurd (c.in-Err.ensures.cases.0 c.requires)

@@ -1,0 +1,12 @@
+use Rattle.std.proofs.Common.{◌≡◌, ◌<◌, length, sym, arith, rules}
+use Rattle.std.proofs.lemmas.Grind.{common_steps}
+use Rattle.wgsl_expressions.proofs.AskedTokens.{asked_next}
+use Rattle.wgsl_expressions.proofs.request_token.as_asked.Goals as goal
+
+pub loop-at-preserved : goal.loop-at-preserved
+loop-at-preserved c =
+    let inside : c.loop-at.at < length c.loop-at.tokens = search rules in (
+      grind (arith, common_steps, inside),
+      asked_next c.args.text.now c.loop-at.before _ c.loop-at.tokens _ c.loop-at.at c.asked_kind-kind.result inside
+          (rw (sym c.next_kind.ensures) c.asked_kind-kind.ensures) c.loop-at.invariant.1,
+    )

@@ -1,0 +1,78 @@
+// Why a line in WGSL can't be read, as a message.
+use std::alloc::AllocError;
+use wgsl_standard::callee::{Callee, overloads};
+use wgsl_standard::meant::meant_type;
+
+/// Why a line can't be read.
+#[derive(Clone, Copy)]
+pub enum Why {
+    TooLong,
+    NotUtf8,
+    /// The index of the byte from which a request is none, and why.
+    Misread(usize, &'static str),
+    /// The index of the byte from which an expression has no operand.
+    Operand(usize),
+}
+
+/// How many bytes of a token are written.
+const SHOWN: usize = 40;
+
+/// Writes why a line can't be read.
+pub fn write_why(request: &[u8], why: Why, text: &mut String) -> Result<(), AllocError> {
+    match why {
+        Why::TooLong => text.push_str("more than 4096 bytes"),
+        Why::NotUtf8 => text.push_str("not UTF-8"),
+        Why::Misread(at, reason) => {
+            let column = at.saturating_add(1);
+            write!(text, "column {column}: {reason}")
+        }
+        Why::Operand(at) => write_no_operand(request, at, text),
+    }
+}
+
+/// Writes that no operand begins at that byte, and what the name there may mean.
+fn write_no_operand(request: &[u8], at: usize, text: &mut String) -> Result<(), AllocError> {
+    let column = at.saturating_add(1);
+    write!(text, "column {column}: ")?;
+    match token_at(request, at) {
+        Some(token) => {
+            write_token(token, text)?;
+            write_no_type(token, text)
+        }
+        None => text.push_str("expected an operand"),
+    }
+}
+
+fn write_no_type(token: &str, text: &mut String) -> Result<(), AllocError> {
+    if token.starts_with(|first: char| !first.is_ascii_alphabetic()) {
+        return text.push_str(" is no literal");
+    }
+    if overloads(Callee::Constructor(token), false).is_some() {
+        return write!(text, " needs its component: `{token}f`");
+    }
+    match meant_type(token) {
+        Some(name) => write!(text, " is no type; did you mean `{name}`?"),
+        None => text.push_str(" is no type: write types for names, as `f32 + 1`"),
+    }
+}
+
+/// The name or the number that begins at that byte, if one does.
+fn token_at(request: &[u8], at: usize) -> Option<&str> {
+    let rest = std::str::from_utf8(request.get(at..)?).ok()?;
+    let is_number = rest.starts_with(|first: char| !first.is_ascii_alphabetic());
+    let goes_on = |byte: &u8| byte.is_ascii_alphanumeric()
+        || *byte == b'_'
+        || is_number && *byte == b'.';
+    match rest.bytes().take_while(goes_on).count() {
+        0 => None,
+        length => rest.get(..length),
+    }
+}
+
+/// Writes a token between backticks: its first bytes, and `..` if there are more.
+fn write_token(token: &str, text: &mut String) -> Result<(), AllocError> {
+    match token.get(..SHOWN) {
+        Some(shown) if token.len() > SHOWN => write!(text, "`{shown}..`"),
+        _ => write!(text, "`{token}`"),
+    }
+}

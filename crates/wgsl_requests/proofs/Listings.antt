@@ -1,0 +1,89 @@
+-- Lists as they are written, over values and over what these are seen as.
+use Rattle.std.proofs.Common.{◌≡◌, ◌∙◌, ◌++◌, ℕ, List, [], ◌∷◌, Option, Some, codes, decimal, map, refl, sym, ap, append_assoc}
+use Rattle.std.specs.List.{flat_map}
+use Rattle.wgsl_rules.specs.types.Types.{WgslType}
+use Rattle.wgsl_rules.specs.types.Signatures.{listed, parameter_text, template_text}
+use Rattle.wgsl_rules.specs.types.Spelling.{wgsl_spelling}
+use Rattle.wgsl_rules.specs.standard.Choice.{types_of, value_of}
+use Rattle.wgsl_core.specs.Instances.{parameter_view}
+use Rattle.wgsl_core.specs.View.{view}
+use Rattle.wgsl_core.specs.declared.signature.TpltParam.{TpltParam}
+use Rattle.wgsl_core.specs.declared.ty.Type.{«Type»}
+use Rattle.wgsl_standard.specs.Callees.{unknown_name}
+use Rattle.wgsl_standard.specs.Meant.{meant}
+use Rattle.wgsl_standard.specs.Operands.{given_type}
+use Rattle.wgsl_standard.specs.declared.operand.Operand.{Operand}
+use Rattle.wgsl_requests.specs.Calls.{WgslCall, loaded}
+use Rattle.wgsl_requests.specs.StandardViews.{written_view}
+use Rattle.wgsl_requests.specs.Texts.{lines_text, no_overload_text, refusal_for, resolution_text, result_text, suggestion, unknown_text}
+use Rattle.wgsl_requests.specs.internal.Written.{lined}
+
+flat_map-map : {A B : Type 0} (text : B → List ℕ) (f : A → B) (xs : List A) → flat_map text (map f xs) ≡ flat_map (λ x. text (f x)) xs
+flat_map-map text f [] = refl
+flat_map-map text f (x ∷ xs) = ap (λ rest. text (f x) ++ rest) (flat_map-map text f xs)
+
+pub listed_seen : {A B : Type 0} (text : B → List ℕ) (f : A → B) (xs : List A) → listed text (map f xs) ≡ listed (λ x. text (f x)) xs
+listed_seen text f [] = refl
+listed_seen text f (x ∷ xs) = ap (λ rest. text (f x) ++ rest) (flat_map-map (λ y. codes ", " ++ text y) f xs)
+
+pub operand_types : (xs : List Operand) → listed wgsl_spelling (types_of (loaded (map written_view xs))) ≡ listed (λ x. wgsl_spelling (value_of (given_type x.ty))) xs
+operand_types xs = listed_seen wgsl_spelling (λ x. x.of_type) (loaded (map written_view xs))
+    ∙ listed_seen (λ x. wgsl_spelling x.of_type) (λ x. record { of_type = value_of x.of_type; is_constant = x.is_constant }) (map written_view xs)
+    ∙ listed_seen (λ x. wgsl_spelling (value_of x.of_type)) written_view xs
+
+pub lines_seen : {A : Type 0} (text : A → List ℕ) (xs : List A) → lines_text (map text xs) ≡ lined text xs
+lines_seen text [] = refl
+lines_seen text (x ∷ xs) = ap (λ rest. text x ++ rest) (flat_map-map (λ line. codes "\n" ++ line) text xs)
+
+-- the text of a resolution, of which the result is written last
+
+resolution_parts : (old n opened types close r : List ℕ) → (((old ++ (n ++ opened)) ++ types) ++ close) ++ r ≡ old ++ (n ++ opened ++ types ++ close ++ r)
+resolution_parts old n opened types close r = simp append_assoc
+
+pub resolution_written : (old opened shown closed : List ℕ) (n : ℕ) (types items : List «Type») (r : Option WgslType) → types ≡ items
+    → opened ≡ old ++ (decimal n ++ codes " (") → shown ≡ opened ++ listed (λ t. wgsl_spelling (view t)) types → closed ≡ shown ++ codes ")"
+    → closed ++ result_text r ≡ old ++ resolution_text (n, map view items, r)
+resolution_written old opened shown closed n types items r same a b c =
+    let all : listed (λ t. wgsl_spelling (view t)) types ≡ listed wgsl_spelling (map view items) = ap (listed (λ t. wgsl_spelling (view t))) same ∙ sym (listed_seen wgsl_spelling view items) in
+    let so_far : shown ≡ (old ++ (decimal n ++ codes " (")) ++ listed wgsl_spelling (map view items) = b ∙ ap (λ y. opened ++ y) all ∙ ap (λ y. y ++ listed wgsl_spelling (map view items)) a in
+    ap (λ y. y ++ result_text r) (c ∙ ap (λ y. y ++ codes ")") so_far)
+    ∙ resolution_parts old (decimal n) (codes " (") (listed wgsl_spelling (map view items)) (codes ")") (result_text r)
+
+-- the text of a template, in the parts in which it is written
+pub template_written : (old opened shown : List ℕ) (ps : List TpltParam) → opened ≡ old ++ codes "<" → shown ≡ opened ++ listed (λ p. parameter_text (parameter_view p)) ps
+    → shown ++ codes ">" ≡ old ++ template_text (Some (map parameter_view ps))
+template_written old opened shown ps a b =
+    ap (λ y. y ++ codes ">") (b ∙ ap (λ y. y ++ listed (λ p. parameter_text (parameter_view p)) ps) a ∙ ap (λ y. (old ++ codes "<") ++ y) (sym (listed_seen parameter_text parameter_view ps)))
+    ∙ parts (listed parameter_text (map parameter_view ps))
+  where
+    parts : (list : List ℕ) → ((old ++ codes "<") ++ list) ++ codes ">" ≡ old ++ (codes "<" ++ list ++ codes ">")
+    parts list = simp append_assoc
+
+-- that nothing has a name, with the name that may be meant
+
+unknown_parts : (old head name tick rest : List ℕ) → (old ++ (head ++ (name ++ tick))) ++ rest ≡ old ++ (head ++ name ++ tick ++ rest)
+unknown_parts old head name tick rest = simp append_assoc
+
+pub unknown_written : (old said name : List ℕ) (near : Option (List ℕ)) → near ≡ meant name
+    → said ≡ old ++ (codes "nothing has the name `" ++ (name ++ codes "`")) → said ++ suggestion near ≡ old ++ unknown_text name
+unknown_written old said name near same a =
+    ap (λ y. y ++ suggestion near) a ∙ unknown_parts old (codes "nothing has the name `") name (codes "`") (suggestion near)
+    ∙ ap (λ m. old ++ (codes "nothing has the name `" ++ name ++ codes "`" ++ suggestion m)) same
+
+pub refused_unknown : (call : WgslCall) (found : Option (List ℕ)) (name : List ℕ) → found ≡ unknown_name call.callee → found ≡ Some name
+    → unknown_text name ≡ no_overload_text call
+refused_unknown call found name seen is = ap (λ f. refusal_for f call) (sym is ∙ seen)
+
+-- the text of a refusal, in the parts in which it is written
+
+refusal_parts : (old head name template takes types close : List ℕ) → (((((old ++ head) ++ name) ++ template) ++ takes) ++ types) ++ close ≡ old ++ (head ++ name ++ template ++ takes ++ types ++ close)
+refusal_parts old head name template takes types close = simp append_assoc
+
+pub refusal_written : (old first named with taken shown all name template : List ℕ) (xs : List Operand) → first ≡ old ++ codes "no overload of `" → named ≡ first ++ name → with ≡ named ++ template
+    → taken ≡ with ++ codes "` takes (" → shown ≡ taken ++ listed (λ x. wgsl_spelling (value_of (given_type x.ty))) xs → all ≡ shown ++ codes ")"
+    → all ≡ old ++ (codes "no overload of `" ++ name ++ template ++ codes "` takes (" ++ listed wgsl_spelling (types_of (loaded (map written_view xs))) ++ codes ")")
+refusal_written old first named with taken shown all name template xs a b c d e f =
+    let types = listed wgsl_spelling (types_of (loaded (map written_view xs))) in
+    let so_far : taken ≡ (((old ++ codes "no overload of `") ++ name) ++ template) ++ codes "` takes (" = d ∙ ap (λ y. y ++ codes "` takes (") (c ∙ ap (λ y. y ++ template) (b ∙ ap (λ y. y ++ name) a)) in
+    f ∙ ap (λ y. y ++ codes ")") (e ∙ ap (λ y. taken ++ y) (sym (operand_types xs)) ∙ ap (λ y. y ++ types) so_far)
+    ∙ refusal_parts old (codes "no overload of `") name template (codes "` takes (") types (codes ")")

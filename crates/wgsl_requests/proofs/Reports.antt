@@ -1,0 +1,70 @@
+-- The lines of a struct's layout.
+use Rattle.std.proofs.Common.{◌≡◌, ◌⊎◌, inl, inr, Box, Global, ℕ, List, [], ◌∷◌, ◌++◌, codes, decimal, string_bytes, refl, sym, ap, ◌∙◌, append_assoc, rules}
+use Rattle.wgsl_rules.specs.types.Types.{WgslType, struct, Members}
+use Rattle.wgsl_rules.specs.types.Spelling.{spelling}
+use Rattle.wgsl_core.specs.View.{member_view, struct_view, view}
+use Rattle.wgsl_core.specs.Layout.{layouts_of, offsets_of}
+use Rattle.wgsl_core.specs.internal.View.{members_view}
+use Rattle.wgsl_core.specs.declared.layout.PlacedMember.{PlacedMember}
+use Rattle.wgsl_core.specs.declared.layout.StructLayout.{StructLayout}
+use Rattle.wgsl_core.proofs.Layouts.{members_at}
+use Rattle.wgsl_core.proofs.Views.{view-Struct}
+use Rattle.wgsl_core.specs.declared.ty.Type.{«Type», the_lemmas}
+use Rattle.wgsl_core.specs.declared.ty.Type.TheVariants as v
+use Rattle.wgsl_core.specs.declared.ty.StructType.{StructType, out-StructType}
+use Rattle.wgsl_core.specs.declared.ty.StructMemberType.{StructMemberType, out-StructMemberType}
+use Rattle.wgsl_requests.specs.Layouts.{column, columns, member_line, member_lines, struct_line, layout_text}
+use Rattle.wgsl_requests.specs.Views.{layout_view}
+use Rattle.wgsl_requests.specs.internal.Written.{placed_line, placed_lines}
+
+pub name_seen : (m : StructMemberType) → (member_view m).name ≡ string_bytes (out-StructMemberType m).name
+name_seen m = search (rules, the_lemmas)
+
+pub type_seen : (m : StructMemberType) → (member_view m).ty ≡ view (out-StructMemberType m).ty
+type_seen m = search (rules, the_lemmas)
+
+pub struct_name_seen : (s : StructType) → (struct_view s).name ≡ string_bytes (out-StructType s).name
+struct_name_seen s = search (rules, the_lemmas)
+
+-- a struct that is behind a box
+pub struct_seen : (t : «Type») (b : Box StructType Global) (s : StructType) → t ≡ v.Struct b → s ≡ b.value → view t ≡ struct (struct_view s).name (struct_view s).members
+struct_seen t b s e f =
+    ap view e ∙ view-Struct b
+    ∙ ap (λ (x : StructType). struct (string_bytes (out-StructType x).name) (members_view ((out-StructType x).members).items)) (sym f)
+    ∙ ap (λ n. struct n (members_view ((out-StructType s).members).items)) (sym (struct_name_seen s))
+    ∙ ap (λ ms. struct (struct_view s).name ms) (members_at s ((out-StructType s).members).items refl)
+
+-- three columns, of texts that are padded already
+pub in_columns : (a b c x y z rest : List ℕ) → x ≡ column a → y ≡ column b → z ≡ column c → x ++ (32 ∷ (y ++ (32 ∷ (z ++ (32 ∷ rest))))) ≡ columns a b c ++ rest
+in_columns a b c x y z rest p q r = simp (p, q, r, append_assoc)
+
+-- the end of a member's line
+line_ends : (first name : List ℕ) (t : WgslType) → first ++ (name ++ (32 ∷ (spelling t ++ (10 ∷ [])))) ≡ first ++ name ++ codes " " ++ spelling t ++ codes "\n"
+line_ends first name t = simp append_assoc
+
+pub member_laid : (m : StructMemberType) (p : PlacedMember) (x y z : List ℕ) → x ≡ column (decimal p.offset) → y ≡ column (decimal p.size) → z ≡ column (decimal p.align)
+    → x ++ (32 ∷ (y ++ (32 ∷ (z ++ (32 ∷ (string_bytes (out-StructMemberType m).name ++ (32 ∷ (spelling (view (out-StructMemberType m).ty) ++ (10 ∷ []))))))))) ≡ placed_line m p
+member_laid m p x y z a b c =
+    in_columns (decimal p.offset) (decimal p.size) (decimal p.align) x y z (string_bytes (out-StructMemberType m).name ++ (32 ∷ (spelling (view (out-StructMemberType m).ty) ++ (10 ∷ [])))) a b c
+    ∙ line_ends (columns (decimal p.offset) (decimal p.size) (decimal p.align)) (string_bytes (out-StructMemberType m).name) (view (out-StructMemberType m).ty)
+    ∙ ap (λ n. member_line p.offset p.size p.align n (view (out-StructMemberType m).ty)) (sym (name_seen m))
+    ∙ ap (λ t. member_line p.offset p.size p.align (member_view m).name t) (sym (type_seen m))
+
+pub no_lines : (ms : List StructMemberType) (ps : List PlacedMember) → (ms ≡ []) ⊎ (ps ≡ []) → placed_lines ms ps ≡ []
+no_lines [] ps e = refl
+no_lines (m ∷ ms) [] e = refl
+no_lines (m ∷ ms) (p ∷ ps) (inl e) = cc
+no_lines (m ∷ ms) (p ∷ ps) (inr e) = cc
+
+lines_seen : (ms : List StructMemberType) (ps : List PlacedMember) → placed_lines ms ps ≡ member_lines (members_view ms) (layouts_of ps) (offsets_of ps)
+lines_seen [] ps = refl
+lines_seen (m ∷ ms) [] = refl
+lines_seen (m ∷ ms) (p ∷ ps) = ap (λ r. placed_line m p ++ r) (lines_seen ms ps)
+
+-- the whole report
+pub reported : (name : List ℕ) (items : List StructMemberType) (l : StructLayout) (ms : Members) (old mid new : List ℕ) → members_view items ≡ ms → mid ≡ old ++ placed_lines items l.members.items →
+    new ≡ mid ++ struct_line name l.size l.align → new ≡ old ++ layout_text name ms (layout_view l)
+reported name items l ms old mid new seen members last =
+    let lines : placed_lines items l.members.items ≡ member_lines ms (layouts_of l.members.items) (offsets_of l.members.items) =
+    lines_seen items l.members.items ∙ ap (λ ms. member_lines ms (layouts_of l.members.items) (offsets_of l.members.items)) seen in
+    last ∙ ap (λ x. x ++ struct_line name l.size l.align) (members ∙ ap (λ x. old ++ x) lines) ∙ append_assoc old _ _

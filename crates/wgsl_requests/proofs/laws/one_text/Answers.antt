@@ -1,0 +1,5 @@
+use Rattle.wgsl_requests.proofs.OneText.{one_text}
+use Rattle.wgsl_requests.proofs.laws.one_text.Goals as goal
+
+pub returns : goal.returns
+returns c = one_text

@@ -1,0 +1,257 @@
+// How answers are written.
+ghost use Rattle.std.specs.Prelude.{◌≡◌, ◌++◌, IfOk, OnOk, decimal, option_map, string_bytes};
+ghost use Rattle.wgsl_rules.specs.errors.Refusals.{message};
+ghost use Rattle.wgsl_rules.specs.types.Spelling.{spelling, spelling_by};
+ghost use Rattle.wgsl_core.specs.View.{view};
+ghost use Rattle.wgsl_core.specs.internal.Resolution.{element_view, resolved_view};
+ghost use Rattle.wgsl_forms.specs.Views.{answer_view as form_answer, form_type_view};
+ghost use Rattle.wgsl_requests.specs.Answers.{a_type, a_value};
+ghost use Rattle.wgsl_requests.specs.Replies.{Adds, IsAnswer};
+ghost use Rattle.wgsl_requests.specs.Texts.{answer_text, fit_text, form_text, or_none, text_kind};
+ghost use Rattle.wgsl_requests.specs.Views.{answer_view, operands_refusal, outcome, request_view};
+ghost use Rattle.wgsl_requests.specs.internal.Written.{IsRefusal};
+
+mod layout;
+mod lists;
+mod overloads;
+
+use crate::answers::{Answer, Operands};
+use crate::ask::answer;
+use crate::fast::number::write_number;
+use crate::reply::TextKind;
+use crate::requests::Request;
+use layout::{write_layout, write_offsets};
+use overloads::{write_notes, write_resolution_of, write_signatures, write_type_of};
+use std::alloc::{AllocError, Global};
+use wgsl_core::error::{Error, Fail};
+use wgsl_core::operators::resolve::{Element, ResolvedType};
+use wgsl_core::ty::Type;
+use wgsl_core::ty::show::ShownType;
+use wgsl_forms::form::FormType;
+use wgsl_forms::refusal::Refusal;
+use wgsl_syntax::overload::Dimensions;
+use wgsl_syntax::rules::RuleSet;
+
+/// Writes the answer to the request at the end of the text, and returns of which kind it is.
+#[inline(always)]
+pub fn write_answer_to(
+    alloc: Global,
+    request: Request<'_>,
+    text: &mut String,
+) -> Result<TextKind, AllocError>
+    ensures { IfOk result (λ kind. Adds (IsAnswer (request_view request.entry) kind)
+        (string_bytes text.old) (string_bytes text.new)) }
+{
+    let answer = answer(alloc, request)?;
+    let written = write(&answer, text);
+    drop(answer);
+    written
+}
+
+/// Writes an answer at the end of the text, and returns of which kind it is.
+#[inline(always)]
+pub fn write(answer: &Answer<'_>, text: &mut String) -> Result<TextKind, AllocError>
+    ensures { IfOk result (λ kind. (kind ≡ text_kind (answer_view answer.now))
+        × (string_bytes text.new ≡ string_bytes text.old ++ answer_text (answer_view answer.now))) }
+{
+    write_text(answer, text)?;
+    Ok(text_kind(answer))
+}
+
+#[inline(always)]
+fn text_kind(answer: &Answer<'_>) -> TextKind
+    ensures { result ≡ text_kind (answer_view answer.now) }
+{
+    match answer {
+        Answer::Type(Err(_)) | Answer::Value(Err(_)) | Answer::Binary(Err(_)) => TextKind::Refusal,
+        Answer::TypeOf(_, None) | Answer::Resolution(_, None) => TextKind::Refusal,
+        Answer::FormType(Err(_)) | Answer::Fit(Err(_)) => TextKind::Refusal,
+        Answer::Type(Ok(_)) | Answer::Value(Ok(_)) | Answer::Binary(Ok(_)) => TextKind::Answer,
+        Answer::TypeOf(_, Some(_)) | Answer::Resolution(_, Some(_)) => TextKind::Answer,
+        Answer::Number(_) | Answer::Size(_, _) | Answer::Offsets(_) => TextKind::Answer,
+        Answer::Layout(_, _) | Answer::Overloads(_) | Answer::Notes(_) => TextKind::Answer,
+        Answer::FormType(Ok(_)) | Answer::Fit(Ok(_)) => TextKind::Answer,
+    }
+}
+
+#[inline(always)]
+fn write_text(answer: &Answer<'_>, text: &mut String) -> Result<(), AllocError>
+    ensures { OnOk result (string_bytes text.new
+        ≡ string_bytes text.old ++ answer_text (answer_view answer.now)) }
+{
+    match answer {
+        Answer::Number(number) => write_number_or_none(text, *number),
+        Answer::Size(size, align) => {
+            write_number_or_none(text, *size)?;
+            text.push(' ')?;
+            write_number_or_none(text, *align)
+        }
+        Answer::Type(made) => write_type_or_refusal(text, made),
+        Answer::Value(returned) => write_value_or_refusal(text, returned),
+        Answer::Binary(Ok(ty)) => write_resolved(text, *ty),
+        Answer::Binary(Err(operands)) => write_operands(text, *operands),
+        Answer::Offsets(offsets) => write_offsets(text, offsets),
+        Answer::Layout(structure, layout) => write_layout(text, structure, layout),
+        Answer::TypeOf(call, found) => write_type_of(text, call, found),
+        Answer::Resolution(call, found) => write_resolution_of(text, call, found),
+        Answer::Overloads(signatures) => write_signatures(text, signatures),
+        Answer::Notes(notes) => write_notes(text, notes),
+        Answer::FormType(found) => write_form_type(text, found),
+        Answer::Fit(found) => write_fit(text, found),
+    }
+}
+
+/// Writes the type of a form, or why it has none.
+#[inline(never)]
+fn write_form_type(
+    text: &mut String,
+    found: &Result<FormType<'_>, Refusal<'_>>,
+) -> Result<(), AllocError>
+    ensures { OnOk result (string_bytes text.new
+        ≡ string_bytes text.old ++ form_text (form_answer form_type_view found.now)) }
+{
+    match found {
+        Ok(ty) => write!(text, "{ty}"),
+        Err(refusal) => write!(text, "{refusal}"),
+    }
+}
+
+/// Writes that the values fit, or why they don't.
+#[inline(never)]
+fn write_fit(text: &mut String, found: &Result<(), Refusal<'_>>) -> Result<(), AllocError>
+    ensures { OnOk result (string_bytes text.new
+        ≡ string_bytes text.old ++ fit_text (form_answer (λ u. tt) found.now)) }
+{
+    match found {
+        Ok(()) => text.push_str("fits"),
+        Err(refusal) => write!(text, "{refusal}"),
+    }
+}
+
+/// Writes a number, or `none`.
+#[inline(always)]
+fn write_number_or_none(text: &mut String, number: Option<u32>) -> Result<(), AllocError>
+    ensures { OnOk result (string_bytes text.new ≡ string_bytes text.old ++ or_none decimal number) }
+{
+    match number {
+        Some(number) => write_number(text, number),
+        None => text.push_str("none"),
+    }
+}
+
+pub(crate) fn write_type_or_none(
+    text: &mut String,
+    rules: RuleSet,
+    ty: Option<&Type>,
+) -> Result<(), AllocError>
+    ensures { OnOk result (string_bytes text.new
+        ≡ string_bytes text.old ++ or_none (spelling_by rules) (option_map (λ t. view t.now) ty.entry)) }
+{
+    match ty {
+        Some(ty) => write_shown(text, rules, ty),
+        None => text.push_str("none"),
+    }
+}
+
+/// Writes a type by these rules.
+fn write_shown(text: &mut String, rules: RuleSet, ty: &Type) -> Result<(), AllocError>
+    ensures { OnOk result (string_bytes text.new
+        ≡ string_bytes text.old ++ spelling_by rules (view ty.now)) }
+{
+    write!(text, "{}", ShownType { ty, rules })
+}
+
+/// Writes a type that isn't built.
+fn write_resolved(text: &mut String, ty: ResolvedType<'_>) -> Result<(), AllocError>
+    ensures { OnOk result (string_bytes text.new
+        ≡ string_bytes text.old ++ spelling (resolved_view ty.entry)) }
+{
+    match ty.dimensions {
+        Dimensions::Single => return write_element(text, ty.element),
+        Dimensions::Vector(components) => {
+            text.push_str("vec")?;
+            write_number(text, u32::from(components))?;
+        }
+        Dimensions::Matrix(columns, rows) => {
+            text.push_str("mat")?;
+            write_number(text, u32::from(columns))?;
+            text.push('x')?;
+            write_number(text, u32::from(rows))?;
+        }
+    }
+    text.push('<')?;
+    write_element(text, ty.element)?;
+    text.push('>')
+}
+
+fn write_element(text: &mut String, element: Element<'_>) -> Result<(), AllocError>
+    ensures { OnOk result (string_bytes text.new
+        ≡ string_bytes text.old ++ spelling (element_view element.entry)) }
+{
+    match element {
+        Element::Scalar(scalar) => text.push_str(scalar.name()),
+        Element::Type(ty) => write_type(text, ty),
+    }
+}
+
+/// Writes the message that an operator doesn't take operands.
+fn write_operands(text: &mut String, operands: Operands<'_>) -> Result<(), AllocError>
+    ensures { OnOk result (string_bytes text.new
+        ≡ string_bytes text.old ++ message (operands_refusal operands.entry)) }
+{
+    let Operands { operator, lhs, rhs } = operands;
+    write!(
+        text,
+        "cannot use binary operator `{operator}` with operands `{lhs}` and `{rhs}`"
+    )
+}
+
+/// Writes a type, or the message of a refusal.
+#[inline(always)]
+fn write_type_or_refusal(
+    text: &mut String,
+    made: &Result<Type, Fail<Error>>,
+) -> Result<(), AllocError>
+    ensures { OnOk result (string_bytes text.new
+        ≡ string_bytes text.old ++ answer_text (outcome a_type view made.now)) }
+{
+    match made {
+        Ok(ty) => write_type(text, ty),
+        Err(refused) => write_refusal(text, refused),
+    }
+}
+
+/// Writes the type of a call, `no value`, or the message of a refusal.
+#[inline(always)]
+fn write_value_or_refusal(
+    text: &mut String,
+    returned: &Result<Option<Type>, Fail<Error>>,
+) -> Result<(), AllocError>
+    ensures { OnOk result (string_bytes text.new
+        ≡ string_bytes text.old ++ answer_text (outcome a_value (option_map view) returned.now)) }
+{
+    match returned {
+        Ok(Some(ty)) => write_type(text, ty),
+        Ok(None) => text.push_str("no value"),
+        Err(refused) => write_refusal(text, refused),
+    }
+}
+
+#[inline(never)]
+fn write_type(text: &mut String, ty: &Type) -> Result<(), AllocError>
+    ensures { OnOk result (string_bytes text.new ≡ string_bytes text.old ++ spelling (view ty.now)) }
+{
+    write!(text, "{ty}")
+}
+
+/// Writes the message of a refusal. Out of memory is none.
+#[inline(never)]
+fn write_refusal(text: &mut String, refused: &Fail<Error>) -> Result<(), AllocError>
+    ensures { OnOk result (IsRefusal
+        (λ e. string_bytes text.new ≡ string_bytes text.old ++ message e) refused.now) }
+{
+    match refused {
+        Fail::Error(e) => write!(text, "{e}"),
+        Fail::Memory(e) => Err(*e),
+    }
+}

@@ -1,0 +1,211 @@
+// Writes the answers about WGSL's own overloads.
+ghost use Rattle.std.specs.Prelude.{◌≡◌, ◌++◌, OnOk, map, option_map, string_bytes};
+ghost use Rattle.wgsl_rules.specs.types.Signatures.{listed, template_text};
+ghost use Rattle.wgsl_rules.specs.standard.Choice.{value_of};
+ghost use Rattle.wgsl_rules.specs.types.Spelling.{wgsl_spelling};
+ghost use Rattle.wgsl_core.specs.Instances.{parameter_view};
+ghost use Rattle.wgsl_core.specs.View.{view};
+ghost use Rattle.wgsl_standard.specs.Operands.{given_type};
+ghost use Rattle.wgsl_standard.specs.Resolved.{resolved_view};
+ghost use Rattle.wgsl_standard.specs.Results.{result_view};
+ghost use Rattle.wgsl_standard.specs.Texts.{callee_text, line_of, note_text};
+ghost use Rattle.wgsl_requests.specs.StandardViews.{call_view};
+ghost use Rattle.wgsl_requests.specs.Texts.{lines_text, no_candidate_text, no_overload_text, or_no_overload, resolution_text, result_text, suggestion, unknown_text, value_text};
+
+use crate::requests::Call;
+use crate::write::lists::{write_lines, write_parameters, write_types};
+use crate::write::{write_resolved, write_shown, write_type};
+use std::alloc::AllocError;
+use wgsl_core::operators::resolve::ResolvedType;
+use wgsl_core::signature::TpltParam;
+use wgsl_core::ty::Type;
+use wgsl_standard::callee::Callee;
+use wgsl_standard::explanation::Note;
+use wgsl_standard::meant::{meant, unknown_name};
+use wgsl_standard::operand::{Operand, OperandType};
+use wgsl_standard::resolved::ResolvedCall;
+use wgsl_standard::signature::Signature;
+use wgsl_standard::substitution::ResultType;
+use wgsl_syntax::overload::Dimensions;
+use wgsl_syntax::rules::RuleSet;
+
+/// Writes the type of a call, `no value`, or that no overload takes its operands.
+#[inline(always)]
+pub(crate) fn write_type_of(
+    text: &mut String,
+    call: &Call<'_>,
+    found: &Option<Option<ResultType>>,
+) -> Result<(), AllocError>
+    ensures { OnOk result (string_bytes text.new ≡ string_bytes text.old
+        ++ or_no_overload value_text (call_view call.now) (option_map (option_map result_view) found.now)) }
+{
+    match found {
+        Some(Some(ResultType::Value(dimensions, scalar))) => {
+            write_resolved(text, ResolvedType::of_scalar(*dimensions, *scalar))
+        }
+        Some(Some(ResultType::Built(ty))) => write_type(text, ty),
+        Some(None) => text.push_str("no value"),
+        None => write_no_overload(text, call),
+    }
+}
+
+/// Writes what a call resolves to, or that no overload takes its operands.
+pub(crate) fn write_resolution_of(
+    text: &mut String,
+    call: &Call<'_>,
+    found: &Option<ResolvedCall>,
+) -> Result<(), AllocError>
+    ensures { OnOk result (string_bytes text.new ≡ string_bytes text.old
+        ++ or_no_overload resolution_text (call_view call.now) (option_map resolved_view found.now)) }
+{
+    match found {
+        Some(resolved) => write_resolved_call(text, resolved),
+        None => write_no_overload(text, call),
+    }
+}
+
+fn write_resolved_call(text: &mut String, resolved: &ResolvedCall) -> Result<(), AllocError>
+    ensures { OnOk result (string_bytes text.new
+        ≡ string_bytes text.old ++ resolution_text (resolved_view resolved.now)) }
+{
+    let ResolvedCall {
+        index,
+        parameters,
+        result,
+    } = resolved;
+    write!(text, "{index} (")?;
+    write_types(text, parameters)?;
+    text.push_str(")")?;
+    write_result(text, result)
+}
+
+fn write_result(text: &mut String, ty: &Option<Type>) -> Result<(), AllocError>
+    ensures { OnOk result (string_bytes text.new
+        ≡ string_bytes text.old ++ result_text (option_map view ty.now)) }
+{
+    match ty {
+        Some(ty) => {
+            text.push_str(" -> ")?;
+            write_shown(text, RuleSet::Standard, ty)
+        }
+        None => Ok(()),
+    }
+}
+
+/// Writes why a call has no answer.
+#[inline(never)]
+fn write_no_overload(text: &mut String, call: &Call<'_>) -> Result<(), AllocError>
+    ensures { OnOk result (string_bytes text.new
+        ≡ string_bytes text.old ++ no_overload_text (call_view call.now)) }
+{
+    match unknown_name(call.callee) {
+        Some(name) => write_unknown(text, name),
+        None => write_no_candidate(text, call),
+    }
+}
+
+/// Writes that nothing has the name, and which one may be meant.
+fn write_unknown(text: &mut String, name: &str) -> Result<(), AllocError>
+    ensures { OnOk result (string_bytes text.new
+        ≡ string_bytes text.old ++ unknown_text name.now) }
+{
+    write!(text, "nothing has the name `{name}`")?;
+    write_suggestion(text, meant(name))
+}
+
+fn write_suggestion(text: &mut String, name: Option<&str>) -> Result<(), AllocError>
+    ensures { OnOk result (string_bytes text.new
+        ≡ string_bytes text.old ++ suggestion (option_map (λ name. name.now) name.entry)) }
+{
+    match name {
+        Some(name) => write!(text, "; did you mean `{name}`?"),
+        None => Ok(()),
+    }
+}
+
+/// Writes that no overload takes the operands of a call.
+fn write_no_candidate(text: &mut String, call: &Call<'_>) -> Result<(), AllocError>
+    ensures { OnOk result (string_bytes text.new
+        ≡ string_bytes text.old ++ no_candidate_text (call_view call.now)) }
+{
+    text.push_str("no overload of `")?;
+    write_callee(text, call.callee)?;
+    write_template(text, call.template)?;
+    text.push_str("` takes (")?;
+    write_operand_types(text, call.operands)?;
+    text.push(')')
+}
+
+/// Writes the types of operands, once they are loaded, with a comma between.
+#[inline(always)]
+fn write_operand_types(text: &mut String, operands: &[Operand<'_>]) -> Result<(), AllocError>
+    ensures { OnOk result (string_bytes text.new ≡ string_bytes text.old
+        ++ listed (λ x. wgsl_spelling (value_of (given_type x.ty))) operands.now) }
+{
+    let Some((first, rest)) = operands.split_first() else {
+        return Ok(());
+    };
+    write_operand_type(text, first.ty.loaded())?;
+    for operand in rest {
+        text.push_str(", ")?;
+        write_operand_type(text, operand.ty.loaded())?;
+    }
+    Ok(())
+}
+
+/// Writes the type of an operand, a scalar without a formatter.
+#[inline(always)]
+fn write_operand_type(text: &mut String, ty: OperandType<'_>) -> Result<(), AllocError>
+    ensures { OnOk result (string_bytes text.new
+        ≡ string_bytes text.old ++ wgsl_spelling (given_type ty.entry)) }
+{
+    match ty {
+        OperandType::Value(Dimensions::Single, scalar) => text.push_str(scalar.name()),
+        _ => write!(text, "{ty}"),
+    }
+}
+
+fn write_callee(text: &mut String, callee: Callee<'_>) -> Result<(), AllocError>
+    ensures { OnOk result (string_bytes text.new
+        ≡ string_bytes text.old ++ callee_text callee.entry) }
+{
+    match callee {
+        Callee::Unary(operator) => write!(text, "{operator}"),
+        Callee::Binary(operator) => write!(text, "{operator}"),
+        Callee::Function(name) => text.push_str(name),
+        Callee::Constructor(name) => text.push_str(name),
+    }
+}
+
+fn write_template(text: &mut String, template: Option<&[TpltParam]>) -> Result<(), AllocError>
+    ensures { OnOk result (string_bytes text.new ≡ string_bytes text.old
+        ++ template_text (option_map (λ ps. map parameter_view ps.now) template.entry)) }
+{
+    match template {
+        Some(parameters) => {
+            text.push_str("<")?;
+            write_parameters(text, parameters)?;
+            text.push_str(">")
+        }
+        None => Ok(()),
+    }
+}
+
+/// Writes a line for each signature, or `none`.
+pub(crate) fn write_signatures(
+    text: &mut String,
+    signatures: &[Signature<'_>],
+) -> Result<(), AllocError>
+    ensures { OnOk result (string_bytes text.new
+        ≡ string_bytes text.old ++ lines_text (map line_of signatures.now)) }
+{
+    write_lines(text, signatures)
+}
+
+/// Writes a line for each note, or `none`.
+pub(crate) fn write_notes(text: &mut String, notes: &[Note<'_>]) -> Result<(), AllocError>
+    ensures { OnOk result (string_bytes text.new
+        ≡ string_bytes text.old ++ lines_text (map note_text notes.now)) }
+{
+    write_lines(text, notes)
+}

@@ -1,0 +1,11 @@
+use Rattle.std.proofs.Common.{List, length}
+use Rattle.wgsl_reader.specs.declared.read.Event.{Event}
+use Rattle.wgsl_source.specs.Declarations.{BehindAttributes}
+use Rattle.wgsl_source.proofs.parts.split_attributes.Given as goal
+
+-- what stands behind the attributes that are left stands behind all
+abbrev pub invariant-loop-split : goal.invariant-loop-split
+invariant-loop-split l = (rest : List Event) → BehindAttributes l.rest rest → BehindAttributes l.fn.events rest
+
+abbrev pub decreases-loop-split : goal.decreases-loop-split
+decreases-loop-split l = length l.rest

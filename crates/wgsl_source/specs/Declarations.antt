@@ -1,0 +1,104 @@
+-- The parts of a declaration, by the events of the grammar: its name, its attributes, and what ends each part.
+use Rattle.std.specs.Prelude.{◌≡◌, ◌≢◌, ℕ, zero, suc, ◌-◌, List, [], ◌∷◌, Bool, true, false, Option, Some, None, cond, drop, length, slice_get, slice_index_or, take}
+use denote.Enum.Bare.{sameb}
+use Rattle.wgsl_reader.specs.declared.kind.Kind.TheVariants as k
+use Rattle.wgsl_reader.specs.declared.mark.Mark.{Mark}
+use Rattle.wgsl_reader.specs.declared.mark.Mark.TheVariants as m
+use Rattle.wgsl_reader.specs.declared.read.Event.{Event}
+use Rattle.wgsl_reader.specs.declared.token.Token.{Token}
+use Rattle.wgsl_spelling.specs.Words.{word}
+use Rattle.wgsl_source.specs.contracts.parts.End.{the_type as end_type}
+use Rattle.wgsl_source.specs.declared.parts.End.{End}
+use Rattle.wgsl_source.specs.declared.parts.End.TheVariants as e
+use Rattle.wgsl_source.specs.declared.text.Text.{Text}
+
+-- Tokens
+
+-- behind the last token the text ends
+abbrev pub end : Text → Token
+end t = record { kind = k.End; at = length t.text.now; len = 0 }
+
+abbrev pub token : Text → ℕ → Token
+token t index = slice_index_or t.tokens.now index (end t)
+
+-- the last of that many tokens: the one in front of an event
+abbrev pub token_before : Text → ℕ → Token
+token_before t zero = end t
+token_before t (suc n) = token t n
+
+-- how many tokens stand up to the first event, with its own
+abbrev pub first_count : List Event → ℕ
+first_count [] = 0
+first_count (event ∷ events) = event.at
+
+-- this name stands at this place: in front of the first of these events
+pub record IsNamed (t : Text) (events : List Event) (text : List ℕ) (at : ℕ) : Type 0 where
+  pub name : text ≡ word t.text.now (token_before t (first_count events))
+  pub place : at ≡ (token_before t (first_count events)).at
+
+-- Parts: each ends with an event of its own
+
+abbrev pub end_of : Mark → Option End
+end_of m.Attribute = Some e.Attribute
+end_of m.Typed = Some e.Typed
+end_of m.Member = Some e.Member
+end_of m.Alias = Some e.Alias
+end_of m.Struct = Some e.Struct
+end_of m.Const = Some e.Constant
+end_of m.Override = Some e.Override
+end_of m.Variable = Some e.Variable
+end_of m.Function = Some e.Function
+end_of m.ConstAssert = Some e.Assertion
+end_of m.Enable = Some e.Directive
+end_of m.Requires = Some e.Directive
+end_of m.DiagnosticDirective = Some e.Directive
+end_of other = None
+
+abbrev pub is_end : End → Option End → Bool
+is_end end (Some other) = sameb end_type end other
+is_end end None = false
+
+-- one event more, if there are any
+abbrev pub behind_one : ℕ → ℕ
+behind_one zero = 0
+behind_one (suc n) = suc (suc n)
+
+-- how many events there are up to the first one that ends such a part, and with it; none if no event does
+abbrev pub len_to : End → List Event → ℕ
+len_to end [] = 0
+len_to end (event ∷ events) = cond (is_end end (end_of event.mark)) 1 (behind_one (len_to end events))
+
+-- the events without the first and the last one
+abbrev pub inner : List Event → List Event
+inner [] = []
+inner (event ∷ events) = take (length events - 1) events
+
+-- Attributes
+
+abbrev pub is_diagnostic_mark : Mark → Bool
+is_diagnostic_mark m.DiagnosticAttribute = true
+is_diagnostic_mark other = false
+
+abbrev pub is_diagnostic : Option Event → Bool
+is_diagnostic None = false
+is_diagnostic (Some event) = is_diagnostic_mark event.mark
+
+-- `@diagnostic(off, a)`, `@diagnostic(off, a.b)`; none of a directive
+abbrev pub diagnostic_len : List Event → ℕ
+diagnostic_len events = cond (is_diagnostic (slice_get events 2)) 3 (cond (is_diagnostic (slice_get events 3)) 4 0)
+
+abbrev pub attribute_by : Mark → List Event → ℕ
+attribute_by m.AttributeName events = len_to e.Attribute events
+attribute_by m.Severity events = diagnostic_len events
+attribute_by m.Attribute events = 1
+attribute_by other events = 0
+
+-- how many events the attribute has that stands in front, if one does: `@size(16)`, `@const`
+abbrev pub attribute_len : List Event → ℕ
+attribute_len [] = 0
+attribute_len (event ∷ events) = attribute_by event.mark (event ∷ events)
+
+-- what stands behind the attributes in front
+pub data BehindAttributes : List Event → List Event → Type 0 where
+  no_attribute : {events : List Event} → attribute_len events ≡ 0 → BehindAttributes events events
+  one_attribute : {events rest : List Event} → attribute_len events ≢ 0 → BehindAttributes (drop (attribute_len events) events) rest → BehindAttributes events rest

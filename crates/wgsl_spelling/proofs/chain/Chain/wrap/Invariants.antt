@@ -1,0 +1,8 @@
+use Rattle.std.proofs.Common.{◌≡◌, drop}
+use Rattle.wgsl_core.specs.View.{view}
+use Rattle.wgsl_spelling.specs.Chains.{wrapped}
+use Rattle.wgsl_spelling.proofs.chain.Chain.wrap.Given as goal
+
+-- the layers that are left around the type so far are all of them around the innermost
+abbrev pub invariant-loop-layer : goal.invariant-loop-layer
+invariant-loop-layer l = wrapped (view l.fn.innermost) (l.fn.self).layers.items ≡ wrapped (view l.ty) (drop l.layer-index (l.fn.self).layers.items)

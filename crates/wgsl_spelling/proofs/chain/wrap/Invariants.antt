@@ -1,8 +1,0 @@
-use Rattle.std.proofs.Common.{◌≡◌, drop}
-use Rattle.wgsl_core.specs.View.{view}
-use Rattle.wgsl_spelling.specs.Chains.{wrapped}
-use Rattle.wgsl_spelling.proofs.chain.wrap.Given as goal
-
--- the layers that are left around the type so far are all of them around the innermost
-abbrev pub invariant-loop-layer : goal.invariant-loop-layer
-invariant-loop-layer l = wrapped (view l.fn.innermost) l.fn.layers ≡ wrapped (view l.ty) (drop l.layer-index l.fn.layers)

@@ -1,4 +1,0 @@
-use Rattle.wgsl_text.proofs.fast.number.+write_number.Given as goal
-
-abbrev pub decreases-write_number : goal.decreases-write_number
-decreases-write_number l = l.number

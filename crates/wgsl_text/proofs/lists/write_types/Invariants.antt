@@ -1,9 +1,0 @@
-use Rattle.std.proofs.Common.{◌≡◌, ◌++◌, codes, flat_map, string_bytes, take}
-use Rattle.wgsl_rules.specs.types.Spelling.{wgsl_spelling}
-use Rattle.wgsl_core.specs.View.{view}
-use Rattle.wgsl_text.proofs.lists.write_types.Given as goal
-
-abbrev pub invariant-loop-ty : goal.invariant-loop-ty
-invariant-loop-ty l =
-    string_bytes l.text ≡ string_bytes l.initial.text
-    ++ flat_map (λ x. codes ", " ++ wgsl_spelling (view x)) (take l.ty-index l.rest)

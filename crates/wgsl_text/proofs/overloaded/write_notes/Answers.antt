@@ -1,7 +1,0 @@
-use Rattle.std.proofs.Common.{rules}
-use Rattle.wgsl_standard.specs.Texts.{note_text}
-use Rattle.wgsl_text.proofs.Listings.{lines_seen}
-use Rattle.wgsl_text.proofs.overloaded.write_notes.Goals as goal
-
-pub returns : goal.returns
-returns c = rw (lines_seen note_text c.args.notes.items) (search rules)

@@ -1,7 +1,0 @@
-use Rattle.std.proofs.Common.{◌∙◌}
-use Rattle.wgsl_text.proofs.Listings.{unknown_written}
-use Rattle.wgsl_text.proofs.Written.{on_ok}
-use Rattle.wgsl_text.proofs.overloaded.write_unknown.Goals as goal
-
-pub returns : goal.returns
-returns c = on_ok c.write_suggestion.result (λ e. e ∙ unknown_written _ _ _ _ c.meant.ensures c.in_ok-write.ensures.bytes) c.write_suggestion.ensures

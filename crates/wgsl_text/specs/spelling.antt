@@ -1,3 +1,0 @@
-pub mod Spells
-pub mod Written
-pub mod internal

@@ -1,0 +1,9 @@
+pub mod Cuts
+pub mod FirstWord
+pub mod Numbers
+pub mod OneReply
+pub mod Parameters
+pub mod Reading
+pub mod Signs
+pub mod Suffixes
+pub mod Within

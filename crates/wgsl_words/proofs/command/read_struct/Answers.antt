@@ -1,0 +1,15 @@
+use Rattle.std.proofs.Common.{◌≡◌, ◌∙◌, ℕ, List, None, ap, option_and_then, refl}
+use Rattle.wgsl_rules.specs.types.Types.{Members, WgslType, struct}
+use Rattle.wgsl_core.proofs.Views.{not_struct}
+use Rattle.wgsl_core.specs.View.{view}
+use Rattle.wgsl_words.specs.Calls.{a_struct}
+use Rattle.wgsl_words.proofs.command.read_struct.Goals as goal
+
+no_struct : (t : WgslType) → ((name : List ℕ) (ms : Members) → t ≡ struct name ms → ⊥) → a_struct t ≡ None
+no_struct (struct name ms) other = absurd (other name ms refl)
+no_struct t other = refl
+
+pub returns-in_default : goal.returns-in_default
+returns-in_default c =
+    ap (option_and_then a_struct) c.in_ok-other.ensures
+    ∙ no_struct (view c.in_ok-other.other) (not_struct c.in_ok-other.other c.in_default.not-Struct)

@@ -1,0 +1,12 @@
+pub mod Answers
+pub mod Calls
+pub mod Layers
+pub mod Left
+pub mod Names
+pub mod Numbers
+pub mod Reader
+pub mod Replies
+pub mod Requests
+pub mod Templates
+pub mod Types
+pub mod Words

@@ -1,0 +1,56 @@
+-- What a word names.
+use Rattle.std.specs.Prelude.{ℕ, List, Option, Some, None, codes, if◌then◌else◌, option_map}
+use Rattle.std.specs.Str.{bytes_eq}
+use Rattle.wgsl_syntax.specs.Names.{named, table}
+use Rattle.wgsl_syntax.specs.Address.{access_modes, access_text, space_text, spaces}
+use Rattle.wgsl_syntax.specs.Attribute.{flag_text, flags}
+use Rattle.wgsl_syntax.specs.Operator.{binary_operators, binary_text, unary_operators, unary_text}
+use Rattle.wgsl_syntax.specs.Scalar.{scalar_text, scalars}
+use Rattle.wgsl_syntax.specs.Texel.{texel_formats, texel_text}
+use Rattle.wgsl_syntax.specs.Texture.{sampled_text, sampled_types, sampler_text, samplers}
+use Rattle.wgsl_syntax.specs.TextureName.{texture_name_text, texture_names}
+use Rattle.wgsl_syntax.specs.declared.address.AccessMode.{AccessMode}
+use Rattle.wgsl_syntax.specs.declared.address.AddressSpace.{AddressSpace}
+use Rattle.wgsl_syntax.specs.declared.attribute.AccelerationStructureFlags.{AccelerationStructureFlags}
+use Rattle.wgsl_syntax.specs.declared.operator.BinaryOperator.{BinaryOperator}
+use Rattle.wgsl_syntax.specs.declared.operator.UnaryOperator.{UnaryOperator}
+use Rattle.wgsl_syntax.specs.declared.scalar.Scalar.{Scalar}
+use Rattle.wgsl_syntax.specs.declared.texel.TexelFormat.{TexelFormat}
+use Rattle.wgsl_syntax.specs.declared.texture.SampledType.{SampledType}
+use Rattle.wgsl_syntax.specs.declared.texture.SamplerType.{SamplerType}
+use Rattle.wgsl_syntax.specs.declared.texture_name.TextureName.{TextureName}
+
+unfoldable pub scalar_named : List ℕ → Option Scalar
+scalar_named word = named (table scalar_text scalars) word
+
+-- also `handle`
+unfoldable pub space_named : List ℕ → Option AddressSpace
+space_named word = named (table space_text spaces) word
+
+unfoldable pub access_named : List ℕ → Option AccessMode
+access_named word = named (table access_text access_modes) word
+
+unfoldable pub sampler_named : List ℕ → Option SamplerType
+sampler_named word = named (table sampler_text samplers) word
+
+unfoldable pub sampled_named : List ℕ → Option SampledType
+sampled_named word = named (table sampled_text sampled_types) word
+
+unfoldable pub texture_named : List ℕ → Option TextureName
+texture_named word = named (table texture_name_text texture_names) word
+
+unfoldable pub texel_named : List ℕ → Option TexelFormat
+texel_named word = named (table texel_text texel_formats) word
+
+unfoldable pub some_flag_named : List ℕ → Option AccelerationStructureFlags
+some_flag_named word = named (table flag_text flags) word
+
+-- `-` for none
+unfoldable pub flag_named : List ℕ → Option (Option AccelerationStructureFlags)
+flag_named word = if bytes_eq word (codes "-") then Some None else option_map Some (some_flag_named word)
+
+unfoldable pub unary_named : List ℕ → Option UnaryOperator
+unary_named word = named (table unary_text unary_operators) word
+
+unfoldable pub binary_named : List ℕ → Option BinaryOperator
+binary_named word = named (table binary_text binary_operators) word

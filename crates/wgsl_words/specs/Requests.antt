@@ -1,0 +1,57 @@
+-- Requests in words.
+use Rattle.std.specs.Prelude.{ℕ, List, [], ◌∷◌, Option, Some, None, codes, option_and_then, option_map}
+use Rattle.wgsl_syntax.specs.Names.{named}
+use Rattle.wgsl_syntax.specs.declared.rules.RuleSet.TheVariants.{Ported}
+use Rattle.wgsl_rules.specs.types.Signatures.{Signature}
+use Rattle.wgsl_rules.specs.types.Types.{WgslType, struct, Members}
+use Rattle.wgsl_requests.specs.Requests.{WgslRequest as Request, rank, common, unary, binary, size, offsets, layout, ctor, call}
+use Rattle.wgsl_words.specs.Names.{binary_named, unary_named}
+use Rattle.wgsl_words.specs.Reader.{Words, a_word, all, behind, last, one, pair}
+use Rattle.wgsl_words.specs.Templates.{template_at}
+use Rattle.wgsl_words.specs.Types.{type_at}
+
+abbrev pub of_struct : (List ℕ → Members → Request) → WgslType → Option Request
+of_struct ask (struct name ms) = Some (ask name ms)
+of_struct ask t = None
+
+-- a name, a template or `-`, and the types of the arguments: `clamp - AbstractInt f32 f32`
+unfoldable pub callee : Words → Option Signature
+callee words =
+    behind (a_word words) (λ name rest.
+    behind (template_at rest) (λ template more.
+    option_map (λ ts. record { name = name; template = template; arguments = ts }) (all type_at more)))
+
+-- What is asked by the words behind each command.
+abbrev pub commands : List ((Words → Option Request) × List ℕ)
+commands =
+    -- `rank AbstractInt f32`
+    ((λ words. option_map (λ p. rank p.0 p.1) (last (pair type_at) words)), codes "rank")
+    -- `common AbstractInt f32 f16`
+    ∷ ((λ words. option_map (common Ported) (all type_at words)), codes "common")
+    -- `unary - vec 3 f32`
+    ∷ ((λ words. behind (one unary_named words) (λ o rest. option_map (unary o) (last type_at rest))), codes "unary")
+    -- `binary + AbstractInt vec 3 f32`
+    ∷ ((λ words. behind (one binary_named words) (λ o rest. option_map (λ p. binary o p.0 p.1) (last (pair type_at) rest))), codes "binary")
+    -- `size vec 3 f32`
+    ∷ ((λ words. option_map (size Ported) (last type_at words)), codes "size")
+    -- `offsets struct S 2 a - - f32 b 16 - vec 3 f32`
+    ∷ ((λ words. option_and_then (of_struct (offsets Ported)) (last type_at words)), codes "offsets")
+    -- `layout struct S 2 a - - f32 b 16 - vec 3 f32`
+    ∷ ((λ words. option_and_then (of_struct (layout Ported)) (last type_at words)), codes "layout")
+    -- `ctor array < t f32 n 2 > AbstractInt f32`
+    ∷ ((λ words. option_map ctor (callee words)), codes "ctor")
+    -- `call clamp - AbstractInt f32 f32`
+    ∷ ((λ words. option_map call (callee words)), codes "call")
+    ∷ []
+
+abbrev request_by : Option (Words → Option Request) → Words → Option Request
+request_by (Some ask) words = ask words
+request_by None words = None
+
+unfoldable pub request_from : List ℕ → Words → Option Request
+request_from command words = request_by (named commands command) words
+
+-- what these words ask, if they ask anything
+abbrev pub request_of : Words → Option Request
+request_of [] = None
+request_of (command ∷ words) = request_from command words

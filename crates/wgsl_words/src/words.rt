@@ -1,0 +1,118 @@
+// The words of a request, consumed one after another.
+ghost use Rattle.std.specs.Prelude.{◌≡◌, ◌<◌, ◌↔◌, [], IsTrue, IsUtf8, MatchOption, None, OnErr, OnOk, length};
+ghost use Rattle.wgsl_words.specs.Reader.{Gives, Reads, a_word, one};
+ghost use Rattle.wgsl_words.specs.Numbers.{attribute, count, long, small};
+ghost use Rattle.wgsl_words.specs.Words.{words_of};
+
+use crate::number;
+use crate::split::{first_word, is_blank};
+use crate::wanted::{Misfit, Wanted};
+use std::marker::Model;
+use wgsl_core::error::Fail;
+
+/// The text of a request, and how many of its bytes were consumed.
+#[derive(Drop)]
+pub struct Words<'t> {
+    text: &'t str,
+    taken: usize,
+}
+
+impl<'t> Model for Words<'t> {
+    ghost use Rattle.std.specs.Prelude.{ℕ, List};
+    ghost use Rattle.wgsl_words.specs.Left.{IsBetween, left};
+
+    ghost Value = { List (List ℕ) };
+
+    ghost view = { left };
+
+    ghost invariant = { IsBetween };
+}
+
+impl<'t> Words<'t> {
+    /// The words of a request, or `None` if it is not UTF-8.
+    #[inline(always)]
+    pub fn of(request: &'t [u8]) -> Option<Words<'t>>
+        ensures { MatchOption result (¬ IsUtf8 request.now)
+            (λ words. (words ≡ words_of request.now) × IsUtf8 request.now) }
+    {
+        match std::str::from_utf8(request) {
+            Ok(text) => Some(Words { text, taken: 0 }),
+            Err(_) => None,
+        }
+    }
+
+    /// The next word. If none is left, the error is that what is expected is missing.
+    pub fn next(&mut self, wanted: Wanted) -> Result<&'t str, Fail<Misfit>>
+        ensures shorter { OnOk result (length self.new < length self.old) }
+        ensures read { Reads (λ w. w.now) (a_word self.old) result self.new }
+        ensures none { OnErr result (a_word self.old ≡ None) }
+    {
+        match first_word(&self.text[self.taken..]) {
+            Some((word, len)) => {
+                self.taken += len;
+                Ok(word)
+            }
+            None => Err(Fail::Error(Misfit::Missing(wanted))),
+        }
+    }
+
+    /// How many bytes were consumed.
+    pub fn taken(&self) -> usize {
+        self.taken
+    }
+
+    /// Whether every word is consumed.
+    pub fn is_empty(&self) -> bool
+        ensures { IsTrue result ↔ (self.now ≡ []) }
+    {
+        is_blank(&self.text[self.taken..])
+    }
+
+    /// A number of members.
+    pub fn next_number(&mut self) -> Result<u64, Fail<Misfit>>
+        ensures shorter { OnOk result (length self.new < length self.old) }
+        ensures read { Reads (λ n. n) (one long self.old) result self.new }
+    {
+        wanted(number::long(self.next(Wanted::Members)?), Wanted::Members)
+    }
+
+    /// A number of components, columns or rows.
+    #[inline(always)]
+    pub fn next_small(&mut self, noun: Wanted) -> Result<u8, Fail<Misfit>>
+        ensures shorter { OnOk result (length self.new < length self.old) }
+        ensures read { Reads (λ n. n) (one small self.old) result self.new }
+    {
+        wanted(number::small(self.next(noun)?), noun)
+    }
+
+    /// A number of elements, or `*` if the array is runtime-sized.
+    #[inline(always)]
+    pub fn next_count(&mut self) -> Result<Option<usize>, Fail<Misfit>>
+        ensures shorter { OnOk result (length self.new < length self.old) }
+        ensures read { Reads (λ n. n) (one count self.old) result self.new }
+    {
+        wanted(
+            number::count(self.next(Wanted::Elements)?),
+            Wanted::Elements,
+        )
+    }
+
+    /// An attribute of a member in bytes, or `-` if it has none.
+    pub fn next_attribute(&mut self, noun: Wanted) -> Result<Option<u32>, Fail<Misfit>>
+        ensures shorter { OnOk result (length self.new < length self.old) }
+        ensures read { Reads (λ n. n) (one attribute self.old) result self.new }
+    {
+        wanted(number::attribute(self.next(noun)?), noun)
+    }
+}
+
+/// What the last word means, or that it isn't what is expected.
+#[inline(always)]
+pub fn wanted<T>(meaning: Option<T>, noun: Wanted) -> Result<T, Fail<Misfit>>
+    ensures { Gives (λ x. x) meaning result }
+{
+    match meaning {
+        Some(value) => Ok(value),
+        None => Err(Fail::Error(Misfit::Wrong(noun))),
+    }
+}

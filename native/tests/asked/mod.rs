@@ -1,0 +1,162 @@
+//! Reads requests in WGSL, as the tests write them: operands are types, and no blank is missing.
+
+use std::collections::HashMap;
+use std::fmt::Debug;
+use std::str::FromStr;
+use wgsl_types_proved::standard::{type_builtin_fn, Operand};
+use wgsl_types_proved::syntax::{AccessMode, AddressSpace, RuleSet};
+use wgsl_types_proved::ty::{StructMemberType, StructType};
+use wgsl_types_proved::Type;
+
+/// The text that isn't read yet, and the structs that are declared in front of it.
+pub struct Asked<'a> {
+    rest: &'a str,
+    structs: HashMap<&'a str, Type>,
+}
+
+impl<'a> Asked<'a> {
+    pub fn new(request: &'a str) -> Asked<'a> {
+        let mut asked = Asked { rest: request, structs: HashMap::new() };
+        while asked.take("struct ") {
+            asked.structure();
+        }
+        asked
+    }
+
+    pub fn is_empty(&self) -> bool {
+        self.rest.is_empty()
+    }
+
+    /// Consumes blanks and a text, if they are next. Returns whether they were.
+    pub fn take(&mut self, text: &str) -> bool {
+        let behind = self.rest.trim_start().strip_prefix(text);
+        self.rest = behind.unwrap_or(self.rest);
+        behind.is_some()
+    }
+
+    pub fn expect(&mut self, text: &str) {
+        assert!(self.take(text), "`{text}` is missing in front of `{}`", self.rest);
+    }
+
+    /// What is next, without blanks in front, up to a character of this kind.
+    pub fn until(&mut self, is_end: impl Fn(char) -> bool) -> &'a str {
+        let rest = self.rest.trim_start();
+        let (text, rest) = rest.split_at(rest.find(is_end).unwrap_or(rest.len()));
+        self.rest = rest;
+        text
+    }
+
+    pub fn word(&mut self) -> &'a str {
+        self.until(|c| !c.is_alphanumeric() && c != '_')
+    }
+
+    fn named<T: FromStr<Err: Debug>>(&mut self) -> T {
+        let word = self.word();
+        word.parse().expect(word)
+    }
+
+    /// Items with commas between them, up to the end, which is consumed too.
+    pub fn list<T>(&mut self, end: &str, item: impl Fn(&mut Self) -> T) -> Vec<T> {
+        let mut items = Vec::new();
+        while !self.take(end) {
+            items.push(item(self));
+            self.take(",");
+        }
+        items
+    }
+
+    /// A type, or a call of a function that returns a struct, which no text spells.
+    pub fn operand(&mut self) -> Operand {
+        for name in ["frexp", "modf", "atomicCompareExchangeWeak"] {
+            if self.take(&format!("{name}(")) {
+                let found = type_builtin_fn(name, None, &self.operands(")"));
+                return found.unwrap().expect("a value");
+            }
+        }
+        let says_const = self.take("const ");
+        let ty = self.ty();
+        if says_const {
+            Operand::constant(ty)
+        } else {
+            Operand::new(ty)
+        }
+    }
+
+    pub fn operands(&mut self, end: &str) -> Vec<Operand> {
+        self.list(end, Asked::operand)
+    }
+
+    /// The type behind a colon, if there is one.
+    pub fn declared(&mut self) -> Option<Type> {
+        self.take(":").then(|| self.ty())
+    }
+
+    pub fn space(&mut self) -> AddressSpace {
+        AddressSpace::named_by(RuleSet::Standard, self.word()).expect("an address space")
+    }
+
+    /// The access mode behind a comma, if there is one.
+    pub fn access(&mut self) -> Option<AccessMode> {
+        self.take(",").then(|| self.named())
+    }
+
+    pub fn ty(&mut self) -> Type {
+        let name = self.word();
+        if let Some(structure) = self.structs.get(name) {
+            return structure.clone();
+        }
+        if !self.rest.starts_with('<') {
+            return name.parse().expect(name);
+        }
+        self.expect("<");
+        let ty = match name {
+            "array" => {
+                let element = self.ty();
+                Type::array(self.count(), element)
+            }
+            "binding_array" => {
+                let element = Box::new(self.ty());
+                Type::BindingArray(element, self.count())
+            }
+            "ptr" => self.memory(Type::Ptr),
+            "ref" => self.memory(Type::Ref),
+            _ => {
+                let spelled = format!("{name}<{}>", self.until(|c| c == '>'));
+                spelled.parse().expect(&spelled)
+            }
+        };
+        self.expect(">");
+        ty
+    }
+
+    fn count(&mut self) -> Option<usize> {
+        self.take(",").then(|| self.named())
+    }
+
+    fn memory(&mut self, make: fn(AddressSpace, Box<Type>, AccessMode) -> Type) -> Type {
+        let space = self.space();
+        self.expect(",");
+        let of = Box::new(self.ty());
+        make(space, of, self.access().expect("an access mode"))
+    }
+
+    /// A struct that is declared here.
+    pub fn structure(&mut self) -> StructType {
+        let name = self.word();
+        self.expect("{");
+        let members = self.list("}", |asked| {
+            let (size, align) = (asked.attribute("@size("), asked.attribute("@align("));
+            let name = asked.word().to_string();
+            StructMemberType { name, size, align, ty: asked.declared().expect("a type") }
+        });
+        let structure = StructType { name: name.to_string(), members };
+        self.structs.insert(name, structure.clone().into());
+        structure
+    }
+
+    fn attribute(&mut self, start: &str) -> Option<u32> {
+        let value = self.take(start).then(|| self.named())?;
+        self.expect(")");
+        Some(value)
+    }
+}
