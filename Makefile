@@ -9,7 +9,7 @@ unexport MAKEFLAGS MFLAGS passed
 
 FOLDER := out
 PREFIX := /usr/local
-programs := $(foreach it,wgsl_check wgsl_standard_check wgsl_layout,crates/$(it)/out/$(it))
+programs := $(foreach it,wgsl_check wgsl,crates/$(it)/out/$(it))
 archive := crates/wgsl_c/out/libwgsl_c.a
 tests := $(shell for it in tests/*; do [ ! -f "$$it" ] || [ ! -x "$$it" ] || echo "$$it"; done)
 

@@ -1,4 +1,4 @@
-"""The ported crate's figures: instructions in wgsl-types 0.3.2 (rustc -O3, measured 2026-11)."""
+"""Figures to compare with: instructions in wgsl-types 0.3.2 (rustc -O3, measured 2026-11), and of `type` in this repository."""
 
 # A line; its instructions, where a program over the crate reads the same words; those of its call alone, its answer let go.
 LINES = [
@@ -24,4 +24,13 @@ LINES = [
     ("call textureLoad - texture_2d f32 vec 2 i32 i32", 3188, 343),
     ("call foo - f32", 2458, 673),
     ("call abs - bool", 2408, 634),
+]
+
+# A line; its instructions in the Rust crate's program before expressions were read by WGSL's grammar.
+TYPES = [
+    ("type 1 + 2", 3642),
+    ("type dot(vec3f, vec3f)", 8532),
+    ("type max(abs(f32), sqrt(min(f32, 2)))", 16740),
+    ("type array<vec3<f32>, 2>(vec3f, vec3f)", 13338),
+    ("type (mat4x4<f32> * vec4<f32>).xyz * vec3<f32>.x", 17829),
 ]

@@ -15,8 +15,6 @@
 //! # Ok::<(), usize>(())
 //! ```
 
-mod meant;
-
 use crate::proved::wgsl_expressions::literal::type_of_literal;
 pub use crate::proved::wgsl_reader::kind::Kind;
 pub use crate::proved::wgsl_reader::mark::Mark;
@@ -26,12 +24,12 @@ pub use crate::proved::wgsl_reader::read::Event;
 pub use crate::proved::wgsl_reader::rule::Rule;
 pub use crate::proved::wgsl_reader::token::Token;
 use crate::proved::wgsl_reader::{expected, lists, module, read};
+use crate::proved::wgsl_report::keyword;
 use crate::shim::always;
 use crate::shim::std::alloc::Global;
 use crate::Type;
 use alloc::string::String;
 use alloc::vec::Vec;
-pub use meant::meant_at;
 
 impl Token {
     /// The bytes of the token, as a text.
@@ -83,4 +81,26 @@ pub fn read_module(tokens: &[Token]) -> (Vec<Event>, Vec<Misread>) {
 pub fn expected_at(misread: &Misread, tokens: &[Token]) -> String {
     let front = tokens.get(misread.from..misread.at).unwrap_or_default();
     always(expected::expected(Global, misread.rule, front))
+}
+
+/// The keyword that a misspelled word may have meant, and the index of that word: of `retrun x;` it is `return`. The word is
+/// the token that can't stand where a declaration is misread, or the first one of that statement. None if no keyword is near
+/// it with which more is read.
+///
+/// ```
+/// use wgsl_types_proved::reader::{meant_at, read_module, tokens};
+///
+/// let text = "fn f() { retrun x; }";
+/// let tokens = tokens(text)?;
+/// let (_, misread) = read_module(&tokens);
+/// let (index, keyword) = meant_at(&misread[0], &tokens, text).unwrap();
+/// assert_eq!((tokens[index].text(text), keyword), ("retrun", "return"));
+/// # Ok::<(), usize>(())
+/// ```
+pub fn meant_at<'t>(
+    misread: &Misread,
+    tokens: &[Token],
+    text: &'t str,
+) -> Option<(usize, &'t str)> {
+    always(keyword::meant_at(Global, *misread, tokens, text))
 }

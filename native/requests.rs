@@ -1,4 +1,4 @@
-//! Requests in text, answered in text: each is a line of the program `wgsl_standard`, in WGSL, or of `wgsl_check`, in words.
+//! Requests in text, answered in text: each is a line to `wgsl ask`, in WGSL, or to `wgsl_check`, in words.
 
 use crate::proved::wgsl_replies::request::{self, reply_to, Reply, TextKind};
 use crate::proved::wgsl_syntax::rules::RuleSet;
@@ -30,7 +30,7 @@ impl fmt::Display for Error {
 
 impl core::error::Error for Error {}
 
-/// Answers a request in WGSL by WGSL's own rules, as a line of the program `wgsl_standard`.
+/// Answers a request in WGSL by WGSL's own rules, as a line to `wgsl ask`.
 ///
 /// ```
 /// use wgsl_types_proved::requests::{standard_answer, Error};

@@ -1,5 +1,5 @@
-/* The type rules of WGSL for C and C++: one call answers one request, which is a line of the program wgsl_standard, in WGSL, or
- * of wgsl_check, in words.
+/* The type rules of WGSL for C and C++: one call answers one request, which is a line to `wgsl ask`, in WGSL, or to
+ * wgsl_check, in words.
  *
  *     type 1 + vec3f     is answered     vec3<f32>
  *
@@ -59,14 +59,14 @@ uint8_t wgsl_standard_explain(const uint8_t *request, size_t request_len, uint8_
 uint8_t wgsl_answer(const uint8_t *request, size_t request_len, uint8_t *buffer, size_t buffer_len, size_t *text_len);
 uint8_t wgsl_explain(const uint8_t *request, size_t request_len, uint8_t *buffer, size_t buffer_len, size_t *text_len);
 
-/* Writes what `./wgsl_layout --json` prints of a WGSL text, with an empty name of the file: the layouts of its structs, where
+/* Writes what `./wgsl layout --json` prints of a WGSL text, with an empty name of the file: the layouts of its structs, where
  * its variables are bound, and what is wrong, each with its line. docs/USING.md has the fields. It returns WGSL_ANSWERED for
  * every text, WGSL_OUT_OF_MEMORY or WGSL_NO_ROOM. The caller ensures the same, but WGSL_SOURCE_STACK bytes of stack. */
 uint8_t wgsl_source_layout(const uint8_t *text, size_t text_len, uint8_t *json, size_t buffer_len, size_t *json_len);
 
 enum { WGSL_C = 0, WGSL_RUST = 1, WGSL_NUMPY = 2, WGSL_TYPESCRIPT = 3 };
 
-/* Writes what `./wgsl_layout --c`, `--rust`, `--numpy` or `--typescript` prints of a WGSL text: its structs in that language. It
+/* Writes what `./wgsl layout --c`, `--rust`, `--numpy` or `--typescript` prints of a WGSL text: its structs in that language. It
  * returns WGSL_ANSWERED; WGSL_RULED_OUT if the text has errors, which wgsl_source_layout tells, with the code of the structs that have
  * none; WGSL_UNREADABLE for another language; WGSL_OUT_OF_MEMORY or WGSL_NO_ROOM. The caller ensures the same. */
 uint8_t wgsl_source_code(const uint8_t *text, size_t text_len, uint8_t *code, size_t buffer_len, size_t *code_len, uint8_t language);

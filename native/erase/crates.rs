@@ -10,7 +10,7 @@ const REACHED: [(&str, &[&str]); 4] = [
     ("", &["wgsl_calls"]),
     ("STANDARD", &["wgsl_standard", "wgsl_forms"]),
     ("TEXT", &["wgsl_reader", "wgsl_spelling", "wgsl_expressions", "wgsl_report", "wgsl_c"]),
-    ("STD", &["wgsl_check", "wgsl_standard_check", "wgsl_layout"]),
+    ("STD", &["wgsl_check", "wgsl"]),
 ];
 
 /// A source of a crate.

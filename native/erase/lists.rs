@@ -4,14 +4,13 @@ use crate::source::{Refusal, Source};
 use std::path::Path;
 
 /// The name of a list; the source, and the function or the table whose texts are its names.
-const LISTS: [(&str, &str, [&str; 2]); 7] = [
+const LISTS: [(&str, &str, [&str; 2]); 6] = [
     ("SCALARS", "wgsl_syntax/src/scalar.rt", ["fn", "scalar_named"]),
     ("ACCESS_MODES", "wgsl_syntax/src/address.rt", ["fn", "access_named"]),
     ("SPACES", "wgsl_syntax/src/address.rt", ["fn", "space_named"]),
     ("FORMATS", "wgsl_syntax/src/texel.rt", ["fn", "texel_named"]),
     ("FLAGS", "wgsl_syntax/src/attribute.rt", ["fn", "flag_named"]),
     ("ATTRIBUTES", "wgsl_source/src/attribute.rt", ["fn", "attribute_named"]),
-    ("KEPT_WORDS", "wgsl_reader/src/word.rt", ["static", "WORDS"]),
 ];
 
 /// The constants of the lists that the Rust source of a file has.

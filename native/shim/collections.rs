@@ -31,6 +31,7 @@ pub trait RattleVec<T>: Sized {
     fn rattle_new(alloc: Global) -> Self;
     fn rattle_with_capacity(alloc: Global, capacity: usize) -> Made<Self>;
     fn rattle_push(&mut self, value: T) -> Made<()>;
+    fn rattle_insert(&mut self, index: usize, value: T) -> Made<()>;
 }
 
 impl<T> RattleVec<T> for Vec<T> {
@@ -47,6 +48,12 @@ impl<T> RattleVec<T> for Vec<T> {
     #[inline(always)]
     fn rattle_push(&mut self, value: T) -> Made<()> {
         self.push(value);
+        Ok(())
+    }
+
+    #[inline(always)]
+    fn rattle_insert(&mut self, index: usize, value: T) -> Made<()> {
+        self.insert(index, value);
         Ok(())
     }
 }

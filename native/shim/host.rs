@@ -15,6 +15,10 @@ impl HostRuntime {
         io::stdin().lock()
     }
 
+    pub fn reader(&self) -> io::StdinLock<'static> {
+        self.stdin()
+    }
+
     pub fn stdout(&self) -> io::StdoutLock<'static> {
         io::stdout().lock()
     }

@@ -43,7 +43,7 @@ impl fmt::Display for SourceError {
 
 impl core::error::Error for SourceError {}
 
-/// The structs of a module in another language, as `wgsl_layout --c`, `--rust`, `--numpy` and `--typescript` print them: C, Rust and
+/// The structs of a module in another language, as `wgsl layout --c`, `--rust`, `--numpy` and `--typescript` print them: C, Rust and
 /// numpy check each offset and size. The findings of [`layouts`] are no errors here.
 ///
 /// ```

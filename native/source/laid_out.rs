@@ -6,6 +6,7 @@ use crate::proved::wgsl_reader::module::{self, Misread};
 use crate::proved::wgsl_report::lines::Lines;
 use crate::proved::wgsl_report::message::{self, messages_of, Severity};
 use crate::proved::wgsl_report::rules::findings_of;
+use crate::proved::wgsl_report::shown::once;
 use crate::proved::wgsl_report::told;
 use crate::proved::wgsl_source::entry::{self, WorkgroupExtent};
 use crate::proved::wgsl_source::fault::{Cause, Fault};
@@ -66,7 +67,10 @@ impl<'t> Reading<'t> {
         let structs = module.in_text.iter().filter_map(|index| module.structs.get(*index));
         Layouts {
             structs: structs.map(|of| self.structure(of)).collect(),
-            left_out: module.left_out.iter().map(|name| name.to_string()).collect(),
+            left_out: always(once(Global, &module.left_out))
+                .iter()
+                .map(|name| name.to_string())
+                .collect(),
             variables: module.variables.iter().map(|of| self.variable(of)).collect(),
             overrides: module.overrides.iter().map(|of| self.constant(of)).collect(),
             entry_points: module.entry_points.iter().map(|of| self.entry_point(of)).collect(),

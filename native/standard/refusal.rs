@@ -17,7 +17,6 @@ use crate::ty::Type;
 use alloc::string::String;
 use alloc::string::ToString;
 use alloc::vec::Vec;
-use core::cmp::Reverse;
 use core::fmt;
 
 /// No overload takes the operands, or the template is abstract or a reference; or nothing has the name.
@@ -118,17 +117,6 @@ pub enum Mismatch {
     Template(Type),
 }
 
-impl Mismatch {
-    /// How far the overload is from taking the operands: how many are too many or missing, then how many it takes.
-    fn distance(&self) -> (usize, Reverse<usize>) {
-        match self {
-            Mismatch::Count { takes, given } => (takes.abs_diff(*given), Reverse(0)),
-            Mismatch::Argument { index, .. } => (0, Reverse(index + 1)),
-            Mismatch::Template(_) => (0, Reverse(0)),
-        }
-    }
-}
-
 impl Explanation {
     fn new(note: &Note<'_>, template: Option<&Type>, operands: &[Operand]) -> Explanation {
         let Signature { index, overload, of_vectors, .. } = note.signature;
@@ -178,10 +166,7 @@ impl fmt::Display for Explanation {
 pub fn explain(callee: &Callee, template: Option<&Type>, operands: &[Operand]) -> Vec<Explanation> {
     with_operands(operands.iter(), |asked| {
         let notes = always(explanation::explain(Global, callee.called(), template, asked));
-        let reasons = notes.iter().map(|note| Explanation::new(note, template, operands));
-        let mut reasons: Vec<Explanation> = reasons.collect();
-        reasons.sort_by_key(|reason| reason.mismatch.distance());
-        reasons
+        notes.iter().map(|note| Explanation::new(note, template, operands)).collect()
     })
 }
 

@@ -103,7 +103,7 @@ fn errors_stand_where_the_grammar_stops() {
     check(["const a = 1; // $\nalias /* # */ T = f32; /* /* */", "const a = $;"].map(String::from));
 }
 
-/// The files that `wgsl_layout` is tested with.
+/// The files that `wgsl layout` is tested with.
 fn files() -> Vec<String> {
     let entries = std::fs::read_dir("tests/sourced").unwrap().map(|entry| entry.unwrap().path());
     let mut paths: Vec<_> =

@@ -4,11 +4,21 @@ use std::ffi::OsStr;
 use std::io::Write;
 use std::process::{Command, Stdio};
 
-const PROGRAMS: [&str; 2] = [env!("CARGO_BIN_EXE_wgsl_check"), env!("CARGO_BIN_EXE_wgsl_standard")];
+/// A program and its command, if it has any.
+type Program = (&'static str, &'static [&'static str]);
+
+const PROGRAMS: [Program; 2] =
+    [(env!("CARGO_BIN_EXE_wgsl_check"), &[]), (env!("CARGO_BIN_EXE_wgsl"), &["ask"])];
+
+fn start((program, command): Program) -> Command {
+    let mut start = Command::new(program);
+    start.args(command);
+    start
+}
 
 /// The status of a program with these arguments, its output and what it says on standard error. No input awaits it.
-fn end(program: &str, arguments: &[&OsStr]) -> (Option<i32>, String, String) {
-    let done = Command::new(program).args(arguments).stdin(Stdio::null()).output().unwrap();
+fn end(program: Program, arguments: &[&OsStr]) -> (Option<i32>, String, String) {
+    let done = start(program).args(arguments).stdin(Stdio::null()).output().unwrap();
     let [output, notes] = [done.stdout, done.stderr].map(|text| String::from_utf8(text).unwrap());
     (done.status.code(), output, notes)
 }
@@ -41,7 +51,7 @@ fn a_strict_run_fails_if_an_expression_is_refused() {
     for (program, texts) in PROGRAMS.into_iter().zip([in_words, in_wgsl]) {
         for (requests, [plain, strict]) in texts.into_iter().zip([[0, 0], [0, 1], [2, 2]]) {
             for (arguments, expected) in [(&[][..], plain), (&["--strict"][..], strict)] {
-                let mut command = Command::new(program);
+                let mut command = start(program);
                 command.args(arguments).stdin(Stdio::piped());
                 let mut run = command.stdout(Stdio::null()).stderr(Stdio::null()).spawn().unwrap();
                 run.stdin.take().unwrap().write_all(requests.as_bytes()).unwrap();
@@ -57,7 +67,8 @@ fn an_argument_that_is_no_text_is_refused() {
     use std::os::unix::ffi::OsStrExt;
     for program in PROGRAMS {
         for bytes in [&b"\xff"[..], b"--help\xff"] {
-            assert_eq!(end(program, &[OsStr::from_bytes(bytes)]).0, Some(64));
+            let status = end(program, &[OsStr::from_bytes(bytes)]).0;
+            assert_eq!(status, Some(if program.1.is_empty() { 64 } else { 2 }));
         }
     }
 }
@@ -68,7 +79,7 @@ fn help_that_cannot_be_written_is_a_failure() {
     for program in PROGRAMS {
         for word in ["--help", "--version"] {
             let full = std::fs::File::options().write(true).open("/dev/full").unwrap();
-            let status = Command::new(program).arg(word).stdout(full).status().unwrap();
+            let status = start(program).arg(word).stdout(full).status().unwrap();
             assert_eq!(status.code(), Some(1), "{word}");
         }
     }

@@ -120,7 +120,7 @@ fn what_is_no_type_has_a_place_and_a_cause() {
         ("array<f32, vec3(1i, 2, 3u).y>", "column 12: an i32 and a u32 do not mix: `vec3`"),
         ("array<f32, vec3(4, -1, 1u).x>", "column 12: an integer overflows: `vec3`"),
         ("array<f32, true>", "column 12: this has no integer value: `true`"),
-        ("array<f32, (1 < 2)>", "column 13: this has no integer value: `1`"),
+        ("array<f32, (1 < 2)>", "column 15: this has no integer value: `<`"),
         ("array<f32, !4>", "column 12: this has no integer value: `!`"),
         ("array<f32, bitcast<f32>(4)>", "column 12: this has no integer value: `bitcast`"),
         ("array<f32, bitcast<u32>>", "column 12: expected an integer expression, found `bitcast`"),

@@ -213,7 +213,7 @@ NOT_ASKED = [
     ("functions of ray queries", None, "they are naga's, so they have no overloads"),
     ("`rayQueryTerminate`, `rayQueryConfirmIntersection`, `rayQueryGenerateIntersection`", None, "these too"),
     ("constructors of arrays with a template", None, "constructors of arrays have no overloads"),
-    ("`atomicCompareExchangeWeak`", None, "wgsl_standard prints the name of that struct without a type too"),
+    ("`atomicCompareExchangeWeak`", None, "`wgsl ask` prints the name of that struct without a type too"),
     ("the address space `immediate`", None, "it is about a name, and each program prints its own"),
     ("the texel format `rg11b10ufloat`", None, "it is about a name, and each program prints its own"),
     ("`TextureType::sampled_type` of `texture_multisampled_2d`", None, "no request asks for it"),

@@ -10,7 +10,7 @@ from tools import TESTS, TOP, answers_of, cargo, fail
 
 LINES = 300_000
 FORMS = 30_000
-PROGRAMS = ("wgsl_check", "wgsl_standard")
+PROGRAMS = (["wgsl_check"], ["wgsl", "ask"])
 
 
 def compare_answers(folder):
@@ -30,9 +30,9 @@ def compare_answers(folder):
 
 def build_proved():
     """Proves and builds the programs where that isn't done, so that they note nothing of it later."""
-    for words in [["wgsl_check"], ["wgsl_standard"], ["wgsl_layout", "--version"]]:
-        if answers_of(os.path.join(TOP, words[0]), words=words[1:])[2] != 0:
-            fail(f"./{words[0]} wasn't built")
+    for name, *words in PROGRAMS:
+        if answers_of(os.path.join(TOP, name), words=words)[2] != 0:
+            fail(f"./{name} wasn't built")
 
 
 def rows():
@@ -43,9 +43,9 @@ def rows():
 
 
 def compare_arguments(native):
-    """What programs that read standard input make of arguments: their version, and the statuses of help and of wrong use."""
-    for name in PROGRAMS:
-        for words in (["--version"], ["--help"], ["-h"], ["x"], [""], ["--version", "x"]):
+    """What programs make of arguments: their version, and the statuses of help and of wrong use."""
+    for name in ("wgsl_check", "wgsl"):
+        for words in (["--version"], ["--help"], ["-h"], ["ask", "--help"], ["ask", "x"], ["x"], [""], ["--version", "x"]):
             ours, proved = (answers_of(os.path.join(top, name), words=words) for top in (native, TOP))
             if ours[2] != proved[2] or words == ["--version"] and ours[0] != proved[0]:
                 fail(f"{name} {words}: {ours}, not {proved}")
@@ -63,8 +63,8 @@ def questions():
 
 def compare_lines(native):
     given = questions()
-    for name in PROGRAMS:
-        ours, proved = (answers_of(os.path.join(top, name), given) for top in (native, TOP))
+    for name, *words in PROGRAMS:
+        ours, proved = (answers_of(os.path.join(top, name), given, words) for top in (native, TOP))
         compare(name, ours, proved, given)
         print(f"{name}: {given.count(10)} lines are answered as by the proved program, with notes and status")
 
@@ -83,20 +83,20 @@ def compare(name, ours, theirs, given):
 def compare_modules(native):
     """The layouts of each module of tests/sourced, in each form, and wrong arguments."""
     paths = sorted(glob.glob(os.path.join(TESTS, "sourced", "*.wgsl")))
-    uses = [[], ["--help"], ["--version"], ["--what"], ["--struct"], ["nowhere.wgsl"]]
+    uses = [[], ["-h"], ["--version"], ["--what"], ["--struct"], ["nowhere.wgsl"]]
     for path in paths:
         uses += [[path], ["--json", path], ["--struct", "Scene", path], ["-"]]
     for words in uses:
         given = b"struct A { a: f32, b: vec3f }\nvar<uniform> a: A;\n"
-        ours, proved = (answers_of(os.path.join(top, "wgsl_layout"), given, words) for top in (native, TOP))
-        compare(f"wgsl_layout {' '.join(words)}", ours, proved, given)
-    print(f"wgsl_layout: {len(uses)} uses are answered as by the proved program")
+        ours, proved = (answers_of(os.path.join(top, "wgsl"), given, ["layout", *words]) for top in (native, TOP))
+        compare(f"wgsl layout {' '.join(words)}", ours, proved, given)
+    print(f"wgsl layout: {len(uses)} uses are answered as by the proved program")
 
 
 def compare_builds(native, checked):
     """A build that checks for overflow answers as one that doesn't."""
     given = questions()
-    for name in PROGRAMS:
-        ours, theirs = (answers_of(os.path.join(top, name), given) for top in (checked, native))
+    for name, *words in PROGRAMS:
+        ours, theirs = (answers_of(os.path.join(top, name), given, words) for top in (checked, native))
         compare(f"{name} with overflow checks", ours, theirs, given)
     print("a build that checks for overflow answers alike")

@@ -182,7 +182,7 @@ def check_ruled_out(library, name, lines):
 
 def check_standard_text(library, swept):
     """Texts are answered by WGSL's own rules, and explained, as the program prints them. Returns what it prints."""
-    wanted = answers_and_notes(os.path.join(TOP, "wgsl_standard"), asked=swept)
+    wanted = answers_and_notes(os.path.join(TOP, "wgsl"), "ask", asked=swept)
     printed, notes = [], []
     for number, line in enumerate(swept.split(b"\n")[:-1], 1):
         text, why = library.text("standard_answer", line), library.text("standard_explain", line)

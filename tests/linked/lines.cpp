@@ -1,4 +1,4 @@
-/* Answers each line of standard input by wgsl.hpp as the program wgsl_check does, with an argument as wgsl_standard, for which no
+/* Answers each line of standard input by wgsl.hpp as the program wgsl_check does, with an argument as `wgsl ask`, for which no
  * rules are named, and says why one can't be read. */
 #include "wgsl.hpp"
 

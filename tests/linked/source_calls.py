@@ -1,4 +1,4 @@
-"""The calls over texts of WGSL: the JSON of `./wgsl_layout --json`, and the code of `--c` and so on."""
+"""The calls over texts of WGSL: the JSON of `./wgsl layout --json`, and the code of `--c` and so on."""
 import glob
 import json
 import os
@@ -32,7 +32,7 @@ def layouts(library, text):
 
 def program_json(text):
     """What the program prints, with an empty name of the file."""
-    told = run(os.path.join(TOP, "wgsl_layout"), "--json", "-", asked=text, statuses=(0, 1))
+    told = run(os.path.join(TOP, "wgsl"), "layout", "--json", "-", asked=text, statuses=(0, 1))
     return told.replace(b'{"file":"-"', b'{"file":""', 1)
 
 
@@ -49,7 +49,7 @@ def compare_code(library):
         told = json.loads(layouts(library, read(path)))
         for language, option in enumerate(("--c", "--rust", "--numpy", "--typescript")):
             status, code = library.ask("source_code", read(path), language)
-            if status != bool(told["errors"]) or code != run(os.path.join(TOP, "wgsl_layout"), option, path, statuses=(0, 1)):
+            if status != bool(told["errors"]) or code != run(os.path.join(TOP, "wgsl"), "layout", option, path, statuses=(0, 1)):
                 wrong(f"the code {option} of {path} in C is another than that of the program, with status {status}")
         if library.ask("source_code", read(path), 4) != (UNREADABLE, b""):
             wrong("there is a fifth language")

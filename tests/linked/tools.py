@@ -68,7 +68,7 @@ def compare(language, wanted, given):
 def answers_and_notes(*command, **more):
     """What a program prints for lines of which one is bad, and what it notes on those: `line N: ` and why."""
     done = end(*command, statuses=(2,), **more)
-    return done.stdout, re.sub(rb"(?m)^(?:wgsl_\w+: )?line (\d+)[:,] ", rb"line \1: ", done.stderr)
+    return done.stdout, re.sub(rb"(?m)^(?:wgsl\w*: )?line (\d+)[:,] ", rb"line \1: ", done.stderr)
 
 
 def compare_both(language, wanted, given):

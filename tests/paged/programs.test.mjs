@@ -25,10 +25,10 @@ function told(call, request) {
   }
 }
 
-for (const [program, call, explain] of [["wgsl_check", wgsl.answer, wgsl.explain], ["wgsl_standard", wgsl.standardAnswer, wgsl.standardExplain]]) {
+for (const [program, call, explain] of [["wgsl_check", wgsl.answer, wgsl.explain], ["wgsl", wgsl.standardAnswer, wgsl.standardExplain]]) {
   test(`each request is answered as by ${program}`, { timeout: 300_000 }, () => {
     const requests = readFileSync(REQUESTS, "utf8").split("\n").filter((request) => /\S/.test(request)), wanted = requests.filter((request) => !isWide(request));
-    const { stdout, stderr } = spawnSync(join(PROGRAMS, program), { input: wanted.map((request) => `${request}\n`).join(""), encoding: "utf8", maxBuffer: 1 << 30 });
+    const { stdout, stderr } = spawnSync(join(PROGRAMS, program), program === "wgsl" ? ["ask"] : [], { input: wanted.map((request) => `${request}\n`).join(""), encoding: "utf8", maxBuffer: 1 << 30 });
     let answers = "", notes = "";
     for (const [index, request] of wanted.entries()) {
       const { answer, why } = told(call, request);
@@ -65,12 +65,12 @@ function layoutsOf(text) {
   }
 }
 
-test("the layouts of each file are those of wgsl_layout, and each place is an index", () => {
+test("the layouts of each file are those of `wgsl layout`, and each place is an index", () => {
   const files = readdirSync(SOURCED).filter((name) => name.endsWith(".wgsl"));
   assert.ok(files.length > 10);
   for (const file of files) {
     const path = join(SOURCED, file), text = readFileSync(path, "utf8"), told = layoutsOf(text);
-    const { stdout } = spawnSync(join(PROGRAMS, "wgsl_layout"), ["--json", path], { encoding: "utf8", maxBuffer: 1 << 28 });
+    const { stdout } = spawnSync(join(PROGRAMS, "wgsl"), ["layout", "--json", path], { encoding: "utf8", maxBuffer: 1 << 28 });
     const { file: _, ...wanted } = JSON.parse(stdout);
     assert.deepEqual(JSON.parse(JSON.stringify(told, withoutLinks)), wanted, file);
     for (const { name, index } of [...told.structs, ...told.variables, ...told.structs.flatMap(({ members }) => members)]) {
@@ -78,13 +78,13 @@ test("the layouts of each file are those of wgsl_layout, and each place is an in
     }
     for (const struct of told.structs) assert.equal(wgsl.view(struct).size, struct.size, `${file}: ${struct.name}`);
   }
-  assert.equal(execFileSync(join(PROGRAMS, "wgsl_layout"), ["--version"], { encoding: "utf8" }).trim().split(" ").at(-1), wgsl.version());
+  assert.equal(execFileSync(join(PROGRAMS, "wgsl"), ["--version"], { encoding: "utf8" }).trim().split(" ").at(-1), wgsl.version());
 });
 
-test("each text has the code that wgsl_layout prints", () => {
+test("each text has the code that `wgsl layout` prints", () => {
   for (const file of readdirSync(SOURCED).filter((name) => name.endsWith(".wgsl"))) {
     for (const language of ["c", "rust", "numpy", "typescript"]) {
-      const path = join(SOURCED, file), { stdout } = spawnSync(join(PROGRAMS, "wgsl_layout"), [`--${language}`, path], { encoding: "utf8", maxBuffer: 1 << 28 });
+      const path = join(SOURCED, file), { stdout } = spawnSync(join(PROGRAMS, "wgsl"), ["layout", `--${language}`, path], { encoding: "utf8", maxBuffer: 1 << 28 });
       assertSame(codeOf(readFileSync(path, "utf8"), language), stdout, `${language} of ${file}`);
     }
   }

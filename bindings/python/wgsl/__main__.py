@@ -19,7 +19,7 @@ NOTHING = "no words"  # what is told of a blank line, or of a comment
 def read_arguments() -> argparse.Namespace:
     parser = argparse.ArgumentParser(
         prog="python -m wgsl",
-        description="Answers each line of standard input, as the programs wgsl_standard and wgsl_check do. With --json and a "
+        description="Answers each line of standard input, as `wgsl ask` and wgsl_check do. With --json and a "
         "file it prints the layouts of the structs of that WGSL file instead; - is standard input.",
         epilog="Exit status: 0, or 1 if there is an error or a finding in the file, 2 if a line or the file can't be read, 3 if "
         "memory ran out.",

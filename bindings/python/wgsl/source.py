@@ -35,7 +35,7 @@ class SourceError(ValueError):
 
 def source_layout(text: str | bytes) -> dict[str, Any]:
     """The layouts of the structs of a WGSL module, where its variables are bound, and what is wrong, as the JSON of
-    wgsl_layout has them: `structs`, `leftOut`, `variables`, `overrides`, `entryPoints`, `errors` and `findings`.
+    `wgsl layout --json` has them: `structs`, `leftOut`, `variables`, `overrides`, `entryPoints`, `errors` and `findings`.
 
     >>> told = source_layout("struct Light { color: vec3f, power: f32 } @group(0) @binding(0) var<uniform> light: Light;")
     >>> [(member["name"], member["offset"], member["size"]) for member in told["structs"][0]["members"]]

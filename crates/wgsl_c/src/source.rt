@@ -8,7 +8,7 @@ use wgsl_replies::request::{Reply, TextKind};
 use wgsl_report::report::{Format, Report, ReportOptions, report_on};
 use wgsl_report::shown::Style;
 
-/// Writes what `./wgsl_layout --json` writes of a text, with an empty name of the file. The status is 0, 3 or 4.
+/// Writes what `./wgsl layout --json` writes of a text, with an empty name of the file. The status is 0, 3 or 4.
 #[unsafe(no_mangle)]
 pub extern "C" fn wgsl_source_layout(
     alloc: Global,
@@ -34,7 +34,7 @@ fn layouts(alloc: Global, source: &[u8]) -> Result<Reply, AllocError>
     Ok(Reply::Answer(TextKind::Answer, text))
 }
 
-/// Writes the structs of a WGSL text in a language, as `./wgsl_layout` prints them: 0 is C, 1 Rust, 2 numpy, 3 TypeScript. The status
+/// Writes the structs of a WGSL text in a language, as `./wgsl layout` prints them: 0 is C, 1 Rust, 2 numpy, 3 TypeScript. The status
 /// is 1 if the text has errors; those structs are written then that have none.
 #[unsafe(no_mangle)]
 pub extern "C" fn wgsl_source_code(

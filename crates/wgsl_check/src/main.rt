@@ -38,6 +38,7 @@ pub fn run<R: Read, W: Write>(
         input,
         output,
         &mut sink(),
+        &mut false,
     )
 }
 

@@ -13,8 +13,8 @@ use Rattle.wgsl_constants.specs.declared.integer.IntegerError.{IntegerError}
 use Rattle.wgsl_constants.specs.declared.integer.IntegerError.TheVariants.{ShiftTooFar}
 use Rattle.wgsl_constants.specs.Answers.{IsFitting, Of, Then, fitting as fitting_of}
 use Rattle.wgsl_constants.specs.Arithmetic.{IsAbstractValue, IsDivided, IsDividedBy, IsI32Value, IsPairValue, IsU32Value, IsValue}
-use Rattle.wgsl_constants.specs.Conversions.{fits, fits_unsigned, i32_of, pair, u32_of}
-use Rattle.wgsl_constants.specs.Shifts.{IsCount, IsLeftShift, IsNegative, IsRightShift, IsShiftedLeft, IsShiftedRight}
+use Rattle.wgsl_constants.specs.Conversions.{count_of, fits, fits_unsigned, i32_of, pair, u32_of}
+use Rattle.wgsl_constants.specs.Shifts.{IsLeftShift, IsNegative, IsRightShift, IsShiftedLeft, IsShiftedRight}
 use Rattle.wgsl_constants.specs.Literals.{found, then}
 use Rattle.wgsl_constants.specs.Values.{abstract_value, i32_value, if_fits, is_zero, left_shift, map_value, negative, pair_value, right_shift, shift_count, shifted_left, shifted_right, u32_value, value}
 
@@ -123,10 +123,10 @@ pair_is op (BothU32 a b) r is = of_type _ _ (u32_value op a b) (u32_is op a b) r
 pub value_is : (op : IntegerOperator) (a b : Integer) (r : Result Integer IntegerError) → IsValue op a b r → found r ≡ value op a b
 value_is op a b r is = and_then (pair_value op) (pair a b) (pair_is op) r is
 
-count_is : (k : Integer) (r : Result ℕ IntegerError) → IsCount k r → found r ≡ shift_count k
-count_is (Abstract k) r is = converted (fits_unsigned 32 k) (unsigned_abs k) r is
-count_is (I32 k) r is = refused r is
-count_is (U32 k) r is = exact r is
+count_is : (k : Integer) → found (count_of k) ≡ shift_count k
+count_is (Abstract k) = converted (fits_unsigned 32 k) (unsigned_abs k) (u32_of k) refl
+count_is (I32 k) = refl
+count_is (U32 k) = refl
 
 near : {A : Type 0} (P : Type 0) (e : IntegerError) (k : ℕ) (b : Bool) → Tests b (k < 32) → (o : Option A) (r : Result A IntegerError)
     → (P → found r ≡ o) → ((32 ≤ k) × (r ≡ Err e)) ⊎ ((k < 32) × P) → found r ≡ cond b o None
@@ -156,10 +156,10 @@ right_is (I32 n) k r is = near _ ShiftTooFar k (nat_lt k 32) (less k 32) _ r (ex
 right_is (U32 n) k r is = near _ ShiftTooFar k (nat_lt k 32) (less k 32) _ r (exact r) is
 
 pub left_shift_is : (n k : Integer) (r : Result Integer IntegerError) → IsLeftShift n k r → found r ≡ left_shift n k
-left_shift_is n k r (count, is_count, rest) = rw (sym (count_is k count is_count)) (and_then (shifted_left n) count (left_is n) r rest)
+left_shift_is n k r is = rw (sym (count_is k)) (and_then (shifted_left n) (count_of k) (left_is n) r is)
 
 pub right_shift_is : (n k : Integer) (r : Result Integer IntegerError) → IsRightShift n k r → found r ≡ right_shift n k
-right_shift_is n k r (count, is_count, rest) = rw (sym (count_is k count is_count)) (and_then (shifted_right n) count (right_is n) r rest)
+right_shift_is n k r is = rw (sym (count_is k)) (and_then (shifted_right n) (count_of k) (right_is n) r is)
 
 pub negative_is : (n : Integer) (r : Result Integer IntegerError) → IsNegative n r → found r ≡ negative n
 negative_is (Abstract n) r is = of_type _ _ (if_fits (fits 63 (neg_ℤ n)) (neg_ℤ n)) (fitting _ _ _ (fits64 _)) r is

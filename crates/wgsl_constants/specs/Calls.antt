@@ -18,14 +18,15 @@ use Rattle.wgsl_constants.specs.declared.call.Function.TheVariants as f
 use Rattle.wgsl_constants.specs.Answers.{map_ok, then_ok}
 use Rattle.wgsl_constants.specs.declared.function.BitFunction.TheVariants as bit
 use Rattle.wgsl_constants.specs.Conversions.{i32_of, number, u32_of}
-use Rattle.wgsl_constants.specs.Functions.{absolute, bits_of, clamped, greatest, leading_bit, least, of_bits, of_pair, selected, sign}
+use Rattle.wgsl_constants.specs.Functions.{absolute, bits_of, clamped, extracted, greatest, inserted, leading_bit, least, of_bits, of_pair, selected, sign}
 
 -- the functions by their names; `bitcast` has its type in a list behind its name
 abbrev pub function_names : List (Function × List ℕ)
 function_names =
     (f.U32, codes "u32") ∷ (f.I32, codes "i32") ∷ (f.Abs, codes "abs") ∷ (f.Sign, codes "sign") ∷ (f.Min, codes "min") ∷
     (f.Max, codes "max") ∷ (f.Clamp, codes "clamp") ∷ (f.Select, codes "select") ∷ (f.F32, codes "f32") ∷ (f.F16, codes "f16") ∷
-    (f.FirstLeadingBit, codes "firstLeadingBit") ∷ (f.Bits bit.CountLeadingZeros, codes "countLeadingZeros") ∷
+    (f.FirstLeadingBit, codes "firstLeadingBit") ∷ (f.ExtractBits, codes "extractBits") ∷ (f.InsertBits, codes "insertBits") ∷
+    (f.All, codes "all") ∷ (f.Any, codes "any") ∷ (f.Bits bit.CountLeadingZeros, codes "countLeadingZeros") ∷
     (f.Bits bit.CountOneBits, codes "countOneBits") ∷ (f.Bits bit.CountTrailingZeros, codes "countTrailingZeros") ∷
     (f.Bits bit.FirstTrailingBit, codes "firstTrailingBit") ∷ (f.Bits bit.ReverseBits, codes "reverseBits") ∷ []
 
@@ -88,7 +89,7 @@ of_integer value a = then_ok (integer a) (λ a. by_integers (value a))
 abbrev pub of_integers : {A : Type 0} → (Integer → Integer → Result A IntegerError) → Constant → Constant → Result A CallError
 of_integers value a b = then_ok (integer a) (λ a. of_integer (value a) b)
 
--- The table: without arguments, and of one, two and three
+-- The table: without arguments, and of one to four
 
 abbrev pub of_none : Function → Result Constant CallError
 of_none f.U32 = Ok (c.Integer (U32 0))
@@ -111,6 +112,8 @@ integer_of other a = Err error.WrongArgumentCount
 abbrev pub of_one : Function → Constant → Result Constant CallError
 of_one f.F32 a = to_float (2 ^ 24) a
 of_one f.F16 a = to_float (2 ^ 11) a
+of_one f.All a = map_ok c.Bool (test a)
+of_one f.Any a = map_ok c.Bool (test a)
 of_one f a = map_ok c.Integer (integer_of f a)
 
 abbrev pub of_two : Function → Constant → Constant → Result Integer CallError
@@ -118,11 +121,17 @@ of_two f.Min a b = of_integers (of_pair least) a b
 of_two f.Max a b = of_integers (of_pair greatest) a b
 of_two other a b = Err error.WrongArgumentCount
 
--- `clamp(a, low, high)`, `select(a, b, test)`
+-- `clamp(a, low, high)`, `select(a, b, test)`, `extractBits(a, offset, count)`
 abbrev pub of_three : Function → Constant → Constant → Constant → Result Integer CallError
 of_three f.Clamp a b c = then_ok (integer a) (λ a. of_integers (clamped a) b c)
 of_three f.Select a b c = then_ok (integer a) (λ a. then_ok (integer b) (λ b. then_ok (test c) (λ t. by_integers (of_pair (selected t) a b))))
+of_three f.ExtractBits a b c = then_ok (integer a) (λ a. of_integers (extracted a) b c)
 of_three other a b c = Err error.WrongArgumentCount
+
+-- `insertBits(a, bits, offset, count)`
+abbrev pub of_four : Function → Constant → Constant → Constant → Constant → Result Integer CallError
+of_four f.InsertBits a b c d = then_ok (integer a) (λ a. then_ok (integer b) (λ b. of_integers (inserted a b) c d))
+of_four other a b c d = Err error.WrongArgumentCount
 
 -- the value of a call
 abbrev pub called : Function → Arguments → Result Constant CallError
@@ -130,4 +139,4 @@ called f Zero = of_none f
 called f (One a) = of_one f a
 called f (Two a b) = map_ok c.Integer (of_two f a b)
 called f (Three x y z) = map_ok c.Integer (of_three f x y z)
-called f (Four x y z w) = Err error.WrongArgumentCount
+called f (Four x y z w) = map_ok c.Integer (of_four f x y z w)

@@ -31,6 +31,12 @@ i32_of n = fitting (fits 31 n) n
 abbrev pub u32_of : ℤ → Result ℕ IntegerError
 u32_of n = fitting (fits_unsigned 32 n) (unsigned_abs n)
 
+-- a number of bits is a `u32`: `1 << 2i` is an error
+abbrev pub count_of : Integer → Result ℕ IntegerError
+count_of (Abstract k) = u32_of k
+count_of (I32 k) = Err MixedTypes
+count_of (U32 k) = Ok k
+
 -- both integers in one type: an AbstractInt converts to the type of the other
 abbrev pub pair : Integer → Integer → Result IntegerPair IntegerError
 pair (Abstract a) (Abstract b) = Ok (BothAbstract a b)

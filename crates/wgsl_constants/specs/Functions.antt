@@ -1,5 +1,5 @@
 -- The values of built-in functions on integers (WGSL, "Numeric Built-in Functions", "Logical Built-in Functions", "bitcast").
-use Rattle.std.specs.Prelude.{ℕ, ◌-◌, ◌^◌, ℤ, pos, Bool, true, false, cond, neg_ℤ, min, max, Result, Ok, Err, count_ones, int_lt, nat_eq, unsigned_abs}
+use Rattle.std.specs.Prelude.{ℕ, ◌+◌, ◌-◌, ◌*◌, ◌/◌, ◌%◌, ◌^◌, ℤ, ◌-ℤ◌, pos, Bool, true, false, cond, neg_ℤ, min, max, Result, Ok, Err, count_ones, int_lt, nat_eq, nat_lt, unsigned_abs}
 use Rattle.std.specs.Int.{w32, cast_signed, cast_unsigned, int_bit_not, int_max, int_min, int_signum, leading_zeros, reverse_bits, trailing_zeros}
 use Rattle.std.specs.Ordering.{int_cmp, nat_cmp}
 use Rattle.std.specs.declared.cmp.Ordering.{Ordering}
@@ -11,9 +11,9 @@ use Rattle.wgsl_constants.specs.declared.integer.Integer.TheVariants.{Abstract, 
 use Rattle.wgsl_constants.specs.declared.integer.IntegerPair.{IntegerPair}
 use Rattle.wgsl_constants.specs.declared.integer.IntegerPair.TheVariants.{Abstract as BothAbstract, I32 as BothI32, U32 as BothU32}
 use Rattle.wgsl_constants.specs.declared.integer.IntegerError.{IntegerError}
-use Rattle.wgsl_constants.specs.declared.integer.IntegerError.TheVariants.{EmptyRange, NegatedUnsigned}
+use Rattle.wgsl_constants.specs.declared.integer.IntegerError.TheVariants.{BitsTooFar, EmptyRange, NegatedUnsigned}
 use Rattle.wgsl_constants.specs.Answers.{fitting, map_ok, then_ok}
-use Rattle.wgsl_constants.specs.Conversions.{fits, i32_of, pair, u32_of}
+use Rattle.wgsl_constants.specs.Conversions.{count_of, fits, i32_of, pair, u32_of}
 
 -- what holds of both integers in one type
 abbrev pub of_pair : {A : Type 0} → (IntegerPair → A) → Integer → Integer → Result A IntegerError
@@ -110,3 +110,43 @@ abbrev pub leading_bit : Integer → Result Integer IntegerError
 leading_bit (Abstract n) = map_ok (λ n. I32 (first_bit_of n)) (i32_of n)
 leading_bit (I32 n) = Ok (I32 (first_bit_of n))
 leading_bit (U32 n) = Ok (U32 (first_bit n))
+
+-- the c bits from bit o on
+abbrev pub field : ℕ → ℕ → ℕ → ℕ
+field o c n = n / 2 ^ o % 2 ^ c
+
+-- c bits, the highest of which is the sign
+abbrev pub signed : ℕ → ℕ → ℤ
+signed c n = cond (nat_lt (2 * n) (2 ^ c)) (pos n) (pos n -ℤ pos (2 ^ c))
+
+abbrev pub field_i32 : ℕ → ℕ → ℤ → ℤ
+field_i32 o c n = signed c (field o c (cast_unsigned w32 n))
+
+-- what is made of c bits from bit o on, which a 32-bit integer has to have
+abbrev pub of_field : {A : Type 0} → (ℕ → ℕ → Result A IntegerError) → Integer → Integer → Result A IntegerError
+of_field f offset count = then_ok (count_of offset) (λ o. then_ok (count_of count) (λ c. cond (nat_lt 32 (o + c)) (Err BitsTooFar) (f o c)))
+
+-- `extractBits(0xF0u, 4, 2)` is 3u, and an `i32` of the bits 11 is -1
+abbrev pub extract : Integer → ℕ → ℕ → Result Integer IntegerError
+extract (Abstract n) o c = map_ok (λ n. I32 (field_i32 o c n)) (i32_of n)
+extract (I32 n) o c = Ok (I32 (field_i32 o c n))
+extract (U32 n) o c = Ok (U32 (field o c n))
+
+abbrev pub extracted : Integer → Integer → Integer → Result Integer IntegerError
+extracted n offset count = of_field (extract n) offset count
+
+-- n with the lowest c bits of m from bit o on
+abbrev pub replaced : ℕ → ℕ → ℕ → ℕ → ℕ
+replaced o c n m = n - field o c n * 2 ^ o + field 0 c m * 2 ^ o
+
+unfoldable pub replaced_i32 : ℕ → ℕ → ℤ → ℤ → ℤ
+replaced_i32 o c n m = cast_signed w32 (replaced o c (cast_unsigned w32 n) (cast_unsigned w32 m))
+
+-- `insertBits(0u, 3, 4, 2)` is 48u
+abbrev pub insert : ℕ → ℕ → IntegerPair → Result Integer IntegerError
+insert o c (BothAbstract n m) = then_ok (i32_of n) (λ n. map_ok (λ m. I32 (replaced_i32 o c n m)) (i32_of m))
+insert o c (BothI32 n m) = Ok (I32 (replaced_i32 o c n m))
+insert o c (BothU32 n m) = Ok (U32 (replaced o c n m))
+
+abbrev pub inserted : Integer → Integer → Integer → Integer → Result Integer IntegerError
+inserted n m offset count = of_field (λ o c. then_ok (pair n m) (insert o c)) offset count

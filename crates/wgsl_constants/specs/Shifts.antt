@@ -4,15 +4,9 @@ use Rattle.std.specs.Int.{w32, w64, int_wrap, int_shr, int_bit_not, bit_not}
 use Rattle.wgsl_constants.specs.declared.integer.Integer.{Integer}
 use Rattle.wgsl_constants.specs.declared.integer.Integer.TheVariants.{Abstract, I32, U32}
 use Rattle.wgsl_constants.specs.declared.integer.IntegerError.{IntegerError}
-use Rattle.wgsl_constants.specs.declared.integer.IntegerError.TheVariants.{MixedTypes, NegatedUnsigned, ShiftTooFar}
+use Rattle.wgsl_constants.specs.declared.integer.IntegerError.TheVariants.{NegatedUnsigned, ShiftTooFar}
 use Rattle.wgsl_constants.specs.Answers.{IsFitting, Of, Then}
-use Rattle.wgsl_constants.specs.Conversions.{i32_of, u32_of}
-
--- the right operand of a shift is a `u32`
-abbrev pub IsCount : Integer → Result ℕ IntegerError → Type 0
-IsCount (Abstract k) r = r ≡ u32_of k
-IsCount (I32 k) r = r ≡ Err MixedTypes
-IsCount (U32 k) r = r ≡ Ok k
+use Rattle.wgsl_constants.specs.Conversions.{count_of, i32_of, u32_of}
 
 -- `<<` by k bits: the value times 2^k, which the type has to hold. `1 << 63` is an overflow
 abbrev pub IsAbstractShift : ℤ → ℕ → Result ℤ IntegerError → Type 0
@@ -37,10 +31,10 @@ IsShiftedRight (I32 n) k r = ((32 ≤ k) × (r ≡ Err ShiftTooFar)) ⊎ ((k < 3
 IsShiftedRight (U32 n) k r = ((32 ≤ k) × (r ≡ Err ShiftTooFar)) ⊎ ((k < 32) × (r ≡ Ok (U32 (n / 2 ^ k))))
 
 abbrev pub IsLeftShift : Integer → Integer → Result Integer IntegerError → Type 0
-IsLeftShift n k r = (count : Result ℕ IntegerError) × IsCount k count × Then count (IsShiftedLeft n) r
+IsLeftShift n k r = Then (count_of k) (IsShiftedLeft n) r
 
 abbrev pub IsRightShift : Integer → Integer → Result Integer IntegerError → Type 0
-IsRightShift n k r = (count : Result ℕ IntegerError) × IsCount k count × Then count (IsShiftedRight n) r
+IsRightShift n k r = Then (count_of k) (IsShiftedRight n) r
 
 -- `-`: `-(-2147483647i - 1i)` is -2147483648, and a `u32` has no negative
 abbrev pub IsNegative : Integer → Result Integer IntegerError → Type 0

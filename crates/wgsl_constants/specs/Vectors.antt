@@ -15,6 +15,9 @@ use Rattle.wgsl_constants.specs.declared.vector.Size.TheVariants as size
 use Rattle.wgsl_constants.specs.declared.vector.Vector.{Vector}
 use Rattle.wgsl_constants.specs.declared.vector.Vector.TheVariants as v
 use Rattle.wgsl_constants.specs.Answers.{map_ok, then_ok}
+use Rattle.wgsl_constants.specs.Literals.{then}
+use Rattle.wgsl_constants.specs.Values.{value}
+use Rattle.wgsl_constants.specs.declared.integer.IntegerOperator.TheVariants.{Addition, Multiplication}
 use Rattle.wgsl_constants.specs.Calls.{integer, of_integers}
 use Rattle.wgsl_constants.specs.Functions.{of_pair, selected}
 
@@ -82,3 +85,16 @@ component Third (v.Three x y z) = Some z
 component Third (v.Four x y z w) = Some z
 component Fourth (v.Four x y z w) = Some w
 component other few = None
+
+abbrev pub and_product : Integer → Integer → Integer → Option Integer
+and_product sum a x = then (value Multiplication a x) (value Addition sum)
+
+-- `dot(vec2(1, 2), vec2(3, 4))` is 11
+abbrev pub dot_two : Integer → Integer → Integer → Integer → Option Integer
+dot_two a b x y = then (value Multiplication a x) (λ s. and_product s b y)
+
+abbrev pub dot : Vector → Vector → Option Integer
+dot (v.Two a b) (v.Two x y) = dot_two a b x y
+dot (v.Three a b c) (v.Three x y z) = then (dot_two a b x y) (λ s. and_product s c z)
+dot (v.Four a b c d) (v.Four x y z w) = then (dot_two a b x y) (λ s. then (and_product s c z) (λ s. and_product s d w))
+dot other shorter = None

@@ -1,11 +1,12 @@
 // Calls of functions whose values are known at compile time (WGSL, "Value Constructor Built-in Functions", "bitcast", "Logical
 // Built-in Functions", "Numeric Built-in Functions").
 ghost use Rattle.std.specs.Prelude.{◌≡◌};
-ghost use Rattle.wgsl_constants.specs.Calls.{called, function_named, integer, integer_of, of_none, of_one, of_three, of_two, test, to_float, to_i32, to_u32, with_argument};
+ghost use Rattle.wgsl_constants.specs.Calls.{called, function_named, integer, integer_of, of_four, of_none, of_one, of_three, of_two, test, to_float, to_i32, to_u32, with_argument};
 
 use crate::constant::Constant;
 use crate::function::{
-    BitFunction, absolute, bits_of, clamp, first_leading_bit, maximum, minimum, select, sign,
+    BitFunction, absolute, bits_of, clamp, extract_bits, first_leading_bit, insert_bits, maximum,
+    minimum, select, sign,
 };
 use crate::integer::{Integer, IntegerError};
 use crate::operator;
@@ -26,6 +27,10 @@ pub enum Function {
     Clamp,
     Select,
     FirstLeadingBit,
+    ExtractBits,
+    InsertBits,
+    All,
+    Any,
     Bits(BitFunction),
 }
 
@@ -91,6 +96,10 @@ impl Function {
             "f32" => Some(Function::F32),
             "f16" => Some(Function::F16),
             "firstLeadingBit" => Some(Function::FirstLeadingBit),
+            "extractBits" => Some(Function::ExtractBits),
+            "insertBits" => Some(Function::InsertBits),
+            "all" => Some(Function::All),
+            "any" => Some(Function::Any),
             "countLeadingZeros" => Some(Function::Bits(BitFunction::CountLeadingZeros)),
             "countOneBits" => Some(Function::Bits(BitFunction::CountOneBits)),
             "countTrailingZeros" => Some(Function::Bits(BitFunction::CountTrailingZeros)),
@@ -110,7 +119,7 @@ impl Function {
             Arguments::One(a) => self.of_one(a),
             Arguments::Two(a, b) => Ok(Constant::Integer(self.of_two(a, b)?)),
             Arguments::Three(a, b, c) => Ok(Constant::Integer(self.of_three(a, b, c)?)),
-            Arguments::Four(_, _, _, _) => Err(CallError::WrongArgumentCount),
+            Arguments::Four(a, b, c, d) => Ok(Constant::Integer(self.of_four(a, b, c, d)?)),
         }
     }
 
@@ -131,6 +140,7 @@ impl Function {
         match self {
             Function::F32 => to_float(a, F32_EXACT),
             Function::F16 => to_float(a, F16_EXACT),
+            Function::All | Function::Any => Ok(Constant::Bool(test(a)?)),
             _ => Ok(Constant::Integer(self.integer_of(a)?)),
         }
     }
@@ -167,6 +177,27 @@ impl Function {
         match self {
             Function::Clamp => Ok(clamp(integer(a)?, integer(b)?, integer(c)?)?),
             Function::Select => Ok(select(integer(a)?, integer(b)?, test(c)?)?),
+            Function::ExtractBits => Ok(extract_bits(integer(a)?, integer(b)?, integer(c)?)?),
+            _ => Err(CallError::WrongArgumentCount),
+        }
+    }
+
+    fn of_four(
+        self,
+        a: Constant,
+        b: Constant,
+        c: Constant,
+        d: Constant,
+    ) -> Result<Integer, CallError>
+        ensures { result ≡ of_four self a b c d }
+    {
+        match self {
+            Function::InsertBits => Ok(insert_bits(
+                integer(a)?,
+                integer(b)?,
+                integer(c)?,
+                integer(d)?,
+            )?),
             _ => Err(CallError::WrongArgumentCount),
         }
     }

@@ -1,10 +1,10 @@
 // Functions on integers (WGSL, "Numeric Built-in Functions", "Logical Built-in Functions", "bitcast").
 
-ghost use Rattle.std.specs.Prelude.{◌≡◌};
-ghost use Rattle.wgsl_constants.specs.Functions.{absolute, bits_of, clamped, first_bit, first_bit_of, greatest, leading_bit, least, of_bits, of_i32, of_pair, of_u32, selected, sign};
+ghost use Rattle.std.specs.Prelude.{◌≡◌, ◌+◌, ◌<◌, ◌≤◌, ◌^◌};
+ghost use Rattle.wgsl_constants.specs.Functions.{absolute, bits_of, clamped, extracted, field, field_i32, first_bit, first_bit_of, greatest, inserted, leading_bit, least, of_bits, of_i32, of_pair, of_u32, replaced, replaced_i32, selected, sign, signed};
 
 use crate::integer::{Integer, IntegerError, IntegerPair};
-use crate::operator::{compare, pair_of, to_i32, to_u32};
+use crate::operator::{compare, count_of, pair_of, to_i32, to_u32};
 use std::cmp::Ordering;
 
 /// The bits of a 32-bit integer. An AbstractInt is taken as an `i32` if it fits, or else as a `u32`.
@@ -158,4 +158,102 @@ fn first_bit_of(value: i32) -> i32
 {
     let bits = if value < 0 { !value } else { value };
     first_bit(bits.cast_unsigned()).cast_signed()
+}
+
+/// `extractBits`: the bits from an index on, as many as counted. For an `i32` the highest of them is the sign. An
+/// AbstractInt is taken as an `i32`.
+pub fn extract_bits(
+    integer: Integer,
+    offset: Integer,
+    count: Integer,
+) -> Result<Integer, IntegerError>
+    ensures { result ≡ extracted integer offset count }
+{
+    let (offset, count) = (count_of(offset)?, count_of(count)?);
+    if u64::from(offset) + u64::from(count) > 32 {
+        return Err(IntegerError::BitsTooFar);
+    }
+    match integer {
+        Integer::Abstract(value) => Ok(Integer::I32(field_i32(to_i32(value)?, offset, count))),
+        Integer::I32(value) => Ok(Integer::I32(field_i32(value, offset, count))),
+        Integer::U32(value) => Ok(Integer::U32(field(value, offset, count))),
+    }
+}
+
+/// `insertBits`: the first integer, with the lowest bits of the second one from an index on, as many as counted. Two
+/// AbstractInts are taken as `i32`.
+pub fn insert_bits(
+    integer: Integer,
+    bits: Integer,
+    offset: Integer,
+    count: Integer,
+) -> Result<Integer, IntegerError>
+    ensures { result ≡ inserted integer bits offset count }
+{
+    let (offset, count) = (count_of(offset)?, count_of(count)?);
+    if u64::from(offset) + u64::from(count) > 32 {
+        return Err(IntegerError::BitsTooFar);
+    }
+    match pair_of(integer, bits)? {
+        IntegerPair::Abstract(a, b) => {
+            let (a, b) = (to_i32(a)?, to_i32(b)?);
+            Ok(Integer::I32(replaced_i32(a, b, offset, count)))
+        }
+        IntegerPair::I32(a, b) => Ok(Integer::I32(replaced_i32(a, b, offset, count))),
+        IntegerPair::U32(a, b) => Ok(Integer::U32(replaced(a, b, offset, count))),
+    }
+}
+
+fn two_to(exponent: u32) -> u64
+    requires { exponent ≤ 32 }
+    ensures exact { result ≡ 2 ^ exponent }
+    ensures few { result ≤ 2 ^ 32 }
+{
+    1u64 << exponent
+}
+
+/// The bits from an index on, as many as counted.
+fn field(value: u32, offset: u32, count: u32) -> u32
+    requires { offset + count ≤ 32 }
+    ensures exact { result ≡ field offset count value }
+    ensures few { result < 2 ^ count }
+{
+    let bits = (u64::from(value) >> offset) % two_to(count);
+    bits as u32
+}
+
+fn field_i32(value: i32, offset: u32, count: u32) -> i32
+    requires { offset + count ≤ 32 }
+    ensures { result ≡ field_i32 offset count value }
+{
+    signed(field(value.cast_unsigned(), offset, count), count)
+}
+
+/// Bits, the highest of which is the sign.
+fn signed(bits: u32, count: u32) -> i32
+    requires count { count ≤ 32 }
+    requires few { bits < 2 ^ count }
+    ensures { result ≡ signed count bits }
+{
+    let (bits, above) = (i64::from(bits), two_to(count).cast_signed());
+    let value = if 2 * bits < above { bits } else { bits - above };
+    value as i32
+}
+
+/// The value with the lowest bits of another from an index on, as many as counted.
+fn replaced(value: u32, bits: u32, offset: u32, count: u32) -> u32
+    requires { offset + count ≤ 32 }
+    ensures { result ≡ replaced offset count value bits }
+{
+    let old = u64::from(field(value, offset, count)) << offset;
+    let new = u64::from(field(bits, 0, count)) << offset;
+    (u64::from(value) - old + new) as u32
+}
+
+#[tactic(auto, unfolding(crate::specs::Functions::replaced_i32))]
+fn replaced_i32(value: i32, bits: i32, offset: u32, count: u32) -> i32
+    requires { offset + count ≤ 32 }
+    ensures { result ≡ replaced_i32 offset count value bits }
+{
+    replaced(value.cast_unsigned(), bits.cast_unsigned(), offset, count).cast_signed()
 }

@@ -46,6 +46,8 @@ pub enum IntegerError {
     ShiftTooFar,
     /// A `clamp` whose lower bound is above its upper bound.
     EmptyRange,
+    /// An `extractBits` or `insertBits` of bits that a 32-bit integer doesn't have.
+    BitsTooFar,
 }
 
 impl Integer {

@@ -2,10 +2,10 @@
 
 ghost use Rattle.std.specs.Prelude.{◌≡◌, ◌<◌, ◌^◌, neg_ℤ, pos};
 ghost use Rattle.std.specs.Int.{int_shr, int_wrap, w32};
-ghost use Rattle.wgsl_constants.specs.Conversions.{i32_of, pair, u32_of};
+ghost use Rattle.wgsl_constants.specs.Conversions.{count_of, i32_of, pair, u32_of};
 ghost use Rattle.wgsl_constants.specs.Arithmetic.{IsAbstractValue, IsI32Value, IsU32Value, IsValue};
 ghost use Rattle.wgsl_constants.specs.Functions.{comparison, of_pair};
-ghost use Rattle.wgsl_constants.specs.Shifts.{IsAbstractShift, IsCount, IsI32Shift, IsLeftShift, IsNegative, IsRightShift, IsU32Shift, complement_of};
+ghost use Rattle.wgsl_constants.specs.Shifts.{IsAbstractShift, IsI32Shift, IsLeftShift, IsNegative, IsRightShift, IsU32Shift, complement_of};
 
 use crate::integer::{Integer, IntegerError, IntegerOperator, IntegerPair};
 use std::cmp::Ordering;
@@ -148,9 +148,9 @@ fn apply_u32(operator: IntegerOperator, a: u32, b: u32) -> Result<u32, IntegerEr
     }
 }
 
-/// The number of bits by which a shift by an integer shifts.
-fn count_of(right: Integer) -> Result<u32, IntegerError>
-    ensures { IsCount right result }
+/// The number of bits that an integer says, which is a `u32`.
+pub fn count_of(right: Integer) -> Result<u32, IntegerError>
+    ensures { result ≡ count_of right }
 {
     match right {
         Integer::Abstract(count) => to_u32(count),

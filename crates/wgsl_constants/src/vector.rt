@@ -1,10 +1,14 @@
 // Vectors of integers, and their components (WGSL, "Value Constructor Built-in Functions", "Vector Access Expression").
 ghost use Rattle.std.specs.Prelude.{◌≡◌, false};
-ghost use Rattle.wgsl_constants.specs.Vectors.{alike, component, component_named, four, like, same, size_named, three, two, vector_of};
+ghost use Rattle.wgsl_constants.specs.Literals.{found};
+ghost use Rattle.wgsl_constants.specs.Values.{value};
+ghost use Rattle.wgsl_constants.specs.Vectors.{alike, and_product, component, component_named, dot, four, like, same, size_named, three, two, vector_of};
+ghost use Rattle.wgsl_constants.specs.declared.integer.IntegerOperator.TheVariants.{Addition, Multiplication};
 
 use crate::call::{Arguments, CallError, integer};
 use crate::function::select;
-use crate::integer::{Integer, IntegerError};
+use crate::integer::{Integer, IntegerError, IntegerOperator};
+use crate::operator::apply;
 
 /// The number of components of a vector.
 #[derive(Clone, Copy)]
@@ -113,6 +117,38 @@ impl Vector {
             _ => None,
         }
     }
+
+    /// `dot`: the sum of the products of the components. It is `NotInteger` of vectors of other lengths.
+    pub fn dot(self, other: Vector) -> Result<Integer, CallError>
+        ensures { found result ≡ dot self other }
+    {
+        match (self, other) {
+            (Vector::Two(a, b), Vector::Two(x, y)) => and_product(product(a, x)?, b, y),
+            (Vector::Three(a, b, c), Vector::Three(x, y, z)) => {
+                and_product(and_product(product(a, x)?, b, y)?, c, z)
+            }
+            (Vector::Four(a, b, c, d), Vector::Four(x, y, z, w)) => {
+                let three = and_product(and_product(product(a, x)?, b, y)?, c, z)?;
+                and_product(three, d, w)
+            }
+            _ => Err(CallError::NotInteger),
+        }
+    }
+}
+
+#[tactic(auto, using(crate::proofs::Values::value_is))]
+fn product(a: Integer, b: Integer) -> Result<Integer, CallError>
+    ensures { found result ≡ value Multiplication a b }
+{
+    Ok(apply(IntegerOperator::Multiplication, a, b)?)
+}
+
+/// The sum with the product of two integers.
+#[tactic(auto, using(crate::proofs::Values::value_is))]
+fn and_product(sum: Integer, a: Integer, b: Integer) -> Result<Integer, CallError>
+    ensures { found result ≡ and_product sum a b }
+{
+    Ok(apply(IntegerOperator::Addition, sum, product(a, b)?)?)
 }
 
 /// The vector with one integer for all components.

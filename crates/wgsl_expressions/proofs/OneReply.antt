@@ -3,31 +3,32 @@ use Rattle.std.proofs.Common.{◌≡◌, ◌∙◌, ℕ, List, Option, Some, Non
 use Rattle.wgsl_forms.specs.Expressions.{Expression}
 use Rattle.wgsl_requests.specs.Requests.{WgslRequest, overloads_of}
 use Rattle.wgsl_requests.proofs.OneAnswer.{answer_once}
-use Rattle.wgsl_requests.proofs.OneReply.{one_of_line}
-use Rattle.wgsl_requests.specs.Replies.{ReplyText, answer}
-use Rattle.wgsl_requests.specs.Texts.{answer_text, text_kind}
-use Rattle.wgsl_expressions.specs.Outcomes.{Parts, operand}
-use Rattle.wgsl_expressions.specs.Statements.{question_of, request_of}
+use Rattle.wgsl_requests.proofs.OneReply.{one_of_line, one_reply_of}
+use Rattle.wgsl_requests.specs.Replies.{IsReplyOf, ReplyText, answer}
+use Rattle.wgsl_requests.specs.Texts.{text_kind}
+use Rattle.wgsl_expressions.specs.Outcomes.{Head, Parts, asked, operand}
+use Rattle.wgsl_expressions.specs.Statements.{question_on, request_of, told}
 use Rattle.wgsl_spelling.specs.Words.{word}
 use Rattle.wgsl_expressions.specs.Stack.{Item, a_bracket, a_call, a_heading, a_name, a_question, an_asked, an_operand, an_operator, an_overloads}
-use Rattle.wgsl_expressions.specs.Replies.{AnswersAny, AnswersItem, AnswersParts, AnswersRequest, IsReplyToText, IsStandardReply}
+use Rattle.wgsl_expressions.specs.Replies.{AnswersAny, AnswersItem, AnswersParts, AnswersQuestion, IsReplyToText, IsStandardReply}
+use Rattle.wgsl_expressions.specs.declared.statement.Question.{Question}
 use Rattle.wgsl_expressions.proofs.OneOutcome.{one_asked}
 
 -- the reply to an item
 
-request_once : (request : Option WgslRequest) (r s : ReplyText) → AnswersRequest request r → AnswersRequest request s → r ≡ s
-request_once None r s f g = f ∙ sym g
-request_once (Some request) r s f g = f.2 ∙ (ap (λ a. answer (text_kind a) (answer_text a)) (answer_once request f.0 g.0 f.1 g.1) ∙ sym g.2)
+question_once : (question : Question) (head : Head) (request : WgslRequest) (r s : ReplyText) → AnswersQuestion question head request r → AnswersQuestion question head request s → r ≡ s
+question_once question head request r s f g =
+    f.2 ∙ (ap (λ a. answer (text_kind a) (told question head a)) (answer_once (question_on request question) f.0 g.0 f.1 g.1) ∙ sym g.2)
 
-parts_once : (request : List Expression → Option WgslRequest) (xs : Parts) (r s : ReplyText) → AnswersParts request xs r → AnswersParts request xs s → r ≡ s
-parts_once request (Ok xs) r s f g = request_once (request xs) r s f g
-parts_once request (Err e) r s f g = f ∙ sym g
+parts_once : (Holds : List Expression → ReplyText → Type 0) → ((xs : List Expression) (r s : ReplyText) → Holds xs r → Holds xs s → r ≡ s) → (xs : Parts) (r s : ReplyText) → AnswersParts Holds xs r → AnswersParts Holds xs s → r ≡ s
+parts_once Holds once (Ok xs) r s f g = once xs r s f g
+parts_once Holds once (Err e) r s f g = f ∙ sym g
 
 item_once : (line : List ℕ) (item : Item) (r s : ReplyText) → AnswersItem line item r → AnswersItem line item s → r ≡ s
 item_once line (an_operand x) r s f g = f ∙ sym g
-item_once line (an_asked a) r s f g = parts_once (λ xs. request_of a.statement a.types (map operand xs)) a.parts r s f g
-item_once line (a_question question call) r s f g = parts_once (λ xs. Some (question_of question call.head xs)) call.parts r s f g
-item_once line (an_overloads token) r s f g = request_once (Some (overloads_of (word line token))) r s f g
+item_once line (an_asked a) r s f g = parts_once (λ xs. IsReplyOf (request_of a.statement a.types (map operand xs))) (λ xs. one_reply_of (request_of a.statement a.types (map operand xs))) a.parts r s f g
+item_once line (a_question question call) r s f g = parts_once (λ xs. AnswersQuestion question call.head (asked call.head xs)) (λ xs. question_once question call.head (asked call.head xs)) call.parts r s f g
+item_once line (an_overloads token) r s f g = one_reply_of (Some (overloads_of (word line token))) r s f g
 item_once line (a_name index) r s f g = f ∙ sym g
 item_once line (an_operator count) r s f g = f ∙ sym g
 item_once line (a_bracket at) r s f g = f ∙ sym g

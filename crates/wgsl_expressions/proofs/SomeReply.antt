@@ -5,13 +5,14 @@ use Rattle.std.specs.Str.{is_utf8}
 use Rattle.std.proofs.lemmas.Bool.{cases_lt}
 use Rattle.std.proofs.lemmas.Str.{IsUtf8-from_is_utf8, is_utf8-from_IsUtf8}
 use Rattle.wgsl_forms.specs.Expressions.{Expression}
-use Rattle.wgsl_requests.specs.Replies.{IsLineOfText, ReplyText, answer, nothing, unreadable}
+use Rattle.wgsl_requests.specs.Replies.{IsLineOfText, IsReplyOf, ReplyText, answer, nothing, unreadable}
 use Rattle.wgsl_requests.specs.Requests.{WgslRequest, overloads_of}
 use Rattle.wgsl_requests.specs.Texts.{answer_text, text_kind}
-use Rattle.wgsl_expressions.specs.Outcomes.{Parts, operand}
-use Rattle.wgsl_expressions.specs.Statements.{question_of, request_of}
+use Rattle.wgsl_expressions.specs.Outcomes.{Head, Parts, asked, operand}
+use Rattle.wgsl_expressions.specs.Statements.{question_on, request_of, told}
 use Rattle.wgsl_spelling.specs.Words.{word}
-use Rattle.wgsl_expressions.specs.Replies.{AnswersAny, AnswersItem, AnswersParts, AnswersRequest, IsReplyToText, IsStandardReply}
+use Rattle.wgsl_expressions.specs.Replies.{AnswersAny, AnswersItem, AnswersParts, AnswersQuestion, IsReplyToText, IsStandardReply}
+use Rattle.wgsl_expressions.specs.declared.statement.Question.{Question}
 use Rattle.wgsl_expressions.specs.Stack.{Item, a_bracket, a_call, a_heading, a_name, a_question, an_asked, an_operand, an_operator, an_overloads}
 use Rattle.wgsl_expressions.proofs.Total.{EachAnswered, some_asked}
 
@@ -32,19 +33,23 @@ dec_line line = elim (cases_lt 4096 (length line)) [
 ]
 
 module _ (answered : EachAnswered) where
-  request_answered : (request : Option WgslRequest) → (reply : ReplyText) × AnswersRequest request reply
-  request_answered None = (unreadable, refl)
-  request_answered (Some request) = let a = answered request in (answer (text_kind a.0) (answer_text a.0), (a.0, a.1, refl))
+  pub some_reply_of : (request : Option WgslRequest) → (reply : ReplyText) × IsReplyOf request reply
+  some_reply_of None = (unreadable, refl)
+  some_reply_of (Some request) =
+      let a = answered request in (answer (text_kind a.0) (answer_text a.0), (text_kind a.0, answer_text a.0, (a.0, a.1, refl, refl), refl))
 
-  parts_answered : (request : List Expression → Option WgslRequest) (xs : Parts) → (reply : ReplyText) × AnswersParts request xs reply
-  parts_answered request (Ok xs) = request_answered (request xs)
-  parts_answered request (Err e) = (_, refl)
+  question_answered : (question : Question) (head : Head) (request : WgslRequest) → (reply : ReplyText) × AnswersQuestion question head request reply
+  question_answered question head request = let a = answered (question_on request question) in (answer (text_kind a.0) (told question head a.0), (a.0, a.1, refl))
+
+  parts_answered : (Holds : List Expression → ReplyText → Type 0) → ((xs : List Expression) → (reply : ReplyText) × Holds xs reply) → (xs : Parts) → (reply : ReplyText) × AnswersParts Holds xs reply
+  parts_answered Holds some (Ok xs) = some xs
+  parts_answered Holds some (Err e) = (_, refl)
 
   item_answered : (line : List ℕ) (item : Item) → (reply : ReplyText) × AnswersItem line item reply
   item_answered line (an_operand x) = (_, refl)
-  item_answered line (an_asked a) = parts_answered (λ xs. request_of a.statement a.types (map operand xs)) a.parts
-  item_answered line (a_question question call) = parts_answered (λ xs. Some (question_of question call.head xs)) call.parts
-  item_answered line (an_overloads token) = request_answered (Some (overloads_of (word line token)))
+  item_answered line (an_asked a) = parts_answered (λ xs. IsReplyOf (request_of a.statement a.types (map operand xs))) (λ xs. some_reply_of (request_of a.statement a.types (map operand xs))) a.parts
+  item_answered line (a_question question call) = parts_answered (λ xs. AnswersQuestion question call.head (asked call.head xs)) (λ xs. question_answered question call.head (asked call.head xs)) call.parts
+  item_answered line (an_overloads token) = some_reply_of (Some (overloads_of (word line token)))
   item_answered line (a_name index) = (unreadable, refl)
   item_answered line (an_operator count) = (unreadable, refl)
   item_answered line (a_bracket at) = (unreadable, refl)

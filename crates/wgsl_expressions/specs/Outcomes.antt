@@ -4,8 +4,8 @@ use Rattle.std.specs.List.{list_all}
 use Rattle.wgsl_syntax.specs.declared.operator.UnaryOperator.TheVariants.{AddressOf}
 use Rattle.wgsl_rules.specs.standard.Choice.{Operand}
 use Rattle.wgsl_rules.specs.types.Signatures.{Parameter}
-use Rattle.wgsl_rules.specs.types.Types.{WgslType, struct}
-use Rattle.wgsl_standard.specs.Callees.{WgslCallee, a_constructor, a_function, a_unary, can_be_const_expression}
+use Rattle.wgsl_rules.specs.types.Types.{WgslType}
+use Rattle.wgsl_standard.specs.Callees.{WgslCallee, a_unary, can_be_const_expression}
 use Rattle.wgsl_forms.specs.Expressions.{Expression, is_const_expression, shown_type}
 use Rattle.wgsl_forms.specs.Index.{is_vector}
 use Rattle.wgsl_forms.specs.Member.{is_swizzle}
@@ -14,7 +14,6 @@ use Rattle.wgsl_forms.specs.declared.form.Referent.{Referent}
 use Rattle.wgsl_forms.specs.declared.form.Referent.TheVariants.{Whole, Component, Swizzle}
 use Rattle.wgsl_requests.specs.Answers.{Answers, WgslAnswer, a_fit, a_type_of, a_form_type}
 use Rattle.wgsl_requests.specs.CallForms.{type_asked}
-use Rattle.wgsl_requests.specs.Calls.{WgslCall}
 use Rattle.wgsl_requests.specs.Forms.{address_of, construct_of, index_of, member_of, typed_array_of}
 use Rattle.wgsl_requests.specs.Requests.{WgslRequest, fit_of, form_of}
 use Rattle.wgsl_requests.specs.Texts.{answer_text}
@@ -126,17 +125,6 @@ asked_with (declared name ts result) referent xs = fit_of xs ts
 
 abbrev pub asked : Head → List Expression → WgslRequest
 asked head xs = asked_with head (referent_of xs) (map (operand_by head) xs)
-
-abbrev pub struct_name : WgslType → List ℕ
-struct_name (struct name ms) = name
-struct_name t = []
-
--- the call as its overloads take it; the names of types and of declared functions have none
-abbrev pub call_of : Head → List Operand → WgslCall
-call_of (overloaded callee template) xs = record { callee = callee; template = template; operands = xs }
-call_of (typed_array t n) xs = record { callee = a_constructor (codes "array"); template = None; operands = xs }
-call_of (a_struct t) xs = record { callee = a_constructor (struct_name t); template = None; operands = xs }
-call_of (declared name ts result) xs = record { callee = a_function name; template = None; operands = xs }
 
 -- the result of a function that the text declares
 abbrev pub result_of_call : Head → Option WgslType

@@ -4,17 +4,18 @@ use Rattle.wgsl_rules.specs.types.Spelling.{wgsl_spelling}
 use Rattle.wgsl_forms.specs.Expressions.{Expression, shown_type}
 use Rattle.wgsl_requests.specs.Answers.{Answers, WgslAnswer}
 use Rattle.wgsl_requests.specs.Requests.{WgslRequest, overloads_of}
-use Rattle.wgsl_requests.specs.Replies.{OfLine, ReplyText, answer, nothing, unreadable}
-use Rattle.wgsl_requests.specs.Texts.{answer_text, text_kind}
+use Rattle.wgsl_requests.specs.Replies.{IsReplyOf, OfLine, ReplyText, answer, nothing, unreadable}
+use Rattle.wgsl_requests.specs.Texts.{text_kind}
 use Rattle.wgsl_spelling.specs.Words.{word}
 use Rattle.wgsl_reader.specs.Lists.{listed}
 use Rattle.wgsl_reader.specs.Tokens.{tokens_of}
 use Rattle.wgsl_requests.specs.declared.reply.TextKind.{TextKind}
 use Rattle.wgsl_requests.specs.declared.reply.TextKind.TheVariants as kinds
-use Rattle.wgsl_expressions.specs.Outcomes.{Outcome, Parts, operand}
+use Rattle.wgsl_expressions.specs.Outcomes.{Head, Outcome, Parts, asked, operand}
 use Rattle.wgsl_expressions.specs.Stack.{Item, a_question, an_asked, an_operand, an_overloads}
-use Rattle.wgsl_expressions.specs.Statements.{question_of, request_of}
+use Rattle.wgsl_expressions.specs.Statements.{question_on, request_of, told}
 use Rattle.wgsl_expressions.specs.Typing.{IsAsked}
+use Rattle.wgsl_expressions.specs.declared.statement.Question.{Question}
 
 -- the outcome of an expression: `vec3<f32>`, or ``column 12: no overload of `+` takes (bool, i32)``
 abbrev pub outcome_kind : Outcome → TextKind
@@ -28,22 +29,22 @@ outcome_text (Err e) = codes "column " ++ (decimal (e.at + 1) ++ (codes ": " ++ 
 abbrev pub reply_to : Outcome → ReplyText
 reply_to x = answer (outcome_kind x) (outcome_text x)
 
--- the answer to a request about types
-abbrev pub AnswersRequest : Option WgslRequest → ReplyText → Type 0
-AnswersRequest None reply = reply ≡ unreadable
-AnswersRequest (Some request) reply = (a : WgslAnswer) × Answers request a × (reply ≡ answer (text_kind a) (answer_text a))
+-- what holds of the reply with these values, or the first of their parts that has no type
+abbrev pub AnswersParts : (List Expression → ReplyText → Type 0) → Parts → ReplyText → Type 0
+AnswersParts Holds (Ok xs) reply = Holds xs reply
+AnswersParts Holds (Err e) reply = reply ≡ reply_to (Err e)
 
--- the answer to a request with these values, or the first of their parts that has no type
-abbrev pub AnswersParts : (List Expression → Option WgslRequest) → Parts → ReplyText → Type 0
-AnswersParts request (Ok xs) reply = AnswersRequest (request xs) reply
-AnswersParts request (Err e) reply = reply ≡ reply_to (Err e)
+-- what is told of a call of which this asks the type
+abbrev pub AnswersQuestion : Question → Head → WgslRequest → ReplyText → Type 0
+AnswersQuestion question head request reply =
+    (a : WgslAnswer) × Answers (question_on request question) a × (reply ≡ answer (text_kind a) (told question head a))
 
 -- the reply to what a line asks
 abbrev pub AnswersItem : List ℕ → Item → ReplyText → Type 0
 AnswersItem line (an_operand x) reply = reply ≡ reply_to x
-AnswersItem line (an_asked a) reply = AnswersParts (λ xs. request_of a.statement a.types (map operand xs)) a.parts reply
-AnswersItem line (a_question question call) reply = AnswersParts (λ xs. Some (question_of question call.head xs)) call.parts reply
-AnswersItem line (an_overloads token) reply = AnswersRequest (Some (overloads_of (word line token))) reply
+AnswersItem line (an_asked a) reply = AnswersParts (λ xs. IsReplyOf (request_of a.statement a.types (map operand xs))) a.parts reply
+AnswersItem line (a_question question call) reply = AnswersParts (λ xs. AnswersQuestion question call.head (asked call.head xs)) call.parts reply
+AnswersItem line (an_overloads token) reply = IsReplyOf (Some (overloads_of (word line token))) reply
 AnswersItem line other reply = reply ≡ unreadable
 
 -- the reply to a line that has tokens, or has none, or is no request

@@ -11,6 +11,12 @@ abbrev pub questions : List (Kind × List ℕ)
 questions = (k.TypeOf, codes "type") ∷ (k.Load, codes "load") ∷ (k.Resolve, codes "resolve") ∷ (k.Why, codes "why") ∷ (k.Overloads, codes "overloads")
     ∷ (k.Rank, codes "rank") ∷ (k.Common, codes "common") ∷ (k.Size, codes "size") ∷ (k.Offsets, codes "offsets") ∷ (k.Layout, codes "layout") ∷ []
 
+-- what begins with a word
+abbrev pub question_of : Kind → List ℕ → Option Kind
+question_of k.Name text = named questions text
+question_of k.Reserved text = named questions text
+question_of other text = None
+
 -- a `const` is one in front of an operand's type
 abbrev pub as_operand : Kind → Kind
 as_operand k.Const = k.ConstOperand
@@ -45,7 +51,7 @@ kind_or kind (Some other) = other
 -- The kind of a token in a request, behind a token and in front of another. What stands behind `overloads` is a name: `overloads +`.
 abbrev pub asked_kind : Kind → Kind → List ℕ → Kind → Kind
 asked_kind before kind text next =
-    cond (is_overloads before) k.Name (cond (may_begin_behind before && not (is_colon next)) (kind_or (as_operand kind) (named questions text)) (as_operand kind))
+    cond (is_overloads before) k.Name (cond (may_begin_behind before && not (is_colon next)) (kind_or (as_operand kind) (question_of kind text)) (as_operand kind))
 
 abbrev pub next_kind : List Token → Kind
 next_kind [] = k.End

@@ -1,5 +1,5 @@
 -- Declarations, statements and questions over types, and what they ask.
-use Rattle.std.specs.Prelude.{ℕ, List, [], ◌∷◌, ◌++◌, Option, Some, None, map, option_map}
+use Rattle.std.specs.Prelude.{ℕ, List, [], ◌∷◌, ◌++◌, Option, Some, None, Ok, codes, option_map}
 use Rattle.wgsl_syntax.specs.Names.{named, table}
 use Rattle.wgsl_syntax.specs.Operator.{assignment_operators, assignment_text}
 use Rattle.wgsl_syntax.specs.declared.address.AccessMode.{AccessMode}
@@ -10,14 +10,15 @@ use Rattle.wgsl_syntax.specs.declared.scalar.Scalar.TheVariants.{Bool as TheBool
 use Rattle.wgsl_rules.specs.standard.Choice.{Operand}
 use Rattle.wgsl_syntax.specs.declared.rules.RuleSet.TheVariants.{Standard}
 use Rattle.wgsl_rules.specs.types.Types.{Members, WgslType, scalar, struct}
-use Rattle.wgsl_forms.specs.Expressions.{Expression}
 use Rattle.wgsl_forms.specs.declared.declare.Declaration.{Declaration}
 use Rattle.wgsl_forms.specs.declared.declare.Declaration.TheVariants.{Let, Const, Override}
 use Rattle.wgsl_reader.specs.declared.kind.Kind.{Kind}
 use Rattle.wgsl_reader.specs.declared.kind.Kind.TheVariants as k
 use Rattle.wgsl_requests.specs.Forms.{WgslForm, assignment_of as an_assignment, declaration_of, discard_of, increment_of, initialized_of, load_of, override_of, switch_of, variable_of}
-use Rattle.wgsl_requests.specs.Requests.{WgslRequest, common, explanation_of, fit_of, form_of, layout, offsets, rank, resolution_of, size}
-use Rattle.wgsl_expressions.specs.Outcomes.{Head, Outcome, Parts, asked, call_of, operand_by, with_part}
+use Rattle.wgsl_requests.specs.Answers.{WgslAnswer, a_fit, a_form_type}
+use Rattle.wgsl_requests.specs.Requests.{WgslRequest, common, explanation_of, fit_of, form_of, layout, offsets, rank, resolution_of, size, type_of}
+use Rattle.wgsl_requests.specs.Texts.{answer_text, resolution_text}
+use Rattle.wgsl_expressions.specs.Outcomes.{Head, Outcome, Parts, declared, with_part}
 use Rattle.wgsl_expressions.specs.Scopes.{Scope, last_result}
 use Rattle.wgsl_expressions.specs.declared.statement.Question.{Question}
 use Rattle.wgsl_expressions.specs.declared.statement.Question.TheVariants as q
@@ -173,8 +174,26 @@ abbrev pub request_of : Statement → List WgslType → List Operand → Option 
 request_of s.Common ts xs = Some (common Standard ts)
 request_of statement ts xs = other_request statement ts xs
 
--- what is asked about a call
-abbrev pub question_of : Question → Head → List Expression → WgslRequest
-question_of q.Type head xs = asked head xs
-question_of q.Resolution head xs = resolution_of (call_of head (map (operand_by head) xs))
-question_of q.Explanation head xs = explanation_of (call_of head (map (operand_by head) xs))
+-- what is asked about a call of which this asks the type; only overloads are resolved and explained
+abbrev pub question_on : WgslRequest → Question → WgslRequest
+question_on (type_of c) q.Type = type_of c
+question_on (type_of c) q.Resolution = resolution_of c
+question_on (type_of c) q.Explanation = explanation_of c
+question_on request question = request
+
+-- what is told of a call of a function that the line declares, if the answer is about such a call: `0 (f32) -> u32`
+abbrev pub signature_or_text : Head → WgslAnswer → List ℕ
+signature_or_text (declared name ts result) (a_fit (Ok fits)) = resolution_text (0, ts, result)
+signature_or_text head a = answer_text a
+
+-- what has no overloads refuses nothing if it has a type or takes the values
+abbrev pub reason_or_none : WgslAnswer → List ℕ
+reason_or_none (a_fit (Ok fits)) = codes "none"
+reason_or_none (a_form_type (Ok t)) = codes "none"
+reason_or_none a = answer_text a
+
+-- what is told of the answer to a question about a call
+abbrev pub told : Question → Head → WgslAnswer → List ℕ
+told q.Type head a = answer_text a
+told q.Resolution head a = signature_or_text head a
+told q.Explanation head a = reason_or_none a

@@ -6,12 +6,13 @@ ghost use Rattle.wgsl_requests.specs.FormViews.{form_view};
 ghost use Rattle.wgsl_requests.specs.Requests.{form_of};
 ghost use Rattle.wgsl_requests.specs.StandardViews.{call_view, written_view};
 ghost use Rattle.wgsl_requests.specs.Views.{request_view};
-ghost use Rattle.wgsl_expressions.specs.Outcomes.{asked_with, call_of, marked, struct_name};
+ghost use Rattle.wgsl_expressions.specs.Outcomes.{asked_with, marked};
+ghost use Rattle.wgsl_expressions.specs.Statements.{question_on};
 ghost use Rattle.wgsl_expressions.specs.Views.{called_view, head_view};
 
 use crate::head::Head;
+use crate::statement::Question;
 use wgsl_core::ty::Type;
-use wgsl_core::ty::form::Form as TypeForm;
 use wgsl_forms::form::Referent;
 use wgsl_requests::call_forms::form_of_call;
 use wgsl_requests::requests::{Call, Form, Request};
@@ -39,6 +40,21 @@ impl<'r> Called<'r> {
             Called::Declared(values, types) => Request::Fit(values, types),
         }
     }
+
+    /// The request of a question; what has no overloads is asked for its type.
+    pub(crate) fn question(&'r self, question: Question) -> Request<'r>
+        ensures { request_view result ≡ question_on (called_view self.entry.now) question }
+    {
+        match self {
+            Called::Overloaded(call) => match question {
+                Question::Type => Request::Type(call),
+                Question::Resolution => Request::Resolution(call),
+                Question::Explanation => Request::Explanation(call),
+            },
+            Called::Form(form) => Request::Form(form),
+            Called::Declared(values, types) => Request::Fit(values, types),
+        }
+    }
 }
 
 /// What is asked about a call for its type.
@@ -49,12 +65,24 @@ pub(crate) fn asked_about<'r>(
 ) -> Called<'r>
     ensures { called_view result ≡ asked_with (head_view head.now) referent (map written_view operands.now) }
 {
-    match head {
-        Head::Array(ty, count) => Called::Form(Form::ArrayOf(ty, *count, operands)),
-        Head::Struct(ty) => Called::Form(Form::Construct(ty, operands)),
-        Head::Declared(_, parameters, _) => Called::Declared(operands, parameters),
-        _ => overloaded(call_of(head, operands), referent),
-    }
+    let (callee, template) = match head {
+        Head::Unary(operator) => (Callee::Unary(*operator), None),
+        Head::Binary(operator) => (Callee::Binary(*operator), None),
+        Head::Constructor(name, template) => (
+            Callee::Constructor(name.as_str()),
+            template.as_deref(),
+        ),
+        Head::Function(name, template) => (Callee::Function(name.as_str()), template.as_deref()),
+        Head::Array(ty, count) => return Called::Form(Form::ArrayOf(ty, *count, operands)),
+        Head::Struct(ty) => return Called::Form(Form::Construct(ty, operands)),
+        Head::Declared(_, parameters, _) => return Called::Declared(operands, parameters),
+    };
+    let call = Call {
+        callee,
+        template,
+        operands,
+    };
+    overloaded(call, referent)
 }
 
 fn overloaded(call: Call<'_>, referent: Referent) -> Called<'_>
@@ -73,37 +101,5 @@ fn marked(form: Form<'_>, referent: Referent) -> Form<'_>
     match form {
         Form::Address(x, _) => Form::Address(x, referent),
         other => other,
-    }
-}
-
-/// The call as its overloads take it. A type and a declared function have none: their names have no overloads either.
-pub(crate) fn call_of<'r>(head: &'r Head, operands: &'r [Operand<'r>]) -> Call<'r>
-    ensures { call_view result ≡ call_of (head_view head.now) (map written_view operands.now) }
-{
-    let (callee, template) = match head {
-        Head::Unary(operator) => (Callee::Unary(*operator), None),
-        Head::Binary(operator) => (Callee::Binary(*operator), None),
-        Head::Constructor(name, template) => (
-            Callee::Constructor(name.as_str()),
-            template.as_deref(),
-        ),
-        Head::Function(name, template) => (Callee::Function(name.as_str()), template.as_deref()),
-        Head::Array(_, _) => (Callee::Constructor("array"), None),
-        Head::Struct(ty) => (Callee::Constructor(struct_name(ty)), None),
-        Head::Declared(name, _, _) => (Callee::Function(name.as_str()), None),
-    };
-    Call {
-        callee,
-        template,
-        operands,
-    }
-}
-
-fn struct_name(ty: &Type) -> &str
-    ensures { result.now ≡ struct_name (view ty.now) }
-{
-    match ty.form() {
-        TypeForm::Struct(structure) => structure.name.as_str(),
-        _ => "",
     }
 }

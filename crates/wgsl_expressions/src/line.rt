@@ -57,6 +57,7 @@ fn write_reply_to_text(
 fn why_misread(misread: Misread) -> Why {
     match misread.wanted {
         Wanted::Operand => Why::Operand(misread.at),
+        Wanted::Type => Why::Type(misread.at),
         wanted => Why::Misread(misread.at, wanted.text()),
     }
 }

@@ -1,19 +1,20 @@
 // What is replied to a request.
 ghost use Rattle.std.specs.Prelude.{◌≡◌, ◌++◌, [], IfOk, Some, map, option_map, string_bytes};
 ghost use Rattle.wgsl_core.specs.View.{struct_view, view};
-ghost use Rattle.wgsl_requests.specs.Requests.{common, explanation_of, resolution_of};
+ghost use Rattle.wgsl_requests.specs.Requests.{common};
 ghost use Rattle.wgsl_rules.specs.types.Spelling.{wgsl_spelling};
 ghost use Rattle.wgsl_requests.specs.StandardViews.{written_view};
-ghost use Rattle.wgsl_requests.specs.Views.{request_view};
-ghost use Rattle.wgsl_requests.specs.Replies.{IsUnreadable, WritesReply};
-ghost use Rattle.wgsl_expressions.specs.Outcomes.{asked_with, call_of, operand};
-ghost use Rattle.wgsl_expressions.specs.Replies.{AnswersItem, AnswersRequest, outcome_kind, outcome_text};
-ghost use Rattle.wgsl_expressions.specs.Statements.{only_struct, other_request, question_of, rank_of, request_of, request_on, size_of, struct_of};
+ghost use Rattle.wgsl_requests.specs.Texts.{text_kind};
+ghost use Rattle.wgsl_requests.specs.Views.{answer_view, request_view};
+ghost use Rattle.wgsl_requests.specs.Replies.{IsReplyOf, IsUnreadable, WritesReply};
+ghost use Rattle.wgsl_expressions.specs.Outcomes.{asked, asked_with, operand};
+ghost use Rattle.wgsl_expressions.specs.Replies.{AnswersItem, AnswersQuestion, outcome_kind, outcome_text};
+ghost use Rattle.wgsl_expressions.specs.Statements.{only_struct, other_request, rank_of, reason_or_none, request_of, request_on, signature_or_text, size_of, struct_of, told};
 ghost use Rattle.wgsl_expressions.specs.Stack.{a_question, an_asked};
 ghost use Rattle.wgsl_expressions.specs.Views.{asked_view, call_view, head_view, item_view, outcome_view, typed_view};
 
 use crate::ask::{operand_of, operands_by, referent_of};
-use crate::called::{asked_about, call_of};
+use crate::called::asked_about;
 use crate::form::form_of;
 use crate::head::Head;
 use crate::item::{Asked, Call, Item};
@@ -26,10 +27,13 @@ use wgsl_core::ty::form::Form;
 use wgsl_core::ty::show::ShownType;
 use wgsl_core::ty::{StructType, Type};
 use wgsl_forms::form::Referent;
+use wgsl_requests::answers::Answer;
+use wgsl_requests::ask::answer;
 use wgsl_requests::common::write_common as write_common_of;
 use wgsl_requests::reply::{ReplyKind, TextKind};
 use wgsl_requests::requests::Request;
-use wgsl_requests::write::write_answer_to;
+use wgsl_requests::write::overloads::write_signature;
+use wgsl_requests::write::{write, write_answer_to};
 use wgsl_spelling::word::word;
 use wgsl_standard::operand::Operand;
 use wgsl_syntax::rules::RuleSet;
@@ -119,61 +123,85 @@ fn write_of_call(
     text: &mut String,
 ) -> Result<ReplyKind<Why>, AllocError>
     ensures { IfOk result (λ kind. WritesReply
-        (AnswersRequest (Some (question_of question (head_view head.now) (map typed_view values.now))))
+        (AnswersQuestion question (head_view head.now) (asked (head_view head.now) (map typed_view values.now)))
         kind (string_bytes text.old) (string_bytes text.new)) }
 {
     let operands = operands_by(alloc, head, values)?;
-    let written = match question {
-        Question::Type => write_type_of(alloc, head, referent_of(values), &operands, text),
-        Question::Resolution => write_resolution(alloc, head, &operands, text),
-        Question::Explanation => write_explanation(alloc, head, &operands, text),
-    };
+    let written = write_question_on(alloc, question, head, referent_of(values), &operands, text);
     drop(operands);
     written
 }
 
-/// Writes the type of a call, or whether a declared function takes the values.
-fn write_type_of<'x>(
+/// Writes what is told of a call with these operands.
+fn write_question_on<'x>(
     alloc: Global,
+    question: Question,
     head: &'x Head,
     referent: Referent,
     operands: &'x [Operand<'x>],
     text: &mut String,
 ) -> Result<ReplyKind<Why>, AllocError>
-    ensures { IfOk result (λ kind. WritesReply
-        (AnswersRequest (Some (asked_with (head_view head.now) referent (map written_view operands.now))))
+    ensures { IfOk result (λ kind. WritesReply (AnswersQuestion question (head_view head.now)
+        (asked_with (head_view head.now) referent (map written_view operands.now)))
         kind (string_bytes text.old) (string_bytes text.new)) }
 {
     let asked = asked_about(head, referent, operands);
-    write_request(alloc, asked.request(), text)
+    let answer = answer(alloc, asked.question(question))?;
+    let written = write_told(question, head, &answer, text);
+    drop(answer);
+    Ok(ReplyKind::Answer(written?))
 }
 
-fn write_resolution<'x>(
-    alloc: Global,
-    head: &'x Head,
-    operands: &'x [Operand<'x>],
+/// Writes what is told of the answer to a question about a call.
+fn write_told(
+    question: Question,
+    head: &Head,
+    answer: &Answer<'_>,
     text: &mut String,
-) -> Result<ReplyKind<Why>, AllocError>
-    ensures { IfOk result (λ kind. WritesReply
-        (AnswersRequest (Some (resolution_of (call_of (head_view head.now) (map written_view operands.now)))))
-        kind (string_bytes text.old) (string_bytes text.new)) }
+) -> Result<TextKind, AllocError>
+    ensures { IfOk result (λ kind. (kind ≡ text_kind (answer_view answer.now)) × (string_bytes text.new
+        ≡ string_bytes text.old ++ told question (head_view head.now) (answer_view answer.now))) }
 {
-    let call = call_of(head, operands);
-    write_request(alloc, Request::Resolution(&call), text)
+    match question {
+        Question::Type => write(answer, text),
+        Question::Resolution => write_signature_or_text(head, answer, text),
+        Question::Explanation => write_reason_or_none(answer, text),
+    }
 }
 
-fn write_explanation<'x>(
-    alloc: Global,
-    head: &'x Head,
-    operands: &'x [Operand<'x>],
+/// Writes the answer, or the signature of a declared function that takes the values.
+fn write_signature_or_text(
+    head: &Head,
+    answer: &Answer<'_>,
     text: &mut String,
-) -> Result<ReplyKind<Why>, AllocError>
-    ensures { IfOk result (λ kind. WritesReply
-        (AnswersRequest (Some (explanation_of (call_of (head_view head.now) (map written_view operands.now)))))
-        kind (string_bytes text.old) (string_bytes text.new)) }
+) -> Result<TextKind, AllocError>
+    ensures { IfOk result (λ kind. (kind ≡ text_kind (answer_view answer.now)) × (string_bytes text.new
+        ≡ string_bytes text.old ++ signature_or_text (head_view head.now) (answer_view answer.now))) }
 {
-    let call = call_of(head, operands);
-    write_request(alloc, Request::Explanation(&call), text)
+    match head {
+        Head::Declared(_, parameters, of_result) => match answer {
+            Answer::Fit(Ok(())) => {
+                write_signature(text, 0, parameters, of_result)?;
+                Ok(TextKind::Answer)
+            }
+            other => write(other, text),
+        },
+        _ => write(answer, text),
+    }
+}
+
+/// Writes the answer, or `none` if nothing is refused.
+fn write_reason_or_none(answer: &Answer<'_>, text: &mut String) -> Result<TextKind, AllocError>
+    ensures { IfOk result (λ kind. (kind ≡ text_kind (answer_view answer.now))
+        × (string_bytes text.new ≡ string_bytes text.old ++ reason_or_none (answer_view answer.now))) }
+{
+    match answer {
+        Answer::Fit(Ok(())) | Answer::FormType(Ok(_)) => {
+            text.push_str("none")?;
+            Ok(TextKind::Answer)
+        }
+        other => write(other, text),
+    }
 }
 
 /// Writes what is answered to a statement with these types and values.
@@ -185,7 +213,7 @@ fn write_statement(
     text: &mut String,
 ) -> Result<ReplyKind<Why>, AllocError>
     ensures { IfOk result (λ kind. WritesReply
-        (AnswersRequest (request_of statement (map view types.items) (map operand (map typed_view values.now))))
+        (IsReplyOf (request_of statement (map view types.items) (map operand (map typed_view values.now))))
         kind (string_bytes text.old) (string_bytes text.new)) }
 {
     match statement {
@@ -204,7 +232,7 @@ fn write_common(
     types: Vec<Type>,
     text: &mut String,
 ) -> Result<ReplyKind<Why>, AllocError>
-    ensures { IfOk result (λ kind. WritesReply (AnswersRequest (Some (common RuleSet.Standard (map view types.items))))
+    ensures { IfOk result (λ kind. WritesReply (IsReplyOf (Some (common RuleSet.Standard (map view types.items))))
         kind (string_bytes text.old) (string_bytes text.new)) }
 {
     let values = typed_lines(alloc, types)?;
@@ -222,7 +250,7 @@ fn write_other(
     text: &mut String,
 ) -> Result<ReplyKind<Why>, AllocError>
     ensures { IfOk result (λ kind. WritesReply
-        (AnswersRequest (other_request statement (map view types.now) (map operand (map typed_view values.now))))
+        (IsReplyOf (other_request statement (map view types.now) (map operand (map typed_view values.now))))
         kind (string_bytes text.old) (string_bytes text.new)) }
 {
     let operands = operands_of(alloc, values)?;
@@ -249,7 +277,7 @@ fn write_answer(
     text: &mut String,
 ) -> Result<ReplyKind<Why>, AllocError>
     ensures { IfOk result (λ kind. WritesReply
-        (AnswersRequest (other_request statement (map view types.now) (map written_view operands.now)))
+        (IsReplyOf (other_request statement (map view types.now) (map written_view operands.now)))
         kind (string_bytes text.old) (string_bytes text.new)) }
 {
     match statement {
@@ -322,7 +350,7 @@ fn write_request(
     request: Request<'_>,
     text: &mut String,
 ) -> Result<ReplyKind<Why>, AllocError>
-    ensures { IfOk result (λ kind. WritesReply (AnswersRequest (Some (request_view request.entry)))
+    ensures { IfOk result (λ kind. WritesReply (IsReplyOf (Some (request_view request.entry)))
         kind (string_bytes text.old) (string_bytes text.new)) }
 {
     Ok(ReplyKind::Answer(write_answer_to(alloc, request, text)?))

@@ -2,7 +2,7 @@
 ghost use Rattle.std.specs.Prelude.{◌≡◌, ◌+◌, ◌<◌, drop, length};
 ghost use Rattle.wgsl_spelling.specs.Words.{word};
 ghost use Rattle.wgsl_syntax.specs.Names.{named};
-ghost use Rattle.wgsl_expressions.specs.RequestTokens.{as_operand, asked_behind, asked_kind, is_colon, is_overloads, kind_or, may_begin_behind, next_kind, questions};
+ghost use Rattle.wgsl_expressions.specs.RequestTokens.{as_operand, asked_behind, asked_kind, is_colon, is_overloads, kind_or, may_begin_behind, next_kind, question_of, questions};
 
 use wgsl_reader::kind::Kind;
 use wgsl_reader::token::Token;
@@ -42,7 +42,7 @@ fn asked_kind(text: &str, before: Kind, token: Token, next: Kind) -> Kind
     if is_overloads(before) {
         Kind::Name
     } else if may_begin_behind(before) && !is_colon(next) {
-        kind_or(as_operand(token.kind), question_named(word(text, token)))
+        kind_or(as_operand(token.kind), question_of(text, token))
     } else {
         as_operand(token.kind)
     }
@@ -85,6 +85,16 @@ pub(crate) fn as_operand(kind: Kind) -> Kind
     match kind {
         Kind::Const => Kind::ConstOperand,
         other => other,
+    }
+}
+
+/// What begins with a token, if that is a word.
+fn question_of(text: &str, token: Token) -> Option<Kind>
+    ensures { result ≡ question_of token.kind (word text.now token) }
+{
+    match token.kind {
+        Kind::Name | Kind::Reserved => question_named(word(text, token)),
+        _ => None,
     }
 }
 

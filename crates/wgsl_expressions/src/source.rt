@@ -134,7 +134,7 @@ fn type_in(
     match chain.name() {
         Some(token) => named_in(alloc, scope.type_named(word(text, token)), token.at, chain),
         None => match chain.ty(alloc)? {
-            Some(ty) => Ok(Ok((ty, chain.layers.len()))),
+            Some(ty) => Ok(Ok((ty, chain.depth()))),
             None => Ok(Err(Fault {
                 at: 0,
                 cause: Cause::UnknownType,
@@ -152,7 +152,7 @@ fn named_in(
 ) -> Result<Result<(Type, usize), Fault>, AllocError>
     ensures { IfOk result (λ found. type_found found ≡ declared_in (option_map (λ t. (view t.0.now, t.1)) declared.entry) (chain_of chain.now)) }
 {
-    let layers = chain.layers.len();
+    let layers = chain.depth();
     match declared {
         Some((ty, inside)) if inside <= MOST_INSIDE.saturating_sub(layers) => {
             let ty = chain.wrap(alloc, ty.clone(alloc)?)?;

@@ -197,14 +197,7 @@ fn put_type(source: Source<'_>, ty: Type, items: &mut Vec<Item>) -> Result<(), F
     } = take_asked(source, items)?;
     let mut types = types;
     types.push(ty)?;
-    push(
-        Item::Asked(Asked {
-            statement,
-            types,
-            parts,
-        }),
-        items,
-    )
+    put_statement(statement, types, parts, items)
 }
 
 /// One more value.
@@ -218,14 +211,7 @@ pub(crate) fn put_value(source: Source<'_>, items: &mut Vec<Item>) -> Result<(),
         parts,
     } = take_asked(source, items)?;
     let parts = with_part(parts, x)?;
-    push(
-        Item::Asked(Asked {
-            statement,
-            types,
-            parts,
-        }),
-        items,
-    )
+    put_statement(statement, types, parts, items)
 }
 
 /// `a = b`

@@ -12,6 +12,8 @@ pub enum Why {
     Misread(usize, &'static str),
     /// The index of the byte from which an expression has no operand.
     Operand(usize),
+    /// The index of the byte from which there is no type.
+    Type(usize),
 }
 
 /// How many bytes of a token are written.
@@ -27,7 +29,25 @@ pub fn write_why(request: &[u8], why: Why, text: &mut String) -> Result<(), Allo
             write!(text, "column {column}: {reason}")
         }
         Why::Operand(at) => write_no_operand(request, at, text),
+        Why::Type(at) => write_no_type_at(request, at, text),
     }
+}
+
+/// Writes that no type begins at that byte, and which one the name there may mean.
+fn write_no_type_at(request: &[u8], at: usize, text: &mut String) -> Result<(), AllocError> {
+    let column = at.saturating_add(1);
+    write!(text, "column {column}: ")?;
+    match token_at(request, at) {
+        Some(token) if is_near_type(token) => {
+            write_token(token, text)?;
+            write_no_type(token, text)
+        }
+        _ => text.push_str("expected a type"),
+    }
+}
+
+fn is_near_type(token: &str) -> bool {
+    overloads(Callee::Constructor(token), false).is_some() || meant_type(token).is_some()
 }
 
 /// Writes that no operand begins at that byte, and what the name there may mean.

@@ -6,7 +6,7 @@ use Rattle.wgsl_syntax.specs.declared.overload.Overload.{Overload}
 use Rattle.wgsl_rules.specs.standard.Choice.{Operand}
 use Rattle.wgsl_rules.specs.standard.Overloads.{patterns_of}
 use Rattle.wgsl_rules.specs.standard.Refusal.{IsRefusedAt, SomeTakesFirst}
-use Rattle.wgsl_standard.specs.Explained.{AreNotes, no_overloads, taken, refused}
+use Rattle.wgsl_standard.specs.Explained.{AreNotes, no_overloads, taken, refused, with_note}
 use Rattle.wgsl_standard.specs.Mismatches.{IsMismatch}
 use Rattle.wgsl_standard.specs.declared.refusal.Mismatch.{Mismatch}
 use Rattle.wgsl_standard.specs.declared.refusal.Mismatch.TheVariants.{Count, Argument}
@@ -54,4 +54,4 @@ some_notes (o ∷ os) xs = let m = a_mismatch o xs in let ns = some_notes os xs 
   where
     one_more : (m : Option Mismatch) → IsMismatch o xs m → (ns : List (Overload × Mismatch)) → AreNotes xs os ns → (ns : List (Overload × Mismatch)) × AreNotes xs (o ∷ os) ns
     one_more None h ns d = (ns, taken h d)
-    one_more (Some m) h ns d = ((o, m) ∷ ns, refused h d)
+    one_more (Some m) h ns d = (with_note (length xs) (o, m) ns, refused m h d)

@@ -1,26 +1,19 @@
 -- Any bytes have a reply, as a line and as a request.
-use Rattle.std.proofs.Common.{◌≡◌, ℕ, Option, Some, None, Bool, true, false, List, [], ◌∷◌, refl, inl, inr}
-use Rattle.wgsl_requests.specs.Replies.{IsReplyOf, ReplyText, answer, has_line_feed, nothing, unreadable}
-use Rattle.wgsl_requests.specs.Requests.{WgslRequest}
-use Rattle.wgsl_requests.specs.Texts.{answer_text, text_kind}
+use Rattle.std.proofs.Common.{◌≡◌, ℕ, Bool, true, false, List, [], ◌∷◌, refl, inl, inr}
+use Rattle.wgsl_requests.specs.Replies.{ReplyText, has_line_feed, nothing, unreadable}
 use Rattle.wgsl_syntax.specs.declared.rules.RuleSet.{RuleSet}
 use Rattle.wgsl_syntax.specs.declared.rules.RuleSet.TheVariants.{Ported, Standard}
 use Rattle.wgsl_words.specs.Replies.{IsReplyToWords}
 use Rattle.wgsl_words.specs.Requests.{request_of}
 use Rattle.wgsl_words.specs.Words.{words_of}
-use Rattle.wgsl_expressions.proofs.SomeReply.{dec_line, some_standard_reply}
+use Rattle.wgsl_expressions.proofs.SomeReply.{dec_line, some_reply_of, some_standard_reply}
 use Rattle.wgsl_replies.specs.Replies.{IsReplyTo, IsReplyToLine}
 use Rattle.wgsl_replies.proofs.OneReply.{one_reply}
 use Rattle.wgsl_laws.proofs.Answered.{some_answer}
 
-some_reply_of : (request : Option WgslRequest) → (reply : ReplyText) × IsReplyOf request reply
-some_reply_of None = (unreadable, refl)
-some_reply_of (Some request) =
-    let a = some_answer request in (answer (text_kind a.0) (answer_text a.0), (text_kind a.0, answer_text a.0, (a.0, a.1, refl, refl), refl))
-
 some_reply_to_words : (words : List (List ℕ)) → (reply : ReplyText) × IsReplyToWords words reply
 some_reply_to_words [] = (nothing, refl)
-some_reply_to_words (word ∷ words) = some_reply_of (request_of (word ∷ words))
+some_reply_to_words (word ∷ words) = some_reply_of some_answer (request_of (word ∷ words))
 
 pub some_line_reply : (rules : RuleSet) (bytes : List ℕ) → (reply : ReplyText) × IsReplyToLine rules bytes reply
 some_line_reply Ported bytes = elim (dec_line bytes) [

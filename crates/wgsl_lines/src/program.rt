@@ -1,6 +1,6 @@
 // A program that answers the requests on standard input.
 
-use crate::run::{RunError, run_noting, status};
+use crate::run::{RunError, run, status};
 use std::env;
 use std::io::IsTerminal;
 use std::process::ExitCode;
@@ -19,7 +19,7 @@ pub fn answer_standard_input(rt: &HostRuntime, rules: RuleSet, program: &'static
         );
     }
     let mut has_refused = false;
-    let outcome = run_noting(
+    let outcome = run(
         rt.alloc(),
         rules,
         program,

@@ -35,39 +35,12 @@ impl From<AllocError> for RunError {
 /// How many bytes are read at a time.
 const BLOCK: usize = 4096;
 
-/// Answers each line of the input by a set of rules, and says whether every one was readable.
+/// Answers each line of the input by a set of rules, and says whether every one was readable. Notes whether the rules refused
+/// an expression.
 ///
 /// The answers to a block that was read are written before the next read, and after them a note on each bad line of the
 /// block. A note that can't be written is left out.
 pub fn run<R: Read, W: Write, N: Write>(
-    alloc: Global,
-    rules: RuleSet,
-    program: &'static str,
-    input: &mut R,
-    output: &mut W,
-    notes: &mut N,
-) -> Result<bool, RunError>
-    ensures printed { IfOk result (λ readable. IfSome (R.remaining input.old) (λ bytes.
-        (text : List ℕ) × Prints rules bytes text readable
-        × Appends (W.contents output.old) (W.contents output.new) text)) }
-    ensures beginning { IfErr result (λ error. IfSome (R.remaining input.old) (λ bytes.
-        (text : List ℕ) × PrintsUntil rules error bytes text × PrintsFirst rules bytes text
-        × Appends (W.contents output.old) (W.contents output.new) text)) }
-{
-    let mut has_refused = false;
-    run_noting(
-        alloc,
-        rules,
-        program,
-        input,
-        output,
-        notes,
-        &mut has_refused,
-    )
-}
-
-/// As `run`; notes too whether the rules refused an expression.
-pub(crate) fn run_noting<R: Read, W: Write, N: Write>(
     alloc: Global,
     rules: RuleSet,
     program: &'static str,

@@ -16,4 +16,4 @@ pub mod read;
 pub mod rule;
 mod sign;
 pub mod token;
-mod word;
+pub mod word;

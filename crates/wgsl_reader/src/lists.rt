@@ -1,10 +1,9 @@
 // The tokens of a text with its template lists.
-ghost use Rattle.std.specs.Prelude.{◌≡◌, ◌≢◌, ◌<◌, ◌≤◌, ◌+◌, IfOk, IsTrue, List, drop, length, reverse};
+ghost use Rattle.std.specs.Prelude.{◌≡◌, ◌≢◌, ◌<◌, ◌≤◌, ◌+◌, IfOk, IsTrue, drop, length, reverse};
 ghost use Rattle.wgsl_reader.specs.Lists.{begun, doubled, ended, ends_assignment, follows, greater, inside, is_named_by, joined, joined_by, listed, of_kind, opened_behind, outside, passed, step_at, with_lists};
 ghost use Rattle.wgsl_reader.specs.Tokens.{tokens_in, tokens_of};
 ghost use Rattle.wgsl_reader.specs.Seen.{search_of};
 ghost use Rattle.wgsl_reader.specs.declared.kind.Kind.TheVariants.{Greater};
-ghost use Rattle.wgsl_reader.specs.declared.token.Token.{Token as AnyToken};
 
 use crate::bytes::from;
 use crate::kind::Kind;
@@ -230,12 +229,16 @@ pub fn tokens_of(alloc: Global, text: &[u8]) -> Result<Result<Vec<Token>, usize>
     }
 }
 
-/// Whether a token of this kind ends no list and is joined with none behind it.
-fn is_alone(kind: Kind) -> bool
-    ensures joined { IsTrue result → (tokens : List AnyToken) → joined_by kind tokens ≡ (kind, 0) }
+/// Whether a token of this kind, with those behind it, ends no list and is joined with none of them.
+fn is_alone(kind: Kind, tokens: &[Token]) -> bool
+    ensures joined { IsTrue result → joined_by kind tokens.now ≡ (kind, 0) }
     ensures other { IsTrue result → kind ≢ Greater }
 {
-    !matches!(kind, Kind::Greater | Kind::Plus | Kind::Minus)
+    match kind {
+        Kind::Greater => false,
+        Kind::Plus | Kind::Minus => !follows(kind, tokens),
+        _ => true,
+    }
 }
 
 /// Whether the tokens have no list in them and none is joined: they are what is found.
@@ -244,7 +247,7 @@ fn are_alone(tokens: &[Token]) -> bool
 {
     let mut at = 0;
     while at < tokens.len() {
-        if !is_alone(tokens[at].kind) {
+        if !is_alone(tokens[at].kind, from(at, tokens)) {
             return false;
         }
         at += 1;

@@ -49,6 +49,8 @@ pub enum Mark {
     DiagnosticAttribute,
     /// `a` in `@a(1)`
     AttributeName,
+    /// The word in front of a statement that has blocks, or nothing in front of the body of a function.
+    Begin,
     /// The `(` of a call, or the `{` of a block.
     Open,
     /// The `}` of a block.

@@ -104,7 +104,7 @@ pub fn read(
     ensures { IfOk result (λ found. ReadAt (rule start ∷ []) from (map kind_of (drop from tokens.now)) (outcome_of (λ v. v.items) found)) }
 {
     let first = [Symbol::Rule(start)];
-    let mut events = Vec::with_capacity(alloc, tokens.len() - from)?;
+    let mut events = Vec::with_capacity(alloc, tokens.len() - from + 8)?;
     let mut frames = Vec::with_capacity(alloc, 16)?;
     let mut symbols: &[Symbol] = &first;
     let mut at = from;

@@ -23,7 +23,7 @@ pub struct Token {
 pub fn tokens(alloc: Global, text: &[u8]) -> Result<Result<Vec<Token>, usize>, AllocError>
     ensures { IfOk result (λ found. tokens_in (λ v. v.items) found ≡ tokens_of text.now) }
 {
-    let mut tokens = Vec::with_capacity(alloc, text.len() / 4 + 8)?;
+    let mut tokens = Vec::with_capacity(alloc, text.len() / 4 + 16)?;
     let mut at = mark_len(text);
     while at < text.len() {
         match piece_of(from(at, text)) {

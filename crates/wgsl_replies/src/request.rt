@@ -48,7 +48,8 @@ pub fn write_why(request: &[u8], why: Why, text: &mut String) -> Result<(), Allo
 pub fn has_place(why: Why) -> bool {
     matches!(
         why,
-        Why::Words(WordsWhy::Word(_)) | Why::Line(LineWhy::Misread(_, _) | LineWhy::Operand(_))
+        Why::Words(WordsWhy::Word(_))
+            | Why::Line(LineWhy::Misread(_, _) | LineWhy::Operand(_) | LineWhy::Type(_))
     )
 }
 

@@ -3,6 +3,7 @@
 use crate::lines::Lines;
 use crate::message::{Message, Severity};
 use crate::resource::write_buffer;
+use crate::shown::once;
 use crate::source::Source;
 use crate::told::{end_of, min_binding_size, padding, stride_of};
 use crate::tree::write_tree;
@@ -26,7 +27,10 @@ pub fn write_json(output: &mut String, source: Source) -> Result<(), AllocError>
     write_all(output, &start)?;
     write_structs(output, source)?;
     output.push_str("],\"leftOut\":[")?;
-    for (index, name) in source.module.left_out.iter().enumerate() {
+    for (index, name) in once(source.alloc, &source.module.left_out)?
+        .iter()
+        .enumerate()
+    {
         let quoted = [
             Piece::Text(separator(index)),
             Piece::Text("\""),

@@ -6,6 +6,7 @@ pub mod extent;
 pub mod finding;
 mod forms;
 mod json;
+pub mod keyword;
 pub mod layers;
 pub mod lines;
 pub mod message;

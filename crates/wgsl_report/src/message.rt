@@ -1,6 +1,7 @@
 // What is wrong with a text: its errors, and its findings.
 
 use crate::finding::Finding;
+use crate::keyword::meant_at;
 use crate::write::{Piece, write_all};
 use std::alloc::{AllocError, Global};
 use std::fmt::Debug;
@@ -89,9 +90,7 @@ fn fault_message<'t>(
         None => {
             told.push_str(fault.cause.text())?;
             let word = write_found(&mut told, text, fault)?;
-            if !matches!(fault.cause, Cause::Misread(_)) {
-                write_meant(&mut told, word, fault.cause, declared)?;
-            }
+            write_meant(&mut told, word, fault.cause, declared)?;
         }
     }
     Ok(Message {
@@ -135,17 +134,38 @@ fn write_misread<'t>(
         return output.push_str(SpellingCause::OpenList.text());
     }
     output.push_str(&expected(alloc, misread.rule, front)?)?;
-    let word = write_found(output, text, fault)?;
-    if front.is_empty() {
-        write_meant(output, word, fault.cause, declared)
-    } else if is_operator(token.kind)
+    write_found(output, text, fault)?;
+    if is_operator(token.kind)
         && may_stand_behind(alloc, misread.rule, front, Kind::Period)?
         && !may_stand_behind(alloc, misread.rule, front, Kind::Equal)?
     {
         output.push_str("; this operator needs parentheses")
+    } else if declared.is_some() {
+        write_keyword(output, alloc, text, misread)
     } else {
         Ok(())
     }
+}
+
+/// Writes the keyword that a word of a misread declaration may have meant.
+fn write_keyword(
+    output: &mut String,
+    alloc: Global,
+    text: Text,
+    misread: Misread,
+) -> Result<(), AllocError> {
+    let Some((index, keyword)) = meant_at(alloc, misread, text.tokens, text.text)? else {
+        return Ok(());
+    };
+    write_all(
+        output,
+        &[Piece::Text("; did you mean `"), Piece::Text(keyword)],
+    )?;
+    if index != misread.at {
+        let word = text.word(text.token(index));
+        write_all(output, &[Piece::Text("` for `"), Piece::Visible(word)])?;
+    }
+    output.push_str("`?")
 }
 
 /// Whether a token is an operator with two operands.

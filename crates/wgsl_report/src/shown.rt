@@ -4,7 +4,8 @@ use crate::lines::{Lines, Place};
 use crate::message::{Message, Severity};
 use crate::source::Source;
 use crate::write::{Piece, write_all};
-use std::alloc::AllocError;
+use std::alloc::{AllocError, Global};
+use std::collections::BTreeMap;
 use std::str::from_utf8;
 
 /// How messages for people look.
@@ -44,7 +45,10 @@ const LONGEST: usize = 200;
 /// Writes the messages on a text, and which structs are left out.
 pub fn write_messages(output: &mut String, source: Source, style: Style) -> Result<(), AllocError> {
     write_each(output, source.file, source.lines, source.messages, style)?;
-    for (index, name) in source.module.left_out.iter().enumerate() {
+    for (index, name) in once(source.alloc, &source.module.left_out)?
+        .iter()
+        .enumerate()
+    {
         let start = if index == 0 { "left out: " } else { ", " };
         write_all(output, &[Piece::Text(start), Piece::Text(*name)])?;
     }
@@ -53,6 +57,18 @@ pub fn write_messages(output: &mut String, source: Source, style: Style) -> Resu
     } else {
         "\n"
     })
+}
+
+/// Names, each where it comes first.
+pub fn once<'a>(alloc: Global, names: &[&'a str]) -> Result<Vec<&'a str>, AllocError> {
+    let mut seen = BTreeMap::new(alloc);
+    let mut found = Vec::new(alloc);
+    for name in names {
+        if seen.insert(*name, ())?.is_none() {
+            found.push(*name)?;
+        }
+    }
+    Ok(found)
 }
 
 fn write_each(

@@ -40,14 +40,13 @@ lines_seen text (x ∷ xs) = ap (λ rest. text x ++ rest) (flat_map-map (λ line
 resolution_parts : (old n opened types close r : List ℕ) → (((old ++ (n ++ opened)) ++ types) ++ close) ++ r ≡ old ++ (n ++ opened ++ types ++ close ++ r)
 resolution_parts old n opened types close r = simp append_assoc
 
-pub resolution_written : (old opened shown closed : List ℕ) (n : ℕ) (types items : List «Type») (r : Option WgslType) → types ≡ items
+pub resolution_written : (old opened shown closed : List ℕ) (n : ℕ) (types : List «Type») (r : Option WgslType)
     → opened ≡ old ++ (decimal n ++ codes " (") → shown ≡ opened ++ listed (λ t. wgsl_spelling (view t)) types → closed ≡ shown ++ codes ")"
-    → closed ++ result_text r ≡ old ++ resolution_text (n, map view items, r)
-resolution_written old opened shown closed n types items r same a b c =
-    let all : listed (λ t. wgsl_spelling (view t)) types ≡ listed wgsl_spelling (map view items) = ap (listed (λ t. wgsl_spelling (view t))) same ∙ sym (listed_seen wgsl_spelling view items) in
-    let so_far : shown ≡ (old ++ (decimal n ++ codes " (")) ++ listed wgsl_spelling (map view items) = b ∙ ap (λ y. opened ++ y) all ∙ ap (λ y. y ++ listed wgsl_spelling (map view items)) a in
+    → closed ++ result_text r ≡ old ++ resolution_text (n, map view types, r)
+resolution_written old opened shown closed n types r a b c =
+    let so_far : shown ≡ (old ++ (decimal n ++ codes " (")) ++ listed wgsl_spelling (map view types) = b ∙ ap (λ y. opened ++ y) (sym (listed_seen wgsl_spelling view types)) ∙ ap (λ y. y ++ listed wgsl_spelling (map view types)) a in
     ap (λ y. y ++ result_text r) (c ∙ ap (λ y. y ++ codes ")") so_far)
-    ∙ resolution_parts old (decimal n) (codes " (") (listed wgsl_spelling (map view items)) (codes ")") (result_text r)
+    ∙ resolution_parts old (decimal n) (codes " (") (listed wgsl_spelling (map view types)) (codes ")") (result_text r)
 
 -- the text of a template, in the parts in which it is written
 pub template_written : (old opened shown : List ℕ) (ps : List TpltParam) → opened ≡ old ++ codes "<" → shown ≡ opened ++ listed (λ p. parameter_text (parameter_view p)) ps

@@ -1,5 +1,5 @@
 -- WGSL's own overloads have at most one answer.
-use Rattle.std.proofs.Common.{rules, ◌≡◌, ◌⊎◌, inl, inr, ◌<◌, ◌∙◌, ℕ, zero, suc, Bool, true, false, List, [], ◌∷◌, Option, Some, None, map, refl, sym, ap, arith}
+use Rattle.std.proofs.Common.{rules, ◌≡◌, ◌⊎◌, inl, inr, ◌<◌, ◌∙◌, ℕ, zero, suc, Bool, true, false, List, [], ◌∷◌, Option, Some, None, length, map, refl, sym, ap, arith}
 use Rattle.std.specs.Bool.{MatchBool}
 use Rattle.std.specs.Prelude.{IsTrue, MatchOption, option_map}
 use Rattle.wgsl_syntax.specs.declared.overload.Overload.{Overload}
@@ -8,7 +8,7 @@ use Rattle.wgsl_rules.specs.standard.Answers.{is_template, template_operand, IsC
 use Rattle.wgsl_rules.specs.standard.Choice.{Operand, types_of}
 use Rattle.wgsl_rules.specs.standard.Refusal.{IsRefusedAt}
 use Rattle.wgsl_standard.specs.Callees.{WgslCallee, overloads_listed}
-use Rattle.wgsl_standard.specs.Explained.{AreNotes, no_overloads, or_none, refused, taken}
+use Rattle.wgsl_standard.specs.Explained.{AreNotes, no_overloads, or_none, refused, taken, with_note}
 use Rattle.wgsl_standard.specs.Mismatches.{IsMismatch}
 use Rattle.wgsl_standard.specs.Resolved.{IsCallResolution, IsNamedResolution, IsTemplateResolution, with_line}
 use Rattle.wgsl_standard.specs.Texts.{note_listed}
@@ -107,12 +107,12 @@ mismatch_once o xs None None f g = refl
 notes_once : {xs : List Operand} {os : List Overload} {ns ms : List (Overload × Mismatch)} → AreNotes xs os ns → AreNotes xs os ms → ns ≡ ms
 notes_once no_overloads no_overloads = refl
 notes_once (taken a d) (taken b e) = notes_once d e
-notes_once {xs} (taken {o} a d) (refused {m} b e) = let k : None ≡ Some m = mismatch_once o xs None (Some m) a b in absurd (cc k)
-notes_once {xs} (refused {o} {os} {m} a d) (taken b e) = let k : None ≡ Some m = mismatch_once o xs None (Some m) b a in absurd (cc k)
-notes_once {xs} (refused {o} {os} {m} {ns} a d) (refused {m = k} {ns = ms} b e) =
+notes_once {xs} (taken {o} a d) (refused m b e) = let k : None ≡ Some m = mismatch_once o xs None (Some m) a b in absurd (cc k)
+notes_once {xs} (refused {o} m a d) (taken b e) = let k : None ≡ Some m = mismatch_once o xs None (Some m) b a in absurd (cc k)
+notes_once {xs} (refused {o} {ns = ns} m a d) (refused k b e) =
     let both : Some m ≡ Some k = mismatch_once o xs (Some m) (Some k) a b in
     let same : m ≡ k = cc both in
-    ap (λ m. (o, m) ∷ ns) same ∙ ap (λ ns. (o, k) ∷ ns) (notes_once d e)
+    ap (λ m. with_note (length xs) (o, m) ns) same ∙ ap (with_note (length xs) (o, k)) (notes_once d e)
 
 notes_with_once : (callee : WgslCallee) (t : Option WgslType) (xs : List Operand) (ns ms : List (Overload × Mismatch)) → AreNotesWith callee t xs ns → AreNotesWith callee t xs ms → ns ≡ ms
 notes_with_once callee None xs ns ms f g = notes_once f g

@@ -32,7 +32,7 @@ AreNotesWith callee None xs ns = AreNotes xs (or_none (overloads_listed callee f
 AreNotesWith callee (Some t) xs ns =
     MatchBool (is_template t) (AreNotes (template_operand t ∷ xs) (or_none (overloads_listed callee true)) ns) (ns ≡ [])
 
--- a line for each overload that doesn't take the operands, in the order of the overloads
+-- a line for each overload that doesn't take the operands, the nearest first
 abbrev pub IsExplanationOf : WgslCall → List (List ℕ) → Type 0
 IsExplanationOf c lines = MatchOption (template_type c.template) (lines ≡ []) (λ t. (ns : List (Overload × Mismatch))
     × AreNotesWith c.callee t (loaded c.operands) ns × (lines ≡ map (note_listed c.callee t (types_of c.operands)) ns))

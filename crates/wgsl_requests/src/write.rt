@@ -13,7 +13,7 @@ ghost use Rattle.wgsl_requests.specs.internal.Written.{IsRefusal};
 
 mod layout;
 mod lists;
-mod overloads;
+pub mod overloads;
 
 use crate::answers::{Answer, Operands};
 use crate::ask::answer;

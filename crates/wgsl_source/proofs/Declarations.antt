@@ -1,22 +1,21 @@
 -- The declarations that are read, one by one.
-use Rattle.std.proofs.Common.{◌≡◌, ◌≢◌, ℕ, zero, suc, ◌-◌, true, false, IsTrue, Some, None, slice_get, is_some, List, [], ◌∷◌, ◌++◌, drop, take, map, ap, refl, subst, sym, ◌∙◌, append_assoc}
+use Rattle.std.proofs.Common.{◌≡◌, ◌≢◌, ℕ, zero, suc, true, false, Some, None, slice_get, is_some, List, [], ◌∷◌, ◌++◌, drop, take, map, ap, refl, subst, sym, ◌∙◌, append_assoc}
 use Rattle.std.proofs.lemmas.List.{append-nil, map-append, take-append-drop}
 use Rattle.std.specs.List.{All}
-use Rattle.std.proofs.lemmas.List.Elements.{All-head, All-tail}
+use Rattle.std.proofs.lemmas.List.Elements.{All-cons, All-head, All-nil, All-tail}
 use Rattle.std.proofs.lemmas.Option.{same_Some}
-use Rattle.wgsl_reader.specs.declared.kind.Kind.TheVariants as k
 use Rattle.wgsl_reader.specs.declared.read.Event.{Event}
-use Rattle.wgsl_spelling.specs.Words.{word}
-use Rattle.wgsl_source.specs.Declarations.{BehindAttributes, attribute_len, inner, first_count, len_to, no_attribute, one_attribute, token_before}
-use Rattle.wgsl_source.specs.TextStructs.{AreMembers, IsMember, no_member, one_member}
+use Rattle.wgsl_source.specs.Declarations.{AreSites, BehindAttributes, IsSite, Site, attribute_len, declaration_len, end_at, len_to, list_len, no_attribute, one_attribute, one_more}
+use Rattle.wgsl_source.specs.TextStructs.{AreAllTold, AreMembers, AreTold, IsMember, IsStructAt, kept, left_out, misread_told, no_member, none_told, one_member, other_told}
 use Rattle.wgsl_source.specs.Members.{AreSameMembers, members_of, without_offset}
-use Rattle.wgsl_source.specs.internal.Read.{IsDeclaration, IsReadAt}
+use Rattle.wgsl_source.specs.internal.Read.{AreAll, AreListed, AreOf, IsDeclaration, IsFrom, IsMisread, IsOf, declaration, declared_by, kept_listed, left_listed, misread, no_declaration, no_other, none_listed, other_listed}
 use Rattle.wgsl_source.specs.declared.declaration.Declaration.{Declaration}
+use Rattle.wgsl_source.specs.declared.declaration.DeclarationKind.{DeclarationKind}
 use Rattle.wgsl_source.specs.declared.declaration.DeclarationKind.TheVariants as kinds
-use Rattle.wgsl_source.specs.declared.declaration.Read.{Read}
 use Rattle.wgsl_source.specs.declared.parts.End.{End}
 use Rattle.wgsl_source.specs.declared.parts.End.TheVariants as e
 use Rattle.wgsl_source.specs.declared.structure.Member.{Member}
+use Rattle.wgsl_source.specs.declared.structure.Struct.{Struct}
 use Rattle.wgsl_source.specs.declared.structure.Written.{Written}
 use Rattle.wgsl_source.specs.declared.text.Text.{Text}
 
@@ -74,28 +73,6 @@ module _ (t : Text) (whole events : List Event) (old : List Written)
   pub all_are_declared : len_to e.Member events ≡ 0 → AreMembers t whole (members_of old)
   all_are_declared none = subst (λ ms. AreMembers t whole ms) (append-nil (members_of old)) (back [] (no_member none))
 
--- one more is pushed
-
-module _ (t : Text) (whole : List Event) where
-  pub is_declaration : (r : Read) (d : Declaration) → r.kind ≡ Some d.kind → d.name.now ≡ word t.text.now (token_before t r.named)
-      → d.place ≡ (token_before t r.named).at → d.rest.now ≡ inner r.events.now → IsReadAt t whole r → IsDeclaration t whole d
-  is_declaration r d kind name place rest h readable struct =
-      let is : r.kind ≡ Some kinds.Struct = kind ∙ ap Some struct in
-      record {
-        events = h.events;
-        begins = h.begins is;
-        named = record { name = name ∙ ap (λ n. word t.text.now (token_before t n)) h.count; place = place ∙ ap (λ n. (token_before t n).at) h.count };
-        rest = rest ∙ ap inner (h.read is);
-      }
-
-  pub is_no_declaration : (d : Declaration) → IsTrue d.is_faulty → IsDeclaration t whole d
-  is_no_declaration d faulty readable struct = absurd (let no : false ≡ true = sym readable ∙ faulty in cc)
-
-  pub all_at : (ds : List Declaration) (i : ℕ) (d : Declaration) → slice_get ds i ≡ Some d → All (IsDeclaration t whole) ds → IsDeclaration t whole d
-  all_at [] i d is all = absurd (let no : None ≡ Some d = is in cc)
-  all_at (e ∷ es) zero d is all = subst (IsDeclaration t whole) (same_Some e d is) (All-head (IsDeclaration t whole) e es all)
-  all_at (e ∷ es) (suc i) d is all = all_at es i d is (All-tail (IsDeclaration t whole) e es all)
-
 -- the next declaration begins behind its attributes and its list
 
 behind_all : (events rest : List Event) → BehindAttributes events rest → (front : List Event) × (events ≡ front ++ rest)
@@ -108,25 +85,97 @@ behind_all events rest (one_attribute some h) =
 further : (whole front events more rest : List Event) → whole ≡ front ++ events → events ≡ more ++ rest → whole ≡ (front ++ more) ++ rest
 further whole front events more rest is cut = is ∙ (ap (λ es. front ++ es) cut ∙ sym (append_assoc front more rest))
 
-pub begins_behind : (whole front events attributes list : List Event) → whole ≡ front ++ events → BehindAttributes events attributes → (n : ℕ) × (list ≡ drop n attributes)
+begins_behind : (whole front events attributes list : List Event) → whole ≡ front ++ events → BehindAttributes events attributes → (n : ℕ) × (list ≡ drop n attributes)
     → (before : List Event) × (whole ≡ before ++ list)
 begins_behind whole front events attributes list is behind cut =
     let all = behind_all events attributes behind in
     let left : attributes ≡ take cut.0 attributes ++ list = sym (take-append-drop cut.0 attributes) ∙ ap (λ es. take cut.0 attributes ++ es) (sym cut.1) in
     ((front ++ all.0) ++ take cut.0 attributes, further whole (front ++ all.0) attributes (take cut.0 attributes) list (further whole front events all.0 attributes is all.1) left)
 
-pub next_is : (t : Text) (whole list : List Event) (r : Read) (end : End) → r.named ≡ first_count list
-    → (r.kind ≡ Some kinds.Struct → ((token_before t (r.named - 1)).kind ≡ k.Struct) × (end ≡ e.Struct)) → r.events.now ≡ take (len_to end list) list
-    → r.behind.now ≡ drop (len_to end list) list → (front : List Event) × (whole ≡ front ++ list)
-    → IsReadAt t whole r × (before : List Event) × (whole ≡ before ++ r.behind.now)
-next_is t whole list r end count key events behind at = (
-  record {
-    events = list;
-    begins = λ struct. record { front = at.0; there = at.1; keyword = ap (λ n. (token_before t (n - 1)).kind) (sym count) ∙ (key struct).0 };
-    count = count;
-    read = λ struct. events ∙ ap (λ end. take (len_to end list) list) (key struct).1;
-  },
-  at.0 ++ take (len_to end list) list,
-  further whole at.0 list (take (len_to end list) list) r.behind.now at.1
-      (sym (take-append-drop (len_to end list) list) ∙ ap (λ es. take (len_to end list) list ++ es) (sym behind)),
-)
+-- what is read of the declarations of a text is one of them
+
+stands_at : (t : Text) (whole front events : List Event) (site : Site) → whole ≡ front ++ events → IsSite t events site → (before : List Event) × (whole ≡ before ++ site.first)
+stands_at t whole front events site is h = begins_behind whole front events site.list site.first is h.attributed (list_len site.list, h.listed)
+
+ends_struct : (end : End) (kind : DeclarationKind) → declared_by end ≡ Some kind → kind ≡ kinds.Struct → end ≡ e.Struct
+ends_struct end kind by is = struct end (by ∙ ap Some is)
+  where
+    struct : (end : End) → declared_by end ≡ Some kinds.Struct → end ≡ e.Struct
+    struct e.Struct by = refl
+    struct e.Attribute by = cc
+    struct e.Typed by = cc
+    struct e.Member by = cc
+    struct e.Alias by = cc
+    struct e.Constant by = cc
+    struct e.Override by = cc
+    struct e.Variable by = cc
+    struct e.Function by = cc
+    struct e.Assertion by = cc
+    struct e.Directive by = cc
+
+never_read : (t : Text) (d : Declaration) → IsMisread t d → d.is_faulty ≡ false → ⊥
+never_read t d h readable = let no : false ≡ true = sym readable ∙ h.faulty in cc
+
+module _ (t : Text) (whole : List Event) where
+  declared_at : {events : List Event} (front : List Event) (site : Site) (d : Declaration) → whole ≡ front ++ events → IsSite t events site → IsOf t site d → IsDeclaration t whole d
+  declared_at {events} front site d is h of readable struct =
+      let at = stands_at t whole front events site is h in
+      record { front = at.0; first = site.first; there = at.1; keyword = ends_struct (end_at t site.first) d.kind of.kind struct; named = of.named; rest = of.rest }
+
+  behind_site : {events : List Event} (front : List Event) (site : Site) → whole ≡ front ++ events → IsSite t events site
+      → (before : List Event) × (whole ≡ before ++ drop (declaration_len t site.first) site.first)
+  behind_site {events} front site is h =
+      let at = stands_at t whole front events site is h in
+      let n = declaration_len t site.first in
+      (at.0 ++ take n site.first, further whole at.0 site.first (take n site.first) (drop n site.first) at.1 (sym (take-append-drop n site.first)))
+
+  all_are : (front : List Event) {events : List Event} {sites : List Site} {ds : List Declaration} → whole ≡ front ++ events → AreOf t sites ds → AreSites t events sites
+      → All (IsDeclaration t whole) ds
+  all_are front is no_other there = All-nil (IsDeclaration t whole)
+  all_are front is (no_declaration {site} none rest) (one_more at others) =
+      let next = behind_site front site is at in
+      all_are next.0 next.1 rest others
+  all_are front is (declaration {site} {sites} {d} {ds} of rest) (one_more at others) =
+      let next = behind_site front site is at in
+      All-cons (IsDeclaration t whole) d ds (declared_at front site d is at of) (all_are next.0 next.1 rest others)
+  all_are front is (misread {sites} {d} {ds} isnt rest) there =
+      All-cons (IsDeclaration t whole) d ds (λ readable struct. absurd (never_read t d isnt readable)) (all_are front is rest there)
+
+  pub all_declarations : (ds : List Declaration) → AreAll t whole ds → All (IsDeclaration t whole) ds
+  all_declarations ds h = all_are [] refl h.are h.there
+
+pub all_at : (P : Declaration → Type 0) (ds : List Declaration) (i : ℕ) (d : Declaration) → slice_get ds i ≡ Some d → All P ds → P d
+all_at P [] i d is all = absurd (let no : None ≡ Some d = is in cc)
+all_at P (e ∷ es) zero d is all = subst P (same_Some e d is) (All-head P e es all)
+all_at P (e ∷ es) (suc i) d is all = all_at P es i d is (All-tail P e es all)
+
+-- the structs of the declarations are those of the text
+
+module _ (t : Text) (structs : List Struct) where
+  is_struct_at : (site : Site) (d : Declaration) (s : Struct) → IsOf t site d → d.kind ≡ kinds.Struct → IsFrom t d s → IsStructAt t site.first s
+  is_struct_at site d s of struct from = record {
+    keyword = ends_struct (end_at t site.first) d.kind of.kind struct;
+    named = record { name = from.name ∙ of.named.name; place = from.place ∙ of.named.place };
+    members = subst (λ es. AreMembers t es s.members.items) of.rest from.members;
+  }
+
+  by_kind : (site : Site) (d : Declaration) → IsOf t site d → d.kind ≢ kinds.Struct → end_at t site.first ≢ e.Struct
+  by_kind site d of isnt is = isnt (sym (same_Some kinds.Struct d.kind (sym (ap declared_by is) ∙ of.kind)))
+
+  by_none : (site : Site) → declared_by (end_at t site.first) ≡ None → end_at t site.first ≢ e.Struct
+  by_none site none is = let no : Some kinds.Struct ≡ None = sym (ap declared_by is) ∙ none in cc
+
+  told : {sites : List Site} {ds : List Declaration} {indices : List ℕ} {names : List (List ℕ)} → AreOf t sites ds → AreListed t structs ds indices names
+      → AreTold t structs sites indices names
+  told no_other none_listed = none_told
+  told (no_declaration {site} none rest) h = other_told (by_none site none) (told rest h)
+  told (declaration {site} {sites} {d} of rest) (other_listed isnt h) = other_told (by_kind site d of isnt) (told rest h)
+  told (declaration {site} {sites} {d} of rest) (kept_listed is read h) = kept read.there (is_struct_at site d read.struct of is read.from) (told rest h)
+  told (declaration {site} {sites} {d} of rest) (left_listed is h) = left_out (ends_struct (end_at t site.first) d.kind of.kind is) of.named.name (told rest h)
+  told (misread isnt rest) (other_listed other h) = told rest h
+  told (misread {sites} {d} isnt rest) (kept_listed is read h) = absurd (never_read t d isnt read.readable)
+  told (misread isnt rest) (left_listed is h) = misread_told isnt.count isnt.name (told rest h)
+
+  pub all_told : (whole : List Event) (ds : List Declaration) (indices : List ℕ) (names : List (List ℕ)) → AreAll t whole ds → AreListed t structs ds indices names
+      → AreAllTold t whole structs indices names
+  all_told whole ds indices names are h = record { sites = are.sites; there = are.there; told = told are.are h }

@@ -6,3 +6,5 @@ pub mod Declarations
 pub mod Lengths
 pub mod Sizings
 pub mod Structs
+pub mod Sites
+pub mod Meanings

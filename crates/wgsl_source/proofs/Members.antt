@@ -28,7 +28,7 @@ grows_further a b c g h = record {
   kept = h.kept ∙ (ap (λ es. es ++ h.added) g.kept ∙ append_assoc a.elements.items g.added h.added);
 }
 
-still_at : (es fs : List MeasuredType) (k : ℕ) (t : MeasuredType) → slice_get es k ≡ Some t → slice_get (es ++ fs) k ≡ Some t
+pub still_at : {A : Type 0} (es fs : List A) (k : ℕ) (t : A) → slice_get es k ≡ Some t → slice_get (es ++ fs) k ≡ Some t
 still_at [] fs k t is = cc
 still_at (e ∷ es) fs zero t is = is
 still_at (e ∷ es) fs (suc k) t is = still_at es fs k t is

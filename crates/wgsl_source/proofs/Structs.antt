@@ -7,7 +7,7 @@ use Rattle.wgsl_reader.specs.declared.read.Event.{Event}
 use Rattle.wgsl_source.specs.TextStructs.{AreMembers, IsDeclared}
 use Rattle.wgsl_source.specs.Members.{Grows}
 use Rattle.wgsl_source.specs.Structs.{AreStructsOf, IsStructOf, Keeps, SameStructs}
-use Rattle.wgsl_source.specs.internal.Read.{IsFrom, IsStructAt, KnownAt}
+use Rattle.wgsl_source.specs.internal.Read.{IsDeclaredAt, IsFrom, KnownAt}
 use Rattle.wgsl_source.specs.declared.declaration.Declaration.{Declaration}
 use Rattle.wgsl_source.specs.declared.module.Reader.{Reader}
 use Rattle.wgsl_source.specs.declared.structure.Struct.{Struct}
@@ -80,14 +80,16 @@ keeps_one d a b s g is one text from = record {
   declared = λ whole known. All-cons (IsDeclared a.scope.text whole) s [] (is_declared a.scope.text whole d s known from) (All-nil (IsDeclared a.scope.text whole));
 }
   where
-    is_declared : (t : Text) (whole : List Event) (d : Declaration) (s : Struct) → IsStructAt t whole d → IsFrom t d s → IsDeclared t whole s
+    is_declared : (t : Text) (whole : List Event) (d : Declaration) (s : Struct) → IsDeclaredAt t whole d → IsFrom t d s → IsDeclared t whole s
     is_declared t whole d s at from = record {
-      front = at.begins.front;
-      events = at.events;
-      there = at.begins.there;
-      keyword = at.begins.keyword;
-      named = record { name = from.name ∙ at.named.name; place = from.place ∙ at.named.place };
-      members = subst (λ es. AreMembers t es s.members.items) at.rest from.members;
+      front = at.front;
+      first = at.first;
+      there = at.there;
+      is = record {
+        keyword = at.keyword;
+        named = record { name = from.name ∙ at.named.name; place = from.place ∙ at.named.place };
+        members = subst (λ es. AreMembers t es s.members.items) at.rest from.members;
+      };
     }
 
 -- all structs are read

@@ -1,6 +1,7 @@
 -- The parts of a declaration, by the events of the grammar: its name, its attributes, and what ends each part.
-use Rattle.std.specs.Prelude.{◌≡◌, ◌≢◌, ℕ, zero, suc, ◌-◌, List, [], ◌∷◌, Bool, true, false, Option, Some, None, cond, drop, length, slice_get, slice_index_or, take}
+use Rattle.std.specs.Prelude.{◌≡◌, ◌≢◌, ℕ, zero, suc, ◌-◌, List, [], ◌∷◌, Bool, true, false, Option, Some, None, cond, drop, length, nat_eq, slice_get, slice_index_or, take}
 use denote.Enum.Bare.{sameb}
+use Rattle.wgsl_reader.specs.declared.kind.Kind.{Kind}
 use Rattle.wgsl_reader.specs.declared.kind.Kind.TheVariants as k
 use Rattle.wgsl_reader.specs.declared.mark.Mark.{Mark}
 use Rattle.wgsl_reader.specs.declared.mark.Mark.TheVariants as m
@@ -102,3 +103,67 @@ attribute_len (event ∷ events) = attribute_by event.mark (event ∷ events)
 pub data BehindAttributes : List Event → List Event → Type 0 where
   no_attribute : {events : List Event} → attribute_len events ≡ 0 → BehindAttributes events events
   one_attribute : {events rest : List Event} → attribute_len events ≢ 0 → BehindAttributes (drop (attribute_len events) events) rest → BehindAttributes events rest
+
+-- Template lists
+
+-- how many lists are unclosed behind an event
+abbrev pub unclosed_behind : ℕ → Mark → ℕ
+unclosed_behind n m.OpenTemplate = suc n
+unclosed_behind n m.Template = n - 1
+unclosed_behind n other = n
+
+-- how many events there are up to the one behind which no list is unclosed, and with it
+abbrev pub unclosed_len : ℕ → List Event → ℕ
+unclosed_len n [] = 0
+unclosed_len n (event ∷ events) = suc (cond (nat_eq (unclosed_behind n event.mark) 0) 0 (unclosed_len (unclosed_behind n event.mark) events))
+
+abbrev pub list_by : Mark → List Event → ℕ
+list_by m.OpenTemplate events = suc (unclosed_len 1 events)
+list_by other events = 0
+
+-- how many events the template list has that stands in front, if one does: `<storage, read>`
+abbrev pub list_len : List Event → ℕ
+list_len [] = 0
+list_len (event ∷ events) = list_by event.mark events
+
+-- Declarations, directives and assertions
+
+-- what ends one, by the mark of its first event and the kind of the token in front of that: `struct S`, `var<private> x`
+abbrev pub end_by : Mark → Kind → End
+end_by m.Name k.Alias = e.Alias
+end_by m.Name k.Struct = e.Struct
+end_by m.Name k.Const = e.Constant
+end_by m.Name k.Override = e.Override
+end_by m.Name k.Var = e.Variable
+end_by m.Name k.CloseTemplate = e.Variable
+end_by m.Name k.Fn = e.Function
+end_by m.Extension other = e.Directive
+end_by m.Severity other = e.Directive
+end_by mark other = e.Assertion
+
+abbrev pub end_at : Text → List Event → End
+end_at t [] = e.Assertion
+end_at t (event ∷ events) = end_by event.mark (token_before t (event.at - 1)).kind
+
+-- how many events one has from its first event on, behind its attributes and its list
+abbrev pub declaration_len : Text → List Event → ℕ
+declaration_len t events = len_to (end_at t events) events
+
+-- where one stands: the events from its attributes on, from its template list on, and from its first event behind these on
+pub record Site : Type 0 where
+  pub attributes : List Event
+  pub list : List Event
+  pub first : List Event
+
+-- one stands in front of these events
+pub record IsSite (t : Text) (events : List Event) (site : Site) : Type 0 where
+  pub begin : site.attributes ≡ events
+  pub attributed : BehindAttributes events site.list
+  pub listed : site.first ≡ drop (list_len site.list) site.list
+  pub some : declaration_len t site.first ≢ 0
+
+-- those that these events say, in order, up to where none begins
+pub data AreSites (t : Text) : List Event → List Site → Type 0 where
+  no_more : {events list : List Event} → BehindAttributes events list → declaration_len t (drop (list_len list) list) ≡ 0 → AreSites t events []
+  one_more : {events : List Event} {site : Site} {others : List Site} → IsSite t events site
+      → AreSites t (drop (declaration_len t site.first) site.first) others → AreSites t events (site ∷ others)

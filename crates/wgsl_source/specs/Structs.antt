@@ -5,6 +5,8 @@ use Rattle.wgsl_reader.specs.declared.read.Event.{Event}
 use Rattle.wgsl_source.specs.TextStructs.{IsDeclared}
 use Rattle.wgsl_source.specs.Layout.{IsLaidOut}
 use Rattle.wgsl_source.specs.Members.{AreMeasured, EndsRuntimeSized, Grows, IsTypeOf}
+use Rattle.wgsl_source.specs.internal.Read.{IsFrom}
+use Rattle.wgsl_source.specs.declared.declaration.Declaration.{Declaration}
 use Rattle.wgsl_source.specs.declared.measured.MeasuredType.{MeasuredType}
 use Rattle.wgsl_source.specs.declared.module.Reader.{Reader}
 use Rattle.wgsl_source.specs.declared.scope.Meaning.{Meaning}
@@ -23,9 +25,10 @@ pub record IsStructOf (elements : List MeasuredType) (s : Struct) : Type 0 where
 abbrev pub AreStructsOf : List MeasuredType → List Struct → Type 0
 AreStructsOf elements structs = All (IsStructOf elements) structs
 
--- a struct is read and kept behind those that are there, and its type has its index
-pub record IsKept (old new : List Struct) (m : Meaning) : Type 0 where
+-- the struct of a declaration is read and kept behind those that are there, and its type has its index
+pub record IsKept (t : Text) (d : Declaration) (old new : List Struct) (m : Meaning) : Type 0 where
   pub struct : Struct
+  pub from : IsFrom t d struct
   pub kept : new ≡ old ++ struct ∷ []
   pub type : MeasuredType
   pub named : m ≡ meaning.«Type» type

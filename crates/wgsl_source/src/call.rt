@@ -18,6 +18,7 @@ enum Callee {
     /// The constructor of a vector, with the type of its components if its name says it.
     Vector(Size, Option<Scalar>),
     Function(Function),
+    Dot,
 }
 
 impl<'t> Scope<'t> {
@@ -55,6 +56,7 @@ impl<'t> Scope<'t> {
         match (Function::named(word), predeclared(word)) {
             (Some(Function::F16), _) if !self.extensions.half => Err(name.stop(Cause::NoHalf)),
             (Some(function), _) => Ok(Some(Callee::Function(function))),
+            (None, None) if word == "dot" => Ok(Some(Callee::Dot)),
             (None, Some(PredeclaredType::Vec(n, scalar))) => Ok(vector(n, Some(scalar))),
             (None, Some(_)) => Ok(Size::named(word).map(|size| Callee::Vector(size, None))),
             (None, None) => {
@@ -93,6 +95,19 @@ fn vector(count: u8, scalar: Option<Scalar>) -> Option<Callee> {
     }
 }
 
+/// The value of `dot` of these arguments, which are known, or why there is none.
+fn dot(arguments: &[Item]) -> Result<Value, Cause> {
+    let [a, b] = arguments else {
+        return Err(Cause::WrongArgumentCount);
+    };
+    match (a.content, b.content) {
+        (Content::Value(Value::Vector(a)), Content::Value(Value::Vector(b))) => {
+            Ok(Value::Known(Constant::Integer(a.dot(b)?)))
+        }
+        _ => Err(Cause::NotInteger),
+    }
+}
+
 /// The value of a call with these arguments, or why there is none.
 fn value_of(callee: Callee, arguments: &[Item]) -> Result<Value, Cause> {
     let mut given = Arguments::Zero;
@@ -103,10 +118,12 @@ fn value_of(callee: Callee, arguments: &[Item]) -> Result<Value, Cause> {
             (Content::Value(Value::Vector(vector)), Callee::Vector(_, scalar)) => {
                 with_components(given, vector, scalar.filter(|_| arguments.len() == 1))?
             }
+            (_, Callee::Dot) => given,
             _ => return Err(Cause::NotInteger),
         };
     }
     match callee {
+        Callee::Dot => dot(arguments),
         Callee::Function(function) => Ok(Value::Known(function.apply(given)?)),
         Callee::Vector(size, None) => Ok(Value::Vector(Vector::of(size, given)?)),
         Callee::Vector(size, Some(scalar)) => match zero_of(scalar) {

@@ -1,9 +1,8 @@
 // What a module declares, and where.
-ghost use Rattle.std.specs.Prelude.{◌≡◌, ◌++◌, IfOk, ◌-◌, IfSome, IsTrue, List, MatchOption, OnOk, Some, ⊤};
-ghost use Rattle.std.specs.List.{All};
+ghost use Rattle.std.specs.Prelude.{◌≡◌, ◌-◌, ◌∷◌, [], ◌<◌, IfOk, IfSome, List, MatchOption, OnOk, length};
 ghost use Rattle.wgsl_reader.specs.declared.read.Event.{Event as of_event};
-ghost use Rattle.wgsl_source.specs.Declarations.{token_before};
-ghost use Rattle.wgsl_source.specs.internal.Read.{IsDeclaration, IsReadAt};
+ghost use Rattle.wgsl_source.specs.Declarations.{end_by};
+ghost use Rattle.wgsl_source.specs.internal.Read.{Adds, AreAll, IsMisread, IsNext, IsNone, declared_by};
 
 use crate::directive::read_directive;
 use crate::extension::enabled;
@@ -60,7 +59,7 @@ pub fn read_declarations<'t>(
     text: Text<'t>,
     grammar: &'t Grammar,
 ) -> Result<Declarations<'t>, AllocError>
-    ensures { IfOk result (λ found. All (IsDeclaration text.entry grammar.now.events.items) found.declarations.items) }
+    ensures { IfOk result (λ found. AreAll text.entry grammar.now.events.items found.declarations.items) }
 {
     let mut found = Declarations {
         declarations: Vec::new(alloc),
@@ -69,10 +68,7 @@ pub fn read_declarations<'t>(
     };
     let mut misread: usize = 0;
     let mut rest: &'t [Event] = &grammar.events;
-    for _ in 0..rest.len() {
-        let Some(read) = next_declaration(text, rest) else {
-            break;
-        };
+    while let Some(read) = next_declaration(text, rest) {
         misread = found.read_misread(text, grammar, misread, read.named)?;
         found.read_one(text, read)?;
         rest = read.behind;
@@ -95,18 +91,19 @@ struct Read<'t> {
     behind: &'t [Event],
 }
 
-/// What the first events declare, if there are any.
+/// What the first events declare, if they declare anything.
 fn next_declaration<'t>(text: Text<'t>, events: &'t [Event]) -> Option<Read<'t>>
-    ensures { MatchOption result ⊤ (λ read. (whole front : List of_event) → whole ≡ front ++ events.now
-        → IsReadAt text.entry whole read × (behind : List of_event) × (whole ≡ behind ++ read.behind.now)) }
+    ensures exact { MatchOption result (IsNone text.entry events.now) (IsNext text.entry events.now) }
+    ensures less { IfSome result (λ read. length read.behind.now < length events.now) }
 {
     let attributes = split_attributes(events);
     let list = split_list(attributes.rest);
     let (first, _) = split_first(list.rest)?;
-    let (kind, end) = kind_of(text, first);
+    let word = text.token_before(first.at.saturating_sub(1));
+    let end = end_by(first.mark, word.kind);
     let split = split_to(list.rest, end)?;
     Some(Read {
-        kind,
+        kind: declared_by(end),
         attributes: attributes.front,
         list: list.front,
         named: first.at,
@@ -115,31 +112,45 @@ fn next_declaration<'t>(text: Text<'t>, events: &'t [Event]) -> Option<Read<'t>>
     })
 }
 
-/// What a declaration declares whose first event this is, and what ends it.
-fn kind_of(text: Text, first: Event) -> (Option<DeclarationKind>, End)
-    ensures { result.0 ≡ Some DeclarationKind.Struct → ((token_before text.entry (first.at - 1)).kind ≡ Kind.Struct) × (result.1 ≡ End.Struct) }
+/// What ends a declaration, a directive or an assertion, by the mark of its first event and the kind of the token in front.
+fn end_by(mark: Mark, word: Kind) -> End
+    ensures { result ≡ end_by mark word }
 {
-    let word = text.token_before(first.at.saturating_sub(1)).kind;
-    match (first.mark, word) {
-        (Mark::Extension | Mark::Severity, _) => (None, End::Directive),
-        (Mark::Name, Kind::Alias) => (Some(DeclarationKind::Alias), End::Alias),
-        (Mark::Name, Kind::Struct) => (Some(DeclarationKind::Struct), End::Struct),
-        (Mark::Name, Kind::Const) => (Some(DeclarationKind::Constant), End::Constant),
-        (Mark::Name, Kind::Override) => (Some(DeclarationKind::Override), End::Override),
-        (Mark::Name, Kind::Var | Kind::CloseTemplate) => {
-            (Some(DeclarationKind::Variable), End::Variable)
-        }
-        (Mark::Name, Kind::Fn) => (Some(DeclarationKind::Function), End::Function),
-        _ => (None, End::Assertion),
+    match mark {
+        Mark::Extension | Mark::Severity => End::Directive,
+        Mark::Name => match word {
+            Kind::Alias => End::Alias,
+            Kind::Struct => End::Struct,
+            Kind::Const => End::Constant,
+            Kind::Override => End::Override,
+            Kind::Var | Kind::CloseTemplate => End::Variable,
+            Kind::Fn => End::Function,
+            _ => End::Assertion,
+        },
+        _ => End::Assertion,
+    }
+}
+
+/// What is declared by what ends so.
+fn declared_by(end: End) -> Option<DeclarationKind>
+    ensures { result ≡ declared_by end }
+{
+    match end {
+        End::Alias => Some(DeclarationKind::Alias),
+        End::Struct => Some(DeclarationKind::Struct),
+        End::Constant => Some(DeclarationKind::Constant),
+        End::Override => Some(DeclarationKind::Override),
+        End::Variable => Some(DeclarationKind::Variable),
+        End::Function => Some(DeclarationKind::Function),
+        _ => None,
     }
 }
 
 impl<'t> Declarations<'t> {
     /// Reads a declaration that the grammar reads.
     fn read_one(&mut self, text: Text<'t>, read: Read<'t>) -> Result<(), AllocError>
-        ensures { (whole : List of_event) → IsReadAt text.entry whole read.entry
-            → All (IsDeclaration text.entry whole) self.old.declarations.items
-            → OnOk result (All (IsDeclaration text.entry whole) self.new.declarations.items) }
+        ensures { (events : List of_event) → (next : IsNext text.entry events read.entry)
+            → OnOk result (Adds text.entry (next.site ∷ []) self.old.declarations.items self.new.declarations.items) }
     {
         match read.kind {
             Some(kind) => {
@@ -172,8 +183,7 @@ impl<'t> Declarations<'t> {
         from: usize,
         before: usize,
     ) -> Result<usize, AllocError>
-        ensures { (whole : List of_event) → All (IsDeclaration text.entry whole) self.old.declarations.items
-            → IfOk result (λ index. All (IsDeclaration text.entry whole) self.new.declarations.items) }
+        ensures { IfOk result (λ index. Adds text.entry [] self.old.declarations.items self.new.declarations.items) }
     {
         let mut index = from;
         while let Some(misread) = grammar.misread.get(index) {
@@ -238,7 +248,7 @@ fn note_enabled(text: Text, misread: Misread, extensions: &mut Extensions) {
 
 /// What a misread declaration would declare, if its first word and a name behind it say so.
 fn misread_declaration<'t>(text: Text<'t>, misread: Misread) -> Option<Declaration<'t>>
-    ensures { IfSome result (λ d. IsTrue d.is_faulty) }
+    ensures { IfSome result (IsMisread text.entry) }
 {
     let first = first_word(text, misread);
     let kind = match text.token(first).kind {

@@ -72,6 +72,8 @@ pub enum Cause {
     ShiftTooFar,
     /// A `clamp` whose lower bound is above its upper bound.
     EmptyRange,
+    /// An `extractBits` or `insertBits` of bits that an integer doesn't have.
+    BitsTooFar,
     /// A component or an element that a vector doesn't have.
     NoSuchComponent,
     /// A function with more or fewer arguments than it takes.
@@ -139,6 +141,7 @@ impl From<IntegerError> for Cause {
             IntegerError::NegatedUnsigned => Cause::NegatedUnsigned,
             IntegerError::ShiftTooFar => Cause::ShiftTooFar,
             IntegerError::EmptyRange => Cause::EmptyRange,
+            IntegerError::BitsTooFar => Cause::BitsTooFar,
         }
     }
 }
@@ -193,6 +196,7 @@ impl Cause {
             Cause::NegatedUnsigned => "a u32 has no negative",
             Cause::ShiftTooFar => "a shift by 32 bits or more",
             Cause::EmptyRange => "the least value is above the greatest",
+            Cause::BitsTooFar => "bits beyond the 32 of an integer",
             Cause::NoSuchComponent => "this has no such component",
             Cause::AttributeArguments => "this attribute takes another number of arguments",
             Cause::WrongArgumentCount => "this function takes another number of arguments",

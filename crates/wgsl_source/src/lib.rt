@@ -14,6 +14,7 @@ mod initialized;
 mod item;
 pub mod laws;
 mod leaf;
+pub mod listed;
 mod literal;
 pub mod meant;
 pub mod measured;

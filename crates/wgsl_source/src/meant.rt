@@ -1,8 +1,9 @@
 // What a misspelled word of a module may have meant: WGSL's names, and the module's own.
 
+use crate::declaration::DeclarationKind;
 use crate::extension::{ENABLED, REQUIRED};
 use crate::fault::{Cause, Expected, ExtensionKind, Named};
-use std::alloc::Global;
+use std::alloc::{AllocError, Global};
 use wgsl_spelling::meant::{ACCESS_MODES, SCALARS, SPACES, TEXEL_FORMATS, TYPES};
 use wgsl_syntax::nearest::{Nearest, word_of_wgsl};
 use wgsl_tables::names::FUNCTIONS;
@@ -24,10 +25,17 @@ impl<'t> Declared<'t> {
             values: Vec::new(alloc),
         }
     }
-}
 
-const DECLARATIONS: &str =
-    "alias struct const override var fn enable requires diagnostic const_assert";
+    /// Adds the name of a declaration, if it is one of these.
+    pub fn add(&mut self, kind: DeclarationKind, name: &'t str) -> Result<(), AllocError> {
+        match kind {
+            DeclarationKind::Alias | DeclarationKind::Struct => self.types.push(name)?,
+            DeclarationKind::Constant | DeclarationKind::Override => self.values.push(name)?,
+            DeclarationKind::Variable | DeclarationKind::Function => {}
+        }
+        Ok(())
+    }
+}
 
 const ATTRIBUTES: &str = "\
 align binding blend_src builtin compute diagnostic fragment group id interpolate invariant location must_use size vertex \
@@ -86,7 +94,6 @@ pub fn meant<'t>(cause: Cause, word: &'t str, declared: &Declared<'t>) -> Option
 /// The names that may stand where a word has this fault.
 fn names_for(cause: Cause) -> &'static str {
     match cause {
-        Cause::Misread(_) => DECLARATIONS,
         Cause::Expected(Expected::AddressSpace) => SPACES,
         Cause::Expected(Expected::AccessMode) => ACCESS_MODES,
         Cause::Expected(Expected::TexelFormat) => TEXEL_FORMATS,

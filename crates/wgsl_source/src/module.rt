@@ -1,18 +1,20 @@
 // Modules: what they declare, and what is wrong with them.
-ghost use Rattle.std.specs.Prelude.{◌≡◌, IfOk, OnOk, length, ◌++◌, ◌∷◌, []};
+ghost use Rattle.std.specs.Prelude.{◌≡◌, IfOk, List, OnOk, Some, map, slice_get};
 ghost use Rattle.std.specs.List.{All};
-ghost use Rattle.wgsl_source.specs.TextStructs.{IsDeclared};
-ghost use Rattle.wgsl_source.specs.internal.Read.{Known, KnownAll, KnownAt, KnownStruct, Nothing};
+ghost use Rattle.wgsl_source.specs.TextStructs.{AreAllTold, IsDeclared};
+ghost use Rattle.wgsl_source.specs.internal.Read.{AreAllMeant, AreListed, IsMeant, Known, KnownAll, KnownAt, KnownStruct, Means, Nothing, names_of};
 ghost use Rattle.wgsl_source.specs.Structs.{AreStructsOf, IsKept, Keeps, SameStructs};
+ghost use Rattle.wgsl_source.specs.declared.declaration.Declaration.{Declaration as of_declaration};
 
 use crate::declaration::{Declaration, DeclarationKind, Declarations, read_declarations};
 use crate::entry::{EntryPoint, Override};
 use crate::fault::{Cause, Fault, Stop};
 use crate::initialized::Initialized;
+use crate::listed::{Alias, Listed};
 use crate::meant::Declared;
-use crate::measured::{MeasuredType, TypeKind};
-use crate::order::{Order, order_of};
-use crate::scope::{Meaning, Scope, first_meaning};
+use crate::measured::MeasuredType;
+use crate::order::{Circular, Order, order_of};
+use crate::scope::{Meaning, Scope};
 use crate::structure::Struct;
 use crate::text::{Text, has_byte_order_mark};
 use crate::types::Types;
@@ -71,27 +73,17 @@ impl<'t> Module<'t> {
     }
 }
 
-/// An alias, with the type that it stands for.
-#[derive(Clone, Copy)]
-pub struct Alias<'t> {
-    pub name: &'t str,
-    pub ty: MeasuredType,
-}
-
 /// What is read of a module so far.
 #[derive(Drop)]
 struct Reader<'t> {
     scope: Scope<'t>,
     types: Types,
     structs: Vec<Struct<'t>>,
-    in_text: Vec<usize>,
     variables: Vec<Variable<'t>>,
     overrides: Vec<Override<'t>>,
     entry_points: Vec<EntryPoint<'t>>,
     faults: Vec<Fault>,
     declared: Declared<'t>,
-    aliases: Vec<Alias<'t>>,
-    left_out: Vec<&'t str>,
 }
 
 /// The module of a text, by what the grammar says of its tokens.
@@ -102,6 +94,7 @@ pub fn read_module<'t>(
 ) -> Result<Module<'t>, AllocError>
     ensures structs { IfOk result (λ m. AreStructsOf m.elements.items m.structs.items) }
     ensures declared { IfOk result (λ m. All (IsDeclared text.entry grammar.now.events.items) m.structs.items) }
+    ensures told { IfOk result (λ m. AreAllTold text.entry grammar.now.events.items m.structs.items m.in_text.items (map (λ name. name.now) m.left_out.items)) }
 {
     let Declarations {
         declarations,
@@ -112,17 +105,14 @@ pub fn read_module<'t>(
         scope: Scope::new(alloc, text, extensions),
         types: Types::none(alloc),
         structs: Vec::new(alloc),
-        in_text: Vec::new(alloc),
         variables: Vec::new(alloc),
         overrides: Vec::new(alloc),
         entry_points: Vec::new(alloc),
         faults,
         declared: Declared::none(alloc),
-        aliases: Vec::new(alloc),
-        left_out: Vec::new(alloc),
     };
     match reader.read(&declarations) {
-        Ok(()) => Ok(reader.finished()),
+        Ok(listed) => Ok(reader.finished(listed)),
         Err(e) => {
             drop(reader);
             Err(e)
@@ -132,8 +122,9 @@ pub fn read_module<'t>(
 
 impl<'t> Reader<'t> {
     /// Reads the declarations.
-    fn read(&mut self, declarations: &[Declaration<'t>]) -> Result<(), AllocError>
-        ensures { OnOk result (Keeps (KnownAll declarations.now) self.old self.new) }
+    fn read(&mut self, declarations: &[Declaration<'t>]) -> Result<Listed<'t>, AllocError>
+        ensures keeps { OnOk result (Keeps (KnownAll declarations.now) self.old self.new) }
+        ensures listed { IfOk result (λ l. AreListed self.new.scope.text self.new.structs.items declarations.now l.in_text.items (names_of l)) }
     {
         if has_byte_order_mark(self.scope.text.text.as_bytes()) {
             self.faults.push(Fault {
@@ -143,32 +134,35 @@ impl<'t> Reader<'t> {
         }
         self.name_all(declarations)?;
         self.read_ordered(declarations)?;
-        self.list_types(declarations)?;
         self.read_others(declarations)?;
         self.faults.sort_unstable_by_key(|fault| fault.at);
         self.faults.dedup();
         self.types.naga_only.sort_unstable_by_key(|fault| fault.at);
-        Ok(())
+        self.list_types(declarations)
     }
 
-    fn finished(self) -> Module<'t>
+    fn finished(self, listed: Listed<'t>) -> Module<'t>
         ensures elements { result.elements ≡ self.entry.types.elements }
         ensures structs { result.structs ≡ self.entry.structs }
+        ensures in_text { result.in_text ≡ listed.entry.in_text }
+        ensures left_out { result.left_out ≡ listed.entry.left_out }
     {
         let Reader {
             scope,
             types,
             structs,
-            in_text,
             variables,
             overrides,
             entry_points,
             faults,
             declared,
-            aliases,
-            left_out,
             ..
         } = self;
+        let Listed {
+            in_text,
+            aliases,
+            left_out,
+        } = listed;
         let Types {
             elements,
             naga_only,
@@ -191,37 +185,42 @@ impl<'t> Reader<'t> {
 
     /// Gives the declarations their names. If two have one name, the first keeps it.
     fn name_all(&mut self, declarations: &[Declaration<'t>]) -> Result<(), AllocError>
-        ensures { OnOk result (SameStructs self.old self.new) }
+        ensures same { OnOk result (SameStructs self.old self.new) }
+        ensures meant { OnOk result (AreAllMeant declarations.now self.new) }
     {
+        let unread = vec![in self.scope.alloc; Meaning::Unread; declarations.len()]?;
+        self.scope.meanings = unread;
         for (index, declaration) in declarations.iter().enumerate() {
-            let is_twice = self.scope.names.contains_key(&declaration.name);
-            match declaration.kind {
-                DeclarationKind::Alias | DeclarationKind::Struct => {
-                    self.declared.types.push(declaration.name)?;
-                }
-                DeclarationKind::Constant | DeclarationKind::Override => {
-                    self.declared.values.push(declaration.name)?;
-                }
-                DeclarationKind::Variable | DeclarationKind::Function => {}
-            }
-            if is_twice {
-                self.faults.push(Fault {
-                    at: declaration.place,
-                    cause: Cause::DeclaredTwice,
-                })?;
-            } else {
-                self.scope.names.insert(declaration.name, index)?;
-            }
-            self.scope.meanings.push(first_meaning(is_twice))?;
+            self.name(index, declaration)?;
         }
         Ok(())
     }
 
-    fn mean(&mut self, index: usize, meaning: Meaning)
-        ensures { SameStructs self.old self.new }
+    fn name(&mut self, index: usize, declaration: &Declaration<'t>) -> Result<(), AllocError>
+        ensures same { SameStructs self.old self.new }
+        ensures means { (ds : List of_declaration) → Means ds self.old self.new }
     {
-        if let Some(now) = self.scope.meanings.get_mut(index) {
-            *now = meaning;
+        self.declared.add(declaration.kind, declaration.name)?;
+        if !self.scope.names.contains_key(&declaration.name) {
+            self.scope.names.insert(declaration.name, index)?;
+            return Ok(());
+        }
+        self.mean(index, Meaning::Faulty);
+        Ok(
+            self.faults.push(Fault {
+                at: declaration.place,
+                cause: Cause::DeclaredTwice,
+            })?,
+        )
+    }
+
+    fn mean(&mut self, index: usize, meaning: Meaning)
+        ensures same { SameStructs self.old self.new }
+        ensures means { (ds : List of_declaration) → ((d : of_declaration) → slice_get ds index ≡ Some d
+            → IsMeant self.old.scope.text self.old.structs.items d meaning) → Means ds self.old self.new }
+    {
+        if index < self.scope.meanings.len() {
+            self.scope.meanings[index] = meaning;
         }
     }
 
@@ -231,7 +230,8 @@ impl<'t> Reader<'t> {
 
     /// Reads aliases, structs and constants, each after those that it names.
     fn read_ordered(&mut self, declarations: &[Declaration<'t>]) -> Result<(), AllocError>
-        ensures { OnOk result (Keeps (KnownAll declarations.now) self.old self.new) }
+        ensures keeps { OnOk result (Keeps (KnownAll declarations.now) self.old self.new) }
+        ensures means { OnOk result (Means declarations.now self.old self.new) }
     {
         let alloc = self.scope.alloc;
         let order = order_of(alloc, self.scope.text, &self.scope.names, &*declarations)?;
@@ -245,13 +245,11 @@ impl<'t> Reader<'t> {
         order: &Order,
         declarations: &[Declaration<'t>],
     ) -> Result<(), AllocError>
-        ensures { OnOk result (Keeps (KnownAll declarations.now) self.old self.new) }
+        ensures keeps { OnOk result (Keeps (KnownAll declarations.now) self.old self.new) }
+        ensures means { OnOk result (Means declarations.now self.old self.new) }
     {
         for circular in &order.circular {
-            if self.is_unread(circular.index) {
-                self.mean(circular.index, Meaning::Faulty);
-                self.faults.push(circular.fault)?;
-            }
+            self.refuse(*circular)?;
         }
         for index in &order.sorted {
             if let Some(declaration) = declarations.get(*index) {
@@ -261,31 +259,34 @@ impl<'t> Reader<'t> {
         Ok(())
     }
 
-    /// Lists aliases and structs, and the structs that are left out, in the order of the text.
-    fn list_types(&mut self, declarations: &[Declaration<'t>]) -> Result<(), AllocError>
-        ensures { OnOk result (SameStructs self.old self.new) }
+    /// Refuses a declaration that contains itself.
+    fn refuse(&mut self, circular: Circular) -> Result<(), AllocError>
+        ensures same { SameStructs self.old self.new }
+        ensures means { (ds : List of_declaration) → Means ds self.old self.new }
     {
-        for (declaration, meaning) in declarations.iter().zip(&self.scope.meanings) {
-            match (declaration.kind, meaning) {
-                (DeclarationKind::Struct, Meaning::Type(ty)) => {
-                    if let TypeKind::Struct(index) = ty.kind {
-                        self.in_text.push(index)?;
-                    }
-                }
-                (DeclarationKind::Struct, _) => self.left_out.push(declaration.name)?,
-                (DeclarationKind::Alias, Meaning::Type(ty)) => self.aliases.push(Alias {
-                    name: declaration.name,
-                    ty: *ty,
-                })?,
-                _ => {}
-            }
+        if !self.is_unread(circular.index) {
+            return Ok(());
         }
-        Ok(())
+        self.mean(circular.index, Meaning::Faulty);
+        Ok(self.faults.push(circular.fault)?)
+    }
+
+    /// Lists aliases and structs, and the structs that are left out, in the order of the text.
+    fn list_types(&self, declarations: &[Declaration<'t>]) -> Result<Listed<'t>, AllocError>
+        ensures { AreAllMeant declarations.now self.now → IfOk result
+            (λ l. AreListed self.now.scope.text self.now.structs.items declarations.now l.in_text.items (names_of l)) }
+    {
+        let mut listed = Listed::none(self.scope.alloc);
+        for (declaration, meaning) in declarations.iter().zip(&self.scope.meanings) {
+            listed.list(declaration, *meaning)?;
+        }
+        Ok(listed)
     }
 
     /// Reads variables, overrides and functions in the order of the text.
     fn read_others(&mut self, declarations: &[Declaration<'t>]) -> Result<(), AllocError>
-        ensures { OnOk result (Keeps (KnownAll declarations.now) self.old self.new) }
+        ensures keeps { OnOk result (Keeps (KnownAll declarations.now) self.old self.new) }
+        ensures scope { OnOk result (self.new.scope ≡ self.old.scope) }
     {
         for declaration in declarations {
             if !declaration.is_faulty {
@@ -298,7 +299,8 @@ impl<'t> Reader<'t> {
 
     #[tactic(auto, using(crate::proofs::Structs::keeps_grown))]
     fn read_other(&mut self, declaration: &Declaration<'t>) -> Result<(), Stop>
-        ensures { Keeps Nothing self.old self.new }
+        ensures keeps { Keeps Nothing self.old self.new }
+        ensures scope { self.new.scope ≡ self.old.scope }
     {
         match declaration.kind {
             DeclarationKind::Variable => {
@@ -321,7 +323,9 @@ impl<'t> Reader<'t> {
     }
 
     fn read_unread(&mut self, index: usize, declaration: &Declaration<'t>) -> Result<(), AllocError>
-        ensures { OnOk result (Keeps (Known declaration.now) self.old self.new) }
+        ensures keeps { OnOk result (Keeps (Known declaration.now) self.old self.new) }
+        ensures means { (ds : List of_declaration) → slice_get ds index ≡ Some declaration.now
+            → OnOk result (Means ds self.old self.new) }
     {
         if !self.is_unread(index) {
             return Ok(());
@@ -344,8 +348,9 @@ impl<'t> Reader<'t> {
 
     fn read_meaning(&mut self, declaration: &Declaration<'t>) -> Result<Meaning, Stop>
         ensures keeps { Keeps (KnownStruct declaration.now) self.old self.new }
+        ensures scope { self.new.scope ≡ self.old.scope }
         ensures kept { declaration.now.kind ≡ DeclarationKind.Struct
-            → IfOk result (IsKept self.old.structs.items self.new.structs.items) }
+            → IfOk result (IsKept self.old.scope.text declaration.now self.old.structs.items self.new.structs.items) }
     {
         match declaration.kind {
             DeclarationKind::Override => Ok(Meaning::Value(Value::Later)),
@@ -358,7 +363,8 @@ impl<'t> Reader<'t> {
 
     /// Records the fault at which reading stopped.
     fn tell(&mut self, read: Result<(), Stop>) -> Result<(), AllocError>
-        ensures { SameStructs self.old self.new }
+        ensures same { SameStructs self.old self.new }
+        ensures scope { self.new.scope ≡ self.old.scope }
     {
         match read {
             Err(Stop::Fault(fault)) => Ok(self.faults.push(fault)?),
@@ -368,7 +374,8 @@ impl<'t> Reader<'t> {
     }
 
     fn read_alias(&mut self, declaration: &Declaration<'t>) -> Result<Meaning, Stop>
-        ensures { Keeps (KnownStruct declaration.now) self.old self.new }
+        ensures keeps { Keeps (KnownStruct declaration.now) self.old self.new }
+        ensures scope { self.new.scope ≡ self.old.scope }
     {
         let ty = self.scope.type_noted(&mut self.types, declaration.rest)?;
         Ok(Meaning::Type(ty))
@@ -376,7 +383,8 @@ impl<'t> Reader<'t> {
 
     fn read_struct(&mut self, declaration: &Declaration<'t>) -> Result<Meaning, Stop>
         ensures keeps { Keeps (KnownAt declaration.now) self.old self.new }
-        ensures kept { IfOk result (IsKept self.old.structs.items self.new.structs.items) }
+        ensures scope { self.new.scope ≡ self.old.scope }
+        ensures kept { IfOk result (IsKept self.old.scope.text declaration.now self.old.structs.items self.new.structs.items) }
     {
         let structure = self.scope.read_struct(&mut self.types, declaration)?;
         let ty = structure.measured(self.structs.len());
@@ -386,7 +394,8 @@ impl<'t> Reader<'t> {
 
     #[tactic(auto, using(crate::proofs::Structs::keeps_grown))]
     fn read_constant(&mut self, declaration: &Declaration<'t>) -> Result<Meaning, Stop>
-        ensures { Keeps (KnownStruct declaration.now) self.old self.new }
+        ensures keeps { Keeps (KnownStruct declaration.now) self.old self.new }
+        ensures scope { self.new.scope ≡ self.old.scope }
     {
         let Initialized { ty, value, .. } = self.scope.typed(declaration);
         let ty = self.scope.declared_type(&mut self.types, ty)?;

@@ -140,7 +140,12 @@ impl<'t> Scope<'t> {
         let operator = self.pop(items)?;
         let left = self.pop(items)?;
         let (a, b) = (self.value_of(left)?, self.value_of(right)?);
-        put(items, left, binary(sign_of(operator), a, b), operator)
+        let value = binary(sign_of(operator), a, b);
+        let first = match value {
+            Ok(Value::Known(Constant::Bool(_))) => operator,
+            _ => left,
+        };
+        put(items, first, value, operator)
     }
 
     /// Ends a component, whose letter is a token.

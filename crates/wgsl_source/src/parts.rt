@@ -1,6 +1,6 @@
 // The parts of a declaration: slices of its events.
-ghost use Rattle.std.specs.Prelude.{◌≡◌, ◌≢◌, ℕ, [], ◌∷◌, ◌<◌, ◌≤◌, IfSome, MatchOption, drop, length, slice_get, take};
-ghost use Rattle.wgsl_source.specs.Declarations.{BehindAttributes, attribute_len, diagnostic_len, end_of, inner, is_diagnostic, is_diagnostic_mark, is_end, len_to};
+ghost use Rattle.std.specs.Prelude.{◌≡◌, ◌≢◌, ◌+◌, [], ◌∷◌, ◌<◌, ◌≤◌, ◌^◌, IfSome, MatchOption, drop, length, slice_get, take};
+ghost use Rattle.wgsl_source.specs.Declarations.{BehindAttributes, attribute_len, diagnostic_len, end_of, inner, is_diagnostic, is_diagnostic_mark, is_end, len_to, list_len, unclosed_behind, unclosed_len};
 
 use wgsl_reader::mark::Mark;
 use wgsl_reader::read::Event;
@@ -169,24 +169,55 @@ pub fn split_argument<'e>(events: &'e [Event]) -> Option<Split<'e>>
     None
 }
 
-/// The template list of a variable, if it stands in front.
+/// The template list in front, if there is one.
 pub fn split_list<'e>(events: &'e [Event]) -> Split<'e>
-    ensures { (n : ℕ) × (result.rest.now ≡ drop n events.now) }
+    ensures front { result.front.now ≡ take (list_len events.now) events.now }
+    ensures rest { result.rest.now ≡ drop (list_len events.now) events.now }
 {
-    let mut lists: usize = 0;
+    split_at(events, list_len(events))
+}
+
+/// How many events the template list has that stands in front, if one does.
+fn list_len(events: &[Event]) -> usize
+    ensures { result ≡ list_len events.now }
+{
+    match events {
+        [first, rest @ ..] => match first.mark {
+            Mark::OpenTemplate => 1 + unclosed_len(rest),
+            _ => 0,
+        },
+        [] => 0,
+    }
+}
+
+/// How many events there are up to the one that closes a list.
+fn unclosed_len(events: &[Event]) -> usize
+    ensures exact { result ≡ unclosed_len 1 events.now }
+    ensures bound { result ≤ length events.now }
+{
+    let mut lists = 1;
     let mut at = 0;
     while at < events.len() {
-        let mark = events[at].mark;
+        lists = unclosed_behind(lists, events[at].mark);
         at += 1;
-        match mark {
-            Mark::OpenTemplate => lists = lists.saturating_add(1),
-            Mark::Template if lists <= 1 => return split_at(events, at),
-            Mark::Template => lists = lists.saturating_sub(1),
-            _ if lists == 0 => return split_at(events, at - 1),
-            _ => {}
+        if lists == 0 {
+            return at;
         }
     }
-    split_at(events, at)
+    at
+}
+
+/// How many lists are unclosed behind an event.
+fn unclosed_behind(lists: usize, mark: Mark) -> usize
+    requires { lists + 1 < 2 ^ 64 }
+    ensures exact { result ≡ unclosed_behind lists mark }
+    ensures bound { result ≤ lists + 1 }
+{
+    match mark {
+        Mark::OpenTemplate => lists + 1,
+        Mark::Template => lists.saturating_sub(1),
+        _ => lists,
+    }
 }
 
 /// The declared type behind a name, with its `Typed`; nothing if none is declared.

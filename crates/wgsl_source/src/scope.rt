@@ -79,12 +79,3 @@ impl<'t> Scope<'t> {
         self.meanings.get(*index).copied()
     }
 }
-
-/// What a declaration stands for before it is read. One with the name of another stands for nothing.
-pub fn first_meaning(is_twice: bool) -> Meaning {
-    if is_twice {
-        Meaning::Faulty
-    } else {
-        Meaning::Unread
-    }
-}

@@ -141,7 +141,7 @@ layers_of (binding_array n t) = length-append (chain t).layers _ ∙ (ap (λ n. 
 layers_of (ray_query f) = refl
 layers_of (acceleration_structure f) = refl
 
-wrapped_last : (t : WgslType) (ls : List Around) (layer : Around) → wrapped t (ls ++ layer ∷ []) ≡ around layer (wrapped t ls)
+pub wrapped_last : (t : WgslType) (ls : List Around) (layer : Around) → wrapped t (ls ++ layer ∷ []) ≡ around layer (wrapped t ls)
 wrapped_last t [] layer = refl
 wrapped_last t (l ∷ ls) layer = wrapped_last (around l t) ls layer
 

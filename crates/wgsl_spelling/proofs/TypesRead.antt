@@ -19,7 +19,7 @@ use Rattle.wgsl_syntax.specs.declared.texture_name.TextureParameters.TheVariants
 use Rattle.wgsl_rules.specs.types.Types.{WgslType, scalar, struct, atomic, pointer, reference, texture, sampler, binding_array, ray_query, acceleration_structure, array, vec, mat}
 use Rattle.wgsl_constants.specs.Literals.{then}
 use Rattle.wgsl_constants.specs.Values.{map_value}
-use Rattle.wgsl_spelling.specs.Chains.{Chain, plain, push, with_name, with_plain, with_type, with_word}
+use Rattle.wgsl_spelling.specs.Chains.{Chain, push, with_name, with_plain, with_type, with_word}
 use Rattle.wgsl_spelling.specs.Names.{access_named, flag_named, format_named, sampled_named, space_named}
 use Rattle.wgsl_spelling.specs.Predeclared.{predeclared}
 use Rattle.wgsl_spelling.specs.Spelled.{nothing, with_listed}

@@ -3,6 +3,7 @@ pub mod Names
 pub mod Predeclared
 pub mod Items
 pub mod Chains
+pub mod Stacks
 pub mod Values
 pub mod Calls
 pub mod Templates

@@ -5,6 +5,7 @@ use Rattle.wgsl_core.specs.declared.ty.Type.{«Type»}
 use Rattle.wgsl_rules.specs.types.Types.{WgslType}
 use Rattle.wgsl_spelling.specs.Chains.{Chain as Parts}
 use Rattle.wgsl_spelling.specs.Spelled.{State}
+use Rattle.wgsl_spelling.specs.Stacks.{items_of}
 use Rattle.wgsl_spelling.specs.declared.chain.Chain.{Chain}
 use Rattle.wgsl_spelling.specs.declared.fault.Stop.{Stop}
 use Rattle.wgsl_spelling.specs.declared.fault.Stop.TheVariants.{Memory, Fault}
@@ -12,10 +13,10 @@ use Rattle.wgsl_spelling.specs.declared.item.Item.{Item}
 use Rattle.wgsl_spelling.specs.declared.spelled.Reading.{Reading}
 
 abbrev pub chain_of : Chain → Parts
-chain_of c = record { leaf = c.leaf; layers = c.layers.items }
+chain_of c = record { leaf = c.leaf; layers = items_of c.layers }
 
 abbrev pub state_of : Reading → State
-state_of r = record { items = reverse r.items.items; chain = chain_of r.chain }
+state_of r = record { items = reverse (items_of r.items); chain = chain_of r.chain }
 
 -- The answer of the rules: a value, or a fault where they have none. Out of memory says nothing.
 abbrev pub Gives : {A B : Type 0} → (A → B) → Option B → Result A Stop → Type 0

@@ -129,6 +129,12 @@ valued first x = item first.token (v.Constant x)
 abbrev pub unary : Item → Item → Option Item
 unary operator operand = then (constant operand) (λ a. map_value (valued operator) (unary_value (sign_in operator.value) a))
 
+-- where a value with an operator is told: a test at the operator, which makes no integer
+abbrev pub first_of : Item → Item → Constant → Item
+first_of left operator (c.Integer n) = left
+first_of left operator (c.Bool b) = operator
+first_of left operator (c.Float n) = left
+
 abbrev pub binary : Item → Item → Item → Option Item
 binary left operator right =
-    then (constant left) (λ a. then (constant right) (λ b. map_value (valued left) (binary_value (sign_in operator.value) a b)))
+    then (constant left) (λ a. then (constant right) (λ b. map_value (λ x. valued (first_of left operator x) x) (binary_value (sign_in operator.value) a b)))

@@ -1,6 +1,7 @@
 // A type in parts: a leaf, and what stands around it.
-ghost use Rattle.std.specs.Prelude.{◌≡◌, IfOk, option_map};
+ghost use Rattle.std.specs.Prelude.{◌≡◌, IfOk, length, option_map};
 ghost use Rattle.wgsl_core.specs.View.{view};
+ghost use Rattle.wgsl_rules.specs.types.Around.{around};
 ghost use Rattle.wgsl_constants.specs.Literals.{then};
 ghost use Rattle.wgsl_spelling.specs.Chains.{begin, leaf_type, name_of, plain, push, push_if_any, type_of, with_name, with_type, wrapped};
 ghost use Rattle.wgsl_spelling.specs.Seen.{Becomes, chain_of};
@@ -9,6 +10,7 @@ ghost use Rattle.wgsl_spelling.specs.Spelled.{nothing};
 use crate::fault::{Cause, Expected, Stop, stop_at};
 use crate::item::{Item, Value};
 use crate::predeclared::{PredeclaredType, predeclared};
+use crate::stack::Stack;
 use crate::word::word;
 use std::alloc::{AllocError, Global};
 use wgsl_core::ty::Type;
@@ -35,7 +37,7 @@ pub enum Leaf {
 #[derive(Drop)]
 pub struct Chain {
     pub leaf: Option<Leaf>,
-    pub layers: Vec<Around>,
+    pub layers: Stack<Around>,
 }
 
 /// The most layers of a type.
@@ -48,7 +50,10 @@ impl Chain {
     {
         Chain {
             leaf: None,
-            layers: Vec::new(alloc),
+            layers: Stack {
+                below: Vec::new(alloc),
+                last: None,
+            },
         }
     }
 
@@ -67,11 +72,22 @@ impl Chain {
     pub fn push(&mut self, layer: Around, token: Token) -> Result<(), Stop>
         ensures { Becomes (push layer (chain_of self.old)) (chain_of self.new) result }
     {
-        if self.layers.len() >= LAYERS {
+        if self.depth() >= LAYERS {
             return Err(stop_at(token.at, Cause::TooDeep));
         }
         self.layers.push(layer)?;
         Ok(())
+    }
+
+    /// How many layers stand around the leaf.
+    pub fn depth(&self) -> usize
+        ensures { result ≡ length (chain_of self.now).layers }
+    {
+        let below = self.layers.below.len();
+        match self.layers.last {
+            Some(_) => below + 1,
+            None => below,
+        }
     }
 
     /// Reads the type that an item stands for.
@@ -133,12 +149,21 @@ impl Chain {
         ensures { IfOk result (λ ty. view ty ≡ wrapped (view innermost) (chain_of self.now).layers) }
     {
         let mut ty = innermost;
-        for layer in &self.layers {
-            let inner = Box::new(alloc, ty)?;
-            ty = Type::around(*layer, inner);
+        for layer in &self.layers.below {
+            ty = around(alloc, *layer, ty)?;
         }
-        Ok(ty)
+        match self.layers.last {
+            Some(layer) => around(alloc, layer, ty),
+            None => Ok(ty),
+        }
     }
+}
+
+/// A type inside a layer.
+fn around(alloc: Global, layer: Around, ty: Type) -> Result<Type, AllocError>
+    ensures { IfOk result (λ found. view found ≡ around layer (view ty)) }
+{
+    Ok(Type::around(layer, Box::new(alloc, ty)?))
 }
 
 /// The leaf that a name without a template list stands for, and what stands around it.

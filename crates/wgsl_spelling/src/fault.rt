@@ -57,6 +57,8 @@ pub enum Cause {
     ShiftTooFar,
     /// A `clamp` whose lower bound is above its upper bound.
     EmptyRange,
+    /// An `extractBits` or `insertBits` of bits that an integer doesn't have.
+    BitsTooFar,
 }
 
 impl From<IntegerError> for Cause {
@@ -68,6 +70,7 @@ impl From<IntegerError> for Cause {
             IntegerError::NegatedUnsigned => Cause::NegatedUnsigned,
             IntegerError::ShiftTooFar => Cause::ShiftTooFar,
             IntegerError::EmptyRange => Cause::EmptyRange,
+            IntegerError::BitsTooFar => Cause::BitsTooFar,
         }
     }
 }
@@ -122,6 +125,7 @@ impl Cause {
             Cause::NegatedUnsigned => "a u32 has no negative",
             Cause::ShiftTooFar => "a shift by 32 bits or more",
             Cause::EmptyRange => "the least value is above the greatest",
+            Cause::BitsTooFar => "bits beyond the 32 of an integer",
         }
     }
 }

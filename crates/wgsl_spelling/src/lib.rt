@@ -12,8 +12,8 @@
 //!
 //! What of WGSL isn't read: names that a module declares, but for one at the leaf of a type, which is left to the caller
 //! (`spelled::chain_of_events`); and in counts literals of floats, and calls other than those of `u32`, `i32`, `f32`, `f16`,
-//! `bitcast`, `abs`, `sign`, `min`, `max`, `clamp`, `select`, `countLeadingZeros`, `countOneBits`, `countTrailingZeros`,
-//! `firstLeadingBit`, `firstTrailingBit`, `reverseBits`, and of `vec2`, `vec3` and `vec4` for a component of integers.
+//! `bitcast`, `abs`, `sign`, `min`, `max`, `clamp`, `select`, `all`, `any`, `countLeadingZeros`, `countOneBits`,
+//! `countTrailingZeros`, `firstLeadingBit`, `firstTrailingBit`, `reverseBits`, `extractBits`, `insertBits`, and of `vec2`, `vec3` and `vec4` for a component of integers.
 #![tactic(auto)]
 
 mod call;
@@ -25,5 +25,6 @@ mod list;
 pub mod meant;
 pub mod predeclared;
 pub mod spelled;
+pub mod stack;
 pub mod value;
 pub mod word;

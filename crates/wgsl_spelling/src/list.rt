@@ -2,12 +2,14 @@
 ghost use Rattle.std.specs.Prelude.{◌≡◌, MatchOption, None, Some, reverse};
 ghost use Rattle.wgsl_spelling.specs.Names.{access_named, format_named, sampled_named, space_named};
 ghost use Rattle.wgsl_spelling.specs.Seen.{Gives};
+ghost use Rattle.wgsl_spelling.specs.Stacks.{items_of};
 ghost use Rattle.wgsl_spelling.specs.Templates.{bitcast, bitcast_named, flag, is_open, last_list, layered, listed_in, memory, name, texture};
 
 use crate::chain::Leaf;
 use crate::fault::{Cause, Expected, Stop, stop_at};
 use crate::item::{Item, Value};
 use crate::predeclared::{LayerName, PredeclaredType, predeclared};
+use crate::stack::Stack;
 use crate::value::count;
 use crate::word::word;
 use std::str::FromStr;
@@ -45,9 +47,9 @@ pub enum Listed {
 }
 
 /// Takes the innermost list from the items; None if it has more than three parameters, or none.
-pub fn pop_list(items: &mut Vec<Item>) -> Option<TemplateList>
-    ensures { MatchOption result (last_list (reverse items.old.items) ≡ None)
-        (λ list. last_list (reverse items.old.items) ≡ Some (list, reverse items.new.items)) }
+pub fn pop_list(items: &mut Stack<Item>) -> Option<TemplateList>
+    ensures { MatchOption result (last_list (reverse (items_of items.old)) ≡ None)
+        (λ list. last_list (reverse (items_of items.old)) ≡ Some (list, reverse (items_of items.new))) }
 {
     let last = items.pop()?;
     let second = items.pop()?;

@@ -13,6 +13,7 @@ use crate::chain::Chain;
 use crate::fault::{Cause, Expected, Fault, Stop, stop_at};
 use crate::item::{Item, Value};
 use crate::list::{Listed, bitcast, meaning_of, pop_list};
+use crate::stack::Stack;
 use crate::value::{binary, count, in_brackets, literal, unary};
 use crate::word::word;
 use std::alloc::{AllocError, Global};
@@ -118,7 +119,10 @@ fn read_events(
     ensures { Gives state_of (behind text.now tokens.now nothing events.now) result }
 {
     let mut reading = Reading {
-        items: Vec::new(alloc),
+        items: Stack {
+            below: Vec::with_capacity(alloc, events.len().saturating_sub(1))?,
+            last: None,
+        },
         chain: Chain::none(alloc),
     };
     for event in events {
@@ -130,7 +134,7 @@ fn read_events(
 /// What is read so far.
 #[derive(Drop)]
 struct Reading {
-    items: Vec<Item>,
+    items: Stack<Item>,
     chain: Chain,
 }
 

@@ -4,7 +4,7 @@ ghost use Rattle.wgsl_constants.specs.Literals.{found};
 ghost use Rattle.wgsl_constants.specs.Values.{negative, value};
 ghost use Rattle.wgsl_spelling.specs.Items.{constant, integer, is_value};
 ghost use Rattle.wgsl_spelling.specs.Seen.{Gives, IsFault};
-ghost use Rattle.wgsl_spelling.specs.Values.{binary, binary_value, bool_of, compared, comparison_of, count, count_of, holds, literal, of_bools, operator_of, sign_in, sign_value, unary, unary_value, valued};
+ghost use Rattle.wgsl_spelling.specs.Values.{binary, binary_value, bool_of, compared, comparison_of, count, count_of, first_of, holds, literal, of_bools, operator_of, sign_in, sign_value, unary, unary_value, valued};
 
 use crate::fault::{Cause, Expected, Stop, stop_at};
 use crate::item::{Item, Value};
@@ -159,8 +159,18 @@ pub fn binary(left: Item, operator: Item, right: Item) -> Result<Item, Stop>
     ensures { Gives (λ i. i) (binary left operator right) result }
 {
     match binary_value(sign_in(operator.value), constant(left)?, constant(right)?) {
-        Ok(constant) => Ok(valued(left, constant)),
+        Ok(constant) => Ok(valued(first_of(left, operator, constant), constant)),
         Err(error) => Err(stop_at(operator.token.at, Cause::from(error))),
+    }
+}
+
+/// Where a value with an operator is told: a test at the operator, which makes no integer.
+fn first_of(left: Item, operator: Item, constant: Constant) -> Item
+    ensures { result ≡ first_of left operator constant }
+{
+    match constant {
+        Constant::Bool(_) => operator,
+        Constant::Integer(_) | Constant::Float(_) => left,
     }
 }
 

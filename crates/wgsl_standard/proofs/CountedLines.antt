@@ -1,6 +1,6 @@
 -- The lines of overloads, counted.
-use Rattle.std.proofs.Common.{◌≡◌, ◌∙◌, ◌+◌, ◌<◌, ◌++◌, ℕ, Bool, false, List, [], ◌∷◌, Some, ap, arith, cond, get_or, length, refl, slice_get, sym, take}
-use Rattle.std.proofs.Math.Seq.{take-suc}
+use Rattle.std.proofs.Common.{◌≡◌, ◌∙◌, ◌+◌, ◌-◌, ◌<◌, ◌≤◌, ◌++◌, ℕ, suc, Bool, false, List, [], ◌∷◌, Some, ap, arith, cond, drop, get_or, length, refl, slice_get, sym, take}
+use Rattle.std.proofs.Math.Seq.{drop-cons, take-suc}
 use Rattle.std.proofs.lemmas.List.{append-nil, length-append}
 use Rattle.std.proofs.lemmas.List.Concat.{flat_map-append}
 use Rattle.std.specs.List.{flat_map}
@@ -33,6 +33,21 @@ lines_next c t os i d line lines h e f =
     let front = flat_map texts_listed (callees_before c) ++ cond t (lines_listed c false) [] in
     let more = counted_then (name_of c) t os i d (length (signature_lines (name_of c) t (take i os))) lines h refl (f (name_of c) t) in
     omega (arith, e, more, length-append front (signature_lines (name_of c) t (take i os)), length-append front (signature_lines (name_of c) t (take (i + 1) os)))
+
+-- the overloads from the one before an index on
+pub from_last : (os : List Overload) (i : ℕ) (d : Overload) → 0 < i → i ≤ length os → drop (i - 1) os ≡ get_or os (i - 1) d ∷ drop i os
+from_last os i d some within =
+    let here : i - 1 < length os = omega arith in
+    let next : suc (i - 1) ≡ i = omega arith in
+    drop-cons os (i - 1) d here ∙ ap (λ n. get_or os (i - 1) d ∷ drop n os) next
+
+-- the number of lines before that overload, and of its own
+pub lines_without : (c : WgslCallee) (t : Bool) (os : List Overload) (i : ℕ) (d : Overload) (line lines : ℕ) → 0 < i → i ≤ length os
+    → line ≡ length (lines_before c t (take i os)) → ((n : List ℕ) (t : Bool) → length (overload_lines n t (get_or os (i - 1) d)) ≡ lines) → length (lines_before c t (take (i - 1) os)) + lines ≡ line
+lines_without c t os i d line lines some within e f =
+    let here : i - 1 < length os = omega arith in
+    let next : i - 1 + 1 ≡ i = omega arith in
+    lines_next c t os (i - 1) d (length (lines_before c t (take (i - 1) os))) lines here refl f ∙ (ap (λ n. length (lines_before c t (take n os))) next ∙ sym e)
 
 -- the first line of an overload that is listed
 pub first_line : (callee : Callee) (t : Bool) (os : List Overload) (i : ℕ) (d : Overload) (line : ℕ) → os ≡ or_none (overloads_of callee t)

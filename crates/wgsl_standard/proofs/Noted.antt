@@ -1,25 +1,37 @@
--- Notes, one after another.
-use Rattle.std.proofs.Common.{◌++◌, ◌∙◌, List, [], ◌∷◌, Some, None, subst, sym}
-use Rattle.std.proofs.lemmas.List.{append-nil}
+-- A note among others.
+use Rattle.std.proofs.Common.{◌≡◌, ◌++◌, ◌+◌, ◌∙◌, ℕ, Bool, List, [], ◌∷◌, Some, ap, cond, drop, length, map, refl, subst, sym, take}
+use Rattle.std.specs.Prelude.{All}
+use Rattle.std.specs.List.{insert, prefix_len}
+use Rattle.std.proofs.lemmas.List.{drop-map, map-append, take-map}
+use Rattle.std.proofs.lemmas.List.Elements.{All-append, All-cons, All-drop, All-take}
 use Rattle.wgsl_syntax.specs.declared.overload.Overload.{Overload}
 use Rattle.wgsl_rules.specs.standard.Choice.{Operand}
-use Rattle.wgsl_standard.specs.Mismatches.{IsMismatch}
-use Rattle.wgsl_standard.specs.Explained.{AddsNote, AreNotes, no_overloads, taken, refused}
+use Rattle.wgsl_standard.specs.Explained.{AreNotes, note_view, refused, with_note}
+use Rattle.wgsl_standard.specs.Mismatches.{IsMismatch, is_nearer}
+use Rattle.wgsl_standard.specs.declared.explanation.Note.{Note}
 use Rattle.wgsl_standard.specs.declared.refusal.Mismatch.{Mismatch}
 
-one_more_taken : {xs : List Operand} {os : List Overload} {ns : List (Overload × Mismatch)} (o : Overload) → AreNotes xs os ns → IsMismatch o xs None
-    → AreNotes xs (os ++ o ∷ []) ns
-one_more_taken o no_overloads h = taken h no_overloads
-one_more_taken o (taken m d) h = taken m (one_more_taken o d h)
-one_more_taken o (refused m d) h = refused m (one_more_taken o d h)
+prefix_seen : {A B : Type 0} (f : A → B) (p : B → Bool) (xs : List A) → prefix_len p (map f xs) ≡ prefix_len (λ x. p (f x)) xs
+prefix_seen f p [] = refl
+prefix_seen f p (x ∷ xs) = ap (λ n. cond (p (f x)) (1 + n) 0) (prefix_seen f p xs)
 
-one_more_refused : {xs : List Operand} {os : List Overload} {ns : List (Overload × Mismatch)} (o : Overload) (m : Mismatch) → AreNotes xs os ns
-    → IsMismatch o xs (Some m) → AreNotes xs (os ++ o ∷ []) (ns ++ (o, m) ∷ [])
-one_more_refused o m no_overloads h = refused h no_overloads
-one_more_refused o m (taken e d) h = taken e (one_more_refused o m d h)
-one_more_refused o m (refused e d) h = refused e (one_more_refused o m d h)
+inserted : {A B : Type 0} (f : A → B) (xs : List A) (i : ℕ) (x : A) → map f (insert xs i x) ≡ insert (map f xs) i (f x)
+inserted f xs i x = map-append f (take i xs) (x ∷ drop i xs) ∙ (ap (λ ys. ys ++ f x ∷ map f (drop i xs)) (sym (take-map f i xs)) ∙ ap (λ ys. take i (map f xs) ++ f x ∷ ys) (sym (drop-map f i xs)))
 
-pub one_more : {xs : List Operand} {os : List Overload} {ns new : List (Overload × Mismatch)} (o : Overload) → AreNotes xs os ns → AddsNote o xs ns new
-    → AreNotes xs (os ++ o ∷ []) new
-one_more o d (Some m, h, e) = subst (AreNotes _ _) (sym e) (one_more_refused o m d h)
-one_more {ns} o d (None, h, e) = subst (AreNotes _ _) (sym (e ∙ append-nil ns)) (one_more_taken o d h)
+pub all_inserted : {A : Type 0} (P : A → Type 0) (old new : List A) (i : ℕ) (x : A) → new ≡ insert old i x → All P old → P x → All P new
+all_inserted P old new i x e h p = subst (All P) (sym e) (All-append P (take i old) (x ∷ drop i old) (All-take P i old h) (All-cons P x (drop i old) p (All-drop P i old h)))
+
+pub texts_inserted : {A B C : Type 0} (view : A → B) (text : A → C) (line : B → C) (old new : List A) (i : ℕ) (x : A) → new ≡ insert old i x → text x ≡ line (view x)
+    → map text old ≡ map line (map view old) → map text new ≡ map line (map view new)
+texts_inserted view text line old new i x e h same =
+    ap (map text) e ∙ (inserted text old i x ∙ (ap (λ ys. insert ys i (text x)) same ∙ (ap (insert (map line (map view old)) i) h
+    ∙ sym (ap (λ ys. map line (map view ys)) e ∙ (ap (map line) (inserted view old i x) ∙ inserted line (map view old) i (view x))))))
+
+-- a note is put behind those that are nearer
+pub note_put : (xs : List Operand) (os : List Overload) (o : Overload) (m : Mismatch) (given : ℕ) (old new : List Note) (i : ℕ) (n : Note) → given ≡ length xs → i ≡ prefix_len (λ k. is_nearer given k.mismatch m) old
+    → new ≡ insert old i n → note_view n ≡ (o, m) → IsMismatch o xs (Some m) → AreNotes xs os (map note_view old) → AreNotes xs (o ∷ os) (map note_view new)
+note_put xs os o m given old new i n g at e v h d =
+    let notes = map note_view old in
+    let place : i ≡ prefix_len (λ k. is_nearer (length xs) k.1 m) notes = at ∙ (sym (prefix_seen note_view (λ k. is_nearer given k.1 m) old) ∙ ap (λ given. prefix_len (λ k. is_nearer given k.1 m) notes) g) in
+    let seen : map note_view new ≡ with_note (length xs) (o, m) notes = ap (map note_view) e ∙ (inserted note_view old i n ∙ (ap (insert notes i) v ∙ ap (λ i. insert notes i (o, m)) place)) in
+    subst (AreNotes xs (o ∷ os)) (sym seen) (refused m h d)

@@ -1,12 +1,12 @@
 -- What the notes on a call say.
-use Rattle.std.specs.Prelude.{List, [], ◌∷◌, ◌++◌, ◌≡◌, Option, Some, None, option_map, Bool, true, false}
-use Rattle.std.specs.Option.{option_to_list}
+use Rattle.std.specs.Prelude.{ℕ, List, [], ◌∷◌, ◌≡◌, Option, Some, None, Bool, true, false, length}
+use Rattle.std.specs.List.{insert, prefix_len}
 use Rattle.wgsl_syntax.specs.declared.overload.Overload.{Overload}
 use Rattle.wgsl_rules.specs.types.Types.{WgslType}
 use Rattle.wgsl_rules.specs.standard.Answers.{is_template, template_operand}
 use Rattle.wgsl_rules.specs.standard.Choice.{Operand}
 use Rattle.wgsl_standard.specs.Callees.{overloads_of}
-use Rattle.wgsl_standard.specs.Mismatches.{IsMismatch}
+use Rattle.wgsl_standard.specs.Mismatches.{IsMismatch, is_nearer}
 use Rattle.wgsl_standard.specs.declared.callee.Callee.{Callee}
 use Rattle.wgsl_standard.specs.declared.explanation.Note.{Note}
 use Rattle.wgsl_standard.specs.declared.refusal.Mismatch.{Mismatch}
@@ -15,17 +15,18 @@ use Rattle.wgsl_standard.specs.declared.refusal.Mismatch.{Mismatch}
 abbrev pub note_view : Note → Overload × Mismatch
 note_view n = (n.signature.overload.now, n.mismatch)
 
--- In the order of the overloads there is a note for each that doesn't take the operands, and none for one that does.
+-- one more note, in front of the first that isn't nearer
+abbrev pub with_note : ℕ → Overload × Mismatch → List (Overload × Mismatch) → List (Overload × Mismatch)
+with_note given n ns = insert ns (prefix_len (λ m. is_nearer given m.1 n.1) ns) n
+
+-- There is a note for each overload that doesn't take the operands, and none for one that does. The nearest come first; those
+-- that are as near are in the order of the overloads.
 pub data AreNotes (xs : List Operand) : List Overload → List (Overload × Mismatch) → Type 0 where
   no_overloads : AreNotes xs [] []
   taken : {o : Overload} {os : List Overload} {ns : List (Overload × Mismatch)} →
       IsMismatch o xs None → AreNotes xs os ns → AreNotes xs (o ∷ os) ns
-  refused : {o : Overload} {os : List Overload} {m : Mismatch} {ns : List (Overload × Mismatch)} →
-      IsMismatch o xs (Some m) → AreNotes xs os ns → AreNotes xs (o ∷ os) ((o, m) ∷ ns)
-
--- one more overload, with a note if it doesn't take the operands
-abbrev pub AddsNote : Overload → List Operand → List (Overload × Mismatch) → List (Overload × Mismatch) → Type 0
-AddsNote o xs old new = (m : Option Mismatch) × IsMismatch o xs m × (new ≡ old ++ option_to_list (option_map (λ m. (o, m)) m))
+  refused : {o : Overload} {os : List Overload} {ns : List (Overload × Mismatch)} (m : Mismatch) →
+      IsMismatch o xs (Some m) → AreNotes xs os ns → AreNotes xs (o ∷ os) (with_note (length xs) (o, m) ns)
 
 abbrev pub or_none : Option (List Overload) → List Overload
 or_none None = []

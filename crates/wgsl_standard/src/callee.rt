@@ -1,4 +1,5 @@
 // What is called, and its overloads.
+ghost use Rattle.wgsl_rules.specs.standard.Evaluation.{may_be_dropped as may_be_dropped_there, needs_subgroups as needs_subgroups_there, stages_of as stages_there};
 ghost use Rattle.std.specs.Prelude.{◌≡◌, ◌<◌, ◌^◌, length, option_map, IfSome};
 ghost use Rattle.wgsl_rules.specs.standard.Tables.{IsUnambiguous};
 ghost use Rattle.wgsl_standard.specs.Callees.{callee_view, can_be_const_expression as can_be_there, is_name as is_name_there, overloads_of};
@@ -7,7 +8,7 @@ ghost use Rattle.wgsl_standard.specs.Explained.{or_none};
 use crate::names::{constructors, evaluation, find, find_function, is_other_type, templates};
 use crate::operators::{binary_overloads, unary_overloads};
 use wgsl_syntax::operator::{BinaryOperator, UnaryOperator};
-use wgsl_syntax::overload::{Evaluation, Overload};
+use wgsl_syntax::overload::{Evaluation, Overload, Stages};
 use wgsl_tables::names::TEMPLATE_FUNCTIONS;
 
 /// What is called: an operator, a built-in function or a constructor.
@@ -71,7 +72,33 @@ pub fn can_be_const_expression(callee: Callee<'_>) -> bool
     ensures { result ≡ can_be_there (callee_view callee.entry) }
 {
     match callee {
-        Callee::Function(name) => !matches!(evaluation(name), Some(Evaluation::Runtime)),
+        Callee::Function(name) => matches!(evaluation(name), None | Some(Evaluation::Constant)),
         Callee::Unary(_) | Callee::Binary(_) | Callee::Constructor(_) => true,
     }
+}
+
+/// The shaders that may call a built-in function; all of any other name.
+pub fn stages_of(name: &str) -> Stages
+    ensures { result ≡ stages_there name.now }
+{
+    match evaluation(name) {
+        Some(Evaluation::Fragment) => Stages::Fragment,
+        Some(Evaluation::Compute) => Stages::Compute,
+        Some(Evaluation::Atomic | Evaluation::Subgroup) => Stages::AllButVertex,
+        Some(Evaluation::Constant | Evaluation::Runtime) | None => Stages::All,
+    }
+}
+
+/// Whether the value of a call of a built-in function may be left unused (WGSL, "Function Call Statement").
+pub fn may_be_dropped(name: &str) -> bool
+    ensures { result ≡ may_be_dropped_there name.now }
+{
+    matches!(evaluation(name), Some(Evaluation::Atomic))
+}
+
+/// Whether a built-in function needs `enable subgroups;`.
+pub fn needs_subgroups(name: &str) -> bool
+    ensures { result ≡ needs_subgroups_there name.now }
+{
+    matches!(evaluation(name), Some(Evaluation::Subgroup))
 }

@@ -1,13 +1,16 @@
 // Why a call has no overload, one note per overload.
-ghost use Rattle.std.specs.Prelude.{◌≡◌, ◌++◌, All, IfOk, codes, map, option_map};
+ghost use Rattle.std.specs.Prelude.{◌≡◌, ◌∷◌, ◌++◌, All, IfOk, List, codes, map, option_map};
 ghost use Rattle.std.specs.Fmt.{WritesOnOk};
+ghost use Rattle.std.specs.List.{prefix_len};
+ghost use Rattle.wgsl_syntax.specs.declared.overload.Overload.{Overload};
 ghost use Rattle.wgsl_rules.specs.types.Spelling.{wgsl_spelling};
 ghost use Rattle.wgsl_rules.specs.standard.Choice.{value_of};
 ghost use Rattle.wgsl_core.specs.View.{view};
 ghost use Rattle.wgsl_standard.specs.Operands.{given_type, operands_view};
 ghost use Rattle.wgsl_standard.specs.Callees.{overloads_of};
-ghost use Rattle.wgsl_standard.specs.Explained.{or_none, note_view, AddsNote, AreNotes, IsExplained};
+ghost use Rattle.wgsl_standard.specs.Explained.{or_none, note_view, AreNotes, IsExplained};
 ghost use Rattle.wgsl_standard.specs.Lines.{NoteStandsAtIndex};
+ghost use Rattle.wgsl_standard.specs.Mismatches.{is_nearer};
 ghost use Rattle.wgsl_standard.specs.Texts.{begins_with_vector as vector_first, count_text, counts_text, is_vector as vector_there, line_with, note_line, note_text, operand_text, reason_text, type_refused, types_given};
 ghost use Rattle.wgsl_standard.specs.internal.FirstLines.{HasFirstLine};
 
@@ -36,8 +39,9 @@ pub struct Note<'a> {
     pub found: Option<OperandType<'a>>,
 }
 
-/// A note for each overload that doesn't take the operands, in the order of the overloads. There is none if the name isn't
-/// listed, or if the template is abstract or a reference.
+/// A note for each overload that doesn't take the operands. The nearest come first: those with the fewest arguments too many
+/// or missing, then those that take the most before one that doesn't fit, then in the order of the overloads. There is none
+/// if the name isn't listed, or if the template is abstract or a reference.
 pub fn explain<'a>(
     alloc: Global,
     callee: Callee<'a>,
@@ -76,9 +80,11 @@ fn notes<'a>(
 {
     let listed = listed_overloads(callee, has_template);
     let of_vectors = begins_with_vector(operands);
-    let mut line = lines_before(callee, has_template, &[]);
+    let mut line = lines_before(callee, has_template, listed);
     let mut notes = Vec::new(alloc);
-    for overload in listed {
+    for index in (0..listed.len()).rev() {
+        let overload = &listed[index];
+        line -= lines_of(overload);
         let signature = Signature {
             callee,
             index: line,
@@ -86,21 +92,20 @@ fn notes<'a>(
             has_template,
             of_vectors,
         };
-        push_note(&mut notes, signature, operands)?;
-        line += lines_of(overload);
+        put_note(&mut notes, signature, operands)?;
     }
     Ok(notes)
 }
 
-/// Adds a note on an overload, if it doesn't take the operands.
-fn push_note<'a>(
+/// Puts a note on an overload, if it doesn't take the operands, among those on the overloads behind it.
+fn put_note<'a>(
     notes: &mut Vec<Note<'a>>,
     signature: Signature<'a>,
     operands: &[Operand<'a>],
 ) -> Result<(), AllocError>
     requires { signature.of_vectors ≡ vector_first (types_given operands.now) }
-    ensures note { IfOk result (λ u. AddsNote signature.entry.overload.now (operands_view operands.now)
-        (map note_view notes.old.items) (map note_view notes.new.items)) }
+    ensures note { IfOk result (λ u. (os : List Overload) → AreNotes (operands_view operands.now) os (map note_view notes.old.items)
+        → AreNotes (operands_view operands.now) (signature.entry.overload.now ∷ os) (map note_view notes.new.items)) }
     ensures text { IfOk result (λ u. (map note_text notes.old.items
         ≡ map (line_with signature.entry.callee signature.entry.has_template (types_given operands.now)) (map note_view notes.old.items))
         → map note_text notes.new.items
@@ -109,9 +114,20 @@ fn push_note<'a>(
         → All NoteStandsAtIndex notes.old.items → All NoteStandsAtIndex notes.new.items) }
 {
     if let Some(mismatch) = refused_by(signature.overload, operands) {
-        notes.push(note_of(signature, mismatch, operands))?;
+        let index = nearer(notes, mismatch, operands.len());
+        notes.insert(index, note_of(signature, mismatch, operands))?;
     }
     Ok(())
+}
+
+/// How many of the first notes are nearer than one with this reason.
+fn nearer(notes: &[Note<'_>], mismatch: Mismatch, given: usize) -> usize
+    ensures { result ≡ prefix_len (λ n. is_nearer given n.mismatch mismatch) notes.now }
+{
+    notes
+        .iter()
+        .take_while(|note| note.mismatch.is_nearer(mismatch, given))
+        .count()
 }
 
 fn note_of<'a>(signature: Signature<'a>, mismatch: Mismatch, operands: &[Operand<'a>]) -> Note<'a>

@@ -1,6 +1,6 @@
 // Which operand of a call is refused.
 ghost use Rattle.std.specs.Prelude.{◌≡◌, ◌↔◌, IsTrue};
-ghost use Rattle.wgsl_standard.specs.Mismatches.{IsMismatch};
+ghost use Rattle.wgsl_standard.specs.Mismatches.{IsMismatch, is_nearer};
 ghost use Rattle.wgsl_rules.specs.standard.Refusal.{SomeTakesFirst, IsRefusedAt};
 ghost use Rattle.wgsl_standard.specs.Operands.{operands_view};
 ghost use Rattle.wgsl_standard.specs.internal.Binding.{takes_first as it_takes_first, some_takes_first as one_takes_first};
@@ -61,6 +61,21 @@ pub enum Mismatch {
     Count(usize),
     /// The index of the first operand that it doesn't take after the operands before it.
     Argument(usize),
+}
+
+impl Mismatch {
+    /// Whether its overload is nearer to taking this many operands than one with the other reason: fewer are too many or
+    /// missing, or it takes more of them before one that it doesn't take.
+    pub(crate) fn is_nearer(self, other: Mismatch, given: usize) -> bool
+        ensures { result ≡ is_nearer given self other }
+    {
+        match (self, other) {
+            (Mismatch::Count(m), Mismatch::Count(n)) => m.abs_diff(given) < n.abs_diff(given),
+            (Mismatch::Count(_), Mismatch::Argument(_)) => false,
+            (Mismatch::Argument(_), Mismatch::Count(_)) => true,
+            (Mismatch::Argument(i), Mismatch::Argument(j)) => i > j,
+        }
+    }
 }
 
 /// Why the overload doesn't take the operands; None if it does.

@@ -138,13 +138,31 @@ pub enum Parameters {
     AndTimes(Pattern, u8, Pattern),
 }
 
-/// When the calls of a function are evaluated.
+/// When the calls of a function are evaluated, which shaders may have them, and what else is asked of them.
 #[derive(Clone, Copy)]
 pub enum Evaluation {
     /// Before the shader runs if all arguments are const-expressions: then the call is one too.
     Constant,
-    /// While the shader runs: no call is a const-expression.
+    // While the shader runs: no call is a const-expression.
+    /// In any shader.
     Runtime,
+    /// In fragment shaders alone, which have derivatives.
+    Fragment,
+    /// In compute shaders alone, which have workgroups.
+    Compute,
+    /// In all but vertex shaders. The value of the call may be left unused.
+    Atomic,
+    /// In all but vertex shaders, behind `enable subgroups;`.
+    Subgroup,
+}
+
+/// The shaders that may call a function.
+#[derive(Clone, Copy, PartialEq, Eq)]
+pub enum Stages {
+    All,
+    Fragment,
+    Compute,
+    AllButVertex,
 }
 
 /// An overload: its parameters, its result, and the kinds of its letters for scalars, T, U, V and W.

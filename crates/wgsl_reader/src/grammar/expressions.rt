@@ -48,8 +48,8 @@ pub static EXPRESSIONS: &[(Rule, &[Line])] = grammar! {
     Unary {
         Name => [Name {Name} (AfterValue)]
         Number => [Number {Literal} (Postfix)]
-        Minus | Bang | Tilde | Star | And => [(Prefix) (Unary) {Unary}]
         OpenRound => [OpenRound (Expression) CloseRound {Brackets} (Postfix)]
+        Minus | Bang | Tilde | Star | And => [(Prefix) (Unary) {Unary}]
         True => [True {Literal} (Postfix)]
         False => [False {Literal} (Postfix)]
         ConstOperand => [ConstOperand (Type) {Constant} (Postfix)]

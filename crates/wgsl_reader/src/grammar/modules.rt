@@ -44,7 +44,7 @@ pub static MODULES: &[(Rule, &[Line])] = grammar! {
         At => [(Attribute) (Attributed)]
         Override => [Override (Declared) (Initializer) Semicolon {Override}]
         Var => [Var (Template) (Declared) (Initializer) Semicolon {Variable}]
-        Fn => [Fn Name {Name} OpenRound (Parameters) CloseRound (Result) (Body) {Function}]
+        Fn => [Fn Name {Name} OpenRound (Parameters) CloseRound (Result) {Begin} (Body) {Function}]
     }
     Declared { _ => [Name {Name} (TypeIfAny)] }
     TypeIfAny {

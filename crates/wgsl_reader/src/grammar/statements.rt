@@ -39,13 +39,13 @@ pub static STATEMENTS: &[(Rule, &[Line])] = grammar! {
     AttributedStatement {
         At => [(Attribute) (AttributedStatement)]
         If => [(If)]
-        Switch => [Switch (Expression) {Selector} (SwitchBody) {Switch}]
-        Loop => [Loop (LoopBody) {Loop}]
-        For => [For OpenRound (ForStart) Semicolon (ForTest) Semicolon (ForUpdate) CloseRound (Body) {For}]
-        While => [While (Expression) {Condition} (Body) {While}]
+        Switch => [Switch {Begin} (Expression) {Selector} (SwitchBody) {Switch}]
+        Loop => [Loop {Begin} (LoopBody) {Loop}]
+        For => [For {Begin} OpenRound (ForStart) Semicolon (ForTest) Semicolon (ForUpdate) CloseRound (Body) {For}]
+        While => [While {Begin} (Expression) {Condition} (Body) {While}]
         _ => [(Body)]
     }
-    If { _ => [If (Expression) {Condition} (Body) (Else) {If}] }
+    If { _ => [If {Begin} (Expression) {Condition} (Body) (Else) {If}] }
     Else {
         Else => [Else (ElseBody)]
         _ => []
@@ -87,7 +87,7 @@ pub static STATEMENTS: &[(Rule, &[Line])] = grammar! {
         _ => [OpenCurly {Open} (Statements) (Continuing) CloseCurly {Block}]
     }
     Continuing {
-        Continuing => [Continuing (ContinuingBody) {Continuing}]
+        Continuing => [Continuing {Begin} (ContinuingBody) {Continuing}]
         _ => []
     }
     ContinuingBody {

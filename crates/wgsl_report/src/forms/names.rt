@@ -1,6 +1,6 @@
 // Distinct names that another language allows.
 
-use crate::forms::reserved::{is_c_name, is_python_name, is_rust_keyword, is_rust_type, is_unraw};
+use crate::forms::reserved::{is_c_name, is_python_name, is_rust_keyword, is_rust_type};
 use crate::forms::settled::is_settled;
 use std::alloc::{AllocError, Global};
 use std::collections::BTreeSet;
@@ -97,7 +97,7 @@ fn spelling(
     name: &str,
 ) -> Result<String, AllocError> {
     let mut new = String::new(alloc);
-    if language == Language::Rust && is_rust_keyword(name) && !is_unraw(name) {
+    if language == Language::Rust && is_rust_keyword(name) {
         new.push_str("r#")?;
     }
     if language == Language::C {
@@ -115,8 +115,8 @@ fn spelling(
 fn is_kept(language: Language, role: Role, name: &str) -> bool {
     match (language, role) {
         (Language::C, _) => is_c_name(name),
-        (Language::Rust, Role::Field) => is_unraw(name),
-        (Language::Rust, Role::Struct) => is_unraw(name) || is_rust_type(name),
+        (Language::Rust, Role::Field) => false,
+        (Language::Rust, Role::Struct) => is_rust_type(name),
         (Language::Python, _) => is_python_name(name),
     }
 }

@@ -59,24 +59,27 @@ pub(crate) fn write_resolution_of(
         ++ or_no_overload resolution_text (call_view call.now) (option_map resolved_view found.now)) }
 {
     match found {
-        Some(resolved) => write_resolved_call(text, resolved),
+        Some(resolved) => {
+            write_signature(text, resolved.index, &resolved.parameters, &resolved.result)
+        }
         None => write_no_overload(text, call),
     }
 }
 
-fn write_resolved_call(text: &mut String, resolved: &ResolvedCall) -> Result<(), AllocError>
-    ensures { OnOk result (string_bytes text.new
-        ≡ string_bytes text.old ++ resolution_text (resolved_view resolved.now)) }
+/// Writes the index of a line, the types of its parameters, and that of its result: `3 (vec3<f32>, f32) -> vec3<f32>`.
+pub fn write_signature(
+    text: &mut String,
+    index: usize,
+    parameters: &[Type],
+    of_result: &Option<Type>,
+) -> Result<(), AllocError>
+    ensures { OnOk result (string_bytes text.new ≡ string_bytes text.old
+        ++ resolution_text (index, map view parameters.now, option_map view of_result.now)) }
 {
-    let ResolvedCall {
-        index,
-        parameters,
-        result,
-    } = resolved;
     write!(text, "{index} (")?;
     write_types(text, parameters)?;
     text.push_str(")")?;
-    write_result(text, result)
+    write_result(text, of_result)
 }
 
 fn write_result(text: &mut String, ty: &Option<Type>) -> Result<(), AllocError>

@@ -1,32 +1,99 @@
 -- What is known of a declaration while a module is read.
-use Rattle.std.specs.Prelude.{◌≡◌, ◌-◌, List, ◌++◌, false, Some, take}
+use Rattle.std.specs.Prelude.{◌≡◌, ◌≢◌, ℕ, List, [], ◌∷◌, ◌++◌, Option, Some, None, IsTrue, false, drop, map, slice_get, take}
 use Rattle.std.specs.List.{All}
-use Rattle.wgsl_reader.specs.declared.kind.Kind.TheVariants as k
 use Rattle.wgsl_reader.specs.declared.read.Event.{Event}
-use Rattle.wgsl_source.specs.Declarations.{IsNamed, first_count, inner, len_to, token_before}
+use Rattle.wgsl_spelling.specs.Words.{word}
+use Rattle.wgsl_source.specs.Declarations.{AreSites, BehindAttributes, IsNamed, IsSite, Site, declaration_len, end_at, first_count, inner, list_len, token_before}
 use Rattle.wgsl_source.specs.TextStructs.{AreMembers}
 use Rattle.wgsl_source.specs.declared.declaration.Declaration.{Declaration}
+use Rattle.wgsl_source.specs.declared.declaration.DeclarationKind.{DeclarationKind}
 use Rattle.wgsl_source.specs.declared.declaration.DeclarationKind.TheVariants as kinds
 use Rattle.wgsl_source.specs.declared.declaration.Read.{Read}
+use Rattle.wgsl_source.specs.declared.listed.Listed.{Listed}
+use Rattle.wgsl_source.specs.declared.module.Reader.{Reader}
+use Rattle.wgsl_source.specs.declared.measured.TypeKind.{TypeKind}
+use Rattle.wgsl_source.specs.declared.measured.TypeKind.TheVariants as kind
+use Rattle.wgsl_source.specs.declared.parts.End.{End}
 use Rattle.wgsl_source.specs.declared.parts.End.TheVariants as e
+use Rattle.wgsl_source.specs.declared.scope.Meaning.{Meaning}
+use Rattle.wgsl_source.specs.declared.scope.Meaning.TheVariants as meaning
 use Rattle.wgsl_source.specs.declared.structure.Struct.{Struct}
 use Rattle.wgsl_source.specs.declared.text.Text.{Text}
 
--- from this event on a struct is declared, whose name the first event is about
-pub record Begins (t : Text) (whole events : List Event) : Type 0 where
-  pub front : List Event
-  pub there : whole ≡ front ++ events
-  pub keyword : (token_before t (first_count events - 1)).kind ≡ k.Struct
+-- what is declared by what ends so
+abbrev pub declared_by : End → Option DeclarationKind
+declared_by e.Alias = Some kinds.Alias
+declared_by e.Struct = Some kinds.Struct
+declared_by e.Constant = Some kinds.Constant
+declared_by e.Override = Some kinds.Override
+declared_by e.Variable = Some kinds.Variable
+declared_by e.Function = Some kinds.Function
+declared_by other = None
+
+-- the next declaration, directive or assertion of some events
+pub record IsNext (t : Text) (events : List Event) (r : Read) : Type 0 where
+  pub site : Site
+  pub there : IsSite t events site
+  pub kind : r.kind ≡ declared_by (end_at t site.first)
+  pub count : r.named ≡ first_count site.first
+  pub read : r.events.now ≡ take (declaration_len t site.first) site.first
+  pub behind : r.behind.now ≡ drop (declaration_len t site.first) site.first
+
+-- no other one begins
+pub record IsNone (t : Text) (events : List Event) : Type 0 where
+  pub list : List Event
+  pub attributed : BehindAttributes events list
+  pub none : declaration_len t (drop (list_len list) list) ≡ 0
+
+-- a declaration that stands there
+pub record IsOf (t : Text) (site : Site) (d : Declaration) : Type 0 where
+  pub kind : declared_by (end_at t site.first) ≡ Some d.kind
+  pub readable : d.is_faulty ≡ false
+  pub named : IsNamed t site.first d.name.now d.place
+  pub rest : d.rest.now ≡ inner (take (declaration_len t site.first) site.first)
+
+-- one that can't be read, whose name stands in the text
+pub record IsMisread (t : Text) (d : Declaration) : Type 0 where
+  pub faulty : IsTrue d.is_faulty
+  pub count : ℕ
+  pub name : d.name.now ≡ word t.text.now (token_before t count)
+
+-- the declarations that stand there, in order, with those between them that can't be read
+pub data AreOf (t : Text) : List Site → List Declaration → Type 0 where
+  no_other : AreOf t [] []
+  no_declaration : {site : Site} {sites : List Site} {ds : List Declaration} → declared_by (end_at t site.first) ≡ None → AreOf t sites ds → AreOf t (site ∷ sites) ds
+  declaration : {site : Site} {sites : List Site} {d : Declaration} {ds : List Declaration} → IsOf t site d → AreOf t sites ds → AreOf t (site ∷ sites) (d ∷ ds)
+  misread : {sites : List Site} {d : Declaration} {ds : List Declaration} → IsMisread t d → AreOf t sites ds → AreOf t sites (d ∷ ds)
+
+-- the declarations that stand there are added
+pub record Adds (t : Text) (sites : List Site) (old new : List Declaration) : Type 0 where
+  pub added : List Declaration
+  pub kept : new ≡ old ++ added
+  pub are : AreOf t sites added
+
+-- these are the declarations of all the events
+pub record AreAll (t : Text) (events : List Event) (ds : List Declaration) : Type 0 where
+  pub sites : List Site
+  pub there : AreSites t events sites
+  pub are : AreOf t sites ds
+
+-- the name of a declaration, and its members
+pub record IsFrom (t : Text) (d : Declaration) (struct : Struct) : Type 0 where
+  pub name : struct.name.now ≡ d.name.now
+  pub place : struct.place ≡ d.place
+  pub members : AreMembers t d.rest.now struct.members.items
 
 -- a struct that can be read is one of the text's
-pub record IsStructAt (t : Text) (whole : List Event) (d : Declaration) : Type 0 where
-  pub events : List Event
-  pub begins : Begins t whole events
-  pub named : IsNamed t events d.name.now d.place
-  pub rest : d.rest.now ≡ inner (take (len_to e.Struct events) events)
+pub record IsDeclaredAt (t : Text) (whole : List Event) (d : Declaration) : Type 0 where
+  pub front : List Event
+  pub first : List Event
+  pub there : whole ≡ front ++ first
+  pub keyword : end_at t first ≡ e.Struct
+  pub named : IsNamed t first d.name.now d.place
+  pub rest : d.rest.now ≡ inner (take (declaration_len t first) first)
 
 abbrev pub IsDeclaration : Text → List Event → Declaration → Type 0
-IsDeclaration t whole d = d.is_faulty ≡ false → d.kind ≡ kinds.Struct → IsStructAt t whole d
+IsDeclaration t whole d = d.is_faulty ≡ false → d.kind ≡ kinds.Struct → IsDeclaredAt t whole d
 
 -- what is known: nothing, of a declaration, of all, of one that can be read, or of a struct
 abbrev pub Nothing : Text → List Event → Type 0
@@ -39,20 +106,56 @@ abbrev pub KnownAll : List Declaration → Text → List Event → Type 0
 KnownAll ds t whole = All (IsDeclaration t whole) ds
 
 abbrev pub KnownStruct : Declaration → Text → List Event → Type 0
-KnownStruct d t whole = d.kind ≡ kinds.Struct → IsStructAt t whole d
+KnownStruct d t whole = d.kind ≡ kinds.Struct → IsDeclaredAt t whole d
 
 abbrev pub KnownAt : Declaration → Text → List Event → Type 0
-KnownAt d t whole = IsStructAt t whole d
+KnownAt d t whole = IsDeclaredAt t whole d
 
--- the same before its name is read
-pub record IsReadAt (t : Text) (whole : List Event) (r : Read) : Type 0 where
-  pub events : List Event
-  pub begins : r.kind ≡ Some kinds.Struct → Begins t whole events
-  pub count : r.named ≡ first_count events
-  pub read : r.kind ≡ Some kinds.Struct → r.events.now ≡ take (len_to e.Struct events) events
+-- a struct of a declaration is at this index of those that are read
+pub record IsReadAs (t : Text) (structs : List Struct) (d : Declaration) (index : ℕ) : Type 0 where
+  pub readable : d.is_faulty ≡ false
+  pub struct : Struct
+  pub there : slice_get structs index ≡ Some struct
+  pub from : IsFrom t d struct
 
--- the name of a declaration, and its members
-pub record IsFrom (t : Text) (d : Declaration) (struct : Struct) : Type 0 where
-  pub name : struct.name.now ≡ d.name.now
-  pub place : struct.place ≡ d.place
-  pub members : AreMembers t d.rest.now struct.members.items
+abbrev pub IsReadOfKind : Text → List Struct → Declaration → TypeKind → Type 0
+IsReadOfKind t structs d (kind.Struct index) = IsReadAs t structs d index
+IsReadOfKind t structs d other = ⊥
+
+-- what a declaration means: a struct the one that is read of it
+abbrev pub IsMeant : Text → List Struct → Declaration → Meaning → Type 0
+IsMeant t structs d (meaning.«Type» ty) = d.kind ≡ kinds.Struct → IsReadOfKind t structs d ty.kind
+IsMeant t structs d _ = Unit {0}
+
+pub data AreMeant (t : Text) (structs : List Struct) : List Declaration → List Meaning → Type 0 where
+  none_meant : AreMeant t structs [] []
+  one_meant : {d : Declaration} {m : Meaning} {ds : List Declaration} {ms : List Meaning} → IsMeant t structs d m → AreMeant t structs ds ms
+      → AreMeant t structs (d ∷ ds) (m ∷ ms)
+
+abbrev pub AreAllMeant : List Declaration → Reader → Type 0
+AreAllMeant ds r = AreMeant r.scope.text r.structs.items ds r.scope.meanings.items
+
+-- the declarations go on to mean that
+pub record Means (ds : List Declaration) (old new : Reader) : Type 0 where
+  pub still : AreAllMeant ds old → AreAllMeant ds new
+
+-- the structs of declarations are, in order, at these indices, or are left out under these names
+pub data AreListed (t : Text) (structs : List Struct) : List Declaration → List ℕ → List (List ℕ) → Type 0 where
+  none_listed : AreListed t structs [] [] []
+  other_listed : {d : Declaration} {ds : List Declaration} {indices : List ℕ} {names : List (List ℕ)} → d.kind ≢ kinds.Struct
+      → AreListed t structs ds indices names → AreListed t structs (d ∷ ds) indices names
+  kept_listed : {d : Declaration} {ds : List Declaration} {index : ℕ} {indices : List ℕ} {names : List (List ℕ)} → d.kind ≡ kinds.Struct
+      → IsReadAs t structs d index → AreListed t structs ds indices names → AreListed t structs (d ∷ ds) (index ∷ indices) names
+  left_listed : {d : Declaration} {ds : List Declaration} {indices : List ℕ} {names : List (List ℕ)} → d.kind ≡ kinds.Struct
+      → AreListed t structs ds indices names → AreListed t structs (d ∷ ds) indices (d.name.now ∷ names)
+
+abbrev pub names_of : Listed → List (List ℕ)
+names_of l = map (λ name. name.now) l.left_out.items
+
+-- these declarations are listed behind those that are
+pub record Lists (t : Text) (structs : List Struct) (ds : List Declaration) (old new : Listed) : Type 0 where
+  pub indices : List ℕ
+  pub names : List (List ℕ)
+  pub more_indices : new.in_text.items ≡ old.in_text.items ++ indices
+  pub more_names : names_of new ≡ names_of old ++ names
+  pub are : AreListed t structs ds indices names

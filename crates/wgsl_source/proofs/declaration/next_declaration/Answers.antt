@@ -1,11 +1,19 @@
-use Rattle.std.proofs.Common.{ap, sym}
-use Rattle.wgsl_source.specs.Declarations.{first_count}
-use Rattle.wgsl_source.proofs.Declarations.{begins_behind, next_is}
+use Rattle.std.proofs.Common.{ap, arith, refl, length, ◌∙◌}
+use Rattle.std.proofs.lemmas.List.{length-drop}
+use Rattle.wgsl_source.specs.Declarations.{end_by, list_len, token_before}
+use Rattle.wgsl_source.proofs.Sites.{is_next, no_longer}
 use Rattle.wgsl_source.proofs.declaration.next_declaration.Goals as goal
 
-pub returns : goal.returns
-returns c =
-    let attributes = c.split_attributes-attributes.result.rest.now in
-    let list = c.split_list-list.result.rest.now in
-    λ whole front is. next_is c.args.text whole list _ c.kind_of-kind.result.1 (sym (ap first_count c.in_ok-first.ensures)) c.kind_of-kind.ensures c.in_ok-split.ensures.exact.1 c.in_ok-split.ensures.exact.2
-    (begins_behind whole front c.args.events.now attributes list is c.split_attributes-attributes.ensures c.split_list-list.ensures)
+pub returns-clause-exact : goal.returns-clause-exact
+returns-clause-exact c =
+    let first = c.in_ok-first.first in
+    let split = c.in_ok-split.ensures.exact in
+    is_next c.args.text c.args.events.now c.split_attributes-attributes.result.rest.now c.split_list-list.result.rest.now _ first c.end_by-end.result _
+    c.split_attributes-attributes.ensures c.split_list-list.ensures.rest c.in_ok-first.ensures
+    (c.end_by-end.ensures ∙ ap (λ w. end_by first.mark w.kind) (c.token_before-word.ensures ∙ ap (token_before c.args.text) c.saturating_sub.ensures))
+    split.0 c.declared_by.ensures refl split.1 split.2
+
+pub returns-clause-less : goal.returns-clause-less
+returns-clause-less c =
+    let list = c.split_attributes-attributes.result.rest.now in
+    omega (arith, no_longer c.split_attributes-attributes.ensures, length-drop (list_len list) list, ap length c.split_list-list.ensures.rest, c.in_ok-split.ensures.less)

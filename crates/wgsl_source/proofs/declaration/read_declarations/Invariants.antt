@@ -1,10 +1,9 @@
-use Rattle.std.proofs.Common.{◌≡◌, ◌++◌, List}
-use Rattle.std.specs.List.{All}
-use Rattle.wgsl_reader.specs.declared.read.Event.{Event}
-use Rattle.wgsl_source.specs.internal.Read.{IsDeclaration}
+use Rattle.std.proofs.Common.{length}
+use Rattle.wgsl_source.proofs.Sites.{SoFar}
 use Rattle.wgsl_source.proofs.declaration.read_declarations.Given as goal
 
--- the declarations are of the events, of which the last ones are left
-abbrev pub invariant-loop : goal.invariant-loop
-invariant-loop l = All (IsDeclaration l.fn.text l.fn.grammar.events.items) l.found.declarations.items
-    × (front : List Event) × (l.fn.grammar.events.items ≡ front ++ l.rest)
+abbrev pub invariant-loop-read : goal.invariant-loop-read
+invariant-loop-read l = SoFar l.fn.text l.fn.grammar.events.items l.rest l.found.declarations.items
+
+abbrev pub decreases-loop-read : goal.decreases-loop-read
+decreases-loop-read l = length l.rest

@@ -1,19 +1,22 @@
-use Rattle.std.proofs.Common.{sym, subst}
-use Rattle.std.specs.List.{All}
-use Rattle.std.proofs.lemmas.List.Elements.{All-push}
-use Rattle.wgsl_source.specs.internal.Read.{IsDeclaration}
+use Rattle.std.proofs.Common.{[], sym, subst}
+use Rattle.std.proofs.lemmas.List.{append-nil}
+use Rattle.wgsl_source.specs.internal.Read.{Adds, no_other}
 use Rattle.wgsl_source.specs.declared.declaration.Declarations.{Declarations}
-use Rattle.wgsl_source.proofs.Declarations.{is_no_declaration}
+use Rattle.wgsl_source.proofs.Sites.{more_misread}
 use Rattle.wgsl_source.proofs.declaration.Declarations.read_misread.Goals as goal
 use Rattle.wgsl_source.proofs.declaration.Declarations.read_misread.Goals.{in-Some-misread_declaration+in_ok-push-2, in_default-misread_declaration}
 
+pub loop-misread-init : goal.loop-misread-init
+loop-misread-init c = record { added = []; kept = sym (append-nil c.args.self.now.declarations.items); are = no_other }
+
 pub loop-misread-preserved : goal.loop-misread-preserved
-loop-misread-preserved c = λ whole all.
+loop-misread-preserved c =
     let t = c.args.text in
-    let known = c.loop-misread.invariant whole all in
+    let old = c.args.self.now.declarations.items in
+    let l = c.loop-misread in
     elim c.match-misread_declaration.branch [
       | in-Some-misread_declaration+in_ok-push-2 w ↦
-          subst (λ (ds : Declarations). All (IsDeclaration t whole) ds.declarations.items) (sym w.self-is) (subst (λ ds. All (IsDeclaration t whole) ds) (sym w.in_ok-push-2.ensures.items)
-          (All-push (IsDeclaration t whole) c.loop-misread.self.declarations.items _ known (is_no_declaration t whole _ w.in-Some-misread_declaration.ensures)))
-      | in_default-misread_declaration w ↦ subst (λ (ds : Declarations). All (IsDeclaration t whole) ds.declarations.items) (sym w.self-is) known
+          subst (λ (ds : Declarations). Adds t [] old ds.declarations.items) (sym w.self-is)
+          (more_misread t old l.self.declarations.items _ _ l.invariant w.in_ok-push-2.ensures.items w.in-Some-misread_declaration.ensures)
+      | in_default-misread_declaration w ↦ subst (λ (ds : Declarations). Adds t [] old ds.declarations.items) (sym w.self-is) l.invariant
     ]

@@ -2,24 +2,30 @@ use Rattle.std.proofs.Common.{refl, subst, sym}
 use Rattle.wgsl_source.specs.declared.module.Reader.{Reader}
 use Rattle.wgsl_source.specs.Structs.{Keeps}
 use Rattle.wgsl_source.specs.internal.Read.{KnownAll}
-use Rattle.wgsl_source.proofs.Structs.{keeps_further, keeps_same}
+use Rattle.wgsl_source.proofs.Meanings.{means_read}
+use Rattle.wgsl_source.proofs.Structs.{keeps_further, keeps_same, on_ok}
 use Rattle.wgsl_source.proofs.module.Reader.read.Goals as goal
 use Rattle.wgsl_source.proofs.module.Reader.read.Goals.{then-has_byte_order_mark+in_ok-push, else-has_byte_order_mark}
 
-pub returns : goal.returns
-returns c =
+pub returns-clause-keeps : goal.returns-clause-keeps
+returns-clause-keeps c =
     let old = c.args.self.now in
     let known = KnownAll c.args.declarations.now in
     let start = c.if-has_byte_order_mark.self in
     let named = c.name_all.new.self in
     let ordered = c.read_ordered.new.self in
-    let listed = c.list_types.new.self in
     let all = c.read_others.new.self in
     let at_start : Keeps known old start = elim c.if-has_byte_order_mark.branch [
       | then-has_byte_order_mark+in_ok-push w ↦ subst (λ (r : Reader). Keeps known old r) (sym w.self-is) (keeps_same known old _ (refl, refl, refl))
       | else-has_byte_order_mark w ↦ subst (λ (r : Reader). Keeps known old r) (sym w.self-is) (keeps_same known old old (refl, refl, refl))
     ] in
-    let at_named = keeps_further known old start named at_start (keeps_same known start named c.in_ok-name_all.ensures) in
-    let at_ordered = keeps_further known old named ordered at_named c.in_ok-read_ordered.ensures in
-    let at_listed = keeps_further known old ordered listed at_ordered (keeps_same known ordered listed c.in_ok-list_types.ensures) in
-    keeps_further known old all _ (keeps_further known old listed all at_listed c.in_ok-read_others.ensures) (keeps_same known all _ (refl, refl, refl))
+    let at_named = keeps_further known old start named at_start (keeps_same known start named c.in_ok-name_all.ensures.same) in
+    let at_ordered = keeps_further known old named ordered at_named c.in_ok-read_ordered.ensures.keeps in
+    on_ok c.list_types.result _ (keeps_further known old all _ (keeps_further known old ordered all at_ordered c.in_ok-read_others.ensures.keeps) (keeps_same known all _ (refl, refl, refl)))
+
+pub returns-clause-listed : goal.returns-clause-listed
+returns-clause-listed c =
+    let ds = c.args.declarations.now in
+    let ordered = c.read_ordered.new.self in
+    let read = means_read ds (KnownAll ds) ordered c.read_others.new.self c.in_ok-read_others.ensures.keeps c.in_ok-read_others.ensures.scope in
+    c.list_types.ensures (read.still (c.in_ok-read_ordered.ensures.means.still c.in_ok-name_all.ensures.meant))

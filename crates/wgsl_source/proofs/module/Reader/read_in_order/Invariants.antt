@@ -1,9 +1,9 @@
 use Rattle.wgsl_source.specs.Structs.{Keeps}
-use Rattle.wgsl_source.specs.internal.Read.{KnownAll}
+use Rattle.wgsl_source.specs.internal.Read.{KnownAll, Means}
 use Rattle.wgsl_source.proofs.module.Reader.read_in_order.Given as goal
 
 abbrev pub invariant-loop-circular : goal.invariant-loop-circular
-invariant-loop-circular l = Keeps (KnownAll l.fn.declarations) l.fn.self l.self
+invariant-loop-circular l = Keeps (KnownAll l.fn.declarations) l.fn.self l.self × Means l.fn.declarations l.fn.self l.self
 
 abbrev pub invariant-loop-index : goal.invariant-loop-index
-invariant-loop-index l = Keeps (KnownAll l.fn.declarations) l.fn.self l.self
+invariant-loop-index l = Keeps (KnownAll l.fn.declarations) l.fn.self l.self × Means l.fn.declarations l.fn.self l.self

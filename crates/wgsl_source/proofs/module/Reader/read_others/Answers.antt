@@ -1,4 +1,4 @@
-use Rattle.std.proofs.Common.{subst, sym}
+use Rattle.std.proofs.Common.{◌≡◌, subst, sym, ◌∙◌}
 use Rattle.wgsl_source.specs.declared.module.Reader.{Reader}
 use Rattle.wgsl_source.specs.Structs.{Keeps}
 use Rattle.wgsl_source.specs.internal.Read.{KnownAll, Nothing}
@@ -13,7 +13,9 @@ loop-declaration-preserved c =
     let known = KnownAll c.args.declarations.now in
     elim c.if-not-declaration.branch [
       | then-not-declaration+in_ok-tell w ↦
-          let read = keeps_further known old l.self w.read_other-read.new.self l.invariant (keeps_if known Nothing l.self w.read_other-read.new.self (λ whole all. tt) w.read_other-read.ensures) in
-          subst (λ (r : Reader). Keeps known old r) (sym w.self-is) (keeps_further known old w.read_other-read.new.self w.tell.new.self read (keeps_same known w.read_other-read.new.self w.tell.new.self w.tell.ensures))
-      | else-not-declaration w ↦ subst (λ (r : Reader). Keeps known old r) (sym w.self-is) l.invariant
+          let one = w.read_other-read.new.self in
+          let read = keeps_further known old l.self one l.invariant.0 (keeps_if known Nothing l.self one (λ whole all. tt) w.read_other-read.ensures.keeps) in
+          let kept = keeps_further known old one w.tell.new.self read (keeps_same known one w.tell.new.self w.tell.ensures.same) in
+          subst (λ (r : Reader). Keeps known old r × (r.scope ≡ old.scope)) (sym w.self-is) (kept, w.tell.ensures.scope ∙ (w.read_other-read.ensures.scope ∙ l.invariant.1))
+      | else-not-declaration w ↦ subst (λ (r : Reader). Keeps known old r × (r.scope ≡ old.scope)) (sym w.self-is) l.invariant
     ]

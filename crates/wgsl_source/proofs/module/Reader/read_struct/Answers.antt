@@ -7,6 +7,7 @@ use Rattle.wgsl_source.proofs.module.Reader.read_struct.Goals as goal
 pub returns-clause-kept : goal.returns-clause-kept
 returns-clause-kept c = record {
   struct = c.in_ok-structure.structure;
+  from = c.in_ok-structure.ensures.declared;
   kept = c.in_ok-push.ensures.items;
   type = c.measured-ty.result;
   named = refl;

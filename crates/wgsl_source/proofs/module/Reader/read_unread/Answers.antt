@@ -1,21 +1,39 @@
 use Rattle.wgsl_source.specs.internal.Read.{Known, KnownStruct}
+use Rattle.wgsl_source.proofs.Meanings.{kept_at, means_further, means_read, means_same}
 use Rattle.wgsl_source.proofs.Structs.{keeps_further, keeps_if, keeps_same, on_ok}
 use Rattle.wgsl_source.proofs.module.Reader.read_unread.Goals as goal
 
-pub returns-in-Ok : goal.returns-in-Ok
-returns-in-Ok c =
+pub returns-in-Ok-clause-keeps : goal.returns-in-Ok-clause-keeps
+returns-in-Ok-clause-keeps c =
     let d = c.args.declaration.now in
     let old = c.args.self.now in
     let read = c.read_meaning.new.self in
     keeps_further (Known d) old read c.mean-in-Ok.new.self (keeps_if (Known d) (KnownStruct d) old read (λ whole known. known c.if-declaration.false) c.in-Ok.ensures.keeps)
-    (keeps_same (Known d) read c.mean-in-Ok.new.self c.mean-in-Ok.ensures)
+    (keeps_same (Known d) read c.mean-in-Ok.new.self c.mean-in-Ok.ensures.same)
 
-pub returns-in-Err : goal.returns-in-Err
-returns-in-Err c =
+pub returns-in-Ok-clause-means : goal.returns-in-Ok-clause-means
+returns-in-Ok-clause-means c = λ ds at.
+    let d = c.args.declaration.now in
+    let old = c.args.self.now in
+    let read = c.read_meaning.new.self in
+    means_further ds old read c.mean-in-Ok.new.self (means_read ds (KnownStruct d) old read c.in-Ok.ensures.keeps c.in-Ok.ensures.scope) (c.mean-in-Ok.ensures.means ds
+    (kept_at old.scope.text read.scope.text ds c.args.index d old.structs.items read.structs.items _ c.in-Ok.ensures.keeps.text at c.if-declaration.false c.in-Ok.ensures.kept))
+
+pub returns-in-Err-clause-keeps : goal.returns-in-Err-clause-keeps
+returns-in-Err-clause-keeps c =
     let d = c.args.declaration.now in
     let old = c.args.self.now in
     let read = c.read_meaning.new.self in
     let meant = c.mean-in-Err.new.self in
     let kept = keeps_further (Known d) old read meant (keeps_if (Known d) (KnownStruct d) old read (λ whole known. known c.if-declaration.false) c.in-Err.ensures.keeps)
-    (keeps_same (Known d) read meant c.mean-in-Err.ensures) in
-    on_ok c.tell.result _ (keeps_further (Known d) old meant c.tell.new.self kept (keeps_same (Known d) meant c.tell.new.self c.tell.ensures))
+    (keeps_same (Known d) read meant c.mean-in-Err.ensures.same) in
+    on_ok c.tell.result _ (keeps_further (Known d) old meant c.tell.new.self kept (keeps_same (Known d) meant c.tell.new.self c.tell.ensures.same))
+
+pub returns-in-Err-clause-means : goal.returns-in-Err-clause-means
+returns-in-Err-clause-means c = λ ds at.
+    let d = c.args.declaration.now in
+    let old = c.args.self.now in
+    let read = c.read_meaning.new.self in
+    let meant = c.mean-in-Err.new.self in
+    on_ok c.tell.result _ (means_further ds old read c.tell.new.self (means_read ds (KnownStruct d) old read c.in-Err.ensures.keeps c.in-Err.ensures.scope)
+    (means_further ds read meant c.tell.new.self (c.mean-in-Err.ensures.means ds (λ e is. tt)) (means_same ds meant c.tell.new.self c.tell.ensures.same c.tell.ensures.scope)))

@@ -1,0 +1,154 @@
+-- What declarations mean while they are read, and how they are listed.
+use Rattle.std.proofs.Common.{◌≡◌, ◌≢◌, ℕ, zero, suc, false, List, [], ◌∷◌, ◌++◌, ◌⊎◌, inl, inr, length, replicate, set, Some, map, ap, refl, subst, sym, ◌∙◌, append_assoc}
+use Rattle.std.specs.List.{slice_get}
+use Rattle.std.proofs.lemmas.Option.{same_Some}
+use Rattle.std.proofs.lemmas.List.{append-nil}
+use Rattle.wgsl_source.specs.Structs.{IsKept, Keeps, SameStructs}
+use Rattle.wgsl_source.specs.internal.Read.{AreAllMeant, AreListed, AreMeant, IsMeant, IsReadAs, IsReadOfKind, Lists, Means, kept_listed, left_listed, names_of, none_listed, none_meant, one_meant, other_listed}
+use Rattle.wgsl_source.specs.declared.declaration.Declaration.{Declaration}
+use Rattle.wgsl_source.specs.declared.declaration.DeclarationKind.TheVariants as kinds
+use Rattle.wgsl_source.specs.declared.listed.Listed.{Listed}
+use Rattle.wgsl_source.specs.declared.measured.TypeKind.{TypeKind}
+use Rattle.wgsl_source.specs.declared.measured.TypeKind.TheVariants as kind
+use Rattle.wgsl_source.specs.declared.module.Reader.{Reader}
+use Rattle.wgsl_source.specs.declared.scope.Meaning.{Meaning}
+use Rattle.wgsl_source.specs.declared.scope.Meaning.TheVariants as meaning
+use Rattle.wgsl_source.specs.declared.scope.Scope.{Scope}
+use Rattle.wgsl_source.specs.declared.structure.Struct.{Struct}
+use Rattle.wgsl_source.specs.declared.text.Text.{Text}
+use Rattle.wgsl_source.proofs.Members.{still_at}
+use Rattle.wgsl_source.proofs.Structs.{Knows}
+
+-- more structs are read
+
+still_of_kind : (t : Text) (ss more : List Struct) (d : Declaration) (k : TypeKind) → IsReadOfKind t ss d k → IsReadOfKind t (ss ++ more) d k
+still_of_kind t ss more d (kind.Struct index) h = record { readable = h.readable; struct = h.struct; there = still_at ss more index h.struct h.there; from = h.from }
+still_of_kind t ss more d k h = absurd h
+
+still_meant : (t : Text) (ss more : List Struct) (d : Declaration) (m : Meaning) → IsMeant t ss d m → IsMeant t (ss ++ more) d m
+still_meant t ss more d (meaning.«Type» ty) h = λ struct. still_of_kind t ss more d ty.kind (h struct)
+still_meant t ss more d m h = h
+
+all_still_meant : {t : Text} {ss : List Struct} (more : List Struct) {ds : List Declaration} {ms : List Meaning} → AreMeant t ss ds ms → AreMeant t (ss ++ more) ds ms
+all_still_meant more none_meant = none_meant
+all_still_meant {t} {ss} more (one_meant {d} {m} is rest) = one_meant (still_meant t ss more d m is) (all_still_meant more rest)
+
+same_meant : (ds : List Declaration) (a b : Reader) (more : List Struct) → b.structs.items ≡ a.structs.items ++ more → b.scope.text ≡ a.scope.text → b.scope.meanings ≡ a.scope.meanings
+    → AreAllMeant ds a → AreAllMeant ds b
+same_meant ds a b more structs text meanings h =
+    subst (λ (t : Text). AreMeant t b.structs.items ds b.scope.meanings.items) (sym text)
+    (subst (λ ss. AreMeant a.scope.text ss ds b.scope.meanings.items) (sym structs)
+    (subst (λ ms. AreMeant a.scope.text (a.structs.items ++ more) ds ms.items) (sym meanings) (all_still_meant more h)))
+
+pub means_read : (ds : List Declaration) (Known : Knows) (a b : Reader) → Keeps Known a b → b.scope ≡ a.scope → Means ds a b
+means_read ds Known a b h scope = record { still = same_meant ds a b h.added h.kept h.text (ap (λ s. s.meanings) scope) }
+
+pub means_same : (ds : List Declaration) (a b : Reader) → SameStructs a b → b.scope ≡ a.scope → Means ds a b
+means_same ds a b same scope = record {
+  still = λ h. subst (λ (s : Scope). AreMeant s.text b.structs.items ds s.meanings.items) (sym scope) (subst (λ ss. AreMeant a.scope.text ss.items ds a.scope.meanings.items) (sym same.1) h);
+}
+
+pub means_further : (ds : List Declaration) (a b c : Reader) → Means ds a b → Means ds b c → Means ds a c
+means_further ds a b c g h = record { still = λ are. h.still (g.still are) }
+
+-- one meaning is set
+set_meant : {t : Text} {ss : List Struct} (i : ℕ) (m : Meaning) {ds : List Declaration} {ms : List Meaning} → ((d : Declaration) → slice_get ds i ≡ Some d → IsMeant t ss d m)
+    → AreMeant t ss ds ms → AreMeant t ss ds (set ms i m)
+set_meant i m is none_meant = none_meant
+set_meant zero m is (one_meant {d} old rest) = one_meant (is d refl) rest
+set_meant (suc i) m is (one_meant old rest) = one_meant old (set_meant i m is rest)
+
+pub means_set : (ds : List Declaration) (a b : Reader) (i : ℕ) (m : Meaning) → SameStructs a b → b.scope.meanings.items ≡ set a.scope.meanings.items i m
+    → ((d : Declaration) → slice_get ds i ≡ Some d → IsMeant a.scope.text a.structs.items d m) → Means ds a b
+means_set ds a b i m same meanings is = record {
+  still =
+      λ h. subst (λ (t : Text). AreMeant t b.structs.items ds b.scope.meanings.items) (sym same.2)
+      (subst (λ ss. AreMeant a.scope.text ss.items ds b.scope.meanings.items) (sym same.1)
+      (subst (λ ms. AreMeant a.scope.text a.structs.items ds ms) (sym meanings) (set_meant i m is h)));
+}
+
+-- no declaration is read yet
+pub all_unread : (t : Text) (ss : List Struct) (ds : List Declaration) → AreMeant t ss ds (replicate (length ds) meaning.Unread)
+all_unread t ss [] = none_meant
+all_unread t ss (d ∷ ds) = one_meant tt (all_unread t ss ds)
+
+-- a struct that is kept is meant
+last_at : (ss : List Struct) (s : Struct) → slice_get (ss ++ s ∷ []) (length ss) ≡ Some s
+last_at [] s = refl
+last_at (x ∷ ss) s = last_at ss s
+
+kept_meant : (t : Text) (d : Declaration) (old new : List Struct) (m : Meaning) → d.is_faulty ≡ false → (d.kind ≡ kinds.Struct → IsKept t d old new m) → IsMeant t new d m
+kept_meant t d old new (meaning.«Type» ty) readable all = λ struct.
+    let h = all struct in
+    let at : IsReadAs t new d (length old) =
+    record { readable = readable; struct = h.struct; there = subst (λ ss. slice_get ss (length old) ≡ Some h.struct) (sym h.kept) (last_at old h.struct); from = h.from } in
+    let of : IsMeant t new d (meaning.«Type» h.type) = λ is. subst (λ k. IsReadOfKind t new d k) (sym h.is.kind) at in
+    subst (λ n. IsMeant t new d n) (sym h.named) of struct
+kept_meant t d old new m readable all = tt
+
+pub kept_at : (t s : Text) (ds : List Declaration) (i : ℕ) (d : Declaration) (old new : List Struct) (m : Meaning) → s ≡ t → slice_get ds i ≡ Some d → d.is_faulty ≡ false
+    → (d.kind ≡ kinds.Struct → IsKept t d old new m) → (e : Declaration) → slice_get ds i ≡ Some e → IsMeant s new e m
+kept_at t s ds i d old new m same is readable all e at =
+    subst (λ (u : Text). IsMeant u new e m) (sym same) (subst (λ x. IsMeant t new x m) (same_Some d e (sym is ∙ at)) (kept_meant t d old new m readable all))
+
+-- declarations are listed
+
+both_listed : {t : Text} {ss : List Struct} {ds es : List Declaration} {is js : List ℕ} {ns ms : List (List ℕ)} → AreListed t ss ds is ns → AreListed t ss es js ms
+    → AreListed t ss (ds ++ es) (is ++ js) (ns ++ ms)
+both_listed none_listed h = h
+both_listed (other_listed isnt rest) h = other_listed isnt (both_listed rest h)
+both_listed (kept_listed struct read rest) h = kept_listed struct read (both_listed rest h)
+both_listed (left_listed struct rest) h = left_listed struct (both_listed rest h)
+
+pub unlisted : (t : Text) (ss : List Struct) (d : Declaration) (old new : Listed) → d.kind ≢ kinds.Struct → new.in_text ≡ old.in_text → new.left_out ≡ old.left_out → Lists t ss (d ∷ []) old new
+unlisted t ss d old new isnt indices names = record {
+  indices = [];
+  names = [];
+  more_indices = ap (λ is. is.items) indices ∙ sym (append-nil old.in_text.items);
+  more_names = ap (λ ns. map (λ name. name.now) ns.items) names ∙ sym (append-nil (names_of old));
+  are = other_listed isnt none_listed;
+}
+
+-- what is listed so far, in front of the declarations that are left
+pub record ListedSoFar (t : Text) (ss : List Struct) (whole left : List Declaration) (meanings : List Meaning) (l : Listed) : Type 0 where
+  pub meant : AreMeant t ss left meanings
+  pub back : {is : List ℕ} {ns : List (List ℕ)} → AreListed t ss left is ns → AreListed t ss whole (l.in_text.items ++ is) (names_of l ++ ns)
+
+module _ (t : Text) (ss : List Struct) (whole : List Declaration) where
+  pub none_yet : (left : List Declaration) (ms now : List Meaning) (l : Listed) → left ≡ whole → now ≡ ms → AreMeant t ss whole ms → l.in_text.items ≡ [] → l.left_out.items ≡ []
+      → ListedSoFar t ss whole left now l
+  none_yet left ms now l all is meant indices names = record {
+    meant = subst (λ ds. AreMeant t ss ds now) (sym all) (subst (λ xs. AreMeant t ss whole xs) (sym is) meant);
+    back =
+        λ {is = js} {ns = xs} h. subst (λ ys. AreListed t ss whole (ys ++ js) (names_of l ++ xs)) (sym indices)
+        (subst (λ vs. AreListed t ss whole js (map (λ name. name.now) vs ++ xs)) (sym names) (subst (λ ds. AreListed t ss ds js xs) all h));
+  }
+
+  meaning_first : {d : Declaration} {m : Meaning} {ds : List Declaration} {ms : List Meaning} → AreMeant t ss (d ∷ ds) (m ∷ ms) → IsMeant t ss d m
+  meaning_first (one_meant is rest) = is
+
+  meanings_left : {d : Declaration} {m : Meaning} {ds : List Declaration} {ms : List Meaning} → AreMeant t ss (d ∷ ds) (m ∷ ms) → AreMeant t ss ds ms
+  meanings_left (one_meant is rest) = rest
+
+  pub one_listed : (left rest : List Declaration) (ms ns : List Meaning) (d : Declaration) (m : Meaning) (old new : Listed) → left ≡ d ∷ rest → ms ≡ m ∷ ns
+      → (IsMeant t ss d m → Lists t ss (d ∷ []) old new) → ListedSoFar t ss whole left ms old → ListedSoFar t ss whole rest ns new
+  one_listed left rest ms ns d m old new is at lists h =
+      let meant = subst (λ xs. AreMeant t ss (d ∷ rest) xs) at (subst (λ xs. AreMeant t ss xs ms) is h.meant) in
+      let more = lists (meaning_first meant) in
+      record {
+        meant = meanings_left meant;
+        back = λ {is = js} {ns = xs} others.
+            let all = h.back (subst (λ ds. AreListed t ss ds (more.indices ++ js) (more.names ++ xs)) (sym is) (both_listed more.are others)) in
+            subst (λ ys. AreListed t ss whole ys (names_of new ++ xs)) (sym (append_assoc old.in_text.items more.indices js) ∙ ap (λ ys. ys ++ js) (sym more.more_indices))
+            (subst (λ ys. AreListed t ss whole (old.in_text.items ++ (more.indices ++ js)) ys) (sym (append_assoc (names_of old) more.names xs) ∙ ap (λ ys. ys ++ xs) (sym more.more_names)) all);
+      }
+
+  pub all_listed : (left : List Declaration) (ms : List Meaning) (l : Listed) → (left ≡ []) ⊎ (ms ≡ []) → ListedSoFar t ss whole left ms l → AreListed t ss whole l.in_text.items (names_of l)
+  all_listed left ms l none h =
+      subst (λ is. AreListed t ss whole is (names_of l)) (append-nil l.in_text.items)
+      (subst (λ ns. AreListed t ss whole (l.in_text.items ++ []) ns) (append-nil (names_of l)) (h.back (nothing h.meant none)))
+    where
+      nothing : {left : List Declaration} {ms : List Meaning} → AreMeant t ss left ms → (left ≡ []) ⊎ (ms ≡ []) → AreListed t ss left [] []
+      nothing none_meant none = none_listed
+      nothing (one_meant {d} {m} {ds} {ms} is rest) (inl at) = let bad : d ∷ ds ≡ [] = at in absurd (cc)
+      nothing (one_meant {d} {m} {ds} {ms} is rest) (inr at) = let bad : m ∷ ms ≡ [] = at in absurd (cc)
