@@ -17,6 +17,8 @@ pub mod inst;
 pub mod library;
 pub mod mem;
 #[cfg(feature = "text")]
+pub mod module;
+#[cfg(feature = "text")]
 pub mod predeclared;
 #[cfg(feature = "std")]
 #[doc(hidden)]

@@ -33,3 +33,8 @@ pub fn source_code(text: &[u8], buffer: &mut [u8], text_len: &mut usize, languag
 pub fn source_layout(text: &[u8], buffer: &mut [u8], text_len: &mut usize) -> u8 {
     wgsl_c::wgsl_source_layout(Global, text, buffer, text_len)
 }
+
+/// Writes what is wrong with a WGSL text, and the types of its expressions, as JSON.
+pub fn module_check(text: &[u8], buffer: &mut [u8], text_len: &mut usize) -> u8 {
+    wgsl_c::wgsl_module_check(Global, text, buffer, text_len)
+}

@@ -64,6 +64,10 @@ uint8_t wgsl_explain(const uint8_t *request, size_t request_len, uint8_t *buffer
  * every text, WGSL_OUT_OF_MEMORY or WGSL_NO_ROOM. The caller ensures the same, but WGSL_SOURCE_STACK bytes of stack. */
 uint8_t wgsl_source_layout(const uint8_t *text, size_t text_len, uint8_t *json, size_t buffer_len, size_t *json_len);
 
+/* Writes what `./wgsl check --json --types` prints of a WGSL text, with an empty name of the file: what is wrong with it by WGSL's
+ * rules, each fault with its place, and the types of its expressions. It returns the same, and the caller ensures the same. */
+uint8_t wgsl_module_check(const uint8_t *text, size_t text_len, uint8_t *json, size_t buffer_len, size_t *json_len);
+
 enum { WGSL_C = 0, WGSL_RUST = 1, WGSL_NUMPY = 2, WGSL_TYPESCRIPT = 3 };
 
 /* Writes what `./wgsl layout --c`, `--rust`, `--numpy` or `--typescript` prints of a WGSL text: its structs in that language. It

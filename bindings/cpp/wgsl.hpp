@@ -71,6 +71,9 @@ inline Result answer(std::string_view request, Rules rules = Rules::standard) {
 /* The layouts of a WGSL text as JSON, whose fields docs/USING.md names. */
 inline Result source_layout(std::string_view text) { return detail::ask(wgsl_source_layout, text); }
 
+/* What is wrong with a WGSL text by WGSL's rules, and the types of its expressions, as JSON too. */
+inline Result module_check(std::string_view text) { return detail::ask(wgsl_module_check, text); }
+
 enum class Language { c = WGSL_C, rust = WGSL_RUST, numpy = WGSL_NUMPY, typescript = WGSL_TYPESCRIPT };
 
 /* The structs of a WGSL text as code; if it has errors, Status::ruled_out with the code of the structs that have none. */

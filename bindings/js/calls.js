@@ -162,14 +162,19 @@ export function version() {
 /** The layouts of a WGSL text. Throws `SourceError` if it has errors. */
 export function layouts(text) {
   const { structs, leftOut, variables, overrides, entryPoints, errors, findings } = JSON.parse(ask("wgsl_source_layout", text).text);
-  const starts = startsOfLines(text), told = { structs, variables, overrides, entryPoints, errors, findings };
-  for (const place of Object.values(told).flat()) place.index = indexOfPlace(starts, place);
-  for (const { end } of [...errors, ...findings]) end.index = indexOfPlace(starts, end);
+  const told = { structs, variables, overrides, entryPoints, errors, findings };
+  addIndexes(text, [...Object.values(told).flat(), ...structs.flatMap(({ members }) => members)]);
   told.leftOut = leftOut;
-  for (const struct of structs) for (const member of struct.members) member.index = indexOfPlace(starts, member);
   linkStructs(structs, variables);
   if (errors.length) throw new SourceError(told, text);
   return told;
+}
+
+/** What is wrong with a WGSL text by WGSL's rules, and the types of its expressions. */
+export function check(text) {
+  const { faults, types: parts } = JSON.parse(ask("wgsl_module_check", text).text);
+  addIndexes(text, [...faults, ...parts]);
+  return { faults, parts };
 }
 
 const LANGUAGES = ["c", "rust", "numpy", "typescript"]; // by their numbers in wgsl.h
@@ -193,8 +198,12 @@ function startsOfLines(text) {
   return starts;
 }
 
-function indexOfPlace(starts, { line, utf16Column }) {
-  return starts[line - 1] + utf16Column - 1;
+/** Gives each place its index in a text, and the places where it ends and is declared, if it has them. */
+function addIndexes(text, places) {
+  const starts = startsOfLines(text);
+  for (const place of places.flatMap((place) => [place, place.end, place.declared])) {
+    if (place) place.index = starts[place.line - 1] + place.utf16Column - 1;
+  }
 }
 
 /** Has each type that is a struct refer to the struct. */

@@ -50,6 +50,29 @@ export function layouts(text: string): Layouts;
 /** The structs of a WGSL text as code, which checks each offset and size in C, Rust and numpy. Throws `SourceError` if the text has errors. */
 export function code(text: string, language: Language): string;
 
+/** What is wrong with a WGSL text by WGSL's rules, and the types of its expressions. Throws nothing for a fault. */
+export function check(text: string): Checked;
+
+/** What is found of a text, each in its order. */
+export interface Checked {
+  /** The `kind` of each is the code of the rule that is broken. */
+  faults: Message[];
+  /** The expressions that have a type. */
+  parts: Part[];
+}
+
+/** An expression. */
+export interface Part extends Place {
+  /** The place behind it. */
+  end: Place;
+  /** As WGSL spells it. */
+  type: string;
+  /** When its value is known: with the module, with the pipeline, or when the shader runs. */
+  stage: "const" | "override" | "runtime";
+  /** Where the name is declared, if it is a name that the text declares. */
+  declared: Place | null;
+}
+
 /** What a text has, each in its order. */
 export interface Layouts {
   structs: StructLayout[];
@@ -146,7 +169,7 @@ export interface EntryPoint extends Place {
 }
 
 export interface Message extends Place {
-  /** The end of the word that stands at the place. */
+  /** The end of what stands at the place. */
   end: Place;
   /** The name of what is wrong. */
   kind: string;

@@ -19,4 +19,4 @@ sub(/^  /, "") {
     next
 }
 { print plain($0) }
-END { print ".SH SEE ALSO\n.BR wgsl \"(1), \" wgsl\\-layout \"(1), \" wgsl\\-ask \"(1), \" wgsl_check (1)" }
+END { print ".SH SEE ALSO\n.BR wgsl \"(1), \" wgsl\\-check \"(1), \" wgsl\\-layout \"(1), \" wgsl\\-ask \"(1), \" wgsl_check (1)" }

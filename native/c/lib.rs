@@ -34,6 +34,7 @@ export! {
     wgsl_standard_answer(): library::standard_answer;
     wgsl_standard_explain(): library::standard_explain;
     wgsl_source_layout(): library::source_layout;
+    wgsl_module_check(): library::module_check;
     wgsl_source_code(language: u8): library::source_code;
 }
 

@@ -17,7 +17,7 @@ const FUNCTIONS: [(&str, &[&str]); 5] = [
 ];
 
 /// Methods of std's types that have other parameters or results in Rattle, or that older compilers lack.
-const METHODS: [&str; 7] = [
+const METHODS: [&str; 8] = [
     "push",
     "push_str",
     "extend_from_slice",
@@ -25,6 +25,7 @@ const METHODS: [&str; 7] = [
     "to_string",
     "cast_signed",
     "cast_unsigned",
+    "is_multiple_of",
 ];
 
 /// Methods of public types that only proofs need, or that have types which aren't public.

@@ -1,4 +1,4 @@
-//! Casts that keep the bits of an integer. Rust has them since 1.87.
+//! What Rust's integers have since 1.87: casts that keep the bits, and whether one is a multiple of another.
 
 pub trait RattleSigned {
     type Unsigned;
@@ -8,6 +8,7 @@ pub trait RattleSigned {
 pub trait RattleUnsigned {
     type Signed;
     fn rattle_cast_signed(self) -> Self::Signed;
+    fn rattle_is_multiple_of(self, other: Self) -> bool;
 }
 
 macro_rules! casts {
@@ -28,6 +29,11 @@ macro_rules! casts {
                 #[inline(always)]
                 fn rattle_cast_signed(self) -> $signed {
                     self as $signed
+                }
+
+                #[inline(always)]
+                fn rattle_is_multiple_of(self, other: $unsigned) -> bool {
+                    self.checked_rem(other).unwrap_or(self) == 0
                 }
             }
         )*

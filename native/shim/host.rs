@@ -53,7 +53,39 @@ pub mod env {
 
 pub mod fs {
     use super::{io, HostRuntime};
+    use alloc::string::String;
     use alloc::vec::Vec;
+    use rust_std::fs::{FileType, Metadata};
+
+    /// What a folder has, with a name that is UTF-8.
+    pub struct DirEntry(rust_std::fs::DirEntry, String);
+
+    impl DirEntry {
+        pub fn file_name(&self) -> &str {
+            &self.1
+        }
+
+        pub fn file_type(&self) -> io::Result<FileType> {
+            self.0.file_type()
+        }
+    }
+
+    pub fn read_dir(
+        _: &HostRuntime,
+        path: &str,
+    ) -> io::Result<impl Iterator<Item = io::Result<DirEntry>>> {
+        Ok(rust_std::fs::read_dir(path)?.map(move |entry| {
+            let entry = entry?;
+            match entry.file_name().into_string() {
+                Ok(name) => Ok(DirEntry(entry, name)),
+                Err(_) => Err(io::ErrorKind::InvalidData.into()),
+            }
+        }))
+    }
+
+    pub fn metadata(_: &HostRuntime, path: &str) -> io::Result<Metadata> {
+        rust_std::fs::metadata(path)
+    }
 
     pub fn read(_: &HostRuntime, path: &str) -> io::Result<Vec<u8>> {
         rust_std::fs::read(path)

@@ -1,7 +1,9 @@
 //! Conversions, ranks, common types, and the candidates that are chosen for operators.
 
+mod tables;
 mod words;
 
+use tables::rows;
 use wgsl_types_proved::builtin::binary_candidate;
 use wgsl_types_proved::conv::{
     convert, convert_all, convert_all_inner_to, convert_all_to, convert_all_ty, convert_inner,
@@ -9,15 +11,8 @@ use wgsl_types_proved::conv::{
 };
 use wgsl_types_proved::inst::LiteralInstance;
 use wgsl_types_proved::requests::answer;
-use wgsl_types_proved::syntax::BinaryOperator;
 use wgsl_types_proved::{Instance, Type};
-use words::{one_type, types};
-
-/// The two types that the words stand for.
-fn two_types(words: &str) -> (Type, Type) {
-    let [first, second] = types(words).try_into().expect(words);
-    (first, second)
-}
+use words::types;
 
 /// A type as it is spelled, or `none`.
 fn spelled(ty: Option<Type>) -> String {
@@ -33,79 +28,50 @@ fn literals_convert_as_their_types() {
     }
 }
 
-#[test]
-fn abstract_types_become_concrete() {
-    for (words, made) in [
-        ("array 2 vec 2 AbstractInt", "array<vec2<i32>, 2>"),
-        ("mat 2 2 AbstractInt", "mat2x2<f32>"),
-        ("AbstractFloat", "f32"),
-        ("u32", "u32"),
-    ] {
-        let ty = one_type(words);
-        assert_eq!(Type::concretize(&ty).to_string(), made, "of `{words}`");
-        assert_eq!(spelled(Convert::concretize(&ty)), made, "of `{words}`");
-    }
+/// Two values as they are spelled, or `none`.
+fn both(types: Option<(Type, Type)>) -> String {
+    types.map_or("none".to_string(), |(a, b)| format!("{a} {b}"))
 }
 
-#[test]
-fn types_convert_whole_or_inside() {
-    for (words, whole, inside) in [
-        ("AbstractInt i64", "i64", "i64"),
-        ("array 2 u32 array 2 f32", "none", "none"),
-        ("array 2 u32 f32", "none", "none"),
-        ("array 2 AbstractInt f32", "none", "array<f32, 2>"),
-        ("atomic i32 i32", "none", "none"),
-        ("atomic i32 atomic i32", "atomic<i32>", "atomic<i32>"),
-    ] {
-        let (from, to) = two_types(words);
-        assert_eq!(spelled(from.convert_to(&to)), whole, "of `{words}`");
-        assert_eq!(spelled(from.convert_inner_to(&to)), inside, "of `{words}`");
-    }
-}
-
-#[test]
-fn two_values_convert_to_their_common_type() {
-    let both =
-        |types: Option<(Type, Type)>| types.map_or("none".to_string(), |(a, b)| format!("{a} {b}"));
-    for (words, whole, inside) in [
-        ("AbstractInt f32", "f32 f32", "f32 f32"),
-        ("bool f32", "none", "none"),
-        ("f32 AbstractInt", "f32 f32", "f32 f32"),
-        ("vec 2 AbstractInt f32", "none", "vec2<f32> f32"),
-        ("f32 vec 2 AbstractInt", "none", "f32 vec2<f32>"),
-        (
-            "array 18446744073709551615 AbstractInt vec 255 f32",
-            "none",
-            "array<f32, 18446744073709551615> vec255<f32>",
-        ),
-    ] {
-        let (a, b) = two_types(words);
-        assert_eq!(both(convert(&a, &b)), whole, "of `{words}`");
-        assert_eq!(both(convert_inner(&a, &b)), inside, "of `{words}`");
-    }
-}
-
-/// Each type as it is spelled and a space after it, or `none`.
+/// Each type of a list as it is spelled, or `none`.
 fn listed(types: Option<Vec<Type>>) -> String {
-    types.map_or("none".to_string(), |types| types.iter().map(|ty| format!("{ty} ")).collect())
+    let texts = |types: Vec<Type>| types.iter().map(Type::to_string).collect::<Vec<_>>();
+    types.map_or("none".to_string(), |types| format!("[{}]", texts(types).join(" ")))
+}
+
+/// What the operands of an operator convert to, and the result, or the refusal.
+fn candidate(operator: &str, lhs: &Type, rhs: &Type) -> String {
+    match binary_candidate(operator.parse().expect(operator), lhs, rhs) {
+        Ok(chosen) => format!("({}, {}) {}", chosen.lhs, chosen.rhs, chosen.result),
+        Err(refused) => refused.to_string(),
+    }
 }
 
 #[test]
-fn lists_convert_whole_or_not_at_all() {
-    for (words, made) in [
-        ("", "none; ; "),
-        ("AbstractInt bool", "none; none; none"),
-        ("AbstractInt f16 AbstractFloat", "f16 f16 f16 ; none; none"),
-        ("struct E 0 struct E 0", "E E ; none; none"),
-        ("array 2 ref function read i32 array 2 i32", "array<i32, 2> array<i32, 2> ; none; none"),
-        ("AbstractInt f32", "f32 f32 ; f32 f32 ; f32 f32 "),
-        ("vec 2 AbstractInt AbstractFloat", "none; none; vec2<f32> f32 "),
-    ] {
-        let values = types(words);
-        let together = listed(convert_all(&values));
-        let whole = listed(convert_all_to(&values, &Type::F32));
-        let inside = listed(convert_all_inner_to(&values, &Type::F32));
-        assert_eq!(format!("{together}; {whole}; {inside}"), made, "of `{words}`");
+fn types_convert_as_the_table_says() {
+    for [asked, words, answer] in rows("tables/conversions.tsv") {
+        let types = types(&words);
+        let found = match (&*asked, &types[..]) {
+            ("concrete", [ty]) => {
+                assert_eq!(Convert::concretize(ty), Some(Type::concretize(ty)), "of `{words}`");
+                ty.concretize().to_string()
+            }
+            ("to", [a, b]) => {
+                format!("{}; {}", spelled(a.convert_to(b)), spelled(a.convert_inner_to(b)))
+            }
+            ("both", [a, b]) => format!("{}; {}", both(convert(a, b)), both(convert_inner(a, b))),
+            ("all", _) => {
+                let lists = [
+                    convert_all(&types),
+                    convert_all_to(&types, &Type::F32),
+                    convert_all_inner_to(&types, &Type::F32),
+                ];
+                lists.map(listed).join("; ")
+            }
+            (operator, [lhs, rhs]) => candidate(operator, lhs, rhs),
+            _ => panic!("{asked} of `{words}`"),
+        };
+        assert_eq!(found, answer, "{asked} of `{words}`");
     }
 }
 
@@ -152,36 +118,6 @@ fn result_structs_convert_to_those_of_their_function_and_shape() {
             let request = format!("rank {from_words} {to_words}");
             assert_eq!(answer(&request).as_deref(), Ok(rank), "{request}");
         }
-    }
-}
-
-#[test]
-fn candidates_say_what_the_operands_convert_to() {
-    for (operator, operands, candidate) in [
-        (
-            BinaryOperator::Addition,
-            "AbstractInt AbstractFloat",
-            "(AbstractFloat, AbstractFloat) AbstractFloat",
-        ),
-        (BinaryOperator::Addition, "AbstractInt vec 3 f32", "(f32, vec3<f32>) vec3<f32>"),
-        (BinaryOperator::ShiftLeft, "AbstractInt AbstractInt", "(AbstractInt, u32) AbstractInt"),
-        (
-            BinaryOperator::Multiplication,
-            "mat 2 3 AbstractFloat vec 2 f16",
-            "(mat2x3<f16>, vec2<f16>) vec3<f16>",
-        ),
-        (
-            BinaryOperator::Addition,
-            "bool i32",
-            "cannot use binary operator `+` with operands `bool` and `i32`",
-        ),
-    ] {
-        let (lhs, rhs) = two_types(operands);
-        let found = match binary_candidate(operator, &lhs, &rhs) {
-            Ok(chosen) => format!("({}, {}) {}", chosen.lhs, chosen.rhs, chosen.result),
-            Err(refused) => refused.to_string(),
-        };
-        assert_eq!(found, candidate, "of `{operands}`");
     }
 }
 

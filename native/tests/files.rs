@@ -1,8 +1,10 @@
 //! WGSL files are read by WGSL's grammar: what it refuses is an error where it stops, and there is no other error of that kind.
 
 mod random;
+mod tables;
 
 use random::Random;
+use tables::rows;
 use wgsl_types_proved::reader::{expected_at, read_module, tokens, Kind, Misread, Token};
 use wgsl_types_proved::source::layouts;
 
@@ -74,32 +76,19 @@ fn check(texts: impl IntoIterator<Item = String>) {
     assert!(wrong.is_empty(), "{} texts: {shown:#?}", wrong.len());
 }
 
-fn rows(name: &str) -> Vec<(String, String)> {
-    let rows = std::fs::read_to_string(format!("tests/grammar/{name}.txt")).unwrap();
-    let parted = rows.lines().filter_map(|row| row.split_once('\t'));
-    parted.map(|(one, other)| (one.to_string(), other.to_string())).collect()
-}
-
-/// The texts that a browser's compiler reads or refuses.
-fn texts() -> Vec<(String, String)> {
-    let unescaped =
-        |quoted: &str| quoted[1..quoted.len() - 1].replace("\\n", "\n").replace("\\t", "\t");
-    rows("texts").into_iter().map(|(verdict, text)| (verdict, unescaped(&text))).collect()
-}
-
 #[test]
 fn texts_are_read_or_refused() {
-    let texts = texts();
+    let texts = rows("grammar/texts.txt");
     assert!(texts.len() > 2500);
-    for (verdict, text) in texts {
+    for [verdict, text] in texts {
         assert_eq!(told_of_file(&text).is_empty(), verdict == "read", "{text}");
     }
 }
 
 #[test]
 fn errors_stand_where_the_grammar_stops() {
-    check(texts().into_iter().map(|row| row.1));
-    check(rows("events").into_iter().map(|row| row.0));
+    check(rows("grammar/texts.txt").into_iter().map(|[_, text]| text));
+    check(rows("grammar/events.txt").into_iter().map(|[text, _]| text));
     check(["const a = 1; // $\nalias /* # */ T = f32; /* /* */", "const a = $;"].map(String::from));
 }
 

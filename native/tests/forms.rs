@@ -2,6 +2,7 @@
 //! the file that the variable `QUESTIONS` names, has its answer.
 
 mod asked;
+mod tables;
 
 use asked::Asked;
 use std::{env, fs};
@@ -233,48 +234,32 @@ fn variant(refusal: &Refusal) -> String {
     }
 }
 
+/// The types of a list of texts.
+fn types(texts: &str) -> Vec<Type> {
+    let texts = texts.split("; ").filter(|text| !text.is_empty());
+    texts.map(|text| text.parse().expect(text)).collect()
+}
+
 /// A refused list names the value to blame, and none if it is no value's fault.
 #[test]
 fn misfits() {
-    let types = |texts: &str| -> Vec<Type> {
-        texts
-            .split("; ")
-            .filter(|text| !text.is_empty())
-            .map(|text| text.parse().unwrap())
-            .collect()
-    };
+    let s = Type::from(StructType::new("S", [("a", Type::F32), ("b", Type::U32)]));
     let operands =
         |texts: &str| types(texts).into_iter().map(Operand::constant).collect::<Vec<_>>();
-    let index = |found: Result<Operand, Misfit>| found.unwrap_err().index;
-    let fitted = |values, parameters| fit(&operands(values), &types(parameters)).unwrap_err().index;
-    assert_eq!(fitted("i32; f32; i32", "i32; i32; i32"), Some(1));
-    assert_eq!(fitted("i32; u32; ref<private, i32, write>", "i32; u32; i32"), Some(2));
-    assert_eq!(fitted("i32; u32", "f32; AbstractInt"), Some(1));
-    assert_eq!(fitted("i32; u32", "i32"), None);
-
-    let s = Type::from(StructType::new("S", [("a", Type::F32), ("b", Type::U32)]));
-    assert_eq!(index(construct_struct(&s, &operands("AbstractInt; i32"))), Some(1));
-    assert_eq!(index(construct_struct(&s, &operands("f32"))), None);
-    assert_eq!(index(construct_struct(&Type::F32, &operands("f32"))), None);
-
-    for (values, blamed) in [
-        ("i32; i32; u32; i32; u32", Some(2)),
-        ("i32; u32; ref<private, i32, write>", Some(2)),
-        ("f32; AbstractInt; ptr<private, f32>", Some(2)),
-        ("u32; AbstractFloat", Some(1)),
-        ("", None),
-    ] {
-        assert_eq!(index(construct_array(&operands(values))), blamed, "{values}");
+    for [asked, values, others, blamed] in tables::rows("tables/misfits.tsv") {
+        let of = operands(&values);
+        let misfit = match &*asked {
+            "fit" => fit(&of, &types(&others)).unwrap_err(),
+            "struct" => construct_struct(&s, &of).unwrap_err(),
+            "scalar" => construct_struct(&Type::F32, &of).unwrap_err(),
+            "array" => construct_array(&of).unwrap_err(),
+            "three floats" => construct_array_of(&Type::F32, Some(3), &of).unwrap_err(),
+            "switch" => switch_type(&of[0], &operands(&others)).unwrap_err(),
+            _ => panic!("{asked}"),
+        };
+        let index = misfit.index.map_or("none".to_string(), |index| index.to_string());
+        assert_eq!(index, blamed, "{asked} of `{values}`, `{others}`");
     }
-    let of = |values| index(construct_array_of(&Type::F32, Some(3), &operands(values)));
-    assert_eq!((of("f32; AbstractInt; i32"), of("f32; i32")), (Some(2), None));
-
-    let switched =
-        |selector, cases| switch_type(&operands(selector)[0], &operands(cases)).unwrap_err().index;
-    assert_eq!(switched("f32", "i32"), None);
-    assert_eq!(switched("i32", "i32; AbstractInt; u32; u32"), Some(2));
-    assert_eq!(switched("AbstractInt", "i32; u32"), Some(1));
-    assert_eq!(switched("i32", "u32; f32"), Some(1));
     let cases = [Operand::constant(Type::I32), Operand::new(Type::I32), Operand::new(Type::I32)];
     assert_eq!(switch_type(&cases[0], &cases).unwrap_err().index, Some(1));
 }

@@ -2,8 +2,9 @@
 
 use std::thread;
 use wgsl_types_proved::builtin::{is_ctor, type_ctor};
+use wgsl_types_proved::module::check;
 use wgsl_types_proved::requests::{answer, standard_answer, Error};
-use wgsl_types_proved::source::{layouts, types};
+use wgsl_types_proved::source::{code, layouts, types, Language};
 use wgsl_types_proved::standard::overloads;
 use wgsl_types_proved::syntax::{BinaryOperator, Enumerant};
 use wgsl_types_proved::Type;
@@ -23,13 +24,18 @@ fn read(repeated: &str) {
     let refused = text.parse::<Type>().unwrap_err();
     assert!(refused.message.len() < MESSAGE, "{repeated}: {}", refused.message.len());
     for head in ["alias A = ", "const a = ", "struct S { a: ", "fn f() { "] {
-        let module = layouts(format!("{head}{text}"));
+        let file = format!("{head}{text}");
+        let module = layouts(&file);
         assert!(!module.errors.is_empty() || head == "fn f() { ", "{head}{repeated}");
-        assert!(types(&format!("{head}{text}")).is_empty(), "{head}{repeated}");
+        assert!(types(&file).is_empty(), "{head}{repeated}");
         for message in module.errors.iter().chain(&module.findings) {
             assert!(message.text.len() < MESSAGE, "{head}{repeated}: {}", message.text.len());
         }
     }
+    for fault in check(&format!("fn f() {{ {text}")).faults {
+        assert!(fault.message.len() < MESSAGE, "{repeated}: {}", fault.message.len());
+    }
+    assert!(code(format!("struct S {{ a: {text}"), Language::C).is_err(), "{repeated}");
     assert!(matches!(answer(&text), Err(Error::Unreadable(_))), "{repeated}");
     assert!(
         matches!(standard_answer(&format!("type {text}")), Err(Error::Unreadable(_))),

@@ -1,7 +1,10 @@
 //! Names read and printed, and what texel formats and textures answer.
 
+mod tables;
+
 use std::fmt::{Debug, Display};
 use std::str::FromStr;
+use tables::rows;
 use wgsl_types_proved::builtin::{find_call, is_ctor};
 use wgsl_types_proved::syntax::{
     AccessMode, AddressSpace, AssignmentOperator, BuiltinValue, ConservativeDepth,
@@ -10,164 +13,52 @@ use wgsl_types_proved::syntax::{
 };
 use wgsl_types_proved::ty::{TextureDimensions, TextureType};
 
-/// Each value is printed as its text.
-fn expect_printed<T: Display>(rows: &[(T, &str)]) {
-    for (value, text) in rows {
-        assert_eq!(value.to_string(), *text);
+/// The value that a text names, as Rust names it, with its own text.
+fn value<T: FromStr<Err = ()> + Display + Debug>(text: &str) -> [String; 2] {
+    let value: T = text.parse().expect(text);
+    [format!("{value:?}"), value.to_string()]
+}
+
+#[test]
+fn each_name_is_read_and_printed() {
+    for [ty, name, text] in rows("tables/names.tsv") {
+        let found = match &*ty {
+            "TexelFormat" => value::<TexelFormat>(&text),
+            "BuiltinValue" => value::<BuiltinValue>(&text),
+            "DiagnosticSeverity" => value::<DiagnosticSeverity>(&text),
+            "InterpolationType" => value::<InterpolationType>(&text),
+            "InterpolationSampling" => value::<InterpolationSampling>(&text),
+            "ConservativeDepth" => value::<ConservativeDepth>(&text),
+            "AssignmentOperator" => value::<AssignmentOperator>(&text),
+            "AddressSpace" => value::<AddressSpace>(&text),
+            "Enumerant" => value::<Enumerant>(&text),
+            _ => panic!("{ty}"),
+        };
+        assert_eq!(found, [name, text], "{ty}");
     }
-}
-
-/// Each text is read as its value, and the value is printed as the text.
-fn expect_named<T: FromStr<Err = ()> + Display + PartialEq + Debug>(rows: &[(T, &str)]) {
-    for (value, text) in rows {
-        assert_eq!(text.parse::<T>().as_ref(), Ok(value), "of `{text}`");
-    }
-    expect_printed(rows);
-}
-
-const FORMATS: [(TexelFormat, &str); 41] = [
-    (TexelFormat::Rgba8Unorm, "rgba8unorm"),
-    (TexelFormat::Rgba8Snorm, "rgba8snorm"),
-    (TexelFormat::Rgba8Uint, "rgba8uint"),
-    (TexelFormat::Rgba8Sint, "rgba8sint"),
-    (TexelFormat::R8Unorm, "r8unorm"),
-    (TexelFormat::R8Snorm, "r8snorm"),
-    (TexelFormat::R8Uint, "r8uint"),
-    (TexelFormat::R8Sint, "r8sint"),
-    (TexelFormat::Rg8Unorm, "rg8unorm"),
-    (TexelFormat::Rg8Snorm, "rg8snorm"),
-    (TexelFormat::Rg8Uint, "rg8uint"),
-    (TexelFormat::Rg8Sint, "rg8sint"),
-    (TexelFormat::Rgba16Unorm, "rgba16unorm"),
-    (TexelFormat::Rgba16Snorm, "rgba16snorm"),
-    (TexelFormat::Rgba16Uint, "rgba16uint"),
-    (TexelFormat::Rgba16Sint, "rgba16sint"),
-    (TexelFormat::Rgba16Float, "rgba16float"),
-    (TexelFormat::R16Unorm, "r16unorm"),
-    (TexelFormat::R16Snorm, "r16snorm"),
-    (TexelFormat::R16Uint, "r16uint"),
-    (TexelFormat::R16Sint, "r16sint"),
-    (TexelFormat::R16Float, "r16float"),
-    (TexelFormat::Rg16Unorm, "rg16unorm"),
-    (TexelFormat::Rg16Snorm, "rg16snorm"),
-    (TexelFormat::Rg16Uint, "rg16uint"),
-    (TexelFormat::Rg16Sint, "rg16sint"),
-    (TexelFormat::Rg16Float, "rg16float"),
-    (TexelFormat::R32Uint, "r32uint"),
-    (TexelFormat::R32Sint, "r32sint"),
-    (TexelFormat::R32Float, "r32float"),
-    (TexelFormat::Rg32Uint, "rg32uint"),
-    (TexelFormat::Rg32Sint, "rg32sint"),
-    (TexelFormat::Rg32Float, "rg32float"),
-    (TexelFormat::Rgba32Uint, "rgba32uint"),
-    (TexelFormat::Rgba32Sint, "rgba32sint"),
-    (TexelFormat::Rgba32Float, "rgba32float"),
-    (TexelFormat::Bgra8Unorm, "bgra8unorm"),
-    (TexelFormat::Rgb10a2Uint, "rgb10a2uint"),
-    (TexelFormat::Rgb10a2Unorm, "rgb10a2unorm"),
-    (TexelFormat::Rg11b10Float, "rg11b10float"),
-    (TexelFormat::R64Uint, "r64uint"),
-];
-
-#[test]
-fn every_texel_format_is_read_and_printed() {
-    expect_named(&FORMATS);
-}
-
-#[test]
-fn every_builtin_value_is_read_and_printed() {
-    expect_named(&[
-        (BuiltinValue::VertexIndex, "vertex_index"),
-        (BuiltinValue::InstanceIndex, "instance_index"),
-        (BuiltinValue::ClipDistances, "clip_distances"),
-        (BuiltinValue::Position, "position"),
-        (BuiltinValue::FrontFacing, "front_facing"),
-        (BuiltinValue::FragDepth, "frag_depth"),
-        (BuiltinValue::SampleIndex, "sample_index"),
-        (BuiltinValue::SampleMask, "sample_mask"),
-        (BuiltinValue::LocalInvocationId, "local_invocation_id"),
-        (BuiltinValue::LocalInvocationIndex, "local_invocation_index"),
-        (BuiltinValue::GlobalInvocationId, "global_invocation_id"),
-        (BuiltinValue::WorkgroupId, "workgroup_id"),
-        (BuiltinValue::NumWorkgroups, "num_workgroups"),
-        (BuiltinValue::SubgroupInvocationId, "subgroup_invocation_id"),
-        (BuiltinValue::SubgroupSize, "subgroup_size"),
-        (BuiltinValue::SubgroupId, "subgroup_id"),
-        (BuiltinValue::NumSubgroups, "num_subgroups"),
-        (BuiltinValue::PrimitiveIndex, "primitive_index"),
-        (BuiltinValue::ViewIndex, "view_index"),
-    ]);
-}
-
-#[test]
-fn severities_interpolations_and_depths_are_read_and_printed() {
-    expect_named(&[
-        (DiagnosticSeverity::Error, "error"),
-        (DiagnosticSeverity::Warning, "warning"),
-        (DiagnosticSeverity::Info, "info"),
-        (DiagnosticSeverity::Off, "off"),
-    ]);
-    expect_named(&[
-        (InterpolationType::Perspective, "perspective"),
-        (InterpolationType::Linear, "linear"),
-        (InterpolationType::Flat, "flat"),
-    ]);
-    expect_named(&[
-        (InterpolationSampling::Center, "center"),
-        (InterpolationSampling::Centroid, "centroid"),
-        (InterpolationSampling::Sample, "sample"),
-        (InterpolationSampling::First, "first"),
-        (InterpolationSampling::Either, "either"),
-    ]);
-    expect_named(&[
-        (ConservativeDepth::GreaterEqual, "greater_equal"),
-        (ConservativeDepth::LessEqual, "less_equal"),
-        (ConservativeDepth::Unchanged, "unchanged"),
-    ]);
-}
-
-#[test]
-fn assignment_operators_are_printed() {
-    expect_printed(&[
-        (AssignmentOperator::Equal, "="),
-        (AssignmentOperator::PlusEqual, "+="),
-        (AssignmentOperator::MinusEqual, "-="),
-        (AssignmentOperator::TimesEqual, "*="),
-        (AssignmentOperator::DivisionEqual, "/="),
-        (AssignmentOperator::ModuloEqual, "%="),
-        (AssignmentOperator::AndEqual, "&="),
-        (AssignmentOperator::OrEqual, "|="),
-        (AssignmentOperator::XorEqual, "^="),
-        (AssignmentOperator::ShiftRightAssign, ">>="),
-        (AssignmentOperator::ShiftLeftAssign, "<<="),
-    ]);
-}
-
-#[test]
-fn an_enumerant_is_an_access_mode_before_all_else() {
-    expect_named(&[
-        (Enumerant::AccessMode(AccessMode::Atomic), "atomic"),
-        (Enumerant::AddressSpace(AddressSpace::Storage), "storage"),
-        (Enumerant::TexelFormat(TexelFormat::R8Unorm), "r8unorm"),
-    ]);
-    assert_eq!("handle".parse::<Enumerant>(), Err(()));
 }
 
 #[test]
 fn handle_is_printed_and_not_read() {
     assert_eq!("handle".parse::<AddressSpace>(), Err(()));
-    expect_printed(&[(AddressSpace::Handle, "handle")]);
+    assert_eq!("handle".parse::<Enumerant>(), Err(()));
+    assert_eq!("Greater_equal".parse::<ConservativeDepth>(), Err(()));
+    assert_eq!(AddressSpace::Handle.to_string(), "handle");
 }
 
 #[test]
 fn texel_formats_tell_their_channels() {
-    for (format, name) in FORMATS {
+    let mut formats = rows::<3>("tables/names.tsv");
+    formats.retain(|[ty, ..]| ty == "TexelFormat");
+    assert_eq!(formats.len(), 41);
+    for [_, _, name] in &formats {
+        let format: TexelFormat = name.parse().unwrap();
         let of_type = match name {
             _ if name.ends_with("uint") => SampledType::U32,
             _ if name.ends_with("sint") => SampledType::I32,
             _ => SampledType::F32,
         };
-        let count = match name {
+        let count = match name.as_str() {
             "rg11b10float" => 3,
             _ if name.starts_with("rgb") || name.starts_with("bgra") => 4,
             _ if name.starts_with("rg") => 2,
@@ -183,6 +74,8 @@ fn textures_answer_their_queries() {
     let arrayed = TextureType::Multisampled2DArray(SampledType::F32);
     assert_eq!(plain.sampled_type(), None);
     assert_eq!(arrayed.sampled_type(), Some(SampledType::F32));
+    let sampled = TextureType::Sampled2D(SampledType::I32);
+    assert_eq!(sampled.sampled_type(), Some(SampledType::I32));
     let stored = TextureType::Storage3D(TexelFormat::R32Sint, AccessMode::Read);
     assert_eq!(stored.dimensions(), TextureDimensions::D3);
     assert!(!stored.is_arrayed());
@@ -201,9 +94,7 @@ fn constructors_are_known_by_their_names() {
     for name in names.split(' ') {
         assert!(is_ctor(name), "{name}");
     }
-    let others =
-        ["", "vec1", "vec5", "mat1x2", "mat5x2", "AbstractInt", "vec2f", "Array", "atomic"];
-    for name in others {
+    for name in ",vec,vec1,vec5,mat1x2,mat5x2,AbstractInt,abs,vec2f,Array,atomic".split(',') {
         assert!(!is_ctor(name), "{name}");
     }
 }

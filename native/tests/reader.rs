@@ -1,14 +1,11 @@
 //! WGSL's grammar: each text of `tests/grammar/texts.txt` is read or refused as it says, and each of `events.txt` gives the
 //! events there; no word of `kept_words.txt` is a name.
 
-use std::fs;
+mod tables;
+
 use wgsl_types_proved::reader::{
     expected_at, meant_at, read, read_module, tokens, Kind, Misread, Rule,
 };
-
-fn facts(name: &str) -> String {
-    fs::read_to_string(format!("tests/grammar/{name}.txt")).unwrap()
-}
 
 fn is_read(text: &str) -> bool {
     tokens(text).is_ok_and(|tokens| read_module(&tokens).1.is_empty())
@@ -16,22 +13,17 @@ fn is_read(text: &str) -> bool {
 
 #[test]
 fn texts_are_read_or_refused() {
-    let facts = facts("texts");
-    let mut wrong = Vec::new();
-    for (expected, quoted) in facts.lines().filter_map(|row| row.split_once('\t')) {
-        let text = quoted[1..quoted.len() - 1].replace("\\n", "\n").replace("\\t", "\t");
-        if is_read(&text) != (expected == "read") {
-            wrong.push(format!("{expected}: {text}"));
-        }
-    }
-    assert!(wrong.is_empty(), "{} of {}: {wrong:#?}", wrong.len(), facts.lines().count());
+    let rows = tables::rows::<2>("grammar/texts.txt");
+    let wrong: Vec<_> =
+        rows.iter().filter(|[verdict, text]| is_read(text) != (verdict == "read")).collect();
+    assert!(wrong.is_empty(), "{} of {}: {wrong:#?}", wrong.len(), rows.len());
 }
 
 /// `Name@2`: noted behind two tokens. `Declaration:0-3`: one from the first token on, misread at the fourth.
 #[test]
 fn events_are_noted() {
-    for (text, expected) in facts("events").lines().filter_map(|row| row.split_once('\t')) {
-        let (events, misread) = read_module(&tokens(text).unwrap());
+    for [text, expected] in tables::rows("grammar/events.txt") {
+        let (events, misread) = read_module(&tokens(&text).unwrap());
         let events = events.iter().map(|event| format!("{:?}@{}", event.mark, event.at));
         let misread = misread.iter().map(|m| format!("{:?}:{}-{}", m.rule, m.from, m.at));
         assert_eq!(events.chain(misread).collect::<Vec<_>>().join(" "), expected, "{text}");
@@ -64,7 +56,7 @@ fn constant_operands_are_read() {
 
 #[test]
 fn kept_words_are_no_names() {
-    let kept = facts("kept_words");
+    let kept = std::fs::read_to_string("tests/grammar/kept_words.txt").unwrap();
     for word in kept.split_whitespace().chain(["_", "__", "__a", "__é"]) {
         for text in ["const # = 1;", "struct S { #: f32 }", "fn #() {}", "const a = b.#;"] {
             assert!(!is_read(&text.replace('#', word)), "{text} with {word}");
@@ -180,73 +172,20 @@ fn nested_texts_end() {
 
 #[test]
 fn what_may_stand_is_said() {
-    let expected = [
-        ("const a = 1 + ;", "expected an expression"),
-        ("const a = b c;", "expected `;` or an operator"),
-        ("const a = (1;", "expected `)` or an operator"),
-        ("const a = vec3<f32>(1;", "expected `)`, `,` or an operator"),
-        ("fn f { }", "expected `(`"),
-        ("enable ;", "expected a name"),
-        ("struct S {}", "expected a name or an attribute"),
-        ("struct S { a: f32; }", "expected `}`, `<` or `,`"),
-        ("fn f() { 1 = 2; }", "expected `}` or a statement"),
-        ("fn f() { a }", "expected `(`, `[`, `<`, `.` or an assignment"),
-        ("fn f() { return", "expected `;` or an expression"),
-        ("let a = 1;", "expected a declaration"),
-    ];
-    for (text, message) in expected {
-        let tokens = tokens(text).unwrap();
+    for [text, message] in tables::rows("grammar/expected.txt") {
+        let tokens = tokens(&text).unwrap();
         let misread = read_module(&tokens).1;
-        assert_eq!((misread.len(), &*expected_at(&misread[0], &tokens)), (1, message), "{text}");
+        assert_eq!((misread.len(), expected_at(&misread[0], &tokens)), (1, message), "{text}");
     }
 }
 
-/// A text, the word in it, and the keyword.
 #[test]
 fn misspelled_keywords_are_told() {
-    for (text, word, keyword) in [
-        ("fn f() { retrun x; }", "retrun", "return"),
-        ("fn f() { retrun -x; }", "retrun", "return"),
-        ("fn f() { retrun; }", "retrun", "return"),
-        ("strcut S { }", "strcut", "struct"),
-        ("Struct S { a: f32 }", "Struct", "struct"),
-        ("cosnt a = 1;", "cosnt", "const"),
-        ("fun f() { }", "fun", "fn"),
-        ("enabel f16;", "enabel", "enable"),
-        ("require a;", "require", "requires"),
-        ("const a = 1; @id(1) overide b: f32;", "overide", "override"),
-        ("fn f() { a = 1; fro (;;) { } }", "fro", "for"),
-        ("fn f() { for (;;) { } fro (var i = 0; i < 9; i++) { } }", "fro", "for"),
-        ("fn f() { cosnt a = 1; }", "cosnt", "const"),
-        ("fn f() { lte x = 1; }", "lte", "let"),
-        ("fn f() { if a { } esle { } }", "esle", "else"),
-        ("fn f() { whlie a { } }", "whlie", "while"),
-        ("fn f() { @a whlie a { } }", "whlie", "while"),
-        ("fn f() { swtich a { default { } } }", "swtich", "switch"),
-        ("fn f() { switch a { csae 1 { } } }", "csae", "case"),
-        ("fn f() { switch a { default { } } loop { contniuing { } } }", "contniuing", "continuing"),
-        ("fn f() { dicsard; }", "dicsard", "discard"),
-    ] {
-        let tokens = tokens(text).unwrap();
-        let (index, meant) = meant_at(&read_module(&tokens).1[0], &tokens, text).expect(text);
-        assert_eq!((tokens[index].text(text), meant), (word, keyword), "{text}");
-    }
-    for text in [
-        "lte x = 1;",
-        "let x = 1;",
-        "retrun x;",
-        "strcut;",
-        "fn f() { a b; }",
-        "fn f() { return x y; }",
-        "fn f() { color x; }",
-        "fn f() { four(i) { } }",
-        "fn f() { brek if x; }",
-        "fn f() { retrun",
-        "const a = b esle c;",
-        "fn f() { const a = retrun x; }",
-    ] {
-        let tokens = tokens(text).unwrap();
-        assert_eq!(meant_at(&read_module(&tokens).1[0], &tokens, text), None, "{text}");
+    for [text, word, keyword] in tables::rows("grammar/misspelled.txt") {
+        let tokens = tokens(&text).unwrap();
+        let found = meant_at(&read_module(&tokens).1[0], &tokens, &text);
+        let told = found.map_or(("-", "-"), |(index, meant)| (tokens[index].text(&text), meant));
+        assert_eq!(told, (&*word, &*keyword), "{text}");
     }
     let text = "dicsard;";
     for (from, at, meant) in

@@ -1,31 +1,17 @@
 //! How a run goes on or ends if reads and writes are short, are interrupted or fail, and if the input ends after any byte;
 //! and the status of each outcome.
 
+mod tables;
+
 use std::io::{self, ErrorKind, Read, Write};
+use std::sync::LazyLock;
 use wgsl_types_proved::programs::{run, status, RunError};
 
 /// More bytes than a test reads or writes.
 const WHOLE: usize = 1 << 20;
 
 /// A line of every command, a blank one and one that can't be read, each with what is printed for it.
-const LINES: [(&str, &str); 13] = [
-    ("rank AbstractInt f16\n", "7\n"),
-    ("common i32 AbstractInt\n", "i32\n"),
-    ("unary ! bool\n", "bool\n"),
-    ("binary * AbstractInt vec 2 f32\n", "vec2<f32>\n"),
-    ("binary + bool i32\n", "cannot use binary operator `+` with operands `bool` and `i32`\n"),
-    ("size vec 3 f16\n", "6 8\n"),
-    ("\n", ""),
-    ("offsets struct S 2 a - - f32 b - - vec 2 f32\n", "0 8\n"),
-    (
-        "layout struct S 1 a - - vec 2 f32\n",
-        "         0          8          8 a vec2<f32>\n         8          -          8 S\n",
-    ),
-    ("ctor vec2 - f32 f32\n", "vec2<f32>\n"),
-    ("no command\n", "bad line 11\n"),
-    ("call max - f32 AbstractFloat\n", "f32\n"),
-    ("call storageBarrier -\n", "no value\n"),
-];
+static LINES: LazyLock<Vec<[String; 2]>> = LazyLock::new(|| tables::rows("tables/run.tsv"));
 
 /// A call that fails after that many, and how.
 #[derive(Clone, Copy)]
@@ -106,12 +92,12 @@ fn interrupted(after: usize) -> Option<Fault> {
 }
 
 fn input() -> String {
-    LINES.iter().map(|(line, _)| *line).collect()
+    LINES.iter().map(|[line, _]| line.as_str()).collect()
 }
 
 /// What is printed for the first lines.
 fn answers(lines: usize) -> String {
-    LINES.iter().take(lines).map(|(_, answer)| *answer).collect()
+    LINES.iter().take(lines).map(|[_, answer]| answer.as_str()).collect()
 }
 
 fn lines_in(input: &[u8]) -> usize {

@@ -1,6 +1,7 @@
 //! Types from their spellings, and the layouts of a file.
 
 mod random;
+mod tables;
 
 use random::Random;
 use wgsl_types_proved::source::{
@@ -37,32 +38,6 @@ fn is_spelled(ty: &Type) -> bool {
         }
         Type::Atomic(inner) | Type::Ptr(_, inner, _) | Type::Ref(_, inner, _) => is_spelled(inner),
         _ => true,
-    }
-}
-
-#[test]
-fn another_spelling_is_read() {
-    for (other, text) in [
-        ("vec3f", "vec3<f32>"),
-        ("mat4x2h", "mat4x2<f16>"),
-        ("vec2u", "vec2<u32>"),
-        ("ptr<function, i32>", "ptr<function, i32, read_write>"),
-        ("ptr<uniform, i32>", "ptr<uniform, i32, read>"),
-    ] {
-        assert_eq!(other.parse::<Type>().unwrap(), text.parse().unwrap());
-    }
-    assert!("vec5f".parse::<Type>().is_err());
-}
-
-#[test]
-fn what_is_no_spelling_has_a_place() {
-    for (text, offset) in
-        [("", 0), ("vec3<float>", 5), ("array<f32, 4", 5), ("S", 0), ("f32 f32", 4)]
-    {
-        let error = text.parse::<Type>().unwrap_err();
-        assert_eq!(error.offset, offset, "{text}: {error}");
-        assert_eq!(error.to_string(), format!("column {}: {}", offset + 1, error.message));
-        assert!(!error.message.is_empty());
     }
 }
 
@@ -139,42 +114,14 @@ fn variables_and_findings_are_told() {
     assert!(text.contains("stride 4"), "{text}");
 }
 
-/// Declarations, and whether a browser's compiler takes them. Functions aren't read, so the types of pointers that were asked as
-/// their parameters stand in aliases.
-const SPACES: [(&str, bool); 25] = [
-    ("var<uniform, read> x: i32;", false),
-    ("var<private, read_write> x: i32;", false),
-    ("var<workgroup, read_write> x: i32;", false),
-    ("alias P = ptr<uniform, i32, read>;", false),
-    ("alias P = ptr<private, i32, read_write>;", false),
-    ("alias P = ptr<function, i32, read_write>;", false),
-    ("alias P = ptr<storage, i32, read>;", true),
-    ("alias P = ptr<storage, i32>;", true),
-    ("@group(0) @binding(0) var<storage, read> x: i32;", true),
-    ("@group(0) @binding(0) var<storage, write> x: i32;", false),
-    ("var<immediate> x: u32;", true),
-    ("var<immediate> x: vec4f;", true),
-    ("var<immediate> x: mat4x4f;", true),
-    ("struct S { a: u32 } var<immediate> x: S;", true),
-    ("var<immediate> x: array<u32, 2>;", false),
-    ("struct S { a: array<u32, 2> } var<immediate> x: S;", false),
-    ("var<immediate> x: bool;", false),
-    ("var<immediate> x: atomic<u32>;", false),
-    ("enable f16; var<immediate> x: f16;", true),
-    ("var<immediate> x: u32 = 1;", false),
-    ("@group(0) @binding(0) var<immediate> x: u32;", false),
-    ("var<immediate, read> x: u32;", false),
-    ("var<immediate> x: u32; alias P = ptr<immediate, u32>; fn f() { let a = g(&x); }", true),
-    ("var<immediate> x: u32; var<immediate> y: u32; fn f() { let a = x + y; }", true),
-    ("var<push_constant> x: u32;", false),
-];
-
 #[test]
 fn address_spaces_hold_what_browsers_let_them_hold() {
-    for (text, is_taken) in SPACES {
-        let module = layouts(text);
+    let rows = tables::rows::<2>("tables/spaces.tsv");
+    assert_eq!(rows.len(), 25);
+    for [verdict, text] in rows {
+        let module = layouts(&text);
         let told: Vec<&Message> = module.errors.iter().chain(&module.findings).collect();
-        assert_eq!(told.is_empty(), is_taken, "{text}: {told:?}");
+        assert_eq!(told.is_empty(), verdict == "taken", "{text}: {told:?}");
         assert!(told.len() < 2, "{text}: {told:?}");
     }
     let array = layouts("struct S { a: array<u32, 2> } var<immediate> x: S;");

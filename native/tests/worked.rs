@@ -2,7 +2,7 @@
 
 use std::thread;
 use wgsl_types_proved::builtin::{
-    binary_candidate, is_ctor, type_builtin_fn, type_ctor, typecheck_struct_ctor,
+    binary_candidate, type_builtin_fn, type_ctor, typecheck_struct_ctor,
 };
 use wgsl_types_proved::conv::{conversion_rank, Convert};
 use wgsl_types_proved::conv::{
@@ -11,13 +11,9 @@ use wgsl_types_proved::conv::{
 use wgsl_types_proved::inst::LiteralInstance;
 use wgsl_types_proved::mem::{PlacedMember, StructLayout};
 use wgsl_types_proved::syntax::{
-    AccessMode, AddressSpace, BinaryOperator, Enumerant, SampledType, TexelFormat, UnaryOperator,
+    AccessMode, AddressSpace, BinaryOperator, Enumerant, TexelFormat, UnaryOperator,
 };
-use wgsl_types_proved::tplt::{
-    ArrayTemplate, AtomicTemplate, BindingArrayTemplate, BitcastTemplate, MatTemplate,
-};
-use wgsl_types_proved::tplt::{PtrTemplate, TextureTemplate, TpltParam, VecTemplate};
-use wgsl_types_proved::ty::{SamplerType, StructType, TextureType, Ty, MAX_DEPTH};
+use wgsl_types_proved::ty::{SamplerType, StructType, MAX_DEPTH};
 use wgsl_types_proved::{CallSignature, Error, Instance, Type};
 use Type::{AbstractFloat, AbstractInt, Bool, F16, F32, I32, U32};
 
@@ -144,11 +140,6 @@ fn constructors() {
     );
     let signature = CallSignature { name: "vec5".to_string(), tplt: None, args: vec![] };
     assert_eq!(type_ctor("vec5", None, &[]), Err(Error::Signature(signature)));
-    let names = "array bool i32 u32 f32 f16 i64 u64 f64 vec2 vec3 vec4 mat2x2 mat2x3 mat2x4 mat3x2 mat3x3 mat3x4 mat4x2 mat4x3 mat4x4";
-    assert!(names.split(' ').all(is_ctor));
-    assert!(["", "vec", "vec5", "mat5x2", "AbstractInt", "abs", "Array"]
-        .into_iter()
-        .all(|name| !is_ctor(name)));
     let of = StructType::new("S", [("a", F32), ("b", U32)]);
     assert_eq!(typecheck_struct_ctor(&of, &[]), Ok(()));
     assert_eq!(typecheck_struct_ctor(&of, &[AbstractInt, U32]), Ok(()));
@@ -167,80 +158,6 @@ fn calls() {
         *result,
         StructType::new("__frexp_result_vec2_f32", [("fract", vec2(F32)), ("exp", vec2(I32))])
     );
-}
-
-#[test]
-fn templates() {
-    let ty = |ty| TpltParam::Type(ty);
-    let literal = |literal| TpltParam::Instance(Instance::Literal(literal));
-    let count = [ty(F32), literal(LiteralInstance::I32(3))];
-    assert_eq!(ArrayTemplate::parse(&count), Ok(ArrayTemplate::new(F32, Some(3))));
-    let none = [ty(F32), literal(LiteralInstance::I32(0))];
-    let message = "the array element count must evaluate to a `u32` or a `i32` greater than `0`";
-    assert_eq!(ArrayTemplate::parse(&none), Err(Error::Builtin(message)));
-    assert_eq!(ArrayTemplate::parse(&[]), Err(Error::TemplateArgs("array")));
-    assert_eq!(
-        BindingArrayTemplate::parse(&count).unwrap().ty(),
-        Type::BindingArray(Box::new(F32), Some(3))
-    );
-    assert_eq!(BindingArrayTemplate::parse(&[]), Err(Error::TemplateArgs("binding_array")));
-    assert_eq!(VecTemplate::parse(&[ty(U32)]).unwrap().ty(3), vec3(U32));
-    assert_eq!(
-        VecTemplate::parse(&[ty(AbstractInt)]),
-        Err(Error::Builtin("vector template type must be a scalar"))
-    );
-    assert_eq!(MatTemplate::parse(&[ty(F16)]).unwrap().ty(2, 3), Type::matrix(2, 3, F16));
-    assert_eq!(
-        MatTemplate::parse(&[ty(I32)]),
-        Err(Error::Builtin("matrix template type must be f32 or f16"))
-    );
-    assert_eq!(BitcastTemplate::parse(&[ty(vec2(U32))]).unwrap().inner_ty(), U32);
-    assert_eq!(BitcastTemplate::parse(&[]), Err(Error::TemplateArgs("bitcast")));
-    assert_eq!(AtomicTemplate::parse(&[ty(I32)]).unwrap().ty(), Type::Atomic(Box::new(I32)));
-}
-
-#[test]
-fn templates_of_pointers_and_textures() {
-    let space = |space| TpltParam::Enumerant(Enumerant::AddressSpace(space));
-    let access = |access| TpltParam::Enumerant(Enumerant::AccessMode(access));
-    let of = TpltParam::Type(I32);
-    let pointer = PtrTemplate::parse(&[space(AddressSpace::Storage), of.clone()]).unwrap();
-    assert_eq!(pointer.ty(), Type::Ptr(AddressSpace::Storage, Box::new(I32), AccessMode::Read));
-    let sampler = TpltParam::Type(Type::Sampler(wgsl_types_proved::ty::SamplerType::Sampler));
-    let refused = PtrTemplate::parse(&[space(AddressSpace::PushConstant), sampler]);
-    assert_eq!(refused, Err(Error::Builtin("pointer type must be storable")));
-    assert_eq!(
-        PtrTemplate::parse(&[space(AddressSpace::Handle), of.clone()]),
-        Err(Error::PtrHandle)
-    );
-    let refused = PtrTemplate::parse(&[space(AddressSpace::PushConstant), of.clone()]);
-    assert_eq!(refused, Err(Error::Todo("push_constant".to_string())));
-    let uniform =
-        PtrTemplate::parse(&[space(AddressSpace::Uniform), of.clone(), access(AccessMode::Write)]);
-    assert_eq!(
-        uniform,
-        Err(Error::Builtin("pointer in uniform address space must have a `read` access mode"))
-    );
-    let format = TpltParam::Enumerant(Enumerant::TexelFormat(TexelFormat::Rgba8Unorm));
-    let storage =
-        TextureTemplate::parse("texture_storage_2d", &[format, access(AccessMode::Write)]).unwrap();
-    assert_eq!(storage.ty(), TextureType::Storage2D(TexelFormat::Rgba8Unorm, AccessMode::Write));
-    let sampled = TextureTemplate::parse("texture_2d", &[of]).unwrap();
-    assert_eq!(sampled.ty().sampled_type(), Some(SampledType::I32));
-    assert_eq!(
-        TextureTemplate::parse("texture_2d", &[TpltParam::Type(F16)]),
-        Err(Error::SampledType(F16))
-    );
-}
-
-#[test]
-fn names() {
-    assert_eq!("handle".parse::<AddressSpace>(), Err(()));
-    assert_eq!("push_constant".parse(), Ok(AddressSpace::PushConstant));
-    assert_eq!("read_write".parse(), Ok(Enumerant::AccessMode(AccessMode::ReadWrite)));
-    assert_eq!("r64uint".parse(), Ok(Enumerant::TexelFormat(TexelFormat::R64Uint)));
-    assert_eq!("Greater_equal".parse::<wgsl_types_proved::syntax::ConservativeDepth>(), Err(()));
-    assert_eq!(LiteralInstance::I64(-3).ty(), Type::I64);
 }
 
 fn nested(levels: usize, around: impl Fn(Type) -> Type) -> Type {

@@ -81,16 +81,18 @@ def compare(name, ours, theirs, given):
 
 
 def compare_modules(native):
-    """The layouts of each module of tests/sourced, in each form, and wrong arguments."""
-    paths = sorted(glob.glob(os.path.join(TESTS, "sourced", "*.wgsl")))
-    uses = [[], ["-h"], ["--version"], ["--what"], ["--struct"], ["nowhere.wgsl"]]
-    for path in paths:
-        uses += [[path], ["--json", path], ["--struct", "Scene", path], ["-"]]
+    """The layouts and the check of each module of tests/sourced, in each form, and wrong arguments."""
+    folder = os.path.join(TESTS, "sourced")
+    uses = [["check", *words, folder] for words in ([], ["--short"], ["--json", "--types"], ["--types"])]
+    uses += [[command, *words] for command in ("check", "layout") for words in ([], ["-h"], ["--version"], ["--what"], ["-"], ["nowhere.wgsl"])]
+    uses += [["check", "--stdin-filename", "a.wgsl"], ["layout", "--struct"]]
+    for path in sorted(glob.glob(os.path.join(folder, "*.wgsl"))):
+        uses += [["layout", path], ["layout", "--json", path], ["layout", "--struct", "Scene", path]]
     for words in uses:
         given = b"struct A { a: f32, b: vec3f }\nvar<uniform> a: A;\n"
-        ours, proved = (answers_of(os.path.join(top, "wgsl"), given, ["layout", *words]) for top in (native, TOP))
-        compare(f"wgsl layout {' '.join(words)}", ours, proved, given)
-    print(f"wgsl layout: {len(uses)} uses are answered as by the proved program")
+        ours, proved = (answers_of(os.path.join(top, "wgsl"), given, words) for top in (native, TOP))
+        compare(f"wgsl {' '.join(words)}", ours, proved, given)
+    print(f"wgsl: {len(uses)} uses are answered as by the proved program")
 
 
 def compare_builds(native, checked):

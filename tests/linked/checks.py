@@ -19,7 +19,8 @@ from tools import is_there, run, write_shown
 CALLED, COUNTED = 150, 1500
 WRAPPED = ["-Wl,--wrap=malloc,--wrap=realloc,--wrap=free"]
 VALGRIND = ["valgrind", "--quiet", "--leak-check=full", "--show-leak-kinds=all", "--error-exitcode=9"]
-CALLS = "wgsl_answer wgsl_explain wgsl_source_code wgsl_source_layout wgsl_standard_answer wgsl_standard_explain wgsl_version".split()
+CALLS = """wgsl_answer wgsl_explain wgsl_module_check wgsl_source_code wgsl_source_layout wgsl_standard_answer wgsl_standard_explain
+wgsl_version""".split()
 
 
 def lines_of(*folders):
@@ -103,25 +104,26 @@ def check_c(folder, asked, swept, wanted):
 
 
 def check_cpp(folder, swept, wanted, standard_swept, standard_wanted):
-    """A program over lines by either set of rules, and the layouts of a module."""
+    """A program over lines by either set of rules, and the JSON of modules."""
     if not is_there("c++"):
         return
     lines = compile_cpp(folder, os.path.join(LINKED, "lines.cpp"), "lines_cpp")
     compare_both("C++", wanted, answers_and_notes(lines, asked=swept))
     compare_both("C++, by WGSL's own rules", standard_wanted, answers_and_notes(lines, "standard", asked=standard_swept))
     layout = compile_cpp(folder, os.path.join(LINKED, "layout.cpp"), "layout_cpp")
-    for path in source_calls.MODULES:
-        text = source_calls.read(path)
-        if run(layout, asked=text) != source_calls.program_json(text):
-            sys.exit(f"link: the layouts of {path} in C++ are others than those of the program")
-    print(f"link: C++ writes the layouts of {len(source_calls.MODULES)} modules")
+    for text in source_calls.texts():
+        for call in source_calls.JSON:
+            if run(layout, call, asked=text) != source_calls.program_json(text, call):
+                sys.exit(f"link: {call} of {text[:200]} in C++ writes something else than the program")
+    print(f"link: C++ writes the layouts and the check of {len(source_calls.texts())} modules")
 
 
 def lines_for_c(asked, standard):
     """What the programs in C are asked."""
     texts = [b"%s %s" % (name, line) for name in (b"answer", b"explain") for line in asked]
     texts += [b"%s %s" % (name, line) for name in (b"standard_answer", b"standard_explain") for line in standard]
-    texts += [b"source_layout " + module for module in source_calls.modules()]
+    texts += [b"%s %s" % (name, module) for name in (b"source_layout", b"module_check") for module in source_calls.modules()]
+    texts += [b"module_check " + text for text, *_ in source_calls.CHECKED]
     return b"\n".join(texts) + b"\n"
 
 
@@ -217,8 +219,8 @@ def lines(asked):
 
 def check_library(top, folder, asked, standard):
     """A library answers as the programs do, from each language."""
-    swept = lines(asked + [request.encode() for request in sweeps.text_requests()])
-    standard_swept = lines(standard + [request.encode() for request in sweeps.standard_requests()])
+    swept = lines(asked + [request.encode() for request in sweeps.requests("words")])
+    standard_swept = lines(standard + [request.encode() for request in sweeps.requests("wgsl")])
     wanted = answers_and_notes(os.path.join(TOP, "wgsl_check"), asked=swept)
     library = Library(folder)
     check_source(library)

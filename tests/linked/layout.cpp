@@ -1,4 +1,4 @@
-/* Writes the layouts of the WGSL text on standard input, by wgsl.hpp. */
+/* Writes what the call of wgsl.hpp with that name says of the WGSL text on standard input. */
 #include "wgsl.hpp"
 
 #include <cstdio>
@@ -6,9 +6,9 @@
 #include <iterator>
 #include <string>
 
-int main() {
+int main(int, char **words) {
     std::string text(std::istreambuf_iterator<char>(std::cin), {});
-    auto layout = wgsl::source_layout(text);
-    if (!layout) return 1;
-    std::fwrite(layout.text.data(), 1, layout.text.size(), stdout);
+    auto told = std::string(words[1]) == "module_check" ? wgsl::module_check(text) : wgsl::source_layout(text);
+    if (!told) return 1;
+    std::fwrite(told.text.data(), 1, told.text.size(), stdout);
 }

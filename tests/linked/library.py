@@ -3,7 +3,7 @@ import ctypes
 import os
 import sys
 
-CALLS = "answer explain standard_answer standard_explain source_layout".split()
+CALLS = "answer explain standard_answer standard_explain source_layout module_check".split()
 BYTE = ctypes.c_uint8
 ANSWERED, RULED_OUT, UNREADABLE, OUT_OF_MEMORY, NO_ROOM = range(5)
 ROOM = 1 << 20

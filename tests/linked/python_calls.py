@@ -124,6 +124,20 @@ def compare_source():
     for text in (b"struct a { b: f32 }\xff", "\ud800"):
         if "UTF-8" not in wgsl.source_layout(text)["errors"][0]["message"]:
             wrong(f"{text!r} has the errors {wgsl.source_layout(text)['errors']}")
+        if [(it.kind, "UTF-8" in it.message) for it in wgsl.check(text).faults] != [("syntax", True)]:
+            wrong(f"{text!r} has the faults {wgsl.check(text).faults}")
+
+
+def compare_check():
+    """What is wrong and the types of expressions, of a text and of its bytes."""
+    text, at = "/* ß漢🦀 */ const é = 1u;\nfn f() { const a = é + true; }", wgsl.Place
+    fault = wgsl.Fault(at(2, 23, 22), at(2, 24, 23), "overload", "no overload takes these operands")
+    parts = [wgsl.Part(at(1, 28, 22), at(1, 30, 24), "u32", "const", None), wgsl.Part(at(2, 20, 20), at(2, 22, 21), "u32", "const", at(1, 23, 18)),
+             wgsl.Part(at(2, 25, 24), at(2, 29, 28), "bool", "const", None)]
+    for given, wanted in ((text, wgsl.Checked((fault,), tuple(parts))), ("", wgsl.Checked((), ())), ("struct S { a: f32 }", wgsl.Checked((), ()))):
+        found = {wgsl.check(given), wgsl.check(given.encode()), wgsl.check(memoryview(given.encode()))}
+        if found != {wanted}:
+            wrong(f"the check of {given!r} is {found}")
 
 
 def compare_notes():
@@ -152,6 +166,7 @@ compare_calls()
 compare_types()
 compare_aliases()
 compare_source()
+compare_check()
 compare_notes()
 compare_rare()
 print(f"{CALLED} calls, {PAIRS} ranks, {LISTS} common types, as requests answer")

@@ -1,94 +1,18 @@
 """What the calls of the Python package say of arguments that they don't take, of what the rules refuse, and of faults of a shader."""
+import ast
+import os
 import pickle
 import re
+import sys
 import traceback
 
 import wgsl
 
-# Arguments of a wrong type, with the message.
-WRONG_TYPES = [
-    (wgsl.answer, (b"size f32",), "a request is a str, not bytes"),
-    (wgsl.unary, (None, "f32"), "operator: an operator is a str, not NoneType"),
-    (wgsl.unary, ("-", None), "operand: a type is a str, not NoneType"),
-    (wgsl.binary, (1, 2, 3), "operator: an operator is a str, not int"),
-    (wgsl.binary, ("+", 1, 2), "left: a type is a str, not int"),
-    (wgsl.binary, ("+", "f32", b"f32"), "right: a type is a str, not bytes"),
-    (wgsl.call, (7, []), "name: a name is a str, not int"),
-    (wgsl.call, ("max", "f32"), "arguments: a list of types is wanted, not str"),
-    (wgsl.call, ("max", b"f32"), "arguments: a list of types is wanted, not bytes"),
-    (wgsl.call, ("max", None), "arguments: a list of types is wanted, not NoneType"),
-    (wgsl.call, ("max", ["f32", 2]), "argument 2: a type is a str, not int"),
-    (wgsl.call, ("bitcast", ["f32"], 2), "template: a type is a str, not int"),
-    (wgsl.construct, (b"vec3f", []), "name: a name is a str, not bytes"),
-    (wgsl.construct, ("vec3", "f32"), "arguments: a list of types is wanted, not str"),
-    (wgsl.construct, ("vec3", [["f32"]]), "argument 1: a type is a str, not list"),
-    (wgsl.resolve_call, (None, []), "name: a name is a str, not NoneType"),
-    (wgsl.resolve_call, ("max", 7), "arguments: a list of types is wanted, not int"),
-    (wgsl.overloads, (None,), "name: a name is a str, not NoneType"),
-    (wgsl.rank, (1, "f32"), "source: a type is a str, not int"),
-    (wgsl.rank, ("f32", ("f32",)), "target: a type is a str, not tuple"),
-    (wgsl.common, ("f32",), "types: a list of types is wanted, not str"),
-    (wgsl.common, (["f32", None],), "type 2: a type is a str, not NoneType"),
-    (wgsl.size, (None,), "ty: a type is a str, not NoneType"),
-    (wgsl.source_layout, (None,), "a text is a str or bytes, not NoneType"),
-    (wgsl.source_layout, (5,), "a text is a str or bytes, not int"),
-    (wgsl.source_dtypes, (["a"],), "a text is a str or bytes, not list"),
-    (wgsl.dtype, ("", None), "name: a name is a str, not NoneType"),
-]
+sys.path.insert(1, os.path.dirname(os.path.dirname(os.path.abspath(__file__))))
+from table import texts  # noqa: E402, beside tests/link
 
-# Arguments that can't be read: which it is, and a request that has the same fault.
-MISREAD = [
-    (wgsl.unary, ("~~", "f32"), "operator", "overloads ~~"),
-    (wgsl.unary, ("- f32", ""), "operator", "overloads + - f32"),
-    (wgsl.unary, ("abs", "(f32)"), "operator", "overloads + abs"),
-    (wgsl.unary, ("vec2", "f"), "operator", "overloads + vec2"),
-    (wgsl.unary, ("-&", "f32"), "operator", "overloads -&"),
-    (wgsl.unary, ("+", "f32"), "operator", "type + f32"),
-    (wgsl.unary, ("-", "int"), "operand", "type int"),
-    (wgsl.unary, ("-", "const int"), "operand", "type const int"),
-    (wgsl.unary, ("-", "f32 f32"), "operand", "type f32 f32"),
-    (wgsl.unary, ("-", ""), "operand", "type"),
-    (wgsl.binary, ("", "f32", "f32"), "operator", "overloads"),
-    (wgsl.binary, ("+ -", "f32", "f32"), "operator", "overloads + -"),
-    (wgsl.binary, ("!", "f32", "f32"), "operator", "type f32 ! f32"),
-    (wgsl.binary, ("+ f32 +", "", "f32"), "operator", "overloads + + f32 +"),
-    (wgsl.binary, ("+", "int", "f32"), "left", "type int"),
-    (wgsl.binary, ("+", "x", "f32"), "left", "type x"),
-    (wgsl.binary, ("+", "f32 f32", ""), "left", "type f32 f32"),
-    (wgsl.binary, ("+", "f32) + (f32", "f32"), "left", "type f32) + (f32"),
-    (wgsl.binary, ("+", "", "f32 f32"), "left", "type"),
-    (wgsl.binary, ("+", "const ", "f32"), "left", "type const"),
-    (wgsl.binary, ("+", "f32", "const const f32"), "right", "type const const f32"),
-    (wgsl.binary, ("+", "f32", "vec3<f33>"), "right", "type vec3<f33>"),
-    (wgsl.binary, ("+", "f32", "f32\nf32"), "right", "type f32 f32"),
-    (wgsl.binary, ("+", "f32", "\ud800"), "right", "type \ud800"),
-    (wgsl.call, ("max(f32) + max", []), "name", "fn max(f32) + max() type bool"),
-    (wgsl.call, ("-", ["f32"]), "name", "fn -() type bool"),
-    (wgsl.call, ("", ["f32"]), "name", "fn () type bool"),
-    (wgsl.call, ("max", ["ü", "f32"]), "argument 1", "type ü"),
-    (wgsl.call, ("max", ["f32", "f32 "] + ["f33"]), "argument 3", "type f33"),
-    (wgsl.call, ("max", ["f32, f32"]), "argument 1", "type f32, f32"),
-    (wgsl.call, ("max", ["f32", ""]), "argument 2", "type"),
-    (wgsl.call, ("bitcast", ["f32"], "int"), "template", "size int"),
-    (wgsl.call, ("bitcast", [], "i32, f32"), "template", "size i32, f32"),
-    (wgsl.construct, ("vec3f", ["f32", "int"]), "argument 2", "type int"),
-    (wgsl.construct, ("", []), "name", "fn () type bool"),
-    (wgsl.construct, ("vec3", [], "vec3<f32"), "template", "size vec3<f32"),
-    (wgsl.resolve_call, ("max", ["int", "f32"]), "argument 1", "type int"),
-    (wgsl.resolve_call, ("max -", []), "name", "fn max -() type bool"),
-    (wgsl.overloads, ("a b",), "name", "overloads a b"),
-    (wgsl.overloads, ("",), "name", "overloads"),
-    (wgsl.rank, ("int", "f32"), "source", "size int"),
-    (wgsl.rank, ("f32", "int"), "target", "size int"),
-    (wgsl.rank, ("f32, f32", "f32"), "source", "size f32, f32"),
-    (wgsl.rank, ("const f32", "f32"), "source", "size const f32"),
-    (wgsl.common, (["f32", "f32", "int"],), "type 3", "size int"),
-    (wgsl.common, (["f32, f32"],), "type 1", "size f32, f32"),
-    (wgsl.size, ("int",), "ty", "size int"),
-    (wgsl.size, ("const f32",), "ty", "size const f32"),
-    (wgsl.size, ("array<\u00a0f32, 4>",), "ty", "size array<\u00a0f32, 4>"),
-    (wgsl.size, ("f" * 4097,), "ty", "size" + "f" * 4097),
-]
+# Half of a surrogate pair, which no table can have.
+HALF = ("binary", ("+", "f32", "\ud800"), "right", "type \ud800")
 
 
 def expect(condition, what):
@@ -106,12 +30,20 @@ def raised(kind, ask, given):
     return expect(False, f"{ask.__name__}{given!r:.90} is {found!r:.90}")
 
 
+def rows(kind):
+    """The rows of a kind: the name of a call, its arguments, and what is told of these."""
+    return [(name, ast.literal_eval(given), *told) for name, given, *told in texts("tables/python.tsv", kind)]
+
+
 def check_arguments():
     """What is no argument is told by its name."""
-    for ask, given, message in WRONG_TYPES:
+    wrong_types, misread = rows("type"), [*rows("misread"), HALF]
+    for name, given, message in wrong_types:
+        ask = getattr(wgsl, name)
         error = raised(TypeError, ask, given)
         expect(str(error) == message, f"{ask.__name__}{given!r} raises {error!r}, not {message!r}")
-    for ask, given, argument, request in MISREAD:
+    for name, given, argument, request in misread:
+        ask = getattr(wgsl, name)
         error = raised(wgsl.Unreadable, ask, given)
         why = re.sub(r"^column \d+: ", "", str(raised(wgsl.Unreadable, wgsl.answer, (request,))))
         expect(str(error) == f"{argument}: {why}", f"{ask.__name__}{given!r:.90} raises {error!r:.200}, not {argument}: {why}")
@@ -119,6 +51,7 @@ def check_arguments():
         expect("column" not in "".join(traceback.format_exception(type(error), error, None)), f"{error!r} is printed with a column")
     long = raised(wgsl.Unreadable, wgsl.common, (["f32"] * 1100,))
     expect(str(long) == str(raised(wgsl.Unreadable, wgsl.answer, ("size" * 1025,))), f"a long request raises {long!r}")
+    return len(wrong_types) + len(misread)
 
 
 def check_operands():
@@ -215,10 +148,10 @@ def check_dtypes():
     return "and dtypes"
 
 
-check_arguments()
+count = check_arguments()
 check_operands()
 check_refused()
 check_copies()
 check_aliases()
 check_source()
-print(f"{len(WRONG_TYPES) + len(MISREAD)} wrong arguments are told by name, faults of a shader by line, {check_dtypes()}")
+print(f"{count} wrong arguments are told by name, faults of a shader by line, {check_dtypes()}")

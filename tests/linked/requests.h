@@ -21,7 +21,7 @@ static const struct {
     uint8_t (*call)(const uint8_t *, size_t, uint8_t *, size_t, size_t *);
 } calls[] = {
     {"answer", wgsl_answer}, {"explain", wgsl_explain}, {"standard_answer", wgsl_standard_answer},
-    {"standard_explain", wgsl_standard_explain}, {"source_layout", wgsl_source_layout},
+    {"standard_explain", wgsl_standard_explain}, {"source_layout", wgsl_source_layout}, {"module_check", wgsl_module_check},
 };
 static uint8_t *requests[MOST];
 static size_t called[MOST];

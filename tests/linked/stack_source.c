@@ -1,5 +1,5 @@
-/* Asks for the layouts of the deepest modules, on a thread with the stack that wgsl.h promises to be enough, and prints how
- * much the deepest takes. It fails if that is more than half of what is promised. */
+/* Asks for the layouts and the check of the deepest modules, on a thread with the stack that wgsl.h promises to be enough, and
+ * prints how much the deepest takes. It fails if that is more than half of what is promised. */
 #include "stack.h"
 
 enum { ROOM = 1 << 20, DEEP = 300 };
@@ -14,6 +14,11 @@ static void *lay_out(void *none) {
     return none;
 }
 
+static void *check(void *none) {
+    status = wgsl_module_check((const uint8_t *)text, strlen(text), room, ROOM, &len);
+    return none;
+}
+
 /* What stands in front of a text, around its middle, and behind. */
 static const char *const forms[][5] = {
     {"struct S { a: ", "array<", "f32", ", 1>", " }"},
@@ -25,6 +30,7 @@ static const char *const forms[][5] = {
     {"const A = ", "min(1, ", "1", ")", "; struct S { a: array<f32, A> }"},
     {"const A = ", "u32(1 + ", "1", ")", "; struct S { a: array<f32, A> }"},
     {"fn f() { ", "{ (", "a", ") }", " }"},
+    {"fn f() { var a: ", "array<", "f32", ", 1>", "; var b = a; a = b; }"},
     {"/* ", "/* ", "a", " */", " */ struct S { a: f32 }"},
 };
 
@@ -43,9 +49,9 @@ static void write_structs(int count) {
     sprintf(to, "@group(0) @binding(0) var<storage> v: S%d;", count - 1);
 }
 
-/* How much the call takes on the text. */
-static size_t taken_from(size_t base) {
-    size_t taken = touched(lay_out, WGSL_SOURCE_STACK) - base;
+/* How much a call takes on the text. */
+static size_t taken_from(size_t base, void *(*call)(void *)) {
+    size_t taken = touched(call, WGSL_SOURCE_STACK) - base;
     if (status != WGSL_ANSWERED) exit(printf("status %d of %.60s\n", status, text) != 0);
     return taken;
 }
@@ -56,8 +62,9 @@ int main(void) {
         for (int deep = 100; deep <= DEEP; deep++) {
             if (f < count) write_text(forms[f], deep);
             else write_structs(deep / 15);
-            size_t taken = taken_from(base);
-            if (taken > most) most = taken;
+            size_t layout = taken_from(base, lay_out), checked = taken_from(base, check);
+            if (layout > most) most = layout;
+            if (checked > most) most = checked;
         }
     printf("%zu bytes of stack at most\n", most);
     return most > WGSL_SOURCE_STACK / 2;

@@ -40,6 +40,7 @@ int main() {
         EXPECT(replies("refuse " + text, Status::ruled_out, text));
         EXPECT(replies(text, Status::unreadable, text));
         EXPECT(is(wgsl::source_layout("say " + text), Status::answered, text));
+        EXPECT(is(wgsl::module_check("say " + text), Status::answered, text));
         EXPECT(is(wgsl::source_code("say " + text, Language::numpy), Status::answered, text));
         for (auto other : {Language::c, Language::rust, Language::typescript})
             EXPECT(is(wgsl::source_code("say " + text, other), Status::unreadable, ""));
@@ -49,6 +50,7 @@ int main() {
     for (auto request : {"memory", "memory 1", "memory 256", "memory 257", "memory 5000"}) {
         EXPECT(replies(request, Status::out_of_memory, ""));
         EXPECT(is(wgsl::source_layout(request), Status::out_of_memory, ""));
+        EXPECT(is(wgsl::module_check(request), Status::out_of_memory, ""));
     }
     bool one = false;
     std::thread thread([&] { one = meet('a', 7); });

@@ -99,6 +99,10 @@ uint8_t wgsl_source_layout(const uint8_t *bytes, size_t len, uint8_t *room, size
     return wgsl_answer(bytes, len, room, room_len, text_len);
 }
 
+uint8_t wgsl_module_check(const uint8_t *bytes, size_t len, uint8_t *room, size_t room_len, size_t *text_len) {
+    return wgsl_answer(bytes, len, room, room_len, text_len);
+}
+
 uint8_t wgsl_source_code(const uint8_t *bytes, size_t len, uint8_t *room, size_t room_len, size_t *text_len, uint8_t language) {
     return language == WGSL_NUMPY ? wgsl_answer(bytes, len, room, room_len, text_len) : WGSL_UNREADABLE;
 }

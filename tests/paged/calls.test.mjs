@@ -101,6 +101,23 @@ test("errors of a text are thrown with their places, also behind each line break
   }
 });
 
+test("the check of a text has its faults, and the types of its expressions, with their places", () => {
+  const text = "/* é漢🦀 */ const ß = 1u;\u2028override o: f32; fn f(i: i32) { const a = ß + true; var b = o; b = f32(i); }";
+  const { faults, parts } = wgsl.check(text), at = (place, length) => text.slice(place.index, length === undefined ? place.end.index : place.index + length);
+  assert.deepEqual(faults, [{
+    kind: "overload", message: "no overload takes these operands", line: 2, column: 46, utf16Column: 45, index: text.indexOf("+"),
+    end: { line: 2, column: 47, utf16Column: 46, index: text.indexOf("+") + 1 },
+  }]);
+  assert.deepEqual(parts.map((part) => [at(part), part.type, part.stage, part.declared && at(part.declared, 3)]), [
+    ["1u", "u32", "const", null], ["ß", "u32", "const", "ß ="], ["true", "bool", "const", null], ["o", "f32", "override", "o: "],
+    ["b", "ref<function, f32, read_write>", "runtime", "b ="], ["f32(i)", "f32", "runtime", null], ["i", "i32", "runtime", "i: "],
+  ]);
+  assert.deepEqual(parts[1].declared, { line: 1, column: 23, utf16Column: 18, index: 17 });
+  assert.deepEqual(wgsl.check(LIGHT), { faults: [], parts: wgsl.check(LIGHT).parts });
+  assert.deepEqual(wgsl.check(""), { faults: [], parts: [] });
+  assert.equal(wgsl.check(`fn f() { ${"{".repeat(100_000)}`).faults.length, 1);
+});
+
 test("who prints an error sees its errors alone", () => {
   const error = sourceError("struct S { a: nowhere }");
   assert.deepEqual(Object.keys(error).sort(), ["errors", "name"]);
@@ -117,13 +134,13 @@ test("each type that is a struct has it, behind pointers and arrays too", () => 
 
 test("an empty text, and what is no text", () => {
   assert.deepEqual(wgsl.layouts(""), { structs: [], variables: [], overrides: [], entryPoints: [], errors: [], findings: [], leftOut: [] });
-  for (const call of [wgsl.answer, wgsl.standardAnswer, wgsl.explain, wgsl.standardExplain, wgsl.layouts]) {
+  for (const call of [wgsl.answer, wgsl.standardAnswer, wgsl.explain, wgsl.standardExplain, wgsl.layouts, wgsl.check]) {
     for (const value of [7, null, undefined, ["size f32"], Buffer.from("size f32")]) assert.throws(() => call(value), TypeError);
   }
 });
 
 test("half of a surrogate pair is refused, and not replaced in silence", () => {
-  for (const call of [wgsl.answer, wgsl.standardAnswer, wgsl.explain, wgsl.standardExplain, wgsl.layouts]) {
+  for (const call of [wgsl.answer, wgsl.standardAnswer, wgsl.explain, wgsl.standardExplain, wgsl.layouts, wgsl.check]) {
     for (const text of ["\ud83e", "size struct \udd80 0", "// \udd80\ud83e"]) assert.throws(() => call(text), { name: "TypeError", message: /surrogate/ });
   }
 });
@@ -191,6 +208,7 @@ test("a million calls leave the memory as it is", { timeout: 300_000 }, () => {
   const big = LIGHT.replaceAll(/(Light|Scene|Color|COUNT|scene)/g, "$1_1") + LIGHT;
   const error = () => assert.throws(() => wgsl.layouts(`${LIGHT} bad`), wgsl.SourceError);
   wgsl.layouts(big);
+  wgsl.check(big);
   error();
   for (let i = 0; i < 1000; i++) wgsl.standardAnswer("why f32 + f32");
   const before = memorySize();
@@ -198,6 +216,7 @@ test("a million calls leave the memory as it is", { timeout: 300_000 }, () => {
   for (let i = 0; i < 100_000; i++) wgsl.explain("unary - vec 3");
   for (let i = 0; i < 10_000; i++) wgsl.layouts(LIGHT);
   for (let i = 0; i < 1000; i++) error();
+  for (let i = 0; i < 1000; i++) wgsl.check(LIGHT);
   assert.equal(memorySize(), before);
 });
 
@@ -214,7 +233,8 @@ test("no text makes a call fail", () => {
   for (let round = 0; round < 3000; round++) {
     const copy = [...pieces];
     for (let change = 0; change < 4; change++) copy.splice(next(copy.length), next(2), ...(next(3) ? [pieces[next(pieces.length)]] : []));
-    const text = copy.join("");
+    const text = copy.join(""), { faults, parts } = wgsl.check(text);
+    for (const { index, end } of [...faults, ...parts]) assert.ok(index >= 0 && index <= end.index && end.index <= text.length, text);
     try {
       wgsl.layouts(text);
     } catch (error) {
@@ -267,7 +287,7 @@ test("the entry with the module in it works at once, and all entries export the 
   const inline = await import("wgsl-types-proved/inline");
   assert.equal(inline.standardAnswer("type f32 + f32"), "f32");
   await inline.init();
-  const names = ["Refused", "SourceError", "Unreadable", "answer", "code", "explain", "init", "initSync", "layouts", "standardAnswer", "standardExplain", "version", "view"];
+  const names = ["Refused", "SourceError", "Unreadable", "answer", "check", "code", "explain", "init", "initSync", "layouts", "standardAnswer", "standardExplain", "version", "view"];
   for (const entry of [inline, browser, wgsl]) assert.deepEqual(Object.keys(entry).sort(), names);
 });
 
@@ -283,10 +303,10 @@ test("in a worker, also with a module that is sent", async () => {
   assert.equal(told.variables[0].typeTree.struct, told.structs[0]);
 });
 
-test("the version is that of the package, and the module imports nothing and has the seven calls", () => {
+test("the version is that of the package, and the module imports nothing and has the eight calls", () => {
   const { version } = JSON.parse(readFileSync(new URL("package.json", PACKAGE)));
   assert.equal(wgsl.version(), version);
   const module = new WebAssembly.Module(MODULE), functions = WebAssembly.Module.exports(module).filter(({ kind }) => kind === "function");
   assert.deepEqual(WebAssembly.Module.imports(module), []);
-  assert.deepEqual(functions.map(({ name }) => name).sort(), ["wgsl_answer", "wgsl_explain", "wgsl_source_code", "wgsl_source_layout", "wgsl_standard_answer", "wgsl_standard_explain", "wgsl_version"]);
+  assert.deepEqual(functions.map(({ name }) => name).sort(), ["wgsl_answer", "wgsl_explain", "wgsl_module_check", "wgsl_source_code", "wgsl_source_layout", "wgsl_standard_answer", "wgsl_standard_explain", "wgsl_version"]);
 });

@@ -81,6 +81,14 @@ test("the layouts of each file are those of `wgsl layout`, and each place is an 
   assert.equal(execFileSync(join(PROGRAMS, "wgsl"), ["--version"], { encoding: "utf8" }).trim().split(" ").at(-1), wgsl.version());
 });
 
+test("the check of each file is that of `wgsl check`", () => {
+  for (const file of readdirSync(SOURCED).filter((name) => name.endsWith(".wgsl"))) {
+    const path = join(SOURCED, file), { faults, parts } = wgsl.check(readFileSync(path, "utf8"));
+    const { stdout } = spawnSync(join(PROGRAMS, "wgsl"), ["check", "--json", "--types", path], { encoding: "utf8", maxBuffer: 1 << 28 });
+    assert.deepEqual(JSON.parse(JSON.stringify({ file: path, faults, types: parts }, withoutLinks)), JSON.parse(stdout), file);
+  }
+});
+
 test("each text has the code that `wgsl layout` prints", () => {
   for (const file of readdirSync(SOURCED).filter((name) => name.endsWith(".wgsl"))) {
     for (const language of ["c", "rust", "numpy", "typescript"]) {

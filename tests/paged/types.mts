@@ -1,5 +1,5 @@
 // What TypeScript makes of the package's types. Each line under `@ts-expect-error` must be refused.
-import { Layouts, Message, Refused, SourceError, StructLayout, Type, Unreadable, answer, init, layouts, standardExplain, version, view } from "wgsl-types-proved";
+import { Checked, Layouts, Message, Refused, SourceError, StructLayout, Type, Unreadable, answer, check, init, layouts, standardExplain, version, view } from "wgsl-types-proved";
 import { initSync } from "wgsl-types-proved/inline";
 
 await init();
@@ -19,6 +19,10 @@ try {
   else if (error instanceof Refused) console.log(error.message, error.index);
 }
 
+const checked: Checked = check("const a = 1;");
+const declared: number | undefined = checked.parts.find(({ stage }) => stage === "override")?.declared?.index;
+console.log(declared, checked.faults.map(({ kind, end }: Message) => kind + end.index));
+
 /** The struct inside all arrays, as a type says it. */
 function innermost(type: Type): string {
   if (type.kind === "array") return innermost(type.element);
@@ -28,6 +32,10 @@ console.log(innermost(told.variables[0]!.typeTree));
 
 // @ts-expect-error: a request is a string
 answer(7);
+// @ts-expect-error: no name may be declared
+checked.parts[0]!.declared.index;
+// @ts-expect-error: a stage is none of these
+checked.parts[0]!.stage === "vertex";
 // @ts-expect-error: a view has no such option
 view(struct!, { length: 2 });
 // @ts-expect-error: no value is a function

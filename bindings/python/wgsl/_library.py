@@ -47,8 +47,8 @@ def _load() -> ctypes.CDLL:
     path, size = _find(), ctypes.c_size_t
     try:
         library = ctypes.CDLL(str(path))
-        for name in ("wgsl_answer", "wgsl_explain", "wgsl_standard_answer", "wgsl_standard_explain", "wgsl_source_layout"):
-            call = getattr(library, name)
+        for name in ("answer", "explain", "standard_answer", "standard_explain", "source_layout", "module_check"):
+            call = getattr(library, f"wgsl_{name}")
             call.restype = ctypes.c_uint8
             call.argtypes = [ctypes.c_char_p, size, ctypes.c_char_p, size, ctypes.POINTER(size)]
         library.wgsl_source_code.argtypes = [*library.wgsl_source_layout.argtypes, ctypes.c_uint8]

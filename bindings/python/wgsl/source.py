@@ -1,7 +1,8 @@
-"""Layouts of WGSL texts."""
+"""Layouts of WGSL texts, and their check."""
 from __future__ import annotations
 
 import json
+from dataclasses import dataclass
 from importlib import import_module
 from typing import Any
 
@@ -45,6 +46,85 @@ def source_layout(text: str | bytes) -> dict[str, Any]:
     """
     layouts: dict[str, Any] = json.loads(ask("wgsl_source_layout", _bytes_of(text))[1])
     return layouts
+
+
+@dataclass(frozen=True)
+class Place:
+    """A line and a column in bytes, both from 1, and the same column in units of UTF-16, as JavaScript counts.
+
+    >>> check("/* ü */ const a = b;").faults[0].start
+    Place(line=1, column=20, utf16_column=19)
+    """
+
+    line: int
+    column: int
+    utf16_column: int
+
+
+@dataclass(frozen=True)
+class Fault:
+    """What is wrong: from where to where, the code of the rule that is broken, and the message. docs/FAULTS.md has the codes.
+
+    >>> check("const a = 1u + 1i;").faults[0].kind
+    'overload'
+    """
+
+    start: Place
+    end: Place
+    kind: str
+    message: str
+
+
+@dataclass(frozen=True)
+class Part:
+    """An expression: from where to where, its type, when its value is known (`const`, `override` or `runtime`), and if it is a name
+    that the text declares, where.
+
+    >>> part = check("const a = 1; const b: f32 = a;").parts[-1]
+    >>> part.type, part.stage, part.declared.column
+    ('AbstractInt', 'const', 7)
+    """
+
+    start: Place
+    end: Place
+    type: str
+    stage: str
+    declared: Place | None
+
+
+@dataclass(frozen=True)
+class Checked:
+    """What is found of a text, each in its order: what is wrong, and the expressions that have a type.
+
+    >>> check("var<private> a: u32;")
+    Checked(faults=(), parts=())
+    """
+
+    faults: tuple[Fault, ...]
+    parts: tuple[Part, ...]
+
+
+def check(text: str | bytes) -> Checked:
+    """Checks a WGSL module by WGSL's rules. Raises nothing for a fault.
+
+    >>> checked = check("fn f(v: vec3f) -> f32 { let a = v.x * true; }")
+    >>> [(fault.start.column, fault.message) for fault in checked.faults]
+    [(37, 'no overload takes these operands'), (45, 'this function may end without a `return`')]
+    >>> [(part.start.column, part.end.column, part.type) for part in checked.parts]
+    [(33, 34, 'vec3<f32>'), (33, 36, 'f32'), (39, 43, 'bool')]
+    """
+    told = json.loads(ask("wgsl_module_check", _bytes_of(text))[1])
+    faults = [Fault(*_ends_of(it), it["kind"], it["message"]) for it in told["faults"]]
+    parts = [Part(*_ends_of(it), it["type"], it["stage"], it["declared"] and _place(it["declared"])) for it in told["types"]]
+    return Checked(tuple(faults), tuple(parts))
+
+
+def _ends_of(told: dict[str, Any]) -> tuple[Place, Place]:
+    return _place(told), _place(told["end"])
+
+
+def _place(told: dict[str, Any]) -> Place:
+    return Place(told["line"], told["column"], told["utf16Column"])
 
 
 def _bytes_of(text: str | bytes) -> bytes:

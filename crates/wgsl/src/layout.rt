@@ -2,10 +2,10 @@
 
 use crate::arguments::{Arguments, Asked, read_arguments};
 use crate::failure::Failure;
-use crate::{VERSION, print, refuse};
-use std::io::{IsTerminal, Read, Write};
+use crate::files::{read_file, style};
+use crate::{CLEAN, FOUND, UNREAD, VERSION, print, refuse};
+use std::io::{IsTerminal, Write};
 use std::process::ExitCode;
-use std::{env, fs, io};
 use wgsl_report::report::{ReportOptions, report_on};
 use wgsl_report::shown::Style;
 
@@ -28,12 +28,6 @@ On a terminal each message has its line, with a caret under the place, and color
 Exit status: 0 if nothing is wrong, 1 if there is an error or a finding, 2 if the arguments or a file can't be read or
 no struct has the name, 3 if memory ran out or a write failed.
 ";
-
-const CLEAN: u8 = 0;
-
-const FOUND: u8 = 1;
-
-const UNREAD: u8 = 2;
 
 /// Does what the words behind `layout` ask for.
 pub fn run(rt: &HostRuntime, words: &[String]) -> Result<ExitCode, Failure> {
@@ -71,15 +65,6 @@ fn report_all(rt: &HostRuntime, arguments: &Arguments) -> Result<u8, Failure> {
     Ok(status)
 }
 
-fn read_file(rt: &HostRuntime, file: &str) -> io::Result<Vec<u8>> {
-    if file != "-" {
-        return fs::read(rt, file);
-    }
-    let mut bytes = Vec::new(rt.alloc());
-    rt.stdin().read_to_end(&mut bytes)?;
-    Ok(bytes)
-}
-
 /// Prints the report on a file, and marks the names that its structs have.
 fn report_one(
     rt: &HostRuntime,
@@ -92,7 +77,7 @@ fn report_one(
         file,
         only: &arguments.only,
         format: arguments.format,
-        style: style(rt, arguments),
+        style: style_of(rt, arguments),
     };
     let report = report_on(rt.alloc(), bytes, options)?;
     for (mark, is_here) in is_found.iter_mut().zip(&report.is_found) {
@@ -104,16 +89,11 @@ fn report_one(
 }
 
 /// The style of messages for where they are printed.
-fn style(rt: &HostRuntime, arguments: &Arguments) -> Style {
+fn style_of(rt: &HostRuntime, arguments: &Arguments) -> Style {
     let is_terminal = if arguments.format.is_code() {
         rt.stderr().is_terminal()
     } else {
         rt.stdout().is_terminal()
     };
-    let is_plain = env::var(rt, "NO_COLOR").is_ok_and(|value| !value.is_empty());
-    match (is_terminal, is_plain) {
-        (false, _) => Style::Plain,
-        (true, true) => Style::Caret,
-        (true, false) => Style::Color,
-    }
+    style(rt, is_terminal)
 }

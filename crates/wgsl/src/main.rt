@@ -1,9 +1,11 @@
-// The program: its commands print the layouts of WGSL files, and answer requests in WGSL.
+// The program: its commands check WGSL files, print their layouts, and answer requests in WGSL.
 #![tactic(auto)]
 
 mod arguments;
 mod ask;
+mod check;
 mod failure;
+mod files;
 mod layout;
 
 use failure::Failure;
@@ -12,12 +14,14 @@ use std::io::{ErrorKind, Write};
 use std::process::ExitCode;
 
 const HELP: &str = "\
-usage: wgsl layout FILE...
+usage: wgsl check FILE...
+       wgsl layout FILE...
        wgsl ask <REQUESTS
        wgsl COMMAND --help | --help | --version
 
 By WGSL's own rules:
 
+  check   prints what is wrong with WGSL files, and the types of their expressions
   layout  prints the layout of each struct of WGSL files, where their variables are bound, and what is wrong with them
   ask     answers requests, one per line: types of expressions, overloads, conversions, sizes
 
@@ -26,10 +30,15 @@ Exit status: 2 if there is no such command, else as the help of the command says
 
 const VERSION: &str = "wgsl 0.3.0\n";
 
-/// The status if there is no such command, or its arguments are wrong.
-const MISUSED: u8 = 2;
+/// The statuses: nothing is wrong, something is.
+const CLEAN: u8 = 0;
 
-/// The status if memory ran out or a write failed.
+const FOUND: u8 = 1;
+
+/// There is no such command, or its arguments or a file can't be read.
+const UNREAD: u8 = 2;
+
+/// Memory ran out, or a write failed.
 const FAILED: u8 = 3;
 
 fn main(rt: HostRuntime) -> ExitCode {
@@ -63,6 +72,7 @@ fn run(rt: &HostRuntime) -> Result<ExitCode, Failure> {
         return Ok(refuse(rt, "there is no command", "", "wgsl --help"));
     };
     match command.as_str() {
+        "check" => check::run(rt, words),
         "layout" => layout::run(rt, words),
         "ask" => Ok(ask::run(rt, words)),
         "--help" | "-h" => print(rt, HELP),
@@ -86,5 +96,5 @@ fn note(rt: &HostRuntime, failure: &Failure) {
 /// Prints why the arguments are wrong, and where help is.
 fn refuse(rt: &HostRuntime, reason: &str, word: &str, help: &str) -> ExitCode {
     let _ = eprintln!(rt; "wgsl: {reason}{word}: see {help}");
-    ExitCode::from(MISUSED)
+    ExitCode::from(UNREAD)
 }

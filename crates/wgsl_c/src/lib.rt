@@ -1,5 +1,5 @@
 //! The library for C: for each set of rules a function that answers a request and one that explains why it can't be read;
-//! one for the layouts of a WGSL text, and one for its structs as code.
+//! one for the layouts of a WGSL text, one for its structs as code, and one for its check.
 //!
 //! A call writes its text at the start of the buffer, without a NUL after it, and sets the length. The status is 0 for an
 //! answer, 1 for the message of a refusal, 2 for a request that can't be read, or of which there is nothing to explain, 3 if
@@ -14,7 +14,7 @@ mod source;
 ghost use Rattle.wgsl_c.specs.HandOver.{IsAnswered, IsExplained};
 
 use requests::{answer_by, explain_by};
-pub use source::{wgsl_source_code, wgsl_source_layout};
+pub use source::{wgsl_module_check, wgsl_source_code, wgsl_source_layout};
 use std::alloc::Global;
 use wgsl_syntax::rules::RuleSet;
 

@@ -1,9 +1,10 @@
-// The layouts of a WGSL text, and its structs as code, for C.
+// The layouts of a WGSL text, its structs as code, and its check, for C.
 ghost use Rattle.std.specs.Prelude.{◌<◌, ◌≤◌, IfOk, MatchOption};
 ghost use Rattle.wgsl_c.specs.HandOver.{IsAnswer, IsCode, IsText, IsTold, IsTranslated};
 
 use crate::hand_over::hand_over;
 use std::alloc::{AllocError, Global};
+use wgsl_faults::report::{CheckOptions, CheckReport, Form, check_text};
 use wgsl_replies::request::{Reply, TextKind};
 use wgsl_report::report::{Format, Report, ReportOptions, report_on};
 use wgsl_report::shown::Style;
@@ -31,6 +32,32 @@ fn layouts(alloc: Global, source: &[u8]) -> Result<Reply, AllocError>
         style: Style::Plain,
     };
     let Report { text, .. } = report_on(alloc, source, options)?;
+    Ok(Reply::Answer(TextKind::Answer, text))
+}
+
+/// Writes what `./wgsl check --json --types` writes of a text, with an empty name of the file. The status is 0, 3 or 4.
+#[unsafe(no_mangle)]
+pub extern "C" fn wgsl_module_check(
+    alloc: Global,
+    source: &[u8],
+    buffer: &mut [u8],
+    text_len: &mut usize,
+) -> u8
+    ensures { IsTold buffer.old buffer.new text_len.new result }
+{
+    hand_over(&checked(alloc, source), buffer, text_len)
+}
+
+fn checked(alloc: Global, source: &[u8]) -> Result<Reply, AllocError>
+    ensures { IsText result }
+{
+    let options = CheckOptions {
+        file: "",
+        form: Form::Json,
+        has_types: true,
+        style: Style::Plain,
+    };
+    let CheckReport { text, .. } = check_text(alloc, source, options)?;
     Ok(Reply::Answer(TextKind::Answer, text))
 }
 

@@ -20,7 +20,7 @@ use Rattle.wgsl_spelling.specs.Names.{access_named, space_named}
 use Rattle.wgsl_syntax.specs.Names.{named}
 use Rattle.wgsl_expressions.specs.Headings.{Changed, NumberedIfAny, attributes, member_in as member_within, struct_on, with_attribute}
 use Rattle.wgsl_expressions.specs.Names.{head_noted}
-use Rattle.wgsl_expressions.specs.Operators.{binary_of, unary_of}
+use Rattle.wgsl_spelling.specs.Operators.{binary_of, unary_of}
 use Rattle.wgsl_expressions.specs.Outcomes.{Head, IsCalled, IsElement, IsMember, IsOutcome, Outcome, Parts, asked, is_constant, member_in, operand, outcome_by, part_in, result_of, result_of_call, type_of_answer}
 use Rattle.wgsl_expressions.specs.RequestTokens.{asked_behind, operand_token}
 use Rattle.wgsl_expressions.specs.Scopes.{Declared, Scope}

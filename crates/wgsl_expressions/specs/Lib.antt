@@ -1,6 +1,5 @@
 pub mod Source
 pub mod Literals
-pub mod Operators
 pub mod Reading
 pub mod RequestTokens
 pub mod Scopes

@@ -17,7 +17,7 @@ use Rattle.wgsl_syntax.specs.declared.operator.AssignmentOperator.TheVariants.{E
 use Rattle.wgsl_expressions.specs.Headings.{struct_on}
 use Rattle.wgsl_expressions.specs.Literals.{type_of_literal}
 use Rattle.wgsl_expressions.specs.Names.{head_noted}
-use Rattle.wgsl_expressions.specs.Operators.{binary_of, unary_of}
+use Rattle.wgsl_spelling.specs.Operators.{binary_of, unary_of}
 use Rattle.wgsl_expressions.specs.Outcomes.{Head, IsCalled, IsElement, IsMember, Outcome, Parts, no_parts, overloaded, with_part}
 use Rattle.wgsl_expressions.specs.Scopes.{Scope}
 use Rattle.wgsl_expressions.specs.Source.{Source, byte_at, first_count, kind_at, noted, text_at, type_noted}

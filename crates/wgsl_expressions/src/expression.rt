@@ -10,7 +10,6 @@ ghost use Rattle.wgsl_expressions.specs.Views.{AsksIn, Finds, IsAskedLine, IsTyp
 use crate::heading::{declare_function, declare_struct};
 use crate::item::Item;
 use crate::misread::{Misread, Wanted};
-use crate::operator::binary_of;
 use crate::outcome::Outcome;
 use crate::request_token::{as_asked, as_operand};
 use crate::scope::Scope;
@@ -25,6 +24,7 @@ use wgsl_reader::mark::Mark;
 use wgsl_reader::read::{Event, read};
 use wgsl_reader::rule::Rule;
 use wgsl_reader::token::Token;
+use wgsl_spelling::operator::binary_of;
 
 /// What is expected where a token of such a kind may stand.
 static WANTED: &[(Kind, Wanted)] = &[

@@ -14,7 +14,6 @@ pub mod line;
 pub mod literal;
 pub mod misread;
 mod name;
-mod operator;
 pub mod outcome;
 mod reply;
 mod request_token;

@@ -16,7 +16,6 @@ use crate::item::{
 use crate::literal::type_of_literal;
 use crate::misread::{Misread, Wanted, untyped};
 use crate::name::head_noted;
-use crate::operator::{binary_of, unary_of};
 use crate::outcome::{Outcome, Typed, with_part};
 use crate::scope::Scope;
 use crate::source::{Source, first_count};
@@ -32,6 +31,7 @@ use wgsl_forms::concrete::has_abstract_type;
 use wgsl_forms::form::Referent;
 use wgsl_reader::mark::Mark;
 use wgsl_reader::read::Event;
+use wgsl_spelling::operator::{binary_of, unary_of};
 use wgsl_spelling::word::word;
 
 /// Does with the items what is noted at an index, with the names of a scope: the last item is on top.

@@ -59,7 +59,7 @@ pub fn write_json(output: &mut String, source: Source) -> Result<(), AllocError>
 }
 
 /// The separator in front of an element of a list.
-fn separator(index: usize) -> &'static str {
+pub fn separator(index: usize) -> &'static str {
     if index == 0 { "" } else { "," }
 }
 
@@ -244,7 +244,8 @@ fn write_extents(output: &mut String, extents: [WorkgroupExtent; 3]) -> Result<(
     output.push_str("]")
 }
 
-fn write_messages(
+/// Writes the messages of a severity as objects with commas between.
+pub fn write_messages(
     output: &mut String,
     lines: &Lines,
     messages: &[Message],
@@ -270,13 +271,40 @@ fn write_message(
         Piece::Text(separator(index)),
         Piece::Text("{\"kind\":\""),
         Piece::Text(message.kind.as_str()),
-        Piece::Text("\""),
-        Piece::At(lines.place(message.at)),
+        Piece::Text("\","),
+    ];
+    write_all(output, &pieces)?;
+    write_placed(
+        output,
+        lines,
+        message.at,
+        message.end,
+        message.text.as_str(),
+    )?;
+    for (index, note) in message.notes.iter().enumerate() {
+        let start = if index == 0 { ",\"notes\":[{" } else { "},{" };
+        output.push_str(start)?;
+        write_placed(output, lines, note.at, note.end, note.text.as_str())?;
+    }
+    let end = if message.notes.is_empty() { "}" } else { "}]}" };
+    output.push_str(end)
+}
+
+/// Writes the fields for a place and a message.
+fn write_placed(
+    output: &mut String,
+    lines: &Lines,
+    at: usize,
+    end: usize,
+    message: &str,
+) -> Result<(), AllocError> {
+    let pieces = [
+        Piece::Place(lines.place(at)),
         Piece::Text(",\"end\":{"),
-        Piece::Place(lines.place(message.end)),
+        Piece::Place(lines.place(end)),
         Piece::Text("},\"message\":\""),
-        Piece::Escaped(message.text.as_str()),
-        Piece::Text("\"}"),
+        Piece::Escaped(message),
+        Piece::Text("\""),
     ];
     write_all(output, &pieces)
 }

@@ -21,6 +21,8 @@ pub enum Severity {
     Error,
     /// A declaration that was read breaks a rule.
     Finding,
+    /// It is about the message in front of it.
+    Note,
 }
 
 impl Severity {
@@ -29,6 +31,7 @@ impl Severity {
         match self {
             Severity::Error => "error",
             Severity::Finding => "finding",
+            Severity::Note => "note",
         }
     }
 }
@@ -41,6 +44,15 @@ pub struct Message {
     pub kind: String,
     pub at: usize,
     /// The index behind the word that stands there.
+    pub end: usize,
+    pub text: String,
+    pub notes: Vec<Note>,
+}
+
+/// What else there is to say of a message, there or at another index.
+#[derive(Drop)]
+pub struct Note {
+    pub at: usize,
     pub end: usize,
     pub text: String,
 }
@@ -99,22 +111,33 @@ fn fault_message<'t>(
         at: fault.at,
         end: text.end_of_token(fault.at),
         text: told,
+        notes: Vec::new(alloc),
     })
 }
 
-/// What the grammar says of the declaration that has this fault, if as many tokens are left to be explained as stand in front of
-/// the fault.
+/// What the grammar says of the declaration that has this fault, if it is explained.
 fn explained(misread: &[Misread], cause: Cause, left: &mut usize) -> Option<Misread> {
     let found = match cause {
         Cause::Misread(index) => misread.get(index).copied()?,
         _ => return None,
     };
-    *left = left.checked_sub(found.at.saturating_sub(found.from).saturating_add(1))?;
-    Some(found)
+    is_explained(found, left).then_some(found)
+}
+
+/// Whether as many tokens are left to be explained as stand in front of this fault. Then they are fewer.
+pub fn is_explained(misread: Misread, left: &mut usize) -> bool {
+    let front = misread.at.saturating_sub(misread.from).saturating_add(1);
+    match left.checked_sub(front) {
+        Some(rest) => {
+            *left = rest;
+            true
+        }
+        None => false,
+    }
 }
 
 /// Writes what may stand where a declaration can't be read, and what stands there.
-fn write_misread<'t>(
+pub fn write_misread<'t>(
     output: &mut String,
     alloc: Global,
     text: Text<'t>,
@@ -202,6 +225,7 @@ fn finding_message(alloc: Global, text: Text, finding: &Finding) -> Result<Messa
         at: finding.at,
         end: text.end_of_token(finding.at),
         text: told,
+        notes: Vec::new(alloc),
     })
 }
 
@@ -222,7 +246,7 @@ fn kind_of(alloc: Global, of: &impl Debug) -> Result<String, AllocError> {
 const QUOTED: usize = 40;
 
 /// How many tokens of misread declarations are read again, once for each kind of token, to tell what may stand there.
-const EXPLAINED: usize = 20000;
+pub const EXPLAINED: usize = 20000;
 
 /// How many errors of a text are told with a name that the word may have meant.
 const GUESSED: usize = 50;
@@ -277,7 +301,7 @@ fn write_meant<'t>(
 }
 
 /// The beginning of a word, and dots for what follows.
-fn beginning(word: &str) -> (&str, &str) {
+pub fn beginning(word: &str) -> (&str, &str) {
     let mut end: usize = 0;
     for letter in word.chars().take(QUOTED) {
         end = end.saturating_add(letter.len_utf8());

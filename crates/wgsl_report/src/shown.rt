@@ -71,7 +71,8 @@ pub fn once<'a>(alloc: Global, names: &[&'a str]) -> Result<Vec<&'a str>, AllocE
     Ok(found)
 }
 
-fn write_each(
+/// Writes messages with their notes. A note has a line of the text only if that isn't the place of its message.
+pub fn write_each(
     output: &mut String,
     file: &str,
     lines: &Lines,
@@ -80,9 +81,17 @@ fn write_each(
 ) -> Result<(), AllocError> {
     for message in messages {
         let place = lines.place(message.at);
-        write_message(output, file, place, message, style)?;
+        let (severity, text) = (message.severity, message.text.as_str());
+        write_message(output, file, place, severity, text, style)?;
         if style != Style::Plain {
             write_line(output, lines, place, style)?;
+        }
+        for note in &message.notes {
+            let (place, text) = (lines.place(note.at), note.text.as_str());
+            write_message(output, file, place, Severity::Note, text, style)?;
+            if style != Style::Plain && note.at != message.at {
+                write_line(output, lines, place, style)?;
+            }
         }
     }
     Ok(())
@@ -92,17 +101,18 @@ fn write_message(
     output: &mut String,
     file: &str,
     place: Place,
-    message: &Message,
+    severity: Severity,
+    text: &str,
     style: Style,
 ) -> Result<(), AllocError> {
-    let color = match message.severity {
+    let color = match severity {
         Severity::Error => RED,
         Severity::Finding => YELLOW,
+        Severity::Note => GREEN,
     };
     let Place { line, column, .. } = place;
     let (bold, color, reset) = (style.color(BOLD), style.color(color), style.color(RESET));
-    let severity = message.severity.name();
-    let text = message.text.as_str();
+    let severity = severity.name();
     write!(
         output,
         "{bold}{file}:{line}:{column}: {color}{severity}: {reset}{text}\n"

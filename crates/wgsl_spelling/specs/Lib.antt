@@ -10,3 +10,4 @@ pub mod Templates
 pub mod Spelled
 pub mod Seen
 pub mod Written
+pub mod Operators

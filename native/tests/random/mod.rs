@@ -11,28 +11,12 @@ use wgsl_types_proved::syntax::{SampledType, TexelFormat, UnaryOperator};
 use wgsl_types_proved::tplt::TpltParam;
 use wgsl_types_proved::ty::{SamplerType, StructMemberType, StructType, TextureType};
 use wgsl_types_proved::{Instance, Type};
+use AddressSpace::{Function, Handle, Private, PushConstant, Storage, Uniform, Workgroup};
+use Type::{AbstractFloat, AbstractInt, Bool, F16, F32, F64, I32, I64, U32, U64};
 
-const SCALARS: [Type; 10] = [
-    Type::Bool,
-    Type::AbstractInt,
-    Type::AbstractFloat,
-    Type::I32,
-    Type::U32,
-    Type::F32,
-    Type::F16,
-    Type::I64,
-    Type::U64,
-    Type::F64,
-];
-const SPACES: [AddressSpace; 7] = [
-    AddressSpace::Function,
-    AddressSpace::Private,
-    AddressSpace::Workgroup,
-    AddressSpace::Uniform,
-    AddressSpace::Storage,
-    AddressSpace::Handle,
-    AddressSpace::PushConstant,
-];
+const SCALARS: [Type; 10] = [Bool, AbstractInt, AbstractFloat, I32, U32, F32, F16, I64, U64, F64];
+const SPACES: [AddressSpace; 7] =
+    [Function, Private, Workgroup, Uniform, Storage, Handle, PushConstant];
 const ACCESS_MODES: [AccessMode; 4] =
     [AccessMode::Read, AccessMode::Write, AccessMode::ReadWrite, AccessMode::Atomic];
 const TEXTURES: [TextureType; 8] = [
@@ -45,59 +29,8 @@ const TEXTURES: [TextureType; 8] = [
     TextureType::External,
     TextureType::DepthCubeArray,
 ];
-const BINARY: [BinaryOperator; 18] = [
-    BinaryOperator::ShortCircuitOr,
-    BinaryOperator::ShortCircuitAnd,
-    BinaryOperator::Addition,
-    BinaryOperator::Subtraction,
-    BinaryOperator::Multiplication,
-    BinaryOperator::Division,
-    BinaryOperator::Remainder,
-    BinaryOperator::Equality,
-    BinaryOperator::Inequality,
-    BinaryOperator::LessThan,
-    BinaryOperator::LessThanEqual,
-    BinaryOperator::GreaterThan,
-    BinaryOperator::GreaterThanEqual,
-    BinaryOperator::BitwiseOr,
-    BinaryOperator::BitwiseAnd,
-    BinaryOperator::BitwiseXor,
-    BinaryOperator::ShiftLeft,
-    BinaryOperator::ShiftRight,
-];
-const UNARY: [UnaryOperator; 5] = [
-    UnaryOperator::LogicalNegation,
-    UnaryOperator::Negation,
-    UnaryOperator::BitwiseComplement,
-    UnaryOperator::AddressOf,
-    UnaryOperator::Indirection,
-];
-const CALLED: [&str; 24] = [
-    "array",
-    "f32",
-    "u32",
-    "vec2",
-    "vec3",
-    "vec4",
-    "mat2x2",
-    "mat3x2",
-    "bitcast",
-    "min",
-    "clamp",
-    "dot",
-    "select",
-    "frexp",
-    "modf",
-    "abs",
-    "length",
-    "transpose",
-    "countOneBits",
-    "pow",
-    "insertBits",
-    "arrayLength",
-    "workgroupBarrier",
-    "no_such_name",
-];
+const CALLED: &str = "array f32 u32 vec2 vec3 vec4 mat2x2 mat3x2 bitcast min clamp dot select frexp modf abs length \
+    transpose countOneBits pow insertBits arrayLength workgroupBarrier no_such_name";
 
 /// Numbers by Marsaglia's xorshift.
 pub struct Random(u64);
@@ -205,16 +138,16 @@ impl Random {
     }
 
     pub fn binary_operator(&mut self) -> BinaryOperator {
-        self.of(&BINARY)
+        self.of(&BinaryOperator::ALL)
     }
 
     pub fn unary_operator(&mut self) -> UnaryOperator {
-        self.of(&UNARY)
+        self.of(&UnaryOperator::ALL)
     }
 
     /// A name, a template and arguments.
     pub fn call(&mut self) -> (&'static str, Option<Vec<TpltParam>>, Vec<Type>) {
-        let name = self.of(&CALLED);
+        let name = self.of(&CALLED.split(' ').collect::<Vec<_>>());
         let tplt = (self.below(4) == 0)
             .then(|| (0..self.below(3)).map(|index| self.parameter(index)).collect());
         let first = self.value();

@@ -1,0 +1,4 @@
+pub mod Behaviours
+pub mod Declarations
+pub mod Flow
+pub mod Views

@@ -1,0 +1,250 @@
+// Attributes where they stand, and what their arguments say (WGSL, "Attributes"). Only tested.
+
+use crate::attribute::{Attribute, Attributes, Name, Owner, Row, row_named};
+use crate::checker::Checker;
+use std::alloc::AllocError;
+use wgsl_core::ty::Type;
+use wgsl_forms::switch::switch_type;
+use wgsl_names::fault::{Place, Rule};
+use wgsl_names::known::Part;
+use wgsl_reader::kind::Kind;
+use wgsl_typing::item::Item;
+
+/// What stands in the brackets of an attribute.
+#[derive(Drop)]
+struct Arguments {
+    parts: Vec<Part>,
+    /// Names that stand for no value, by the number of tokens up to each.
+    names: Vec<usize>,
+    is_empty_list: bool,
+}
+
+impl<'t> Checker<'t> {
+    /// The attribute of a name among those of something.
+    pub fn attribute(&self, of: Attributes, name: Name) -> Option<Attribute> {
+        for attribute in self.attributes.get(of.from..of.to).unwrap_or(&[]) {
+            if attribute.name == name {
+                return Some(*attribute);
+            }
+        }
+        None
+    }
+
+    pub fn has(&self, of: Attributes, name: Name) -> bool {
+        self.attribute(of, name).is_some()
+    }
+
+    /// The integer in the brackets of an attribute, if its value is computed.
+    pub fn integer(&self, of: Attributes, name: Name) -> Option<i64> {
+        self.attribute(of, name)?.integer
+    }
+
+    /// The name in the brackets of an attribute, by the number of tokens up to it.
+    pub fn name_in(&self, of: Attributes, name: Name) -> Option<usize> {
+        self.attribute(of, name)?.word
+    }
+
+    /// Whether this name stands in the brackets of an attribute.
+    pub fn says(&self, of: Attributes, name: Name, word: &str) -> bool {
+        match self.name_in(of, name) {
+            Some(count) => self.word(count) == word,
+            None => false,
+        }
+    }
+
+    /// The attributes that were read since the last ones were taken.
+    pub fn take_attributes(&mut self) -> Attributes {
+        let taken = self.pending;
+        self.pending = Attributes::none(taken.to);
+        taken
+    }
+
+    /// `@name`: its arguments are a list.
+    pub fn open_attribute(&mut self, count: usize) -> Result<(), AllocError> {
+        self.expressions.push(Item::Name(count))?;
+        self.expressions.push(Item::OpenList)
+    }
+
+    /// `@diagnostic(off, a)`
+    pub fn put_diagnostic(&mut self, count: usize) -> Result<(), AllocError> {
+        match self.owner {
+            Owner::Function | Owner::Statement => Ok(()),
+            _ => self.refuse_attribute(count, "can't stand here"),
+        }
+    }
+
+    /// The severity of a diagnostic filter.
+    pub fn check_severity(&mut self, count: usize) -> Result<(), AllocError> {
+        match self.word(count) {
+            "error" | "warning" | "info" | "off" => Ok(()),
+            _ => self.tell_name(Rule::Syntax, count, "is no severity"),
+        }
+    }
+
+    fn refuse_attribute(&mut self, named: usize, message: &str) -> Result<(), AllocError> {
+        self.pending.are_fine = false;
+        self.tell_name(Rule::Attribute, named, message)
+    }
+
+    /// `@name(x)` is read. A name in brackets that take names stands for no value.
+    pub fn close_attribute(&mut self, count: usize) -> Result<(), AllocError> {
+        if self.expressions.token_before(count).kind == Kind::Const {
+            return self.tell_last(Rule::Attribute, count, "@const can't be written");
+        }
+        let mut list = self.expressions.take_list()?;
+        let named = self.expressions.take_name();
+        let row = row_named(self.word(named));
+        let takes_names = matches!(row, Some((_, Name::Builtin | Name::Interpolate, _, _, _)));
+        if let Some((_, Name::Vertex | Name::Fragment | Name::Compute, _, _, _)) = row {
+            self.pending.have_stage = true;
+        }
+        let mut arguments = Arguments {
+            parts: Vec::new(self.expressions.alloc),
+            names: Vec::new(self.expressions.alloc),
+            is_empty_list: count > named && list.is_empty(),
+        };
+        for _ in 0..list.len() {
+            let name = match list.last() {
+                Some(Item::Name(count)) if takes_names => Some(*count),
+                _ => None,
+            };
+            if let Some(count) = name {
+                list.pop();
+                arguments.names.push(count)?;
+            } else {
+                let part = self.expressions.next_part(&mut list)?;
+                self.expressions.has_value(&part)?;
+                arguments.parts.push(part)?;
+            }
+        }
+        self.put_attribute(row, named, &arguments)?;
+        for part in arguments.parts {
+            self.expressions.note(part)?;
+        }
+        Ok(())
+    }
+
+    /// Keeps an attribute that has no fault.
+    fn put_attribute(
+        &mut self,
+        row: Option<Row>,
+        named: usize,
+        arguments: &Arguments,
+    ) -> Result<(), AllocError> {
+        let name = match self.allowed(row, arguments) {
+            Ok(name) => name,
+            Err(message) => return self.refuse_attribute(named, message),
+        };
+        let integer = match arguments.parts.first() {
+            Some(_) if name == Name::WorkgroupSize => {
+                self.workgroup_size(named, &arguments.parts)?
+            }
+            Some(part) => self.integer_of(name, part)?,
+            None => Some(None),
+        };
+        let Some(integer) = integer else {
+            self.pending.are_fine = false;
+            return Ok(());
+        };
+        self.attributes.push(Attribute {
+            name,
+            named,
+            integer,
+            word: arguments.names.first().copied(),
+        })?;
+        self.pending.to = self.attributes.len();
+        Ok(())
+    }
+
+    /// The attribute, if it may stand here with its arguments, whatever their values. Otherwise what is wrong with it.
+    fn allowed(&self, row: Option<Row>, arguments: &Arguments) -> Result<Name, &'static str> {
+        if self.owner == Owner::Statement {
+            return Err("can't stand in front of a statement");
+        }
+        let Some((_, name, owner, least, most)) = row else {
+            return Err("can't stand here");
+        };
+        let count = arguments.parts.len().saturating_add(arguments.names.len());
+        let is_of_member = owner == Owner::InOut && self.owner == Owner::Member;
+        if owner != self.owner && !is_of_member {
+            Err("can't stand here")
+        } else if self.has(self.pending, name) {
+            Err("stands here twice")
+        } else if count < least || count > most || arguments.is_empty_list {
+            Err("takes another number of arguments")
+        } else if name == Name::Builtin && arguments.names.is_empty() {
+            Err("takes a name")
+        } else if name == Name::Interpolate && !self.is_interpolation(arguments) {
+            Err("has no such interpolation")
+        } else {
+            Ok(name)
+        }
+    }
+
+    fn is_interpolation(&self, arguments: &Arguments) -> bool {
+        let is_known = match arguments.names.as_slice() {
+            [kind] => matches!(self.word(*kind), "perspective" | "linear" | "flat"),
+            [kind, sampling] => match self.word(*kind) {
+                "perspective" | "linear" => {
+                    matches!(self.word(*sampling), "center" | "centroid" | "sample")
+                }
+                "flat" => matches!(self.word(*sampling), "first" | "either"),
+                _ => false,
+            },
+            _ => false,
+        };
+        is_known && arguments.parts.is_empty()
+    }
+
+    /// The integer that is the argument of an attribute, `@size` and `@align` from 1 on: None where a fault is told, `Some(None)` if
+    /// it isn't computed.
+    fn integer_of(&mut self, name: Name, part: &Part) -> Result<Option<Option<i64>>, AllocError> {
+        let Some(typed) = part.typed() else {
+            return Ok(None);
+        };
+        let is_integer = matches!(typed.ty, Type::AbstractInt | Type::I32 | Type::U32);
+        let is_positive = matches!(name, Name::Align | Name::Size);
+        let message = match part.integer() {
+            _ if !is_integer || !typed.stage.is_const() => {
+                "expected an integer that is a const-expression"
+            }
+            Some(value) if value < 0 || value >= 0x8000_0000 || value == 0 && is_positive => {
+                "this integer is too small or too large"
+            }
+            integer => return Ok(Some(integer)),
+        };
+        self.tell(Rule::Attribute, part.place, message)?;
+        Ok(None)
+    }
+
+    /// One to three integers of one type, from 1 on: None where a fault is told.
+    fn workgroup_size(
+        &mut self,
+        named: usize,
+        parts: &[Part],
+    ) -> Result<Option<Option<i64>>, AllocError> {
+        let mut operands = Vec::new(self.expressions.alloc);
+        for part in parts {
+            match part.typed() {
+                Some(typed) => operands.push(typed.early_operand())?,
+                None => return Ok(None),
+            }
+        }
+        let Some((first, rest)) = operands.split_first() else {
+            return Ok(None);
+        };
+        let refusal = switch_type(first, rest).err();
+        if !self.expressions.allows(Place::last_of(named), refusal)? {
+            return Ok(None);
+        }
+        for part in parts {
+            let is_early = matches!(part.typed(), Some(typed) if typed.stage.is_early());
+            if !is_early || part.integer().unwrap_or(1) <= 0 {
+                let message = "a workgroup's size is positive, and known before the shader runs";
+                self.tell(Rule::EntryPoint, part.place, message)?;
+                return Ok(None);
+            }
+        }
+        Ok(Some(None))
+    }
+}

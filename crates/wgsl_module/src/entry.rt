@@ -1,0 +1,142 @@
+// What entry points reach: stages, bindings (WGSL, "Entry Points", "Function Calls"). Only tested.
+
+use crate::attribute::Name;
+use crate::checker::{Checker, Interface};
+use crate::interface::ShaderStage;
+use crate::walk::Link;
+use std::alloc::AllocError;
+use std::collections::BTreeSet;
+use wgsl_core::ty::Type;
+use wgsl_core::ty::form::Form;
+use wgsl_names::fault::Rule;
+use wgsl_names::known::Known;
+use wgsl_syntax::address::{AccessMode, AddressSpace};
+use wgsl_syntax::overload::Stages;
+use wgsl_syntax::texture_name::TextureParameters;
+
+impl<'t> Checker<'t> {
+    pub fn check_entry_points(&mut self) -> Result<(), AllocError> {
+        for index in 0..self.declarations.len() {
+            if !matches!(self.expressions.known_at(index), Some(Known::Function(_))) {
+                continue;
+            }
+            if let Some(interface) = self.take_interface(index) {
+                self.check_entry_point(index, &interface)?;
+                self.keep(index, interface);
+            }
+        }
+        Ok(())
+    }
+
+    fn check_entry_point(&mut self, index: usize, interface: &Interface) -> Result<(), AllocError> {
+        let named = self.named(index).unwrap_or(0);
+        let attributes = interface.attributes;
+        let has_size = self.has(attributes, Name::WorkgroupSize);
+        let stage = match (
+            self.has(attributes, Name::Vertex),
+            self.has(attributes, Name::Fragment),
+            self.has(attributes, Name::Compute),
+        ) {
+            (true, false, false) => ShaderStage::Vertex,
+            (false, true, false) => ShaderStage::Fragment,
+            (false, false, true) => ShaderStage::Compute,
+            (false, false, false) if !has_size => return Ok(()),
+            (false, false, false) => {
+                return self.tell_name(Rule::EntryPoint, named, "is no compute shader");
+            }
+            _ => return self.tell_name(Rule::EntryPoint, named, "has more than one stage"),
+        };
+        if (stage == ShaderStage::Compute) != has_size {
+            let message = "must have @workgroup_size if it is a compute shader, and only then";
+            self.tell_name(Rule::EntryPoint, named, message)?;
+        }
+        if self.check_side(stage, true, named, &interface.fields)? {
+            self.check_side(stage, false, named, interface.result.as_slice())?;
+        }
+        self.check_reached(stage, index)
+    }
+
+    /// What an entry point and the functions that it calls do is for its stage, and no two of its variables have one binding.
+    fn check_reached(&mut self, stage: ShaderStage, root: usize) -> Result<(), AllocError> {
+        let mut variables = BTreeSet::new(self.expressions.alloc);
+        let mut wrong = Vec::new(self.expressions.alloc);
+        let walk = self.walk(root, root.saturating_add(1), Link::Call)?;
+        for index in &walk.order {
+            let Some(Some(doing)) = self.doings.get(*index) else {
+                continue;
+            };
+            for variable in &doing.variables {
+                variables.insert(*variable)?;
+            }
+            for (stages, place) in &doing.staged {
+                if !include(*stages, stage) {
+                    wrong.push(*place)?;
+                    break;
+                }
+            }
+        }
+        let name = stage.name();
+        let message = format!(in self.expressions.alloc;
+            "a {name} shader does this, which it can't"
+        )?;
+        for place in &wrong {
+            self.tell(Rule::Stage, *place, message.as_str())?;
+        }
+        self.check_variables(stage, &variables)
+    }
+
+    fn check_variables(
+        &mut self,
+        stage: ShaderStage,
+        variables: &BTreeSet<usize>,
+    ) -> Result<(), AllocError> {
+        let mut places = BTreeSet::new(self.expressions.alloc);
+        for index in variables {
+            let named = self.named(*index).unwrap_or(0);
+            if !include(self.stages_of(*index), stage) {
+                let message = "can't be used in a shader of this stage";
+                self.tell_name(Rule::Stage, named, message)?;
+            }
+            if let Some(place) = self.bindings.get(&named).copied() {
+                if !places.insert(place)? {
+                    self.tell_name(Rule::Binding, named, "has the binding of another variable")?;
+                }
+            }
+        }
+        Ok(())
+    }
+
+    /// The stages in which a variable can be used.
+    fn stages_of(&self, index: usize) -> Stages {
+        let Some(Known::Value(typed)) = self.expressions.known_at(index) else {
+            return Stages::All;
+        };
+        match typed.ty.form() {
+            Form::Reference(AddressSpace::Workgroup, _, _) => Stages::Compute,
+            Form::Reference(AddressSpace::Storage, _, AccessMode::ReadWrite) =>
+                Stages::AllButVertex,
+            Form::Reference(AddressSpace::Handle, of, _) if is_written(of) => Stages::AllButVertex,
+            _ => Stages::All,
+        }
+    }
+}
+
+fn is_written(ty: &Type) -> bool {
+    match ty.form() {
+        Form::Texture(texture) => match texture.parameters() {
+            TextureParameters::Storage(_, access) => access.is_write(),
+            _ => false,
+        },
+        _ => false,
+    }
+}
+
+/// Whether something may be done in a stage.
+fn include(stages: Stages, stage: ShaderStage) -> bool {
+    match stages {
+        Stages::All => true,
+        Stages::Fragment => stage == ShaderStage::Fragment,
+        Stages::Compute => stage == ShaderStage::Compute,
+        Stages::AllButVertex => stage != ShaderStage::Vertex,
+    }
+}

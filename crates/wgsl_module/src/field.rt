@@ -1,0 +1,282 @@
+// Members of structs, parameters and results of functions.
+
+use crate::attribute::{Attributes, Name};
+use crate::checker::{Checker, Interface};
+use std::alloc::AllocError;
+use std::collections::BTreeMap;
+use wgsl_core::ty::form::Form;
+use wgsl_core::ty::{StructMemberType, StructType, Type};
+use wgsl_forms::declare::is_const_type;
+use wgsl_forms::lists::fit;
+use wgsl_forms::refusal::Refusal;
+use wgsl_names::fault::{Place, Rule};
+use wgsl_names::known::{Known, Signature};
+use wgsl_names::structs::{Declared, short, size_and_align};
+use wgsl_typing::count::is_element;
+use wgsl_typing::list::DEPTH;
+
+/// A member of a struct, a parameter or the result of a function.
+#[derive(Drop)]
+pub struct Field {
+    /// How many tokens there are up to its name; of a result up to its type.
+    pub named: usize,
+    pub place: Place,
+    /// Its type; None if that has a fault.
+    pub ty: Option<Type>,
+    pub attributes: Attributes,
+}
+
+impl<'t> Checker<'t> {
+    /// `a: T` of a struct or of a function
+    pub fn put_field(&mut self) -> Result<(), AllocError> {
+        let (place, ty) = self.expressions.take_type()?;
+        let named = self.expressions.take_name();
+        let attributes = self.take_attributes();
+        if let Some(interface) = &mut self.interface {
+            interface.fields.push(Field {
+                named,
+                place,
+                ty,
+                attributes,
+            })?;
+        }
+        Ok(())
+    }
+
+    /// `-> T`
+    pub fn put_result(&mut self) -> Result<(), AllocError> {
+        let (place, ty) = self.expressions.take_type()?;
+        let attributes = self.take_attributes();
+        if let Some(interface) = &mut self.interface {
+            interface.result = Some(Field {
+                named: place.to,
+                place,
+                ty,
+                attributes,
+            });
+        }
+        Ok(())
+    }
+
+    /// The index of the field with a name; None if two have one name.
+    fn names_of(
+        &mut self,
+        fields: &[Field],
+    ) -> Result<Option<BTreeMap<&'t str, usize>>, AllocError> {
+        let mut names = BTreeMap::new(self.expressions.alloc);
+        let mut are_distinct = true;
+        for (index, field) in fields.iter().enumerate() {
+            if let Some(first) = names.insert(self.word(field.named), index)? {
+                self.tell_name(Rule::Duplicate, field.named, "is declared twice")?;
+                if let Some(first) = fields.get(first) {
+                    self.expressions.refer(first.named)?;
+                }
+                are_distinct = false;
+            }
+        }
+        Ok(if are_distinct { Some(names) } else { None })
+    }
+
+    /// What a struct with these members stands for.
+    pub fn structure(&mut self, named: usize, fields: &[Field]) -> Result<Known, AllocError> {
+        let names = self.names_of(fields)?;
+        let mut members = Vec::new(self.expressions.alloc);
+        for (index, field) in fields.iter().enumerate() {
+            let is_last = index.saturating_add(1) == fields.len();
+            if let Some(member) = self.member_of_struct(field, is_last)? {
+                members.push(member)?;
+            }
+        }
+        let are_fine = self.check_locations(fields)? && members.len() == fields.len();
+        match names {
+            Some(names) if are_fine => {
+                let name = String::from_str(self.expressions.alloc, self.word(named))?;
+                self.declared_struct(named, StructType { name, members }, names)
+            }
+            _ => Ok(Known::Faulty),
+        }
+    }
+
+    fn declared_struct(
+        &mut self,
+        named: usize,
+        whole: StructType,
+        members: BTreeMap<&'t str, usize>,
+    ) -> Result<Known, AllocError> {
+        let made = short(self.expressions.alloc, &whole)?;
+        let (mut has_long_array, mut is_sized, mut depth) = (false, true, 0);
+        for member in &whole.members {
+            depth = self.expressions.structs.depth(&member.ty).max(depth);
+            has_long_array = has_long_array || self.expressions.structs.has_long_array(&member.ty);
+            is_sized = is_sized
+                && (member.size.is_some() || size_and_align(&member.ty).0.is_some());
+        }
+        let has_size = match made.members.last() {
+            Some(member) => member.size.is_some() || matches!(member.ty, Type::Array(_, _)),
+            None => true,
+        };
+        let fault = if is_sized && !has_size {
+            Some((Rule::Struct, "has more than 4294967295 bytes"))
+        } else if depth >= DEPTH {
+            Some((Rule::Limit, "has more than 255 types inside one another"))
+        } else {
+            None
+        };
+        if let Some((rule, message)) = fault {
+            self.tell_name(rule, named, message)?;
+            return Ok(Known::Faulty);
+        }
+        let declared = Declared {
+            whole: Type::from_struct(self.expressions.alloc, whole)?,
+            members,
+            has_long_array,
+            depth,
+        };
+        let name = self.word(named);
+        self.expressions.structs.declare(name, declared)?;
+        Ok(Known::Type(Type::from_struct(self.expressions.alloc, made)?))
+    }
+
+    /// A member; None where that is told.
+    fn member_of_struct(
+        &mut self,
+        field: &Field,
+        is_last: bool,
+    ) -> Result<Option<StructMemberType>, AllocError> {
+        let Some(ty) = &field.ty else {
+            return Ok(None);
+        };
+        let of = match ty.form() {
+            Form::Array(None, of) if is_last => of,
+            _ => ty,
+        };
+        if !is_element(of) {
+            return self.no_field(Rule::Struct, field.place, ty, "can't be a member");
+        }
+        let size = self.bytes(field.attributes, Name::Size);
+        let align = self.bytes(field.attributes, Name::Align);
+        if !field.attributes.are_fine
+            || !self.check_io(field, ty)?
+            || !self.check_size(field.named, ty, size, align)?
+        {
+            return Ok(None);
+        }
+        Ok(Some(StructMemberType {
+            name: String::from_str(self.expressions.alloc, self.word(field.named))?,
+            ty: ty.clone(self.expressions.alloc)?,
+            size,
+            align,
+        }))
+    }
+
+    /// Nothing, as a field can't have that type.
+    fn no_field<T>(
+        &mut self,
+        rule: Rule,
+        place: Place,
+        ty: &Type,
+        message: &str,
+    ) -> Result<Option<T>, AllocError> {
+        let message = format!(in self.expressions.alloc; "`{ty}` {message}")?;
+        self.expressions.fault(rule, place, message)?;
+        Ok(None)
+    }
+
+    /// The number of `@size` or `@align`.
+    fn bytes(&self, of: Attributes, name: Name) -> Option<u32> {
+        u32::try_from(self.integer(of, name)?).ok()
+    }
+
+    /// `@size` and `@align` of a member.
+    fn check_size(
+        &mut self,
+        named: usize,
+        ty: &Type,
+        size: Option<u32>,
+        align: Option<u32>,
+    ) -> Result<bool, AllocError> {
+        let (least, needed) = size_and_align(ty);
+        let needed = needed.unwrap_or(1).max(1);
+        let is_aligned = match align {
+            Some(align) => align.is_power_of_two() && align.is_multiple_of(needed),
+            None => true,
+        };
+        let is_large = match size {
+            Some(size) => size >= least.unwrap_or(u32::MAX),
+            None => true,
+        };
+        if is_aligned && is_large {
+            return Ok(true);
+        }
+        let message = if is_aligned {
+            "has a size below that of its type"
+        } else {
+            "has an alignment that is no power of two, or none of the type"
+        };
+        self.expressions.no(Rule::Attribute, named, message)
+    }
+
+    /// What a function with these parameters and this result stands for.
+    pub fn signature(&mut self, named: usize, interface: &Interface) -> Result<Known, AllocError> {
+        let attributes = interface.attributes;
+        let has_names = self.names_of(&interface.fields)?.is_some();
+        let mut parameters = Vec::new(self.expressions.alloc);
+        for field in &interface.fields {
+            if let Some(ty) = self.parameter(field)? {
+                parameters.push(ty)?;
+            }
+        }
+        let result = match &interface.result {
+            Some(field) => self.returned(field)?,
+            None => None,
+        };
+        if interface.result.is_some() && result.is_none() {
+            return Ok(Known::Faulty);
+        }
+        let must_use = self.has(attributes, Name::MustUse);
+        let is_entry_point = self.has(attributes, Name::Vertex)
+            || self.has(attributes, Name::Fragment)
+            || self.has(attributes, Name::Compute);
+        if must_use && (result.is_none() || is_entry_point) {
+            self.tell_name(Rule::Attribute, named, "has no value that can be used")?;
+            return Ok(Known::Faulty);
+        }
+        if !has_names || !attributes.are_fine || parameters.len() != interface.fields.len() {
+            return Ok(Known::Faulty);
+        }
+        Ok(Known::Function(Signature {
+            parameters,
+            result,
+            must_use,
+            is_entry_point,
+        }))
+    }
+
+    fn parameter(&mut self, field: &Field) -> Result<Option<Type>, AllocError> {
+        let Some(ty) = &field.ty else {
+            return Ok(None);
+        };
+        let types = [ty.clone(self.expressions.alloc)?];
+        let refusal = match fit(&[], &types) {
+            Err(refusal @ Refusal::NotConstructible(_)) => Some(refusal),
+            _ => None,
+        };
+        if !self.expressions.allows(field.place, refusal)?
+            || !self.expressions.is_short(field.named, ty)?
+            || !field.attributes.are_fine
+        {
+            return Ok(None);
+        }
+        Ok(Some(ty.clone(self.expressions.alloc)?))
+    }
+
+    fn returned(&mut self, field: &Field) -> Result<Option<Type>, AllocError> {
+        match &field.ty {
+            Some(ty) if !is_const_type(ty) => {
+                self.no_field(Rule::Type, field.place, ty, "is not constructible")
+            }
+            Some(ty) if field.attributes.are_fine => Ok(Some(ty.clone(self.expressions.alloc)?)),
+            _ => Ok(None),
+        }
+    }
+}

@@ -1,0 +1,334 @@
+// What entry points take and return (WGSL, "Entry Points", "Built-in Values", "Input-output Locations"). Only tested.
+
+use crate::attribute::{Attributes, Name};
+use crate::checker::{Checker, Interface};
+use crate::field::Field;
+use std::alloc::AllocError;
+use std::collections::BTreeSet;
+use wgsl_core::ty::Type;
+use wgsl_core::ty::form::Form;
+use wgsl_names::fault::Rule;
+use wgsl_typing::extension::is_among;
+
+/// The stage of an entry point.
+#[derive(Clone, Copy, PartialEq, Eq)]
+pub enum ShaderStage {
+    Vertex,
+    Fragment,
+    Compute,
+}
+
+impl ShaderStage {
+    pub fn name(self) -> &'static str {
+        match self {
+            ShaderStage::Vertex => "vertex",
+            ShaderStage::Fragment => "fragment",
+            ShaderStage::Compute => "compute",
+        }
+    }
+}
+
+/// A built-in value: its name, its type (an array of one to eight without their number), the stages that take it, and those that
+/// return it.
+type BuiltIn = (&'static str, &'static str, &'static str, &'static str);
+
+const BUILT_INS: [BuiltIn; 20] = [
+    ("clip_distances", "array<f32>", "", "vertex"),
+    ("frag_depth", "f32", "", "fragment"),
+    ("front_facing", "bool", "fragment", ""),
+    ("global_invocation_id", "vec3<u32>", "compute", ""),
+    ("global_invocation_index", "u32", "compute", ""),
+    ("instance_index", "u32", "vertex", ""),
+    ("local_invocation_id", "vec3<u32>", "compute", ""),
+    ("local_invocation_index", "u32", "compute", ""),
+    ("num_subgroups", "u32", "compute", ""),
+    ("num_workgroups", "vec3<u32>", "compute", ""),
+    ("position", "vec4<f32>", "fragment", "vertex"),
+    ("primitive_index", "u32", "fragment", ""),
+    ("sample_index", "u32", "fragment", ""),
+    ("sample_mask", "u32", "fragment", "fragment"),
+    ("subgroup_id", "u32", "compute", ""),
+    ("subgroup_invocation_id", "u32", "fragment compute", ""),
+    ("subgroup_size", "u32", "fragment compute", ""),
+    ("vertex_index", "u32", "vertex", ""),
+    ("workgroup_id", "vec3<u32>", "compute", ""),
+    ("workgroup_index", "u32", "compute", ""),
+];
+
+fn built_in(name: &str) -> Option<BuiltIn> {
+    for row in &BUILT_INS {
+        if row.0 == name {
+            return Some(*row);
+        }
+    }
+    None
+}
+
+/// One side of an entry point: what it takes, or what it returns, so far.
+#[derive(Drop)]
+struct Side<'t> {
+    stage: ShaderStage,
+    is_input: bool,
+    locations: BTreeSet<(i64, i64)>,
+    built_ins: BTreeSet<&'t str>,
+}
+
+/// What is wrong with a member, a parameter or a result: the rule; the name that it is wrong with, by the number of tokens up to it,
+/// or else it is the type; and why.
+type Trouble = (Rule, Option<usize>, &'static str);
+
+/// This is wrong with the type of what an entry point takes or returns.
+fn wrong_type(message: &'static str) -> Option<Trouble> {
+    Some((Rule::EntryPoint, None, message))
+}
+
+/// This is wrong with a name in the attributes of what an entry point takes or returns.
+fn wrong_name(count: usize, message: &'static str) -> Option<Trouble> {
+    Some((Rule::EntryPoint, Some(count), message))
+}
+
+impl<'t> Checker<'t> {
+    /// Checks what an entry point takes, or what it returns. Returns whether that is right.
+    pub fn check_side(
+        &mut self,
+        stage: ShaderStage,
+        is_input: bool,
+        named: usize,
+        fields: &[Field],
+    ) -> Result<bool, AllocError> {
+        let mut side = Side {
+            stage,
+            is_input,
+            locations: BTreeSet::new(self.expressions.alloc),
+            built_ins: BTreeSet::new(self.expressions.alloc),
+        };
+        for field in fields {
+            if !self.carry(&mut side, field)? {
+                return Ok(false);
+            }
+        }
+        if is_input || stage != ShaderStage::Vertex || side.built_ins.contains("position") {
+            return Ok(true);
+        }
+        self.expressions
+            .no(Rule::EntryPoint, named, "must return @builtin(position)")
+    }
+
+    /// Whether nothing is wrong with a member, a parameter or a result. Otherwise that is told.
+    fn is_right(&mut self, field: &Field, trouble: Option<Trouble>) -> Result<bool, AllocError> {
+        match trouble {
+            None => return Ok(true),
+            Some((rule, Some(count), message)) => self.tell_name(rule, count, message)?,
+            Some((rule, None, message)) => self.tell(rule, field.place, message)?,
+        }
+        Ok(false)
+    }
+
+    /// What attributes ask of the type of a member, a parameter or a result, whoever uses it.
+    pub fn check_io(&mut self, field: &Field, ty: &Type) -> Result<bool, AllocError> {
+        let trouble = self.trouble_of(field.attributes, ty);
+        self.is_right(field, trouble)
+    }
+
+    fn trouble_of(&self, of: Attributes, ty: &Type) -> Option<Trouble> {
+        if let Some(count) = self.name_in(of, Name::Builtin) {
+            match built_in(self.word(count)) {
+                None => return wrong_name(count, "is no built-in value"),
+                Some((_, spelled, _, _)) if !is_of(spelled, ty) => {
+                    return wrong_type("this built-in value has another type");
+                }
+                Some((name, _, _, _)) if !self.is_enabled(name) => {
+                    return Some((Rule::Extension, Some(count), "needs an extension"));
+                }
+                Some(_) => {}
+            }
+        }
+        let has_location = self.has(of, Name::Location);
+        if has_location && !is_carried(ty) {
+            return wrong_type("this type can't have a @location");
+        }
+        match (
+            self.attribute(of, Name::Interpolate),
+            self.attribute(of, Name::Invariant),
+        ) {
+            (Some(interpolate), _) if !has_location => {
+                wrong_name(interpolate.named, "stands with @location")
+            }
+            _ if self.has(of, Name::BlendSrc) && !self.is_enabled("blend_src") => {
+                let message = "@blend_src needs `enable dual_source_blending;`";
+                Some((Rule::Extension, None, message))
+            }
+            (_, Some(invariant)) if !self.says(of, Name::Builtin, "position") => {
+                wrong_name(invariant.named, "stands with @builtin(position)")
+            }
+            _ => None,
+        }
+    }
+
+    /// Whether the extension is enabled that an attribute or a built-in value needs, if it needs one.
+    fn is_enabled(&self, name: &str) -> bool {
+        let extensions = self.expressions.extensions;
+        match name {
+            "blend_src" => extensions.dual_source_blending,
+            "clip_distances" => extensions.clip_distances,
+            "primitive_index" => extensions.primitive_index,
+            "subgroup_id" | "num_subgroups" | "subgroup_invocation_id" | "subgroup_size" => {
+                extensions.subgroups
+            }
+            _ => true,
+        }
+    }
+
+    /// No two members of a struct have one `@location`.
+    pub fn check_locations(&mut self, fields: &[Field]) -> Result<bool, AllocError> {
+        let mut seen = BTreeSet::new(self.expressions.alloc);
+        for field in fields {
+            if !self.is_free(&mut seen, field.attributes)? {
+                return self.is_right(field, wrong_type("a second member with this @location"));
+            }
+        }
+        Ok(true)
+    }
+
+    /// Whether the `@location`, with its `@blend_src`, isn't one of those before.
+    fn is_free(&self, seen: &mut BTreeSet<(i64, i64)>, of: Attributes) -> Result<bool, AllocError> {
+        let Some(location) = self.integer(of, Name::Location) else {
+            return Ok(true);
+        };
+        let source = self.integer(of, Name::BlendSrc).unwrap_or(-1);
+        Ok(seen.insert((location, source))?)
+    }
+
+    /// A parameter or a result: a value, or a struct of values.
+    fn carry(&mut self, side: &mut Side<'t>, field: &Field) -> Result<bool, AllocError> {
+        let Some(ty) = &field.ty else {
+            return Ok(true);
+        };
+        if side.stage == ShaderStage::Compute && !side.is_input {
+            return self.is_right(field, wrong_type("a compute shader returns nothing"));
+        }
+        let is_value = self.has(field.attributes, Name::Location)
+            || self.has(field.attributes, Name::Builtin);
+        let index = match ty.form() {
+            Form::Struct(of) if !is_value => self.expressions.names.get(of.name.as_str()).copied(),
+            _ => return self.carry_value(side, field, ty),
+        };
+        let Some(index) = index else {
+            return Ok(false);
+        };
+        let Some(interface) = self.take_interface(index) else {
+            return Ok(true);
+        };
+        let mut is_fine = true;
+        for member in &interface.fields {
+            if let Some(ty) = &member.ty {
+                is_fine = is_fine && self.carry_value(side, member, ty)?;
+            }
+        }
+        self.keep(index, interface);
+        Ok(is_fine)
+    }
+
+    /// Takes what is known of a declaration beside its name's meaning; `keep` gives it back.
+    pub fn take_interface(&mut self, index: usize) -> Option<Interface> {
+        self.interfaces.get_mut(index)?.take()
+    }
+
+    pub fn keep(&mut self, index: usize, interface: Interface) {
+        if let Some(place) = self.interfaces.get_mut(index) {
+            *place = Some(interface);
+        }
+    }
+
+    fn carry_value(
+        &mut self,
+        side: &mut Side<'t>,
+        field: &Field,
+        ty: &Type,
+    ) -> Result<bool, AllocError> {
+        let of = field.attributes;
+        let trouble = match (
+            self.name_in(of, Name::Builtin),
+            self.has(of, Name::Location),
+        ) {
+            _ if matches!(ty.form(), Form::Struct(_)) => wrong_type("a struct can't stand here"),
+            (Some(_), true) => wrong_type("@builtin and @location exclude each other"),
+            (None, false) => wrong_type("this needs @builtin or @location"),
+            (built_in, _) => match (self.trouble_of(of, ty), built_in) {
+                (None, Some(count)) => self.carry_built_in(side, count)?,
+                (None, None) => self.carry_location(side, of, ty)?,
+                (trouble, _) => trouble,
+            },
+        };
+        self.is_right(field, trouble)
+    }
+
+    fn carry_built_in(
+        &self,
+        side: &mut Side<'t>,
+        count: usize,
+    ) -> Result<Option<Trouble>, AllocError> {
+        let name = self.word(count);
+        let stages = match built_in(name) {
+            Some((_, _, inputs, _)) if side.is_input => inputs,
+            Some((_, _, _, outputs)) => outputs,
+            None => "",
+        };
+        Ok(if !is_among(side.stage.name(), stages) {
+            wrong_name(count, "can't stand here in this stage")
+        } else if !side.built_ins.insert(name)? {
+            wrong_name(count, "stands here twice")
+        } else {
+            None
+        })
+    }
+
+    fn carry_location(
+        &self,
+        side: &mut Side<'t>,
+        of: Attributes,
+        ty: &Type,
+    ) -> Result<Option<Trouble>, AllocError> {
+        let is_between = (side.stage == ShaderStage::Vertex) != side.is_input;
+        let is_integer = matches!(component_of(ty), Type::I32 | Type::U32);
+        let is_flat = self.says(of, Name::Interpolate, "flat");
+        Ok(if side.stage == ShaderStage::Compute {
+            wrong_type("a compute shader has no @location")
+        } else if is_between && is_integer && !is_flat {
+            wrong_type("an integer between stages needs @interpolate(flat)")
+        } else if !self.is_free(&mut side.locations, of)? {
+            wrong_type("this @location stands here twice")
+        } else {
+            None
+        })
+    }
+}
+
+/// The type of the components of a vector; any other type itself.
+pub fn component_of(ty: &Type) -> &Type {
+    match ty.form() {
+        Form::Vector(_, of) => of,
+        _ => ty,
+    }
+}
+
+/// Whether a value of the type is carried between stages: a number, or a vector of numbers.
+fn is_carried(ty: &Type) -> bool {
+    matches!(
+        component_of(ty),
+        Type::I32 | Type::U32 | Type::F32 | Type::F16
+    )
+}
+
+/// Whether a type is that of a built-in value.
+fn is_of(spelled: &str, ty: &Type) -> bool {
+    match (spelled, ty.form()) {
+        ("bool", _) => ty.is_bool(),
+        ("u32", _) => ty.is_u32(),
+        ("f32", _) => ty.is_f32(),
+        ("vec3<u32>", Form::Vector(3, of)) => of.is_u32(),
+        ("vec4<f32>", Form::Vector(4, of)) => of.is_f32(),
+        ("array<f32>", Form::Array(Some(count), of)) => 1 <= count && count <= 8 && of.is_f32(),
+        _ => false,
+    }
+}

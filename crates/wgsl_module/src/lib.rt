@@ -1,0 +1,24 @@
+//! The check of a WGSL module: the type of each expression, and what is wrong.
+//!
+//! The grammar's events are taken one by one (`step.rt`): expressions by `wgsl_typing`, statements and declarations here. What is
+//! misread or faulty is left out, and the rest is checked.
+#![tactic(auto)]
+
+mod attribute;
+mod attributes;
+mod behaviour;
+mod block;
+mod body;
+mod checker;
+mod declaration;
+mod entry;
+mod field;
+mod flow;
+mod frame;
+mod global;
+mod interface;
+mod local;
+pub mod module;
+mod statement;
+mod step;
+mod walk;

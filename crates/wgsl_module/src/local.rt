@@ -1,0 +1,70 @@
+// Declarations in functions (WGSL, "Value Declarations", "Variable Declarations").
+
+use crate::behaviour::Behaviour;
+use crate::checker::Checker;
+use std::alloc::AllocError;
+use wgsl_forms::declare::Declaration;
+use wgsl_names::fault::Rule;
+use wgsl_names::known::Typed;
+use wgsl_syntax::address::AddressSpace;
+
+impl<'t> Checker<'t> {
+    /// Gives a value its name in the innermost block.
+    fn bind(&mut self, named: usize, typed: Option<Typed>) -> Result<(), AllocError> {
+        let name = self.word(named);
+        if self.expressions.locals.is_here(name) {
+            self.tell_name(Rule::Duplicate, named, "is declared twice in this block")?;
+            if let Some(first) = self.expressions.locals.declared_here(name) {
+                self.expressions.refer(first)?;
+            }
+        } else {
+            self.expressions.locals.declare(name, named, typed)?;
+        }
+        self.end(Behaviour::NEXT)
+    }
+
+    /// `let x = y;`, `const x: T = y;`
+    pub fn declare_value(&mut self, declaration: Declaration) -> Result<(), AllocError> {
+        let part = self.expressions.take_part()?;
+        let declared = self.expressions.take_declared();
+        let named = self.expressions.take_name();
+        let typed = self.expressions.typed_value(declaration, &part, &declared)?;
+        self.expressions.note(part)?;
+        self.bind(named, typed)
+    }
+
+    /// `var x: T = y;`
+    pub fn declare_variable(&mut self) -> Result<(), AllocError> {
+        let part = self.expressions.take_initializer()?;
+        let declared = self.expressions.take_declared();
+        let named = self.expressions.take_name();
+        let is_allowed = self.is_in_function(named)?;
+        let typed = self.expressions.variable(
+            AddressSpace::Function,
+            None,
+            named,
+            part.as_ref(),
+            &declared,
+        )?;
+        let is_held = match &typed {
+            Some(typed) if is_allowed => self.expressions.may_be_held(named, &typed.ty)?,
+            _ => false,
+        };
+        if let Some(part) = part {
+            self.expressions.note(part)?;
+        }
+        self.bind(named, if is_held { typed } else { None })
+    }
+
+    /// A variable of a function lies in `function`.
+    fn is_in_function(&mut self, named: usize) -> Result<bool, AllocError> {
+        match self.expressions.take_space() {
+            None | Some(Some((AddressSpace::Function, None))) => Ok(true),
+            Some(None) => Ok(false),
+            Some(Some(_)) => {
+                let message = "is in a function, and so in `function`";
+                self.expressions.no(Rule::Type, named, message)
+            }
+        }
+    }
+}

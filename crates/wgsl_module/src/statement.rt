@@ -1,0 +1,189 @@
+// Statements without blocks (WGSL, "Statements").
+
+use crate::behaviour::Behaviour;
+use crate::checker::Checker;
+use crate::frame::Frame;
+use crate::interface::component_of;
+use std::alloc::AllocError;
+use wgsl_constants::constant::Constant;
+use wgsl_forms::assign::{assign_by, binary_operator, increment};
+use wgsl_forms::declare::discard;
+use wgsl_forms::flow::return_value;
+use wgsl_names::fault::{Place, Rule};
+use wgsl_names::known::{Outcome, Part, Typed};
+use wgsl_names::stage::Stage;
+use wgsl_names::structs::behind;
+use wgsl_names::value::Value;
+use wgsl_syntax::operator::AssignmentOperator;
+use wgsl_syntax::overload::Stages;
+use wgsl_typing::constant::wrong_right;
+use wgsl_typing::expression::shown;
+
+impl<'t> Checker<'t> {
+    /// The expression of a statement is used, and control goes on behind it.
+    fn end_with(&mut self, part: Part) -> Result<(), AllocError> {
+        self.expressions.note(part)?;
+        self.end(Behaviour::NEXT)
+    }
+
+    /// `const_assert x;`
+    pub fn assert(&mut self) -> Result<(), AllocError> {
+        let part = self.expressions.take_part()?;
+        if self.expressions.is_condition(&part)? {
+            if let Some(typed) = part.typed() {
+                self.check_assertion(part.place, typed)?;
+            }
+        }
+        self.end_with(part)
+    }
+
+    fn check_assertion(&mut self, place: Place, typed: &Typed) -> Result<(), AllocError> {
+        match (typed.stage, typed.value) {
+            (Stage::Const, Some(Value::One(Constant::Bool(false)))) => {
+                self.tell(Rule::Value, place, "this assertion doesn't hold")
+            }
+            (Stage::Const, _) => Ok(()),
+            _ => self.tell(Rule::Type, place, "expected a const-expression"),
+        }
+    }
+
+    /// `x = y;`, `x += y;`
+    pub fn assign(&mut self, is_compound: bool) -> Result<(), AllocError> {
+        let right = self.expressions.take_part()?;
+        let mut operator = AssignmentOperator::Equal;
+        if is_compound {
+            let sign = self.expressions.take_sign();
+            operator = assignment_of(self.word(sign));
+        }
+        let left = self.expressions.take_part()?;
+        if self.expressions.has_value(&left)? && self.expressions.has_value(&right)? {
+            if let (Some(x), Some(y)) = (left.typed(), right.typed()) {
+                self.check_assignment(operator, left.place, x, &right, y)?;
+            }
+        }
+        self.expressions.note(left)?;
+        self.end_with(right)
+    }
+
+    fn check_assignment(
+        &mut self,
+        operator: AssignmentOperator,
+        place: Place,
+        x: &Typed,
+        right: &Part,
+        y: &Typed,
+    ) -> Result<(), AllocError> {
+        let refusal = assign_by(operator, &x.operand(), &shown(y)).err();
+        if !self.expressions.allows(place, refusal)? {
+            return Ok(());
+        }
+        let (ty, binary) = (behind(&x.ty), binary_operator(operator));
+        let scalar = match binary {
+            Some(_) => component_of(ty),
+            None => ty,
+        };
+        let value = self.expressions.argument_value(right, Some(scalar))?;
+        if let (Some(value), Some(binary)) = (value, binary) {
+            if let Some(message) = wrong_right(binary, Some(ty), value, Stage::Runtime) {
+                return self.tell(Rule::Value, place, message);
+            }
+        }
+        Ok(())
+    }
+
+    /// `x++;`, `x--;`, or `_ = x;`
+    pub fn step_or_discard(&mut self, is_step: bool) -> Result<(), AllocError> {
+        let part = self.expressions.take_part()?;
+        self.expressions.has_value(&part)?;
+        if let Some(typed) = part.typed() {
+            let refusal = match is_step {
+                true => increment(&typed.operand()).err(),
+                false => discard(&shown(typed)).err(),
+            };
+            self.expressions.allows(part.place, refusal)?;
+        }
+        self.end_with(part)
+    }
+
+    /// `f(x);`
+    pub fn call_statement(&mut self) -> Result<(), AllocError> {
+        let part = self.expressions.take_part()?;
+        if matches!(part.outcome, Outcome::Typed(_)) && !part.may_be_dropped {
+            self.tell(Rule::MustUse, part.place, "this value must be used")?;
+        }
+        self.end_with(part)
+    }
+
+    /// `discard;`
+    pub fn discard(&mut self, count: usize) -> Result<(), AllocError> {
+        let place = Place::last_of(count.saturating_sub(1));
+        self.expressions.only_in(Stages::Fragment, place)?;
+        self.end(Behaviour::NEXT)
+    }
+
+    /// `break;`, `continue;`
+    pub fn jump(&mut self, count: usize, behaviour: Behaviour) -> Result<(), AllocError> {
+        let is_allowed = match behaviour.breaks {
+            true => self.around.may_break,
+            false => self.around.may_continue,
+        };
+        if is_allowed {
+            return self.end(behaviour);
+        }
+        let message = "no loop around is ended or continued here";
+        self.tell_last(Rule::Behaviour, count.saturating_sub(1), message)?;
+        self.end(Behaviour::NEXT)
+    }
+
+    /// The value behind `return`.
+    pub fn put_returned(&mut self) -> Result<(), AllocError> {
+        let part = self.expressions.take_part()?;
+        self.expressions.has_value(&part)?;
+        if let Some(typed) = part.typed() {
+            self.check_returned(&part, typed)?;
+        }
+        self.expressions.note(part)?;
+        self.flow.push(Frame::Returned)
+    }
+
+    fn check_returned(&mut self, part: &Part, typed: &Typed) -> Result<(), AllocError> {
+        let Some(ty) = self.result.take() else {
+            return self.tell(Rule::Type, part.place, "this function returns no value");
+        };
+        let refusal = return_value(&shown(typed), &ty).err();
+        if self.expressions.allows(part.place, refusal)? {
+            self.expressions.argument_value(part, Some(&ty))?;
+        }
+        self.result = Some(ty);
+        Ok(())
+    }
+
+    pub fn return_value(&mut self, count: usize) -> Result<(), AllocError> {
+        let has_value = self.flow.take_returned()?;
+        let word = count.saturating_sub(1);
+        if self.around.in_continuing {
+            self.tell_last(Rule::Behaviour, word, "a `continuing` can't return")?;
+        }
+        if !has_value && self.result.is_some() {
+            self.tell_last(Rule::Type, word, "this function returns a value")?;
+        }
+        self.end(Behaviour::RETURN)
+    }
+}
+
+/// The operator of an assignment.
+fn assignment_of(word: &str) -> AssignmentOperator {
+    match word {
+        "+=" => AssignmentOperator::PlusEqual,
+        "-=" => AssignmentOperator::MinusEqual,
+        "*=" => AssignmentOperator::TimesEqual,
+        "/=" => AssignmentOperator::DivisionEqual,
+        "%=" => AssignmentOperator::ModuloEqual,
+        "&=" => AssignmentOperator::AndEqual,
+        "|=" => AssignmentOperator::OrEqual,
+        "^=" => AssignmentOperator::XorEqual,
+        ">>=" => AssignmentOperator::ShiftRightAssign,
+        "<<=" => AssignmentOperator::ShiftLeftAssign,
+        _ => AssignmentOperator::Equal,
+    }
+}

@@ -1,0 +1,5 @@
+pub mod Faults
+pub mod Known
+pub mod Stages
+pub mod Short
+pub mod Scopes

@@ -1,0 +1,298 @@
+// Calls of functions and of constructors (WGSL, "Function Calls", "Value Constructor Built-in Functions").
+ghost use Rattle.std.specs.Prelude.{◌≡◌, IfOk, option_map};
+ghost use Rattle.wgsl_core.specs.View.{view};
+ghost use Rattle.wgsl_standard.specs.Callees.{a_function, callee_view};
+ghost use Rattle.wgsl_typing.specs.Outcomes.{IsCall, IsOfFunction, OrFaulty, stage_of};
+ghost use Rattle.wgsl_typing.specs.Words.{word_at};
+
+use crate::ask::{misfit, resolved};
+use crate::constant::call_value;
+use crate::expression::of_call;
+use crate::expressions::Expressions;
+use crate::item::{Callee as Called, Item, Listed};
+use crate::name::{Meaning, predeclared_type, typed};
+use std::alloc::AllocError;
+use wgsl_core::ty::Type;
+use wgsl_names::fault::{Place, Rule};
+use wgsl_names::known::{Known, Outcome, Part, Signature};
+use wgsl_names::stage::Stage;
+use wgsl_names::value::Value;
+use wgsl_spelling::predeclared::{LayerName, PredeclaredType};
+use wgsl_standard::callee::{
+    Callee, can_be_const_expression, may_be_dropped, needs_subgroups, overloads, stages_of,
+};
+
+/// A call that is read: its name or its type, and its arguments.
+#[derive(Clone, Copy)]
+pub struct Call<'c> {
+    /// The tokens of what is called.
+    pub head: Place,
+    pub arguments: &'c [Part],
+}
+
+impl<'t> Expressions<'t> {
+    /// The `(` of a call.
+    pub fn open_call(&mut self) -> Result<(), AllocError> {
+        let callee = match self.items.pop() {
+            Some(Item::Name(count)) => Called::Name(count),
+            Some(Item::Listed(place, listed)) => Called::Listed(place, listed),
+            Some(other) => {
+                self.items.push(other)?;
+                return Ok(());
+            }
+            None => return Ok(()),
+        };
+        let arguments = Vec::new(self.alloc);
+        self.push(Item::Call(callee, arguments))
+    }
+
+    /// An argument of a call.
+    pub fn put_argument(&mut self) -> Result<(), AllocError> {
+        let part = self.take_part()?;
+        self.has_value(&part)?;
+        match self.items.last_mut() {
+            Some(Item::Call(_, arguments)) => arguments.push(part)?,
+            _ => self.parts.push(part)?,
+        }
+        Ok(())
+    }
+
+    /// The `)` of a call.
+    pub fn put_call(&mut self, count: usize) -> Result<(), AllocError> {
+        let (callee, arguments) = match self.items.pop() {
+            Some(Item::Call(callee, arguments)) => (callee, arguments),
+            _ => return Ok(()),
+        };
+        let head = match &callee {
+            Called::Name(named) => Place::last_of(*named),
+            Called::Listed(place, _) => *place,
+        };
+        let call = Call {
+            head,
+            arguments: &arguments,
+        };
+        let outcome = match self.are_typed(&arguments) {
+            true => self.called(&callee, &call)?,
+            false => self.check_head(&callee)?,
+        };
+        let may_be_dropped = self.may_be_dropped(&callee);
+        for argument in arguments {
+            self.parts.push(argument)?;
+        }
+        let mut part = Part::of(head.up_to(Place::last_of(count)), outcome);
+        part.may_be_dropped = may_be_dropped;
+        self.push(Item::Part(part))
+    }
+
+    /// Whether the value of a call may be left unused.
+    fn may_be_dropped(&self, callee: &Called) -> bool {
+        let count = match callee {
+            Called::Name(count) | Called::Listed(_, Listed::Function(count, _)) => *count,
+            Called::Listed(_, Listed::Type(_)) => return false,
+        };
+        match self.meaning(count) {
+            Meaning::Declared(index) => match self.known_at(index) {
+                Some(Known::Function(signature)) => !signature.must_use,
+                _ => false,
+            },
+            Meaning::Undeclared => may_be_dropped(self.word(count)),
+            Meaning::Local(_) | Meaning::Unread(_) => false,
+        }
+    }
+
+    fn are_typed(&self, arguments: &[Part]) -> bool {
+        for argument in arguments {
+            if argument.typed().is_none() {
+                return false;
+            }
+        }
+        true
+    }
+
+    /// A call with faulty arguments: says what is wrong with its name.
+    fn check_head(&mut self, callee: &Called) -> Result<Outcome, AllocError> {
+        if let Called::Name(count) = callee {
+            if matches!(self.meaning(*count), Meaning::Undeclared)
+                && predeclared_type(self.word(*count)).is_none()
+                && overloads(Callee::Function(self.word(*count)), false).is_none()
+            {
+                return self.faulty(Rule::Name, *count, "stands for no function");
+            }
+        }
+        Ok(Outcome::Faulty)
+    }
+
+    fn called(&mut self, callee: &Called, call: &Call<'_>) -> Result<Outcome, AllocError> {
+        match callee {
+            Called::Name(count) => match self.meaning(*count) {
+                Meaning::Local(_) => {
+                    self.faulty(Rule::Name, *count, "is a value, and can't be called")
+                }
+                Meaning::Unread(_) => self.cyclic(*count),
+                Meaning::Declared(index) => self.call_declared(*count, index, call),
+                Meaning::Undeclared => self.call_predeclared(*count, call),
+            },
+            Called::Listed(_, Listed::Type(Some(ty))) => self.construct(ty, call),
+            Called::Listed(_, Listed::Function(count, Some(ty))) => {
+                self.call_built_in(*count, Some(ty), call)
+            }
+            Called::Listed(_, Listed::Type(None) | Listed::Function(_, None)) => {
+                Ok(Outcome::Faulty)
+            }
+        }
+    }
+
+    /// A call of a function of the module, or a constructor of a type that has a name.
+    fn call_declared(
+        &mut self,
+        count: usize,
+        index: usize,
+        call: &Call<'_>,
+    ) -> Result<Outcome, AllocError> {
+        let known = self.take_known(index);
+        let outcome = match &known {
+            Some(Known::Type(ty)) => self.construct(ty, call)?,
+            Some(Known::Function(signature)) => {
+                self.call_function(count, index, signature, call)?
+            }
+            Some(Known::Value(_)) => self.faulty(Rule::Name, count, "can't be called")?,
+            Some(Known::Faulty) | None => Outcome::Faulty,
+        };
+        self.put_known(index, known);
+        Ok(outcome)
+    }
+
+    fn call_function(
+        &mut self,
+        count: usize,
+        index: usize,
+        signature: &Signature,
+        call: &Call<'_>,
+    ) -> Result<Outcome, AllocError>
+        ensures { IfOk result (IsOfFunction signature.now call.now.arguments.now) }
+    {
+        if let Some(message) = misfit(self.alloc, call.arguments, &signature.parameters)? {
+            self.fault(Rule::Type, call.head, message)?;
+            return Ok(Outcome::Faulty);
+        }
+        if !self.values_fit(call.arguments, &signature.parameters)? {
+            return Ok(Outcome::Faulty);
+        }
+        if signature.is_entry_point {
+            return self.faulty(
+                Rule::EntryPoint,
+                count,
+                "is an entry point, and can't be called",
+            );
+        }
+        if let Some(doing) = &mut self.doing {
+            doing.calls.push((index, call.head))?;
+        }
+        match &signature.result {
+            Some(ty) => Ok(typed(ty.clone(self.alloc)?, Stage::Runtime)),
+            None => Ok(Outcome::NoValue),
+        }
+    }
+
+    /// Whether the values of arguments are in the ranges of these types.
+    pub fn values_fit(&mut self, arguments: &[Part], types: &[Type]) -> Result<bool, AllocError> {
+        let mut all_fit = true;
+        for (argument, ty) in arguments.iter().zip(types) {
+            all_fit = self.argument_value(argument, Some(ty))?.is_some() && all_fit;
+        }
+        Ok(all_fit)
+    }
+
+    /// When a call of these arguments is known.
+    pub fn stage_of(&self, arguments: &[Part]) -> Stage
+        ensures { result ≡ stage_of arguments.now }
+    {
+        let mut stage = Stage::Const;
+        for argument in arguments {
+            if let Some(typed) = argument.typed() {
+                stage = stage.later(typed.stage);
+            }
+        }
+        stage
+    }
+
+    fn call_predeclared(&mut self, count: usize, call: &Call<'_>) -> Result<Outcome, AllocError> {
+        match predeclared_type(self.word(count)) {
+            Some(PredeclaredType::Layer(LayerName::Array)) => self.infer_array(call),
+            Some(PredeclaredType::Layer(LayerName::Vec(_) | LayerName::Mat(_, _))) => {
+                let name = self.word(count);
+                self.resolve(Callee::Constructor(name), name, None, call)
+            }
+            Some(_) => match self.type_named(count)? {
+                Some(ty) => self.construct(&ty, call),
+                None => Ok(Outcome::Faulty),
+            },
+            None => self.call_built_in(count, None, call),
+        }
+    }
+
+    /// A call of overloads, with the values of its arguments.
+    pub fn resolve(
+        &mut self,
+        callee: Callee<'_>,
+        name: &str,
+        template: Option<&Type>,
+        call: &Call<'_>,
+    ) -> Result<Outcome, AllocError>
+        ensures { IfOk result (IsCall (callee_view callee.entry) (option_map (λ t. view t.now) template.entry) call.now.arguments.now) }
+    {
+        let stage = match can_be_const_expression(callee) {
+            true => self.stage_of(call.arguments),
+            false => Stage::Runtime,
+        };
+        let found = resolved(self.alloc, callee, template, call.arguments)?;
+        let Some(found) = self.taken(found, call.head)? else {
+            return Ok(Outcome::Faulty);
+        };
+        let skipped = if template.is_some() { 1 } else { 0 };
+        let types = found.parameters.get(skipped..).unwrap_or(&[]);
+        let Some(values) = self.values_in(call.arguments, types)? else {
+            return Ok(Outcome::Faulty);
+        };
+        let value = self.computed(call.head, call_value(name, template, &values))?;
+        Ok(of_call(found, stage, value))
+    }
+
+    /// The values of arguments in these types; None where one that is out of range is told.
+    fn values_in(
+        &mut self,
+        arguments: &[Part],
+        types: &[Type],
+    ) -> Result<Option<Vec<Option<Value>>>, AllocError> {
+        let mut values = Vec::new(self.alloc);
+        for (argument, ty) in arguments.iter().zip(types) {
+            match self.argument_value(argument, Some(ty))? {
+                Some(value) => values.push(value)?,
+                None => return Ok(None),
+            }
+        }
+        Ok(Some(values))
+    }
+
+    fn call_built_in(
+        &mut self,
+        count: usize,
+        template: Option<&Type>,
+        call: &Call<'_>,
+    ) -> Result<Outcome, AllocError>
+        ensures { IfOk result (OrFaulty (IsCall (a_function (word_at self.old.text.now self.old.tokens.now count))
+            (option_map (λ t. view t.now) template.entry) call.now.arguments.now)) }
+    {
+        let name = self.word(count);
+        if needs_subgroups(name) && !self.extensions.subgroups {
+            return self.faulty(Rule::Extension, count, "needs `enable subgroups;`");
+        }
+        let outcome = self.resolve(Callee::Function(name), name, template, call)?;
+        if !matches!(outcome, Outcome::Faulty) {
+            self.only_in(stages_of(name), call.head)?;
+            self.check_constant(name, call.arguments)?;
+            self.check_ranges(name, call.arguments)?;
+        }
+        Ok(outcome)
+    }
+}

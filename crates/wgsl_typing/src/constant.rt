@@ -1,0 +1,192 @@
+// Values of operators and calls, where they are integers or `bool` (WGSL, "Early Evaluation Expressions").
+
+use std::cmp::Ordering;
+use wgsl_constants::call::{Arguments, CallError, Function};
+use wgsl_constants::constant::Constant;
+use wgsl_constants::integer::{Integer, IntegerError, IntegerOperator};
+use wgsl_constants::operator::{apply, compare, complement, negative, shift_left, shift_right};
+use wgsl_constants::vector::{Size, Vector};
+use wgsl_core::ty::Type;
+use wgsl_core::ty::form::Form;
+use wgsl_names::stage::Stage;
+use wgsl_names::value::Value;
+use wgsl_syntax::operator::{BinaryOperator, UnaryOperator};
+
+/// A value, if it is computed, or what is wrong with it.
+pub type Computed = Result<Option<Value>, &'static str>;
+
+/// What is wrong with integers.
+fn said(error: IntegerError) -> &'static str {
+    match error {
+        IntegerError::Overflow => "the value is out of the range of its type",
+        IntegerError::DivisionByZero => "a division by 0",
+        IntegerError::MixedTypes => "an i32 and a u32 do not mix",
+        IntegerError::NegatedUnsigned => "a u32 has no negative",
+        IntegerError::ShiftTooFar => "a shift by 32 bits or more",
+        IntegerError::EmptyRange => "the least value is above the greatest",
+        IntegerError::BitsTooFar => "bits beyond the 32 of an integer",
+    }
+}
+
+fn of_integer(found: Result<Integer, IntegerError>) -> Computed {
+    match found {
+        Ok(integer) => Ok(Some(Value::One(Constant::Integer(integer)))),
+        Err(error) => Err(said(error)),
+    }
+}
+
+/// The value of `-x`, `~x`, `!x`.
+pub fn unary_value(operator: UnaryOperator, value: Value) -> Computed {
+    match (operator, value) {
+        (UnaryOperator::Negation, Value::One(Constant::Integer(x))) => of_integer(negative(x)),
+        (UnaryOperator::Negation, Value::Several(x)) => match negatives(x) {
+            Ok(vector) => Ok(Some(Value::Several(vector))),
+            Err(error) => Err(said(error)),
+        },
+        (UnaryOperator::BitwiseComplement, Value::One(Constant::Integer(x))) => {
+            of_integer(Ok(complement(x)))
+        }
+        (UnaryOperator::LogicalNegation, Value::One(Constant::Bool(x))) => {
+            Ok(Some(Value::One(Constant::Bool(!x))))
+        }
+        _ => Ok(None),
+    }
+}
+
+fn negatives(vector: Vector) -> Result<Vector, IntegerError> {
+    Ok(match vector {
+        Vector::Two(x, y) => Vector::Two(negative(x)?, negative(y)?),
+        Vector::Three(x, y, z) => Vector::Three(negative(x)?, negative(y)?, negative(z)?),
+        Vector::Four(x, y, z, w) => {
+            Vector::Four(negative(x)?, negative(y)?, negative(z)?, negative(w)?)
+        }
+    })
+}
+
+/// The value of a binary operator of scalars.
+pub fn binary_value(operator: BinaryOperator, x: Value, y: Value) -> Computed {
+    match (x, y) {
+        (Value::One(Constant::Integer(x)), Value::One(Constant::Integer(y))) => {
+            integer_value(operator, x, y)
+        }
+        (Value::One(Constant::Bool(x)), Value::One(Constant::Bool(y))) => {
+            match bool_value(operator, x, y) {
+                Some(b) => Ok(Some(Value::One(Constant::Bool(b)))),
+                None => Ok(None),
+            }
+        }
+        _ => Ok(None),
+    }
+}
+
+fn bool_value(operator: BinaryOperator, x: bool, y: bool) -> Option<bool> {
+    match operator {
+        BinaryOperator::ShortCircuitAnd | BinaryOperator::BitwiseAnd => Some(x && y),
+        BinaryOperator::ShortCircuitOr | BinaryOperator::BitwiseOr => Some(x || y),
+        BinaryOperator::Equality => Some(x == y),
+        BinaryOperator::Inequality => Some(x != y),
+        _ => None,
+    }
+}
+
+fn integer_value(operator: BinaryOperator, x: Integer, y: Integer) -> Computed {
+    match operator {
+        BinaryOperator::ShiftLeft => of_integer(shift_left(x, y)),
+        BinaryOperator::ShiftRight => of_integer(shift_right(x, y)),
+        _ => match integer_operator(operator) {
+            Some(operator) => of_integer(apply(operator, x, y)),
+            None => compared(operator, x, y),
+        },
+    }
+}
+
+fn integer_operator(operator: BinaryOperator) -> Option<IntegerOperator> {
+    match operator {
+        BinaryOperator::Addition => Some(IntegerOperator::Addition),
+        BinaryOperator::Subtraction => Some(IntegerOperator::Subtraction),
+        BinaryOperator::Multiplication => Some(IntegerOperator::Multiplication),
+        BinaryOperator::Division => Some(IntegerOperator::Division),
+        BinaryOperator::Remainder => Some(IntegerOperator::Remainder),
+        BinaryOperator::BitwiseOr => Some(IntegerOperator::BitwiseOr),
+        BinaryOperator::BitwiseAnd => Some(IntegerOperator::BitwiseAnd),
+        BinaryOperator::BitwiseXor => Some(IntegerOperator::BitwiseXor),
+        _ => None,
+    }
+}
+
+fn compared(operator: BinaryOperator, x: Integer, y: Integer) -> Computed {
+    let order = match compare(x, y) {
+        Ok(order) => order,
+        Err(error) => return Err(said(error)),
+    };
+    let holds = match operator {
+        BinaryOperator::Equality => order == Ordering::Equal,
+        BinaryOperator::Inequality => order != Ordering::Equal,
+        BinaryOperator::LessThan => order == Ordering::Less,
+        BinaryOperator::LessThanEqual => order != Ordering::Greater,
+        BinaryOperator::GreaterThan => order == Ordering::Greater,
+        BinaryOperator::GreaterThanEqual => order != Ordering::Less,
+        _ => return Ok(None),
+    };
+    Ok(Some(Value::One(Constant::Bool(holds))))
+}
+
+/// What is wrong with a right operand, whatever the left one is: a shift that is too far, or a zero that divides.
+pub fn wrong_right(
+    operator: BinaryOperator,
+    left: Option<&Type>,
+    right: Option<Value>,
+    stage: Stage,
+) -> Option<&'static str> {
+    let by = right?.integer()?.value();
+    let left = match left?.form() {
+        Form::Vector(_, of) => of,
+        _ => left?,
+    };
+    let is_concrete = matches!(left, Type::I32 | Type::U32);
+    match operator {
+        BinaryOperator::ShiftLeft | BinaryOperator::ShiftRight if is_concrete && by > 31 => {
+            Some("a shift by 32 bits or more")
+        }
+        BinaryOperator::Division | BinaryOperator::Remainder
+            if by == 0 && (is_concrete || stage.is_const()) => { Some("a division by 0") }
+        _ => None,
+    }
+}
+
+/// The value of a call of a built-in function or of a constructor with these arguments.
+pub fn call_value(name: &str, template: Option<&Type>, values: &[Option<Value>]) -> Computed {
+    let Some(arguments) = arguments_of(values) else {
+        return Ok(None);
+    };
+    if let Some(size) = Size::named(name) {
+        return match Vector::of(size, arguments) {
+            Ok(vector) => Ok(Some(Value::Several(vector))),
+            Err(_) => Ok(None),
+        };
+    }
+    let function = match (name, template) {
+        ("bitcast", Some(Type::I32)) => Some(Function::BitcastI32),
+        ("bitcast", Some(Type::U32)) => Some(Function::BitcastU32),
+        _ => Function::named(name),
+    };
+    match function {
+        Some(function) => match function.apply(arguments) {
+            Ok(constant) => Ok(Some(Value::One(constant))),
+            Err(CallError::Integer(error)) => Err(said(error)),
+            Err(_) => Ok(None),
+        },
+        None => Ok(None),
+    }
+}
+
+fn arguments_of(values: &[Option<Value>]) -> Option<Arguments> {
+    let mut arguments = Arguments::Zero;
+    for value in values {
+        match (*value)? {
+            Value::One(constant) => arguments = arguments.with(constant)?,
+            Value::Several(_) => return None,
+        }
+    }
+    Some(arguments)
+}

@@ -1,0 +1,256 @@
+// What is declared with a type or a value (WGSL, "Value Declarations", "Variable Declarations").
+ghost use Rattle.std.specs.Prelude.{◌≡◌, IfOk, option_map};
+ghost use Rattle.wgsl_core.specs.View.{view};
+ghost use Rattle.wgsl_typing.specs.Declarations.{IsDeclared, IsHeld, IsInitialized, IsVariable, initializing, is_condition, stage_of_declaration, type_behind, value_of_declaration, value_of_variable};
+ghost use Rattle.wgsl_forms.specs.Views.{given};
+
+use crate::count::has_override_count;
+use crate::expression::shown;
+use crate::expressions::Expressions;
+use crate::item::Item;
+use std::alloc::AllocError;
+use wgsl_core::ty::Type;
+use wgsl_forms::declare::{Declaration, declare};
+use wgsl_forms::flow::condition;
+use wgsl_forms::variable::{initialized_variable, variable};
+use wgsl_names::fault::{Place, Rule};
+use wgsl_names::known::{Part, Typed};
+use wgsl_names::stage::Stage;
+use wgsl_names::structs::behind;
+use wgsl_standard::operand::Operand;
+use wgsl_syntax::address::{AccessMode, AddressSpace};
+
+/// What a declaration says behind its name: the type, if there is one, or that it has a fault.
+#[derive(Drop)]
+pub enum Declared {
+    No,
+    Type(Type),
+    Faulty,
+}
+
+impl Declared {
+    /// The type, if there is one without a fault.
+    pub fn ty(&self) -> Option<&Type>
+        ensures { option_map (λ t. view t.now) result ≡ type_behind self.now }
+    {
+        match self {
+            Declared::Type(ty) => Some(ty),
+            Declared::No | Declared::Faulty => None,
+        }
+    }
+}
+
+impl<'t> Expressions<'t> {
+    /// `: T`
+    pub fn put_declared_type(&mut self) -> Result<(), AllocError> {
+        let (_, ty) = self.take_type()?;
+        self.push(Item::DeclaredType(ty))
+    }
+
+    /// `= x` of a `var` or an `override`
+    pub fn put_initializer(&mut self) -> Result<(), AllocError> {
+        let part = self.take_part()?;
+        self.push(Item::Part(part))
+    }
+
+    /// The type behind the name, if there is one.
+    pub fn take_declared(&mut self) -> Declared {
+        if !matches!(self.items.last(), Some(Item::DeclaredType(_))) {
+            return Declared::No;
+        }
+        match self.items.pop() {
+            Some(Item::DeclaredType(Some(ty))) => Declared::Type(ty),
+            _ => Declared::Faulty,
+        }
+    }
+
+    /// The name of a declaration, by the number of tokens up to it.
+    pub fn take_name(&mut self) -> usize {
+        match self.items.pop() {
+            Some(Item::Name(count)) => count,
+            _ => 0,
+        }
+    }
+
+    /// The value of a variable, if it has one.
+    pub fn take_initializer(&mut self) -> Result<Option<Part>, AllocError> {
+        match self.items.last() {
+            Some(Item::Part(_)) => Ok(Some(self.take_part()?)),
+            _ => Ok(None),
+        }
+    }
+
+    /// The template list of a variable, if it has one; `Some(None)` if that has a fault.
+    pub fn take_space(&mut self) -> Option<Option<(AddressSpace, Option<AccessMode>)>> {
+        let Some(Item::Space(space)) = self.items.last() else {
+            return None;
+        };
+        let space = *space;
+        self.items.pop();
+        Some(space)
+    }
+
+    /// What a declaration with a value declares; None where that is told.
+    pub fn typed_value(
+        &mut self,
+        declaration: Declaration,
+        part: &Part,
+        declared: &Declared,
+    ) -> Result<Option<Typed>, AllocError>
+        ensures { IfOk result (IsDeclared declaration declared.now part.now.outcome) }
+    {
+        let Some(value) = self.initializing(part, declared)? else {
+            return Ok(None);
+        };
+        let operand = value_of(declaration, value);
+        match declare(declaration, &operand, declared.ty()) {
+            Ok(ty) => {
+                let ty = ty.build(self.alloc)?;
+                self.holding(part, stage_of(declaration), ty)
+            }
+            Err(refusal) => {
+                self.allows(part.place, Some(refusal))?;
+                Ok(None)
+            }
+        }
+    }
+
+    /// The value of a declaration, if neither it nor the declared type has a fault.
+    fn initializing<'p>(
+        &mut self,
+        part: &'p Part,
+        declared: &Declared,
+    ) -> Result<Option<&'p Typed>, AllocError>
+        ensures { IfOk result (λ v. option_map (λ v. v.now) v ≡ initializing declared.now part.now.outcome) }
+    {
+        if !self.has_value(part)? || matches!(declared, Declared::Faulty) {
+            return Ok(None);
+        }
+        Ok(part.typed())
+    }
+
+    /// What is declared with that type, which holds the value.
+    fn holding(&mut self, part: &Part, stage: Stage, ty: Type) -> Result<Option<Typed>, AllocError>
+        ensures { IfOk result (IsHeld stage (Ok (view ty))) }
+    {
+        let Some(value) = self.argument_value(part, Some(behind(&ty)))? else {
+            return Ok(None);
+        };
+        let mut typed = Typed::of(ty, stage);
+        typed.value = if stage.is_const() { value } else { None };
+        Ok(Some(typed))
+    }
+
+    /// What a variable outside of buffers may hold.
+    pub fn may_be_held(&mut self, named: usize, reference: &Type) -> Result<bool, AllocError> {
+        let held = behind(reference);
+        if has_override_count(held) {
+            return self.no(
+                Rule::Type,
+                named,
+                "has a count that only `workgroup` may have",
+            );
+        }
+        self.is_short(named, held)
+    }
+
+    /// Arrays outside of buffers have at most 65,535 elements (WGSL, "Limits").
+    pub fn is_short(&mut self, named: usize, held: &Type) -> Result<bool, AllocError> {
+        if self.structs.has_long_array(held) && !has_override_count(held) {
+            return self.no(
+                Rule::Limit,
+                named,
+                "has an array of more than 65535 elements",
+            );
+        }
+        Ok(true)
+    }
+
+    /// The reference that a variable is; None where a fault is told.
+    pub fn variable(
+        &mut self,
+        space: AddressSpace,
+        access: Option<AccessMode>,
+        named: usize,
+        part: Option<&Part>,
+        declared: &Declared,
+    ) -> Result<Option<Typed>, AllocError>
+        ensures { IfOk result (IsVariable space access (option_map (λ p. p.now.outcome) part.entry) declared.now) }
+    {
+        match (part, declared) {
+            (Some(part), _) => self.initialized(space, access, part, declared),
+            (None, Declared::Type(ty)) => {
+                match self.built(Place::last_of(named), variable(space, access, ty))? {
+                    Some(reference) => Ok(Some(Typed::of(reference, Stage::Runtime))),
+                    None => Ok(None),
+                }
+            }
+            (None, Declared::Faulty) => Ok(None),
+            (None, Declared::No) => self.nothing(Rule::Type, named, "needs a type or a value"),
+        }
+    }
+
+    fn initialized(
+        &mut self,
+        space: AddressSpace,
+        access: Option<AccessMode>,
+        part: &Part,
+        declared: &Declared,
+    ) -> Result<Option<Typed>, AllocError>
+        ensures { IfOk result (IsInitialized space access declared.now part.now.outcome) }
+    {
+        let Some(value) = self.initializing(part, declared)? else {
+            return Ok(None);
+        };
+        let operand = value_in(space, value);
+        let form = initialized_variable(space, access, &operand, declared.ty());
+        match self.built(part.place, form)? {
+            Some(reference) => self.holding(part, Stage::Runtime, reference),
+            None => Ok(None),
+        }
+    }
+
+    /// Whether a condition is a `bool`. If it isn't, that is told.
+    pub fn is_condition(&mut self, part: &Part) -> Result<bool, AllocError>
+        ensures { IfOk result (λ is. is ≡ is_condition part.now.outcome) }
+    {
+        if !self.has_value(part)? {
+            return Ok(false);
+        }
+        match part.typed() {
+            Some(typed) => self.allows(part.place, condition(&shown(typed)).err()),
+            None => Ok(false),
+        }
+    }
+}
+
+/// When the value of what is declared is known.
+fn stage_of(declaration: Declaration) -> Stage
+    ensures { result ≡ stage_of_declaration declaration }
+{
+    match declaration {
+        Declaration::Let => Stage::Runtime,
+        Declaration::Const => Stage::Const,
+        Declaration::Override => Stage::Override,
+    }
+}
+
+/// The value of a declaration: of `override` it is known before the shader runs.
+fn value_of(declaration: Declaration, value: &Typed) -> Operand<'_>
+    ensures { given result ≡ value_of_declaration declaration value.now }
+{
+    match declaration {
+        Declaration::Override => value.early_operand(),
+        Declaration::Let | Declaration::Const => shown(value),
+    }
+}
+
+/// The value of a variable: in `private` it is known before the shader runs.
+fn value_in(space: AddressSpace, value: &Typed) -> Operand<'_>
+    ensures { given result ≡ value_of_variable space value.now }
+{
+    match space {
+        AddressSpace::Private => value.early_operand(),
+        _ => shown(value),
+    }
+}

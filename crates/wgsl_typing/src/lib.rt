@@ -1,0 +1,23 @@
+//! The types of the expressions of a module: what is done where the grammar notes a part of an expression, over a stack of items.
+//!
+//! What has a fault is faulty, and what uses something faulty is faulty without another fault. Types, and why there are none, are
+//! what the forms and the overloads say (`ask.rt`).
+#![tactic(auto)]
+
+pub mod argument;
+mod ask;
+pub mod call;
+pub mod constant;
+mod construct;
+pub mod count;
+pub mod declared;
+mod element;
+pub mod expression;
+pub mod expressions;
+pub mod extension;
+pub mod item;
+pub mod list;
+pub mod name;
+mod number;
+mod step;
+mod texture;

@@ -1,0 +1,129 @@
+//! The check of a WGSL module: the type of each expression, and what is wrong.
+
+mod names;
+mod signature;
+
+use crate::proved::wgsl_module::module::check as checked;
+use crate::proved::wgsl_names::fault::Place;
+use crate::proved::wgsl_names::known::{Known, Outcome, Typed};
+use crate::proved::wgsl_reader::token::Token;
+use crate::shim::always;
+use crate::shim::std::alloc::Global;
+use crate::ty::Type;
+use alloc::string::String;
+use alloc::vec::Vec;
+use core::ops::Range;
+
+pub use crate::proved::wgsl_names::fault::Rule;
+pub use crate::proved::wgsl_names::stage::Stage;
+use names::names_of;
+pub use names::{Meaning, Name};
+pub use signature::Signature;
+
+/// What is found of a module.
+#[derive(Clone, Debug)]
+#[non_exhaustive]
+pub struct Checked {
+    /// Its expressions.
+    pub parts: Vec<Part>,
+    /// What is wrong, in the order of the text.
+    pub faults: Vec<Fault>,
+    /// Its names in the order of the text, first those of the host, then those of the module, then those of functions.
+    pub names: Vec<Name>,
+    text: String,
+    tokens: Vec<Token>,
+}
+
+/// An expression.
+#[derive(Clone, Debug)]
+#[non_exhaustive]
+pub struct Part {
+    /// Its bytes.
+    pub bytes: Range<usize>,
+    /// Its type, and when its value is known; None if it has a fault, or no value.
+    pub typed: Option<(Type, Stage)>,
+    /// Where the name that declares it begins, if it is a name that the module declares.
+    pub declared: Option<usize>,
+}
+
+/// Something that is wrong.
+#[derive(Clone, Debug)]
+#[non_exhaustive]
+pub struct Fault {
+    /// The rule that is broken.
+    pub rule: Rule,
+    /// The bytes where it is.
+    pub bytes: Range<usize>,
+    /// What is wrong.
+    pub message: String,
+    /// Why overloads don't take the operands, the nearest first; or where another declaration is.
+    pub notes: Vec<Note>,
+}
+
+/// What else there is to say of a fault.
+#[derive(Clone, Debug)]
+#[non_exhaustive]
+pub struct Note {
+    /// The bytes of the name that another declaration declares, or those of the fault.
+    pub bytes: Range<usize>,
+    /// What there is to say.
+    pub message: String,
+}
+
+impl Checked {
+    /// The smallest expression around a byte.
+    pub fn part_at(&self, byte: usize) -> Option<&Part> {
+        let around = self.parts.iter().filter(|part| part.bytes.contains(&byte));
+        around.min_by_key(|part| part.bytes.len())
+    }
+}
+
+/// Checks a module.
+pub fn check(text: &str) -> Checked {
+    check_in(&[], text)
+}
+
+/// Checks a module in which a host declares names, of two with one name the first. The module may declare them too, which hides
+/// what the host says of them.
+pub fn check_in(host: &[(&str, Meaning)], text: &str) -> Checked {
+    let given = host.iter().map(|(name, meaning)| {
+        let known = match meaning.clone() {
+            Meaning::Value(ty, stage) => Known::Value(Typed::of(ty, stage)),
+            Meaning::Type(ty) => Known::Type(ty),
+            Meaning::Function | Meaning::Unknown => Known::Faulty,
+        };
+        (*name, known)
+    });
+    let found = always(checked(Global, given.collect(), text));
+    let names = names_of(host, text, &found);
+    let tokens = found.tokens;
+    let bytes = |place: Place| bytes_of(text, &tokens, place);
+    let parts = found.parts.into_iter().map(|part| Part {
+        bytes: bytes(part.place),
+        typed: match part.outcome {
+            Outcome::Typed(typed) => Some((typed.ty, typed.stage)),
+            Outcome::NoValue | Outcome::Faulty => None,
+        },
+        declared: part.declared.map(|count| start_of(text, &tokens, count.wrapping_sub(1))),
+    });
+    let faults = found.faults.into_iter().map(|fault| Fault {
+        rule: fault.rule,
+        bytes: bytes(fault.place),
+        message: fault.message,
+        notes: (fault.notes.into_iter())
+            .map(|note| Note { bytes: bytes(note.place), message: note.message })
+            .collect(),
+    });
+    let (parts, faults) = (parts.collect(), faults.collect());
+    Checked { parts, faults, names, text: text.into(), tokens }
+}
+
+fn start_of(text: &str, tokens: &[Token], index: usize) -> usize {
+    tokens.get(index).map_or(text.len(), |token| token.at)
+}
+
+fn bytes_of(text: &str, tokens: &[Token], place: Place) -> Range<usize> {
+    let start = start_of(text, tokens, place.from);
+    let last = tokens.get(place.to.wrapping_sub(1));
+    start..last.map_or(start, |token| (token.at + token.len).max(start))
+}

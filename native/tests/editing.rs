@@ -1,0 +1,187 @@
+//! What an editor asks of a checked module.
+
+use std::fs;
+use std::ops::Range;
+use wgsl_types_proved::module::{check, check_in, Meaning, Stage};
+use wgsl_types_proved::ty::StructType;
+use wgsl_types_proved::Type;
+
+/// The bytes between the `‹` and the `›` of a text, and the text without them.
+fn marked(text: &str) -> (Range<usize>, String) {
+    let start = text.find('‹').unwrap();
+    let end = text.find('›').unwrap() - '‹'.len_utf8();
+    (start..end, text.replace(['‹', '›'], ""))
+}
+
+/// A fault has the place of the other declaration.
+#[test]
+fn faults_refer_to_declarations() {
+    for text in [
+        "const ‹a› = 1; var<private> a: i32;",
+        "struct S { ‹a›: i32, b: i32, a: f32 }",
+        "fn f(b: i32, ‹a›: i32, a: f32) {}",
+        "fn f(b: i32, ‹a›: i32) { let a = 1; }",
+        "fn f() { let a = 1; { let ‹a› = 2; let a = 3; } }",
+        "const ‹a› = b; const b = a;",
+        "alias ‹a› = b; alias b = array<a, 2>;",
+        "alias ‹a› = b; alias b = array<a<i32>, 2>;",
+        "const ‹a› = b; const b = a(1);",
+        "fn ‹a›() { b(); } fn b() { a(); }",
+    ] {
+        let (bytes, text) = marked(text);
+        let faults = check(&text).faults;
+        let notes: Vec<_> = faults.iter().flat_map(|fault| &fault.notes).collect();
+        assert!(matches!(faults[0].rule.word(), "duplicate" | "cycle"), "{text}: {faults:?}");
+        assert_eq!(notes.len(), 1, "{text}: {faults:?}");
+        assert_eq!(notes[0].bytes, bytes, "{text}: {faults:?}");
+        let name = &text[bytes];
+        assert_eq!(notes[0].message, format!("`{name}` is declared here"), "{text}");
+    }
+}
+
+/// A fault has the nearest overloads, and no more than eight.
+#[test]
+fn faults_explain_overloads() {
+    for (text, count, nearest) in [
+        ("const a = -1u;", 1, "-(T) -> T, T: signed number: argument 1 is u32"),
+        ("const a = vec3<f32>(1, true);", 6, "vec3<T>(T, vec2<T>) -> vec3<T>, T: concrete scalar"),
+        ("fn f() { _ = textureSample(1, 1, 1, 1); }", 8, "textureSample("),
+        ("fn f(v: vec3f) { let a = mix(v, 1i, 1); }", 2, "mix(vecN<T>, vecN<T>, vecN<T>)"),
+        ("fn f() { foo(1); }", 0, ""),
+    ] {
+        let [fault] = &check(text).faults[..] else { panic!("{text}") };
+        assert_eq!(fault.notes.len(), count, "{text}: {fault:?}");
+        let first = fault.notes.first().map_or("", |note| &note.message);
+        assert!(first.starts_with(nearest), "{text}: {first}");
+        assert!(fault.notes.iter().all(|note| note.bytes == fault.bytes), "{text}");
+    }
+}
+
+/// A declaration without a type has one.
+#[test]
+fn types_are_inferred() {
+    let text = "const a = 1; override b = 2; var<private> c = vec3(1.5); const d: i32 = 1; alias e = i32; var<private> f: i32;
+        fn g(h: i32) { let i = h; var j = a; const k: i32 = 1; let l = &j; let m = foo; for (var n = 1u; n < 2; n++) { } }";
+    let checked = check(text);
+    let inferred =
+        checked.names.iter().filter_map(|name| Some((&*name.text, name.inferred_type()?)));
+    let inferred: Vec<String> = inferred.map(|(name, ty)| format!("{name}: {ty}")).collect();
+    let expected = "a: AbstractInt, b: i32, c: vec3<f32>, i: i32, j: i32, l: ptr<function, i32, read_write>, n: u32";
+    assert_eq!(inferred.join(", "), expected);
+}
+
+fn names_at(text: &str) -> String {
+    let at = text.find('‸').unwrap();
+    let checked = check(&text.replace('‸', ""));
+    let names = checked.names_at(at).into_iter().map(|name| match &name.meaning {
+        Meaning::Value(ty, Stage::Runtime) => format!("{}: {ty}", name.text),
+        Meaning::Value(ty, stage) => format!("{}: {ty} {stage:?}", name.text),
+        Meaning::Type(ty) => format!("{} = {ty}", name.text),
+        Meaning::Function => format!("{}()", name.text),
+        _ => format!("{}?", name.text),
+    });
+    names.collect::<Vec<_>>().join(", ")
+}
+
+/// The names of the module, and of a function those that are declared in front.
+#[test]
+fn names_are_in_scope() {
+    for row in fs::read_to_string("tests/modules/names.txt").unwrap().lines() {
+        let (text, names) = row.split_once('\t').unwrap();
+        assert_eq!(names_at(text), names.trim_matches('-'), "{text}");
+    }
+}
+
+/// The call around a byte, with the parameter and the overload that fits in brackets.
+fn signature_at(text: &str) -> String {
+    let at = text.find('‸').unwrap();
+    let checked = check(&text.replace('‸', ""));
+    let Some(call) = checked.signature_at(at) else { return "-".into() };
+    let Some(fitting) = call.fitting else { return format!("none of {}", call.overloads.len()) };
+    let overload = &call.overloads[fitting];
+    let Some(at) = overload.parameters().get(call.argument).cloned() else {
+        return overload.text.clone();
+    };
+    let text = &overload.text;
+    format!("{}[{}]{}", &text[..at.start], &text[at.clone()], &text[at.end..])
+}
+
+#[test]
+fn calls_have_signatures() {
+    for row in fs::read_to_string("tests/modules/signatures.txt").unwrap().lines() {
+        let (text, signature) = row.split_once('\t').unwrap();
+        assert_eq!(signature_at(text), signature, "{text}");
+    }
+}
+
+/// A host declares names, which the module and its functions may declare too.
+#[test]
+fn a_host_declares_names() {
+    let ty = |text: &str| text.parse::<Type>().unwrap();
+    let light = Type::from(StructType::new("Light", [("color", ty("vec3f"))]));
+    let host = [
+        ("time", Meaning::Value(Type::F32, Stage::Runtime)),
+        ("count", Meaning::Value(Type::U32, Stage::Const)),
+        ("scale", Meaning::Value(Type::F32, Stage::Override)),
+        ("tile", Meaning::Value(ty("ref<workgroup, mat4x4<f32>, read_write>"), Stage::Runtime)),
+        ("Light", Meaning::Type(light.clone())),
+        ("light", Meaning::Value(light, Stage::Runtime)),
+        ("Color", Meaning::Type(ty("vec3f"))),
+        ("noise", Meaning::Function),
+        ("other", Meaning::Unknown),
+        ("time", Meaning::Unknown),
+    ];
+    for (text, rules) in [
+        ("fn f(l: Light) -> Color { tile[1] *= time; noise(1); return l.color * noise(2, other) + Color(1).x; }", ""),
+        ("@fragment fn f() { tile = other.what[3]; noise(1); var c = Light(Color()); c = light; }", ""),
+        ("const a = count + 1; override b = scale * 2; var<private> v: array<f32, count>; const_assert count == 3;", ""),
+        ("const time = 1u; fn f(scale: u32) { let a: u32 = time + scale; let count = 1i; let b = count + 1i; }", ""),
+        ("struct Light { a: u32 } fn noise() -> u32 { return Light(1).a; }", ""),
+        ("fn f() { let a: i32 = time; let b = Color(true); count(); let c = Light(1); }", "type overload name type"),
+        ("const a = time; const b = scale; override c = time;", "type type type"),
+    ] {
+        let checked = check_in(&host, text);
+        let found: Vec<_> = checked.faults.iter().map(|fault| fault.rule.word()).collect();
+        assert_eq!(found.join(" "), rules, "{text}: {:?}", checked.faults);
+    }
+    let checked = check_in(&host, "const time = 1; fn f() { let a = Color( 1); }");
+    let names: Vec<_> =
+        checked.names_at(39).into_iter().map(|name| (&*name.text, name.bytes.clone())).collect();
+    assert_eq!(names[..3], [("f", Some(19..20)), ("time", Some(6..10)), ("count", None)]);
+    assert_eq!(checked.signature_at(39).unwrap().overloads.len(), 6);
+    let inferred = checked.names.iter().find_map(|name| name.inferred_type());
+    assert_eq!(inferred, Some(&Type::AbstractInt));
+    let checked = check_in(&host, "struct Light { a: u32 } const a = Light(1);");
+    let time = checked.names_at(0).into_iter().find(|name| name.text == "time");
+    assert!(matches!(time.unwrap().meaning, Meaning::Value(..)));
+    assert_eq!(checked.signature_at(40).unwrap().overloads[0].text, "Light(a: u32)");
+}
+
+/// Names are in scope where the check finds them, and any place of any text may be asked.
+#[test]
+fn scopes_are_those_of_the_check() {
+    let list = fs::read_to_string("tests/modules/modules.txt").unwrap();
+    let mut count = 0;
+    for quoted in list.lines().filter_map(|line| line.rsplit('\t').next()) {
+        let text = quoted[1..quoted.len() - 1].replace("\\n", "\n").replace("\\\"", "\"");
+        let checked = check(&text);
+        for part in &checked.parts {
+            let Some(declared) = part.declared else { continue };
+            let word = text[part.bytes.clone()].trim_matches(['(', ')', ' ']);
+            let names = checked.names_at(part.bytes.start);
+            let name = names.into_iter().find(|name| name.text == word).unwrap();
+            assert_eq!(
+                name.bytes.as_ref().map(|bytes| bytes.start),
+                Some(declared),
+                "{word}: {text}"
+            );
+            count += 1;
+        }
+        for end in (0..text.len()).filter(|end| text.is_char_boundary(*end)).step_by(11) {
+            let checked = check(&text[..end]);
+            checked.names_at(end);
+            checked.signature_at(end);
+        }
+    }
+    assert!(count > 300, "{count}");
+}
