@@ -198,10 +198,10 @@ function startsOfLines(text) {
   return starts;
 }
 
-/** Gives each place its index in a text, and the places where it ends and is declared, if it has them. */
+/** Gives each place its index in a text, and the places where it ends and is declared and those of its notes, if it has them. */
 function addIndexes(text, places) {
-  const starts = startsOfLines(text);
-  for (const place of places.flatMap((place) => [place, place.end, place.declared])) {
+  const starts = startsOfLines(text), notes = places.flatMap((place) => place.notes ?? []);
+  for (const place of [...places, ...notes].flatMap((place) => [place, place.end, place.declared])) {
     if (place) place.index = starts[place.line - 1] + place.utf16Column - 1;
   }
 }

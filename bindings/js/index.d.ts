@@ -174,6 +174,14 @@ export interface Message extends Place {
   /** The name of what is wrong. */
   kind: string;
   message: string;
+  /** Of what `check` finds: why the nearest overloads don't fit, or where the other declaration is. */
+  notes?: Note[];
+}
+
+/** What a message says beside it, and where. */
+export interface Note extends Place {
+  end: Place;
+  message: string;
 }
 
 export interface ScalarType {

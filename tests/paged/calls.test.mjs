@@ -104,9 +104,18 @@ test("errors of a text are thrown with their places, also behind each line break
 test("the check of a text has its faults, and the types of its expressions, with their places", () => {
   const text = "/* é漢🦀 */ const ß = 1u;\u2028override o: f32; fn f(i: i32) { const a = ß + true; var b = o; b = f32(i); }";
   const { faults, parts } = wgsl.check(text), at = (place, length) => text.slice(place.index, length === undefined ? place.end.index : place.index + length);
-  assert.deepEqual(faults, [{
-    kind: "overload", message: "no overload takes these operands", line: 2, column: 46, utf16Column: 45, index: text.indexOf("+"),
+  const plus = {
+    line: 2, column: 46, utf16Column: 45, index: text.indexOf("+"),
     end: { line: 2, column: 47, utf16Column: 46, index: text.indexOf("+") + 1 },
+  };
+  assert.deepEqual(faults, [{
+    kind: "overload", message: "no overload takes these operands", ...plus,
+    notes: [
+      { message: "+(T, T) -> T, T: number: argument 2 is bool", ...plus },
+      { message: "+(T, vecN<T>) -> vecN<T>, T: number: argument 2 is bool", ...plus },
+      { message: "+(vecN<T>, T) -> vecN<T>, T: number: argument 1 is u32", ...plus },
+      { message: "+(matNxM<T>, matNxM<T>) -> matNxM<T>, T: float: argument 1 is u32", ...plus },
+    ],
   }]);
   assert.deepEqual(parts.map((part) => [at(part), part.type, part.stage, part.declared && at(part.declared, 3)]), [
     ["1u", "u32", "const", null], ["ß", "u32", "const", "ß ="], ["true", "bool", "const", null], ["o", "f32", "override", "o: "],

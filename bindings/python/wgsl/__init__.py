@@ -16,10 +16,10 @@ The library libwgsl.so is beside this package. For another, the environment vari
 from ._library import VERSION as __version__
 from .requests import (Refused, Resolution, Size, Unreadable, answer, binary, call, common, construct, overloads, rank, resolve_call,
                        size, unary)
-from .source import Checked, Fault, Part, Place, SourceError, check, dtype, source_code, source_dtypes, source_layout
+from .source import Checked, Fault, Note, Part, Place, SourceError, check, dtype, source_code, source_dtypes, source_layout
 
 __all__ = [
-    "Checked", "Fault", "Part", "Place", "Refused", "Resolution", "Size", "SourceError", "Unreadable", "__version__", "answer", "binary",
-    "call", "check", "common", "construct", "dtype", "overloads", "rank", "resolve_call", "size", "source_code", "source_dtypes",
-    "source_layout", "unary",
+    "Checked", "Fault", "Note", "Part", "Place", "Refused", "Resolution", "Size", "SourceError", "Unreadable", "__version__", "answer",
+    "binary", "call", "check", "common", "construct", "dtype", "overloads", "rank", "resolve_call", "size", "source_code",
+    "source_dtypes", "source_layout", "unary",
 ]

@@ -62,17 +62,34 @@ class Place:
 
 
 @dataclass(frozen=True)
-class Fault:
-    """What is wrong: from where to where, the code of the rule that is broken, and the message. docs/FAULTS.md has the codes.
+class Note:
+    """What a fault says beside its message, and where: why an overload doesn't fit, or where the other declaration is.
 
-    >>> check("const a = 1u + 1i;").faults[0].kind
-    'overload'
+    >>> note, = check("const a = 1; const a = 2;").faults[0].notes
+    >>> note.start.column, note.message
+    (7, 'the first is declared here')
+    """
+
+    start: Place
+    end: Place
+    message: str
+
+
+@dataclass(frozen=True)
+class Fault:
+    """What is wrong: from where to where, the code of the rule that is broken, the message, and the notes, nearest first.
+    docs/FAULTS.md has the codes.
+
+    >>> fault, = check("const a = 1u + true;").faults
+    >>> fault.kind, fault.notes[0].message
+    ('overload', '+(T, T) -> T, T: number: argument 2 is bool')
     """
 
     start: Place
     end: Place
     kind: str
     message: str
+    notes: tuple[Note, ...]
 
 
 @dataclass(frozen=True)
@@ -114,9 +131,13 @@ def check(text: str | bytes) -> Checked:
     [(33, 34, 'vec3<f32>'), (33, 36, 'f32'), (39, 43, 'bool')]
     """
     told = json.loads(ask("wgsl_module_check", _bytes_of(text))[1])
-    faults = [Fault(*_ends_of(it), it["kind"], it["message"]) for it in told["faults"]]
+    faults = [Fault(*_ends_of(it), it["kind"], it["message"], _notes_of(it)) for it in told["faults"]]
     parts = [Part(*_ends_of(it), it["type"], it["stage"], it["declared"] and _place(it["declared"])) for it in told["types"]]
     return Checked(tuple(faults), tuple(parts))
+
+
+def _notes_of(told: dict[str, Any]) -> tuple[Note, ...]:
+    return tuple(Note(*_ends_of(note), note["message"]) for note in told.get("notes", ()))
 
 
 def _ends_of(told: dict[str, Any]) -> tuple[Place, Place]:
