@@ -67,7 +67,7 @@ class Note:
 
     >>> note, = check("const a = 1; const a = 2;").faults[0].notes
     >>> note.start.column, note.message
-    (7, 'the first is declared here')
+    (7, '`a` is declared here')
     """
 
     start: Place
