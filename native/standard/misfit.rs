@@ -3,6 +3,7 @@
 use super::Refusal;
 use crate::proved::wgsl_forms as proved;
 use crate::proved::wgsl_forms::expression::is_const_expression;
+use crate::proved::wgsl_forms::lists::Taker;
 use crate::proved::wgsl_forms::load::load_type;
 use crate::proved::wgsl_standard::operand::Operand as Asked;
 use crate::ty::Type;
@@ -39,7 +40,8 @@ impl Misfit {
     ) -> Misfit {
         Misfit::at(refusal, values.len(), |index| {
             let ty = core::slice::from_ref(type_at(index)?);
-            proved::lists::fit(&values[index..=index], ty).err().map(Refusal::from)
+            let nameless = Taker::Function(""); // only a wrong number of values is told with the name
+            proved::lists::fit(nameless, &values[index..=index], ty).err().map(Refusal::from)
         })
     }
 

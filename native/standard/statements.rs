@@ -4,6 +4,7 @@ use super::expressions::built_form;
 use super::resolve::made_of;
 use super::{built, with_operands, Misfit, Operand, Refusal};
 use crate::proved::wgsl_forms as proved;
+use crate::proved::wgsl_forms::lists::Taker;
 use crate::shim::always;
 use crate::shim::std::alloc::Global;
 use crate::syntax::{AccessMode, AddressSpace, AssignmentOperator};
@@ -218,7 +219,7 @@ pub fn return_value(x: &Operand, ty: &Type) -> Result<Type, Refusal> {
     Ok(built(proved::flow::return_value(&x.proved(), ty)?))
 }
 
-/// Whether values are taken by parameters of these types (WGSL, "Function Call Expression").
+/// Whether values are taken by the parameters of a function with this name (WGSL, "Function Call Expression").
 ///
 /// The first of these refuses: [`Refusal::NotConstructible`] of a parameter's type that is abstract, or neither
 /// constructible nor a pointer nor a handle; [`Refusal::ParamCount`]; for the first value that doesn't fit, its load or
@@ -229,15 +230,15 @@ pub fn return_value(x: &Operand, ty: &Type) -> Result<Type, Refusal> {
 /// use wgsl_types_proved::Type;
 ///
 /// let (one, x) = (Operand::new(Type::AbstractInt), Operand::new("ref<private, i32, read_write>".parse()?));
-/// assert_eq!(fit(&[one, x.clone()], &[Type::F32, Type::I32]), Ok(()));
-/// let refused = fit(&[x.clone(), x], &[Type::I32, Type::Bool]).unwrap_err();
+/// assert_eq!(fit("f", &[one, x.clone()], &[Type::F32, Type::I32]), Ok(()));
+/// let refused = fit("f", &[x.clone(), x], &[Type::I32, Type::Bool]).unwrap_err();
 /// assert_eq!(refused.refusal, Refusal::ParamType(Type::Bool, Type::I32));
 /// assert_eq!(refused.index, Some(1));
 /// # Ok::<(), wgsl_types_proved::ty::SpellingError>(())
 /// ```
-pub fn fit(values: &[Operand], types: &[Type]) -> Result<(), Misfit> {
+pub fn fit(name: &str, values: &[Operand], types: &[Type]) -> Result<(), Misfit> {
     with_operands(values.iter(), |values| {
-        proved::lists::fit(values, types)
+        proved::lists::fit(Taker::Function(name), values, types)
             .map_err(|refusal| Misfit::of_types(refusal.into(), values, |index| types.get(index)))
     })
 }

@@ -93,7 +93,8 @@ fn answer(asked: &mut Asked) -> Result<String, Refusal> {
         _ if asked.take("if ") => {
             let value = asked.operand();
             asked.expect("{ }");
-            return fitted(&[value], &[Type::Bool]);
+            condition(&value)?;
+            return Ok("fits".to_string());
         }
         _ if asked.take("fn f(") => {
             let types = asked.list(")", |asked| {
@@ -101,7 +102,8 @@ fn answer(asked: &mut Asked) -> Result<String, Refusal> {
                 asked.declared().expect("a type")
             });
             asked.expect("f(");
-            return fitted(&asked.operands(")"), &types);
+            fit("f", &asked.operands(")"), &types)?;
+            return Ok("fits".to_string());
         }
         _ if asked.take("layout struct ") => return Ok(layout_text(asked.structure())),
         _ => assigned(asked),
@@ -111,11 +113,6 @@ fn answer(asked: &mut Asked) -> Result<String, Refusal> {
 
 fn typed(found: Result<Operand, impl Into<Refusal>>) -> Result<Type, Refusal> {
     found.map(|operand| operand.shown_type().clone()).map_err(Into::into)
-}
-
-fn fitted(values: &[Operand], types: &[Type]) -> Result<String, Refusal> {
-    fit(values, types)?;
-    Ok("fits".to_string())
 }
 
 /// An operator, a call, or an operand with a member or an index behind it.
@@ -249,7 +246,7 @@ fn misfits() {
     for [asked, values, others, blamed] in tables::rows("tables/misfits.tsv") {
         let of = operands(&values);
         let misfit = match &*asked {
-            "fit" => fit(&of, &types(&others)).unwrap_err(),
+            "fit" => fit("f", &of, &types(&others)).unwrap_err(),
             "struct" => construct_struct(&s, &of).unwrap_err(),
             "scalar" => construct_struct(&Type::F32, &of).unwrap_err(),
             "array" => construct_array(&of).unwrap_err(),

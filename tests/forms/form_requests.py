@@ -126,13 +126,13 @@ class Request(Reader):
         types = self.all_until(")", self.named_type)
         self.expect(name)
         self.expect("(")
-        return rules.fit(self.all_until(")", self.operand), types)
+        return rules.fit(name, self.all_until(")", self.operand), types)
 
     def condition(self):
         x = self.operand()
         self.expect("{")
         self.expect("}")
-        return rules.fit([x], ["bool"])
+        return rules.condition(x)
 
     def phony(self):
         self.expect("=")

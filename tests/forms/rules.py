@@ -302,11 +302,17 @@ def pass_each(operands, types):
             raise Refused("ParamType", t, load(x.type))
 
 
-def fit(operands, types):
+def fit(name, operands, types):
     for t in types:
         accept(t, can_be_named_value)
-    count("fit", types, operands)
+    count(name, types, operands)
     pass_each(operands, types)
+    return "fits"
+
+
+def condition(x):
+    if load(x.type) != "bool":
+        raise Refused("NotCondition", load(x.type))
     return "fits"
 
 

@@ -12,6 +12,7 @@ use Rattle.wgsl_forms.specs.Member.{is_swizzle}
 use Rattle.wgsl_forms.specs.Memory.{behind, formed_from, is_memory}
 use Rattle.wgsl_forms.specs.declared.form.Referent.{Referent}
 use Rattle.wgsl_forms.specs.declared.form.Referent.TheVariants.{Whole, Component, Swizzle}
+use Rattle.wgsl_forms.specs.Lists.{function}
 use Rattle.wgsl_requests.specs.Answers.{Answers, WgslAnswer, a_fit, a_type_of, a_form_type}
 use Rattle.wgsl_requests.specs.CallForms.{type_asked}
 use Rattle.wgsl_requests.specs.Forms.{address_of, construct_of, index_of, member_of, typed_array_of}
@@ -121,7 +122,7 @@ abbrev pub asked_with : Head → Referent → List Operand → WgslRequest
 asked_with (overloaded callee template) referent xs = marked referent (type_asked (record { callee = callee; template = template; operands = xs }))
 asked_with (typed_array t n) referent xs = form_of (typed_array_of t n xs)
 asked_with (a_struct t) referent xs = form_of (construct_of t xs)
-asked_with (declared name ts result) referent xs = fit_of xs ts
+asked_with (declared name ts result) referent xs = fit_of (function name) xs ts
 
 abbrev pub asked : Head → List Expression → WgslRequest
 asked head xs = asked_with head (referent_of xs) (map (operand_by head) xs)

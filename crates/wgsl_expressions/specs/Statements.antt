@@ -10,6 +10,7 @@ use Rattle.wgsl_syntax.specs.declared.scalar.Scalar.TheVariants.{Bool as TheBool
 use Rattle.wgsl_rules.specs.standard.Choice.{Operand}
 use Rattle.wgsl_syntax.specs.declared.rules.RuleSet.TheVariants.{Standard}
 use Rattle.wgsl_rules.specs.types.Types.{Members, WgslType, scalar, struct}
+use Rattle.wgsl_forms.specs.Lists.{condition, returned}
 use Rattle.wgsl_forms.specs.declared.declare.Declaration.{Declaration}
 use Rattle.wgsl_forms.specs.declared.declare.Declaration.TheVariants.{Let, Const, Override}
 use Rattle.wgsl_reader.specs.declared.kind.Kind.{Kind}
@@ -42,10 +43,10 @@ statement_of k.Override = Some (s.Declaration Override)
 statement_of k.Var = Some (s.Variable Function None)
 statement_of k.Underscore = Some s.Phony
 statement_of k.Load = Some s.Load
-statement_of k.ConstAssert = Some s.Fit
-statement_of k.If = Some s.Fit
-statement_of k.While = Some s.Fit
-statement_of k.Return = Some s.Fit
+statement_of k.ConstAssert = Some s.Condition
+statement_of k.If = Some s.Condition
+statement_of k.While = Some s.Condition
+statement_of k.Return = Some s.Return
 statement_of k.Switch = Some s.Switch
 statement_of k.Rank = Some s.Rank
 statement_of k.Common = Some s.Common
@@ -162,7 +163,8 @@ first (t ∷ ts) = Some t
 
 -- what another request than `common` asks
 abbrev pub other_request : Statement → List WgslType → List Operand → Option WgslRequest
-other_request s.Fit ts xs = Some (fit_of xs ts)
+other_request s.Condition ts xs = Some (fit_of condition xs ts)
+other_request s.Return ts xs = Some (fit_of returned xs ts)
 other_request s.Rank ts xs = request_on s.Rank ts
 other_request s.Size ts xs = request_on s.Size ts
 other_request s.Offsets ts xs = request_on s.Offsets ts

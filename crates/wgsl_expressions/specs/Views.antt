@@ -4,6 +4,7 @@ use Rattle.wgsl_core.specs.Instances.{parameter_view}
 use Rattle.wgsl_rules.specs.types.Types.{WgslType}
 use Rattle.wgsl_requests.specs.Answers.{Answers, WgslAnswer}
 use Rattle.wgsl_requests.specs.FormViews.{form_view}
+use Rattle.wgsl_forms.specs.Lists.{function}
 use Rattle.wgsl_requests.specs.Requests.{WgslRequest, fit_of, form_of, type_of}
 use Rattle.wgsl_requests.specs.StandardViews.{call_view as call_of, written_view}
 use Rattle.wgsl_core.specs.View.{member_view, view}
@@ -81,7 +82,7 @@ head_found (Err fault) = None
 abbrev pub called_view : Called → WgslRequest
 called_view (calleds.Overloaded call) = type_of (call_of call)
 called_view (calleds.Form form) = form_of (form_view form)
-called_view (calleds.Declared values types) = fit_of (map written_view values.now) (map view types.now)
+called_view (calleds.Declared name values types) = fit_of (function name.now) (map written_view values.now) (map view types.now)
 
 abbrev pub meaning_view : CodeMeaning → Meaning
 meaning_view (meanings.Type t n) = a_type (view t) n

@@ -14,6 +14,7 @@ use crate::head::Head;
 use crate::statement::Question;
 use wgsl_core::ty::Type;
 use wgsl_forms::form::Referent;
+use wgsl_forms::lists::Taker;
 use wgsl_requests::call_forms::form_of_call;
 use wgsl_requests::requests::{Call, Form, Request};
 use wgsl_standard::callee::Callee;
@@ -25,8 +26,8 @@ pub(crate) enum Called<'r> {
     /// What has overloads.
     Overloaded(Call<'r>),
     Form(Form<'r>),
-    /// A function that the text declares: the values, and the types of the parameters.
-    Declared(&'r [Operand<'r>], &'r [Type]),
+    /// A function that the text declares: its name, the values, and the types of the parameters.
+    Declared(&'r str, &'r [Operand<'r>], &'r [Type]),
 }
 
 impl<'r> Called<'r> {
@@ -37,7 +38,9 @@ impl<'r> Called<'r> {
         match self {
             Called::Overloaded(call) => Request::Type(call),
             Called::Form(form) => Request::Form(form),
-            Called::Declared(values, types) => Request::Fit(values, types),
+            Called::Declared(name, values, types) => {
+                Request::Fit(Taker::Function(name), values, types)
+            }
         }
     }
 
@@ -52,7 +55,9 @@ impl<'r> Called<'r> {
                 Question::Explanation => Request::Explanation(call),
             },
             Called::Form(form) => Request::Form(form),
-            Called::Declared(values, types) => Request::Fit(values, types),
+            Called::Declared(name, values, types) => {
+                Request::Fit(Taker::Function(name), values, types)
+            }
         }
     }
 }
@@ -75,7 +80,9 @@ pub(crate) fn asked_about<'r>(
         Head::Function(name, template) => (Callee::Function(name.as_str()), template.as_deref()),
         Head::Array(ty, count) => return Called::Form(Form::ArrayOf(ty, *count, operands)),
         Head::Struct(ty) => return Called::Form(Form::Construct(ty, operands)),
-        Head::Declared(_, parameters, _) => return Called::Declared(operands, parameters),
+        Head::Declared(name, parameters, _) => {
+            return Called::Declared(name.as_str(), operands, parameters);
+        }
     };
     let call = Call {
         callee,

@@ -27,6 +27,7 @@ use wgsl_core::ty::form::Form;
 use wgsl_core::ty::show::ShownType;
 use wgsl_core::ty::{StructType, Type};
 use wgsl_forms::form::Referent;
+use wgsl_forms::lists::Taker;
 use wgsl_requests::answers::Answer;
 use wgsl_requests::ask::answer;
 use wgsl_requests::common::write_common as write_common_of;
@@ -281,7 +282,12 @@ fn write_answer(
         kind (string_bytes text.old) (string_bytes text.new)) }
 {
     match statement {
-        Statement::Fit => write_request(alloc, Request::Fit(operands, types), text),
+        Statement::Condition => {
+            write_request(alloc, Request::Fit(Taker::Condition, operands, types), text)
+        }
+        Statement::Return => {
+            write_request(alloc, Request::Fit(Taker::Return, operands, types), text)
+        }
         Statement::Rank | Statement::Size | Statement::Offsets | Statement::Layout => {
             match request_on(statement, types) {
                 Some(request) => write_request(alloc, request, text),

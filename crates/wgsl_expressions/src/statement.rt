@@ -22,8 +22,10 @@ pub enum Statement {
     Phony,
     /// `load a`
     Load,
-    /// Whether values fit types: `if a`, `while a` and `const_assert a` a `bool`, `return a` the result of the function.
-    Fit,
+    /// Whether a value is a `bool`: `if a`, `while a`, `const_assert a`
+    Condition,
+    /// Whether a value is what the function returns: `return a`
+    Return,
     /// `switch a { case b { } default { } }`
     Switch,
     /// `rank T, U`
@@ -60,7 +62,8 @@ pub(crate) fn statement_of(kind: Kind) -> Option<Statement>
         Kind::Var => Some(Statement::Variable(AddressSpace::Function, None)),
         Kind::Underscore => Some(Statement::Phony),
         Kind::Load => Some(Statement::Load),
-        Kind::ConstAssert | Kind::If | Kind::While | Kind::Return => Some(Statement::Fit),
+        Kind::ConstAssert | Kind::If | Kind::While => Some(Statement::Condition),
+        Kind::Return => Some(Statement::Return),
         Kind::Switch => Some(Statement::Switch),
         Kind::Rank => Some(Statement::Rank),
         Kind::Common => Some(Statement::Common),

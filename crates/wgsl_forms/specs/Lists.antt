@@ -1,5 +1,5 @@
 -- Values of a list: arguments of a function, of a struct's constructor (WGSL, "Function Calls" and "Structure Value
--- Constructors").
+-- Constructors"), a condition, a returned value.
 use Rattle.std.specs.Prelude.{ℕ, List, [], ◌∷◌, ◌==◌, length, codes, if◌then◌else◌, Result, Ok, Err}
 use Rattle.wgsl_rules.specs.types.Types.{WgslType, Members, no_members, member, struct}
 use Rattle.wgsl_rules.specs.errors.Refusals.{not_constructible, param_count, param_type}
@@ -8,7 +8,7 @@ use Rattle.wgsl_forms.specs.Declare.{is_let_type}
 use Rattle.wgsl_forms.specs.Kinds.{is_constructible}
 use Rattle.wgsl_forms.specs.Load.{loaded}
 use Rattle.wgsl_forms.specs.Questions.{asks, after}
-use Rattle.wgsl_forms.specs.Refusals.{Refusal, error}
+use Rattle.wgsl_forms.specs.Refusals.{Refusal, error, not_condition, not_returned}
 
 -- there is nothing to refuse
 abbrev pub Fits : Type 0
@@ -44,9 +44,32 @@ counted name n k = asks (n == k) (error (param_count name n k)) (Ok tt)
 abbrev pub values_fit : List ℕ → List WgslType → List WgslType → Fits
 values_fit name ts xs = after (counted name (length ts) (length xs)) (λ u. each_fits ts xs)
 
--- The values are taken by parameters of these types.
-abbrev pub list_fits : List WgslType → List WgslType → Fits
-list_fits ts xs = after (are_parameters ts) (λ u. values_fit (codes "fit") ts xs)
+-- what takes values: a function, by its name; the condition of `if`, `while` or `const_assert`; `return`
+pub data Taker : Type 0 where
+  function : List ℕ → Taker
+  condition : Taker
+  returned : Taker
+
+abbrev pub taker_name : Taker → List ℕ
+taker_name (function name) = name
+taker_name condition = codes "if"
+taker_name returned = codes "return"
+
+-- what doesn't fit, in the words of what takes it
+abbrev pub words_of : Taker → Refusal → Refusal
+words_of condition (error (param_type t v)) = not_condition v
+words_of returned (error (param_type t v)) = not_returned t v
+words_of taker e = e
+
+abbrev pub in_words_of : Taker → Fits → Fits
+in_words_of taker (Ok u) = Ok u
+in_words_of taker (Err e) = Err (words_of taker e)
+
+-- The values are taken by what takes these types.
+abbrev pub list_fits : Taker → List WgslType → List WgslType → Fits
+list_fits taker ts xs =
+    after (are_parameters ts) (λ u.
+    after (counted (taker_name taker) (length ts) (length xs)) (λ v. in_words_of taker (each_fits ts xs)))
 
 abbrev pub member_types : Members → List WgslType
 member_types no_members = []

@@ -9,6 +9,7 @@ use Rattle.wgsl_standard.specs.Operands.{given_type}
 use Rattle.wgsl_standard.specs.declared.operand.Operand.{Operand as CodeOperand}
 use Rattle.wgsl_forms.specs.Concrete.{concrete_of}
 use Rattle.wgsl_forms.specs.Expressions.{Expression}
+use Rattle.wgsl_forms.specs.Lists.{Taker, condition, function, returned}
 use Rattle.wgsl_forms.specs.Refusals.{Refusal, error, not_reference, not_integer, not_const, not_in_space, initialized, access_mode, not_condition, not_returned}
 use Rattle.wgsl_forms.specs.declared.form.Element.{Element}
 use Rattle.wgsl_forms.specs.declared.form.Element.TheVariants as elements
@@ -19,6 +20,8 @@ use Rattle.wgsl_forms.specs.declared.form.MemoryView.{MemoryView}
 use Rattle.wgsl_forms.specs.declared.form.MemoryView.TheVariants.{Reference, Pointer}
 use Rattle.wgsl_forms.specs.declared.form.FormType.{FormType}
 use Rattle.wgsl_forms.specs.declared.form.Form.{Form}
+use Rattle.wgsl_forms.specs.declared.lists.Taker.{Taker as CodeTaker}
+use Rattle.wgsl_forms.specs.declared.lists.Taker.TheVariants as takers
 use Rattle.wgsl_forms.specs.declared.refusal.Refusal.{Refusal as CodeRefusal}
 use Rattle.wgsl_forms.specs.declared.refusal.Refusal.TheVariants as refusals
 
@@ -80,6 +83,11 @@ refusal_view (refusals.ParamType expected t) = error (param_type (unbuilt_view e
 refusal_view (refusals.Builtin text) = error (builtin text.now)
 refusal_view refusals.PtrHandle = error ptr_handle
 refusal_view refusals.PtrVecComp = error ptr_vec_comp
+
+abbrev pub taker_view : CodeTaker → Taker
+taker_view (takers.Function name) = function name.now
+taker_view takers.Condition = condition
+taker_view takers.Return = returned
 
 -- an answer of a call: the value as `seen` shows it, or the refusal
 abbrev pub answer_view : {A B : Type 0} → (A → B) → Result A CodeRefusal → Result B Refusal

@@ -1,11 +1,11 @@
-// Values of a list: arguments of functions and of constructors.
+// Values of a list: arguments of functions and of constructors, conditions and returned values.
 ghost use Rattle.std.specs.Prelude.{◌≡◌, length, map};
 ghost use Rattle.wgsl_core.specs.View.{view};
 ghost use Rattle.wgsl_core.specs.internal.View.{members_view};
 ghost use Rattle.wgsl_standard.specs.Operands.{given_type};
 ghost use Rattle.wgsl_standard.specs.Texts.{types_given};
-ghost use Rattle.wgsl_forms.specs.Lists.{all_fit as all_fit_there, are_parameters as parameters_there, constructed, counted, each_fits as each_fits_there, fits as fits_there, list_fits, member_types, members_fit as members_fit_there, value_fits, values_fit};
-ghost use Rattle.wgsl_forms.specs.Views.{answer_view};
+ghost use Rattle.wgsl_forms.specs.Lists.{all_fit as all_fit_there, are_parameters as parameters_there, constructed, counted, each_fits as each_fits_there, fits as fits_there, list_fits, member_types, members_fit as members_fit_there, value_fits, taker_name, values_fit, words_of as words_there};
+ghost use Rattle.wgsl_forms.specs.Views.{answer_view, refusal_view, taker_view};
 
 use crate::convert::converts;
 use crate::declare::is_let_type;
@@ -17,19 +17,63 @@ use wgsl_core::ty::form::Form;
 use wgsl_core::ty::{StructMemberType, Type};
 use wgsl_standard::operand::{Operand, OperandType};
 
-/// Whether parameters of these types take the values (WGSL, "Function Calls").
-/// Refused, in this order, by `NotConstructible` of a parameter that is abstract or neither constructible nor a pointer nor a
-/// handle, by `ParamCount`, and for the first value that doesn't fit by its load or `ParamType`.
-pub fn fit<'a>(values: &[Operand<'a>], types: &'a [Type]) -> Result<(), Refusal<'a>>
-    ensures { answer_view (λ u. tt) result
-        ≡ list_fits (map view types.now) (types_given values.now) }
-{
-    are_parameters(types)?;
-    count_is("fit", types.len(), values.len())?;
-    each_fits(types, values)
+/// What takes values.
+#[derive(Clone, Copy)]
+pub enum Taker<'a> {
+    /// A function, by its name.
+    Function(&'a str),
+    /// `if`, `while`, `const_assert`
+    Condition,
+    /// `return`
+    Return,
 }
 
-fn are_parameters<'a>(types: &'a [Type]) -> Result<(), Refusal<'a>>
+impl<'a> Taker<'a> {
+    fn name(self) -> &'a str
+        ensures { result.now ≡ taker_name (taker_view self) }
+    {
+        match self {
+            Taker::Function(name) => name,
+            Taker::Condition => "if",
+            Taker::Return => "return",
+        }
+    }
+
+    /// A refusal in the words of what takes the values.
+    fn words_of(self, refusal: Refusal<'a>) -> Refusal<'a>
+        ensures { refusal_view result ≡ words_there (taker_view self) (refusal_view refusal.entry) }
+    {
+        match (self, refusal) {
+            (Taker::Condition, Refusal::ParamType(_, found)) => Refusal::NotCondition(found),
+            (Taker::Return, Refusal::ParamType(ty, found)) => Refusal::NotReturned(ty, found),
+            (_, refusal) => refusal,
+        }
+    }
+}
+
+/// Whether parameters of these types take the values (WGSL, "Function Calls"), a condition its value, or `return` what the
+/// function returns. Refused, in this order, by `NotConstructible` of a parameter that is abstract or neither constructible nor
+/// a pointer nor a handle, by `ParamCount`, and for the first value that doesn't fit by its load or `ParamType`, of which a
+/// condition makes `NotCondition`, and `return` `NotReturned`.
+pub fn fit<'a>(
+    taker: Taker<'a>,
+    values: &[Operand<'a>],
+    types: &'a [Type],
+) -> Result<(), Refusal<'a>>
+    ensures { answer_view (λ u. tt) result
+        ≡ list_fits (taker_view taker.entry) (map view types.now) (types_given values.now) }
+{
+    are_parameters(types)?;
+    count_is(taker.name(), types.len(), values.len())?;
+    match each_fits(types, values) {
+        Ok(()) => Ok(()),
+        Err(refusal) => Err(taker.words_of(refusal)),
+    }
+}
+
+/// Whether parameters may have these types. Refused by `NotConstructible` of the first that is abstract, or neither
+/// constructible nor a pointer nor a handle.
+pub fn are_parameters<'a>(types: &'a [Type]) -> Result<(), Refusal<'a>>
     ensures { answer_view (λ u. tt) result ≡ parameters_there (map view types.now) }
 {
     for ty in types {

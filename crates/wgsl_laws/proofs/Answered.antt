@@ -56,4 +56,4 @@ some_answer (resolution_of c) = let r = some_resolution c in (a_resolution_of c 
 some_answer (explanation_of c) = some_explanation c (unknown_name c.callee) refl
 some_answer (overloads_of name) = (some_lines (lines_named name), overloads_of_are (lines_named name) refl)
 some_answer (form_of f) = let r = some_form_type f in (a_form_type r.0, form_is r.0 r.1)
-some_answer (fit_of xs ts) = let r = list_fits ts (types_of xs) in (a_fit r, fit_is r refl)
+some_answer (fit_of taker xs ts) = let r = list_fits taker ts (types_of xs) in (a_fit r, fit_is r refl)

@@ -7,7 +7,7 @@ use std::collections::BTreeMap;
 use wgsl_core::ty::form::Form;
 use wgsl_core::ty::{StructMemberType, StructType, Type};
 use wgsl_forms::declare::is_const_type;
-use wgsl_forms::lists::fit;
+use wgsl_forms::lists::are_parameters;
 use wgsl_forms::refusal::Refusal;
 use wgsl_names::fault::{Place, Rule};
 use wgsl_names::known::{Known, Signature};
@@ -257,9 +257,9 @@ impl<'t> Checker<'t> {
             return Ok(None);
         };
         let types = [ty.clone(self.expressions.alloc)?];
-        let refusal = match fit(&[], &types) {
-            Err(refusal @ Refusal::NotConstructible(_)) => Some(refusal),
-            _ => None,
+        let refusal = match are_parameters(&types) {
+            Err(refusal) => Some(refusal),
+            Ok(()) => None,
         };
         if !self.expressions.allows(field.place, refusal)?
             || !self.expressions.is_short(field.named, ty)?

@@ -17,7 +17,7 @@ use Rattle.wgsl_rules.specs.calls.Answers.{IsCallAnswer}
 use Rattle.wgsl_rules.specs.standard.Choice.{Operand, types_of}
 use Rattle.wgsl_standard.specs.Callees.{unknown_name}
 use Rattle.wgsl_standard.specs.Lines.{lines_named}
-use Rattle.wgsl_forms.specs.Lists.{Fits, list_fits}
+use Rattle.wgsl_forms.specs.Lists.{Fits, Taker, list_fits}
 use Rattle.wgsl_forms.specs.Refusals.{Refusal as FormRefusal}
 use Rattle.wgsl_requests.specs.Calls.{WgslCall, WgslResolution}
 use Rattle.wgsl_requests.specs.Forms.{WgslForm, IsFormType}
@@ -98,5 +98,5 @@ pub data Answers : WgslRequest → WgslAnswer → Type 0 where
       lines ≡ lines_named name → Answers (overloads_of name) (some_lines lines)
   form_is : {f : WgslForm} (r : Result WgslType FormRefusal) →
       IsFormType f r → Answers (form_of f) (a_form_type r)
-  fit_is : {xs : List Operand} {ts : List WgslType} (r : Fits) →
-      r ≡ list_fits ts (types_of xs) → Answers (fit_of xs ts) (a_fit r)
+  fit_is : {taker : Taker} {xs : List Operand} {ts : List WgslType} (r : Fits) →
+      r ≡ list_fits taker ts (types_of xs) → Answers (fit_of taker xs ts) (a_fit r)

@@ -6,6 +6,7 @@ use Rattle.wgsl_syntax.specs.declared.rules.RuleSet.{RuleSet}
 use Rattle.wgsl_rules.specs.types.Types.{WgslType, Members}
 use Rattle.wgsl_rules.specs.types.Signatures.{Signature}
 use Rattle.wgsl_rules.specs.standard.Choice.{Operand}
+use Rattle.wgsl_forms.specs.Lists.{Taker}
 use Rattle.wgsl_requests.specs.Calls.{WgslCall}
 use Rattle.wgsl_requests.specs.Forms.{WgslForm}
 
@@ -33,5 +34,5 @@ pub data WgslRequest : Type 0 where
   overloads_of : List ℕ → WgslRequest
   -- by WGSL's own rules: the type of a form that has no overloads
   form_of : WgslForm → WgslRequest
-  -- whether parameters of these types take the values
-  fit_of : List Operand → List WgslType → WgslRequest
+  -- whether what takes these types takes the values
+  fit_of : Taker → List Operand → List WgslType → WgslRequest

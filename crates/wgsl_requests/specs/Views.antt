@@ -17,7 +17,7 @@ use Rattle.wgsl_requests.specs.declared.answers.Operands.{Operands}
 use Rattle.wgsl_requests.specs.declared.answers.Answer.{Answer}
 use Rattle.wgsl_requests.specs.declared.answers.Answer.TheVariants as answers
 use Rattle.wgsl_calls.specs.Calls.{signature_of}
-use Rattle.wgsl_forms.specs.Views.{answer_view as form_answer, form_type_view}
+use Rattle.wgsl_forms.specs.Views.{answer_view as form_answer, form_type_view, taker_view}
 use Rattle.wgsl_standard.specs.Results.{result_view}
 use Rattle.wgsl_standard.specs.Resolved.{resolved_view as resolved_call_view}
 use Rattle.wgsl_standard.specs.Texts.{line_of, note_text}
@@ -40,7 +40,7 @@ request_view (requests.Resolution c) = resolution_of (standard_view c.now)
 request_view (requests.Overloads name) = overloads_of name.now
 request_view (requests.Explanation c) = explanation_of (standard_view c.now)
 request_view (requests.Form f) = form_of (form_view f.now)
-request_view (requests.Fit xs ts) = fit_of (map written_view xs.now) (map view ts.now)
+request_view (requests.Fit taker xs ts) = fit_of (taker_view taker) (map written_view xs.now) (map view ts.now)
 
 -- a value as `shown` shows it, or the refusal
 abbrev pub outcome : {A B : Type 0} → (Result B Refusal → WgslAnswer) → (A → B) → Result A (Fail Error) →

@@ -63,7 +63,7 @@ pub fn answer<'r>(alloc: Global, request: Request<'r>) -> Result<Answer<'r>, All
             None => Ok(Answer::Notes(notes_on(alloc, call)?)),
         },
         Request::Form(form) => Ok(Answer::FormType(type_of_form(form))),
-        Request::Fit(values, types) => Ok(Answer::Fit(fit(values, types))),
+        Request::Fit(taker, values, types) => Ok(Answer::Fit(fit(taker, values, types))),
     }
 }
 

@@ -4,6 +4,7 @@ use wgsl_core::signature::TpltParam;
 use wgsl_core::ty::{StructType, Type};
 use wgsl_forms::declare::Declaration;
 use wgsl_forms::form::Referent;
+use wgsl_forms::lists::Taker;
 use wgsl_standard::callee::Callee;
 use wgsl_standard::operand::Operand;
 use wgsl_syntax::address::{AccessMode, AddressSpace};
@@ -39,8 +40,8 @@ pub enum Request<'r> {
     Explanation(&'r Call<'r>),
     /// The type of a form that has no overloads.
     Form(&'r Form<'r>),
-    /// Whether parameters of these types take the values: `f(x, y)`, `return x;`, `if x {}`.
-    Fit(&'r [Operand<'r>], &'r [Type]),
+    /// Whether what takes these types takes the values: `f(x, y)`, `return x;`, `if x {}`.
+    Fit(Taker<'r>, &'r [Operand<'r>], &'r [Type]),
 }
 
 /// The call of what has overloads of WGSL's own.

@@ -10,7 +10,7 @@ use Rattle.wgsl_standard.specs.Resolved.{IsCallResolution, resolved_view}
 use Rattle.wgsl_standard.specs.declared.resolved.ResolvedCall.{ResolvedCall}
 use Rattle.wgsl_forms.specs.Array.{typed_array}
 use Rattle.wgsl_forms.specs.Expressions.{Expression}
-use Rattle.wgsl_forms.specs.Lists.{list_fits}
+use Rattle.wgsl_forms.specs.Lists.{function, list_fits}
 use Rattle.wgsl_forms.specs.Memory.{behind}
 use Rattle.wgsl_forms.specs.Refusals.{Refusal}
 use Rattle.wgsl_forms.specs.declared.form.Referent.{Referent}
@@ -117,9 +117,9 @@ returns_if_fitting true result fits o = o ≡ outcomes.Faulty
 returns_if_fitting false result (Err e) o = o ≡ outcomes.Faulty
 returns_if_fitting false result (Ok u) o = OrFaulty (HasResult Runtime result) o
 
--- a call of a function of the module, of which no entry point is called
-abbrev pub IsOfFunction : Signature → List Part → Outcome → Type 0
-IsOfFunction f xs o = returns_if_fitting f.is_entry_point (option_map view f.result) (list_fits (map view f.parameters.items) (types_of xs)) o
+-- a call of a function of the module by its name, of which no entry point is called
+abbrev pub IsOfFunction : List ℕ → Signature → List Part → Outcome → Type 0
+IsOfFunction name f xs o = returns_if_fitting f.is_entry_point (option_map view f.result) (list_fits (function name) (map view f.parameters.items) (types_of xs)) o
 
 -- Constructors
 

@@ -2,7 +2,7 @@
 ghost use Rattle.std.specs.Prelude.{◌≡◌, [], ◌∷◌, IfOk, None, map, option_map};
 ghost use Rattle.wgsl_core.specs.View.{view};
 ghost use Rattle.wgsl_forms.specs.Array.{typed_array};
-ghost use Rattle.wgsl_forms.specs.Lists.{constructed, list_fits};
+ghost use Rattle.wgsl_forms.specs.Lists.{constructed, function, list_fits};
 ghost use Rattle.wgsl_forms.specs.Member.{member_answer};
 ghost use Rattle.wgsl_forms.specs.Views.{given};
 ghost use Rattle.wgsl_names.specs.Stages.{is_const};
@@ -17,7 +17,7 @@ use wgsl_core::error::Fail;
 use wgsl_core::ty::Type;
 use wgsl_core::ty::form::Form;
 use wgsl_forms::array::construct_array_of;
-use wgsl_forms::lists::{construct_struct, fit};
+use wgsl_forms::lists::{Taker, construct_struct, fit};
 use wgsl_forms::member::type_of_member;
 use wgsl_names::known::{Part, Typed};
 use wgsl_standard::answer::NoOverload;
@@ -54,16 +54,17 @@ pub fn operands_of(alloc: Global, parts: &[Part]) -> Result<Vec<Operand<'_>>, Al
     Ok(operands)
 }
 
-/// Why parameters of these types don't take the arguments, if they don't.
+/// Why a function with this name and parameters of these types doesn't take the arguments, if it doesn't.
 pub fn misfit<'p>(
     alloc: Global,
+    name: &'p str,
     arguments: &'p [Part],
     types: &'p [Type],
 ) -> Result<Option<String>, AllocError>
-    ensures { IfOk result (IsMessage (list_fits (map view types.now) (types_of arguments.now))) }
+    ensures { IfOk result (IsMessage (list_fits (function name.now) (map view types.now) (types_of arguments.now))) }
 {
     let operands = operands_of(alloc, arguments)?;
-    match fit(&operands, types) {
+    match fit(Taker::Function(name), &operands, types) {
         Ok(()) => Ok(None),
         Err(refusal) => Ok(Some(format!(in alloc; "{refusal}")?)),
     }

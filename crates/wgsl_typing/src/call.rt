@@ -169,9 +169,10 @@ impl<'t> Expressions<'t> {
         signature: &Signature,
         call: &Call<'_>,
     ) -> Result<Outcome, AllocError>
-        ensures { IfOk result (IsOfFunction signature.now call.now.arguments.now) }
+        ensures { IfOk result (IsOfFunction (word_at self.old.text.now self.old.tokens.now count) signature.now call.now.arguments.now) }
     {
-        if let Some(message) = misfit(self.alloc, call.arguments, &signature.parameters)? {
+        let name = self.word(count);
+        if let Some(message) = misfit(self.alloc, name, call.arguments, &signature.parameters)? {
             self.fault(Rule::Type, call.head, message)?;
             return Ok(Outcome::Faulty);
         }

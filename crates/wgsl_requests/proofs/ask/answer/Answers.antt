@@ -8,6 +8,7 @@ use Rattle.wgsl_requests.specs.Requests.{unary, ctor, call}
 use Rattle.wgsl_requests.specs.Answers.{a_type, a_value, rank_is, unary_is, binary_is, size_is, offsets_are, layout_is, ctor_is, call_is, type_of_is, resolution_of_is, explanation_of_is, unknown_is, overloads_of_are, form_is, fit_is}
 use Rattle.wgsl_calls.specs.Calls.{signature_of}
 use Rattle.wgsl_forms.specs.Lists.{list_fits}
+use Rattle.wgsl_forms.specs.Views.{taker_view}
 use Rattle.wgsl_requests.proofs.Noted.{same_types}
 use Rattle.wgsl_requests.proofs.Settled.{settles, offsets_seen, layout_seen}
 use Rattle.wgsl_requests.proofs.ask.answer.Goals as goal
@@ -73,4 +74,4 @@ returns-in-Form c = rw c.in-Form.is (form_is _ c.type_of_form.ensures)
 pub returns-in-Fit : goal.returns-in-Fit
 returns-in-Fit c =
     let asked = c.in-Fit in
-    rw asked.is (fit_is _ (c.fit.ensures ∙ ap (list_fits (map view asked.types.now)) (same_types asked.values.now)))
+    rw asked.is (fit_is _ (c.fit.ensures ∙ ap (list_fits (taker_view asked.taker) (map view asked.types.now)) (same_types asked.values.now)))
