@@ -58,6 +58,6 @@ fn why_misread(misread: Misread) -> Why {
     match misread.wanted {
         Wanted::Operand => Why::Operand(misread.at),
         Wanted::Type => Why::Type(misread.at),
-        wanted => Why::Misread(misread.at, wanted.text()),
+        wanted => Why::Misread(misread.at, wanted),
     }
 }

@@ -65,7 +65,7 @@ pub(crate) fn write_item(
 fn unreadable(wanted: Wanted) -> ReplyKind<Why>
     ensures { IsUnreadable result }
 {
-    ReplyKind::Unreadable(Why::Misread(0, wanted.text()))
+    ReplyKind::Unreadable(Why::Misread(0, wanted))
 }
 
 /// Writes the answer to a request, or the first of its values that has no type.

@@ -1,15 +1,17 @@
 // Why a line in WGSL can't be read, as a message.
+use crate::misread::Wanted;
 use std::alloc::AllocError;
+use wgsl_spelling::fault::Cause;
+use wgsl_spelling::meant::meant;
 use wgsl_standard::callee::{Callee, overloads};
-use wgsl_standard::meant::meant_type;
 
 /// Why a line can't be read.
 #[derive(Clone, Copy)]
 pub enum Why {
     TooLong,
     NotUtf8,
-    /// The index of the byte from which a request is none, and why.
-    Misread(usize, &'static str),
+    /// The index of the byte from which a request is none, and what was expected there.
+    Misread(usize, Wanted),
     /// The index of the byte from which an expression has no operand.
     Operand(usize),
     /// The index of the byte from which there is no type.
@@ -24,12 +26,27 @@ pub fn write_why(request: &[u8], why: Why, text: &mut String) -> Result<(), Allo
     match why {
         Why::TooLong => text.push_str("more than 4096 bytes"),
         Why::NotUtf8 => text.push_str("not UTF-8"),
-        Why::Misread(at, reason) => {
-            let column = at.saturating_add(1);
-            write!(text, "column {column}: {reason}")
-        }
+        Why::Misread(at, wanted) => write_misread(request, at, wanted, text),
         Why::Operand(at) => write_no_operand(request, at, text),
         Why::Type(at) => write_no_type_at(request, at, text),
+    }
+}
+
+/// Writes what was expected at that byte, and what the name there may mean.
+fn write_misread(
+    request: &[u8],
+    at: usize,
+    wanted: Wanted,
+    text: &mut String,
+) -> Result<(), AllocError> {
+    let (column, reason) = (at.saturating_add(1), wanted.text());
+    write!(text, "column {column}: {reason}")?;
+    match (wanted, token_at(request, at)) {
+        (Wanted::Faultless(cause), Some(token)) => match meant(cause, token) {
+            Some(name) => write!(text, "; did you mean `{name}`?"),
+            None => Ok(()),
+        },
+        _ => Ok(()),
     }
 }
 
@@ -47,7 +64,7 @@ fn write_no_type_at(request: &[u8], at: usize, text: &mut String) -> Result<(), 
 }
 
 fn is_near_type(token: &str) -> bool {
-    overloads(Callee::Constructor(token), false).is_some() || meant_type(token).is_some()
+    overloads(Callee::Constructor(token), false).is_some() || type_meant(token).is_some()
 }
 
 /// Writes that no operand begins at that byte, and what the name there may mean.
@@ -63,6 +80,10 @@ fn write_no_operand(request: &[u8], at: usize, text: &mut String) -> Result<(), 
     }
 }
 
+fn type_meant(token: &str) -> Option<&str> {
+    meant(Cause::UnknownType, token)
+}
+
 fn write_no_type(token: &str, text: &mut String) -> Result<(), AllocError> {
     if token.starts_with(|first: char| !first.is_ascii_alphabetic()) {
         return text.push_str(" is no literal");
@@ -70,7 +91,7 @@ fn write_no_type(token: &str, text: &mut String) -> Result<(), AllocError> {
     if overloads(Callee::Constructor(token), false).is_some() {
         return write!(text, " needs its component: `{token}f`");
     }
-    match meant_type(token) {
+    match type_meant(token) {
         Some(name) => write!(text, " is no type; did you mean `{name}`?"),
         None => text.push_str(" is no type: write types for names, as `f32 + 1`"),
     }
