@@ -30,7 +30,7 @@ pub enum Taker<'a> {
 
 impl<'a> Taker<'a> {
     fn name(self) -> &'a str
-        ensures { result.now ≡ taker_name (taker_view self) }
+        ensures { result.now ≡ taker_name (taker_view self.entry) }
     {
         match self {
             Taker::Function(name) => name,
@@ -41,7 +41,7 @@ impl<'a> Taker<'a> {
 
     /// A refusal in the words of what takes the values.
     fn words_of(self, refusal: Refusal<'a>) -> Refusal<'a>
-        ensures { refusal_view result ≡ words_there (taker_view self) (refusal_view refusal.entry) }
+        ensures { refusal_view result ≡ words_there (taker_view self.entry) (refusal_view refusal.entry) }
     {
         match (self, refusal) {
             (Taker::Condition, Refusal::ParamType(_, found)) => Refusal::NotCondition(found),
