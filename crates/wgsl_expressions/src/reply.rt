@@ -270,11 +270,11 @@ fn operands_of<'p>(alloc: Global, values: &'p [Typed]) -> Result<Vec<Operand<'p>
     Ok(operands)
 }
 
-fn write_answer(
+fn write_answer<'p>(
     alloc: Global,
     statement: Statement,
-    types: &[Type],
-    operands: &[Operand<'_>],
+    types: &'p [Type],
+    operands: &'p [Operand<'p>],
     text: &mut String,
 ) -> Result<ReplyKind<Why>, AllocError>
     ensures { IfOk result (λ kind. WritesReply
